@@ -15,10 +15,10 @@ use Rattle.bac_ends.specs.Keys.{PeerKey, same_key}
 use Rattle.bac_ends.specs.Sends.{Datagram, Pairwise, IsSent, to_peer, to_all}
 use Rattle.bac_ends.specs.Meanings.{Finish, IsFinish}
 use Rattle.bac_ends.specs.Ends.{ended_with}
-use Rattle.bac_world.specs.World.{World, link_at, peer_at, transaction_of, ask_of}
+use Rattle.bac_world.specs.World.{World, Note, link_at, peer_at, transaction_of, ask_of}
 use Rattle.bac_ends.proofs.KeyedSlots.{EachSlot, found_first}
-use Rattle.bac_world.proofs.Bridge.{key_of, IsBetween, IsWay}
-use Rattle.bac_journal.specs.Entering.{Every, CanBeCopied, IsNoted}
+use Rattle.bac_world.proofs.Bridge.{key_of, copies_of, IsBetween, IsWay}
+use Rattle.bac_journal.specs.Entering.{Every, CanBeCopied, IsNoted, WasAsked}
 
 -- Lists.
 
@@ -67,10 +67,14 @@ module _ (links : ℕ → Option Octets) (apart : (i j : ℕ) (l : Octets) → l
   way_key false key i j a h up id =
       ap (λ (b : Bool). if b then key_of i j (invoke_id_of a) else key_of j i (invoke_id_of a)) up ∙ (λ k. key_of (h.1 k) (h.0 k) (id k))
 
-  -- what node i sends to node j, at these links, in that transaction
-  module _ (up : Bool) (key : Key) (i j : ℕ) (li lj : Octets) (way : IsWay links apart up key i j li lj) where
-    can_one : (a : Apdu) (d : Datagram) → is_from_client a ≡ up → invoke_id_of a ≡ key.invoke_id → IsSent (to_peer (peer_at lj) a) d → CanBeCopied w i d
+  -- what node i sends to node j, at these links, in that transaction, which was asked
+  module _ (up : Bool) (key : Key) (i j : ℕ) (li lj : Octets) (way : IsWay links apart up key i j li lj) (notes : List Note) (asked : WasAsked notes key) where
+    can_one : (a : Apdu) (d : Datagram) → is_from_client a ≡ up → invoke_id_of a ≡ key.invoke_id → IsSent (to_peer (peer_at lj) a) d
+        → CanBeCopied w.nodes notes w.now i d
     can_one a d dir id s = record {
+      asked = λ c k.
+          let one = copies_of links apart w.nodes linked w.now up key i j li lj way (a ∷ []) (d ∷ []) (c ∷ []) ((dir, id), tt) (s, tt) (k, tt) in
+          subst (WasAsked notes) (sym one.0.key) asked;
       copy = record { moment = w.now; from = i; to = j; key = key; octets = d.octets };
       is = record {
         moment = refl;
@@ -89,7 +93,7 @@ module _ (links : ℕ → Option Octets) (apart : (i j : ℕ) (l : Octets) → l
     }
 
     pub can_all : (sends : List Apdu) (ds : List Datagram) → Each (λ a. (is_from_client a ≡ up) × (invoke_id_of a ≡ key.invoke_id)) sends
-        → Pairwise IsSent (to_all (peer_at lj) sends) ds → Every (CanBeCopied w i) ds
+        → Pairwise IsSent (to_all (peer_at lj) sends) ds → Every (CanBeCopied w.nodes notes w.now i) ds
     can_all [] [] own s = tt
     can_all [] (d ∷ ds) own s = absurd s
     can_all (a ∷ sends) [] own s = absurd s

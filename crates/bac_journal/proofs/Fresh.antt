@@ -1,41 +1,46 @@
 -- What is kept of nodes that have asked nothing.
-use Rattle.std.proofs.Common.{◌≡◌, ℕ, zero, suc, ◌*◌, ◌⊎◌, List, [], ◌∷◌, ◌++◌, length, Option, Some, None, slice_get, refl, sym, ap, subst, inl, inr, ◌∙◌}
-use Rattle.std.specs.Prelude.{option_and_then, replicate}
-use Rattle.std.proofs.lemmas.List.{length-replicate}
+use Rattle.std.proofs.Common.{◌≡◌, ℕ, ◌⊎◌, List, [], ◌∷◌, ◌++◌, length, Option, Some, None, slice_get, refl, sym, ap, subst, inl, inr, ◌∙◌}
+use Rattle.std.specs.Prelude.{option_and_then}
+use Rattle.std.specs.Option.{option_map}
+use Rattle.std.proofs.lemmas.List.{length-map}
+use Rattle.std.proofs.lemmas.Option.{slice_get-map}
+use Rattle.std.specs.Global.{Vec}
 use Rattle.bac_protocol.specs.Transaction.{Key}
 use Rattle.bac_world.proofs.Steps.{decide_number}
 use Rattle.bac_journal.specs.declared.asks.Cell.{Cell}
 use Rattle.bac_journal.specs.declared.asks.Row.{Row}
-use Rattle.bac_journal.specs.Index.{place_of, cell_at, number_at, newest_at}
-use Rattle.bac_journal.specs.Journals.{AreFresh, IsFreshRow}
+use Rattle.bac_journal.specs.Index.{cell_at, cell_in, cells_of, number_at, newest_at, places_of, ArePlaces}
+use Rattle.bac_journal.specs.Journals.{AreEmpty, AreFresh, IsFreshRow}
 use Rattle.bac_journal.specs.Records.{IsKept}
 use Rattle.bac_journal.proofs.Lists.{get_push, get_push_other}
 
-abbrev pub nothing : Cell
-nothing = record { newest = None; sent = 0 }
-
--- each member of a list of one thing is that
-one_thing : {A : Type 0} (n i : ℕ) (x y : A) → slice_get (replicate n x) i ≡ Some y → x ≡ y
-one_thing zero i x y e = absurd cc
-one_thing (suc n) zero x y e = (let same : Some x ≡ Some y = e in cc)
-one_thing (suc n) (suc i) x y e = one_thing n i x y e
-
--- each cell knows nothing
-cell_is : (nodes : ℕ) (rows : List Row) → AreFresh nodes rows → (k : Key) (c : Cell) → cell_at rows k ≡ Some c → nothing ≡ c
-cell_is nodes rows fresh k c at = go (slice_get rows k.client) refl at
+-- there is no cell
+no_cell : (nodes : ℕ) (rows : List Row) → AreFresh nodes rows → (k : Key) → cell_at rows k ≡ None
+no_cell nodes rows fresh k = go (slice_get rows k.client) refl
   where
-    go : (o : Option Row) → slice_get rows k.client ≡ o
-        → option_and_then (λ (r : Row). slice_get r.cells.items (place_of k.server k.invoke_id)) o ≡ Some c → nothing ≡ c
-    go None e f = absurd cc
-    go (Some r) e f = one_thing (nodes * 256) (place_of k.server k.invoke_id) nothing c
-        (ap (λ l. slice_get l (place_of k.server k.invoke_id)) (sym (fresh k.client r e).cells) ∙ f)
+    look : Option (Vec Cell) → Option Cell
+    look o = option_and_then (λ (p : Vec Cell). slice_get p.items k.invoke_id) o
+
+    page : (r : Row) → IsFreshRow nodes r → (o : Option (Vec Cell)) → slice_get r.pages.items k.server ≡ o → look o ≡ None
+    page r f None e = refl
+    page r f (Some p) e = ap (λ l. slice_get l k.invoke_id) (f.empty k.server p e)
+
+    go : (o : Option Row) → slice_get rows k.client ≡ o → option_and_then (cell_in k.server k.invoke_id) o ≡ None
+    go None e = refl
+    go (Some r) e = page r (fresh k.client r e) (slice_get r.pages.items k.server) refl
 
 none_newest : (nodes : ℕ) (rows : List Row) → AreFresh nodes rows → (k : Key) → newest_at rows k ≡ None
-none_newest nodes rows fresh k = go (cell_at rows k) refl
+none_newest nodes rows fresh k = ap (λ (o : Option Cell). option_and_then (λ (c : Cell). c.newest) o) (no_cell nodes rows fresh k)
+
+places_fresh : (nodes : ℕ) (r : Row) → IsFreshRow nodes r → ArePlaces nodes (places_of r)
+places_fresh nodes r f = record {
+  many = length-map r.pages.items cells_of ∙ f.many;
+  whole = λ s n at. inl (go s n (slice_get r.pages.items s) refl (sym (slice_get-map cells_of r.pages.items s) ∙ at));
+}
   where
-    go : (o : Option Cell) → cell_at rows k ≡ o → option_and_then (λ (c : Cell). c.newest) o ≡ None
-    go None e = refl
-    go (Some c) e = ap (λ (d : Cell). d.newest) (sym (cell_is nodes rows fresh k c e))
+    go : (s n : ℕ) (o : Option (Vec Cell)) → slice_get r.pages.items s ≡ o → option_map cells_of o ≡ Some n → n ≡ 0
+    go s n None e g = absurd cc
+    go s n (Some p) e g = let is : length p.items ≡ n = cc in sym is ∙ ap (λ l. length l) (f.empty s p e)
 
 none_number : (nodes : ℕ) (rows : List Row) → AreFresh nodes rows → (c t : ℕ) → number_at rows c t ≡ None
 none_number nodes rows fresh c t = go (slice_get rows c) refl
@@ -49,8 +54,8 @@ fresh_kept rows nodes many fresh = record {
   newest_is = λ k lk. none_newest nodes rows fresh k;
   number_is = λ c t. none_number nodes rows fresh c t;
   counted = λ c r at. ap (λ l. length l) (fresh c r at).numbers;
-  places = λ c r at. ap (λ l. length l) (fresh c r at).cells ∙ length-replicate (nodes * 256) nothing ∙ ap (λ n. n * 256) (sym many);
-  sent = λ k c lk at. ap (λ (d : Cell). d.sent) (sym (cell_is nodes rows fresh k c at));
+  places = λ c r at. subst (λ n. ArePlaces n (places_of r)) (sym many) (places_fresh nodes r (fresh c r at));
+  sent = λ k c lk at. absurd (let e : None ≡ Some c = sym (no_cell nodes rows fresh k) ∙ at in cc);
   before = λ n c at. absurd cc;
   placed = λ n c at. absurd cc;
 }
@@ -63,3 +68,12 @@ fresh_push nodes rows r fresh f c q at = go (decide_number c (length rows))
         let same : r ≡ q = let e : Some r ≡ Some q = sym (get_push rows r) ∙ ap (slice_get (rows ++ r ∷ [])) (sym is) ∙ at in cc in
         subst (IsFreshRow nodes) same f
     go (inr ne) = fresh c q (sym (get_push_other rows r c ne) ∙ at)
+
+pub empty_push : (pages : List (Vec Cell)) (p : Vec Cell) → AreEmpty pages → p.items ≡ [] → AreEmpty (pages ++ p ∷ [])
+empty_push pages p all empty s q at = go (decide_number s (length pages))
+  where
+    go : ((s ≡ length pages) ⊎ (s ≡ length pages → ⊥)) → q.items ≡ []
+    go (inl is) =
+        let same : p ≡ q = let e : Some p ≡ Some q = sym (get_push pages p) ∙ ap (slice_get (pages ++ p ∷ [])) (sym is) ∙ at in cc in
+        ap (λ (v : Vec Cell). v.items) (sym same) ∙ empty
+    go (inr ne) = all s q (sym (get_push_other pages p s ne) ∙ at)

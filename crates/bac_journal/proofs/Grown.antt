@@ -3,7 +3,7 @@ use Rattle.std.proofs.Common.{◌≡◌, ℕ, List, [], ◌∷◌, ◌++◌, len
 use Rattle.bac_protocol.specs.Service.{Octets}
 use Rattle.bac_ends.specs.Sends.{Datagram}
 use Rattle.bac_world.specs.Node.{Node}
-use Rattle.bac_world.specs.World.{Copy, IsCopied}
+use Rattle.bac_world.specs.World.{Copy, Note, IsCopied}
 use Rattle.bac_world.proofs.Pairs.{pairwise_join, append_none}
 use Rattle.bac_journal.specs.Growing.{BecomeCopies, CanBecome, CanGo}
 
@@ -18,16 +18,16 @@ more_become nodes now sender ds es a b c h k = record {
   copied = pairwise_join (IsCopied nodes now sender) ds es h.sent k.sent h.copied k.copied;
 }
 
-pub head_goes : (links : List Octets) (now sender : ℕ) (ds : List Datagram) (d : Datagram) (rest : List Datagram) → ds ≡ d ∷ rest → CanGo links now sender ds
-    → CanGo links now sender (d ∷ [])
-head_goes links now sender ds d rest is h =
-    let can : CanBecome h.nodes now sender (d ∷ rest) = subst (CanBecome h.nodes now sender) is h.can in
+pub head_goes : (links : List Octets) (notes : List Note) (now sender : ℕ) (ds : List Datagram) (d : Datagram) (rest : List Datagram) → ds ≡ d ∷ rest
+    → CanGo links notes now sender ds → CanGo links notes now sender (d ∷ [])
+head_goes links notes now sender ds d rest is h =
+    let can : CanBecome h.nodes notes now sender (d ∷ rest) = subst (CanBecome h.nodes notes now sender) is h.can in
     record { nodes = h.nodes; linked = h.linked; can = (can.0, tt) }
 
-pub tail_goes : (links : List Octets) (now sender : ℕ) (ds : List Datagram) (d : Datagram) (rest : List Datagram) → ds ≡ d ∷ rest → CanGo links now sender ds
-    → CanGo links now sender rest
-tail_goes links now sender ds d rest is h =
-    let can : CanBecome h.nodes now sender (d ∷ rest) = subst (CanBecome h.nodes now sender) is h.can in
+pub tail_goes : (links : List Octets) (notes : List Note) (now sender : ℕ) (ds : List Datagram) (d : Datagram) (rest : List Datagram) → ds ≡ d ∷ rest
+    → CanGo links notes now sender ds → CanGo links notes now sender rest
+tail_goes links notes now sender ds d rest is h =
+    let can : CanBecome h.nodes notes now sender (d ∷ rest) = subst (CanBecome h.nodes notes now sender) is h.can in
     record { nodes = h.nodes; linked = h.linked; can = can.1 }
 
 pub nothing_left : {X : Type 0} (l : List X) → length l ≡ 0 → l ≡ []

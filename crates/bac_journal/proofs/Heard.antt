@@ -47,7 +47,7 @@ module _ (links : ℕ → Option Octets) (apart : (i j : ℕ) (l : Octets) → l
   pub nothing_enters : (i : ℕ) (o : Outcome) → o.sends ≡ [] → o.ended ≡ [] → o.performed ≡ None → Enters i o
   nothing_enters i o sends ended performed = record {
     can = record {
-      sends = subst (Every (CanBeCopied w i)) (sym sends) tt;
+      sends = subst (Every (CanBeCopied w.nodes w.notes w.now i)) (sym sends) tt;
       ended = subst (Every (IsNoted w i)) (sym ended) tt;
       performed = subst (AreOfClient w i) (sym performed) tt;
     };
@@ -159,7 +159,8 @@ module _ (links : ℕ → Option Octets) (apart : (i j : ℕ) (l : Octets) → l
     pub server_enters : Enters p.key.server o
     server_enters = record {
       can = record {
-        sends = can_all links apart w h.linked false key key.server key.client a.link l way u.sends o.sends own sent;
+        sends = can_all links apart w h.linked false key key.server key.client a.link l way w.notes (n.numbers key, h.noted key ticket.0 ticket.1)
+            u.sends o.sends own sent;
         ended = subst (Every (IsNoted w key.server)) (sym turn.ended) tt;
         performed = of_client o.performed refl;
       };
@@ -190,7 +191,8 @@ module _ (links : ℕ → Option Octets) (apart : (i j : ℕ) (l : Octets) → l
         let fit : TicketFits (n.asks_from p.key.client) n.now w.notes p.key.client (n.numbers p.key) (Some (record { number = k; held = Open t })) (n.tickets p.key) =
         subst (λ (y : Option Client). TicketFits (n.asks_from p.key.client) n.now w.notes p.key.client (n.numbers p.key) y (n.tickets p.key)) found
         (at_client.clients.found p.key.server l p.key.invoke_id server_at) in
-        let noted = (ticket_at (n.asks_from p.key.client) n.now w.notes p.key.client (n.numbers p.key) k t (n.tickets p.key) fit).1 in
+        let there = ticket_at (n.asks_from p.key.client) n.now w.notes p.key.client (n.numbers p.key) k t (n.tickets p.key) fit in
+        let noted = there.1 in
         let ends = can_end links apart w h.linked p.key.client k (n.numbers p.key) noted t.ask.choice (client.ending_of r) o.ended turn.ended in
         let fewer : length (client.sends_of r) ≤ W + 1 = client_gets_few context reads_reply W bound.some small t p.copy.apdu in
         let all : length o.sends ≡ length (client.sends_of r) =
@@ -198,7 +200,8 @@ module _ (links : ℕ → Option Octets) (apart : (i j : ℕ) (l : Octets) → l
         record {
           can = record {
             sends = can_all links apart w h.linked true p.key p.key.client p.key.server a.link l
-                (record { between = (refl, refl); from = at_client.link; to = server_at }) (client.sends_of r) o.sends
+                (record { between = (refl, refl); from = at_client.link; to = server_at }) w.notes (n.numbers p.key, h.noted p.key t there.0)
+                (client.sends_of r) o.sends
                 (client_sends_own.gets context reads_reply t p.copy.apdu) turn.sends;
             ended = ends.0;
             performed = subst (AreOfClient w p.key.client) (sym turn.performed) tt;

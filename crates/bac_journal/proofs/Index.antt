@@ -1,9 +1,9 @@
 -- What is kept, after a cell or a number was set.
-use Rattle.std.proofs.Common.{◌≡◌, ℕ, zero, suc, ◌+◌, ◌-◌, ◌*◌, ◌<◌, ◌≤◌, ◌⊎◌, Bool, true}
+use Rattle.std.proofs.Common.{◌≡◌, ℕ, suc, ◌+◌, ◌-◌, ◌<◌, ◌≤◌, ◌⊎◌, Bool, true}
 use Rattle.std.proofs.Common.{false, List, [], ◌∷◌, ◌++◌, map, length, take, Option, Some, None, slice_get}
 use Rattle.std.proofs.Common.{if◌then◌else◌, refl, sym, ap, subst, inl, inr, ◌∙◌, arith}
 use Rattle.std.specs.Prelude.{option_and_then}
-use Rattle.std.proofs.lemmas.List.{take-append-le, length-set, length-map, map-append}
+use Rattle.std.proofs.lemmas.List.{take-append-le, length-map, map-append}
 use Rattle.std.proofs.Math.Seq.{take-append_seam}
 use Rattle.std.proofs.lemmas.Option.{slice_get_within, slice_get-map}
 use Rattle.std.specs.Option.{option_map}
@@ -16,11 +16,11 @@ use Rattle.bac_world.proofs.Steps.{decide_number}
 use Rattle.bac_journal.specs.declared.asks.Cell.{Cell}
 use Rattle.bac_journal.specs.declared.asks.Row.{Row}
 use Rattle.bac_journal.specs.declared.copies.Copy.{Copy}
-use Rattle.bac_journal.specs.Entering.{tickets_of}
+use Rattle.bac_journal.specs.Entering.{tickets_of, WasAsked}
 use Rattle.bac_journal.specs.Views.{key_view, copy_view}
-use Rattle.bac_journal.specs.Index.{place_of, cell_at, number_at, newest_at, IsWithRow, IsWithCell}
+use Rattle.bac_journal.specs.Index.{cell_at, cell_in, cells_of, nothing, number_at, newest_at, places_of, ArePlaces, IsReadied, IsWithRow, IsWithCell}
 use Rattle.bac_journal.specs.Records.{IsKept}
-use Rattle.bac_journal.proofs.Lists.{get_set, get_set_other, get_push, get_push_other, count_push, count_split}
+use Rattle.bac_journal.proofs.Lists.{get_push, get_push_other, count_push, count_split}
 
 pub key_other : (a b : Key) → (a ≡ b → ⊥) → same_key a b ≡ false
 key_other a b ne = go (same_key a b) (set_other (λ k. false) a true b ne)
@@ -29,60 +29,28 @@ key_other a b ne = go (same_key a b) (set_other (λ k. false) a true b ne)
     go true e = cc
     go false e = refl
 
--- transactions of one client with one place are one
-one_place : (a b : Key) → a.invoke_id < 256 → b.invoke_id < 256 → a.client ≡ b.client → place_of a.server a.invoke_id ≡ place_of b.server b.invoke_id → a ≡ b
-one_place a b la lb same h =
-    let server : a.server ≡ b.server = omega arith in
-    let invoke : a.invoke_id ≡ b.invoke_id = omega arith in
-    λ i. record { client = same i; server = server i; invoke_id = invoke i }
-
-many_rows : (rows : List Row) (c : ℕ) (r : Row) → slice_get rows c ≡ Some r → c < length rows
-many_rows rows c r at = slice_get_within rows c r at
-
--- a cell stands in a row
-pub record IsInRow (rows : List Row) (k : Key) : Type 0 where
-  pub row : Row
-  pub at : slice_get rows k.client ≡ Some row
-  pub within : place_of k.server k.invoke_id < length row.cells.items
-
-pub in_row : (rows : List Row) (k : Key) (c : Cell) → cell_at rows k ≡ Some c → IsInRow rows k
-in_row rows k c at = go (slice_get rows k.client) refl at
-  where
-    go : (o : Option Row) → slice_get rows k.client ≡ o
-        → option_and_then (λ (r : Row). slice_get r.cells.items (place_of k.server k.invoke_id)) o ≡ Some c → IsInRow rows k
-    go None e f = absurd cc
-    go (Some r) e f = record { row = r; at = e; within = slice_get_within r.cells.items (place_of k.server k.invoke_id) c f }
+key_is : (a b : Key) → a.client ≡ b.client → a.server ≡ b.server → a.invoke_id ≡ b.invoke_id → a ≡ b
+key_is a b c s i = λ j. record { client = c j; server = s j; invoke_id = i j }
 
 abbrev pub IsPlaced : List Row → Copy → Type 0
 IsPlaced rows c = (k : Cell) × (cell_at rows (key_view c.transaction) ≡ Some k)
 
-pub get_within : {A : Type 0} (xs : List A) (i : ℕ) → i < length xs → (x : A) × (slice_get xs i ≡ Some x)
-get_within [] i h = absurd (omega (arith, h))
-get_within (x ∷ xs) zero h = (x, refl)
-get_within (x ∷ xs) (suc i) h = get_within xs i (omega arith)
-
 -- A cell was set.
 
-module _ (old new : List Row) (key : Key) (cell : Cell) (h : IsWithRow old key.client (IsWithCell (place_of key.server key.invoke_id) cell) new)
-    (within : place_of key.server key.invoke_id < length h.before.cells.items) where
+module _ (old new : List Row) (key : Key) (cell : Cell) (h : IsWithRow old key.client (IsWithCell key.server key.invoke_id cell) new) where
   pub cell_here : cell_at new key ≡ Some cell
-  cell_here =
-      ap (λ (o : Option Row). option_and_then (λ (r : Row). slice_get r.cells.items (place_of key.server key.invoke_id)) o) h.here
-      ∙ ap (λ l. slice_get l (place_of key.server key.invoke_id)) h.goes.cells
-      ∙ get_set h.before.cells.items (place_of key.server key.invoke_id) cell within
+  cell_here = ap (λ (o : Option Row). option_and_then (cell_in key.server key.invoke_id) o) h.here ∙ h.goes.here
 
-  pub cell_there : (k : Key) → (k ≡ key → ⊥) → k.invoke_id < 256 → key.invoke_id < 256 → cell_at new k ≡ cell_at old k
-  cell_there k ne lk l = go (decide_number k.client key.client)
+  pub cell_there : (k : Key) → (k ≡ key → ⊥) → cell_at new k ≡ cell_at old k
+  cell_there k ne = go (decide_number k.client key.client)
     where
       look : Option Row → Option Cell
-      look o = option_and_then (λ (r : Row). slice_get r.cells.items (place_of k.server k.invoke_id)) o
+      look o = option_and_then (cell_in k.server k.invoke_id) o
 
       go : ((k.client ≡ key.client) ⊎ (k.client ≡ key.client → ⊥)) → cell_at new k ≡ cell_at old k
       go (inl is) =
           ap (λ c. look (slice_get new c)) is ∙ ap look h.here
-          ∙ ap (λ l. slice_get l (place_of k.server k.invoke_id)) h.goes.cells
-          ∙ get_set_other h.before.cells.items (place_of key.server key.invoke_id) (place_of k.server k.invoke_id) cell
-          (λ e. ne (one_place k key lk l is e))
+          ∙ h.goes.others k.server k.invoke_id (λ e. ne (key_is k key is e.0 e.1))
           ∙ sym (ap look h.was) ∙ sym (ap (λ c. look (slice_get old c)) is)
       go (inr away) = ap look (h.others k.client away)
 
@@ -98,20 +66,20 @@ module _ (old new : List Row) (key : Key) (cell : Cell) (h : IsWithRow old key.c
       go (inr away) = ap look (h.others c away)
 
   -- the cell has the same newest ask
-  newest_same : (k : Key) → k.invoke_id < 256 → key.invoke_id < 256 → cell.newest ≡ newest_at old key → newest_at new k ≡ newest_at old k
-  newest_same k lk l same = go (decide_key k key)
+  newest_same : (k : Key) → cell.newest ≡ newest_at old key → newest_at new k ≡ newest_at old k
+  newest_same k same = go (decide_key k key)
     where
       go : ((k ≡ key) ⊎ (k ≡ key → ⊥)) → newest_at new k ≡ newest_at old k
       go (inl is) = ap (newest_at new) is ∙ ap (λ (o : Option Cell). option_and_then (λ (c : Cell). c.newest) o) cell_here ∙ same ∙ sym (ap (newest_at old) is)
-      go (inr ne) = ap (λ (o : Option Cell). option_and_then (λ (c : Cell). c.newest) o) (cell_there k ne lk l)
+      go (inr ne) = ap (λ (o : Option Cell). option_and_then (λ (c : Cell). c.newest) o) (cell_there k ne)
 
-  pub cells_many : (c : ℕ) (r : Row) → slice_get new c ≡ Some r → ((c ≡ key.client) ⊎ (c ≡ key.client → ⊥))
-      → ((d : ℕ) (q : Row) → slice_get old d ≡ Some q → length q.cells.items ≡ length old * 256) → length r.cells.items ≡ length new * 256
-  cells_many c r at (inl is) all =
+  pub places_are : (c : ℕ) (r : Row) → slice_get new c ≡ Some r → ((c ≡ key.client) ⊎ (c ≡ key.client → ⊥))
+      → ((d : ℕ) (q : Row) → slice_get old d ≡ Some q → ArePlaces (length old) (places_of q)) → ArePlaces (length new) (places_of r)
+  places_are c r at (inl is) all =
       let same : h.after ≡ r = let e : Some h.after ≡ Some r = sym h.here ∙ ap (slice_get new) (sym is) ∙ at in cc in
-      ap (λ (q : Row). length q.cells.items) (sym same) ∙ ap (λ l. length l) h.goes.cells
-      ∙ length-set h.before.cells.items (place_of key.server key.invoke_id) cell ∙ all key.client h.before h.was ∙ ap (λ n. n * 256) (sym h.many)
-  cells_many c r at (inr away) all = all c r (sym (h.others c away) ∙ at) ∙ ap (λ n. n * 256) (sym h.many)
+      subst (λ n. ArePlaces n (places_of r)) (sym h.many)
+      (subst (ArePlaces (length old)) (sym h.goes.places ∙ ap places_of same) (all key.client h.before h.was))
+  places_are c r at (inr away) all = subst (λ n. ArePlaces n (places_of r)) (sym h.many) (all c r (sym (h.others c away) ∙ at))
 
   pub numbers_many : (notes : List Note) (c : ℕ) (r : Row) → slice_get new c ≡ Some r → ((c ≡ key.client) ⊎ (c ≡ key.client → ⊥))
       → ((d : ℕ) (q : Row) → slice_get old d ≡ Some q → length q.numbers.items ≡ tickets_of d notes) → length r.numbers.items ≡ tickets_of c notes
@@ -121,27 +89,13 @@ module _ (old new : List Row) (key : Key) (cell : Cell) (h : IsWithRow old key.c
       ∙ ap (λ d. tickets_of d notes) (sym is)
   numbers_many notes c r at (inr away) all = all c r (sym (h.others c away) ∙ at)
 
-  -- a place stays one
+  -- what has a cell still has one
   pub still_placed : (d : Copy) → IsPlaced old d → IsPlaced new d
-  still_placed d k = go (decide_number d.transaction.client key.client)
+  still_placed d k = go (decide_key (key_view d.transaction) key)
     where
-      look : Option Row → Option Cell
-      look o = option_and_then (λ (r : Row). slice_get r.cells.items (place_of d.transaction.server d.transaction.invoke_id)) o
-
-      row : IsInRow old (key_view d.transaction)
-      row = in_row old (key_view d.transaction) k.0 k.1
-
-      go : ((d.transaction.client ≡ key.client) ⊎ (d.transaction.client ≡ key.client → ⊥)) → IsPlaced new d
-      go (inl is) =
-          let same : row.row ≡ h.before = let e : Some row.row ≡ Some h.before = sym row.at ∙ ap (slice_get old) is ∙ h.was in cc in
-          let lt : place_of d.transaction.server d.transaction.invoke_id < length h.before.cells.items =
-          subst (λ (r : Row). place_of d.transaction.server d.transaction.invoke_id < length r.cells.items) same row.within in
-          let long : length h.after.cells.items ≡ length h.before.cells.items = ap (λ l. length l) h.goes.cells
-          ∙ length-set h.before.cells.items (place_of key.server key.invoke_id) cell in
-          let within : place_of d.transaction.server d.transaction.invoke_id < length h.after.cells.items = omega (arith, lt, long) in
-          let got = get_within h.after.cells.items (place_of d.transaction.server d.transaction.invoke_id) within in
-          (got.0, ap look (ap (slice_get new) is ∙ h.here) ∙ got.1)
-      go (inr away) = (k.0, ap look (h.others d.transaction.client away) ∙ k.1)
+      go : ((key_view d.transaction ≡ key) ⊎ (key_view d.transaction ≡ key → ⊥)) → IsPlaced new d
+      go (inl is) = (cell, ap (cell_at new) is ∙ cell_here)
+      go (inr ne) = (k.0, cell_there (key_view d.transaction) ne ∙ k.1)
 
   -- a copy of the transaction was sent
   module _ (copies : List Copy) (c : Copy) (of : key_view c.transaction ≡ key) (known : Cell) (there : cell_at old key ≡ Some known)
@@ -161,7 +115,7 @@ module _ (old new : List Row) (key : Key) (cell : Cell) (h : IsWithRow old key.c
         ∙ ap (λ b. if b then count_of k (map copy_view copies) + 1 else count_of k (map copy_view copies)) mine)
     counts k d lk at (inr ne) sent =
         let other : same_key (key_view c.transaction) k ≡ false = ap (λ q. same_key q k) of ∙ key_other key k (λ e. ne (sym e)) in
-        sent k d lk (sym (cell_there k ne lk fits) ∙ at)
+        sent k d lk (sym (cell_there k ne) ∙ at)
         ∙ sym (count_push k (map copy_view copies) (copy_view c)
         ∙ ap (λ b. if b then count_of k (map copy_view copies) + 1 else count_of k (map copy_view copies)) other)
 
@@ -194,10 +148,10 @@ module _ (old new : List Row) (key : Key) (cell : Cell) (h : IsWithRow old key.c
     pub kept_copy : (notes : List Note) → IsKept old copies notes → IsKept new (copies ++ c ∷ []) notes
     kept_copy notes k = record {
       newest_is = λ q lq.
-          newest_same q lq fits (newest_is ∙ ap (λ (o : Option Cell). option_and_then (λ (e : Cell). e.newest) o) (sym there)) ∙ k.newest_is q lq;
+          newest_same q (newest_is ∙ ap (λ (o : Option Cell). option_and_then (λ (e : Cell). e.newest) o) (sym there)) ∙ k.newest_is q lq;
       number_is = λ d t. numbers_same d t ∙ k.number_is d t;
       counted = λ d r at. numbers_many notes d r at (decide_number d key.client) k.counted;
-      places = λ d r at. cells_many d r at (decide_number d key.client) k.places;
+      places = λ d r at. places_are d r at (decide_number d key.client) k.places;
       sent = λ q d lq at. counts q d lq at (decide_key q key) k.sent ∙ ap (count_of q) (sym all);
       before = λ n d at. befores n d at (decide_number n (length copies)) k.before (k.sent key known fits there)
           ∙ ap (λ l. count_of (key_view d.transaction) (take n l)) (sym all);
@@ -233,20 +187,115 @@ sent_few rows copies notes h key k at fits =
     let many : length (map copy_view copies) ≡ length copies = length-map copies copy_view in
     omega (arith, all, few, many)
 
--- the place of a transaction stands in its client's row
-pub within_of : (rows : List Row) (k : Key) (c : Cell) (r : Row) → cell_at rows k ≡ Some c → slice_get rows k.client ≡ Some r
-    → place_of k.server k.invoke_id < length r.cells.items
-within_of rows k c r at there =
-    let row = in_row rows k c at in
-    let same : row.row ≡ r = let e : Some row.row ≡ Some r = sym row.at ∙ there in cc in
-    subst (λ (q : Row). place_of k.server k.invoke_id < length q.cells.items) same row.within
+-- a transaction that was asked has a cell
+pub has_cell : (rows : List Row) (copies : List Copy) (notes : List Note) → IsKept rows copies notes → (key : Key) → key.invoke_id < 256
+    → WasAsked notes key → (k : Cell) × (cell_at rows key ≡ Some k)
+has_cell rows copies notes h key fits asked = go (cell_at rows key) refl (h.newest_is key fits ∙ asked.1)
+  where
+    go : (o : Option Cell) → cell_at rows key ≡ o → option_and_then (λ (c : Cell). c.newest) o ≡ Some asked.0 → (k : Cell) × (cell_at rows key ≡ Some k)
+    go None e f = absurd cc
+    go (Some c) e f = (c, e)
 
--- two nodes that there are have a cell for their transaction
-pub has_cell : (rows : List Row) (copies : List Copy) (notes : List Note) → IsKept rows copies notes → (key : Key) → key.client < length rows
-    → key.server < length rows → key.invoke_id < 256 → (k : Cell) × (cell_at rows key ≡ Some k)
-has_cell rows copies notes h key client server fits =
-    let row = get_within rows key.client client in
-    let many : length (row.0).cells.items ≡ length rows * 256 = h.places key.client row.0 row.1 in
-    let within : place_of key.server key.invoke_id < length (row.0).cells.items = omega (arith, many, server, fits) in
-    let got = get_within (row.0).cells.items (place_of key.server key.invoke_id) within in
-    (got.0, ap (λ o. option_and_then (λ (r : Row). slice_get r.cells.items (place_of key.server key.invoke_id)) o) row.1 ∙ got.1)
+-- Pages.
+
+-- a client has one for each node
+pub as_many_pages : (rows : List Row) (copies : List Copy) (notes : List Note) → IsKept rows copies notes → (client server : ℕ) (r : Row)
+    → slice_get rows client ≡ Some r → server < length rows → server < length r.pages.items
+as_many_pages rows copies notes h client server r at lt =
+    let many = (h.places client r at).many in
+    let long = length-map r.pages.items cells_of in
+    omega (arith, many, long, lt)
+
+-- what has no cell has no copy
+none_counted : (rows : List Row) (copies : List Copy) → ((n : ℕ) (c : Copy) → slice_get copies n ≡ Some c → IsPlaced rows c) → (k : Key)
+    → cell_at rows k ≡ None → count_of k (map copy_view copies) ≡ 0
+none_counted rows [] placed k none = refl
+none_counted rows (c ∷ copies) placed k none =
+    let first : IsPlaced rows c = placed 0 c refl in
+    let other : same_key (key_view c.transaction) k ≡ false =
+    key_other (key_view c.transaction) k (λ is. let e : None ≡ Some first.0 = sym none ∙ ap (cell_at rows) (sym is) ∙ first.1 in cc) in
+    ap (λ b. if b then suc (count_of k (map copy_view copies)) else count_of k (map copy_view copies)) other
+    ∙ none_counted rows copies (λ n. placed (suc n)) k none
+
+-- a row is ready for an ask
+module _ (old new : List Row) (client : ℕ) (h : IsWithRow old client IsReadied new) where
+  abbrev IsNew : Key → Type 0
+  IsNew k = (cell_at old k ≡ None) × (cell_at new k ≡ Some nothing)
+
+  cells_ready : (k : Key) → (cell_at new k ≡ cell_at old k) ⊎ IsNew k
+  cells_ready k = go (decide_number k.client client)
+    where
+      look : Option Row → Option Cell
+      look o = option_and_then (cell_in k.server k.invoke_id) o
+
+      new_is : k.client ≡ client → cell_at new k ≡ cell_in k.server k.invoke_id h.after
+      new_is is = ap (λ c. look (slice_get new c)) is ∙ ap look h.here
+
+      old_is : k.client ≡ client → cell_at old k ≡ cell_in k.server k.invoke_id h.before
+      old_is is = ap (λ c. look (slice_get old c)) is ∙ ap look h.was
+
+      one : k.client ≡ client → ((cell_in k.server k.invoke_id h.after ≡ cell_in k.server k.invoke_id h.before)
+          ⊎ ((cell_in k.server k.invoke_id h.before ≡ None) × (cell_in k.server k.invoke_id h.after ≡ Some nothing)))
+          → (cell_at new k ≡ cell_at old k) ⊎ IsNew k
+      one is (inl same) = inl (new_is is ∙ same ∙ sym (old_is is))
+      one is (inr new) = inr (old_is is ∙ new.0, new_is is ∙ new.1)
+
+      go : ((k.client ≡ client) ⊎ (k.client ≡ client → ⊥)) → (cell_at new k ≡ cell_at old k) ⊎ IsNew k
+      go (inl is) = one is (h.goes.cells k.server k.invoke_id)
+      go (inr away) = inl (ap look (h.others k.client away))
+
+  abbrev newest_of : Option Cell → Option ℕ
+  newest_of o = option_and_then (λ (c : Cell). c.newest) o
+
+  newest_ready : (k : Key) → ((cell_at new k ≡ cell_at old k) ⊎ IsNew k) → newest_at new k ≡ newest_at old k
+  newest_ready k (inl same) = ap newest_of same
+  newest_ready k (inr is) = ap newest_of is.1 ∙ sym (ap newest_of is.0)
+
+  numbers_ready : (c t : ℕ) → number_at new c t ≡ number_at old c t
+  numbers_ready c t = go (decide_number c client)
+    where
+      look : Option Row → Option ℕ
+      look o = option_and_then (λ (r : Row). slice_get r.numbers.items t) o
+
+      go : ((c ≡ client) ⊎ (c ≡ client → ⊥)) → number_at new c t ≡ number_at old c t
+      go (inl is) = ap (λ d. look (slice_get new d)) is ∙ ap look h.here ∙ ap (λ l. slice_get l t) h.goes.numbers
+          ∙ sym (ap look h.was) ∙ sym (ap (λ d. look (slice_get old d)) is)
+      go (inr ne) = ap look (h.others c ne)
+
+  counts_ready : (copies : List world.Copy) (k : Key) (c : Cell) → cell_at new k ≡ Some c → ((cell_at new k ≡ cell_at old k) ⊎ IsNew k)
+      → ((e : Cell) → cell_at old k ≡ Some e → e.sent ≡ count_of k copies) → (cell_at old k ≡ None → count_of k copies ≡ 0) → c.sent ≡ count_of k copies
+  counts_ready copies k c at (inl same) sent none = sent c (sym same ∙ at)
+  counts_ready copies k c at (inr is) sent none =
+      let e : nothing ≡ c = let s : Some nothing ≡ Some c = sym is.1 ∙ at in cc in
+      ap (λ (d : Cell). d.sent) (sym e) ∙ sym (none is.0)
+
+  placed_ready : (c : Copy) → IsPlaced old c → ((cell_at new (key_view c.transaction) ≡ cell_at old (key_view c.transaction)) ⊎ IsNew (key_view c.transaction))
+      → IsPlaced new c
+  placed_ready c p (inl same) = (p.0, same ∙ p.1)
+  placed_ready c p (inr is) = absurd (let e : None ≡ Some p.0 = sym is.0 ∙ p.1 in cc)
+
+  row_ready : (c : ℕ) (r : Row) → slice_get new c ≡ Some r → ((c ≡ client) ⊎ (c ≡ client → ⊥))
+      → (q : Row) × (slice_get old c ≡ Some q) × (r.numbers.items ≡ q.numbers.items)
+      × ((servers : ℕ) → ArePlaces servers (places_of q) → ArePlaces servers (places_of r))
+  row_ready c r at (inl is) =
+      let same : h.after ≡ r = let e : Some h.after ≡ Some r = sym h.here ∙ ap (slice_get new) (sym is) ∙ at in cc in (
+        h.before,
+        ap (slice_get old) is ∙ h.was,
+        ap (λ (q : Row). q.numbers.items) (sym same) ∙ h.goes.numbers,
+        subst (λ (q : Row). (servers : ℕ) → ArePlaces servers (places_of h.before) → ArePlaces servers (places_of q)) same h.goes.places,
+      )
+  row_ready c r at (inr ne) = (r, sym (h.others c ne) ∙ at, refl, λ servers p. p)
+
+  pub kept_ready : (copies : List Copy) (notes : List Note) → IsKept old copies notes → IsKept new copies notes
+  kept_ready copies notes k = record {
+    newest_is = λ q lq. newest_ready q (cells_ready q) ∙ k.newest_is q lq;
+    number_is = λ c t. numbers_ready c t ∙ k.number_is c t;
+    counted = λ c r at. let q = row_ready c r at (decide_number c client) in ap (λ l. length l) q.2 ∙ k.counted c q.0 q.1;
+    places = λ c r at.
+        let q = row_ready c r at (decide_number c client) in
+        subst (λ n. ArePlaces n (places_of r)) (sym h.many) (q.3 (length old) (k.places c q.0 q.1));
+    sent = λ q c lq at.
+        counts_ready (map copy_view copies) q c at (cells_ready q) (λ e there. k.sent q e lq there) (none_counted old copies k.placed q);
+    before = k.before;
+    placed = λ n c at. placed_ready c (k.placed n c at) (cells_ready (key_view c.transaction));
+  }

@@ -5,6 +5,7 @@ pub mod Rooms
 pub mod Fresh
 pub mod Sends
 pub mod Grown
+pub mod Pages
 pub mod Few
 pub mod Copied
 pub mod Heard

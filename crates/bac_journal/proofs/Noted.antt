@@ -1,9 +1,10 @@
 -- What is kept, after an ask was noted.
-use Rattle.std.proofs.Common.{◌≡◌, ℕ, suc, ◌+◌, ◌*◌, ◌<◌, ◌≤◌, ◌⊎◌, Bool, true, false, ◌&&◌, List, [], ◌∷◌, ◌++◌, map, length, Option, Some, slice_get}
+use Rattle.std.proofs.Common.{◌≡◌, ℕ, suc, ◌+◌, ◌<◌, ◌≤◌, ◌⊎◌, Bool, true, false, ◌&&◌, List, [], ◌∷◌, ◌++◌, map, length, Option, Some, slice_get}
 use Rattle.std.proofs.Common.{if◌then◌else◌, refl, sym, ap, subst, inl, inr, ◌∙◌, arith, nat_eq, nat_lt, slice_set}
 use Rattle.std.proofs.lemmas.Bool.Decides.{nat_tests}
 use Rattle.std.proofs.lemmas.List.{length-append, length-set, length-map, length-reverse, map-append, reverse-append, reverse-reverse}
 use Rattle.std.specs.Prelude.{option_and_then, reverse, vec_capacity}
+use Rattle.std.specs.Global.{Vec}
 use Rattle.bac_protocol.specs.Transaction.{Key}
 use Rattle.bac_protocol.specs.World.{same_key}
 use Rattle.bac_protocol.proofs.Keys.{decide_key, same_key_self}
@@ -16,10 +17,10 @@ use Rattle.bac_journal.specs.declared.noting.Note as code
 use Rattle.bac_journal.specs.Entering.{with_ticket, tickets_of}
 use Rattle.bac_journal.specs.Notes.{note_view, notes_view}
 use Rattle.bac_journal.specs.Views.{key_view, copy_view}
-use Rattle.bac_journal.specs.Index.{place_of, cell_at, number_at, newest_at, IsSameRow, IsWithRow, IsWithCell, IsWithNumber}
+use Rattle.bac_journal.specs.Index.{cell_at, cell_in, cells_of, number_at, newest_at, places_of, ArePlaces, IsWithRow, IsWithCell, IsWithNumber}
 use Rattle.bac_journal.specs.Records.{IsKept}
 use Rattle.bac_journal.proofs.Lists.{get_set, get_set_other, get_push, get_push_other}
-use Rattle.bac_journal.proofs.Index.{key_other, cell_here, cell_there, numbers_same, still_placed, cells_many, numbers_many}
+use Rattle.bac_journal.proofs.Index.{key_other, cell_here, cell_there, numbers_same, still_placed, places_are, numbers_many}
 
 nat_self : (n : ℕ) → nat_eq n n ≡ true
 nat_self n = grind (arith, nat_tests)
@@ -35,7 +36,7 @@ nat_other m n ne = go (nat_eq m n) refl
 
 module _ (old new : List Row) (client ticket number : ℕ) (h : IsWithRow old client (IsWithNumber ticket number) new) where
   abbrev look_cell : Key → Option Row → Option Cell
-  look_cell k o = option_and_then (λ (r : Row). slice_get r.cells.items (place_of k.server k.invoke_id)) o
+  look_cell k o = option_and_then (cell_in k.server k.invoke_id) o
 
   abbrev look_number : ℕ → Option Row → Option ℕ
   look_number t o = option_and_then (λ (r : Row). slice_get r.numbers.items t) o
@@ -45,7 +46,8 @@ module _ (old new : List Row) (client ticket number : ℕ) (h : IsWithRow old cl
     where
       go : ((k.client ≡ client) ⊎ (k.client ≡ client → ⊥)) → cell_at new k ≡ cell_at old k
       go (inl is) = ap (λ d. look_cell k (slice_get new d)) is ∙ ap (look_cell k) h.here
-          ∙ ap (λ v. slice_get v.items (place_of k.server k.invoke_id)) h.goes.cells ∙ sym (ap (look_cell k) h.was)
+          ∙ ap (λ (v : Vec (Vec Cell)). option_and_then (λ (p : Vec Cell). slice_get p.items k.invoke_id) (slice_get v.items k.server)) h.goes.pages
+          ∙ sym (ap (look_cell k) h.was)
           ∙ sym (ap (λ d. look_cell k (slice_get old d)) is)
       go (inr away) = ap (look_cell k) (h.others k.client away)
 
@@ -61,9 +63,7 @@ module _ (old new : List Row) (client ticket number : ℕ) (h : IsWithRow old cl
 -- An ask was noted: it is its transaction's newest, and its ticket's.
 
 module _ (old mid new : List Row) (key : Key) (cell known : Cell) (number : ℕ)
-    (a : IsWithRow old key.client (IsWithCell (place_of key.server key.invoke_id) cell) mid)
-    (within : place_of key.server key.invoke_id < length a.before.cells.items)
-    (ticket : ℕ) (b : IsWithRow mid key.client (IsWithNumber ticket number) new) (fits : key.invoke_id < 256) (there : cell_at old key ≡ Some known)
+    (a : IsWithRow old key.client (IsWithCell key.server key.invoke_id cell) mid) (ticket : ℕ) (b : IsWithRow mid key.client (IsWithNumber ticket number) new) (fits : key.invoke_id < 256) (there : cell_at old key ≡ Some known)
     (newest_cell : cell.newest ≡ Some number) (same_sent : cell.sent ≡ known.sent) (copies : List Copy) (notes : List Note)
     (numbered : number ≡ length notes) (h : IsKept old copies notes) where
   abbrev note : Note
@@ -78,11 +78,11 @@ module _ (old mid new : List Row) (key : Key) (cell known : Cell) (number : ℕ)
   newests : (q : Key) → q.invoke_id < 256 → ((q ≡ key) ⊎ (q ≡ key → ⊥)) → newest_at new q ≡ newest q (note ∷ notes)
   newests q lq (inl is) =
       ap (newest_at new) is ∙ ap (λ (o : Option Cell). option_and_then (λ (c : Cell). c.newest) o)
-      (cells_same mid new key.client ticket number b key ∙ cell_here old mid key cell a within) ∙ newest_cell ∙ ap Some numbered
+      (cells_same mid new key.client ticket number b key ∙ cell_here old mid key cell a) ∙ newest_cell ∙ ap Some numbered
       ∙ sym (ap (λ x. if x then Some (length notes) else newest q notes) (ap (same_key key) is ∙ same_key_self key))
   newests q lq (inr ne) =
       ap (λ (o : Option Cell). option_and_then (λ (c : Cell). c.newest) o)
-      (cells_same mid new key.client ticket number b q ∙ cell_there old mid key cell a within q ne lq fits) ∙ h.newest_is q lq
+      (cells_same mid new key.client ticket number b q ∙ cell_there old mid key cell a q ne) ∙ h.newest_is q lq
       ∙ sym (ap (λ x. if x then Some (length notes) else newest q notes) (key_other key q (λ e. ne (sym e))))
 
   passes_note : (c t : ℕ) → (nat_eq key.client c && nat_eq ticket t) ≡ false → ask_of c t (note ∷ notes) ≡ ask_of c t notes
@@ -99,10 +99,10 @@ module _ (old mid new : List Row) (key : Key) (cell known : Cell) (number : ℕ)
       ∙ ap (λ x. if x then Some (length notes) else ask_of c t notes) (ap (nat_eq ticket) it ∙ nat_self ticket))
   numbers c t (inl is) (inr ne) =
       ap (λ d. number_at new d t) is ∙ number_there mid new key.client ticket number b t ne
-      ∙ numbers_same old mid key cell a within key.client t ∙ h.number_is key.client t ∙ ap (λ d. ask_of d t notes) (sym is)
+      ∙ numbers_same old mid key cell a key.client t ∙ h.number_is key.client t ∙ ap (λ d. ask_of d t notes) (sym is)
       ∙ sym (passes_note c t (and_right (nat_eq key.client c) (nat_eq ticket t) (nat_other ticket t (λ e. ne (sym e)))))
   numbers c t (inr ne) w =
-      number_away mid new key.client ticket number b c t ne ∙ numbers_same old mid key cell a within c t ∙ h.number_is c t
+      number_away mid new key.client ticket number b c t ne ∙ numbers_same old mid key cell a c t ∙ h.number_is c t
       ∙ sym (passes_note c t (ap (λ x. x && nat_eq ticket t) (nat_other key.client c (λ e. ne (sym e)))))
 
   counts : (c : ℕ) (r : Row) → slice_get new c ≡ Some r → ((c ≡ key.client) ⊎ (c ≡ key.client → ⊥)) → length r.numbers.items ≡ tickets_of c (note ∷ notes)
@@ -111,41 +111,44 @@ module _ (old mid new : List Row) (key : Key) (cell known : Cell) (number : ℕ)
       ap (λ (q : Row). length q.numbers.items) (sym same) ∙ b.goes.many
       ∙ ap (with_ticket ticket) (many_numbers ∙ ap (λ d. tickets_of d notes) (sym is))
       ∙ sym (ap (λ x. if x then with_ticket ticket (tickets_of c notes) else tickets_of c notes) (ap (nat_eq key.client) is ∙ nat_self key.client))
-  counts c r at (inr ne) = numbers_many old mid key cell a within notes c r (sym (b.others c ne) ∙ at) (inr ne) h.counted
+  counts c r at (inr ne) = numbers_many old mid key cell a notes c r (sym (b.others c ne) ∙ at) (inr ne) h.counted
       ∙ sym (ap (λ x. if x then with_ticket ticket (tickets_of c notes) else tickets_of c notes) (nat_other key.client c (λ e. ne (sym e))))
 
-  many_places : (c : ℕ) (r : Row) → slice_get new c ≡ Some r → ((c ≡ key.client) ⊎ (c ≡ key.client → ⊥)) → length r.cells.items ≡ length new * 256
-  many_places c r at (inl is) =
+  places_noted : (c : ℕ) (r : Row) → slice_get new c ≡ Some r → ((c ≡ key.client) ⊎ (c ≡ key.client → ⊥)) → ArePlaces (length new) (places_of r)
+  places_noted c r at (inl is) =
       let same : b.after ≡ r = let e : Some b.after ≡ Some r = sym b.here ∙ ap (slice_get new) (sym is) ∙ at in cc in
-      ap (λ (q : Row). length q.cells.items) (sym same) ∙ ap (λ v. length v.items) b.goes.cells
-      ∙ cells_many old mid key cell a within key.client b.before b.was (inl refl) h.places ∙ ap (λ n. n * 256) (sym b.many)
-  many_places c r at (inr ne) = cells_many old mid key cell a within c r (sym (b.others c ne) ∙ at) (inr ne) h.places ∙ ap (λ n. n * 256) (sym b.many)
+      let pages : b.before.pages ≡ r.pages = sym b.goes.pages ∙ ap (λ (q : Row). q.pages) same in
+      subst (λ n. ArePlaces n (places_of r)) (sym b.many)
+      (subst (λ (v : Vec (Vec Cell)). ArePlaces (length mid) (map cells_of v.items)) pages
+      (places_are old mid key cell a key.client b.before b.was (inl refl) h.places))
+  places_noted c r at (inr ne) =
+      subst (λ n. ArePlaces n (places_of r)) (sym b.many) (places_are old mid key cell a c r (sym (b.others c ne) ∙ at) (inr ne) h.places)
 
   counts_sent : (q : Key) (c : Cell) → q.invoke_id < 256 → cell_at new q ≡ Some c → ((q ≡ key) ⊎ (q ≡ key → ⊥)) → c.sent ≡ count_of q (map copy_view copies)
   counts_sent q c lq at (inl is) =
-      let same : cell ≡ c = let e : Some cell ≡ Some c = sym (cell_here old mid key cell a within) ∙ sym (cells_same mid new key.client ticket number b key)
+      let same : cell ≡ c = let e : Some cell ≡ Some c = sym (cell_here old mid key cell a) ∙ sym (cells_same mid new key.client ticket number b key)
       ∙ ap (cell_at new) (sym is) ∙ at in cc in
       ap (λ (d : Cell). d.sent) (sym same) ∙ same_sent ∙ h.sent key known fits there ∙ ap (λ k. count_of k (map copy_view copies)) (sym is)
   counts_sent q c lq at (inr ne) =
-      h.sent q c lq (sym (cell_there old mid key cell a within q ne lq fits) ∙ sym (cells_same mid new key.client ticket number b q) ∙ at)
+      h.sent q c lq (sym (cell_there old mid key cell a q ne) ∙ sym (cells_same mid new key.client ticket number b q) ∙ at)
 
   pub kept_note : IsKept new copies (note ∷ notes)
   kept_note = record {
     newest_is = λ q lq. newests q lq (decide_key q key);
     number_is = λ c t. numbers c t (decide_number c key.client) (decide_number t ticket);
     counted = λ c r at. counts c r at (decide_number c key.client);
-    places = λ c r at. many_places c r at (decide_number c key.client);
+    places = λ c r at. places_noted c r at (decide_number c key.client);
     sent = λ q c lq at. counts_sent q c lq at (decide_key q key);
     before = h.before;
     placed = λ n c at.
-        let p = still_placed old mid key cell a within c (h.placed n c at) in (p.0, cells_same mid new key.client ticket number b (key_view c.transaction) ∙ p.1);
+        let p = still_placed old mid key cell a c (h.placed n c at) in (p.0, cells_same mid new key.client ticket number b (key_view c.transaction) ∙ p.1);
   }
 
 -- a cell leaves the numbers of its row and their room as they were
-pub numbers_kept : (old mid : List Row) (client place ticket : ℕ) (cell : Cell) → IsWithRow old client (IsWithCell place cell) mid
+pub numbers_kept : (old mid : List Row) (client server invoke_id ticket : ℕ) (cell : Cell) → IsWithRow old client (IsWithCell server invoke_id cell) mid
     → (r : Row) × (slice_get old client ≡ Some r) × (length r.numbers.items + 1 ≤ vec_capacity r.numbers) × (ticket ≤ length r.numbers.items)
     → (r : Row) × (slice_get mid client ≡ Some r) × (length r.numbers.items + 1 ≤ vec_capacity r.numbers) × (ticket ≤ length r.numbers.items)
-numbers_kept old mid client place ticket cell h room =
+numbers_kept old mid client server invoke_id ticket cell h room =
     let same : room.0 ≡ h.before = let e : Some room.0 ≡ Some h.before = sym room.1 ∙ h.was in cc in (
       h.after,
       h.here,
@@ -156,10 +159,10 @@ numbers_kept old mid client place ticket cell h room =
 
 -- The number of a ticket is set, or comes after the others.
 
-pub number_set : (old new : Row) (ticket number : ℕ) → new.cells ≡ old.cells → new.numbers.items ≡ slice_set old.numbers.items ticket number
+pub number_set : (old new : Row) (ticket number : ℕ) → new.pages ≡ old.pages → new.numbers.items ≡ slice_set old.numbers.items ticket number
     → ticket < length old.numbers.items → IsWithNumber ticket number old new
-number_set old new ticket number cells numbers within = record {
-  cells = cells;
+number_set old new ticket number pages numbers within = record {
+  pages = pages;
   here = ap (λ l. slice_get l ticket) numbers ∙ get_set old.numbers.items ticket number within;
   others = λ t ne. ap (λ l. slice_get l t) numbers ∙ get_set_other old.numbers.items ticket t number ne;
   many = ap (λ l. length l) numbers ∙ length-set old.numbers.items ticket number
@@ -169,10 +172,10 @@ number_set old new ticket number cells numbers within = record {
     below : nat_lt ticket (length old.numbers.items) ≡ true
     below = grind (arith, nat_tests)
 
-pub number_pushed : (old new : Row) (ticket number : ℕ) → new.cells ≡ old.cells → new.numbers.items ≡ old.numbers.items ++ number ∷ []
+pub number_pushed : (old new : Row) (ticket number : ℕ) → new.pages ≡ old.pages → new.numbers.items ≡ old.numbers.items ++ number ∷ []
     → ticket ≡ length old.numbers.items → IsWithNumber ticket number old new
-number_pushed old new ticket number cells numbers last = record {
-  cells = cells;
+number_pushed old new ticket number pages numbers last = record {
+  pages = pages;
   here = ap (slice_get new.numbers.items) last ∙ ap (λ l. slice_get l (length old.numbers.items)) numbers ∙ get_push old.numbers.items number;
   others = λ t ne. ap (λ l. slice_get l t) numbers ∙ get_push_other old.numbers.items number t (λ e. ne (e ∙ sym last));
   many = ap (λ l. length l) numbers ∙ length-append old.numbers.items (number ∷ []) ∙ one_more
@@ -190,51 +193,6 @@ notes_push notes n = ap reverse (map-append note_view notes (n ∷ [])) ∙ reve
 
 pub notes_many : (notes : List code.Note) → length notes ≡ length (notes_view notes)
 notes_many notes = sym (length-reverse (map note_view notes) ∙ length-map notes note_view)
-
--- A row that says the same, with more room.
-
-module _ (old new : List Row) (client : ℕ) (h : IsWithRow old client IsSameRow new) where
-  cells_alike : (k : Key) → cell_at new k ≡ cell_at old k
-  cells_alike k = go (decide_number k.client client)
-    where
-      look : Option Row → Option Cell
-      look o = option_and_then (λ (r : Row). slice_get r.cells.items (place_of k.server k.invoke_id)) o
-
-      go : ((k.client ≡ client) ⊎ (k.client ≡ client → ⊥)) → cell_at new k ≡ cell_at old k
-      go (inl is) = ap (λ d. look (slice_get new d)) is ∙ ap look h.here ∙ ap (λ l. slice_get l (place_of k.server k.invoke_id)) h.goes.cells
-          ∙ sym (ap look h.was) ∙ sym (ap (λ d. look (slice_get old d)) is)
-      go (inr ne) = ap look (h.others k.client ne)
-
-  numbers_alike : (c t : ℕ) → number_at new c t ≡ number_at old c t
-  numbers_alike c t = go (decide_number c client)
-    where
-      look : Option Row → Option ℕ
-      look o = option_and_then (λ (r : Row). slice_get r.numbers.items t) o
-
-      go : ((c ≡ client) ⊎ (c ≡ client → ⊥)) → number_at new c t ≡ number_at old c t
-      go (inl is) = ap (λ d. look (slice_get new d)) is ∙ ap look h.here ∙ ap (λ l. slice_get l t) h.goes.numbers
-          ∙ sym (ap look h.was) ∙ sym (ap (λ d. look (slice_get old d)) is)
-      go (inr ne) = ap look (h.others c ne)
-
-  row_before : (c : ℕ) (r : Row) → slice_get new c ≡ Some r → (q : Row) × (slice_get old c ≡ Some q) × IsSameRow q r
-  row_before c r at = go (decide_number c client)
-    where
-      go : ((c ≡ client) ⊎ (c ≡ client → ⊥)) → (q : Row) × (slice_get old c ≡ Some q) × IsSameRow q r
-      go (inl is) =
-          let same : h.after ≡ r = let e : Some h.after ≡ Some r = sym h.here ∙ ap (slice_get new) (sym is) ∙ at in cc in
-          (h.before, ap (slice_get old) is ∙ h.was, subst (IsSameRow h.before) same h.goes)
-      go (inr ne) = (r, sym (h.others c ne) ∙ at, record { cells = refl; numbers = refl })
-
-  pub kept_alike : (copies : List Copy) (notes : List Note) → IsKept old copies notes → IsKept new copies notes
-  kept_alike copies notes k = record {
-    newest_is = λ q lq. ap (λ (o : Option Cell). option_and_then (λ (c : Cell). c.newest) o) (cells_alike q) ∙ k.newest_is q lq;
-    number_is = λ c t. numbers_alike c t ∙ k.number_is c t;
-    counted = λ c r at. let q = row_before c r at in ap (λ l. length l) (q.2).numbers ∙ k.counted c q.0 q.1;
-    places = λ c r at. let q = row_before c r at in ap (λ l. length l) (q.2).cells ∙ k.places c q.0 q.1 ∙ ap (λ n. n * 256) (sym h.many);
-    sent = λ q c lq at. k.sent q c lq (sym (cells_alike q) ∙ at);
-    before = k.before;
-    placed = λ n c at. let p = k.placed n c at in (p.0, cells_alike (key_view c.transaction) ∙ p.1);
-  }
 
 -- the notes in their order
 pub notes_mapped : (xs ys : List code.Note) → notes_view xs ≡ notes_view ys → map note_view xs ≡ map note_view ys

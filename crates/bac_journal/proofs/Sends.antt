@@ -1,13 +1,11 @@
 -- What a datagram becomes.
-use Rattle.std.proofs.Common.{◌≡◌, ℕ, ◌<◌, Bool, true, false, List, length, Some, slice_get, slice_index_or, if◌then◌else◌, refl, sym, ap, subst, ◌∙◌}
-use Rattle.std.proofs.lemmas.Option.{slice_get-get_or, slice_get_within, get_or_from_slice_get}
+use Rattle.std.proofs.Common.{◌≡◌, ℕ, ◌<◌, List, [], ◌∷◌, length, Some, slice_get, slice_index_or, refl, sym, ap, subst, ◌∙◌}
+use Rattle.std.proofs.lemmas.Option.{slice_get-get_or, get_or_from_slice_get}
 use Rattle.bac_apdu.specs.Apdu.{Apdu}
 use Rattle.bac_apdu.specs.Spelling.{SpellsApdu}
 use Rattle.bac_npdu.specs.Datagram.{Means}
 use Rattle.bac_npdu.specs.Peers.{PeerView}
 use Rattle.bac_protocol.specs.Service.{Octets}
-use Rattle.bac_protocol.specs.Wire.{is_from_client}
-use Rattle.bac_protocol.specs.Own.{invoke_id_of}
 use Rattle.bac_protocol.specs.Transaction.{Key}
 use Rattle.bac_ends.specs.Sends.{Datagram}
 use Rattle.bac_world.specs.Laws.{IsMeaningless}
@@ -17,6 +15,7 @@ use Rattle.bac_world.specs.World.{Note, link_at, transaction_of, IsCopied, IsOfT
 use Rattle.bac_journal.specs.declared.asks.Cell.{Cell}
 use Rattle.bac_journal.specs.declared.asks.Row.{Row}
 use Rattle.bac_journal.specs.declared.copies.Copy.{Copy}
+use Rattle.bac_journal.specs.Growing.{CanBecome}
 use Rattle.bac_journal.specs.Index.{cell_at}
 use Rattle.bac_journal.specs.Records.{IsKept}
 use Rattle.bac_journal.specs.Views.{key_view, copy_view, AreLinks}
@@ -52,25 +51,9 @@ becomes_copy nodes links linked now sender to e d key octets taken within at sam
   };
 }
 
--- its transaction is one of two nodes that there are
+-- its transaction has a cell
 pub copied_cell : (nodes : List Node) (links : List Octets) → AreLinks nodes links → (rows : List Row) (copies : List Copy) (notes : List Note)
-    → IsKept rows copies notes → length rows ≡ length links → (now sender : ℕ) (d : Datagram) (c : Copy) → IsCopied nodes now sender d (copy_view c)
-    → c.transaction.invoke_id < 256 → (k : Cell) × (cell_at rows (key_view c.transaction) ≡ Some k)
-copied_cell nodes links linked rows copies notes h many now sender d c k fits = go (is_from_client k.transaction.apdu) k.transaction.key
-  where
-    from : c.from < length rows
-    from = subst (λ n. c.from < n) (sym many)
-        (slice_get_within links c.from k.transaction.link (sym (linked c.from) ∙ k.transaction.sender))
-
-    to : c.to < length rows
-    to = subst (λ n. c.to < n) (sym many) (slice_get_within links c.to d.to (sym (linked c.to) ∙ k.to))
-
-    id : ℕ
-    id = invoke_id_of k.transaction.apdu
-
-    go : (b : Bool) → key_view c.transaction ≡ (if b then record { client = c.from; server = c.to; invoke_id = id }
-        else record { client = c.to; server = c.from; invoke_id = id }) → (k : Cell) × (cell_at rows (key_view c.transaction) ≡ Some k)
-    go true is = has_cell rows copies notes h (key_view c.transaction) (subst (λ n. n < length rows) (sym (ap (λ (q : Key). q.client) is)) from)
-        (subst (λ n. n < length rows) (sym (ap (λ (q : Key). q.server) is)) to) fits
-    go false is = has_cell rows copies notes h (key_view c.transaction) (subst (λ n. n < length rows) (sym (ap (λ (q : Key). q.client) is)) to)
-        (subst (λ n. n < length rows) (sym (ap (λ (q : Key). q.server) is)) from) fits
+    → IsKept rows copies notes → (now sender : ℕ) (d : Datagram) → CanBecome nodes notes now sender (d ∷ []) → (c : Copy)
+    → IsCopied nodes now sender d (copy_view c) → c.transaction.invoke_id < 256 → (k : Cell) × (cell_at rows (key_view c.transaction) ≡ Some k)
+copied_cell nodes links linked rows copies notes h now sender d can c k fits =
+    has_cell rows copies notes h (key_view c.transaction) fits (can.0.asked (copy_view c) k)

@@ -7,11 +7,14 @@ use Rattle.bac_protocol.specs.Context.{Settings, Context}
 use Rattle.bac_protocol.specs.Service.{Octets}
 use Rattle.bac_protocol.specs.Own.{IsOwnEntry}
 use Rattle.bac_protocol.specs.Client as client
-use Rattle.bac_protocol.specs.Client.{Ask, client_ticks, asks}
+use Rattle.bac_protocol.specs.Client.{Ask, Ticket, client_ticks, asks}
 use Rattle.bac_protocol.specs.Server as server
 use Rattle.bac_protocol.specs.Server.{Entry, is_live, live_entry, server_ticks}
 use Rattle.bac_protocol.specs.Transaction.{Key, Rules}
 use Rattle.bac_protocol.specs.World.{Net}
+use Rattle.bac_protocol.specs.World as machine
+use Rattle.bac_protocol.proofs.Keys.{same_key_self}
+use Rattle.bac_protocol.proofs.SingleMoves as moves
 use Rattle.bac_protocol.specs.Claims.{IsBounded}
 use Rattle.bac_protocol.proofs.Own.{client_sends_own, server_sends_own}
 use Rattle.bac_slots.specs.Slots.{value_at, in_order}
@@ -22,7 +25,7 @@ use Rattle.bac_ends.specs.Ends.{ClientSlot, ServerSlot, Client, Held, Accepted, 
 use Rattle.bac_ends.specs.Ends.{client_tick_sends, client_tick_ends, held_tick_sends, held_tick_ends, server_tick_sends}
 use Rattle.bac_ends.specs.Ends.Held.{Open, Closed}
 use Rattle.bac_world.specs.Node.{Node, Outcome, NodeTick, NodeAsks}
-use Rattle.bac_world.specs.World.{World, link_at, peer_at}
+use Rattle.bac_world.specs.World.{World, Note, link_at, peer_at, newest, ask_of}
 use Rattle.bac_ends.proofs.KeyedSlots.{EachSlot, each_so, each_in_order}
 use Rattle.bac_world.proofs.Machines.{own_of}
 use Rattle.bac_world.proofs.Pairs.{pairwise_split}
@@ -31,7 +34,7 @@ use Rattle.bac_world.proofs.Steps.{Over, Fits}
 use Rattle.bac_world.proofs.Serving.{each_of_server}
 use Rattle.bac_world.proofs.Hearing.{ticket_at}
 use Rattle.bac_world.proofs.Asking.{accepted_is}
-use Rattle.bac_journal.specs.Entering.{Every, CanBeCopied, IsNoted, AreOfClient, CanEnter}
+use Rattle.bac_journal.specs.Entering.{Every, CanBeCopied, IsNoted, AreOfClient, CanEnter, WasAsked, note_of}
 use Rattle.bac_journal.proofs.Few.{asks_few}
 use Rattle.bac_journal.proofs.Copied.{every_join, paired_length, sent_length, each_found, can_all, can_end}
 
@@ -53,14 +56,28 @@ module _ (links : ℕ → Option Octets) (apart : (i j : ℕ) (l : Octets) → l
     peer_is q k = λ j. record { peer = k.peer j; invoke_id = q.invoke_id }
 
     -- a client's slot
-    held_sends : (y : Held) (q : PeerKey) → IsKnown links apart q → (ds : List Datagram)
-        → Pairwise IsSent (held_tick_sends (context_of c w.now q) q.peer y) ds → Every (CanBeCopied w i) ds
-    held_sends (Closed first) q k [] s = tt
-    held_sends (Closed first) q k (d ∷ ds) s = absurd s
-    held_sends (Open t) q k ds s =
+    ticket_of : (q : PeerKey) → (k : IsKnown links apart q) → (number : ℕ) (t : Ticket)
+        → value_at same_key q a.clients.slots ≡ Some (record { number = number; held = Open t })
+        → (n.tickets (key_of i k.node q.invoke_id) ≡ Some t) × (ask_of i number w.notes ≡ Some (n.numbers (key_of i k.node q.invoke_id)))
+    ticket_of q k number t found =
+        let key : Key = key_of i k.node q.invoke_id in
+        let there : value_at same_key (slot_key k.link q.invoke_id) a.clients.slots ≡ Some (record { number = number; held = Open t }) =
+        subst (λ (y : PeerKey). value_at same_key y a.clients.slots ≡ Some (record { number = number; held = Open t })) (peer_is q k) found in
+        let fit : TicketFits (n.asks_from i) n.now w.notes i (n.numbers key) (Some (record { number = number; held = Open t })) (n.tickets key) =
+        subst (λ (y : Option Client). TicketFits (n.asks_from i) n.now w.notes i (n.numbers key) y (n.tickets key)) there
+        (fits.clients.found k.node k.link q.invoke_id k.at) in
+        ticket_at (n.asks_from i) n.now w.notes i (n.numbers key) number t (n.tickets key) fit
+
+    held_sends : (y : Held) (q : PeerKey) → IsKnown links apart q → (number : ℕ)
+        → value_at same_key q a.clients.slots ≡ Some (record { number = number; held = y }) → (ds : List Datagram)
+        → Pairwise IsSent (held_tick_sends (context_of c w.now q) q.peer y) ds → Every (CanBeCopied w.nodes w.notes w.now i) ds
+    held_sends (Closed first) q k number found [] s = tt
+    held_sends (Closed first) q k number found (d ∷ ds) s = absurd s
+    held_sends (Open t) q k number found ds s =
+        let key : Key = key_of i k.node q.invoke_id in
         let sends : List Apdu = client.sends_of (client_ticks (context_of c w.now q) t) in
-        can_all links apart w h.linked true (key_of i k.node q.invoke_id) i k.node a.link k.link
-        (record { between = (refl, refl); from = fits.link; to = k.at }) sends ds
+        can_all links apart w h.linked true key i k.node a.link k.link (record { between = (refl, refl); from = fits.link; to = k.at })
+        w.notes (n.numbers key, h.noted key t (ticket_of q k number t found).0) sends ds
         (client_sends_own.ticks (context_of c w.now q) t)
         (subst (λ y. Pairwise IsSent (to_all y sends) ds) k.peer s)
 
@@ -71,13 +88,7 @@ module _ (links : ℕ → Option Octets) (apart : (i j : ℕ) (l : Octets) → l
     held_ends (Closed first) q k number found (f ∷ fs) s = absurd s
     held_ends (Open t) q k number found fs s =
         let key : Key = key_of i k.node q.invoke_id in
-        let there : value_at same_key (slot_key k.link q.invoke_id) a.clients.slots ≡ Some (record { number = number; held = Open t }) =
-        subst (λ (y : PeerKey). value_at same_key y a.clients.slots ≡ Some (record { number = number; held = Open t })) (peer_is q k) found in
-        let fit : TicketFits (n.asks_from i) n.now w.notes i (n.numbers key) (Some (record { number = number; held = Open t })) (n.tickets key) =
-        subst (λ (y : Option Client). TicketFits (n.asks_from i) n.now w.notes i (n.numbers key) y (n.tickets key)) there
-        (fits.clients.found k.node k.link q.invoke_id k.at) in
-        (can_end links apart w h.linked i number (n.numbers key) (ticket_at (n.asks_from i) n.now w.notes i (n.numbers key) number t (n.tickets key) fit).1
-        t.ask.choice (client.ending_of (client_ticks (context_of c w.now q) t)) fs s).0
+        (can_end links apart w h.linked i number (n.numbers key) (ticket_of q k number t found).1 t.ask.choice (client.ending_of (client_ticks (context_of c w.now q) t)) fs s).0
 
     abbrev IsClientSlot : PeerKey → Client → Type 0
     IsClientSlot q v = IsKnown links apart q
@@ -85,14 +96,15 @@ module _ (links : ℕ → Option Octets) (apart : (i j : ℕ) (l : Octets) → l
     abbrev IsFoundClient : PeerKey → Client → Type 0
     IsFoundClient q v = value_at same_key q a.clients.slots ≡ Some v
 
-    clients_send : (os : List ClientSlot) → EachSlot Client IsClientSlot os → (ds : List Datagram)
-        → Pairwise IsSent (from_each (client_tick_sends c w.now) os) ds → Every (CanBeCopied w i) ds
-    clients_send [] k [] s = tt
-    clients_send [] k (d ∷ ds) s = absurd s
-    clients_send (o ∷ os) k ds s =
+    clients_send : (os : List ClientSlot) → EachSlot Client IsClientSlot os → EachSlot Client IsFoundClient os → (ds : List Datagram)
+        → Pairwise IsSent (from_each (client_tick_sends c w.now) os) ds → Every (CanBeCopied w.nodes w.notes w.now i) ds
+    clients_send [] k f [] s = tt
+    clients_send [] k f (d ∷ ds) s = absurd s
+    clients_send (o ∷ os) k f ds s =
         let y = pairwise_split IsSent (client_tick_sends c w.now o) (from_each (client_tick_sends c w.now) os) ds s in
-        subst (Every (CanBeCopied w i)) (sym y.is)
-        (every_join (CanBeCopied w i) y.front y.rest (held_sends o.value.held o.key k.0 y.front y.first) (clients_send os k.1 y.rest y.second))
+        subst (Every (CanBeCopied w.nodes w.notes w.now i)) (sym y.is)
+        (every_join (CanBeCopied w.nodes w.notes w.now i) y.front y.rest (held_sends o.value.held o.key k.0 o.value.number f.0 y.front y.first)
+        (clients_send os k.1 f.1 y.rest y.second))
 
     clients_end : (os : List ClientSlot) → EachSlot Client IsClientSlot os → EachSlot Client IsFoundClient os → (fs : List Finish)
         → Pairwise IsFinish (from_each (client_tick_ends c w.now) os) fs → Every (IsNoted w i) fs
@@ -119,8 +131,16 @@ module _ (links : ℕ → Option Octets) (apart : (i j : ℕ) (l : Octets) → l
         go true s = sym s
         go false s = cc
 
+    -- an entry's transaction was asked
+    entry_asked : (key : Key) (d : Entry) → n.entries key ≡ Some d → WasAsked w.notes key
+    entry_asked key d is = go (n.tickets key) refl
+      where
+        go : (o : Option Ticket) → n.tickets key ≡ o → WasAsked w.notes key
+        go None e = absurd (let no : Some d ≡ None = sym is ∙ (moves.in_order W x bound n h.sound).entered key e in cc)
+        go (Some t) e = (n.numbers key, h.noted key t e)
+
     live_sends : (d : Entry) (q : PeerKey) → (k : IsKnown links apart q) → value_at same_key q a.servers.slots ≡ Some d → is_live w.now d ≡ true
-        → (ds : List Datagram) → Pairwise IsSent (to_all q.peer (server_ticks (context_of c w.now q) (Some d)).sends) ds → Every (CanBeCopied w i) ds
+        → (ds : List Datagram) → Pairwise IsSent (to_all q.peer (server_ticks (context_of c w.now q) (Some d)).sends) ds → Every (CanBeCopied w.nodes w.notes w.now i) ds
     live_sends d q k found live ds s =
         let key : Key = key_of k.node i q.invoke_id in
         let there : value_at same_key (slot_key k.link q.invoke_id) a.servers.slots ≡ Some d =
@@ -130,38 +150,38 @@ module _ (links : ℕ → Option Octets) (apart : (i j : ℕ) (l : Octets) → l
         (ap (live_entry n.now) (sym there) ∙ fits.servers.found k.node k.link q.invoke_id k.at) in
         let own : IsOwnEntry q.invoke_id (Some d) = subst (IsOwnEntry q.invoke_id) here (own_of W x bound n h.sound key) in
         let sends : List Apdu = (server_ticks (context_of c w.now q) (Some d)).sends in
-        can_all links apart w h.linked false key i k.node a.link k.link
-        (record { between = (refl, refl); from = fits.link; to = k.at }) sends ds
+        can_all links apart w h.linked false key i k.node a.link k.link (record { between = (refl, refl); from = fits.link; to = k.at })
+        w.notes (entry_asked key d here) sends ds
         (each_of_server q.invoke_id sends (server_sends_own.ticks (context_of c w.now q) (Some d) own).0)
         (subst (λ y. Pairwise IsSent (to_all y sends) ds) k.peer s)
 
     dead_sends : (d : Entry) (q : PeerKey) → is_live w.now d ≡ false → (ds : List Datagram)
-        → Pairwise IsSent (to_all q.peer (server_ticks (context_of c w.now q) (Some d)).sends) ds → Every (CanBeCopied w i) ds
+        → Pairwise IsSent (to_all q.peer (server_ticks (context_of c w.now q) (Some d)).sends) ds → Every (CanBeCopied w.nodes w.notes w.now i) ds
     dead_sends d q dead ds s = none ds (subst (λ (v : server.Reaction). Pairwise IsSent (to_all q.peer v.sends) ds) still s)
       where
         still : server_ticks (context_of c w.now q) (Some d) ≡ server.rests (Some d) []
         still = ap (λ b. if b then server.live_ticks (context_of c w.now q) d d.state else server.rests (Some d) []) dead
 
-        none : (ds : List Datagram) → Pairwise IsSent [] ds → Every (CanBeCopied w i) ds
+        none : (ds : List Datagram) → Pairwise IsSent [] ds → Every (CanBeCopied w.nodes w.notes w.now i) ds
         none [] s = tt
         none (d ∷ ds) s = absurd s
 
     entry_sends : (d : Entry) (q : PeerKey) → IsKnown links apart q → value_at same_key q a.servers.slots ≡ Some d
-        → (ds : List Datagram) → Pairwise IsSent (to_all q.peer (server_ticks (context_of c w.now q) (Some d)).sends) ds → Every (CanBeCopied w i) ds
+        → (ds : List Datagram) → Pairwise IsSent (to_all q.peer (server_ticks (context_of c w.now q) (Some d)).sends) ds → Every (CanBeCopied w.nodes w.notes w.now i) ds
     entry_sends d q k found ds s = go (is_live w.now d) refl
       where
-        go : (b : Bool) → is_live w.now d ≡ b → Every (CanBeCopied w i) ds
+        go : (b : Bool) → is_live w.now d ≡ b → Every (CanBeCopied w.nodes w.notes w.now i) ds
         go true e = live_sends d q k found e ds s
         go false e = dead_sends d q e ds s
 
     entries_send : (os : List ServerSlot) → EachSlot Entry IsServerSlot os → EachSlot Entry IsFoundEntry os → (ds : List Datagram)
-        → Pairwise IsSent (from_each (server_tick_sends c w.now) os) ds → Every (CanBeCopied w i) ds
+        → Pairwise IsSent (from_each (server_tick_sends c w.now) os) ds → Every (CanBeCopied w.nodes w.notes w.now i) ds
     entries_send [] k f [] s = tt
     entries_send [] k f (d ∷ ds) s = absurd s
     entries_send (o ∷ os) k f ds s =
         let y = pairwise_split IsSent (server_tick_sends c w.now o) (from_each (server_tick_sends c w.now) os) ds s in
-        subst (Every (CanBeCopied w i)) (sym y.is)
-        (every_join (CanBeCopied w i) y.front y.rest (entry_sends o.value o.key k.0 f.0 y.front y.first) (entries_send os k.1 f.1 y.rest y.second))
+        subst (Every (CanBeCopied w.nodes w.notes w.now i)) (sym y.is)
+        (every_join (CanBeCopied w.nodes w.notes w.now i) y.front y.rest (entry_sends o.value o.key k.0 f.0 y.front y.first) (entries_send os k.1 f.1 y.rest y.second))
 
     known_clients : EachSlot Client IsClientSlot (in_order peer_key_cmp a.clients.slots)
     known_clients = each_in_order Client IsClientSlot a.clients.slots
@@ -178,13 +198,13 @@ module _ (links : ℕ → Option Octets) (apart : (i j : ℕ) (l : Octets) → l
 
     all_send : (ds : List Datagram)
         → Pairwise IsSent (from_each (client_tick_sends c w.now) (in_order peer_key_cmp a.clients.slots)
-        ++ from_each (server_tick_sends c w.now) (in_order peer_key_cmp a.servers.slots)) ds → Every (CanBeCopied w i) ds
+        ++ from_each (server_tick_sends c w.now) (in_order peer_key_cmp a.servers.slots)) ds → Every (CanBeCopied w.nodes w.notes w.now i) ds
     all_send ds s =
         let y = pairwise_split IsSent (from_each (client_tick_sends c w.now) (in_order peer_key_cmp a.clients.slots))
         (from_each (server_tick_sends c w.now) (in_order peer_key_cmp a.servers.slots)) ds s in
-        subst (Every (CanBeCopied w i)) (sym y.is)
-        (every_join (CanBeCopied w i) y.front y.rest
-        (clients_send (in_order peer_key_cmp a.clients.slots) known_clients y.front y.first)
+        subst (Every (CanBeCopied w.nodes w.notes w.now i)) (sym y.is)
+        (every_join (CanBeCopied w.nodes w.notes w.now i) y.front y.rest
+        (clients_send (in_order peer_key_cmp a.clients.slots) known_clients found_clients y.front y.first)
         (entries_send (in_order peer_key_cmp a.servers.slots) known_entries found_entries y.rest y.second))
 
     all_end : (fs : List Finish) → Pairwise IsFinish (from_each (client_tick_ends c w.now) (in_order peer_key_cmp a.clients.slots)) fs
@@ -202,7 +222,7 @@ module _ (links : ℕ → Option Octets) (apart : (i j : ℕ) (l : Octets) → l
 
   pub ask_enters : (i s : ℕ) (a b : Node) (l : Octets) (limits : Limits) (r : Request) (accepted : Accepted) (ds : List Datagram)
       → slice_get w.nodes i ≡ Some a → link_at w.nodes s ≡ Some l → NodeAsks w.now (peer_at l) limits r a b accepted ds
-      → Every (CanBeCopied w i) ds × (length ds ≤ W + 1)
+      → Every (CanBeCopied w.nodes (note_of i s accepted.invoke_id accepted.ticket ∷ w.notes) w.now i) ds × (length ds ≤ W + 1)
   ask_enters i s a b l limits r accepted ds at to k =
       let parts = accepted_is a.settings w.now (peer_at l) (choice_of r) k.octets a.clients accepted limits k.accepted in
       let ask : Ask = record { first = w.now; choice = choice_of r; whole = parts.whole; pieces = parts.front ∷ parts.rest } in
@@ -211,8 +231,13 @@ module _ (links : ℕ → Option Octets) (apart : (i j : ℕ) (l : Octets) → l
       let sent : Pairwise IsSent (to_all (peer_at l) sends) ds = subst (λ (y : Accepted). Pairwise IsSent y.sends ds) parts.is k.sent in
       let fit = (h.nodes i a at).link in
       let few : length sends ≤ W + 1 = asks_few context W bound.some ask in
-      let all : length ds ≡ length sends = paired_length IsSent (to_all (peer_at l) sends) ds sent ∙ sent_length l sends in (
-        can_all links apart w h.linked true (key_of i s parts.id) i s a.link l
-            (record { between = (refl, refl); from = fit; to = sym (h.linked s) ∙ to }) sends ds (client_sends_own.asks context ask) sent,
+      let all : length ds ≡ length sends = paired_length IsSent (to_all (peer_at l) sends) ds sent ∙ sent_length l sends in
+      let key : Key = key_of i s parts.id in
+      let notes : List Note = note_of i s accepted.invoke_id accepted.ticket ∷ w.notes in
+      let same : machine.same_key (key_of i s accepted.invoke_id) key ≡ true =
+      ap (λ (y : Accepted). machine.same_key (key_of i s y.invoke_id) key) parts.is ∙ same_key_self key in
+      let asked : WasAsked notes key = (length w.notes, ap (λ b. if b then Some (length w.notes) else newest key w.notes) same) in (
+        can_all links apart w h.linked true key i s a.link l
+            (record { between = (refl, refl); from = fit; to = sym (h.linked s) ∙ to }) notes asked sends ds (client_sends_own.asks context ask) sent,
         omega arith,
       )

@@ -1,8 +1,9 @@
--- What comes of a node's call can enter the world: each datagram goes to a node, in a transaction; each ending is an ask's, and so is what was performed.
+-- What comes of a node's call can enter the world: each datagram goes to a node, in a transaction that was asked; each ending is an ask's, and so is what was performed.
 use Rattle.std.specs.Prelude.{◌≡◌, ℕ, suc, ◌+◌, ◌≤◌, true, List, [], ◌∷◌, length, if◌then◌else◌, nat_eq, nat_lt, Option, Some, None, slice_get}
 use Rattle.bac_apdu.specs.Apdu.{Limits}
 use Rattle.bac_service.specs.Values.{Request}
 use Rattle.bac_protocol.specs.Service.{Octets}
+use Rattle.bac_protocol.specs.Transaction.{Key}
 use Rattle.bac_ends.specs.Sends.{Datagram}
 use Rattle.bac_ends.specs.Meanings.{Finish}
 use Rattle.bac_ends.specs.Ends.{Accepted}
@@ -15,10 +16,15 @@ abbrev pub Every : {A : Type 0} → (A → Type 0) → List A → Type 0
 Every P [] = Unit {0}
 Every P (x ∷ xs) = P x × Every P xs
 
--- a datagram that a node sends can become a copy
-pub record CanBeCopied (w : World) (sender : ℕ) (d : Datagram) : Type 0 where
+-- that transaction was asked
+abbrev pub WasAsked : List Note → Key → Type 0
+WasAsked notes key = (number : ℕ) × (newest key notes ≡ Some number)
+
+-- a datagram that a node sends can become a copy, and only one of a transaction that was asked
+pub record CanBeCopied (nodes : List Node) (notes : List Note) (now sender : ℕ) (d : Datagram) : Type 0 where
   pub copy : Copy
-  pub is : IsCopied w.nodes w.now sender d copy
+  pub is : IsCopied nodes now sender d copy
+  pub asked : (c : Copy) → IsCopied nodes now sender d c → WasAsked notes c.key
 
 -- a ticket's ending has the number of an ask
 abbrev pub IsNoted : World → (node : ℕ) → Finish → Type 0
@@ -36,9 +42,13 @@ AreOfClient w node None = Unit {0}
 AreOfClient w node (Some p) = IsOfClient w node p
 
 pub record CanEnter (w : World) (node : ℕ) (o : Outcome) : Type 0 where
-  pub sends : Every (CanBeCopied w node) o.sends
+  pub sends : Every (CanBeCopied w.nodes w.notes w.now node) o.sends
   pub ended : Every (IsNoted w node) o.ended
   pub performed : AreOfClient w node o.performed
+
+-- the note of an ask
+abbrev pub note_of : (client server invoke_id ticket : ℕ) → Note
+note_of client server invoke_id ticket = record { key = record { client = client; server = server; invoke_id = invoke_id }; ticket = ticket }
 
 -- how many tickets there are with that one
 abbrev pub with_ticket : (ticket tickets : ℕ) → ℕ
@@ -64,10 +74,10 @@ pub record CanGoOn (W overtake : ℕ) (w : World) : Type 0 where
       → NodeOn w.now link c.octets a b o → CanEnter w c.to o × (length o.sends ≤ W + 1) × (length o.ended ≤ 1)
   -- it ticks
   pub ticks : (i : ℕ) (a b : Node) (o : Outcome) → slice_get w.nodes i ≡ Some a → NodeTick w.now a b o → CanEnter w i o
-  -- and asks
+  -- and asks, which is noted before it sends
   pub asks : (client server : ℕ) (a b : Node) (link : Octets) (limits : Limits) (r : Request) (accepted : Accepted) (sends : List Datagram)
       → slice_get w.nodes client ≡ Some a → link_at w.nodes server ≡ Some link → NodeAsks w.now (peer_at link) limits r a b accepted sends
-      → Every (CanBeCopied w client) sends × (length sends ≤ W + 1)
+      → Every (CanBeCopied w.nodes (note_of client server accepted.invoke_id accepted.ticket ∷ w.notes) w.now client) sends × (length sends ≤ W + 1)
 
 abbrev pub RunsCanGoOn : Type 0
 RunsCanGoOn = (W overtake : ℕ) (w w' : World) → IsFresh w → IsBounded W overtake w → (events : List Event) → WorldRun overtake w events w'

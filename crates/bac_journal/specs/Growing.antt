@@ -3,8 +3,8 @@ use Rattle.std.specs.Prelude.{◌≡◌, ℕ, List, ◌++◌}
 use Rattle.bac_protocol.specs.Service.{Octets}
 use Rattle.bac_ends.specs.Sends.{Datagram, Pairwise}
 use Rattle.bac_world.specs.Node.{Node}
-use Rattle.bac_world.specs.World.{Copy, IsCopied}
-use Rattle.bac_journal.specs.Entering.{Every}
+use Rattle.bac_world.specs.World.{Copy, Note, IsCopied}
+use Rattle.bac_journal.specs.Entering.{Every, CanBeCopied}
 use Rattle.bac_journal.specs.Views.{AreLinks}
 
 -- datagrams that a node sends become the newest copies
@@ -14,11 +14,11 @@ pub record BecomeCopies (nodes : List Node) (now sender : ℕ) (sends : List Dat
   pub copied : Pairwise (IsCopied nodes now sender) sends sent
 
 -- each of them can
-abbrev pub CanBecome : List Node → (now sender : ℕ) → List Datagram → Type 0
-CanBecome nodes now sender sends = Every (λ d. (c : Copy) × IsCopied nodes now sender d c) sends
+abbrev pub CanBecome : List Node → List Note → (now sender : ℕ) → List Datagram → Type 0
+CanBecome nodes notes now sender sends = Every (CanBeCopied nodes notes now sender) sends
 
--- there are nodes with these links, and each datagram goes to one of them
-pub record CanGo (links : List Octets) (now sender : ℕ) (sends : List Datagram) : Type 0 where
+-- there are nodes with these links, and each datagram goes to one of them, in a transaction that was asked
+pub record CanGo (links : List Octets) (notes : List Note) (now sender : ℕ) (sends : List Datagram) : Type 0 where
   pub nodes : List Node
   pub linked : AreLinks nodes links
-  pub can : CanBecome nodes now sender sends
+  pub can : CanBecome nodes notes now sender sends

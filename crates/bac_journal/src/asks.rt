@@ -1,13 +1,14 @@
 //! What is kept of transactions and tickets, so that none is looked for in a list.
-ghost use Rattle.std.specs.Prelude.{◌≡◌, ◌+◌, ◌*◌, ◌<◌, ◌≤◌, IsOk, List, length, slice_get, vec_capacity, Some};
+ghost use Rattle.std.specs.Prelude.{◌≡◌, ◌+◌, ◌<◌, ◌≤◌, ℕ, IfOk, IsOk, List, length, replicate, slice_get, vec_capacity, Some};
 ghost use Rattle.bac_world.specs.World.{Note};
 ghost use Rattle.bac_journal.specs.declared.copies.Copy.{Copy};
-ghost use Rattle.bac_journal.specs.Index.{cell_at, number_at, place_of, HasTicketRoom, IsSameRow, IsWithRow, IsWithCell, IsWithNumber};
+ghost use Rattle.bac_journal.specs.Index.{cell_at, nothing, number_at, places_of, ArePlaces, IsOpen, IsOpenTo, IsReadied, IsWithRow, IsWithCell, IsWithNumber};
 ghost use Rattle.bac_journal.specs.Records.{IsKept};
 ghost use Rattle.bac_journal.specs.Views.{key_view};
 
 use crate::transaction::Transaction;
 use bac_value::NoMemory;
+use std::alloc::Global;
 
 /// What is kept of a transaction: its newest ask, and how many of the copies are its.
 #[derive(Clone, Copy, Debug, PartialEq, Eq)]
@@ -16,23 +17,21 @@ pub(crate) struct Cell {
     pub sent: usize,
 }
 
-/// What is kept of a node as a client: its transactions, by server and invoke ID, and the numbers of its newest asks, by ticket.
+/// What is kept of a node as a client: for each server a page of its transactions, by invoke ID, which is empty until room is made for an ask to it; and
+/// the numbers of its newest asks, by ticket.
 #[derive(Drop)]
 pub(crate) struct Row {
-    pub cells: Vec<Cell>,
+    pub pages: Vec<Vec<Cell>>,
     pub numbers: Vec<usize>,
 }
 
-/// What is kept of a transaction; None where there is no such node.
+/// What is kept of a transaction; None where no room was made for an ask of its client to its server.
 pub(crate) fn known(rows: &[Row], key: &Transaction) -> Option<Cell>
     ensures { result ≡ cell_at rows.now (key_view key.now) }
 {
     let row = rows.get(key.client)?;
-    let place = key
-        .server
-        .checked_mul(256)?
-        .checked_add(usize::from(key.invoke_id))?;
-    row.cells.get(place).copied()
+    let page = row.pages.get(key.server)?;
+    page.get(usize::from(key.invoke_id)).copied()
 }
 
 /// The number of the newest ask of a ticket; None where there is none.
@@ -43,14 +42,14 @@ pub(crate) fn number_of(rows: &[Row], client: usize, ticket: u64) -> Option<usiz
     row.numbers.get(ticket as usize).copied()
 }
 
-/// Sets what is kept of a transaction of nodes that there are.
+/// Sets what is kept of a transaction that has a cell.
 pub(crate) fn set_known(rows: &mut [Row], key: &Transaction, cell: Cell)
-    requires { (r : _) × (slice_get rows.old key.now.client ≡ Some r) × (place_of key.now.server key.now.invoke_id < length r.cells.items) }
-    ensures { IsWithRow rows.old key.now.client (IsWithCell (place_of key.now.server key.now.invoke_id) cell) rows.new }
+    requires { (k : Cell) × (cell_at rows.old (key_view key.now) ≡ Some k) }
+    ensures { IsWithRow rows.old key.now.client (IsWithCell key.now.server key.now.invoke_id cell) rows.new }
 {
-    let place = key.server * 256 + usize::from(key.invoke_id);
     let row = &mut rows[key.client];
-    row.cells[place] = cell;
+    let page = &mut row.pages[key.server];
+    page[usize::from(key.invoke_id)] = cell;
 }
 
 /// Sets the number of the ask of a ticket that there was, or of the one after them, for which there is room.
@@ -75,21 +74,56 @@ pub(crate) fn add_number(rows: &mut [Row], client: usize, ticket: u64, number: u
     put_number(&mut rows[client], ticket, number);
 }
 
-/// Makes room for the ask of a client's next ticket; nothing else changes.
-fn reserve_in(row: &mut Row) -> Result<(), NoMemory>
-    ensures ok { IsOk result → length row.new.numbers.items + 1 ≤ vec_capacity row.new.numbers }
-    ensures same { IsSameRow row.old row.new }
+/// A page of which nothing is known: a cell for each invoke ID (clause 20.1.2.6).
+fn blank_page(alloc: Global) -> Result<Vec<Cell>, NoMemory>
+    ensures { IfOk result (λ page. page.items ≡ replicate 256 nothing) }
 {
+    let nothing = Cell {
+        newest: None,
+        sent: 0,
+    };
+    Ok(vec![in alloc; nothing; 256]?)
+}
+
+/// Makes a page for a server where there is none; nothing else changes.
+fn reserve_page(alloc: Global, row: &mut Row, server: usize) -> Result<(), NoMemory>
+    requires there { server < length row.old.pages.items }
+    requires places { (servers : ℕ) × ArePlaces servers (places_of row.old) }
+    ensures ok { IsOk result → slice_get (places_of row.new) server ≡ Some 256 }
+    ensures same { IsReadied row.old row.new }
+    ensures numbers { row.new.numbers ≡ row.old.numbers }
+{
+    if row.pages[server].is_empty() {
+        row.pages[server] = blank_page(alloc)?;
+    }
+    Ok(())
+}
+
+/// Makes room for the ask of a client's next ticket, to that server; nothing else changes.
+fn reserve_in(alloc: Global, row: &mut Row, server: usize) -> Result<(), NoMemory>
+    requires there { server < length row.old.pages.items }
+    requires places { (servers : ℕ) × ArePlaces servers (places_of row.old) }
+    ensures ok { IsOk result → IsOpen server row.new }
+    ensures same { IsReadied row.old row.new }
+{
+    reserve_page(alloc, row, server)?;
     row.numbers.reserve(1)?;
     Ok(())
 }
 
-/// Makes room for the ask of a client's next ticket; nothing else changes.
-pub(crate) fn reserve_number(rows: &mut [Row], client: usize) -> Result<(), NoMemory>
-    requires { client < length rows.old }
-    ensures ok { IsOk result → HasTicketRoom rows.new client }
+/// Makes room for the ask of a client's next ticket, to that server; nothing else changes.
+pub(crate) fn reserve_ask(
+    alloc: Global,
+    rows: &mut [Row],
+    client: usize,
+    server: usize,
+) -> Result<(), NoMemory>
+    requires client { client < length rows.old }
+    requires server { server < length rows.old }
+    requires kept { (copies : List Copy) × (notes : List Note) × IsKept rows.old copies notes }
+    ensures ok { IsOk result → IsOpenTo rows.new client server }
     ensures kept { (copies : List Copy) (notes : List Note) → IsKept rows.old copies notes → IsKept rows.new copies notes }
     ensures many { length rows.new ≡ length rows.old }
 {
-    reserve_in(&mut rows[client])
+    reserve_in(alloc, &mut rows[client], server)
 }

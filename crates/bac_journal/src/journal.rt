@@ -6,12 +6,12 @@ ghost use Rattle.bac_world.specs.World as world;
 ghost use Rattle.bac_world.specs.World.{ask_of, is_deliverable, newest, IsNoise};
 ghost use Rattle.bac_journal.specs.Entering.{tickets_of};
 ghost use Rattle.bac_journal.specs.Growing.{BecomeCopies, CanGo};
-ghost use Rattle.bac_journal.specs.Journals.{AreFresh, AreSame, HasNoteRoom, IsFreshRow, JournalView};
+ghost use Rattle.bac_journal.specs.Journals.{AreEmpty, AreFresh, AreSame, HasNoteRoom, IsFreshRow, JournalView};
 ghost use Rattle.bac_journal.specs.Notes.{note_view, notes_view};
 ghost use Rattle.bac_journal.specs.Views.{copy_view, key_view, AreLinks};
 
 use crate::arriving::deliverable;
-use crate::asks::{Cell, Row, known, number_of, reserve_number};
+use crate::asks::{Cell, Row, known, number_of, reserve_ask};
 use crate::comparing::{are_same_copies, are_same_links, are_same_notes};
 use crate::copies::{Copy, node_at};
 use crate::meaning::is_noise;
@@ -48,19 +48,24 @@ impl Model for Journal {
     ghost invariant = { λ j. IsKept j.rows.items j.copies.items (notes_view j.notes.items) × (length j.rows.items ≡ length j.links.items) };
 }
 
+/// So many empty pages: each gets its cells as its server is asked.
+fn empty_pages(alloc: Global, nodes: usize) -> Result<Vec<Vec<Cell>>, NoMemory>
+    ensures many { IfOk result (λ pages. length pages.items ≡ nodes) }
+    ensures empty { IfOk result (λ pages. AreEmpty pages.items) }
+{
+    let mut pages = Vec::with_capacity(alloc, nodes)?;
+    for _node in 0..nodes {
+        pages.push(Vec::new(alloc))?;
+    }
+    Ok(pages)
+}
+
 /// What is kept of a node as a client that has asked nothing, beside so many nodes.
 fn fresh_row(alloc: Global, nodes: usize) -> Result<Row, NoMemory>
     ensures { IfOk result (IsFreshRow nodes) }
 {
-    let Some(places) = nodes.checked_mul(256) else {
-        return Err(NoMemory);
-    };
-    let nothing = Cell {
-        newest: None,
-        sent: 0,
-    };
     Ok(Row {
-        cells: vec![in alloc; nothing; places]?,
+        pages: empty_pages(alloc, nodes)?,
         numbers: Vec::new(alloc),
     })
 }
@@ -78,8 +83,8 @@ fn fresh_rows(alloc: Global, nodes: usize) -> Result<Vec<Row>, NoMemory>
 }
 
 impl Journal {
-    /// Nothing has happened: the moment is 0. The places for the transactions of all nodes are made: 256 for each client and server. `NoMemory` where the
-    /// memory for them is refused.
+    /// Nothing has happened: the moment is 0. Places for the transactions of a client and a server are made as the one asks the other (`reserve_note`).
+    /// `NoMemory` where memory is refused.
     pub fn new(alloc: Global, links: Vec<LinkAddress>) -> Result<Journal, NoMemory>
         ensures { IfOk result (λ j. j ≡ record (j) { links = links.items; moment = 0; copies = []; notes = [] }) }
     {
@@ -181,9 +186,10 @@ impl Journal {
         Ok(())
     }
 
-    /// The datagrams that a node sends become the newest copies, for which room was made. Each goes to a node, and means an APDU. It takes no memory.
+    /// The datagrams that a node sends become the newest copies, for which room was made. Each goes to a node, and means an APDU of a transaction that was
+    /// asked. It takes no memory.
     pub fn send(&mut self, sender: usize, sends: Vec<Datagram>)
-        requires can { CanGo self.old.links self.old.moment sender sends.items }
+        requires can { CanGo self.old.links self.old.notes self.old.moment sender sends.items }
         requires room { length sends.items ≤ self.old.room }
         requires sender { sender < length self.old.links }
         ensures copies { (nodes : List Node) → AreLinks nodes self.old.links
@@ -201,21 +207,27 @@ impl Journal {
         );
     }
 
-    /// Makes room for a note of a client's next ask. Nothing else changes, after an Err neither.
-    pub fn reserve_note(&mut self, client: usize) -> Result<(), NoMemory>
-        requires { client < length self.old.links }
-        ensures ok { OnOk result (HasNoteRoom self.new client) }
+    /// Makes room for a note of a client's next ask, to that server: the first time 256 places, one for each invoke ID. Nothing else changes, after an Err
+    /// neither.
+    pub fn reserve_note(
+        &mut self,
+        alloc: Global,
+        client: usize,
+        server: usize,
+    ) -> Result<(), NoMemory>
+        requires client { client < length self.old.links }
+        requires server { server < length self.old.links }
+        ensures ok { OnOk result (HasNoteRoom self.new client server) }
         ensures same { self.new ≡ record (self.old) { note_room = self.new.note_room } }
     {
         self.notes.reserve(1)?;
-        reserve_number(&mut self.rows, client)
+        reserve_ask(alloc, &mut self.rows, client, server)
     }
 
     /// An ask that was accepted is noted, for which room was made. Its ticket is one that its client had before, as one that restarts numbers its tickets
     /// anew, or the one after them. It takes no memory.
     pub fn note(&mut self, note: Note)
-        requires room { HasNoteRoom self.old note.transaction.client }
-        requires server { note.transaction.server < length self.old.links }
+        requires room { HasNoteRoom self.old note.transaction.client note.transaction.server }
         requires ticket { note.ticket ≤ tickets_of note.transaction.client self.old.notes }
         ensures { self.new ≡ record (self.old) { notes = note_view note ∷ self.old.notes; note_room = self.new.note_room } }
     {

@@ -5,7 +5,7 @@ ghost use Rattle.bac_world.specs.World.{Note};
 ghost use Rattle.bac_journal.specs.Growing.{BecomeCopies, CanGo};
 ghost use Rattle.bac_journal.specs.declared.asks.Cell.{Cell};
 ghost use Rattle.bac_journal.specs.Index.{cell_at};
-ghost use Rattle.bac_journal.specs.Journals.{ticket_room};
+ghost use Rattle.bac_journal.specs.Journals.{room_of};
 ghost use Rattle.bac_journal.specs.Records.{IsKept};
 ghost use Rattle.bac_journal.specs.Views.{key_view, copy_view, AreLinks};
 
@@ -14,7 +14,7 @@ use crate::copies::{Copy, copy_of};
 use bac_ends::Datagram;
 use bac_npdu::LinkAddress;
 
-/// A copy comes to the end of the list, which has room for it; its transaction is one of two nodes that there are.
+/// A copy comes to the end of the list, which has room for it; its transaction has a cell.
 pub(crate) fn add_copy(copies: &mut Vec<Copy>, rows: &mut [Row], copy: Copy)
     requires there { (k : Cell) × (cell_at rows.old (key_view copy.transaction) ≡ Some k) }
     requires room { length copies.old.items + 1 ≤ vec_capacity copies.old }
@@ -22,7 +22,7 @@ pub(crate) fn add_copy(copies: &mut Vec<Copy>, rows: &mut [Row], copy: Copy)
     ensures room { vec_capacity copies.new ≡ vec_capacity copies.old }
     ensures kept { (notes : List Note) → IsKept rows.old copies.old.items notes → IsKept rows.new copies.new.items notes }
     ensures many { length rows.new ≡ length rows.old }
-    ensures tickets { map ticket_room rows.new ≡ map ticket_room rows.old }
+    ensures rooms { map room_of rows.new ≡ map room_of rows.old }
 {
     let transaction = copy.transaction;
     transaction.fits();
@@ -53,9 +53,7 @@ fn send_one(
     rows: &mut [Row],
     datagram: Datagram,
 )
-    requires can { CanGo links.now now sender (datagram ∷ []) }
-    requires kept { (notes : List Note) × IsKept rows.old copies.old.items notes }
-    requires nodes { length rows.old ≡ length links.now }
+    requires can { (notes : List Note) × IsKept rows.old copies.old.items notes × CanGo links.now notes now sender (datagram ∷ []) }
     requires room { length copies.old.items + 1 ≤ vec_capacity copies.old }
     ensures copies { (nodes : List Node) → AreLinks nodes links.now
         → BecomeCopies nodes now sender (datagram ∷ []) (map copy_view copies.old.items) (map copy_view copies.new.items) }
@@ -63,7 +61,7 @@ fn send_one(
     ensures nodes { length rows.new ≡ length rows.old }
     ensures many { length copies.new.items ≡ length copies.old.items + 1 }
     ensures room { vec_capacity copies.new ≡ vec_capacity copies.old }
-    ensures tickets { map ticket_room rows.new ≡ map ticket_room rows.old }
+    ensures rooms { map room_of rows.new ≡ map room_of rows.old }
 {
     let Some(copy) = copy_of(links, now, sender, datagram) else {
         unreachable!()
@@ -80,9 +78,7 @@ pub(crate) fn send_all(
     rows: &mut [Row],
     sends: Vec<Datagram>,
 )
-    requires can { CanGo links.now now sender sends.items }
-    requires kept { (notes : List Note) × IsKept rows.old copies.old.items notes }
-    requires nodes { length rows.old ≡ length links.now }
+    requires can { (notes : List Note) × IsKept rows.old copies.old.items notes × CanGo links.now notes now sender sends.items }
     requires room { length copies.old.items + length sends.items ≤ vec_capacity copies.old }
     ensures copies { (nodes : List Node) → AreLinks nodes links.now
         → BecomeCopies nodes now sender sends.items (map copy_view copies.old.items) (map copy_view copies.new.items) }
@@ -90,7 +86,7 @@ pub(crate) fn send_all(
     ensures nodes { length rows.new ≡ length rows.old }
     ensures many { length copies.new.items ≡ length copies.old.items + length sends.items }
     ensures room { vec_capacity copies.new ≡ vec_capacity copies.old }
-    ensures tickets { map ticket_room rows.new ≡ map ticket_room rows.old }
+    ensures rooms { map room_of rows.new ≡ map room_of rows.old }
 {
     for datagram in sends {
         send_one(links, now, sender, copies, rows, datagram);

@@ -13,10 +13,11 @@ use Rattle.bac_node.specs.Calls as node
 use Rattle.bac_node.specs.Calls.{Refuses}
 use Rattle.bac_world.specs.Node.{Node, NodeAsks, NodeRefuses, Refusal}
 use Rattle.bac_world.specs.Once.{Fact}
-use Rattle.bac_world.specs.World.{Event, IsAsked, IsRefused, IsWithNode, link_at, peer_at}
+use Rattle.bac_world.specs.World.{Event, Note, IsAsked, IsRefused, IsWithNode, link_at, peer_at}
 use Rattle.bac_world.specs.World.Event.{Ask}
 use Rattle.bac_world.proofs.Asking.{accepted_is}
-use Rattle.bac_journal.specs.Growing.{BecomeCopies}
+use Rattle.bac_journal.specs.Entering.{note_of}
+use Rattle.bac_journal.specs.Growing.{BecomeCopies, CanBecome}
 use Rattle.bac_journal.specs.Journals.{JournalView, NoteRoom}
 use Rattle.bac_journal.specs.Views.{AreLinks}
 use Rattle.bac_network.specs.Asks.{CanAsk, CanBeNoted, IsNotedAsk, TellsFault}
@@ -27,7 +28,6 @@ use Rattle.bac_network.specs.Views.{log_view}
 use Rattle.bac_network.specs.declared.fault.WorldFault.{WorldFault}
 use Rattle.bac_network.specs.declared.network.Network.{Network}
 use Rattle.bac_network.proofs.Delivered.{link_within}
-use Rattle.bac_network.proofs.Entered.{copied_each}
 
 -- An ask that was accepted.
 
@@ -36,8 +36,8 @@ ticket_is : (now : ℕ) (link : Octets) (limits : Limits) (r : Request) (a b : N
 ticket_is now link limits r a b accepted sends k =
     ap (λ (y : Accepted). y.ticket) (accepted_is a.settings now (peer_at link) (choice_of r) k.octets a.clients accepted limits k.accepted).is
 
-pub record AskEnters (W : ℕ) (n : Network) (client server ticket : ℕ) (sends : List Datagram) : Type 0 where
-  pub can : CanBeNoted n.journal client server ticket sends
+pub record AskEnters (W : ℕ) (n : Network) (client server invoke_id ticket : ℕ) (sends : List Datagram) : Type 0 where
+  pub can : CanBeNoted n.journal client server invoke_id ticket sends
   pub few : length sends ≤ W + 1
 
 module _ (n : Network) (client server : ℕ) (can : CanAsk client server n) (b : Node) (there : slice_get n.nodes.items server ≡ Some b)
@@ -52,7 +52,12 @@ module _ (n : Network) (client server : ℕ) (can : CanAsk client server n) (b :
   linked : link_at n.nodes.items server ≡ Some b.link
   linked = ap (λ (o : Option Node). option_map (λ (m : Node). m.link) o) there
 
-  pub ask_enters : AskEnters can.window n client server x.ticket x.sends.items
+  -- its note is the one that is accepted
+  note_is : (k : node.IsAsked n.journal.moment (peer_at b.link) limits r g.before g.after x)
+      → note_of client server x.invoke_id x.ticket ≡ note_of client server k.accepted.invoke_id k.accepted.ticket
+  note_is k = λ i. note_of client server (k.invoke_id i) (k.ticket i)
+
+  pub ask_enters : AskEnters can.window n client server x.invoke_id x.ticket x.sends.items
   ask_enters =
       let k = g.goes in
       let enters = can.ready.can.asks client server g.before g.after b.link limits r k.accepted x.sends.items g.at linked k.asks in
@@ -60,9 +65,8 @@ module _ (n : Network) (client server : ℕ) (can : CanAsk client server n) (b :
         can = record {
           nodes = n.nodes.items;
           linked = can.ready.linked;
-          sent = copied_each (world_of n) client x.sends.items enters.0;
+          sent = subst (λ (y : Note). CanBecome n.nodes.items (y ∷ n.journal.notes) n.journal.moment client x.sends.items) (sym (note_is k)) enters.0;
           client_there = link_within n.nodes.items n.journal.links can.ready.linked client g.before g.at;
-          server_there = link_within n.nodes.items n.journal.links can.ready.linked server b there;
           room = can.note;
           counted =
               let same = k.ticket ∙ ticket_is n.journal.moment b.link limits r g.before g.after k.accepted x.sends.items k.asks in
@@ -92,15 +96,14 @@ module _ (n : Network) (client server : ℕ) (can : CanAsk client server n) (b :
         copies = h.sent.copies;
         copied = h.sent.copied;
         notes = h.notes
-            ∙ ap (λ id. record { key = record { client = client; server = server; invoke_id = id }; ticket = x.ticket } ∷ n.journal.notes) k.invoke_id
-            ∙ ap (λ t. record { key = record { client = client; server = server; invoke_id = k.accepted.invoke_id }; ticket = t } ∷ n.journal.notes) k.ticket;
+            ∙ ap (λ (y : Note). y ∷ n.journal.notes) (note_is k);
         log = h.log;
       }
 
 pub noted_ask : (nodes : List Node) (client server : ℕ) (r : Request) (invoke_id ticket : ℕ) (sends : List Datagram) (old mid new : JournalView)
     (facts facts' : List Fact) (room : NoteRoom)
     → mid ≡ record old {
-      notes = record { key = record { client = client; server = server; invoke_id = invoke_id }; ticket = ticket } ∷ old.notes;
+      notes = note_of client server invoke_id ticket ∷ old.notes;
       note_room = room;
     }
     → new ≡ record mid { copies = new.copies; room = new.room } → AreLinks nodes old.links

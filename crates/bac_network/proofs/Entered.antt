@@ -2,14 +2,12 @@
 use Rattle.std.proofs.Common.{◌≡◌, ℕ, List, [], ◌∷◌, ◌++◌, length, map, reverse, Option, Some, None, slice_get, refl, sym, ap, subst, ◌∙◌, arith}
 use Rattle.std.proofs.lemmas.List.{length-map, length-reverse, map-append, reverse-append}
 use Rattle.bac_ends.specs.Meanings.{Finish}
-use Rattle.bac_ends.specs.Sends.{Datagram}
 use Rattle.bac_world.specs.Node.{Node, Outcome}
 use Rattle.bac_world.specs.Once as once
 use Rattle.bac_world.specs.Once.Fact.{Ended}
 use Rattle.bac_world.specs.Services.{Performed}
-use Rattle.bac_world.specs.World.{World, Note, Acts, AreEnded, IsWithNode, newest}
-use Rattle.bac_journal.specs.Entering.{Every, AreOfClient, CanBeCopied, CanEnter}
-use Rattle.bac_journal.specs.Growing.{CanBecome}
+use Rattle.bac_world.specs.World.{Note, Acts, AreEnded, IsWithNode, newest}
+use Rattle.bac_journal.specs.Entering.{AreOfClient, CanEnter}
 use Rattle.bac_journal.specs.Journals.{JournalView}
 use Rattle.bac_journal.specs.Notes.{note_view, notes_view}
 use Rattle.bac_journal.specs.declared.noting.Note as code
@@ -46,10 +44,6 @@ nothing_left (x ∷ xs) h = absurd (omega arith)
 
 -- The world.
 
-pub copied_each : (w : World) (i : ℕ) (ds : List Datagram) → Every (CanBeCopied w i) ds → CanBecome w.nodes w.now i ds
-copied_each w i [] h = tt
-copied_each w i (d ∷ ds) h = ((h.0.copy, h.0.is), copied_each w i ds h.1)
-
 clients_known : (W overtake : ℕ) (n : Network) → IsReady W overtake n → (i : ℕ) (p : Option Performed) → AreOfClient (world_of n) i p
     → HaveClient n.journal i p
 clients_known W overtake n r i None h = tt
@@ -70,7 +64,7 @@ pub can_be_entered : (W overtake : ℕ) (n : Network) → IsReady W overtake n �
 can_be_entered W overtake n r i o h = record {
   nodes = n.nodes.items;
   linked = r.linked;
-  sends = copied_each (world_of n) i o.sends h.sends;
+  sends = h.sends;
   ended = h.ended;
   performed = clients_known W overtake n r i o.performed h.performed;
 }

@@ -7,7 +7,7 @@ use Rattle.bac_service.specs.Values.{Request}
 use Rattle.bac_world.specs.Node.{Node}
 use Rattle.bac_world.specs.Once.{Fact}
 use Rattle.bac_world.specs.Once.Fact.{Asked}
-use Rattle.bac_journal.specs.Entering.{tickets_of}
+use Rattle.bac_journal.specs.Entering.{note_of, tickets_of}
 use Rattle.bac_journal.specs.Growing.{BecomeCopies, CanBecome}
 use Rattle.bac_journal.specs.Journals.{HasNoteRoom, JournalView}
 use Rattle.bac_journal.specs.Views.{AreLinks}
@@ -23,24 +23,23 @@ pub record CanAsk (client server : ℕ) (n : Network) : Type 0 where
   pub ready : IsReady window overtake n
   pub client_there : client < length n.nodes.items
   pub server_there : server < length n.nodes.items
-  pub note : HasNoteRoom n.journal client
+  pub note : HasNoteRoom n.journal client server
   pub room : HasRoom 1 (window + 1) n
 
 -- an accepted ask can be noted: its ticket is one that its client had, or the one after them
-pub record CanBeNoted (j : JournalView) (client server ticket : ℕ) (sends : List Datagram) : Type 0 where
+pub record CanBeNoted (j : JournalView) (client server invoke_id ticket : ℕ) (sends : List Datagram) : Type 0 where
   pub nodes : List Node
   pub linked : AreLinks nodes j.links
-  pub sent : CanBecome nodes j.moment client sends
+  pub sent : CanBecome nodes (note_of client server invoke_id ticket ∷ j.notes) j.moment client sends
   pub client_there : client < length j.links
-  pub server_there : server < length j.links
-  pub room : HasNoteRoom j client
+  pub room : HasNoteRoom j client server
   pub counted : ticket ≤ tickets_of client j.notes
 
 -- it is noted
 pub record IsNotedAsk (nodes : List Node) (client server : ℕ) (r : Request) (invoke_id ticket : ℕ) (sends : List Datagram) (old new : JournalView)
     (facts facts' : List Fact) : Type 0 where
   pub sent : BecomeCopies nodes old.moment client sends old.copies new.copies
-  pub notes : new.notes ≡ record { key = record { client = client; server = server; invoke_id = invoke_id }; ticket = ticket } ∷ old.notes
+  pub notes : new.notes ≡ note_of client server invoke_id ticket ∷ old.notes
   pub log : facts' ≡ Asked (length old.notes) client server r ∷ facts
   pub moment : new.moment ≡ old.moment
   pub links : new.links ≡ old.links

@@ -29,7 +29,7 @@ HaveClient j node (Some p) = HasClient j node p
 pub record CanBeEntered (j : JournalView) (node : ℕ) (o : Outcome) : Type 0 where
   pub nodes : List Node
   pub linked : AreLinks nodes j.links
-  pub sends : CanBecome nodes j.moment node o.sends
+  pub sends : CanBecome nodes j.notes j.moment node o.sends
   pub ended : AreNoted j.notes node o.ended
   pub performed : HaveClient j node o.performed
 

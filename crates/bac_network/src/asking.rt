@@ -43,7 +43,7 @@ impl Network {
         if client >= self.nodes.len() || server >= self.nodes.len() {
             return Err(WorldFault::NoSuchNode);
         }
-        let copied = self.make_ask_room(alloc, window, client, request)?;
+        let copied = self.make_ask_room(alloc, window, client, server, request)?;
         self.ask_other(client, server, limits, request, copied)
     }
 
@@ -53,16 +53,18 @@ impl Network {
         alloc: Global,
         window: u8,
         client: usize,
+        server: usize,
         request: &OwnedRequest,
     ) -> Result<OwnedRequest, NoMemory>
-        requires { client < length self.old.journal.links }
+        requires client { client < length self.old.journal.links }
+        requires server { server < length self.old.journal.links }
         ensures copied { IfOk result (λ r. owned_request_view r ≡ owned_request_view request.now) }
         ensures room { OnOk result (HasRoom 1 (window + 1) self.new) }
-        ensures note { OnOk result (HasNoteRoom self.new.journal client) }
+        ensures note { OnOk result (HasNoteRoom self.new.journal client server) }
         ensures same { AreAlike self.old self.new }
     {
         self.log.reserve(1)?;
-        self.journal.reserve_note(client)?;
+        self.journal.reserve_note(alloc, client, server)?;
         self.journal.reserve(usize::from(window) + 1)?;
         request.as_request().to_owned(alloc)
     }
@@ -124,7 +126,7 @@ fn note(
     request: OwnedRequest,
     asked: Asked,
 )
-    requires can { CanBeNoted journal.old client server asked.ticket asked.sends.items }
+    requires can { CanBeNoted journal.old client server asked.invoke_id asked.ticket asked.sends.items }
     requires room { length asked.sends.items ≤ journal.old.room }
     requires log_room { length log.old.items + 1 ≤ vec_capacity log.old }
     ensures { (nodes : List Node) → AreLinks nodes journal.old.links

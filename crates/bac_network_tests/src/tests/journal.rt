@@ -58,7 +58,7 @@ fn is_noted(journal: &Journal) -> bool {
 fn a_noted_ask_is_found(rt: HostRuntime) -> Result<(), Fail> {
     let fresh = journal(rt.alloc())?;
     let mut journal = journal(rt.alloc())?;
-    journal.reserve_note(0)?;
+    journal.reserve_note(rt.alloc(), 0, 1)?;
     journal.note(Note {
         transaction: ASKED,
         ticket: 0,

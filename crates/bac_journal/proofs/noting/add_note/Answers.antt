@@ -3,18 +3,12 @@ use Rattle.std.proofs.Common.{refl, sym, ap, subst, ◌∙◌}
 use Rattle.bac_journal.specs.Records.{IsKept}
 use Rattle.bac_journal.specs.Views.{key_view}
 use Rattle.bac_journal.specs.Notes.{notes_view}
-use Rattle.bac_journal.proofs.Index.{in_row, within_of}
 use Rattle.bac_journal.proofs.Noted.{kept_note, numbers_kept, notes_push, notes_many}
 use Rattle.bac_journal.proofs.noting.add_note.Goals as goal
 
-pub set_known-requires : goal.set_known-requires
-set_known-requires c =
-    let row = in_row c.args.rows.now (key_view c.args.note.transaction) c.in-Some.found (sym c.in-Some.ensures) in
-    (row.row, row.at, row.within)
-
 pub add_number-requires : goal.add_number-requires
 add_number-requires c =
-    numbers_kept c.args.rows.now c.set_known.new.rows c.args.note.transaction.client _ c.args.note.ticket _ c.set_known.ensures c.requires.ticket_room
+    numbers_kept c.args.rows.now c.set_known.new.rows c.args.note.transaction.client _ _ c.args.note.ticket _ c.set_known.ensures c.requires.ticket_room
 
 pub returns-clause-notes : goal.returns-clause-notes
 returns-clause-notes c = ap notes_view c.push_reserved.ensures.items ∙ notes_push c.args.notes.now.items c.args.note
@@ -26,6 +20,5 @@ returns-clause-kept c = λ copies ticket h.
     subst (IsKept c.add_number.new.rows copies)
     (sym (ap notes_view c.push_reserved.ensures.items ∙ notes_push c.args.notes.now.items c.args.note))
     (kept_note c.args.rows.now c.set_known.new.rows c.add_number.new.rows key _ c.in-Some.found _ c.set_known.ensures
-    (within_of c.args.rows.now key c.in-Some.found c.set_known.ensures.before there c.set_known.ensures.was)
     c.args.note.ticket c.add_number.ensures c.fits.ensures there refl refl copies (notes_view c.args.notes.now.items)
     (c.len-number.ensures ∙ c.args.notes.now.ok.0 ∙ notes_many c.args.notes.now.items) h)

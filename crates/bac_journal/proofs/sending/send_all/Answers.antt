@@ -2,17 +2,19 @@
 use Rattle.std.proofs.Common.{◌≡◌, ◌∷◌, [], length, map, sym, ap, subst, ◌∙◌, append_assoc, append-nil, arith}
 use Rattle.std.proofs.lemmas.List.{length-append}
 use Rattle.std.specs.Vec.Iter.{into_iter_items}
-use Rattle.bac_journal.specs.Growing.{BecomeCopies}
+use Rattle.bac_journal.specs.Growing.{BecomeCopies, CanGo}
 use Rattle.bac_journal.specs.Views.{copy_view}
 use Rattle.bac_journal.proofs.Grown.{nothing_left, head_goes, tail_goes, more_become}
 use Rattle.bac_journal.proofs.sending.send_all.Goals as goal
 
 pub send_one-requires-clause-can : goal.send_one-requires-clause-can
-send_one-requires-clause-can c =
-    head_goes c.args.links.now c.args.now c.args.sender _ c.in-Some.datagram _ c.in-Some.ensures.steps.0 c.loop-datagram.invariant.can
-
-pub send_one-requires-clause-kept : goal.send_one-requires-clause-kept
-send_one-requires-clause-kept c = (c.requires.kept.0, c.loop-datagram.invariant.kept c.requires.kept.0 c.requires.kept.1)
+send_one-requires-clause-can c = (
+  c.requires.can.0,
+  c.loop-datagram.invariant.kept c.requires.can.0 c.requires.can.1,
+  head_goes c.args.links.now c.requires.can.0 c.args.now c.args.sender _ c.in-Some.datagram _ c.in-Some.ensures.steps.0
+      (c.loop-datagram.invariant.can c.requires.can.0 (subst (CanGo c.args.links.now c.requires.can.0 c.args.now c.args.sender)
+      (sym c.into_iter-datagram-iterator.ensures.into_iter_gives.0) c.requires.can.2)),
+)
 
 pub send_one-requires-clause-room : goal.send_one-requires-clause-room
 send_one-requires-clause-room c =
@@ -29,7 +31,7 @@ loop-datagram-preserved c =
     record {
       all = append_assoc at.yielded (d ∷ []) _ ∙ rw (← steps) at.invariant.all;
       left = (let was = at.invariant.left in let gone = c.in-Some.ensures.steps.1 in omega arith);
-      can = tail_goes c.args.links.now c.args.now c.args.sender _ d _ steps at.invariant.can;
+      can = λ notes h. tail_goes c.args.links.now notes c.args.now c.args.sender _ d _ steps (at.invariant.can notes h);
       space = (let was = at.invariant.space in let many = c.send_one.ensures.many in let room = c.send_one.ensures.room in omega arith);
       copies = λ nodes linked.
           more_become nodes c.args.now c.args.sender at.yielded (d ∷ []) _ _ _ (at.invariant.copies nodes linked) (c.send_one.ensures.copies nodes linked);
@@ -37,7 +39,7 @@ loop-datagram-preserved c =
       nodes = c.send_one.ensures.nodes ∙ at.invariant.nodes;
       many = (let was = at.invariant.many in let more = c.send_one.ensures.many in let long = length-append at.yielded (d ∷ []) in omega arith);
       room = c.send_one.ensures.room ∙ at.invariant.room;
-      tickets = c.send_one.ensures.tickets ∙ at.invariant.tickets;
+      rooms = c.send_one.ensures.rooms ∙ at.invariant.rooms;
     }
 
 pub returns-clause-copies : goal.returns-clause-copies

@@ -1,21 +1,22 @@
 -- There is room for the note, and in its client's row.
 use Rattle.std.proofs.Common.{◌≡◌, length, map, slice_get, ap, ◌∙◌, arith}
-use Rattle.bac_journal.specs.Journals.{ticket_room}
+use Rattle.bac_journal.specs.Journals.{room_of}
 use Rattle.bac_journal.proofs.Rooms.{on_ok, refilled, room_seen}
 use Rattle.bac_journal.proofs.journal.Journal.reserve_note.Goals as goal
 
 pub returns-clause-ok : goal.returns-clause-ok
-returns-clause-ok c = on_ok c.reserve_number.result (λ ok.
-    let h = c.reserve_number.ensures.ok ok in
-    let rows = c.reserve_number.new.rows in
+returns-clause-ok c = on_ok c.reserve_ask.result (λ ok.
+    let h = c.reserve_ask.ensures.ok ok in
+    let rows = c.reserve_ask.new.rows in
     let value = c.deref_mut.ensures.value in
-    let many = c.reserve_number.ensures.many in
+    let many = c.reserve_ask.ensures.many in
     let long : length rows ≡ length c.self.inside.rows.items = cc in
-    let seen = room_seen rows c.args.client h in
+    let seen = room_seen rows c.args.client c.args.server h in
     record {
       note = omega (arith, c.in_ok-reserve.ensures.ok, c.reserve.new.self.ok.0);
-      tickets = ticket_room h.0;
-      at = ap (λ l. slice_get (map ticket_room l) c.args.client)
+      room = room_of h.0;
+      at = ap (λ l. slice_get (map room_of l) c.args.client)
           (refilled c.self.inside.rows.len rows c.self.inside.rows.items long c.self.inside.rows.ok.0) ∙ seen.0;
       ticket = seen.1;
+      place = (h.2).place;
     })

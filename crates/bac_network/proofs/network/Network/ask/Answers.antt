@@ -11,9 +11,13 @@ use Rattle.bac_network.proofs.Delivered.{both_there, linked_within, ready_alike,
 use Rattle.bac_network.proofs.Happening.{no_memory_told}
 use Rattle.bac_network.proofs.network.Network.ask.Goals as goal
 
-pub make_ask_room-requires : goal.make_ask_room-requires
-make_ask_room-requires c =
+pub make_ask_room-requires-clause-client : goal.make_ask_room-requires-clause-client
+make_ask_room-requires-clause-client c =
     linked_within c.args.self.now.nodes.items c.args.self.now.journal.links (c.requires.1).linked c.args.client (omega arith)
+
+pub make_ask_room-requires-clause-server : goal.make_ask_room-requires-clause-server
+make_ask_room-requires-clause-server c =
+    linked_within c.args.self.now.nodes.items c.args.self.now.journal.links (c.requires.1).linked c.args.server (omega arith)
 
 pub returns-in_err-copied-clause-happens : goal.returns-in_err-copied-clause-happens
 returns-in_err-copied-clause-happens c = λ overtake.
