@@ -19,8 +19,8 @@ use std::alloc::Global;
 pub fn only(alloc: Global, datagram: Datagram) -> Result<Vec<Datagram>, NoMemory>
     ensures { IfOk result (λ v. v.items ≡ datagram ∷ []) }
 {
-    let mut sends = Vec::new(alloc);
-    sends.push(datagram)?;
+    let mut sends = Vec::with_capacity(alloc, 1)?;
+    sends.push_reserved(datagram);
     Ok(sends)
 }
 

@@ -20,9 +20,10 @@ impl Ord for PeerKey {
     ghost matches_eq = { Prim.search (peer_key_cmp_total, comparing, rules) };
 
     fn cmp(&self, other: &PeerKey) -> Ordering {
-        self.peer
-            .cmp(&other.peer)
-            .then(self.invoke_id.cmp(&other.invoke_id))
+        match self.peer.cmp(&other.peer) {
+            Ordering::Equal => self.invoke_id.cmp(&other.invoke_id),
+            order => order,
+        }
     }
 }
 

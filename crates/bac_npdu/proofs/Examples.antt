@@ -1,5 +1,5 @@
 -- Octets of whole datagrams, computed from the definitions.
-use Rattle.std.proofs.Common.{◌≡◌, List, [], ◌∷◌, Some, None, true, false, refl}
+use Rattle.std.proofs.Common.{◌≡◌, [], ◌∷◌, Some, None, true, false, refl}
 use Rattle.std.specs.declared.cmp.Ordering.TheVariants.{Less, Greater}
 use Rattle.bac_npdu.specs.Peers.{route_fits, peer_cmp}
 use Rattle.bac_npdu.specs.Npdu.{destination_fits, message_fits, npdu_spelling, bvll_spelling, members_spelling}

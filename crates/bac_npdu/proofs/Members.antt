@@ -15,7 +15,7 @@ use Rattle.bac_npdu.specs.Npdu.{DestinationView, MessageView, optional, all_of, 
 use Rattle.bac_npdu.specs.Reading.{word_at, cut_at, network_in, count_in, address_at, place_at, optional_at, hops_at, message_at}
 use Rattle.bac_value.specs.Octets.{IsBytes}
 use Rattle.bac_value.specs.Steps.{◌>>=◌, octet_at}
-use Rattle.bac_value.proofs.Steps.{octet_takes, IsBytes-drop, IsBytes-take, IsBytes-rest, bind_ok, chosen, unless_ok, where_ok, ok_is, Takes, Takes-then}
+use Rattle.bac_value.proofs.Steps.{octet_takes, IsBytes-drop, IsBytes-take, bind_ok, chosen, unless_ok, where_ok, ok_is, Takes, Takes-then}
 
 -- ---- octets
 

@@ -1,9 +1,10 @@
 -- The parts of the frame to a peer, as they are written.
 use Rattle.std.proofs.Common.{IsTrue, ◌≤◌, ◌≡◌, ℕ, ◌+◌, Bool, true, List, [], ◌∷◌, ◌++◌, length, Option, Some, None, refl, sym, ap, ◌∙◌, append_assoc, arith}
+use Rattle.std.specs.Prelude.{slice_index}
 use Rattle.std.specs.Int.{w16, to_be_bytes}
 use Rattle.std.proofs.lemmas.List.{length-append}
 use Rattle.bac_npdu.specs.Peers.{RouteView, PeerView, route_fits}
-use Rattle.bac_npdu.specs.Npdu.{all_of, npdu_spelling, members_spelling, bvll_spelling}
+use Rattle.bac_npdu.specs.Npdu.{all_of, npdu_spelling, members_spelling, control_octet, bvll_spelling}
 use Rattle.bac_npdu.specs.Datagram.{npdu_to, frame, frame_head, IsFrameOf}
 use Rattle.bac_npdu.specs.Views.{route_view, peer_view}
 use Rattle.bac_npdu.specs.declared.route.Route.{Route}
@@ -23,8 +24,12 @@ unfolding npdu_spelling members_spelling
 npdu_head_length link None e = refl
 npdu_head_length link (Some r) e = refl
 
-pub same_head : (p : PeerView) (e : Bool) → length (npdu_spelling (npdu_to p e [])) ≡ length (npdu_spelling (npdu_to p true []))
+same_head : (p : PeerView) (e : Bool) → length (npdu_spelling (npdu_to p e [])) ≡ length (npdu_spelling (npdu_to p true []))
 same_head p e = npdu_head_length p.link p.route e
+
+pub members_length : (p : PeerView) → length (npdu_spelling (npdu_to p true [])) ≡ 2 + length (members_spelling (npdu_to p true []))
+unfolding npdu_spelling
+members_length p = omega arith
 
 -- how many octets stand in front of the APDU
 pub head_length : (p : PeerView) (e : Bool) (count : ℕ) → length (frame_head p e count) ≡ 4 + length (npdu_spelling (npdu_to p true []))
@@ -42,16 +47,16 @@ frame_headed p e apdu =
 pub frame_length : (p : PeerView) (e : Bool) (apdu : List ℕ) → length (frame p e apdu) ≡ length (frame_head p e (length apdu)) + length apdu
 frame_length p e apdu = rw (frame_headed p e apdu) (length-append (frame_head p e (length apdu)) apdu)
 
--- its parts, written one after the other, are what stands in front of the APDU
-pub head_written : (p : PeerView) (e : Bool) (old first second all bytes : List ℕ) (n count : ℕ) → n ≡ length (npdu_spelling (npdu_to p true []))
-    → bytes ≡ to_be_bytes w16 (4 + n + count)
-    → first ≡ old ++ 0x81 ∷ 0x0A ∷ [] → second ≡ first ++ bytes → all ≡ second ++ npdu_spelling (npdu_to p e []) → all ≡ old ++ frame_head p e count
-unfolding frame_head
-head_written p e old first second all bytes n count is-n is-bytes one two three =
+-- the octets of every frame and then the members, written one after the other, are what stands in front of the APDU
+pub head_written : (p : PeerView) (e : Bool) (old reserved first all bytes : List ℕ) (n count control : ℕ) → n ≡ length (npdu_spelling (npdu_to p true []))
+    → bytes ≡ to_be_bytes w16 (4 + n + count) → control ≡ control_octet (npdu_to p e [])
+    → reserved ≡ old → first ≡ reserved ++ 0x81 ∷ 0x0A ∷ slice_index bytes 0 ∷ slice_index bytes 1 ∷ 1 ∷ control ∷ []
+    → all ≡ first ++ members_spelling (npdu_to p true []) → all ≡ old ++ frame_head p e count
+unfolding frame_head npdu_spelling members_spelling
+head_written p e old reserved first all bytes n count control is-n is-bytes is-control same one two =
     let octets : bytes ≡ to_be_bytes w16 (4 + length (npdu_spelling (npdu_to p e [])) + count) =
     is-bytes ∙ ap (λ (x : ℕ). to_be_bytes w16 (4 + x + count)) (is-n ∙ sym (same_head p e)) in
-    let joined : all ≡ ((old ++ 0x81 ∷ 0x0A ∷ []) ++ bytes) ++ npdu_spelling (npdu_to p e []) = rw (three, two, one) refl in
-    joined ∙ ap (λ (x : List ℕ). ((old ++ 0x81 ∷ 0x0A ∷ []) ++ x) ++ npdu_spelling (npdu_to p e [])) octets ∙ simp append_assoc
+    rw (two, one, same, is-control, octets) (simp append_assoc)
 
 -- a peer's route keeps the limits of one
 peer_fits : (route : Option Route) → IsTrue (all_of route_fits (option_map route_view route))

@@ -1,7 +1,7 @@
 //! Writing the frame to a peer.
 ghost use Rattle.std.specs.Prelude.{◌≡◌, ◌+◌, ◌≤◌, ◌<◌, ◌++◌, ◌∷◌, [], length, OnOk, OnErr, vec_len, vec_capacity, true};
 ghost use Rattle.bac_value.specs.Appending.{Appends, Lengthens, Keeps, NeedsRoom};
-ghost use Rattle.bac_npdu.specs.Npdu.{address_spelling, npdu_spelling};
+ghost use Rattle.bac_npdu.specs.Npdu.{address_spelling, npdu_spelling, members_spelling, control_octet};
 ghost use Rattle.bac_npdu.specs.Datagram.{frame, frame_head, npdu_to, IsFrameOf};
 ghost use Rattle.bac_npdu.specs.Views.{peer_view};
 ghost use Rattle.bac_npdu.specs.Addresses.{address_view};
@@ -39,33 +39,39 @@ fn put_address(route: &Route, out: &mut Vec<u8>) -> Result<(), NoMemory>
     Ok(())
 }
 
-/// What the NPDU to a peer has in front of its contents.
-#[tactic(auto, unfolding(crate::specs::Npdu::npdu_spelling, crate::specs::Npdu::members_spelling))]
-fn put_head(peer: &Peer, expecting: bool, out: &mut Vec<u8>) -> Result<(), NoMemory>
-    ensures ok { Appends result out.old out.new (npdu_spelling (npdu_to (peer_view peer.now) expecting [])) }
-    ensures len { Lengthens result out.old out.new (npdu_spelling (npdu_to (peer_view peer.now) expecting [])) }
-    ensures full { NeedsRoom result out.old (npdu_spelling (npdu_to (peer_view peer.now) expecting [])) }
-    ensures grows { vec_capacity out.old ≤ vec_capacity out.new }
+/// The control octet of the NPDU to a peer.
+fn control_to(peer: &Peer, expecting: bool) -> u8
+    ensures { result ≡ control_octet (npdu_to (peer_view peer.now) expecting []) }
 {
     let expecting = if expecting {
         control::EXPECTING_REPLY
     } else {
         0
     };
-    match &peer.route {
-        None => out.extend_from_slice(&[VERSION, expecting])?,
-        Some(route) => {
-            out.extend_from_slice(&[VERSION, control::DESTINATION + expecting])?;
-            put_address(route, out)?;
-            out.push(FIRST_HOPS)?;
-        }
+    match peer.route {
+        None => expecting,
+        Some(_) => control::DESTINATION + expecting,
+    }
+}
+
+/// What the NPDU to a peer has between its control octet and its contents.
+#[tactic(auto, unfolding(crate::specs::Npdu::members_spelling))]
+fn put_members(peer: &Peer, out: &mut Vec<u8>) -> Result<(), NoMemory>
+    ensures ok { Appends result out.old out.new (members_spelling (npdu_to (peer_view peer.now) true [])) }
+    ensures len { Lengthens result out.old out.new (members_spelling (npdu_to (peer_view peer.now) true [])) }
+    ensures full { NeedsRoom result out.old (members_spelling (npdu_to (peer_view peer.now) true [])) }
+    ensures grows { vec_capacity out.old ≤ vec_capacity out.new }
+{
+    if let Some(route) = &peer.route {
+        put_address(route, out)?;
+        out.push(FIRST_HOPS)?;
     }
     Ok(())
 }
 
 /// Appends what the one frame to a peer has in front of the octets of an APDU, of which there are so many, at most 1,476; and makes room for
 /// these too. `expecting` says that a reply is expected. Nothing is changed where memory is lacking.
-#[tactic(auto, using(crate::proofs::Writing::head_length, crate::proofs::Writing::same_head))]
+#[tactic(auto, using(crate::proofs::Writing::head_length))]
 pub fn write_frame_head(
     peer: &Peer,
     expecting: bool,
@@ -79,10 +85,11 @@ pub fn write_frame_head(
     ensures full { OnErr result (vec_capacity out.old < vec_len out.old + length (frame_head (peer_view peer.now) expecting apdu_len) + apdu_len) }
 {
     let len = 4 + head_len(peer) + apdu_len;
-    out.reserve(len)?;
-    out.extend_from_slice(&[TYPE, ORIGINAL_UNICAST_NPDU])?;
-    out.extend_from_slice(&(len as u16).to_be_bytes())?;
-    put_head(peer, expecting, out)?;
+    out.reserve_exact(len)?;
+    let [high, low] = (len as u16).to_be_bytes();
+    let control = control_to(peer, expecting);
+    out.extend_from_slice(&[TYPE, ORIGINAL_UNICAST_NPDU, high, low, VERSION, control])?;
+    put_members(peer, out)?;
     Ok(())
 }
 

@@ -1,8 +1,10 @@
 //! Peers and their order: by link, then no route before a route, then by route.
-ghost use Rattle.std.specs.Prelude.{◌≡◌, ◌==◌, true, false};
+ghost use Rattle.std.specs.Prelude.{◌≡◌, ◌==◌, ◌∷◌, true, false};
 ghost use Rattle.std.proofs.Common.{rules};
-ghost use Rattle.std.specs.Ordering.{on, eq_by_cmp, as_partial_cmp};
+ghost use Rattle.std.specs.Int.{w64, from_be_bytes};
+ghost use Rattle.std.specs.Ordering.{nat_cmp, on, eq_by_cmp, as_partial_cmp};
 ghost use Rattle.std.specs.Cmp.{partial_order_from_own_ties};
+ghost use Rattle.std.specs.Cmp.Lexicographic.{slice_cmp};
 ghost use Rattle.std.specs.Cmp.Rules.{comparing};
 ghost use Rattle.bac_npdu.specs.Peers.{peer_cmp, peer_cmp_total};
 ghost use Rattle.bac_npdu.specs.Views.{peer_view};
@@ -26,6 +28,24 @@ pub struct Peer {
     pub route: Option<Route>,
 }
 
+/// The octets of a link as one number, most significant first.
+#[inline(always)]
+fn number_of(link: &LinkAddress) -> u64
+    ensures { result ≡ from_be_bytes w64 (0 ∷ 0 ∷ link.now) }
+{
+    let [a, b, c, d, e, f] = *link;
+    u64::from_be_bytes([0, 0, a, b, c, d, e, f])
+}
+
+/// The order of two links, octet by octet: that of their numbers.
+#[inline(always)]
+#[tactic(auto, using(crate::proofs::LinkOrder::links_in_order))]
+fn order_of(link: &LinkAddress, other: &LinkAddress) -> Ordering
+    ensures { result ≡ slice_cmp nat_cmp link.now other.now }
+{
+    number_of(link).cmp(&number_of(other))
+}
+
 impl Ord for Peer {
     ghost cmp = { on peer_view peer_cmp };
 
@@ -36,9 +56,10 @@ impl Ord for Peer {
     ghost matches_eq = { Prim.search (peer_cmp_total, comparing, rules) };
 
     fn cmp(&self, other: &Peer) -> Ordering {
-        self.link
-            .cmp(&other.link)
-            .then(self.route.cmp(&other.route))
+        match order_of(&self.link, &other.link) {
+            Ordering::Equal => self.route.cmp(&other.route),
+            order => order,
+        }
     }
 }
 
