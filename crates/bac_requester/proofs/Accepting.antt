@@ -1,5 +1,5 @@
 -- An ask: the least invoke ID, the slots after it, and how it is refused.
-use Rattle.std.proofs.Common.{◌≡◌, ℕ, zero, suc, ◌+◌, ◌-◌, ◌<◌, ◌≤◌, ◌||◌, Bool, true, false, List, [], ◌∷◌, ◌++◌, filter, count_by, Option}
+use Rattle.std.proofs.Common.{◌≡◌, ℕ, suc, ◌+◌, ◌-◌, ◌<◌, ◌≤◌, ◌||◌, Bool, true, false, List, [], ◌∷◌, ◌++◌, filter, count_by, Option}
 use Rattle.std.proofs.Common.{Some, None, Result, Ok, Err, nat_le, if◌then◌else◌, refl, ap, sym, subst, ◌∙◌, arith}
 use Rattle.std.specs.Option.{option_or}
 use Rattle.std.proofs.lemmas.Bool.Decides.{nat_tests}
@@ -31,8 +31,6 @@ use Rattle.bac_ticket.specs.declared.outgoing_request.RequestWay.{RequestWay}
 use Rattle.bac_ticket.specs.declared.outgoing_request.RequestWay.TheVariants as way
 use Rattle.bac_requester.specs.Turns.{MayBegin}
 use Rattle.bac_requester.specs.Views.{end_of}
-use Rattle.bac_requester.specs.declared.asking.Asked.{Asked}
-use Rattle.bac_requester.specs.declared.ask_fault.AskFault.{AskFault}
 
 abbrev Slots : Type 0
 Slots = List (Slot PeerKey Client)

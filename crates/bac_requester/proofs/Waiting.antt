@@ -1,10 +1,10 @@
 -- When a tick of the client's end does nothing, and when it does something.
-use Rattle.std.proofs.Common.{◌≡◌, ℕ, ◌+◌, ◌-◌, ◌<◌, ◌≤◌, Bool, true, false, nat_eq, nat_le, nat_lt, if◌then◌else◌, List, [], ◌∷◌, Option, Some, None, refl, ap, sym, ◌∙◌, arith}
+use Rattle.std.proofs.Common.{◌≡◌, ℕ, ◌+◌, ◌-◌, ◌<◌, ◌≤◌, Bool, true, false, nat_eq, nat_le, if◌then◌else◌, List, [], ◌∷◌, Option, Some, None, refl, ap, sym, ◌∙◌, arith}
 use Rattle.std.proofs.lemmas.Bool.Decides.{nat_tests}
 use Rattle.bac_slots.specs.Slots.{EachSlot}
 use Rattle.bac_slots.proofs.Ages.{each_more}
 use Rattle.bac_segment.specs.Window.{Outgoing, again, outgoing}
-use Rattle.bac_protocol.specs.declared.times.TheConstants.{T_SEG, T_OUT, WAIT_SEG, DEADLINE}
+use Rattle.bac_protocol.specs.declared.times.TheConstants.{T_SEG, T_OUT, WAIT_SEG}
 use Rattle.bac_protocol.specs.Context.{Context, Settings}
 use Rattle.bac_protocol.specs.Service.Ending.{Expired, TimedOut}
 use Rattle.bac_protocol.specs.Client.{Ticket, Phase, Reaction, after, client_ticks, is_expired, is_idle, open_ticks, repeats_pieces, repeats_whole}

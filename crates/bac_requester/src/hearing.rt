@@ -10,11 +10,11 @@ ghost use Rattle.bac_requester.specs.Views.{end_of, finishes_of};
 
 use crate::client::{Client, ClientRules};
 use crate::turn::{Finish, Turn};
-use bac_aged::{Aged, AgedTable, Ticks};
+use bac_aged::{Aged, AgedTable};
 use bac_apdu::Apdu;
 use bac_ends::{Context, Datagram, PeerKey};
 use bac_slots::SlotTable;
-use bac_ticket::{Ending, Held, Reaction};
+use bac_ticket::{Ending, Reaction};
 use bac_value::NoMemory;
 use std::alloc::Global;
 
@@ -46,8 +46,8 @@ pub(crate) fn turn_of(number: u64, sends: Vec<Datagram>, ended: Option<Ending>) 
     }
 }
 
-/// An APDU comes for a key, which is looked up once; an open ticket goes on in its slot, where a value stands in for it meanwhile. Where memory is
-/// refused, the slots are as they were.
+/// An APDU comes for a key, which is looked up once; an open ticket goes on where it stands in its slot. Where memory is refused, the slots are as they
+/// were.
 pub(crate) fn hears<S: SlotTable<PeerKey, Client>>(
     alloc: Global,
     context: &Context,
@@ -65,28 +65,9 @@ pub(crate) fn hears<S: SlotTable<PeerKey, Client>>(
     let Some(slot) = aged.table.get_mut(&context.key) else {
         return Ok(nothing(alloc));
     };
-    let client = std::mem::replace(slot, Client::stand_in());
-    let Client { number, held } = client;
-    match held {
-        Held::Closed { first } => {
-            let held = Held::Closed { first };
-            *slot = Client { number, held };
-            Ok(nothing(alloc))
-        }
-        Held::Open(ticket) => match ticket.gets(alloc, context, apdu) {
-            Ok(reaction) => {
-                let Reaction { held, sends, ended } = reaction;
-                let client = Client { number, held };
-                let due = client.due(from);
-                *slot = client;
-                aged.ages.comes_due(due);
-                Ok(turn_of(number, sends, ended))
-            }
-            Err(ticket) => {
-                let held = Held::Open(ticket);
-                *slot = Client { number, held };
-                Err(NoMemory)
-            }
-        },
-    }
+    let Reaction { sends, ended } = slot.held.gets(alloc, context, apdu)?;
+    let number = slot.number;
+    let due = slot.due(from);
+    aged.ages.comes_due(due);
+    Ok(turn_of(number, sends, ended))
 }

@@ -1,21 +1,25 @@
 -- What the calls answer for one ticket.
 use Rattle.std.specs.Prelude.{◌≡◌, ℕ, true, false, List, [], Option, Some, None, Result, Ok, Err}
 use Rattle.std.specs.Option.{option_map}
+use Rattle.bac_apdu.specs.Apdu.{Apdu}
+use Rattle.bac_value.specs.declared.memory.NoMemory.{NoMemory}
 use Rattle.bac_service.specs.Replies.{SpellsComplex}
 use Rattle.bac_service.specs.Services.{reads_reply}
 use Rattle.bac_service.specs.Values.{Complex}
 use Rattle.bac_segment.specs.Window.{Incoming}
 use Rattle.bac_protocol.specs.Service.{Octets, Ending}
-use Rattle.bac_protocol.specs.Client.{Ask, Ticket, Phase, Reaction, after, sends_of, ending_of, asked_ticket, asks}
+use Rattle.bac_protocol.specs.Client.{Ask, Ticket, Phase, Reaction, after, sends_of, ending_of, asked_ticket, asks, client_gets}
 use Rattle.bac_ends.specs.Ends.{Held, kept}
 use Rattle.bac_ends.specs.Meanings as meanings
 use Rattle.bac_ends.specs.Meanings.{MeansEnding}
 use Rattle.bac_ends.specs.Sends.{Pairwise, IsSent, to_all}
 use Rattle.bac_ends.specs.Views.{context_view, peer_of}
-use Rattle.bac_ticket.specs.Views.{held_view, ending_view, ticket_view}
+use Rattle.bac_ticket.specs.Views.{ending_view, ticket_view}
 use Rattle.bac_ends.specs.declared.context.Context.{Context}
 use Rattle.bac_ticket.specs.declared.ticket.Core.{Core}
 use Rattle.bac_ticket.specs.declared.ticket.Phase as states
+use Rattle.bac_ticket.specs.declared.ticket.Phase.TheVariants as state
+use Rattle.bac_ticket.specs.declared.ending.Ending as endings
 use Rattle.bac_ticket.specs.declared.asking.Begun.{Begun}
 use Rattle.bac_ticket.specs.declared.reaction.Reaction as code
 use Rattle.bac_ticket.specs.declared.reaction.Closing.{Closing}
@@ -40,16 +44,26 @@ pub record IsBegun (c : Context) (ask : Ask) (x : Begun) : Type 0 where
   pub ticket : x.ticket ≡ asked_ticket (context_view c) ask
   pub sends : Pairwise IsSent (to_all (peer_of c) (sends_of (asks (context_view c) ask))) x.sends.items
 
--- it did what the machine says
-pub record IsReaction (c : Context) (t : Ticket) (r : Reaction) (x : code.Reaction) : Type 0 where
-  pub held : held_view x.held ≡ kept (after c.moment t r)
+-- it did what the machine says, and this is kept of the ticket
+pub record IsReaction (c : Context) (t : Ticket) (r : Reaction) (x : code.Reaction) (new : Held) : Type 0 where
+  pub held : new ≡ kept (after c.moment t r)
   pub sends : Pairwise IsSent (to_all (peer_of c) (sends_of r)) x.sends.items
   pub ended : MeansEnd t.ask.choice (ending_of r) (option_map ending_view x.ended)
 
--- or there was no memory, and the ticket is as it was
-abbrev pub Reacts : Context → Ticket → Reaction → Result code.Reaction Ticket → Type 0
-Reacts c t r (Ok x) = IsReaction c t r x
-Reacts c t r (Err old) = old ≡ t
+-- what comes for a ticket that has ended changes nothing, and nothing comes of it
+pub record IsNothing (x : code.Reaction) : Type 0 where
+  pub sends : x.sends.items ≡ []
+  pub ended : option_map ending_view x.ended ≡ None
+
+-- an APDU came for what is kept of a ticket
+abbrev pub HearsSo : Context → Apdu → (old : Held) → code.Reaction → (new : Held) → Type 0
+HearsSo c a (Held.Open t) x new = IsReaction c t (client_gets (context_view c) reads_reply t a) x new
+HearsSo c a (Held.Closed first) x new = IsNothing x × (new ≡ Held.Closed first)
+
+-- or there was no memory, and all is as it was
+abbrev pub Hears : Context → Apdu → (old : Held) → Result code.Reaction NoMemory → (new : Held) → Type 0
+Hears c a old (Ok x) new = HearsSo c a old x new
+Hears c a old (Err e) new = new ≡ old
 
 -- what a tick sends, and how it ends the ticket
 pub record IsDue (c : Context) (t : Ticket) (r : Reaction) (x : Due) : Type 0 where
@@ -57,6 +71,20 @@ pub record IsDue (c : Context) (t : Ticket) (r : Reaction) (x : Due) : Type 0 wh
   pub ended : MeansEnd t.ask.choice (ending_of r) (option_map ending_view x.ended)
 
 -- Steps.
+
+-- what is kept of a ticket that ended so, if it did
+abbrev pub kept_with : Option endings.Ending → Ticket → Held
+kept_with None t = Held.Open t
+kept_with (Some how) t = Held.Closed t.ask.first
+
+-- an open ticket did what the machine says; of one that has ended the first sending counts, and no more
+abbrev pub Does : Context → (old : Ticket) → Reaction → code.Reaction → (new : Ticket) → Type 0
+Does c old r x new = IsReaction c old r x (kept_with x.ended new)
+
+-- or there was no memory, and the ticket is as it was
+abbrev pub Reacts : Context → (old : Ticket) → Reaction → Result code.Reaction NoMemory → (new : Ticket) → Type 0
+Reacts c old r (Ok x) new = Does c old r x new
+Reacts c old r (Err e) new = new ≡ old
 
 -- the ticket ends so
 pub record IsClosing (c : Context) (choice : ℕ) (r : Reaction) (x : Closing) : Type 0 where
@@ -69,7 +97,7 @@ abbrev pub IsRead : (choice : ℕ) → Octets → Option Complex → Type 0
 IsRead choice octets (Some x) = SpellsComplex choice x octets × (reads_reply choice octets ≡ true)
 IsRead choice octets None = reads_reply choice octets ≡ false
 
--- a segment came for a ticket, whatever state it had; or there was no memory, and all is as it was
-abbrev pub TakesSegment : Context → Reaction → Core → Incoming → Result code.Reaction (Core × Incoming) → Type 0
-TakesSegment c r core incoming (Ok x) = (p : states.Phase) → IsReaction c (ticket_view core p) r x
-TakesSegment c r core incoming (Err old) = (old.0 ≡ core) × (old.1 ≡ incoming)
+-- a segment came for a ticket, whatever state it had, whose reassembly is the new one from then on; or there was no memory, and the reassembly is as it was
+abbrev pub TakesSegment : Context → Reaction → Core → (old : Incoming) → Result code.Reaction NoMemory → (new : Incoming) → Type 0
+TakesSegment c r core old (Ok x) new = (p : states.Phase) → Does c (ticket_view core p) r x (ticket_view (record core { since = c.moment }) (state.SegmentedConf new))
+TakesSegment c r core old (Err e) new = new ≡ old

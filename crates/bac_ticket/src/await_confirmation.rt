@@ -4,7 +4,7 @@ ghost use Rattle.bac_apdu.specs.Views.{apdu_view, segment_view};
 ghost use Rattle.bac_service.specs.Choices.{has_complex_ack, has_simple_ack};
 ghost use Rattle.bac_service.specs.Services.{reads_reply};
 ghost use Rattle.bac_protocol.specs.Client.{answered_with, await_confirmation_gets, gets_complex_ack, gets_error, gets_first_segment, gets_simple_ack};
-ghost use Rattle.bac_ticket.specs.Reacts.{IsClosing, IsReaction, Reacts};
+ghost use Rattle.bac_ticket.specs.Reacts.{Does, IsClosing, Reacts};
 ghost use Rattle.bac_ends.specs.Views.{context_view};
 
 use crate::ending::Ending;
@@ -12,7 +12,7 @@ use crate::getting::gets_refusal;
 use crate::reaction::{Closing, Reaction, closes, ends, stays};
 use crate::reading::read_one;
 use crate::segmented_conf::takes_segment;
-use crate::ticket::Ticket;
+use crate::ticket::{Phase, Ticket};
 use bac_apdu::{Apdu, Segment};
 use bac_ends::{Context, only_abort};
 use bac_protocol::reasons::OTHER;
@@ -42,34 +42,30 @@ fn has_simple_ack(choice: u8) -> bool
 }
 
 /// A SimpleACK comes.
-fn gets_simple_ack(alloc: Global, context: &Context, ticket: Ticket, choice: u8) -> Reaction
-    ensures { IsReaction context.now ticket (gets_simple_ack ticket.ask choice) result }
+fn gets_simple_ack(alloc: Global, context: &Context, ticket: &Ticket, choice: u8) -> Reaction
+    ensures { Does context.now ticket.now (gets_simple_ack ticket.now.ask choice) result ticket.now }
 {
     if choice != ticket.choice() || !has_simple_ack(choice) {
         return stays(alloc, context, ticket);
     }
-    ends(alloc, ticket, Ending::Answered(AnyReply::Simple))
+    ends(alloc, Ending::Answered(AnyReply::Simple))
 }
 
 /// An Error comes.
 fn gets_error(
     alloc: Global,
     context: &Context,
-    ticket: Ticket,
+    ticket: &Ticket,
     choice: u8,
     class: u32,
     code: u32,
 ) -> Reaction
-    ensures { IsReaction context.now ticket (gets_error ticket.ask choice class code) result }
+    ensures { Does context.now ticket.now (gets_error ticket.now.ask choice class code) result ticket.now }
 {
     if choice != ticket.choice() {
         return stays(alloc, context, ticket);
     }
-    ends(
-        alloc,
-        ticket,
-        Ending::Answered(AnyReply::Error { class, code }),
-    )
+    ends(alloc, Ending::Answered(AnyReply::Error { class, code }))
 }
 
 /// The service data of a ComplexACK in one APDU.
@@ -98,19 +94,17 @@ fn close_with_one(
 fn gets_complex_ack(
     alloc: Global,
     context: &Context,
-    ticket: Ticket,
+    ticket: &Ticket,
     choice: u8,
     service: &[u8],
-) -> Result<Reaction, Ticket>
-    ensures { Reacts context.now ticket (gets_complex_ack (context_view context.now) reads_reply ticket.ask choice service.now) result }
+) -> Result<Reaction, NoMemory>
+    ensures { Reacts context.now ticket.now (gets_complex_ack (context_view context.now) reads_reply ticket.now.ask choice service.now) result ticket.now }
 {
     if choice != ticket.choice() || !has_complex_ack(choice) {
         return Ok(stays(alloc, context, ticket));
     }
-    match close_with_one(alloc, context, choice, service) {
-        Ok(closing) => Ok(closes(ticket.first(), closing)),
-        Err(_) => Err(ticket),
-    }
+    let closing = close_with_one(alloc, context, choice, service)?;
+    Ok(closes(closing))
 }
 
 /// Whether a segment is the first of a reply that is awaited, on a node that takes segments.
@@ -127,41 +121,41 @@ fn is_first_segment(context: &Context, asked: u8, choice: u8, number: u8) -> boo
 fn gets_first_segment(
     alloc: Global,
     context: &Context,
-    ticket: Ticket,
+    ticket: &mut Ticket,
     segment: Segment,
     choice: u8,
     service: &[u8],
-) -> Result<Reaction, Ticket>
-    ensures { Reacts context.now ticket
-        (gets_first_segment (context_view context.now) reads_reply ticket.ask (segment_view segment) choice service.now) result }
+) -> Result<Reaction, NoMemory>
+    ensures { Reacts context.now ticket.old
+        (gets_first_segment (context_view context.now) reads_reply ticket.old.ask (segment_view segment) choice service.now) result ticket.new }
 {
     if !is_first_segment(context, ticket.choice(), choice, segment.number) {
         return Ok(stays(alloc, context, ticket));
     }
-    let incoming = Incoming::new(alloc, segment.window, context.settings.window);
-    let Ticket { core, phase } = ticket;
-    match takes_segment(
+    let mut incoming = Incoming::new(alloc, segment.window, context.settings.window);
+    let reaction = takes_segment(
         alloc,
         context,
-        core,
-        incoming,
+        &ticket.core,
+        &mut incoming,
         segment.number,
         segment.more,
         service,
-    ) {
-        Ok(reaction) => Ok(reaction),
-        Err((core, _)) => Err(Ticket { core, phase }),
-    }
+    )?;
+    ticket.core.since = context.moment;
+    ticket.phase = Phase::SegmentedConf { incoming };
+    Ok(reaction)
 }
 
 /// An APDU comes in AWAIT_CONFIRMATION, or in SEGMENTED_REQUEST once all segments were sent.
 pub(crate) fn await_confirmation_gets(
     alloc: Global,
     context: &Context,
-    ticket: Ticket,
+    ticket: &mut Ticket,
     apdu: &Apdu<'_>,
-) -> Result<Reaction, Ticket>
-    ensures { Reacts context.now ticket (await_confirmation_gets (context_view context.now) reads_reply ticket.ask (apdu_view apdu.now)) result }
+) -> Result<Reaction, NoMemory>
+    ensures { Reacts context.now ticket.old
+        (await_confirmation_gets (context_view context.now) reads_reply ticket.old.ask (apdu_view apdu.now)) result ticket.new }
 {
     match *apdu {
         // SimpleACK_Received

@@ -1,6 +1,6 @@
 //! One transaction of a client (clause 5.4.4): what an ask, an APDU that comes and a tick make of its ticket, and the datagrams that it sends.
 //!
-//! A ticket takes memory before anything of it changes: a call whose memory is refused hands the ticket back as it was.
+//! A ticket takes memory before anything of it changes: a call whose memory is refused leaves the ticket as it was.
 #![tactic(auto)]
 
 mod asking;

@@ -94,10 +94,10 @@ pub(crate) fn pieces(
     ensures { IfOk result (λ v. Pairwise IsSent (to_all (peer_of context.now)
         (pieces_from (request_piece (context_view context.now) choice outgoing.now.pieces) start (end - start))) v.items) }
 {
-    let mut sends = Vec::new(alloc);
+    let mut sends = Vec::with_capacity(alloc, end - start)?;
     for n in start..end {
         let datagram = piece(alloc, context, choice, outgoing, n)?;
-        sends.push(datagram)?;
+        sends.push_reserved(datagram);
     }
     Ok(sends)
 }

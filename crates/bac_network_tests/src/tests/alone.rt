@@ -10,7 +10,7 @@ use bac_responder::Responder;
 use bac_service::OwnedRequest;
 use bac_slots::{IndexSlots, Same};
 use bac_store::{Store, house};
-use bac_ticket::{Begun, OutgoingRequest, RequestWay, Ticket};
+use bac_ticket::{Begun, Held, OutgoingRequest, RequestWay, Ticket};
 
 /// Takes APDUs of 1,476 octets and any number of segments, and the same of 50.
 const LIMITS: Limits = Limits {
@@ -226,7 +226,8 @@ fn ignores_a_request(alloc: Global) -> Option<bool> {
     let Ok(apdu) = read(READ) else {
         return None;
     };
-    match ticket.gets(alloc, &context(2_000), &apdu) {
+    let mut held = Held::Open(ticket);
+    match held.gets(alloc, &context(2_000), &apdu) {
         Ok(reaction) => Some(is_timed && reaction.sends.is_empty() && reaction.ended.is_none()),
         Err(_) => None,
     }

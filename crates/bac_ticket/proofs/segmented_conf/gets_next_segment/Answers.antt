@@ -4,7 +4,7 @@ use Rattle.std.proofs.lemmas.Bool.Decides.{nat_tests}
 use Rattle.bac_ticket.specs.declared.ticket.Phase.TheVariants.{SegmentedConf}
 use Rattle.bac_ticket.proofs.segmented_conf.gets_next_segment.Goals as goal
 
-pub returns-in-Ok : goal.returns-in-Ok
-returns-in-Ok c =
-    let same : nat_eq c.args.choice c.args.core.choice ≡ true = grind (arith, nat_tests, c.if-choice-core.false) in
-    rw same (c.in-Ok.ensures (SegmentedConf c.args.incoming))
+pub returns-clause-reacts : goal.returns-clause-reacts
+returns-clause-reacts c =
+    let same : nat_eq c.args.choice c.args.core.now.choice ≡ true = grind (arith, nat_tests, c.if-choice-core.false) in
+    rw same (c.in_ok-reaction.ensures (SegmentedConf c.args.incoming.now))

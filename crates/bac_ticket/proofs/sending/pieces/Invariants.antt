@@ -1,5 +1,5 @@
 -- The pieces so far were sent.
-use Rattle.std.proofs.Common.{◌≤◌, ◌-◌}
+use Rattle.std.proofs.Common.{◌+◌, ◌≤◌, ◌-◌, vec_len, vec_capacity}
 use Rattle.bac_protocol.specs.Client.{request_piece}
 use Rattle.bac_protocol.specs.Wire.{pieces_from}
 use Rattle.bac_ends.specs.Sends.{Pairwise, IsSent, to_all}
@@ -12,4 +12,5 @@ invariant-loop-n l =
       sent : Pairwise IsSent (to_all (peer_of l.context) (pieces_from (request_piece (context_view l.context) l.choice l.outgoing.pieces) l.start
           (l.n - l.start))) l.sends.items;
       begun : l.start ≤ l.n;
+      room : vec_len l.sends + (l.end - l.n) ≤ vec_capacity l.sends;
     }

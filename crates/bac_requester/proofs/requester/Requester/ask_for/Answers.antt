@@ -1,6 +1,5 @@
 -- The ask of the table is that of the end.
 use Rattle.std.proofs.Common.{ℕ, Option, ◌∙◌, refl, sym, subst}
-use Rattle.bac_apdu.specs.Views.{limits_view}
 use Rattle.bac_npdu.specs.Views.{peer_view}
 use Rattle.bac_service.specs.Spellings.{request_spelling}
 use Rattle.bac_service.specs.Values.{choice_of}
