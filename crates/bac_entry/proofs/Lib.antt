@@ -4,3 +4,4 @@ pub mod Takings
 pub mod Copies
 pub mod Same
 pub mod Begun
+pub mod Standing

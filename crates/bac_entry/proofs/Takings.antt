@@ -1,9 +1,10 @@
--- What a whole request's last segment does to the receiver.
+-- What a segment does to the receiver.
 use Rattle.std.proofs.Common.{◌≡◌, Ok, ap}
 use Rattle.bac_segment.specs.Window.{Incoming, Taking}
 use Rattle.bac_segment.specs.Answers.{Takes, IsKept, answer_of}
 use Rattle.bac_segment.specs.declared.incoming.Step.{Step}
 use Rattle.bac_segment.specs.declared.incoming.Step.TheVariants as step
+use Rattle.bac_entry.specs.Segments.{IsNext}
 
 pub record IsWholeTaking (t : Taking) (old new : Incoming) : Type 0 where
   pub taken : t ≡ Taking.Whole new.parts
@@ -22,3 +23,9 @@ whole_kept (Taking.Taken ack next) e = absurd (cc)
 whole_kept (Taking.Whole parts) e = tt
 whole_kept (Taking.Nak next) e = absurd (cc)
 whole_kept Taking.TooLong e = absurd (cc)
+
+pub next_is : (t : Taking) (r : Step) → Ok r ≡ answer_of t → (r ≡ step.Whole → ⊥) → IsNext t
+next_is (Taking.Taken ack next) r e other = tt
+next_is (Taking.Whole parts) r e other = other (let same : Ok r ≡ Ok step.Whole = e in cc)
+next_is (Taking.Nak next) r e other = tt
+next_is Taking.TooLong r e other = absurd (cc)

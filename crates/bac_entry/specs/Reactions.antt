@@ -1,5 +1,6 @@
 -- What the calls on an entry answer, and what they leave.
-use Rattle.std.specs.Prelude.{◌≡◌, ℕ, Bool, true, List, [], Option, Some, None, Result, Ok, Err}
+use Rattle.std.specs.Prelude.{◌≡◌, ℕ, Bool, true, false, List, [], Option, Some, None, Result, Ok, Err}
+use Rattle.std.specs.Global.{Vec}
 use Rattle.bac_npdu.specs.Peers.{PeerView}
 use Rattle.bac_value.specs.declared.memory.NoMemory.{NoMemory}
 use Rattle.bac_store.specs.Stores.{Store}
@@ -9,6 +10,7 @@ use Rattle.bac_protocol.specs.Service.{Octets}
 use Rattle.bac_ends.specs.Sends.{Datagram, Pairwise, IsSent, to_all}
 use Rattle.bac_entry.specs.Services.{Performed, ArePerformed, store_after}
 use Rattle.bac_entry.specs.Views.{performed_view}
+use Rattle.bac_entry.specs.declared.reaction.Answered.{Answered}
 use Rattle.bac_entry.specs.declared.reaction.Reaction.{Reaction}
 use Rattle.bac_entry.specs.declared.reaction.IdleReaction as idle
 use Rattle.bac_entry.specs.declared.reaction.IdleReaction.TheVariants.{Stays, Begins}
@@ -35,6 +37,34 @@ IsReacted r peer s x t = IsReaction r peer s x.entry x.sends.items (performed_vi
 abbrev pub Reacts : server.Reaction → PeerView → Entry → Store → Result Reaction Entry → Store → Type 0
 Reacts r peer old s (Ok x) t = IsReacted r peer s x t
 Reacts r peer old s (Err e) t = (e ≡ old) × (t ≡ s)
+
+-- the same of an entry that stands in its slot: after an Err it and the store are as they were
+abbrev pub Answers : server.Reaction → PeerView → (old new : Entry) → Store → Result Answered NoMemory → Store → Type 0
+Answers r peer old new s (Ok x) t = IsReaction r peer s new x.sends.items (performed_view x.effect) t
+Answers r peer old new s (Err e) t = (new ≡ old) × (t ≡ s)
+
+abbrev pub is_done : State → Bool
+is_done (State.SegmentedRequest incoming since) = false
+is_done (State.Done kept) = true
+is_done (State.SegmentedResponse out transfer since) = false
+is_done State.Dropped = false
+
+-- an entry answers as it stands, or is as it was
+abbrev pub StandsWith : server.Reaction → PeerView → (old new : Entry) → Store → Result (Vec Datagram) NoMemory → Type 0
+StandsWith r peer old new s (Ok v) = IsReaction r peer s new v.items None s
+StandsWith r peer old new s (Err e) = new ≡ old
+
+-- an entry that answers as it stands; where nothing is answered so, or memory was refused, it is as it was, and no kept reply of one APDU is left unanswered
+abbrev pub Stands : server.Reaction → PeerView → (old new : Entry) → Store → Option (Result (Vec Datagram) NoMemory) → Type 0
+Stands r peer old new s None = (new ≡ old) × (is_done old.state ≡ false)
+Stands r peer old new s (Some x) = StandsWith r peer old new s x
+
+-- these are sent, and nothing is performed
+abbrev pub IsAnswered : Result (Vec Datagram) NoMemory → Result Answered NoMemory → Type 0
+IsAnswered (Ok v) (Ok x) = (x.sends ≡ v) × (x.effect ≡ None)
+IsAnswered (Ok v) (Err e) = ⊥
+IsAnswered (Err m) (Ok x) = ⊥
+IsAnswered (Err m) (Err e) = Unit {0}
 
 -- nothing is remembered: a dead entry, if any, stays where it is
 pub record IsStill (r : server.Reaction) (dead : Option Entry) (peer : PeerView) (s : Store) (sent : List Datagram) (t : Store) : Type 0 where

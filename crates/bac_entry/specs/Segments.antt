@@ -3,7 +3,7 @@ use Rattle.std.specs.Prelude.{◌≡◌, ℕ, false, List, [], ◌∷◌, ◌++�
 use Rattle.std.specs.Global.{Vec}
 use Rattle.bac_apdu.specs.Apdu.{Limits, Segment}
 use Rattle.bac_npdu.specs.Peers.{PeerView}
-use Rattle.bac_segment.specs.Window.{Incoming, Outgoing}
+use Rattle.bac_segment.specs.Window.{Incoming, Outgoing, Taking}
 use Rattle.bac_service.specs.Values.{Request}
 use Rattle.bac_store.specs.Stores.{Store}
 use Rattle.bac_value.specs.declared.memory.NoMemory.{NoMemory}
@@ -13,7 +13,8 @@ use Rattle.bac_protocol.specs.Server as server
 use Rattle.bac_protocol.specs.Server.{State, Entry, server_ack, is_kept}
 use Rattle.bac_ends.specs.Sends.{Datagram, Pairwise, IsSent, to_all}
 use Rattle.bac_entry.specs.Reading.{IsRead}
-use Rattle.bac_entry.specs.Reactions.{IsReacted}
+use Rattle.bac_entry.specs.Reactions.{IsReacted, IsReaction}
+use Rattle.bac_entry.specs.Views.{entry_of}
 use Rattle.bac_entry.specs.Preparing.{IsPrepared}
 use Rattle.bac_entry.specs.declared.entry.State as code
 use Rattle.bac_entry.specs.declared.entry.Origin.{Origin}
@@ -24,6 +25,27 @@ use Rattle.bac_entry.specs.declared.reaction.Reaction.{Reaction}
 abbrev pub TakesSegment : (State → server.Reaction) → PeerView → Origin → Incoming → Store → Result Reaction (Origin × Incoming) → Store → Type 0
 TakesSegment r peer origin inc s (Ok x) t = (z : State) → IsReacted (r z) peer s x t
 TakesSegment r peer origin inc s (Err old) t = (old.0 ≡ origin) × (old.1 ≡ inc) × (t ≡ s)
+
+-- a segment that is neither the last one nor too much
+abbrev pub IsNext : Taking → Type 0
+IsNext (Taking.Taken ack inc) = Unit {0}
+IsNext (Taking.Whole parts) = ⊥
+IsNext (Taking.Nak inc) = Unit {0}
+IsNext Taking.TooLong = ⊥
+
+-- a segment that leaves its reassembly what it is: the receiver after it, or all is as it was
+abbrev pub TakesNext : (State → server.Reaction) → PeerView → (now : ℕ) → Origin → (old new : Incoming) → Store → Result (Vec Datagram) NoMemory → Type 0
+TakesNext r peer now origin old new s (Ok v) =
+    (z : State) → IsReaction (r z) peer s (entry_of origin (State.SegmentedRequest new now)) v.items None s
+TakesNext r peer now origin old new s (Err e) = new ≡ old
+
+-- an APDU that does, where the reassembly stands, or none
+abbrev pub StaysReceiving : server.Reaction → PeerView → Origin → (old new : Incoming) → (since after : ℕ) → Store → Option (Result (Vec Datagram) NoMemory)
+    → Type 0
+StaysReceiving r peer origin old new since after s None = (new ≡ old) × (after ≡ since)
+StaysReceiving r peer origin old new since after s (Some (Ok v)) =
+    IsReaction r peer s (entry_of origin (State.SegmentedRequest new after)) v.items None s
+StaysReceiving r peer origin old new since after s (Some (Err e)) = (new ≡ old) × (after ≡ since)
 
 -- all of a performance but its commit, after the SegmentACK of the last segment
 pub record IsWhole (c : Context) (peer : PeerView) (choice : ℕ) (limits : Limits) (s : Store) (number window : ℕ) (octets : Octets)

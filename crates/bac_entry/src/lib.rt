@@ -26,4 +26,4 @@ pub use effect::Effect;
 pub use entry::Entry;
 pub use idle::idle_gets;
 pub use live::live_gets;
-pub use reaction::{IdleReaction, Reaction};
+pub use reaction::{Answered, IdleReaction, Reaction};

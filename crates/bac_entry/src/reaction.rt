@@ -1,5 +1,6 @@
 //! What an APDU makes of an entry.
 ghost use Rattle.std.specs.Prelude.{◌≡◌, [], None};
+ghost use Rattle.bac_entry.specs.Reactions.{IsAnswered};
 ghost use Rattle.bac_entry.specs.Segments.{IsGiven, Gives};
 
 use crate::effect::Effect;
@@ -19,6 +20,15 @@ pub struct Reaction {
     pub effect: Option<Effect>,
 }
 
+/// What an APDU made of a live entry, beside the entry.
+#[derive(Drop)]
+pub struct Answered {
+    /// One datagram for each APDU that is sent, in order of sending.
+    pub sends: Vec<Datagram>,
+    /// The request that was performed, if any.
+    pub effect: Option<Effect>,
+}
+
 /// What an APDU makes where no entry is live.
 #[derive(Drop)]
 pub enum IdleReaction {
@@ -26,6 +36,19 @@ pub enum IdleReaction {
     Stays(Vec<Datagram>),
     /// An entry begins.
     Begins(Reaction),
+}
+
+impl Answered {
+    /// These are sent, and nothing is performed.
+    pub(crate) fn with_sends(sends: Result<Vec<Datagram>, NoMemory>) -> Result<Answered, NoMemory>
+        ensures { IsAnswered sends result }
+    {
+        let sends = sends?;
+        Ok(Answered {
+            sends,
+            effect: None,
+        })
+    }
 }
 
 impl Reaction {

@@ -1,6 +1,7 @@
 //! Reading the service data of requests.
-ghost use Rattle.std.specs.Prelude.{IfOk};
+ghost use Rattle.std.specs.Prelude.{IfOk, OnErr};
 ghost use Rattle.bac_segment.specs.Pieces.{join};
+ghost use Rattle.bac_service.specs.Requests.{NeedsMemory};
 ghost use Rattle.bac_entry.specs.Reading.{IsRead, found_view};
 
 use bac_segment::Incoming;
@@ -25,13 +26,14 @@ pub(crate) fn read_whole(
     }
 }
 
-/// The same of service data in segments, which are not joined.
+/// The same of service data in segments, which are not joined; `NoMemory` only where they spell a request that wants memory.
 pub(crate) fn read_segments(
     alloc: Global,
     choice: u8,
     incoming: &Incoming,
 ) -> Result<Result<OwnedRequest, u8>, NoMemory>
-    ensures { IfOk result (λ found. IsRead choice (join incoming.now.parts) (found_view found)) }
+    ensures found { IfOk result (λ found. IsRead choice (join incoming.now.parts) (found_view found)) }
+    ensures last { OnErr result ∥ NeedsMemory choice (join incoming.now.parts) ∥₁ }
 {
     match read_request_parts(alloc, choice, incoming.parts()) {
         Ok(request) => Ok(Ok(request)),

@@ -9,8 +9,10 @@ ghost use Rattle.bac_protocol.specs.Server.State.{SegmentedRequest, Dropped};
 ghost use Rattle.bac_protocol.specs.Server as machine;
 ghost use Rattle.bac_ends.specs.Sends.{Pairwise, IsSent, to_all};
 ghost use Rattle.bac_entry.specs.Reactions.{Reacts};
-ghost use Rattle.bac_entry.specs.Segments.{TakesSegment, IsWhole, IsGiven, Gives};
+ghost use Rattle.bac_entry.specs.Segments.{IsNext, TakesNext, TakesSegment, StaysReceiving, IsWhole, IsGiven, Gives};
 ghost use Rattle.bac_entry.specs.Services.{service_of};
+ghost use Rattle.bac_entry.specs.declared.entry.Origin.{Origin};
+ghost use Rattle.bac_store.specs.Stores.{Store as Objects};
 ghost use Rattle.bac_ends.specs.Views.{context_view, peer_of};
 ghost use Rattle.bac_entry.specs.Views.{entry_of};
 
@@ -113,8 +115,31 @@ fn dropped(origin: Origin, sends: Vec<Datagram>) -> Reaction
     }
 }
 
-/// A segment comes to a reassembly, in time (NewSegmentReceived, LastSegmentOfGroupReceived, SegmentReceivedOutOfOrder, NewSegmentReceived_NoSpace and the
-/// last one).
+/// A segment that is neither the last one nor too much comes to a reassembly, which goes on where it stands (NewSegmentReceived,
+/// LastSegmentOfGroupReceived, SegmentReceivedOutOfOrder).
+fn next_segment(
+    alloc: Global,
+    context: &Context,
+    incoming: &mut Incoming,
+    segment: Segment,
+    octets: &[u8],
+    step: Step,
+) -> Result<Vec<Datagram>, NoMemory>
+    requires step { Ok step ≡ answer_of (takes incoming.old segment.number segment.more octets.now) }
+    requires next { IsNext (takes incoming.old segment.number segment.more octets.now) }
+    ensures { (o : Origin) (s : Objects) → TakesNext (λ z. machine.request_segment_taken (context_view context.now) (service_of s) (entry_of o z) segment.number
+        incoming.old.window (takes incoming.old segment.number segment.more octets.now)) (peer_of context.now) context.now.moment o incoming.old incoming.new
+        s result }
+{
+    let (window, taken) = (incoming.window(), incoming.taken());
+    let sends = step_acks(alloc, context, true, segment.number, window, taken, step)?;
+    match incoming.on_segment(segment.number, segment.more, octets) {
+        Ok(_) => Ok(sends),
+        Err(_) => Err(NoMemory),
+    }
+}
+
+/// A segment comes to a reassembly, in time (as `next_segment`, NewSegmentReceived_NoSpace, and the last one).
 pub(crate) fn take_segment(
     alloc: Global,
     context: &Context,
@@ -139,22 +164,73 @@ pub(crate) fn take_segment(
     if let Step::Whole = step {
         return last_segment(alloc, context, origin, incoming, segment, octets, store);
     }
-    let (window, taken) = (incoming.window(), incoming.taken());
-    let Ok(sends) = step_acks(alloc, context, true, segment.number, window, taken, step) else {
+    let Ok(sends) = next_segment(alloc, context, &mut incoming, segment, octets, step) else {
         return Err((origin, incoming));
-    };
-    let Ok(_) = incoming.on_segment(segment.number, segment.more, octets) else {
-        return Err((origin, incoming));
-    };
-    let state = State::SegmentedRequest {
-        incoming,
-        since: context.moment,
     };
     Ok(Reaction {
-        entry: Entry { origin, state },
+        entry: with_reassembly(origin, incoming, context.moment),
         sends,
         effect: None,
     })
+}
+
+/// A segment comes while a request is received: where it comes in time, and is neither the last one nor too much, the reassembly goes on where it stands;
+/// None where it is another one.
+fn next_in_time(
+    alloc: Global,
+    context: &Context,
+    incoming: &mut Incoming,
+    since: &mut u64,
+    segment: Segment,
+    octets: &[u8],
+) -> Option<Result<Vec<Datagram>, NoMemory>>
+    ensures { (o : Origin) (s : Objects) → StaysReceiving (machine.segmented_request_gets_segment (context_view context.now) (service_of s)
+        (entry_of o (SegmentedRequest incoming.old since.old)) incoming.old since.old (segment_view segment) octets.now) (peer_of context.now) o incoming.old
+        incoming.new since.old since.new s result }
+{
+    if context.moment.saturating_sub(*since) >= WAIT_SEG {
+        return None;
+    }
+    let Ok(step) = incoming.answer(segment.number, segment.more, octets) else {
+        return None;
+    };
+    if let Step::Whole = step {
+        return None;
+    }
+    match next_segment(alloc, context, incoming, segment, octets, step) {
+        Ok(sends) => {
+            *since = context.moment;
+            Some(Ok(sends))
+        }
+        Err(_) => Some(Err(NoMemory)),
+    }
+}
+
+/// An APDU comes while a request is received: where it is such a segment, the reassembly goes on where it stands; None where it is anything else.
+pub(crate) fn stays_receiving(
+    alloc: Global,
+    context: &Context,
+    incoming: &mut Incoming,
+    since: &mut u64,
+    apdu: &Apdu<'_>,
+) -> Option<Result<Vec<Datagram>, NoMemory>>
+    ensures { (o : Origin) (s : Objects) → StaysReceiving (machine.segmented_request_gets (context_view context.now) (service_of s)
+        (entry_of o (SegmentedRequest incoming.old since.old)) incoming.old since.old (apdu_view apdu.now)) (peer_of context.now) o incoming.old incoming.new
+        since.old since.new s result }
+{
+    match *apdu {
+        Apdu::ConfirmedRequest {
+            segment,
+            service,
+            ..
+        } => {
+            let Some(segment) = segment else {
+                return None;
+            };
+            next_in_time(alloc, context, incoming, since, segment, service)
+        }
+        _ => None,
+    }
 }
 
 /// An entry whose request is received in segments.

@@ -16,7 +16,7 @@ use crate::served::{Act, Served};
 use bac_aged::{AgedTable, enter, has_room};
 use bac_apdu::Apdu;
 use bac_ends::{Context, Datagram, PeerKey, is_waiting};
-use bac_entry::{Effect, Entry, IdleReaction, Reaction, idle_gets, live_gets};
+use bac_entry::{Answered, Effect, Entry, IdleReaction, Reaction, idle_gets, live_gets};
 use bac_protocol::times::KEEP;
 use bac_slots::SlotTable;
 use bac_store::Store;
@@ -55,13 +55,13 @@ fn begins_request(apdu: &Apdu<'_>) -> bool
 fn has_place<S: SlotTable<PeerKey, Entry>>(
     aged: &AgedTable<ServerRules, S>,
     restart: Option<u64>,
-    moment: u64,
+    now: u64,
     apdu: &Apdu<'_>,
 ) -> bool
     requires { AreAged aged.now.ages (S.slots aged.now.table) }
-    ensures { result ≡ (begins_request (apdu_view apdu.now) && is_free moment (end_of (S.slots aged.now.table) (S.capacity aged.now.table) restart)) }
+    ensures { result ≡ (begins_request (apdu_view apdu.now) && is_free now (end_of (S.slots aged.now.table) (S.capacity aged.now.table) restart)) }
 {
-    begins_request(apdu) && has_room(aged, moment) && !is_waiting(restart, KEEP, moment)
+    begins_request(apdu) && has_room(aged, now) && !is_waiting(restart, KEEP, now)
 }
 
 /// No entry of the context's key is live. Whether a slot is free is asked where the APDU begins a request.
@@ -95,7 +95,7 @@ fn idle_hears<S: SlotTable<PeerKey, Entry>>(
     }
 }
 
-/// An APDU comes for the context's transaction. Its key is looked up once; a live entry goes on in its slot, where a placeholder stands meanwhile.
+/// An APDU comes for the context's transaction. Its key is looked up once; a live entry goes on in its slot.
 pub(crate) fn hears<S: SlotTable<PeerKey, Entry>>(
     alloc: Global,
     context: &Context,
@@ -117,22 +117,13 @@ pub(crate) fn hears<S: SlotTable<PeerKey, Entry>>(
     if !slot.is_live(context.moment) {
         return idle_hears(alloc, context, aged, restart, apdu, store);
     }
-    let entry = std::mem::replace(slot, Entry::placeholder());
-    match live_gets(alloc, context, entry, apdu, store) {
-        Ok(reaction) => {
-            let Reaction {
-                entry,
-                sends,
-                effect,
-            } = reaction;
-            let due = entry.due(from);
-            *slot = entry;
+    match live_gets(alloc, context, slot, apdu, store) {
+        Ok(answered) => {
+            let due = slot.due(from);
             aged.ages.comes_due(due);
+            let Answered { sends, effect } = answered;
             Ok(served(context.key, sends, effect))
         }
-        Err(entry) => {
-            *slot = entry;
-            Err(NoMemory)
-        }
+        Err(_) => Err(NoMemory),
     }
 }

@@ -61,13 +61,13 @@ impl<S: SlotTable<PeerKey, Entry> + Drop> Responder<S> {
     }
 
     /// How many entries are live. No two entries have one key, and there are no more of them than slots, whether they are live or not.
-    pub fn live(&self, moment: u64) -> usize
-        ensures number { result ≡ count_by (is_slot_live moment) self.now.slots }
+    pub fn live(&self, now: u64) -> usize
+        ensures number { result ≡ count_by (is_slot_live now) self.now.slots }
         ensures within { result ≤ self.now.capacity }
         ensures orderly { IsOrderlyServer self.now }
     {
         let _len = self.aged.table.len();
-        count_alive(&self.aged, moment)
+        count_alive(&self.aged, now)
     }
 
     /// The first moment, in milliseconds, at which the timer of an entry is due (clause 5.4.5), looked at from a moment on; the last moment of all where no
@@ -114,12 +114,12 @@ impl<S: SlotTable<PeerKey, Entry> + Drop> Responder<S> {
         &mut self,
         alloc: Global,
         settings: &Settings,
-        moment: u64,
+        now: u64,
         peer: &Peer,
         apdu: &Apdu<'_>,
         store: &mut Store,
     ) -> Result<Served, NoMemory>
-        ensures { Serves (server_hears (settings_view settings.now) moment (service_of store.old) (peer_view peer.now) (apdu_view apdu.now) self.old) self.old
+        ensures { Serves (server_hears (settings_view settings.now) now (service_of store.old) (peer_view peer.now) (apdu_view apdu.now) self.old) self.old
             store.old result self.new store.new }
     {
         let key = PeerKey {
@@ -129,7 +129,7 @@ impl<S: SlotTable<PeerKey, Entry> + Drop> Responder<S> {
         let context = Context {
             settings: *settings,
             key,
-            moment,
+            moment: now,
         };
         hears(alloc, &context, &mut self.aged, self.restart, apdu, store)
     }
@@ -140,20 +140,20 @@ impl<S: SlotTable<PeerKey, Entry> + Drop> Responder<S> {
         &self,
         alloc: Global,
         settings: &Settings,
-        moment: u64,
+        now: u64,
     ) -> Result<Vec<Datagram>, NoMemory>
-        ensures { IfOk result (λ v. Pairwise IsSent (servers_tick (settings_view settings.now) moment self.now).sends v.items) }
+        ensures { IfOk result (λ v. Pairwise IsSent (servers_tick (settings_view settings.now) now self.now).sends v.items) }
     {
-        if self.aged.ages.is_quiet(moment) {
+        if self.aged.ages.is_quiet(now) {
             return Ok(nothing_due(alloc));
         }
-        prepare(alloc, settings, &self.aged.table, moment)
+        prepare(alloc, settings, &self.aged.table, now)
     }
 
     /// The entries after a tick. It takes no memory. Before the first moment at which anything can be due no slot is looked at.
-    pub fn commit_tick(&mut self, settings: &Settings, moment: u64)
-        ensures { self.new ≡ (servers_tick (settings_view settings.now) moment self.old).end }
+    pub fn commit_tick(&mut self, settings: &Settings, now: u64)
+        ensures { self.new ≡ (servers_tick (settings_view settings.now) now self.old).end }
     {
-        tick(&mut self.aged, settings, moment);
+        tick(&mut self.aged, settings, now);
     }
 }

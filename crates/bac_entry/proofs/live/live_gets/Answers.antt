@@ -1,24 +1,25 @@
--- An entry is what its state is.
-use Rattle.std.proofs.Common.{◌≡◌, ◌∙◌, sym, ap, subst}
+-- The entry stands, or may move.
+use Rattle.std.proofs.Common.{◌∙◌, ap, subst}
 use Rattle.bac_apdu.specs.Views.{apdu_view}
 use Rattle.bac_protocol.specs.Server.{Entry, live_gets}
-use Rattle.bac_protocol.specs.Server.State.{Dropped, SegmentedResponse}
-use Rattle.bac_entry.specs.Reactions.{Reacts}
-use Rattle.bac_entry.specs.Services.{service_of}
 use Rattle.bac_ends.specs.Views.{context_view, peer_of}
-use Rattle.bac_entry.specs.Views.{entry_of, entry_view, transfer_view}
+use Rattle.bac_entry.specs.Reactions.{is_done, Answers}
+use Rattle.bac_entry.specs.Services.{service_of}
+use Rattle.bac_entry.proofs.Standing.{stands_answers}
 use Rattle.bac_entry.proofs.live.live_gets.Goals as goal
 
-pub returns-in-Dropped : goal.returns-in-Dropped
-returns-in-Dropped c =
-    let e : entry_of c.entry.inside.origin Dropped ≡ c.args.entry = ap (λ x. entry_view c.entry.inside.origin x) (sym c.in-Dropped.is) ∙ c.entry.view_is in
-    subst (λ (d : Entry). Reacts (live_gets (context_view c.args.context.now) (service_of c.args.store.now) d d.state (apdu_view c.args.apdu.now))
-    (peer_of c.args.context.now) d c.args.store.now c.dropped_gets.result c.args.store.now) e (c.dropped_gets.ensures c.args.store.now)
+pub returns-in-Some : goal.returns-in-Some
+returns-in-Some c =
+    stands_answers (live_gets (context_view c.args.context.now) (service_of c.args.store.now) c.args.entry.now c.args.entry.now.state (apdu_view c.args.apdu.now))
+    (peer_of c.args.context.now) c.args.entry.now c.stands.new.entry c.args.store.now c.in-Some.sends c.with_sends.result
+    (c.in-Some.ensures c.args.store.now) c.with_sends.ensures
 
-pub returns-in-SegmentedResponse : goal.returns-in-SegmentedResponse
-returns-in-SegmentedResponse c =
-    let arm = c.in-SegmentedResponse in
-    let e : entry_of c.entry.inside.origin (SegmentedResponse arm.outgoing (transfer_view arm.transfer) arm.since) ≡ c.args.entry =
-    ap (λ x. entry_view c.entry.inside.origin x) (sym arm.is) ∙ c.entry.view_is in
-    subst (λ (d : Entry). Reacts (live_gets (context_view c.args.context.now) (service_of c.args.store.now) d d.state (apdu_view c.args.apdu.now))
-    (peer_of c.args.context.now) d c.args.store.now c.segmented_response_gets.result c.args.store.now) e (c.segmented_response_gets.ensures c.args.store.now)
+pub moves-requires : goal.moves-requires
+moves-requires c =
+    let still = c.in-None.ensures c.args.store.now in
+    ap (λ (d : Entry). is_done d.state) still.0 ∙ still.1
+
+pub returns-in-None : goal.returns-in-None
+returns-in-None c =
+    subst (λ (d : Entry). Answers (live_gets (context_view c.args.context.now) (service_of c.args.store.now) d d.state (apdu_view c.args.apdu.now))
+    (peer_of c.args.context.now) d c.moves.new.entry c.args.store.now c.moves.result c.moves.new.store) (c.in-None.ensures c.args.store.now).0 c.moves.ensures

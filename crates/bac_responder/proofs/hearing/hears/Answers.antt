@@ -62,11 +62,10 @@ returns-in-Ok-clause-turn g c =
     let e : ServerEnd = end_of slots (g.S.SlotTable.capacity c.args.aged.now.table) c.args.restart in
     let k : PeerKey = peer_key_view key in
     let set : Context = context_view c.args.context.now in
-    let d : Entry = c.replace-entry.result in
-    let x : Entry = c.in-Ok.reaction.entry in
-    let was : d ≡ c.in-Some.slot.now = c.replace-entry.ensures.value in
-    let alive : is_live now d ≡ true = ap (is_live now) was ∙ sym c.is_live.ensures ∙ c.if-not-is_live.false in
-    let seen : value_at same_key k e.slots ≡ Some d = sym (value_viewed Entry key slots) ∙ sym c.in-Some.ensures.value ∙ ap (λ (y : Entry). Some y) (sym was) in
+    let d : Entry = c.in-Some.slot.now in
+    let x : Entry = c.live_gets.new.entry in
+    let alive : is_live now d ≡ true = sym c.is_live.ensures ∙ c.if-not-is_live.false in
+    let seen : value_at same_key k e.slots ≡ Some d = sym (value_viewed Entry key slots) ∙ sym c.in-Some.ensures.value in
     let live : is_none_live now (value_at same_key k e.slots) ≡ false = ap (is_none_live now) seen ∙ none_live now d ∙ ap not alive in
     let same = live_is set (service_of c.args.store.now) (value_at same_key k e.slots) d (is_free now e) (apdu_view c.args.apdu.now) seen live in
     let stays = stays_live set (service_of c.args.store.now) d x (apdu_view c.args.apdu.now) alive c.in-Ok.ensures.entry_is in
@@ -80,11 +79,10 @@ returns-in-Ok-clause-aged g c =
     let key : CodeKey = c.args.context.now.key in
     let now : ℕ = c.args.context.now.moment in
     let slots : List (Slot CodeKey Entry) = g.S.SlotTable.slots c.args.aged.now.table in
-    let d : Entry = c.replace-entry.result in
-    let x : Entry = c.in-Ok.reaction.entry in
-    let was : d ≡ c.in-Some.slot.now = c.replace-entry.ensures.value in
-    let alive : is_live now d ≡ true = ap (is_live now) was ∙ sym c.is_live.ensures ∙ c.if-not-is_live.false in
-    let at : value_at code_same_key key slots ≡ Some d = sym c.in-Some.ensures.value ∙ ap (λ (y : Entry). Some y) (sym was) in
+    let d : Entry = c.in-Some.slot.now in
+    let x : Entry = c.live_gets.new.entry in
+    let alive : is_live now d ≡ true = sym c.is_live.ensures ∙ c.if-not-is_live.false in
+    let at : value_at code_same_key key slots ≡ Some d = sym c.in-Some.ensures.value in
     let begun = live_begun (context_view c.args.context.now) (service_of c.args.store.now) d x (apdu_view c.args.apdu.now) alive c.in-Ok.ensures.entry_is in
     goes_on CodeKey Entry began IsQuiet code_same_key quiet_earlier c.args.aged.now.ages _ c.due-due.result key d x slots _ at begun c.due-due.ensures.quiet
     (c.get_mut.follows.holds x).0 c.comes_due.ensures c.requires.aged
@@ -94,9 +92,9 @@ returns-in-Ok-clause-aged g c =
 pub returns-in-Err-clause-turn : goal.returns-in-Err-clause-turn
 returns-in-Err-clause-turn g c =
     let d : Entry = c.in-Some.slot.now in
-    let x : Entry = c.in-Err.entry in
+    let x : Entry = c.live_gets.new.entry in
     let unchanged = put_back Entry c.args.context.now.key d x (g.S.SlotTable.slots c.args.aged.now.table) _ (sym c.in-Some.ensures.value)
-    (c.in-Err.ensures.0 ∙ c.replace-entry.ensures.value) (c.get_mut.follows.holds x).0 in (
+    c.in-Err.ensures.0 (c.get_mut.follows.holds x).0 in (
       same_end _ _ _ _ c.args.restart unchanged (c.get_mut.follows.holds x).1,
       c.in-Err.ensures.1,
     )
@@ -104,7 +102,7 @@ returns-in-Err-clause-turn g c =
 pub returns-in-Err-clause-aged : goal.returns-in-Err-clause-aged
 returns-in-Err-clause-aged g c =
     let d : Entry = c.in-Some.slot.now in
-    let x : Entry = c.in-Err.entry in
+    let x : Entry = c.live_gets.new.entry in
     let unchanged = put_back Entry c.args.context.now.key d x (g.S.SlotTable.slots c.args.aged.now.table) _ (sym c.in-Some.ensures.value)
-    (c.in-Err.ensures.0 ∙ c.replace-entry.ensures.value) (c.get_mut.follows.holds x).0 in
+    c.in-Err.ensures.0 (c.get_mut.follows.holds x).0 in
     subst (λ (y : List (Slot CodeKey Entry)). AreAged c.args.aged.now.ages y) (sym unchanged) c.requires.aged

@@ -4,6 +4,6 @@ use Rattle.bac_responder.proofs.responder.Responder.commit_tick.Goals as goal
 
 pub returns : goal.returns
 returns g c =
-    rw (← c.self.view_is) (committed c.args.settings.now c.args.moment (g.S.SlotTable.slots c.self.inside.aged.table)
+    rw (← c.self.view_is) (committed c.args.settings.now c.args.now (g.S.SlotTable.slots c.self.inside.aged.table)
     (g.S.SlotTable.slots c.tick.new.aged.table) (g.S.SlotTable.capacity c.self.inside.aged.table) (g.S.SlotTable.capacity c.tick.new.aged.table) c.self.inside.restart
     c.tick.ensures.slots c.tick.ensures.same)
