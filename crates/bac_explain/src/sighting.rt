@@ -7,7 +7,7 @@ ghost use Rattle.bac_explain.specs.Sightings.{apdu_sighting, key_of, receiver_of
 
 use crate::key::TransactionKey;
 use crate::part::{Part, Role, part_of};
-use bac_npdu::{Destination, Npdu, Peer, Route, read_bvll, read_npdu};
+use bac_npdu::{Destination, LinkAddress, Npdu, Peer, Route, read_bvll, read_npdu};
 
 /// What was seen: an APDU of a transaction.
 #[derive(Clone, Copy, Debug)]
@@ -21,7 +21,7 @@ pub struct Sighting<'a> {
 }
 
 /// The receiver at a link: the one that stands there, or where the NPDU is to be routed to. None where that is many receivers.
-fn receiver(link: [u8; 6], destination: Option<Destination>) -> Option<Peer>
+fn receiver(link: LinkAddress, destination: Option<Destination>) -> Option<Peer>
     ensures { option_map peer_view result ≡ receiver_of link (option_map destination_view destination) }
 {
     let Some(destination) = destination else {
@@ -54,7 +54,7 @@ fn key_of(part: Part, from: Peer, to: Peer) -> TransactionKey
 
 /// The APDU of an NPDU between two links.
 #[tactic(auto, unfolding(crate::specs::Sightings::apdu_sighting))]
-fn apdu_sighting<'a>(from: [u8; 6], to: [u8; 6], npdu: Npdu<'a>) -> Option<Sighting<'a>>
+fn apdu_sighting<'a>(from: LinkAddress, to: LinkAddress, npdu: Npdu<'a>) -> Option<Sighting<'a>>
     ensures { option_map sighting_view result ≡ apdu_sighting from to (npdu_view npdu.entry) }
 {
     let to = receiver(to, npdu.destination)?;
@@ -74,7 +74,7 @@ fn apdu_sighting<'a>(from: [u8; 6], to: [u8; 6], npdu: Npdu<'a>) -> Option<Sight
 }
 
 /// The same where it is no network message.
-fn sighting_in<'a>(from: [u8; 6], to: [u8; 6], npdu: Npdu<'a>) -> Option<Sighting<'a>>
+fn sighting_in<'a>(from: LinkAddress, to: LinkAddress, npdu: Npdu<'a>) -> Option<Sighting<'a>>
     ensures { option_map sighting_view result ≡ sighting_in from to (npdu_view npdu.entry) }
 {
     if npdu.message.is_some() {
@@ -87,7 +87,7 @@ fn sighting_in<'a>(from: [u8; 6], to: [u8; 6], npdu: Npdu<'a>) -> Option<Sightin
 /// network message. Each end is its link, with the source or the destination of the NPDU as its route. None where the datagram
 /// carries none, as one that is broadcast, or an Unconfirmed-Request.
 #[tactic(auto, unfolding(crate::specs::Sightings::sighting_at))]
-pub fn read_sighting(from: [u8; 6], to: [u8; 6], datagram: &[u8]) -> Option<Sighting<'_>>
+pub fn read_sighting(from: LinkAddress, to: LinkAddress, datagram: &[u8]) -> Option<Sighting<'_>>
     ensures { option_map sighting_view result ≡ sighting_at from to datagram.now }
 {
     let Ok(npdu) = read_bvll(datagram) else {
