@@ -6,7 +6,7 @@
 # no such test: one of a module memory, or with a name that ends in was_refused, or a row of a file stdin whose title ends in [memory].
 set -eu
 top=$(cd "$(dirname "$0")/../.." && pwd)
-crates=${*:-bac_codec_tests bac_network_tests bac_rows_run}
+crates=${*:-bac_codec_tests bac_network_tests bac_node_rows}
 for crate in $crates; do
     cd "$top/crates/$crate"
     mkdir -p out

@@ -1,4 +1,4 @@
-"""Holds the names of bac_names against tshark's own tables:
+"""Holds the names of bac_value_text against tshark's own tables:
     python3 tests/outside/names.py
 Each number that both have must have the same name, but for the spellings below, which are tshark's. The last line is
 `types=T properties=P classes=C codes=E rejects=R aborts=A wrong=N`, and the status is 1 where N is not 0."""
@@ -44,7 +44,7 @@ TABLES = {
 
 def rows_of(pattern):
     rows = {}
-    for file in sorted(glob.glob(f"{TOP}/crates/bac_names/src/{pattern}")):
+    for file in sorted(glob.glob(f"{TOP}/crates/bac_value_text/src/{pattern}")):
         with open(file, encoding="utf-8") as it:
             for found in re.finditer(r'\(\s*"([a-z0-9-]+)",\s*([\d_]+),?\s*\)', it.read()):
                 rows[int(found[2].replace("_", ""))] = found[1]

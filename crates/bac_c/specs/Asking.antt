@@ -8,7 +8,7 @@ use Rattle.bac_service.specs.Values.{Request}
 use Rattle.bac_service.specs.Values.Request.{ReadFile, WriteFile, ReadProperty, WriteProperty}
 use Rattle.bac_service.specs.Values.ReadAccess.{ReadStream}
 use Rattle.bac_service.specs.Values.WriteAccess.{WriteStream}
-use Rattle.bac_ends.specs.Ends.{Accepted}
+use Rattle.bac_transaction.specs.Ends.{Accepted}
 use Rattle.bac_node.specs.Calls.{Refuses}
 use Rattle.bac_requester.specs.declared.ask_fault.AskFault.{AskFault}
 use Rattle.bac_requester.specs.declared.ask_fault.AskFault.TheVariants as ask

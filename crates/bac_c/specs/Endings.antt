@@ -3,7 +3,7 @@ use Rattle.std.specs.Prelude.{ℕ, ℤ, pos, Bool, true, false, List, []}
 use Rattle.bac_service.specs.Values.{Complex}
 use Rattle.bac_service.specs.Values.Complex.{FileRead, StreamWritten, RecordsWritten, PropertyRead}
 use Rattle.bac_service.specs.Replies as reply
-use Rattle.bac_ends.specs.Meanings.{Ending, Finish}
+use Rattle.bac_transaction.specs.Meanings.{Ending, Finish}
 use Rattle.bac_c.specs.declared.records.End.{End}
 
 abbrev told : (ticket how class code : ℕ) → (position : ℤ) → End

@@ -1,8 +1,8 @@
 -- What a C program reads of what came of a call.
 use Rattle.std.specs.Prelude.{◌≡◌, ◌≤◌, ◌<◌, ◌++◌, ℕ, List, [], Option, Some, None, MatchOption, length, drop, slice_get}
 use Rattle.std.specs.Option.{option_map}
-use Rattle.bac_ends.specs.Meanings.{Finish}
-use Rattle.bac_ends.specs.Sends.{Datagram}
+use Rattle.bac_transaction.specs.Meanings.{Finish}
+use Rattle.bac_transaction.specs.Sends.{Datagram}
 use Rattle.bac_requester.specs.Views.{finish_view}
 use Rattle.bac_world.specs.Node.{Node}
 use Rattle.bac_c.specs.Endings.{octets_of}

@@ -2,7 +2,7 @@
 ghost use Rattle.std.specs.Prelude.{◌≡◌, ◌↔◌, ◌<◌, ◌≤◌, [], None, Some, IfErr, IfOk, IfSome, IsErrOf, MatchOption, OnErr, OnOk};
 ghost use Rattle.bac_node.specs.Calls.{IsNotHeard};
 ghost use Rattle.bac_node.specs.Waiting.{MovesAt, RestsUntil};
-ghost use Rattle.bac_ticket.specs.Timers.{LAST_MOMENT};
+ghost use Rattle.bac_requester.specs.Timers.{LAST_MOMENT};
 ghost use Rattle.bac_world.specs.Node.{NodeOn, NodeTick};
 ghost use Rattle.bac_c.specs.Devices.{IsIdle, IsQuiet, Ran, Runs};
 ghost use Rattle.bac_c.specs.Statuses.{fault_number, NOT_STARTED};

@@ -5,9 +5,8 @@ ghost use Rattle.bac_service.specs.Views.{owned_complex_view, owned_reply_view};
 ghost use Rattle.bac_c.specs.Endings.{complex_end, end_of as plain_end, octets_of as plain_octets, reply_end};
 
 use crate::records::End;
-use bac_requester::Finish;
+use bac_requester::{Ending, Finish};
 use bac_service::{AnyComplex, AnyReply, FileWritten, OwnedComplex, OwnedReply};
-use bac_ticket::Ending;
 
 fn told(ticket: u64, how: u32, class: u32, code: u32, position: i64) -> End
     ensures { result ≡ record { ticket = ticket; how = how; class = class; code = code; position = position } }

@@ -1,6 +1,6 @@
 //! How full the node's tables are.
 ghost use Rattle.std.specs.Prelude.{◌≡◌, count_by};
-ghost use Rattle.bac_ends.specs.Ends.{is_slot_held, is_slot_live};
+ghost use Rattle.bac_transaction.specs.Ends.{is_slot_held, is_slot_live};
 ghost use Rattle.bac_c.specs.Results.{Counts};
 
 use crate::handle::Handle;

@@ -2,7 +2,7 @@
 ghost use Rattle.std.specs.Prelude.{◌≡◌, ◌≢◌, ◌↔◌, ◌<◌, ◌≤◌, None, Some, IfSome, MatchOption};
 ghost use Rattle.bac_node.specs.Calls.{IsNotHeard};
 ghost use Rattle.bac_node.specs.Waiting.{MovesAt, RestsUntil};
-ghost use Rattle.bac_ticket.specs.Timers.{LAST_MOMENT};
+ghost use Rattle.bac_requester.specs.Timers.{LAST_MOMENT};
 ghost use Rattle.bac_world.specs.Node.{NodeOn, NodeTick};
 ghost use Rattle.bac_c.specs.Devices.{HasRun, Holds, IsIdle, Runs};
 ghost use Rattle.bac_c.specs.Statuses.{CLOCK_BACK, DONE, NOT_OPEN, NOT_STARTED, NO_MEMORY};

@@ -18,3 +18,14 @@ pub mod Blocks
 pub mod BlockViews
 pub mod Bvlc
 pub mod Begins
+pub mod CheckTexts
+pub mod Counts
+pub mod Judged
+pub mod Counted
+pub mod Walks
+pub mod Checked
+pub mod Stops
+pub mod Reports
+pub mod Sums
+pub mod PacketsWritten
+pub mod Records

@@ -1,9 +1,18 @@
 //! Capture files: which UDP datagrams of BACnet/IP the frames of a capture carry.
+//!
+//! Capture files, frame by frame for whoever watches, and what `bac check` prints of them: which frames carry good datagrams.
+//!
+//! Capture files of pcap, written: datagrams of BACnet/IP between numbered nodes, in packets of IPv4 and UDP.
 #![tactic(auto)]
 
 mod begin;
 mod block;
+mod broken;
 mod bvlc;
+mod capture;
+mod check;
+mod check_fault;
+mod error;
 mod fault;
 mod fields;
 mod file;
@@ -11,18 +20,28 @@ mod form;
 mod ip;
 mod ipv4;
 mod ipv6;
+mod judging;
 mod laws;
 mod link;
 mod moment;
 mod order;
+mod others;
 mod packet;
+mod packet_writing;
 mod ports;
 mod reading;
 mod run;
+mod sum;
+mod tally;
 mod udp;
+mod walk;
 
+pub use crate::Ports;
 pub use block::{Block, Frame};
 pub use bvlc::{BvlcFunction, OtherBvll};
+pub use capture::{NodeDatagram, print_head, print_record};
+pub use check::check_capture_over;
+pub use error::{CheckError, stopped};
 pub use fault::{FileFault, PacketFault};
 pub use file::{Interface, Layout};
 pub use form::{Form, form_of};
@@ -34,3 +53,4 @@ pub use packet::{Datagram, Endpoint};
 pub use ports::Ports;
 pub use reading::read_frame;
 pub use run::read_run;
+pub use walk::{Watch, walk_file};

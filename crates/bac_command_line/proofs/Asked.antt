@@ -3,10 +3,10 @@ use Rattle.std.proofs.Common.{◌≡◌, ℕ, Bool, true, false, List, Option, R
 use Rattle.std.specs.Prelude.{IfOk}
 use Rattle.bac_npdu.specs.Views.{peer_view}
 use Rattle.bac_text.specs.declared.status.Status.{Status}
-use Rattle.bac_run.specs.Asking.{Question}
-use Rattle.bac_run.specs.Runs.{Timed}
-use Rattle.bac_run.specs.Views.{question_view}
-use Rattle.bac_run.specs.declared.question.Question as code
+use Rattle.bac_driver.specs.Asking.{Question}
+use Rattle.bac_driver.specs.Runs.{Timed}
+use Rattle.bac_driver.specs.Views.{question_view}
+use Rattle.bac_driver.specs.declared.question.Question as code
 use Rattle.bac_commands.specs.Questions.{IsQuestion}
 use Rattle.bac_commands.specs.Statuses.{ByStatus}
 use Rattle.bac_command_line.specs.Online.{AsksOnce, ByClient, Clocks, IsAsked, Links}

@@ -6,7 +6,7 @@ use Rattle.bac_text.specs.Statuses.{IsStop}
 use Rattle.bac_text.specs.declared.status.Status.{Status}
 use Rattle.bac_text.specs.declared.status.Status.TheVariants as status
 use Rattle.bac_commands.specs.Statuses.{ByStatus}
-use Rattle.bac_run.specs.Runs.{Timed}
+use Rattle.bac_driver.specs.Runs.{Timed}
 use Rattle.bac_command_line.specs.Asked.{AreAskedFrom}
 use Rattle.bac_command_line.specs.AskedLines.{AreRead, AsksEach, AsksLine, Numbered}
 use Rattle.bac_command_line.specs.Files.{OfFile}

@@ -4,9 +4,9 @@ use Rattle.std.proofs.Common.{refl, ap, sym, subst, ◌∙◌, arith, add-one, i
 use Rattle.std.proofs.lemmas.List.{length-map, length-set}
 use Rattle.std.specs.List.{position}
 use Rattle.bac_requester.specs.declared.turn.Finish.{Finish}
-use Rattle.bac_run.specs.Runs.{Timed}
-use Rattle.bac_run.specs.declared.patience.Patience.{Patience}
-use Rattle.bac_run.specs.declared.question.AskEnd.{AskEnd}
+use Rattle.bac_driver.specs.Runs.{Timed}
+use Rattle.bac_driver.specs.declared.wait_limit.WaitLimit.{WaitLimit}
+use Rattle.bac_driver.specs.declared.question.AskEnd.{AskEnd}
 use Rattle.bac_command_line.specs.AskedLines.{Numbered, line_view}
 use Rattle.bac_command_line.specs.InFlight.{Aloft, BeginsAsk, BeginsMore, EndsFirst, GoesOn, TakesFirst, TakesTurn, TellsEach, TellsLine, Waits}
 use Rattle.bac_command_line.specs.InFlight.{all_noted, aloft, first_patience, has_ticket, noted, noted_at}
@@ -26,7 +26,7 @@ length_all_noted [] fs = refl
 length_all_noted (f ∷ finishes) fs =
     length_all_noted finishes (noted f fs) ∙ length_noted_at (position (has_ticket f.ticket) fs) f fs
 
-pub length_turned : (p : Patience) (old new : Aloft) → TakesTurn p old new → length new.flights ≡ length old.flights
+pub length_turned : (p : WaitLimit) (old new : Aloft) → TakesTurn p old new → length new.flights ≡ length old.flights
 length_turned p old new takes =
     ap length takes.noted
     ∙ (length_all_noted takes.turn.tick_ended.items (all_noted takes.turn.ended.items old.flights)
@@ -63,10 +63,10 @@ none_more_begun asking window waiting here full = record { begun = []; are = ref
 -- ---- the first ends
 
 -- what a turn was, where it was taken, and where it was not
-pub went_on : (p : Patience) (went : Bool) (old new : Aloft) → went ≡ true → GoesOn p went old new → TakesTurn p old new
+pub went_on : (p : WaitLimit) (went : Bool) (old new : Aloft) → went ≡ true → GoesOn p went old new → TakesTurn p old new
 went_on p went old new is goes = subst (λ (b : Bool). GoesOn p b old new) is goes
 
-pub went_not : (p : Patience) (went : Bool) (old new : Aloft) → went ≡ false → GoesOn p went old new → GoesOn p false old new
+pub went_not : (p : WaitLimit) (went : Bool) (old new : Aloft) → went ≡ false → GoesOn p went old new → GoesOn p false old new
 went_not p went old new is goes = subst (λ (b : Bool). GoesOn p b old new) is goes
 
 pub is_none : {A : Type 0} (told is : Option A) → told ≡ is → ((a : A) → told ≡ Some a → ⊥) → is ≡ None
@@ -76,7 +76,7 @@ is_none (Some a) is same never = absurd (never a refl)
 pub none_waited : (here : Aloft) → Waits 0 here here
 none_waited here = record { waited = []; all = refl; run = refl }
 
-pub one_more_waited : (turns : ℕ) (p : Patience) (old middle new : Aloft) → Waits turns old middle → first_patience middle.flights ≡ Some p
+pub one_more_waited : (turns : ℕ) (p : WaitLimit) (old middle new : Aloft) → Waits turns old middle → first_patience middle.flights ≡ Some p
     → TakesTurn p middle new → Waits (turns + 1) old new
 one_more_waited turns p old middle new before waits takes =
     record {
@@ -93,7 +93,7 @@ ended_so turns end old waited at left most waits done takes same =
     record { turns = turns; most = most; waited = waited; waits = waits; stopped = waited; stops = inl (done, refl); takes = takes; same = same }
 
 -- no time was left for it
-pub ran_out : (turns : ℕ) (p : Patience) (end : AskEnd) (old waited stopped : Aloft) (left : List Flight) → turns ≤ 100000 → Waits turns old waited
+pub ran_out : (turns : ℕ) (p : WaitLimit) (end : AskEnd) (old waited stopped : Aloft) (left : List Flight) → turns ≤ 100000 → Waits turns old waited
     → first_patience waited.flights ≡ Some p → GoesOn p false waited stopped → TakesFirst end stopped.flights left
     → EndsFirst end old (aloft stopped.at left)
 ran_out turns p end old waited stopped left most waits waiting over takes =
@@ -103,7 +103,7 @@ ran_out turns p end old waited stopped left most waits waiting over takes =
       waited = waited;
       waits = waits;
       stopped = stopped;
-      stops = inr (record { patience = p; waiting = waiting; over = over });
+      stops = inr (record { wait_limit = p; waiting = waiting; over = over });
       takes = takes;
       same = refl;
     }
@@ -114,7 +114,7 @@ ran_out turns p end old waited stopped left most waits waiting over takes =
 pub one_more_told : (asking : Asking) (window : ℕ) (untold others waiting rest : List Numbered) (line : Numbered) (so_far succeeded now more : Bool)
     (before begun ended : Aloft) (end : AskEnd) (after : Timed) (old between new : Option (List ℕ)) (Whole : Bool → Timed → Option (List ℕ) → Type 0)
     → untold ≡ line ∷ others → now ≡ so_far && succeeded → BeginsMore asking window waiting before rest begun → EndsFirst end begun ended
-    → TellsLine asking.manner line end succeeded old between
+    → TellsLine asking.output_format line end succeeded old between
     → ((all : Bool) (last : Timed) (text : Option (List ℕ)) → TellsEach asking window untold waiting all before last old text → Whole (so_far && all) last text)
     → TellsEach asking window others rest more ended after between new → Whole (now && more) after new
 one_more_told asking window untold others waiting rest line so_far succeeded now more before begun ended end after old between new Whole is both begins ends

@@ -1,7 +1,7 @@
 -- Rounds, one after the other.
 use Rattle.std.proofs.Common.{◌≡◌, ℕ, zero, suc, ◌&&◌, Bool, true, false, List, Option, refl, sym, ap, subst, ◌∙◌}
-use Rattle.bac_link.specs.Moments.{Told, with_moment}
-use Rattle.bac_run.specs.Runs.{Timed, timed}
+use Rattle.bac_driver.specs.Moments.{Told, with_moment}
+use Rattle.bac_driver.specs.Runs.{Timed, timed}
 use Rattle.bac_command_line.specs.Rounds.{AreRoundsFrom, BeginsRound, DoesNothing, Doing, Rests, next_from}
 
 pub both_and : (a b c : Bool) → a && (b && c) ≡ (a && b) && c
@@ -14,13 +14,13 @@ and_true false = refl
 
 -- the round began at the moment that the clock told
 pub round_begun : (Round : Doing) (from began : ℕ) (succeeded : Bool) (before rested after : Timed) (told : Told) (old new : Option (List ℕ))
-    → Rests from before rested → told ≡ with_moment rested.told began → Round succeeded (timed rested.station told) after old new
+    → Rests from before rested → told ≡ with_moment rested.told began → Round succeeded (timed rested.bound_node told) after old new
     → BeginsRound Round from began succeeded before after old new
 round_begun Round from began succeeded before rested after told old new rests tells does =
     record {
       rested = rested;
       rests = rests;
-      does = subst (λ (t : Told). Round succeeded (timed rested.station t) after old new) tells does;
+      does = subst (λ (t : Told). Round succeeded (timed rested.bound_node t) after old new) tells does;
     }
 
 -- what is done from here on completes what all rounds do

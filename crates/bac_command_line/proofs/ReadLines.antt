@@ -1,7 +1,7 @@
 -- The requests of lines, one line after the other.
 use Rattle.std.proofs.Common.{◌≡◌, ℕ, ◌+◌, true, List, [], ◌∷◌, ◌++◌, map, Option, Some, None, Result, Ok, Err, sym, ap, ◌∙◌, append_assoc, append-nil}
 use Rattle.std.proofs.lemmas.List.{map-append}
-use Rattle.bac_run.specs.Views.{question_view}
+use Rattle.bac_driver.specs.Views.{question_view}
 use Rattle.bac_commands.specs.Questions.{IsQuestion}
 use Rattle.bac_command_line.specs.declared.question_lines.LineQuestion as code
 use Rattle.bac_npdu.specs.Peers.{PeerView}

@@ -3,8 +3,8 @@ use Rattle.std.proofs.Common.{◌≡◌, ℕ, List, Option, subst}
 use Rattle.bac_protocol.specs.Service.{Octets}
 use Rattle.bac_store.specs.Stores.{Store}
 use Rattle.bac_text.specs.declared.status.Status.{Status}
-use Rattle.bac_run.specs.Runs.{Timed}
-use Rattle.bac_run.specs.declared.patience.Patience.{Patience}
+use Rattle.bac_driver.specs.Runs.{Timed}
+use Rattle.bac_driver.specs.declared.wait_limit.WaitLimit.{WaitLimit}
 use Rattle.bac_commands.specs.Houses.{server_node}
 use Rattle.bac_commands.specs.Reports.{ReportsServing, ServedText}
 use Rattle.bac_command_line.specs.Online.{Clocks, HasTold, IsServedBy, Links, Serves}
@@ -12,15 +12,15 @@ use Rattle.bac_command_line.specs.Serving.{patience_of, restart_of, turns_of}
 use Rattle.bac_command_line.specs.declared.serving.Serving.{Serving}
 use Rattle.bac_command_line.proofs.Statuses.{lifted}
 
-pub served_so : (IsOn : Links) (IsClock : Clocks) (store : Store) (serving : Serving) (start : ℕ) (restart : Option ℕ) (address : Octets) (p : Patience)
+pub served_so : (IsOn : Links) (IsClock : Clocks) (store : Store) (serving : Serving) (start : ℕ) (restart : Option ℕ) (address : Octets) (p : WaitLimit)
     (turns : ℕ) (before after : Timed) (old new : Option (List ℕ)) (s : Status) → restart ≡ restart_of serving.restarted start
-    → p ≡ patience_of serving start → turns ≡ turns_of serving.turns → before.station.node ≡ server_node serving.slots restart address store
-    → IsOn serving.host serving.port address before.station.failures before.station.calls → HasTold IsClock start before.told
+    → p ≡ patience_of serving start → turns ≡ turns_of serving.turns → before.bound_node.node ≡ server_node serving.slots restart address store
+    → IsOn serving.host serving.port address before.bound_node.failures before.bound_node.calls → HasTold IsClock start before.told
     → ReportsServing s p turns before after old new → IsServedBy store IsOn IsClock s serving old new
 served_so IsOn IsClock store serving start restart address p turns before after old new s restarts waits most node on clock reports =
     lifted s served (λ (no : ⊥). absurd no) (λ (no : ⊥). absurd no) reports where
-      node_is : before.station.node ≡ server_node serving.slots (restart_of serving.restarted start) address store
-      node_is = subst (λ (r : Option ℕ). before.station.node ≡ server_node serving.slots r address store) restarts node
+      node_is : before.bound_node.node ≡ server_node serving.slots (restart_of serving.restarted start) address store
+      node_is = subst (λ (r : Option ℕ). before.bound_node.node ≡ server_node serving.slots r address store) restarts node
 
       served : ServedText p turns before after old new → Serves store IsOn IsClock serving old new
       served text =
@@ -32,5 +32,5 @@ served_so IsOn IsClock store serving start restart address p turns before after 
             clock = clock;
             text =
                 subst (λ (n : ℕ). ServedText (patience_of serving start) n before after old new) most
-                (subst (λ (q : Patience). ServedText q turns before after old new) waits text);
+                (subst (λ (q : WaitLimit). ServedText q turns before after old new) waits text);
           }

@@ -3,8 +3,8 @@ use Rattle.std.specs.Prelude.{ℕ, Bool, true, false, List, map, Option, Some}
 use Rattle.std.specs.Io.KnownBytes.{Keeps}
 use Rattle.bac_npdu.specs.Views.{peer_view}
 use Rattle.bac_text.specs.declared.status.Status.{Status}
-use Rattle.bac_run.specs.Runs.{Timed}
-use Rattle.bac_run.specs.Views.{question_view}
+use Rattle.bac_driver.specs.Runs.{Timed}
+use Rattle.bac_driver.specs.Views.{question_view}
 use Rattle.bac_commands.specs.Statuses.{ByStatus}
 use Rattle.bac_command_line.specs.AskedLines.{AreRead, Numbered, line_view}
 use Rattle.bac_command_line.specs.Files.{OfFile}

@@ -5,9 +5,9 @@ use Rattle.bac_npdu.specs.Peers.{PeerView}
 use Rattle.bac_script.specs.Requests.{request_of}
 use Rattle.bac_text.specs.Lines.{LINE_END}
 use Rattle.bac_text.specs.Notes.{read_of}
-use Rattle.bac_run.specs.Asking.{Question}
-use Rattle.bac_run.specs.Runs.{Timed}
-use Rattle.bac_run.specs.Views.{question_view}
+use Rattle.bac_driver.specs.Asking.{Question}
+use Rattle.bac_driver.specs.Runs.{Timed}
+use Rattle.bac_driver.specs.Views.{question_view}
 use Rattle.bac_value_text.specs.Splits.{split_by}
 use Rattle.bac_commands.specs.Questions.{question_of}
 use Rattle.bac_command_line.specs.Online.{AsksOnce}

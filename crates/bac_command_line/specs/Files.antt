@@ -1,9 +1,9 @@
 -- What `check`, `explain` and `simulate` print of a file, and their statuses.
 use Rattle.std.specs.Prelude.{◌≡◌, ℕ, Bool, List, Option, ⊤}
-use Rattle.bac_check.specs.Checked.{IsReportOf}
+use Rattle.bac_capture.specs.Checked.{IsReportOf}
 use Rattle.bac_chart.specs.declared.drawing.Form.{Form}
-use Rattle.bac_explain_chart.specs.Charted as charted
-use Rattle.bac_explain_text.specs.Explained as explained
+use Rattle.bac_explain_report.specs.Charted as charted
+use Rattle.bac_explain_report.specs.Explained as explained
 use Rattle.bac_text.specs.declared.status.Status.{Status}
 use Rattle.bac_simulate.specs.Drawn.{ShowsAs}
 use Rattle.bac_simulate.specs.Runs.{SimulatesAs}

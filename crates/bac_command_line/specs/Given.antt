@@ -2,9 +2,9 @@
 use Rattle.std.specs.Prelude.{◌≡◌, ℕ, ◌<◌, ◌^◌, Bool, true, false, List, codes, decimal, Option, Some, None}
 use Rattle.clap.specs.Words.{found_of, one_text}
 use Rattle.clap.specs.declared.parser.matches.ArgMatches.{ArgMatches}
-use Rattle.bac_commands.specs.declared.online.manner.Manner.{Manner}
-use Rattle.bac_commands.specs.declared.online.manner.Style.{Style}
-use Rattle.bac_commands.specs.declared.online.manner.Style.TheVariants as style
+use Rattle.bac_commands.specs.declared.online.output_format.OutputFormat.{OutputFormat}
+use Rattle.bac_commands.specs.declared.online.output_format.Style.{Style}
+use Rattle.bac_commands.specs.declared.online.output_format.Style.TheVariants as style
 use Rattle.bac_command_line.specs.declared.asking.Asking.{Asking}
 use Rattle.bac_command_line.specs.declared.asking.Rounds.{Rounds}
 
@@ -34,7 +34,7 @@ pub record IsStyle (given : ArgMatches) (s : Style) : Type 0 where
   pub text_is : IsFlag given (codes "text") text
   pub is : s ≡ style_by raw text
 
-pub record IsManner (given : ArgMatches) (m : Manner) : Type 0 where
+pub record IsManner (given : ArgMatches) (m : OutputFormat) : Type 0 where
   pub style : IsStyle given m.style
   pub strict : IsFlag given (codes "fail") m.strict
 
@@ -51,7 +51,7 @@ pub record AreRoundsOf (given : ArgMatches) (rounds : Option Rounds) : Type 0 wh
 
 -- how it is told, how long it waits, and how often and how many at once it asks
 pub record IsGiven (given : ArgMatches) (asking : Asking) : Type 0 where
-  pub manner : IsManner given asking.manner
+  pub output_format : IsManner given asking.output_format
   pub timeout : IsNumber given (codes "timeout") asking.timeout
   pub rounds : AreRoundsOf given asking.rounds
   pub window : IsNumber given (codes "window") asking.window

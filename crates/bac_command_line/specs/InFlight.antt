@@ -1,19 +1,19 @@
 -- What `ask --lines --window` asks and prints: one node asks the requests of some lines, several at once.
 use Rattle.std.specs.Prelude.{◌≡◌, ◌⊎◌, ℕ, ◌==◌, ◌<◌, ◌≤◌, ◌++◌, max, Bool, true, false, ◌&&◌, List, [], ◌∷◌, length, Option, Some, None, position, slice_set}
 use Rattle.std.specs.Io.KnownBytes.{Appends}
-use Rattle.bac_link.specs.Moments.{with_moment}
+use Rattle.bac_driver.specs.Moments.{with_moment}
 use Rattle.bac_requester.specs.declared.turn.Finish.{Finish}
-use Rattle.bac_run.specs.Asking as run
-use Rattle.bac_run.specs.Asking.{Question}
-use Rattle.bac_run.specs.Runs.{Run, Timed, timed}
-use Rattle.bac_run.specs.Serving.{IsOver, TakesEarlyTurn}
-use Rattle.bac_run.specs.Views.{turn_view}
-use Rattle.bac_run.specs.declared.patience.Patience.{Patience}
-use Rattle.bac_run.specs.declared.question.AskEnd.{AskEnd}
-use Rattle.bac_run.specs.declared.question.AskEnd.TheVariants as end
-use Rattle.bac_run.specs.declared.turn.Turn.{Turn}
+use Rattle.bac_driver.specs.Asking as run
+use Rattle.bac_driver.specs.Asking.{Question}
+use Rattle.bac_driver.specs.Runs.{Run, Timed, timed}
+use Rattle.bac_driver.specs.Serving.{IsOver, TakesEarlyTurn}
+use Rattle.bac_driver.specs.Views.{turn_view}
+use Rattle.bac_driver.specs.declared.wait_limit.WaitLimit.{WaitLimit}
+use Rattle.bac_driver.specs.declared.question.AskEnd.{AskEnd}
+use Rattle.bac_driver.specs.declared.question.AskEnd.TheVariants as end
+use Rattle.bac_driver.specs.declared.turn.Turn.{Turn}
 use Rattle.bac_commands.specs.Told.{TellsEnd}
-use Rattle.bac_commands.specs.declared.online.manner.Manner.{Manner}
+use Rattle.bac_commands.specs.declared.online.output_format.OutputFormat.{OutputFormat}
 use Rattle.bac_command_line.specs.AskedLines.{AsksEach, Numbered, number_text}
 use Rattle.bac_command_line.specs.Asking.{patience_for}
 use Rattle.bac_command_line.specs.Rounds.{DoesNothing, Doing}
@@ -31,26 +31,26 @@ IsRefused q end.NoEnding old new = ⊥
 
 -- it was accepted, and is waited for as from that moment on; or refused, and is over
 abbrev pub IsBegun : (timeout : Option ℕ) → (start : ℕ) → Question → Flight → (old new : Timed) → Type 0
-IsBegun timeout start q (flight.Open ticket patience) old new = (patience ≡ patience_for timeout start) × run.Asks q old ticket new
+IsBegun timeout start q (flight.Open ticket wait_limit) old new = (wait_limit ≡ patience_for timeout start) × run.Asks q old ticket new
 IsBegun timeout start q (flight.Over end) old new = IsRefused q end old new
 
 -- an ask began, once the clock had told that moment
 pub record BeginsAsk (asking : Asking) (q : Question) (f : Flight) (before after : Timed) : Type 0 where
   pub start : ℕ
-  pub begun : IsBegun asking.timeout start q f (timed before.station (with_moment before.told start)) after
+  pub begun : IsBegun asking.timeout start q f (timed before.bound_node (with_moment before.told start)) after
 
 abbrev pub has_ticket : (ticket : ℕ) → Flight → Bool
-has_ticket wanted (flight.Open ticket patience) = ticket == wanted
+has_ticket wanted (flight.Open ticket wait_limit) = ticket == wanted
 has_ticket wanted (flight.Over end) = false
 
 -- how long it is waited for, where it is not over
-abbrev pub patience_of : Flight → Option Patience
-patience_of (flight.Open ticket patience) = Some patience
+abbrev pub patience_of : Flight → Option WaitLimit
+patience_of (flight.Open ticket wait_limit) = Some wait_limit
 patience_of (flight.Over end) = None
 
 -- how it ended; one that is open is waited for no longer
 abbrev pub end_of : Flight → AskEnd
-end_of (flight.Open ticket patience) = end.NoEnding
+end_of (flight.Open ticket wait_limit) = end.NoEnding
 end_of (flight.Over end) = end
 
 -- ---- those that have begun and are not yet told, in the order of their lines
@@ -75,7 +75,7 @@ abbrev pub all_noted : List Finish → List Flight → List Flight
 all_noted [] fs = fs
 all_noted (f ∷ more) fs = all_noted more (noted f fs)
 
-abbrev pub first_patience : List Flight → Option Patience
+abbrev pub first_patience : List Flight → Option WaitLimit
 first_patience [] = None
 first_patience (f ∷ fs) = patience_of f
 
@@ -109,31 +109,31 @@ pub record BeginsMore (asking : Asking) (window : ℕ) (waiting : List Numbered)
 
 -- ---- the first ends
 
--- a turn with that patience, and how tickets ended in it
-pub record TakesTurn (p : Patience) (old new : Aloft) : Type 0 where
+-- a turn with that wait_limit, and how tickets ended in it
+pub record TakesTurn (p : WaitLimit) (old new : Aloft) : Type 0 where
   pub turn : Turn
   pub takes : TakesEarlyTurn p old.at (turn_view turn) new.at
   pub noted : new.flights ≡ all_noted turn.tick_ended.items (all_noted turn.ended.items old.flights)
 
 -- or no time was left for one
-abbrev pub GoesOn : Patience → (went : Bool) → (old new : Aloft) → Type 0
+abbrev pub GoesOn : WaitLimit → (went : Bool) → (old new : Aloft) → Type 0
 GoesOn p true old new = TakesTurn p old new
 GoesOn p false old new = IsOver p old.at new.at × (new.flights ≡ old.flights)
 
 -- a turn as long as the first is waited for
-abbrev pub WaitsOnce : (old : Aloft) → Patience → (new : Aloft) → Type 0
+abbrev pub WaitsOnce : (old : Aloft) → WaitLimit → (new : Aloft) → Type 0
 WaitsOnce old p new = (first_patience old.flights ≡ Some p) × TakesTurn p old new
 
 pub record Waits (turns : ℕ) (old new : Aloft) : Type 0 where
-  pub waited : List Patience
+  pub waited : List WaitLimit
   pub all : length waited ≡ turns
   pub run : Run WaitsOnce waited old new
 
 -- no more time was left for the first
 pub record RunsOut (old new : Aloft) : Type 0 where
-  pub patience : Patience
-  pub waiting : first_patience old.flights ≡ Some patience
-  pub over : GoesOn patience false old new
+  pub wait_limit : WaitLimit
+  pub waiting : first_patience old.flights ≡ Some wait_limit
+  pub over : GoesOn wait_limit false old new
 
 -- the first was over, or as many turns were taken as may be
 abbrev pub IsDone : (turns : ℕ) → (old new : Aloft) → Type 0
@@ -153,10 +153,10 @@ pub record EndsFirst (end : AskEnd) (old new : Aloft) : Type 0 where
 -- ---- how it is told
 
 -- how the ask of a line ended was told behind the line's number; whether it succeeded
-pub record TellsLine (manner : Manner) (line : Numbered) (end : AskEnd) (succeeded : Bool) (old new : Option (List ℕ)) : Type 0 where
+pub record TellsLine (output_format : OutputFormat) (line : Numbered) (end : AskEnd) (succeeded : Bool) (old new : Option (List ℕ)) : Type 0 where
   pub between : Option (List ℕ)
   pub numbered : Appends old between (number_text line.number)
-  pub told : TellsEnd manner line.question.request end succeeded between new
+  pub told : TellsEnd output_format line.question.request end succeeded between new
 
 -- ---- all lines
 
@@ -175,7 +175,7 @@ pub record TellsNext (asking : Asking) (window : ℕ) (line : Numbered) (Others 
   pub ends : EndsFirst end begun ended
   pub succeeded : Bool
   pub between : Option (List ℕ)
-  pub tells : TellsLine asking.manner line end succeeded old between
+  pub tells : TellsLine asking.output_format line end succeeded old between
   pub more : Bool
   pub others : Others rest more ended after between new
   pub is : all ≡ succeeded && more

@@ -3,9 +3,9 @@
 use Rattle.std.specs.Prelude.{◌≡◌, ℕ, Bool, true, false, List, Option, None, Some, IfSome, Result, Ok, Err, ⊤}
 use Rattle.std.specs.Io.KnownBytes.{Keeps}
 use Rattle.bac_protocol.specs.Service.{Octets}
-use Rattle.bac_link.specs.Calls.{Calls}
-use Rattle.bac_link.specs.Moments.{Told, with_moment}
-use Rattle.bac_link.specs.Udp.{LOCAL_HOST}
+use Rattle.bac_driver.specs.Calls.{Calls}
+use Rattle.bac_driver.specs.Moments.{Told, with_moment}
+use Rattle.bac_driver.specs.Udp.{LOCAL_HOST}
 use Rattle.bac_node.specs.Fresh.{slots_fit}
 use Rattle.bac_npdu.specs.Peers.{PeerView}
 use Rattle.bac_npdu.specs.Views.{peer_view}
@@ -15,12 +15,12 @@ use Rattle.bac_script.specs.declared.form_fault.FormFault.{FormFault}
 use Rattle.bac_script.specs.declared.form_fault.FormFault.TheVariants.{NoForm, NoMemory}
 use Rattle.bac_store.specs.Stores.{Store}
 use Rattle.bac_text.specs.declared.status.Status.{Status}
-use Rattle.bac_run.specs.Asking.{Question}
-use Rattle.bac_run.specs.Pairs.{Pair}
-use Rattle.bac_run.specs.Runs.{Timed, timed}
-use Rattle.bac_run.specs.Stations.{Station}
-use Rattle.bac_run.specs.Views.{question_view}
-use Rattle.bac_run.specs.declared.question.Question as code
+use Rattle.bac_driver.specs.Asking.{Question}
+use Rattle.bac_driver.specs.Pairs.{Pair}
+use Rattle.bac_driver.specs.Runs.{Timed, timed}
+use Rattle.bac_driver.specs.BoundNodes.{BoundNode}
+use Rattle.bac_driver.specs.Views.{question_view}
+use Rattle.bac_driver.specs.declared.question.Question as code
 use Rattle.bac_world.specs.Node.{Node}
 use Rattle.bac_commands.specs.FileOctets.{reads_file}
 use Rattle.bac_commands.specs.Houses.{client_node, house_node, server_node}
@@ -29,8 +29,8 @@ use Rattle.bac_commands.specs.Questions.{IsQuestion}
 use Rattle.bac_commands.specs.Reports.{ServedText}
 use Rattle.bac_commands.specs.Statuses.{ByStatus}
 use Rattle.bac_commands.specs.Told.{Asked}
-use Rattle.bac_commands.specs.declared.online.manner.Style.{Style}
-use Rattle.bac_commands.specs.declared.online.manner.Style.TheVariants as style
+use Rattle.bac_commands.specs.declared.online.output_format.Style.{Style}
+use Rattle.bac_commands.specs.declared.online.output_format.Style.TheVariants as style
 use Rattle.bac_command_line.specs.Asking.{patience_for}
 use Rattle.bac_command_line.specs.Files.{OfFile}
 use Rattle.bac_command_line.specs.FileWords.{file_of, with_octets}
@@ -67,18 +67,18 @@ abbrev pub FREE : ℕ
 FREE = 0
 
 -- a node on a link at a port: that node, by its address
-pub record IsAt (IsOn : Links) (host : Octets) (port : ℕ) (node_at : (address : Octets) → Node) (station : Station) : Type 0 where
+pub record IsAt (IsOn : Links) (host : Octets) (port : ℕ) (node_at : (address : Octets) → Node) (bound_node : BoundNode) : Type 0 where
   pub address : Octets
-  pub node : station.node ≡ node_at address
-  pub on : IsOn host port address station.failures station.calls
+  pub node : bound_node.node ≡ node_at address
+  pub on : IsOn host port address bound_node.failures bound_node.calls
 
 -- one with the house store, to which nothing has happened, at any free port; its invoke IDs begin at that one
-abbrev pub IsHouseAt : Links → (host : Octets) → (first_id : ℕ) → Station → Type 0
-IsHouseAt IsOn host first_id station = IsAt IsOn host FREE (house_node first_id) station
+abbrev pub IsHouseAt : Links → (host : Octets) → (first_id : ℕ) → BoundNode → Type 0
+IsHouseAt IsOn host first_id bound_node = IsAt IsOn host FREE (house_node first_id) bound_node
 
 -- one with a slot for each invoke ID of a peer
-abbrev pub IsClientAt : Links → (host : Octets) → (first_id : ℕ) → Station → Type 0
-IsClientAt IsOn host first_id station = IsAt IsOn host FREE (client_node first_id) station
+abbrev pub IsClientAt : Links → (host : Octets) → (first_id : ℕ) → BoundNode → Type 0
+IsClientAt IsOn host first_id bound_node = IsAt IsOn host FREE (client_node first_id) bound_node
 
 -- ---- serving
 
@@ -94,7 +94,7 @@ pub record Serves (store : Store) (IsOn : Links) (IsClock : Clocks) (serving : S
   pub before : Timed
   pub after : Timed
   pub node :
-      IsAt IsOn serving.host serving.port (λ address. server_node serving.slots (restart_of serving.restarted start) address store) before.station
+      IsAt IsOn serving.host serving.port (λ address. server_node serving.slots (restart_of serving.restarted start) address store) before.bound_node
   pub clock : HasTold IsClock start before.told
   pub text : ServedText (patience_of serving start) (turns_of serving.turns) before after old new
 
@@ -128,14 +128,14 @@ ReadsAsked style peer words (Err NoMemory) = ⊤
 pub record AsksOnce (asking : Asking) (q : Question) (succeeded : Bool) (before after : Timed) (old new : Option (List ℕ)) : Type 0 where
   pub start : ℕ
   pub asked :
-      Asked asking.manner succeeded q (patience_for asking.timeout start) (timed before.station (with_moment before.told start)) after old new
+      Asked asking.output_format succeeded q (patience_for asking.timeout start) (timed before.bound_node (with_moment before.told start)) after old new
 
 -- a client at any free port, whose invoke IDs began anywhere, did that, in rounds where they are wanted
 pub record ByClient (IsOn : Links) (IsClock : Clocks) (asking : Asking) (Round : Doing) (all : Bool) (old new : Option (List ℕ)) : Type 0 where
   pub before : Timed
   pub after : Timed
   pub first_id : ℕ
-  pub client : IsClientAt IsOn asking.host first_id before.station
+  pub client : IsClientAt IsOn asking.host first_id before.bound_node
   pub clock : IsClock before.told
   pub rounds : AreRounds asking.rounds Round all before after old new
 
@@ -147,7 +147,7 @@ pub record Asks (IsOn : Links) (IsClock : Clocks) (asking : Asking) (succeeded :
 
 -- the words are no request that can be told so, and nothing was printed
 pub record IsNoRequest (asking : Asking) (words : List (List ℕ)) (old new : Option (List ℕ)) : Type 0 where
-  pub none : is_request_for asking.manner.style (request_of words) ≡ false
+  pub none : is_request_for asking.output_format.style (request_of words) ≡ false
   pub keeps : Keeps old new
 
 abbrev pub IsAsked : Links → Clocks → Status → Asking → (words : List (List ℕ)) → (old new : Option (List ℕ)) → Type 0

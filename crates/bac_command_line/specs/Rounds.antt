@@ -1,9 +1,9 @@
 -- What a node does beside a clock, and does again in rounds.
 use Rattle.std.specs.Prelude.{◌≡◌, ℕ, zero, suc, ◌+◌, ◌*◌, min, Bool, true, ◌&&◌, List, Option, Some, None}
-use Rattle.bac_link.specs.Moments.{with_moment}
-use Rattle.bac_run.specs.Runs.{Timed, timed}
-use Rattle.bac_run.specs.Serving.{Serves}
-use Rattle.bac_run.specs.Waits.{MOST}
+use Rattle.bac_driver.specs.Moments.{with_moment}
+use Rattle.bac_driver.specs.Runs.{Timed, timed}
+use Rattle.bac_driver.specs.Serving.{Serves}
+use Rattle.bac_driver.specs.Waits.{MOST}
 use Rattle.bac_command_line.specs.Serving.{turns_of}
 use Rattle.bac_command_line.specs.declared.asking.Rounds.{Rounds}
 
@@ -34,7 +34,7 @@ pub record Rests (moment : ℕ) (before after : Timed) : Type 0 where
 pub record BeginsRound (Round : Doing) (from began : ℕ) (all : Bool) (before after : Timed) (old new : Option (List ℕ)) : Type 0 where
   pub rested : Timed
   pub rests : Rests from before rested
-  pub does : Round all (timed rested.station (with_moment rested.told began)) after old new
+  pub does : Round all (timed rested.bound_node (with_moment rested.told began)) after old new
 
 -- a round may begin so many seconds after the one before it began
 abbrev pub next_from : (every began : ℕ) → ℕ

@@ -1,8 +1,8 @@
 -- How a node is to serve.
 use Rattle.std.specs.Prelude.{ℕ, ◌+◌, ◌*◌, min, Bool, true, false, Option, Some, None}
 use Rattle.std.specs.Option.{option_map}
-use Rattle.bac_run.specs.Waits.{MOST}
-use Rattle.bac_run.specs.declared.patience.Patience.{Patience}
+use Rattle.bac_driver.specs.Waits.{MOST}
+use Rattle.bac_driver.specs.declared.wait_limit.WaitLimit.{WaitLimit}
 use Rattle.bac_command_line.specs.declared.serving.Serving.{Serving}
 
 -- how long its turns wait: 100 ms where it takes so many, otherwise until something is due
@@ -14,7 +14,7 @@ wait_of (Some turns) = 100
 abbrev pub until_of : (seconds : Option ℕ) → (start : ℕ) → Option ℕ
 until_of seconds start = option_map (λ (s : ℕ). min (start + min (s * 1000) MOST) MOST) seconds
 
-abbrev pub patience_of : Serving → (start : ℕ) → Patience
+abbrev pub patience_of : Serving → (start : ℕ) → WaitLimit
 patience_of serving start = record { wait = wait_of serving.turns; until = until_of serving.seconds start }
 
 abbrev pub turns_of : (turns : Option ℕ) → ℕ

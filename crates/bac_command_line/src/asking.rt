@@ -6,9 +6,9 @@ ghost use Rattle.bac_command_line.specs.Rounds.{next_from};
 ghost use Rattle.bac_command_line.specs.Serving.{turns_of};
 
 use crate::address::{LOCAL_HOST, host_towards, link_at, read_link, read_route};
-use bac_commands::{Manner, Style};
+use bac_commands::{OutputFormat, Style};
+use bac_driver::WaitLimit;
 use bac_npdu::{LinkAddress, Peer, Route};
-use bac_run::Patience;
 use clap::ArgMatches;
 
 /// How often it asks the same.
@@ -49,7 +49,7 @@ pub(crate) struct Asking {
     /// After so many seconds it waits no longer; None where it waits until the ask has ended.
     pub timeout: Option<u64>,
     /// How it is told, and whether that is strict.
-    pub manner: Manner,
+    pub output_format: OutputFormat,
     /// Whether its progress is shown on standard error.
     pub shows_progress: bool,
     /// How often it asks the same; None where it asks once.
@@ -60,14 +60,14 @@ pub(crate) struct Asking {
 
 impl Asking {
     /// How long its turns wait, where it begins at that moment: until something is due, and when it waits no longer.
-    pub(crate) fn patience(&self, start: u64) -> Patience
+    pub(crate) fn wait_limit(&self, start: u64) -> WaitLimit
         ensures { result ≡ patience_for self.now.timeout start }
     {
         let until = match self.timeout {
             Some(seconds) => Some(start.saturating_add(seconds.saturating_mul(1_000))),
             None => None,
         };
-        Patience {
+        WaitLimit {
             wait: u64::MAX,
             until,
         }
@@ -116,12 +116,12 @@ fn style_by(raw: bool, text: bool) -> Style
     }
 }
 
-fn manner_of(given: &ArgMatches<'_>) -> Manner
+fn manner_of(given: &ArgMatches<'_>) -> OutputFormat
     ensures { IsManner given.now result }
 {
     let raw = flag_of(given, "raw");
     let text = flag_of(given, "text");
-    Manner {
+    OutputFormat {
         style: style_by(raw, text),
         strict: flag_of(given, "fail"),
     }
@@ -155,7 +155,7 @@ pub(crate) fn asking_of(given: &ArgMatches<'_>, shows_progress: bool) -> Option<
         peer: Peer { link, route },
         host: host_towards(link),
         timeout: number_of(given, "timeout"),
-        manner: manner_of(given),
+        output_format: manner_of(given),
         shows_progress,
         rounds: rounds_of(given),
         window: number_of(given, "window"),

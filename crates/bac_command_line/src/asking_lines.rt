@@ -1,7 +1,7 @@
 //! Requests of lines, asked by one node: what `ask --lines` does.
 ghost use Rattle.std.specs.Prelude.{◌≡◌, ◌&&◌, map, None, Some, IfErr, IfOk, IsErrOf};
 ghost use Rattle.bac_npdu.specs.Views.{peer_view};
-ghost use Rattle.bac_run.specs.Runs.{timed};
+ghost use Rattle.bac_driver.specs.Runs.{timed};
 ghost use Rattle.bac_text.specs.Statuses.{IsFailure, IsStop};
 ghost use Rattle.bac_command_line.specs.Asked.{AreAskedFrom, status_of};
 ghost use Rattle.bac_command_line.specs.AskedLines.{AreRead, AsksEach, AsksLine, IsTextOf, line_view};
@@ -14,8 +14,7 @@ use crate::objects::octets_of;
 use crate::online::{Machine, ask_once};
 use crate::question_lines::{LineQuestion, questions_in};
 use crate::rounds::{Asked, ask_by_client};
-use bac_link::{Clock, Link};
-use bac_run::Station;
+use bac_driver::{BoundNode, Clock, Link};
 use bac_text::{Status, output_failed};
 use std::alloc::Global;
 use std::io::Write;
@@ -24,21 +23,21 @@ use std::io::Write;
 fn ask_line<L: Link, C: Clock, O: Write, E: Write>(
     alloc: Global,
     asking: &Asking,
-    station: &mut Station<L>,
+    bound_node: &mut BoundNode<L>,
     clock: &mut C,
     line: &LineQuestion,
     out: &mut O,
     err: &mut E,
 ) -> Result<bool, Status>
     ensures asked { IfOk result (λ succeeded. AsksLine asking.now (line_view line.now) succeeded
-        (timed station.old (C.told clock.old)) (timed station.new (C.told clock.new)) (O.contents out.old) (O.contents out.new)) }
+        (timed bound_node.old (C.told clock.old)) (timed bound_node.new (C.told clock.new)) (O.contents out.old) (O.contents out.new)) }
     ensures failed { IfErr result IsFailure }
 {
     let number = line.number;
     if let Err(error) = write!(out, "{number}: ") {
         return Err(output_failed(err, &error));
     }
-    ask_once(alloc, asking, station, clock, &line.question, out, err)
+    ask_once(alloc, asking, bound_node, clock, &line.question, out, err)
 }
 
 pub(crate) fn both(first: bool, second: bool) -> bool
@@ -51,19 +50,19 @@ pub(crate) fn both(first: bool, second: bool) -> bool
 pub(crate) fn ask_each<L: Link, C: Clock, O: Write, E: Write>(
     alloc: Global,
     asking: &Asking,
-    station: &mut Station<L>,
+    bound_node: &mut BoundNode<L>,
     clock: &mut C,
     lines: &[LineQuestion],
     out: &mut O,
     err: &mut E,
 ) -> Result<bool, Status>
     ensures asked { IfOk result (λ all. AsksEach asking.now (map line_view lines.now) all
-        (timed station.old (C.told clock.old)) (timed station.new (C.told clock.new)) (O.contents out.old) (O.contents out.new)) }
+        (timed bound_node.old (C.told clock.old)) (timed bound_node.new (C.told clock.new)) (O.contents out.old) (O.contents out.new)) }
     ensures failed { IfErr result IsFailure }
 {
     let mut all = true;
     for (place, line) in lines.iter().enumerate() {
-        let succeeded = ask_line(alloc, asking, station, clock, line, out, err)?;
+        let succeeded = ask_line(alloc, asking, bound_node, clock, line, out, err)?;
         all = both(all, succeeded);
     }
     Ok(all)

@@ -5,8 +5,8 @@ ghost use Rattle.bac_command_line.specs.AskedLines.{line_view};
 ghost use Rattle.bac_command_line.specs.InFlight.{TellsLine};
 
 use crate::question_lines::LineQuestion;
-use bac_commands::Manner;
-use bac_run::AskEnd;
+use bac_commands::OutputFormat;
+use bac_driver::AskEnd;
 use bac_text::{Status, output_failed};
 use std::alloc::Global;
 use std::io;
@@ -15,32 +15,32 @@ use std::io::Write;
 /// The line's number, and behind it how the ask ended.
 fn tell_numbered<O: Write, E: Write>(
     alloc: Global,
-    manner: Manner,
+    output_format: OutputFormat,
     line: &LineQuestion,
     end: &AskEnd,
     out: &mut O,
     err: &mut E,
 ) -> io::Result<bool>
-    ensures { IfOk result (λ succeeded. TellsLine manner (line_view line.now) end.now succeeded (O.contents out.old) (O.contents out.new)) }
+    ensures { IfOk result (λ succeeded. TellsLine output_format (line_view line.now) end.now succeeded (O.contents out.old) (O.contents out.new)) }
 {
     let number = line.number;
     write!(out, "{number}: ")?;
-    bac_commands::tell_end(alloc, manner, &line.question.request, end, out, err)
+    bac_commands::tell_end(alloc, output_format, &line.question.request, end, out, err)
 }
 
 /// Tells how the ask of a line ended, behind the line's number. Answers whether it succeeded.
 pub(crate) fn tell_line<O: Write, E: Write>(
     alloc: Global,
-    manner: Manner,
+    output_format: OutputFormat,
     line: &LineQuestion,
     end: &AskEnd,
     out: &mut O,
     err: &mut E,
 ) -> Result<bool, Status>
-    ensures told { IfOk result (λ succeeded. TellsLine manner (line_view line.now) end.now succeeded (O.contents out.old) (O.contents out.new)) }
+    ensures told { IfOk result (λ succeeded. TellsLine output_format (line_view line.now) end.now succeeded (O.contents out.old) (O.contents out.new)) }
     ensures failed { IfErr result IsFailure }
 {
-    match tell_numbered(alloc, manner, line, end, out, err) {
+    match tell_numbered(alloc, output_format, line, end, out, err) {
         Ok(succeeded) => Ok(succeeded),
         Err(error) => Err(output_failed(err, &error)),
     }

@@ -4,9 +4,8 @@ ghost use Rattle.std.specs.Io.Buffered.{reader_remaining};
 ghost use Rattle.bac_text.specs.Statuses.{IsStop};
 ghost use Rattle.bac_command_line.specs.Files.{IsChartedFile, IsCheckedFile, IsExplainedFile, IsShownFile, IsSimulatedFile, OnFile};
 
-use bac_check::{Ports, check_capture_over};
-use bac_explain_chart::{Form, chart_over};
-use bac_explain_text::explain_over;
+use bac_capture::{Ports, check_capture_over};
+use bac_explain_report::{Form, chart_over, explain_over};
 use bac_simulate::{View, show_over, simulate_lines_over};
 use bac_text::{Status, complain, no_memory};
 use std::alloc::Global;

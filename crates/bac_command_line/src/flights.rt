@@ -4,8 +4,8 @@ ghost use Rattle.std.specs.List.{position};
 ghost use Rattle.bac_text.specs.Statuses.{IsFailure};
 ghost use Rattle.bac_command_line.specs.InFlight.{TakesFirst, all_noted, end_of, first_patience, has_ticket, noted, patience_of};
 
+use bac_driver::{AskEnd, Turn, WaitLimit};
 use bac_requester::Finish;
-use bac_run::{AskEnd, Patience, Turn};
 use bac_text::{Status, no_memory};
 use std::alloc::Global;
 use std::io::Write;
@@ -14,7 +14,7 @@ use std::io::Write;
 #[derive(Drop)]
 pub(crate) enum Flight {
     /// It has begun: its ticket, and how long it is waited for.
-    Open { ticket: u64, patience: Patience },
+    Open { ticket: u64, wait_limit: WaitLimit },
     /// It is over.
     Over(AskEnd),
 }
@@ -30,11 +30,11 @@ impl Flight {
     }
 
     /// None where it is over.
-    fn patience(&self) -> Option<Patience>
+    fn wait_limit(&self) -> Option<WaitLimit>
         ensures { result ≡ patience_of self.now }
     {
         match self {
-            Flight::Open { patience, .. } => Some(*patience),
+            Flight::Open { wait_limit, .. } => Some(*wait_limit),
             Flight::Over(_) => None,
         }
     }
@@ -85,10 +85,10 @@ impl Flights {
     }
 
     /// How long the first is waited for; None where it is over, or there is none.
-    pub(crate) fn first_patience(&self) -> Option<Patience>
+    pub(crate) fn first_patience(&self) -> Option<WaitLimit>
         ensures { result ≡ first_patience self.now.asks.items }
     {
-        self.asks.first()?.patience()
+        self.asks.first()?.wait_limit()
     }
 
     /// Takes off the first, and answers how it ended.

@@ -5,8 +5,8 @@ ghost use Rattle.bac_protocol.specs.Service.{Octets};
 ghost use Rattle.bac_commands.specs.Questions.{ReadsQuestion};
 ghost use Rattle.bac_text.specs.Statuses.{IsFailure};
 ghost use Rattle.bac_command_line.specs.Online.{AsksOnce, IsAsked, IsPair, IsServedBy, OnClock, OnPort, ReadsAsked, is_told_by};
-ghost use Rattle.bac_run.specs.Runs.{timed};
-ghost use Rattle.bac_run.specs.Views.{question_view};
+ghost use Rattle.bac_driver.specs.Runs.{timed};
+ghost use Rattle.bac_driver.specs.Views.{question_view};
 
 use crate::address::LOCAL_HOST;
 use crate::asking::Asking;
@@ -14,12 +14,11 @@ use crate::bad_words::tell_bad_words;
 use crate::rounds::{Asked, ask_by_client};
 use crate::serving::{Serving, serve_from, tell_listening, tell_not_bound};
 use bac_commands::{
-    Style, asks_for_file, clock_fault, house_station, link_fault, read_question, server_station,
+    Style, asks_for_file, bound_house, bound_server, clock_fault, link_fault, read_question,
 };
-use bac_link::{Clock, Link};
+use bac_driver::{BoundNode, Clock, Link, Question};
 use bac_node::NewNodeFault;
 use bac_npdu::{LinkAddress, Peer};
-use bac_run::{Question, Station};
 use bac_script::FormFault;
 use bac_store::Store;
 use bac_text::{Status, complain, no_memory};
@@ -76,13 +75,20 @@ pub(crate) fn serve<M: Machine, O: Write, E: Write>(
     let start = timer.now();
     let objects = store.object_count();
     let restart = serving.restart(start);
-    let mut station = match server_station(alloc, bound.0, address, store, serving.slots, restart) {
-        Ok(station) => station,
+    let mut bound_node = match bound_server(
+        alloc,
+        bound.0,
+        address,
+        store,
+        serving.slots,
+        restart,
+    ) {
+        Ok(bound_node) => bound_node,
         Err(NewNodeFault::BadSlots) => return complain(err, "bad slots", Status::CommandLine),
         Err(_) => return no_memory(err),
     };
     tell_listening(serving, address, objects, start, err);
-    serve_from(alloc, serving, start, &mut station, &mut timer, out, err)
+    serve_from(alloc, serving, start, &mut bound_node, &mut timer, out, err)
 }
 
 /// The question for a peer that some words are.
@@ -111,10 +117,10 @@ fn is_told_by(style: Style, question: &Question) -> bool
 
 /// The same where it can be told so; `NoForm` also where it can't.
 fn asked_in(alloc: Global, asking: &Asking, words: &[&str]) -> Result<Question, FormFault>
-    ensures { ReadsAsked asking.now.manner.style (peer_view asking.now.peer) (map (λ w. w.now) words.now) result }
+    ensures { ReadsAsked asking.now.output_format.style (peer_view asking.now.peer) (map (λ w. w.now) words.now) result }
 {
     let question = question_in(alloc, asking.peer, words)?;
-    if is_told_by(asking.manner.style, &question) {
+    if is_told_by(asking.output_format.style, &question) {
         Ok(question)
     } else {
         Err(FormFault::NoForm)
@@ -125,25 +131,25 @@ fn asked_in(alloc: Global, asking: &Asking, words: &[&str]) -> Result<Question, 
 pub(crate) fn ask_once<L: Link, C: Clock, O: Write, E: Write>(
     alloc: Global,
     asking: &Asking,
-    station: &mut Station<L>,
+    bound_node: &mut BoundNode<L>,
     clock: &mut C,
     question: &Question,
     out: &mut O,
     err: &mut E,
 ) -> Result<bool, Status>
     ensures asked { IfOk result (λ succeeded. AsksOnce asking.now (question_view question.now) succeeded
-        (timed station.old (C.told clock.old)) (timed station.new (C.told clock.new)) (O.contents out.old) (O.contents out.new)) }
+        (timed bound_node.old (C.told clock.old)) (timed bound_node.new (C.told clock.new)) (O.contents out.old) (O.contents out.new)) }
     ensures failed { IfErr result IsFailure }
 {
-    let patience = asking.patience(clock.now());
+    let wait_limit = asking.wait_limit(clock.now());
     match bac_commands::ask(
         alloc,
-        station,
+        bound_node,
         clock,
-        asking.manner,
+        asking.output_format,
         asking.shows_progress,
         question,
-        &patience,
+        &wait_limit,
         out,
         err,
     ) {
@@ -168,7 +174,7 @@ pub(crate) fn ask<M: Machine, O: Write, E: Write>(
     ensures { IsAsked (OnPort M.is_bound M.Link.failures M.Link.calls) (OnClock M.is_made M.Timer.told) result asking.now (map (λ w. w.now) words.now)
         (O.contents out.old) (O.contents out.new) }
 {
-    let in_words = asking.manner.style == Style::Words;
+    let in_words = asking.output_format.style == Style::Words;
     let question = match asked_in(alloc, asking, words) {
         Ok(question) => question,
         Err(FormFault::NoForm) => {
@@ -203,12 +209,12 @@ pub(crate) fn pair<M: Machine, O: Write, E: Write>(
         return clock_fault(err);
     };
     let address = bound.1;
-    let Ok(mut station) = house_station(alloc, bound.0, address, 0) else {
+    let Ok(mut bound_node) = bound_house(alloc, bound.0, address, 0) else {
         return no_memory(err);
     };
     let other_address = other_bound.1;
-    let Ok(mut other) = house_station(alloc, other_bound.0, other_address, 0) else {
+    let Ok(mut other) = bound_house(alloc, other_bound.0, other_address, 0) else {
         return no_memory(err);
     };
-    bac_commands::pair(alloc, &mut station, &mut other, &mut timer, out, err)
+    bac_commands::pair(alloc, &mut bound_node, &mut other, &mut timer, out, err)
 }

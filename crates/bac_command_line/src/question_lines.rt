@@ -1,7 +1,7 @@
 //! Requests of lines: those of a text, each by its number.
 ghost use Rattle.std.specs.Prelude.{◌≡◌, map, true, IfErr, IfOk, IsErrOf, None, Some};
 ghost use Rattle.bac_npdu.specs.Views.{peer_view};
-ghost use Rattle.bac_run.specs.Views.{question_view};
+ghost use Rattle.bac_driver.specs.Views.{question_view};
 ghost use Rattle.bac_commands.specs.Questions.{IsQuestion, question_of};
 ghost use Rattle.bac_script.specs.Requests.{request_of};
 ghost use Rattle.bac_text.specs.Statuses.{IsStop};
@@ -11,8 +11,8 @@ ghost use Rattle.bac_command_line.specs.AskedLines.{AddsLine, asked_by, line_vie
 use crate::bad_words::tell_bad_line;
 use crate::parts::parts_of;
 use bac_commands::read_question;
+use bac_driver::Question;
 use bac_npdu::Peer;
-use bac_run::Question;
 use bac_script::FormFault;
 use bac_text::{Status, no_memory, read_of};
 use std::alloc::Global;

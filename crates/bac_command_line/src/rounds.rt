@@ -1,6 +1,6 @@
 //! What a client asks, once or in rounds.
 ghost use Rattle.std.specs.Prelude.{◌≡◌, map, IfErr, IfOk};
-ghost use Rattle.bac_run.specs.Runs.{timed};
+ghost use Rattle.bac_driver.specs.Runs.{timed};
 ghost use Rattle.bac_text.specs.Statuses.{IsFailure};
 ghost use Rattle.bac_command_line.specs.Asked.{AsksAll, ReportsClient, ReportsDoing};
 ghost use Rattle.bac_command_line.specs.AskedLines.{line_view};
@@ -14,9 +14,8 @@ use crate::asking_lines::{ask_each, both};
 use crate::online::{Machine, ask_once};
 use crate::question_lines::LineQuestion;
 use crate::window::ask_ahead;
-use bac_commands::{Trouble, client_station, clock_fault, link_fault};
-use bac_link::{Clock, Link};
-use bac_run::{Patience, Question, Station};
+use bac_commands::{CommandError, bound_client, clock_fault, link_fault};
+use bac_driver::{BoundNode, Clock, Link, Question, WaitLimit};
 use bac_text::{Status, no_memory};
 use std::alloc::Global;
 use std::io::Write;
@@ -34,19 +33,19 @@ pub(crate) enum Asked {
 fn ask_lines<L: Link, C: Clock, O: Write, E: Write>(
     alloc: Global,
     asking: &Asking,
-    station: &mut Station<L>,
+    bound_node: &mut BoundNode<L>,
     clock: &mut C,
     lines: &[LineQuestion],
     out: &mut O,
     err: &mut E,
 ) -> Result<bool, Status>
     ensures asked { IfOk result (λ all. AsksLines asking.now (map line_view lines.now) all
-        (timed station.old (C.told clock.old)) (timed station.new (C.told clock.new)) (O.contents out.old) (O.contents out.new)) }
+        (timed bound_node.old (C.told clock.old)) (timed bound_node.new (C.told clock.new)) (O.contents out.old) (O.contents out.new)) }
     ensures failed { IfErr result IsFailure }
 {
     match asking.window {
-        Some(window) => ask_ahead(alloc, asking, window, station, clock, lines, out, err),
-        None => ask_each(alloc, asking, station, clock, lines, out, err),
+        Some(window) => ask_ahead(alloc, asking, window, bound_node, clock, lines, out, err),
+        None => ask_each(alloc, asking, bound_node, clock, lines, out, err),
     }
 }
 
@@ -54,39 +53,39 @@ fn ask_lines<L: Link, C: Clock, O: Write, E: Write>(
 fn ask_all<L: Link, C: Clock, O: Write, E: Write>(
     alloc: Global,
     asking: &Asking,
-    station: &mut Station<L>,
+    bound_node: &mut BoundNode<L>,
     clock: &mut C,
     asked: &Asked,
     out: &mut O,
     err: &mut E,
 ) -> Result<bool, Status>
     ensures asked { IfOk result (λ all. AsksAll asking.now asked.now all
-        (timed station.old (C.told clock.old)) (timed station.new (C.told clock.new)) (O.contents out.old) (O.contents out.new)) }
+        (timed bound_node.old (C.told clock.old)) (timed bound_node.new (C.told clock.new)) (O.contents out.old) (O.contents out.new)) }
     ensures failed { IfErr result IsFailure }
 {
     match asked {
-        Asked::One(question) => ask_once(alloc, asking, station, clock, question, out, err),
-        Asked::Lines(lines) => ask_lines(alloc, asking, station, clock, lines, out, err),
+        Asked::One(question) => ask_once(alloc, asking, bound_node, clock, question, out, err),
+        Asked::Lines(lines) => ask_lines(alloc, asking, bound_node, clock, lines, out, err),
     }
 }
 
 /// Until a moment a node hears what comes late, and does what is due.
 fn rest<L: Link, C: Clock, E: Write>(
-    station: &mut Station<L>,
+    bound_node: &mut BoundNode<L>,
     clock: &mut C,
     moment: u64,
     err: &mut E,
 ) -> Result<(), Status>
-    ensures rested { IfOk result (λ _. Rests moment (timed station.old (C.told clock.old)) (timed station.new (C.told clock.new))) }
+    ensures rested { IfOk result (λ _. Rests moment (timed bound_node.old (C.told clock.old)) (timed bound_node.new (C.told clock.new))) }
     ensures failed { IfErr result IsFailure }
 {
-    let patience = Patience {
+    let wait_limit = WaitLimit {
         wait: u64::MAX,
         until: Some(moment),
     };
-    match station.serve(clock, &patience, u64::MAX) {
+    match bound_node.serve(clock, &wait_limit, u64::MAX) {
         Ok(_) => Ok(()),
-        Err(fault) => Err(Trouble::from(fault).tell(err)),
+        Err(fault) => Err(CommandError::from(fault).tell(err)),
     }
 }
 
@@ -103,7 +102,7 @@ struct RoundEnd {
 fn ask_round<L: Link, C: Clock, O: Write, E: Write>(
     alloc: Global,
     asking: &Asking,
-    station: &mut Station<L>,
+    bound_node: &mut BoundNode<L>,
     clock: &mut C,
     asked: &Asked,
     from: u64,
@@ -111,12 +110,12 @@ fn ask_round<L: Link, C: Clock, O: Write, E: Write>(
     err: &mut E,
 ) -> Result<RoundEnd, Status>
     ensures asked { IfOk result (λ r. BeginsRound (AsksAll asking.now asked.now) from r.began r.succeeded
-        (timed station.old (C.told clock.old)) (timed station.new (C.told clock.new)) (O.contents out.old) (O.contents out.new)) }
+        (timed bound_node.old (C.told clock.old)) (timed bound_node.new (C.told clock.new)) (O.contents out.old) (O.contents out.new)) }
     ensures failed { IfErr result IsFailure }
 {
-    rest(station, clock, from, err)?;
+    rest(bound_node, clock, from, err)?;
     let began = clock.now();
-    let succeeded = ask_all(alloc, asking, station, clock, asked, out, err)?;
+    let succeeded = ask_all(alloc, asking, bound_node, clock, asked, out, err)?;
     Ok(RoundEnd { began, succeeded })
 }
 
@@ -124,7 +123,7 @@ fn ask_round<L: Link, C: Clock, O: Write, E: Write>(
 fn ask_rounds<L: Link, C: Clock, O: Write, E: Write>(
     alloc: Global,
     asking: &Asking,
-    station: &mut Station<L>,
+    bound_node: &mut BoundNode<L>,
     clock: &mut C,
     asked: &Asked,
     rounds: Rounds,
@@ -132,14 +131,14 @@ fn ask_rounds<L: Link, C: Clock, O: Write, E: Write>(
     err: &mut E,
 ) -> Result<bool, Status>
     ensures asked { IfOk result (λ all. AreRoundsFrom (AsksAll asking.now asked.now) rounds.every (turns_of rounds.times) 0 all
-        (timed station.old (C.told clock.old)) (timed station.new (C.told clock.new)) (O.contents out.old) (O.contents out.new)) }
+        (timed bound_node.old (C.told clock.old)) (timed bound_node.new (C.told clock.new)) (O.contents out.old) (O.contents out.new)) }
     ensures failed { IfErr result IsFailure }
 {
     let times = rounds.most();
     let mut all = true;
     let mut from = 0;
     for _ in 0..times {
-        let round = ask_round(alloc, asking, station, clock, asked, from, out, err)?;
+        let round = ask_round(alloc, asking, bound_node, clock, asked, from, out, err)?;
         all = both(all, round.succeeded);
         from = rounds.next_from(round.began);
     }
@@ -150,19 +149,19 @@ fn ask_rounds<L: Link, C: Clock, O: Write, E: Write>(
 fn ask_so<L: Link, C: Clock, O: Write, E: Write>(
     alloc: Global,
     asking: &Asking,
-    station: &mut Station<L>,
+    bound_node: &mut BoundNode<L>,
     clock: &mut C,
     asked: &Asked,
     out: &mut O,
     err: &mut E,
 ) -> Result<bool, Status>
     ensures asked { IfOk result (λ all. AreRounds asking.now.rounds (AsksAll asking.now asked.now) all
-        (timed station.old (C.told clock.old)) (timed station.new (C.told clock.new)) (O.contents out.old) (O.contents out.new)) }
+        (timed bound_node.old (C.told clock.old)) (timed bound_node.new (C.told clock.new)) (O.contents out.old) (O.contents out.new)) }
     ensures failed { IfErr result IsFailure }
 {
     match asking.rounds {
-        Some(rounds) => ask_rounds(alloc, asking, station, clock, asked, rounds, out, err),
-        None => ask_all(alloc, asking, station, clock, asked, out, err),
+        Some(rounds) => ask_rounds(alloc, asking, bound_node, clock, asked, rounds, out, err),
+        None => ask_all(alloc, asking, bound_node, clock, asked, out, err),
     }
 }
 
@@ -171,16 +170,16 @@ fn ask_so<L: Link, C: Clock, O: Write, E: Write>(
 fn ask_and_report<L: Link, C: Clock, O: Write, E: Write>(
     alloc: Global,
     asking: &Asking,
-    station: &mut Station<L>,
+    bound_node: &mut BoundNode<L>,
     clock: &mut C,
     asked: &Asked,
     out: &mut O,
     err: &mut E,
 ) -> Status
     ensures { ReportsDoing result (AreRounds asking.now.rounds (AsksAll asking.now asked.now))
-        (timed station.old (C.told clock.old)) (timed station.new (C.told clock.new)) (O.contents out.old) (O.contents out.new) }
+        (timed bound_node.old (C.told clock.old)) (timed bound_node.new (C.told clock.new)) (O.contents out.old) (O.contents out.new) }
 {
-    match ask_so(alloc, asking, station, clock, asked, out, err) {
+    match ask_so(alloc, asking, bound_node, clock, asked, out, err) {
         Ok(true) => Status::Done,
         Ok(false) => Status::Faulty,
         Err(status) => status,
@@ -209,8 +208,8 @@ pub(crate) fn ask_by_client<M: Machine, O: Write, E: Write>(
         return clock_fault(err);
     };
     let address = bound.1;
-    let Ok(mut station) = client_station(alloc, bound.0, address, first_id) else {
+    let Ok(mut bound_node) = bound_client(alloc, bound.0, address, first_id) else {
         return no_memory(err);
     };
-    ask_and_report(alloc, asking, &mut station, &mut timer, asked, out, err)
+    ask_and_report(alloc, asking, &mut bound_node, &mut timer, asked, out, err)
 }

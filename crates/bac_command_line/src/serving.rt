@@ -1,15 +1,14 @@
 //! How a node is to serve.
 ghost use Rattle.std.specs.Prelude.{◌≡◌};
-ghost use Rattle.bac_run.specs.Runs.{timed};
+ghost use Rattle.bac_driver.specs.Runs.{timed};
 ghost use Rattle.bac_commands.specs.Reports.{ReportsServing};
 ghost use Rattle.bac_text.specs.declared.status.Status.TheVariants as status;
 ghost use Rattle.bac_command_line.specs.Serving.{patience_of, restart_of, turns_of};
 
 use crate::address::{LOCAL_HOST, read_host};
 use bac_commands::link_fault;
-use bac_link::{Clock, Link};
+use bac_driver::{BoundNode, Clock, Link, Unwatched, WaitLimit};
 use bac_npdu::LinkAddress;
-use bac_run::{Patience, Station, Unwatched};
 use bac_text::Status;
 use clap::ArgMatches;
 use std::alloc::Global;
@@ -40,7 +39,7 @@ pub(crate) struct Serving {
 
 impl Serving {
     /// How long its turns wait, where it begins at that moment, and when the last of them has begun.
-    pub(crate) fn patience(&self, start: u64) -> Patience
+    pub(crate) fn wait_limit(&self, start: u64) -> WaitLimit
         ensures { result ≡ patience_of self.now start }
     {
         let wait = match self.turns {
@@ -51,7 +50,7 @@ impl Serving {
             Some(seconds) => Some(start.saturating_add(seconds.saturating_mul(1_000))),
             None => None,
         };
-        Patience { wait, until }
+        WaitLimit { wait, until }
     }
 
     /// How many turns it takes at most.
@@ -124,21 +123,38 @@ pub(crate) fn serve_from<L: Link, C: Clock, O: Write, E: Write>(
     alloc: Global,
     serving: &Serving,
     start: u64,
-    station: &mut Station<L>,
+    bound_node: &mut BoundNode<L>,
     clock: &mut C,
     out: &mut O,
     err: &mut E,
 ) -> Status
-    ensures { ReportsServing result (patience_of serving.now start) (turns_of serving.now.turns) (timed station.old (C.told clock.old))
-        (timed station.new (C.told clock.new)) (O.contents out.old) (O.contents out.new) }
+    ensures { ReportsServing result (patience_of serving.now start) (turns_of serving.now.turns) (timed bound_node.old (C.told clock.old))
+        (timed bound_node.new (C.told clock.new)) (O.contents out.old) (O.contents out.new) }
 {
-    let patience = serving.patience(start);
+    let wait_limit = serving.wait_limit(start);
     let turns = serving.most_turns();
     if !serving.log {
-        return bac_commands::serve(station, clock, &patience, turns, &mut Unwatched, out, err);
+        return bac_commands::serve(
+            bound_node,
+            clock,
+            &wait_limit,
+            turns,
+            &mut Unwatched,
+            out,
+            err,
+        );
     }
     let from = serving.serves_from(start);
-    let logged = bac_log::serve(alloc, station, clock, &patience, turns, from, out, err);
+    let logged = bac_commands::serve_logged(
+        alloc,
+        bound_node,
+        clock,
+        &wait_limit,
+        turns,
+        from,
+        out,
+        err,
+    );
     if !logged.whole {
         // where even that fails, nothing tells it
         let _ = err.writeln("log fault");

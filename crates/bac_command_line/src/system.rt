@@ -1,11 +1,11 @@
 //! The files, sockets and clock of a system.
 ghost use Rattle.std.specs.Prelude.{◌≡◌, ⊤};
-ghost use Rattle.bac_link.specs.Clocks.{latest_told};
-ghost use Rattle.bac_link.specs.Udp.{bound_host, bound_port, udp_address};
+ghost use Rattle.bac_driver.specs.Clocks.{latest_told};
+ghost use Rattle.bac_driver.specs.Udp.{bound_host, bound_port, udp_address};
 
 use crate::files::OpenFiles;
 use crate::online::Machine;
-use bac_link::{MonotonicClock, UdpLink};
+use bac_driver::{MonotonicClock, UdpLink};
 use bac_npdu::LinkAddress;
 use std::net::Net;
 use std::rt::Files;

@@ -1,7 +1,7 @@
 //! What a command line asks for.
 use crate::asking::{Asking, asking_of};
 use crate::serving::{Serving, serving_of};
-use bac_explain_chart::Form;
+use bac_explain_report::Form;
 use bac_simulate::View;
 use clap::ArgMatches;
 

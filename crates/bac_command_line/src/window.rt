@@ -1,7 +1,7 @@
 //! Requests of lines, asked by one node, several at once: what `ask --lines --window` does.
 ghost use Rattle.std.specs.Prelude.{◌≡◌, ◌<◌, ◌+◌, length, map, IfErr, IfOk};
-ghost use Rattle.bac_run.specs.Runs.{timed};
-ghost use Rattle.bac_run.specs.Views.{question_view};
+ghost use Rattle.bac_driver.specs.Runs.{timed};
+ghost use Rattle.bac_driver.specs.Views.{question_view};
 ghost use Rattle.bac_text.specs.Statuses.{IsFailure};
 ghost use Rattle.bac_command_line.specs.AskedLines.{line_view};
 ghost use Rattle.bac_command_line.specs.InFlight.{AsksAhead, BeginsAsk, BeginsMore, EndsFirst, GoesOn, aloft};
@@ -11,10 +11,9 @@ use crate::asking_lines::both;
 use crate::ends::tell_line;
 use crate::flights::{Flight, Flights};
 use crate::question_lines::LineQuestion;
-use bac_commands::{TURNS, Trouble, clock_fault};
-use bac_link::{Clock, Link};
+use bac_commands::{CommandError, TURNS, clock_fault};
+use bac_driver::{AskEnd, BoundNode, Clock, Link, Question, WaitLimit};
 use bac_requester::AskFault;
-use bac_run::{AskEnd, Patience, Question, Station};
 use bac_text::Status;
 use std::alloc::Global;
 use std::io::Write;
@@ -22,18 +21,18 @@ use std::io::Write;
 /// A node begins an ask. One that it refuses is over at once.
 fn begin<L: Link, C: Clock, E: Write>(
     asking: &Asking,
-    station: &mut Station<L>,
+    bound_node: &mut BoundNode<L>,
     clock: &mut C,
     question: &Question,
     err: &mut E,
 ) -> Result<Flight, Status>
     ensures begun { IfOk result (λ flight. BeginsAsk asking.now (question_view question.now) flight
-        (timed station.old (C.told clock.old)) (timed station.new (C.told clock.new))) }
+        (timed bound_node.old (C.told clock.old)) (timed bound_node.new (C.told clock.new))) }
     ensures failed { IfErr result IsFailure }
 {
-    let patience = asking.patience(clock.now());
-    match station.begin_by(clock, question) {
-        Ok(ticket) => Ok(Flight::Open { ticket, patience }),
+    let wait_limit = asking.wait_limit(clock.now());
+    match bound_node.begin_by(clock, question) {
+        Ok(ticket) => Ok(Flight::Open { ticket, wait_limit }),
         Err(AskFault::ClockBack) => Err(clock_fault(err)),
         Err(fault) => Ok(Flight::Over(AskEnd::Refused(fault))),
     }
@@ -43,15 +42,15 @@ fn begin<L: Link, C: Clock, E: Write>(
 fn begin_more<'l, L: Link, C: Clock, E: Write>(
     asking: &Asking,
     window: u64,
-    station: &mut Station<L>,
+    bound_node: &mut BoundNode<L>,
     clock: &mut C,
     waiting: &'l [LineQuestion],
     flights: &mut Flights,
     err: &mut E,
 ) -> Result<&'l [LineQuestion], Status>
     ensures begun { IfOk result (λ rest. BeginsMore asking.now window
-        (map line_view waiting.now) (aloft (timed station.old (C.told clock.old)) flights.old.asks.items)
-        (map line_view rest.now) (aloft (timed station.new (C.told clock.new)) flights.new.asks.items)) }
+        (map line_view waiting.now) (aloft (timed bound_node.old (C.told clock.old)) flights.old.asks.items)
+        (map line_view rest.now) (aloft (timed bound_node.new (C.told clock.new)) flights.new.asks.items)) }
     ensures kept { IfOk result (λ rest. length flights.new.asks.items + length rest.now ≡ length flights.old.asks.items + length waiting.now) }
     ensures failed { IfErr result IsFailure }
 {
@@ -60,7 +59,7 @@ fn begin_more<'l, L: Link, C: Clock, E: Write>(
         let Some((line, others)) = rest.split_first() else {
             return Ok(rest);
         };
-        let flight = begin(asking, station, clock, &line.question, err)?;
+        let flight = begin(asking, bound_node, clock, &line.question, err)?;
         flights.add(flight, err)?;
         rest = others;
     }
@@ -69,44 +68,44 @@ fn begin_more<'l, L: Link, C: Clock, E: Write>(
 
 /// A node takes a turn, and how tickets ended in it is noted. False where there is no time left for it.
 fn go_on<L: Link, C: Clock, E: Write>(
-    station: &mut Station<L>,
+    bound_node: &mut BoundNode<L>,
     clock: &mut C,
-    patience: &Patience,
+    wait_limit: &WaitLimit,
     flights: &mut Flights,
     err: &mut E,
 ) -> Result<bool, Status>
-    ensures went { IfOk result (λ went. GoesOn patience.now went (aloft (timed station.old (C.told clock.old)) flights.old.asks.items)
-        (aloft (timed station.new (C.told clock.new)) flights.new.asks.items)) }
+    ensures went { IfOk result (λ went. GoesOn wait_limit.now went (aloft (timed bound_node.old (C.told clock.old)) flights.old.asks.items)
+        (aloft (timed bound_node.new (C.told clock.new)) flights.new.asks.items)) }
     ensures failed { IfErr result IsFailure }
 {
-    match station.turn_before(clock, patience) {
+    match bound_node.turn_before(clock, wait_limit) {
         Ok(Some(turn)) => {
             flights.note_turn(turn);
             Ok(true)
         }
         Ok(None) => Ok(false),
-        Err(fault) => Err(Trouble::from(fault).tell(err)),
+        Err(fault) => Err(CommandError::from(fault).tell(err)),
     }
 }
 
 /// A node takes turns until its first ask is over, and takes that off. Answers how it ended.
 fn end_first<L: Link, C: Clock, E: Write>(
-    station: &mut Station<L>,
+    bound_node: &mut BoundNode<L>,
     clock: &mut C,
     flights: &mut Flights,
     err: &mut E,
 ) -> Result<AskEnd, Status>
     requires { 0 < length flights.old.asks.items }
-    ensures ended { IfOk result (λ end. EndsFirst end (aloft (timed station.old (C.told clock.old)) flights.old.asks.items)
-        (aloft (timed station.new (C.told clock.new)) flights.new.asks.items)) }
+    ensures ended { IfOk result (λ end. EndsFirst end (aloft (timed bound_node.old (C.told clock.old)) flights.old.asks.items)
+        (aloft (timed bound_node.new (C.told clock.new)) flights.new.asks.items)) }
     ensures fewer { IfOk result (λ _. length flights.new.asks.items + 1 ≡ length flights.old.asks.items) }
     ensures failed { IfErr result IsFailure }
 {
     for _ in 0..TURNS {
-        let Some(patience) = flights.first_patience() else {
+        let Some(wait_limit) = flights.first_patience() else {
             return Ok(flights.take_first());
         };
-        let went = go_on(station, clock, &patience, flights, err)?;
+        let went = go_on(bound_node, clock, &wait_limit, flights, err)?;
         if !went {
             return Ok(flights.take_first());
         }
@@ -119,23 +118,31 @@ pub(crate) fn ask_ahead<L: Link, C: Clock, O: Write, E: Write>(
     alloc: Global,
     asking: &Asking,
     window: u64,
-    station: &mut Station<L>,
+    bound_node: &mut BoundNode<L>,
     clock: &mut C,
     lines: &[LineQuestion],
     out: &mut O,
     err: &mut E,
 ) -> Result<bool, Status>
     ensures asked { IfOk result (λ all. AsksAhead asking.now window (map line_view lines.now) all
-        (timed station.old (C.told clock.old)) (timed station.new (C.told clock.new)) (O.contents out.old) (O.contents out.new)) }
+        (timed bound_node.old (C.told clock.old)) (timed bound_node.new (C.told clock.new)) (O.contents out.old) (O.contents out.new)) }
     ensures failed { IfErr result IsFailure }
 {
     let mut all = true;
     let mut waiting = lines;
     let mut flights = Flights::new(alloc);
     for (place, line) in lines.iter().enumerate() {
-        waiting = begin_more(asking, window, station, clock, waiting, &mut flights, err)?;
-        let end = end_first(station, clock, &mut flights, err)?;
-        let succeeded = tell_line(alloc, asking.manner, line, &end, out, err)?;
+        waiting = begin_more(
+            asking,
+            window,
+            bound_node,
+            clock,
+            waiting,
+            &mut flights,
+            err,
+        )?;
+        let end = end_first(bound_node, clock, &mut flights, err)?;
+        let succeeded = tell_line(alloc, asking.output_format, line, &end, out, err)?;
         all = both(all, succeeded);
     }
     Ok(all)

@@ -5,3 +5,4 @@ pub mod HouseReplies
 pub mod OneReply
 pub mod PrintedAnswers
 pub mod Reported
+pub mod Logging

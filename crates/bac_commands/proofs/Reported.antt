@@ -3,8 +3,8 @@ use Rattle.std.proofs.Common.{◌≡◌, Bool, List, ℕ, Option, ◌&&◌, subs
 use Rattle.bac_npdu.specs.Peers.{PeerView}
 use Rattle.bac_protocol.specs.Service.{Octets}
 use Rattle.bac_service.specs.Values.{Request}
-use Rattle.bac_run.specs.Asking.{Question}
-use Rattle.bac_run.specs.Pairs.{Pair}
+use Rattle.bac_driver.specs.Asking.{Question}
+use Rattle.bac_driver.specs.Pairs.{Pair}
 use Rattle.bac_commands.specs.Pairs.{PairText, TwoTexts, append_request, read_request}
 use Rattle.bac_commands.specs.Questions.{peer_at, question_for}
 

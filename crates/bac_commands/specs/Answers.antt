@@ -6,7 +6,7 @@ use Rattle.bac_npdu.specs.Peers.{PeerView}
 use Rattle.bac_npdu.specs.Datagram.{Means}
 use Rattle.bac_service.specs.Values.{Request}
 use Rattle.bac_service.specs.Requests.{SpellsRequest}
-use Rattle.bac_ends.specs.Sends.{Datagram, Pairwise, IsSent, to_peer}
+use Rattle.bac_transaction.specs.Sends.{Datagram, Pairwise, IsSent, to_peer}
 use Rattle.bac_store.specs.House.{house}
 use Rattle.bac_store.specs.Replies.{reply_to}
 use Rattle.bac_store.specs.Stores.{Store}

@@ -7,8 +7,8 @@ use Rattle.bac_service.specs.Values.{Complex}
 use Rattle.bac_service.specs.Values.Complex.{FileRead, StreamWritten, RecordsWritten, PropertyRead}
 use Rattle.bac_service.specs.Replies as plain
 use Rattle.bac_text.specs.Texts.{line_end}
-use Rattle.bac_ends.specs.Meanings.{Ending}
-use Rattle.bac_ends.specs.Meanings.Ending.{Answered, Rejected, Aborted, TimedOut, Expired}
+use Rattle.bac_transaction.specs.Meanings.{Ending}
+use Rattle.bac_transaction.specs.Meanings.Ending.{Answered, Rejected, Aborted, TimedOut, Expired}
 
 -- ---- how an ask ended
 

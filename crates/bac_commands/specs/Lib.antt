@@ -8,7 +8,11 @@ pub mod Questions
 pub mod Others
 pub mod Reports
 pub mod Pairs
-pub mod Troubles
+pub mod CommandErrors
 pub mod Words
 pub mod FileOctets
 pub mod Told
+pub mod Frames
+pub mod LogWords
+pub mod Lines
+pub mod Logs

@@ -5,9 +5,9 @@ use Rattle.bac_service.specs.Values.{Request}
 use Rattle.bac_service.specs.Values.Request.{ReadProperty, WriteFile}
 use Rattle.bac_service.specs.Values.WriteAccess.{WriteStream}
 use Rattle.bac_text.specs.declared.status.Status.{Status}
-use Rattle.bac_run.specs.Asking.{Question}
-use Rattle.bac_run.specs.Pairs.{Pair, PairEnds}
-use Rattle.bac_run.specs.declared.question.AskEnd.{AskEnd}
+use Rattle.bac_driver.specs.Asking.{Question}
+use Rattle.bac_driver.specs.Pairs.{Pair, PairEnds}
+use Rattle.bac_driver.specs.declared.question.AskEnd.{AskEnd}
 use Rattle.bac_commands.specs.Questions.{peer_at, question_for}
 use Rattle.bac_commands.specs.Reports.{end_line, is_answered}
 use Rattle.bac_commands.specs.Statuses.{ByStatus}

@@ -6,9 +6,9 @@ use Rattle.bac_service.specs.Values.{Request}
 use Rattle.bac_script.specs.Requests.{request_of}
 use Rattle.bac_script.specs.declared.form_fault.FormFault.{FormFault}
 use Rattle.bac_script.specs.declared.form_fault.FormFault.TheVariants.{NoForm, NoMemory}
-use Rattle.bac_run.specs.Asking as plain
-use Rattle.bac_run.specs.Views.{question_view}
-use Rattle.bac_run.specs.declared.question.Question.{Question}
+use Rattle.bac_driver.specs.Asking as plain
+use Rattle.bac_driver.specs.Views.{question_view}
+use Rattle.bac_driver.specs.declared.question.Question.{Question}
 use Rattle.bac_commands.specs.Houses.{most_limits}
 
 -- the peer at an address, behind no router

@@ -3,18 +3,18 @@ use Rattle.std.specs.Prelude.{ℕ, Bool, true, false, List, ◌++◌, ◌&&◌, 
 use Rattle.std.specs.Io.KnownBytes.{Appends}
 use Rattle.bac_service.specs.Values.{Request}
 use Rattle.bac_service.specs.Replies.{Reply}
-use Rattle.bac_ends.specs.Meanings.{Ending}
-use Rattle.bac_ends.specs.Meanings.Ending.{Answered, Rejected, Aborted, TimedOut, Expired}
+use Rattle.bac_transaction.specs.Meanings.{Ending}
+use Rattle.bac_transaction.specs.Meanings.Ending.{Answered, Rejected, Aborted, TimedOut, Expired}
 use Rattle.bac_requester.specs.Faults.{ask_fault_number}
-use Rattle.bac_ticket.specs.Views.{ending_view}
+use Rattle.bac_requester.specs.TransactionViews.{ending_view}
 use Rattle.bac_text.specs.Texts.{line_end}
 use Rattle.bac_text.specs.declared.status.Status.{Status}
-use Rattle.bac_run.specs.Runs.{Timed}
-use Rattle.bac_run.specs.Seen.{Watcher, Watches}
-use Rattle.bac_run.specs.Serving.{Serves}
-use Rattle.bac_run.specs.declared.patience.Patience.{Patience}
-use Rattle.bac_run.specs.declared.question.AskEnd.{AskEnd}
-use Rattle.bac_run.specs.declared.question.AskEnd.TheVariants as end
+use Rattle.bac_driver.specs.Runs.{Timed}
+use Rattle.bac_driver.specs.Seen.{Watcher, Watches}
+use Rattle.bac_driver.specs.Serving.{Serves}
+use Rattle.bac_driver.specs.declared.wait_limit.WaitLimit.{WaitLimit}
+use Rattle.bac_driver.specs.declared.question.AskEnd.{AskEnd}
+use Rattle.bac_driver.specs.declared.question.AskEnd.TheVariants as end
 use Rattle.bac_commands.specs.Facts.{ending_line, refused_line}
 use Rattle.bac_commands.specs.Others.{names_other}
 use Rattle.bac_commands.specs.Statuses.{ByStatus}
@@ -25,20 +25,20 @@ abbrev pub served_line : (effects : ℕ) → List ℕ
 served_line effects = codes "served " ++ decimal effects ++ line_end
 
 -- a node took so many turns, or as many as it had time for, and how many requests it performed was printed
-pub record ServedText (p : Patience) (turns : ℕ) (before after : Timed) (old new : Option (List ℕ)) : Type 0 where
+pub record ServedText (p : WaitLimit) (turns : ℕ) (before after : Timed) (old new : Option (List ℕ)) : Type 0 where
   pub effects : ℕ
   pub serves : Serves p turns effects before after
   pub printed : Appends old new (served_line effects)
 
-abbrev pub ReportsServing : Status → Patience → (turns : ℕ) → (before after : Timed) → (old new : Option (List ℕ)) → Type 0
+abbrev pub ReportsServing : Status → WaitLimit → (turns : ℕ) → (before after : Timed) → (old new : Option (List ℕ)) → Type 0
 ReportsServing s p turns before after old new = ByStatus s (ServedText p turns before after old new) ⊥ ⊥
 
 -- the watcher saw each turn
-pub record WatchedServing {S : Type 0} (Sees : Watcher S) (p : Patience) (turns : ℕ) (before after : Timed) (from to : S) : Type 0 where
+pub record WatchedServing {S : Type 0} (Sees : Watcher S) (p : WaitLimit) (turns : ℕ) (before after : Timed) (from to : S) : Type 0 where
   pub effects : ℕ
   pub watches : Watches Sees p from to turns effects before after
 
-abbrev pub ServingIsWatched : {S : Type 0} → Status → Watcher S → Patience → (turns : ℕ) → (before after : Timed) → (from to : S) → Type 0
+abbrev pub ServingIsWatched : {S : Type 0} → Status → Watcher S → WaitLimit → (turns : ℕ) → (before after : Timed) → (from to : S) → Type 0
 ServingIsWatched s Sees p turns before after from to = ByStatus s (WatchedServing Sees p turns before after from to) ⊥ ⊥
 
 -- ---- asking

@@ -1,20 +1,20 @@
--- How the end of an ask is told, by the manner in which that is wanted.
+-- How the end of an ask is told, by the output_format in which that is wanted.
 use Rattle.std.specs.Prelude.{◌≡◌, ℕ, Bool, true, false, List, ◌++◌, Option}
 use Rattle.std.specs.Io.KnownBytes.{Appends}
 use Rattle.bac_service.specs.Values.{Request}
 use Rattle.bac_text.specs.Texts.{line_end}
 use Rattle.bac_text.specs.declared.status.Status.{Status}
-use Rattle.bac_run.specs.Asking.{AskingEnds, Question}
-use Rattle.bac_run.specs.Runs.{Timed}
-use Rattle.bac_run.specs.declared.patience.Patience.{Patience}
-use Rattle.bac_run.specs.declared.question.AskEnd.{AskEnd}
+use Rattle.bac_driver.specs.Asking.{AskingEnds, Question}
+use Rattle.bac_driver.specs.Runs.{Timed}
+use Rattle.bac_driver.specs.declared.wait_limit.WaitLimit.{WaitLimit}
+use Rattle.bac_driver.specs.declared.question.AskEnd.{AskEnd}
 use Rattle.bac_commands.specs.FileOctets.{AreWritten, octets_of}
 use Rattle.bac_commands.specs.Reports.{end_line, is_success, reply_of}
 use Rattle.bac_commands.specs.Statuses.{ByStatus}
 use Rattle.bac_commands.specs.Words.{AreEndWords}
-use Rattle.bac_commands.specs.declared.online.manner.Manner.{Manner}
-use Rattle.bac_commands.specs.declared.online.manner.Style.{Style}
-use Rattle.bac_commands.specs.declared.online.manner.Style.TheVariants as style
+use Rattle.bac_commands.specs.declared.online.output_format.OutputFormat.{OutputFormat}
+use Rattle.bac_commands.specs.declared.online.output_format.Style.{Style}
+use Rattle.bac_commands.specs.declared.online.output_format.Style.TheVariants as style
 
 -- by a line of numbers and octets
 pub record TellsNumbers (strict : Bool) (request : Request) (end : AskEnd) (succeeded : Bool) (old new : Option (List ℕ)) : Type 0 where
@@ -34,15 +34,15 @@ TellsAs style.Numbers strict request end succeeded old new = TellsNumbers strict
 TellsAs style.Words strict request end succeeded old new = TellsWords strict request end succeeded old new
 TellsAs style.Octets strict request end succeeded old new = AreWritten (octets_of (reply_of end)) succeeded old new
 
-abbrev pub TellsEnd : Manner → Request → AskEnd → (succeeded : Bool) → (old new : Option (List ℕ)) → Type 0
-TellsEnd manner request end succeeded old new = TellsAs manner.style manner.strict request end succeeded old new
+abbrev pub TellsEnd : OutputFormat → Request → AskEnd → (succeeded : Bool) → (old new : Option (List ℕ)) → Type 0
+TellsEnd output_format request end succeeded old new = TellsAs output_format.style output_format.strict request end succeeded old new
 
--- a node asked, for at most so many turns with that patience, and how that ended was told
-pub record Asked (manner : Manner) (succeeded : Bool) (q : Question) (p : Patience) (before after : Timed) (old new : Option (List ℕ)) : Type 0 where
+-- a node asked, for at most so many turns with that wait_limit, and how that ended was told
+pub record Asked (output_format : OutputFormat) (succeeded : Bool) (q : Question) (p : WaitLimit) (before after : Timed) (old new : Option (List ℕ)) : Type 0 where
   pub end : AskEnd
   pub ends : AskingEnds q end p 100000 before after
-  pub told : TellsEnd manner q.request end succeeded old new
+  pub told : TellsEnd output_format q.request end succeeded old new
 
-abbrev pub ReportsAsking : Status → Manner → Question → Patience → (before after : Timed) → (old new : Option (List ℕ)) → Type 0
-ReportsAsking s manner q p before after old new =
-    ByStatus s (Asked manner true q p before after old new) (Asked manner false q p before after old new) ⊥
+abbrev pub ReportsAsking : Status → OutputFormat → Question → WaitLimit → (before after : Timed) → (old new : Option (List ℕ)) → Type 0
+ReportsAsking s output_format q p before after old new =
+    ByStatus s (Asked output_format true q p before after old new) (Asked output_format false q p before after old new) ⊥

@@ -1,17 +1,17 @@
 -- How an ask ended, in words.
 use Rattle.std.specs.Prelude.{◌≡◌, ℕ, Bool, true, false, List, ◌++◌, codes, decimal, Option, None}
-use Rattle.bac_explain_text.specs.Words.{reference_text}
+use Rattle.bac_explain_report.specs.Words.{reference_text}
 use Rattle.bac_service.specs.Values.{Complex, Reference, Request}
 use Rattle.bac_service.specs.Values.Complex.{PropertyRead}
 use Rattle.bac_service.specs.Replies as plain
 use Rattle.bac_value_text.specs.DataTexts.{IsDataText}
 use Rattle.bac_value_text.specs.Reasons.{abort_text, error_text, reject_text}
-use Rattle.bac_ends.specs.Meanings.{Ending}
-use Rattle.bac_ends.specs.Meanings.Ending.{Answered, Rejected, Aborted, TimedOut, Expired}
+use Rattle.bac_transaction.specs.Meanings.{Ending}
+use Rattle.bac_transaction.specs.Meanings.Ending.{Answered, Rejected, Aborted, TimedOut, Expired}
 use Rattle.bac_requester.specs.Faults.{ask_fault_number}
-use Rattle.bac_ticket.specs.Views.{ending_view}
-use Rattle.bac_run.specs.declared.question.AskEnd.{AskEnd}
-use Rattle.bac_run.specs.declared.question.AskEnd.TheVariants as end
+use Rattle.bac_requester.specs.TransactionViews.{ending_view}
+use Rattle.bac_driver.specs.declared.question.AskEnd.{AskEnd}
+use Rattle.bac_driver.specs.declared.question.AskEnd.TheVariants as end
 use Rattle.bac_commands.specs.Facts.{complex_text}
 use Rattle.bac_commands.specs.Others.{is_asked, property_read}
 

@@ -9,10 +9,10 @@ ghost use Rattle.bac_commands.specs.Answers.{AreAnswers, AreAnswersOf, Asks, IsR
 mod printing;
 
 use crate::fresh_node::node_with;
-use bac_ends::Datagram;
 use bac_node::{Node, NodeFault, Outcome};
 use bac_npdu::LinkAddress;
 use bac_store::{Store, house};
+use bac_transaction::Datagram;
 use bac_value::NoMemory;
 pub use printing::answer_over;
 use std::alloc::Global;

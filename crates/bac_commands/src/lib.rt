@@ -1,12 +1,21 @@
 //! What the commands of `bac` do, over any readers, writers, links and clocks: `answer`, `serve`, `ask` and `pair`; and the lines by which they tell what came
 //! of it.
+//!
+//! The log of a server: a line for each datagram that came, with what was done, and for what else its turns gave.
 #![tactic(auto)]
 
 mod answering;
+mod came;
+mod cause;
+mod done;
 mod facts;
+mod frames;
 mod fresh_node;
+mod lines;
+mod log;
 mod online;
 mod others;
+mod serving;
 
 pub use answering::{CLIENT, answer_datagram, answer_over};
 pub use facts::{
@@ -14,6 +23,7 @@ pub use facts::{
     print_fault, print_nothing, print_performed, print_refused, print_sent, reply_words,
 };
 pub use online::{
-    Manner, Style, TURNS, Trouble, ask, asks_for_file, client_station, clock_fault, house_station,
-    link_fault, pair, read_question, serve, server_station, tell_end,
+    CommandError, OutputFormat, Style, TURNS, ask, asks_for_file, bound_client, bound_house,
+    bound_server, clock_fault, link_fault, pair, read_question, serve, tell_end,
 };
+pub use serving::{Logged, serve_logged};

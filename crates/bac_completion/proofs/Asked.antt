@@ -15,7 +15,7 @@ use Rattle.bac_protocol.specs.Service.{Octets}
 use Rattle.bac_protocol.specs.Wire.{is_from_client}
 use Rattle.bac_protocol.specs.Server.{Service}
 use Rattle.bac_protocol.specs.Client as client
-use Rattle.bac_protocol.specs.Client.{Ask, Ticket, Reaction}
+use Rattle.bac_protocol.specs.Client.{Ask, ClientTransaction, Reaction}
 use Rattle.bac_protocol.specs.Client.Phase.{AwaitConfirmation}
 use Rattle.bac_protocol.specs.Client.Reaction.{Stays, GoesOn, Repeats, Ends}
 use Rattle.bac_protocol.specs.Transaction.{Key, Rules, client_context}
@@ -27,7 +27,7 @@ use Rattle.bac_progress.specs.RoundTrip.{request_to}
 use Rattle.bac_progress.proofs.Paths.{ask_of, Bounded, Step, Path}
 use Rattle.bac_progress.proofs.Paths.Path.{Here, Then}
 use Rattle.bac_progress.proofs.Changes.{IsThere}
-use Rattle.bac_ends.specs.Sends.{Pairwise}
+use Rattle.bac_transaction.specs.Sends.{Pairwise}
 use Rattle.bac_world.specs.Node.{Node}
 use Rattle.bac_world.specs.World.{World, Copy, Event, WorldRun, IsAsked, RunsOn, peer_at}
 use Rattle.bac_world.proofs.Bridge.{IsCopyOf, IsBetween, key_of, framed_means}
@@ -37,7 +37,7 @@ use Rattle.bac_completion.specs.RoundTrip.{IsRequest}
 use Rattle.bac_completion.proofs.Staying.{reached_bounded}
 use Rattle.bac_completion.proofs.Following.{Parts, asked_free, asked_net, asked_over}
 
-pub after_ask : (now : ℕ) (t : Ticket) (r : Reaction) → (client.after now t r).ask ≡ t.ask
+pub after_ask : (now : ℕ) (t : ClientTransaction) (r : Reaction) → (client.after now t r).ask ≡ t.ask
 after_ask now t Stays = refl
 after_ask now t (GoesOn phase sends) = refl
 after_ask now t (Repeats phase sends) = refl

@@ -8,7 +8,7 @@ use Rattle.bac_protocol.specs.Context.{Context}
 use Rattle.bac_protocol.specs.Service as machine
 use Rattle.bac_protocol.specs.Service.{Octets}
 use Rattle.bac_protocol.specs.Client as client
-use Rattle.bac_protocol.specs.Client.{Ticket, Reaction, is_idle, is_expired, client_gets, client_ticks}
+use Rattle.bac_protocol.specs.Client.{ClientTransaction, Reaction, is_idle, is_expired, client_gets, client_ticks}
 use Rattle.bac_protocol.specs.Client.Reaction.{Stays, Ends}
 use Rattle.bac_protocol.specs.Transaction.{Key, Rules}
 use Rattle.bac_protocol.specs.World.{Net, net_start}
@@ -16,17 +16,17 @@ use Rattle.bac_protocol.specs.Claims as claims
 use Rattle.bac_protocol.proofs.SingleMoves.{reached_net}
 use Rattle.bac_progress.proofs.Endings.{not_from_client}
 use Rattle.bac_slots.specs.Slots.{value_at, in_order, IsApart, IsDistinct}
-use Rattle.bac_ends.specs.Keys.{PeerKey, peer_key_cmp, same_key}
-use Rattle.bac_ends.specs.Sends.{Pairwise}
-use Rattle.bac_ends.specs.Meanings as plain
-use Rattle.bac_ends.specs.Meanings.{Finish, IsFinish, MeansEnding}
-use Rattle.bac_ends.specs.Ends.{Client, Held, ClientSlot, Ended, context_of, from_each, client_tick_ends}
-use Rattle.bac_ends.specs.Ends.{client_hears_at, key_of, kept, ended_with}
-use Rattle.bac_ends.specs.Ends.Held.{Open, Closed}
+use Rattle.bac_transaction.specs.Keys.{PeerKey, peer_key_cmp, same_key}
+use Rattle.bac_transaction.specs.Sends.{Pairwise}
+use Rattle.bac_transaction.specs.Meanings as plain
+use Rattle.bac_transaction.specs.Meanings.{Finish, IsFinish, MeansEnding}
+use Rattle.bac_transaction.specs.Ends.{Client, TransactionSlot, ClientSlot, Ended, context_of, from_each, client_tick_ends}
+use Rattle.bac_transaction.specs.Ends.{client_hears_at, key_of, kept, ended_with}
+use Rattle.bac_transaction.specs.Ends.TransactionSlot.{Open, Closed}
 use Rattle.bac_world.specs.Node.{Node, Outcome, NodeTick, IsHeardBy, IsClientTurn}
 use Rattle.bac_world.specs.World.{World, WorldRun, Event, IsFresh, IsBounded, ask_of, peer_at, link_at}
-use Rattle.bac_ends.proofs.KeyedSlots.{EachSlot, changed_value, value_changed, with_same, slot, decide_slot_key, apart_none, found_first, passed_first}
-use Rattle.bac_ends.proofs.KeyedSlots.{distinct_in_order, each_in_order, found_in_order, each_at}
+use Rattle.bac_transaction.proofs.KeyedSlots.{EachSlot, changed_value, value_changed, with_same, slot, decide_slot_key, apart_none, found_first, passed_first}
+use Rattle.bac_transaction.proofs.KeyedSlots.{distinct_in_order, each_in_order, found_in_order, each_at}
 use Rattle.bac_world.proofs.Bridge.{IsKnown, TicketFits, slot_key}
 use Rattle.bac_world.proofs.Bridge.{key_of as node_key}
 use Rattle.bac_world.proofs.Pairs.{IsSplit, pairwise_split, pairwise_none}
@@ -100,7 +100,7 @@ others_end number k choice (Some how) (f ∷ []) ne h = go (nat_eq f.ticket numb
 
 -- A ticket that is too old.
 
-late_ticks : (c : Context) (t : Ticket) → is_idle t.phase ≡ false → DEADLINE < c.now - t.ask.first → client_ticks c t ≡ Ends [] machine.Ending.Expired
+late_ticks : (c : Context) (t : ClientTransaction) → is_idle t.phase ≡ false → DEADLINE < c.now - t.ask.first → client_ticks c t ≡ Ends [] machine.Ending.Expired
 late_ticks c t going late =
     ap (λ (b : Bool). if b then Stays else if is_expired c.now t.ask then Ends [] machine.Ending.Expired else client.open_ticks c t t.phase) going
     ∙ ap (λ (b : Bool). if b then Ends [] machine.Ending.Expired else client.open_ticks c t t.phase) expires
@@ -110,7 +110,7 @@ late_ticks c t going late =
 
 -- In a tick.
 
-module _ (now : ℕ) (old : Node) (apart : HasTicketsApart old) (key : PeerKey) (number : ℕ) (t : Ticket) (there : IsOpen old key number t)
+module _ (now : ℕ) (old : Node) (apart : HasTicketsApart old) (key : PeerKey) (number : ℕ) (t : ClientTransaction) (there : IsOpen old key number t)
     (late : DEADLINE < now - t.ask.first) where
   abbrev ends : ClientSlot → List Ended
   ends = client_tick_ends old.settings now
@@ -120,7 +120,7 @@ module _ (now : ℕ) (old : Node) (apart : HasTicketsApart old) (key : PeerKey) 
   Own q v = value_at same_key q old.clients.slots ≡ Some v
 
   -- another slot's ticket is another one
-  other_ends : (q : PeerKey) (begin k : ℕ) (y : Held) (fs : List Finish) → (q ≡ key → ⊥) → Own q (record { number = k; held = y })
+  other_ends : (q : PeerKey) (begin k : ℕ) (y : TransactionSlot) (fs : List Finish) → (q ≡ key → ⊥) → Own q (record { number = k; held = y })
       → Pairwise IsFinish (ends (slot Client q begin (record { number = k; held = y }))) fs → finishes_of number fs ≡ 0
   other_ends q begin k (Closed first) fs ne own h = ap (finishes_of number) (pairwise_none IsFinish fs h)
   other_ends q begin k (Open u) fs ne own h = others_end number k u.ask.choice (client.ending_of (client_ticks (context_of old.settings now q) u)) fs
@@ -189,7 +189,7 @@ each_own (s ∷ slots) d = (found_first Client s.key s.begin s.value slots, rest
       rest os away.1 own.1,
     )
 
-tick_closed : (now : ℕ) (old new : Node) (o : Outcome) → NodeTick now old new o → (key : PeerKey) (number : ℕ) (t : Ticket) → IsOpen old key number t
+tick_closed : (now : ℕ) (old new : Node) (o : Outcome) → NodeTick now old new o → (key : PeerKey) (number : ℕ) (t : ClientTransaction) → IsOpen old key number t
     → is_idle t.phase ≡ false → DEADLINE < now - t.ask.first
     → value_at same_key key new.clients.slots ≡ Some (record { number = number; held = Closed t.ask.first })
 tick_closed now old new o tick key number t there going late =
@@ -239,7 +239,7 @@ answer_ends now peer a old new o gets from apart number t there late = record { 
 
 module _ (links : ℕ → Option Octets) (apart : (i j : ℕ) (l : Octets) → links i ≡ Some l → links j ≡ Some l → i ≡ j) (W : ℕ) (x : Rules)
     (bound : claims.IsBounded W x) (w : World) (n : Net) (over : Over links apart W x w n) (i : ℕ) (a : Node) (at : slice_get w.nodes i ≡ Some a) where
-  pub record IsTicketOf (p : PeerKey) (number : ℕ) (t : Ticket) : Type 0 where
+  pub record IsTicketOf (p : PeerKey) (number : ℕ) (t : ClientTransaction) : Type 0 where
     pub server : ℕ
     pub link : Octets
     pub linked : links server ≡ Some link
@@ -248,7 +248,7 @@ module _ (links : ℕ → Option Octets) (apart : (i j : ℕ) (l : Octets) → l
     pub number_is : ask_of i number w.notes ≡ Some (n.numbers (node_key i server p.invoke_id))
     pub going : is_idle t.phase ≡ false
 
-  ticket_of : (p : PeerKey) (number : ℕ) (t : Ticket) → IsOpen a p number t → IsTicketOf p number t
+  ticket_of : (p : PeerKey) (number : ℕ) (t : ClientTransaction) → IsOpen a p number t → IsTicketOf p number t
   ticket_of p number t there =
       let fits = (over.nodes i a at).clients in
       let known = (each_at Client (λ q v. IsKnown links apart q × (v.number < a.clients.asked)) p (record { number = number; held = Open t }) a.clients.slots
@@ -262,7 +262,7 @@ module _ (links : ℕ → Option Octets) (apart : (i j : ℕ) (l : Octets) → l
       let is = ticket_at (n.asks_from i) n.now w.notes i (n.numbers (node_key i known.node p.invoke_id)) number t
       (n.tickets (node_key i known.node p.invoke_id)) found in
       let held : TicketFits (n.asks_from i) n.now w.notes i (n.numbers (node_key i known.node p.invoke_id)) (Some (record { number = number; held = Open t })) (Some t) =
-      subst (λ (v : Option Ticket). TicketFits (n.asks_from i) n.now w.notes i (n.numbers (node_key i known.node p.invoke_id))
+      subst (λ (v : Option ClientTransaction). TicketFits (n.asks_from i) n.now w.notes i (n.numbers (node_key i known.node p.invoke_id))
       (Some (record { number = number; held = Open t })) v) is.0 found in
       record {
         server = known.node;

@@ -12,7 +12,7 @@ use Rattle.bac_protocol.specs.Service.{Octets, Readable}
 use Rattle.bac_protocol.specs.Wire.{is_from_client, is_from_server}
 use Rattle.bac_protocol.specs.Service.{Ending}
 use Rattle.bac_protocol.specs.Client as client
-use Rattle.bac_protocol.specs.Client.{Ask, Ticket, Reaction, is_idle, is_expired}
+use Rattle.bac_protocol.specs.Client.{Ask, ClientTransaction, Reaction, is_idle, is_expired}
 use Rattle.bac_protocol.specs.Client.Reaction.{Stays, GoesOn, Repeats, Ends}
 use Rattle.bac_protocol.specs.Log as octets
 use Rattle.bac_protocol.specs.Transaction.{Key, Rules, client_context, ended}
@@ -30,16 +30,16 @@ use Rattle.bac_progress.proofs.Paths.{Any, Path, bounded_start, path_then, path_
 use Rattle.bac_progress.proofs.Changes.{IdleIsLogged, HasEnded, IsThere, ended_grows, logged_path}
 use Rattle.bac_progress.proofs.Endings.{Tracked, tracked_path, ended_once}
 use Rattle.bac_slots.specs.Slots.{value_at}
-use Rattle.bac_ends.specs.Keys.{PeerKey, same_key}
-use Rattle.bac_ends.specs.Sends.{Pairwise}
-use Rattle.bac_ends.specs.Ends.{Client, Held, context_of, kept, open_unless, held_ticked}
-use Rattle.bac_ends.specs.Ends.Held.{Open, Closed}
+use Rattle.bac_transaction.specs.Keys.{PeerKey, same_key}
+use Rattle.bac_transaction.specs.Sends.{Pairwise}
+use Rattle.bac_transaction.specs.Ends.{Client, TransactionSlot, context_of, kept, open_unless, held_ticked}
+use Rattle.bac_transaction.specs.Ends.TransactionSlot.{Open, Closed}
 use Rattle.bac_world.specs.Node.{Node, Outcome, NodeTick}
 use Rattle.bac_world.specs.Once.{Fact}
 use Rattle.bac_world.specs.Once.Fact.{Asked, Performed, Ended, Changed, Restarted}
 use Rattle.bac_world.specs.World.{World, Copy, Event, WorldStep, WorldRun, IsFresh, IsBounded, IsAsked, Ticks, RunsOn, link_at, peer_at}
 use Rattle.bac_world.specs.World.Event.{Deliver, Tick}
-use Rattle.bac_ends.proofs.KeyedSlots.{changed, changed_value, value_changed}
+use Rattle.bac_transaction.proofs.KeyedSlots.{changed, changed_value, value_changed}
 use Rattle.bac_world.proofs.Machines.{orderly}
 use Rattle.bac_world.proofs.Logs.{FactMeans}
 use Rattle.bac_world.proofs.Bridge.{IsCopyOf, IsBetween, TicketFits, key_of, slot_key}
@@ -110,24 +110,24 @@ some_ended n (f ∷ log) = go f (some_ended n log)
 -- A tick leaves no old ticket open.
 
 -- what stays open went on
-pub opened : (t u : Ticket) → kept t ≡ Open u → (t ≡ u) × (is_idle t.phase ≡ false)
+pub opened : (t u : ClientTransaction) → kept t ≡ Open u → (t ≡ u) × (is_idle t.phase ≡ false)
 opened t u e = go (is_idle t.phase) refl e
   where
     go : (b : Bool) → is_idle t.phase ≡ b → open_unless b t ≡ Open u → (t ≡ u) × (is_idle t.phase ≡ false)
     go true is e = absurd cc
     go false is e = let same : t ≡ u = cc in (same, is)
 
-ticked_in_time : (c : Context) (t u : Ticket) → kept (client.after c.now t (client.client_ticks c t)) ≡ Open u → c.now - u.ask.first ≤ DEADLINE
+ticked_in_time : (c : Context) (t u : ClientTransaction) → kept (client.after c.now t (client.client_ticks c t)) ≡ Open u → c.now - u.ask.first ≤ DEADLINE
 ticked_in_time c t u e = go (is_idle t.phase) refl (is_expired c.now t.ask) refl
   where
-    made : Ticket
+    made : ClientTransaction
     made = client.after c.now t (client.client_ticks c t)
 
     same : made ≡ u
     same = (opened made u e).0
 
     first : t.ask.first ≡ u.ask.first
-    first = ap (λ (a : Ask). a.first) (sym (after_ask c.now t (client.client_ticks c t))) ∙ ap (λ (y : Ticket). y.ask.first) same
+    first = ap (λ (a : Ask). a.first) (sym (after_ask c.now t (client.client_ticks c t))) ∙ ap (λ (y : ClientTransaction). y.ask.first) same
 
     by : Bool → Bool → Reaction
     by b d = if b then Stays else if d then Ends [] Ending.Expired else client.open_ticks c t t.phase
@@ -142,11 +142,11 @@ ticked_in_time c t u e = go (is_idle t.phase) refl (is_expired c.now t.ask) refl
     go false is false ex = let f = first in grind (arith, nat_tests)
 
 -- a slot that is open after a tick was open before it
-held_in_time : (c : Context) (number : ℕ) (y : Held) (u : Ticket) → (held_ticked c number y).held ≡ Open u → c.now - u.ask.first ≤ DEADLINE
+held_in_time : (c : Context) (number : ℕ) (y : TransactionSlot) (u : ClientTransaction) → (held_ticked c number y).held ≡ Open u → c.now - u.ask.first ≤ DEADLINE
 held_in_time c number (Closed first) u e = absurd cc
 held_in_time c number (Open t) u e = ticked_in_time c t u e
 
-pub tick_leaves : (now : ℕ) (old new : Node) (o : Outcome) → NodeTick now old new o → (key : PeerKey) (number : ℕ) (u : Ticket)
+pub tick_leaves : (now : ℕ) (old new : Node) (o : Outcome) → NodeTick now old new o → (key : PeerKey) (number : ℕ) (u : ClientTransaction)
     → IsOpen new key number u → now - u.ask.first ≤ DEADLINE
 tick_leaves now old new o tick key number u is = go (value_at same_key key old.clients.slots) (sym looked ∙ opened')
   where
@@ -166,7 +166,7 @@ tick_leaves now old new o tick key number u is = go (value_at same_key key old.c
 
 -- An APDU of a server ends an old ticket.
 
-pub late_gets : (readable : Readable) (c : Context) (t : Ticket) (a : Apdu) → is_from_server a ≡ true → is_idle t.phase ≡ false → DEADLINE < c.now - t.ask.first
+pub late_gets : (readable : Readable) (c : Context) (t : ClientTransaction) (a : Apdu) → is_from_server a ≡ true → is_idle t.phase ≡ false → DEADLINE < c.now - t.ask.first
     → client.client_gets c readable t a ≡ Ends [] Ending.Expired
 late_gets readable c t a from going late =
     ap (λ (b : Bool). if b || not (is_from_server a) then Stays else if is_expired c.now t.ask then Ends [] Ending.Expired
@@ -225,10 +225,10 @@ module _ (links : ℕ → Option Octets) (apart : (i j : ℕ) (l : Octets) → l
 
   -- an ask that is still open was made no longer than DEADLINE before
   open_in_time : (w w' : World) (n : Net) → Over links apart W x w' n → (client : ℕ) (did : Ticks w client w') → n.now ≡ w.now
-      → (key : Key) → key.client ≡ client → (t : Ticket) → n.tickets key ≡ Some t → is_idle t.phase ≡ false
+      → (key : Key) → key.client ≡ client → (t : ClientTransaction) → n.tickets key ≡ Some t → is_idle t.phase ≡ false
       → (l : Octets) → links key.server ≡ Some l → w.now - t.ask.first ≤ DEADLINE
   open_in_time w w' n h client did now key is t at going l link = go (value_at same_key (slot_key l key.invoke_id) did.after.clients.slots) refl
-      (subst (λ (o : Option Ticket). TicketFits (n.asks_from client) n.now w'.notes client (n.numbers own)
+      (subst (λ (o : Option ClientTransaction). TicketFits (n.asks_from client) n.now w'.notes client (n.numbers own)
       (value_at same_key (slot_key l key.invoke_id) did.after.clients.slots) o) own_at fit)
     where
       own : Key
@@ -250,7 +250,7 @@ module _ (links : ℕ → Option Octets) (apart : (i j : ℕ) (l : Octets) → l
           → TicketFits (n.asks_from client) n.now w'.notes client (n.numbers own) o (Some t) → w.now - t.ask.first ≤ DEADLINE
       go None look f = absurd (let z = sym going ∙ f.over in cc)
       go (Some v) look f = tick_leaves w.now did.before did.after did.outcome did.tick (slot_key l key.invoke_id) v.number t
-          (look ∙ ap (λ (y : Held). Some (record { number = v.number; held = y })) (f.held ∙ still))
+          (look ∙ ap (λ (y : TransactionSlot). Some (record { number = v.number; held = y })) (f.held ∙ still))
 
   -- The next ask.
 
@@ -383,7 +383,7 @@ module _ (links : ℕ → Option Octets) (apart : (i j : ℕ) (l : Octets) → l
       turn = client.client_gets (client_context x z.other.key m.now) x.readable t.ticket z.other.copy.apdu
 
       told : Over links apart W x answered (client_acts m z.other.key t.ticket turn)
-      told = subst (λ (o : Option Ticket). Over links apart W x answered (taken_by_client x m z.other o)) at
+      told = subst (λ (o : Option ClientTransaction). Over links apart W x answered (taken_by_client x m z.other o)) at
           (told_over links apart W x bound readable w answered m over number z.other d heard down)
 
       expires : turn ≡ Ends [] Ending.Expired

@@ -12,7 +12,7 @@ use Rattle.bac_protocol.specs.declared.times.TheConstants.{LIFE}
 use Rattle.bac_protocol.specs.Context.{Settings}
 use Rattle.bac_protocol.specs.Service.{Octets}
 use Rattle.bac_protocol.specs.Wire.{is_from_client}
-use Rattle.bac_protocol.specs.Client.{Ticket}
+use Rattle.bac_protocol.specs.Client.{ClientTransaction}
 use Rattle.bac_protocol.specs.Server as server
 use Rattle.bac_protocol.specs.Server.{Service, server_ticks}
 use Rattle.bac_protocol.specs.Transaction.{Key, Rules, server_context}
@@ -21,9 +21,9 @@ use Rattle.bac_protocol.specs.World as machine
 use Rattle.bac_protocol.specs.Moves.{taken_by_client, taken_by_server, ticket_ticked}
 use Rattle.bac_protocol.specs.Claims as claims
 use Rattle.bac_slots.specs.Slots.{value_at}
-use Rattle.bac_ends.specs.Keys.{same_key}
-use Rattle.bac_ends.specs.Ends.{AskOutcome, act_at, is_free, client_asks}
-use Rattle.bac_entry.specs.Services.{service_of}
+use Rattle.bac_transaction.specs.Keys.{same_key}
+use Rattle.bac_transaction.specs.Ends.{AskOutcome, act_at, is_free, client_asks}
+use Rattle.bac_responder.specs.Services.{service_of}
 use Rattle.bac_progress.proofs.Paths.{ask_of, Comes, Step, Path, path_then}
 use Rattle.bac_progress.proofs.Paths.Path.{Here, Then}
 use Rattle.bac_world.specs.Services.{ArePerformed}
@@ -238,7 +238,7 @@ module _ (links : ℕ → Option Octets) (apart : (i j : ℕ) (l : Octets) → l
       path = Here;
     }
 
-    told_path : (n : Net) (number : ℕ) (p : Post) → Comes x n number p → is_from_client p.copy.apdu ≡ false → (t : Option Ticket) → n.tickets p.key ≡ t
+    told_path : (n : Net) (number : ℕ) (p : Post) → Comes x n number p → is_from_client p.copy.apdu ≡ false → (t : Option ClientTransaction) → n.tickets p.key ≡ t
         → Path x Q n (taken_by_client x n p t)
     told_path n number p comes_now down None there = Here
     told_path n number p comes_now down (Some t) there =

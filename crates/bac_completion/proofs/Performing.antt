@@ -12,16 +12,16 @@ use Rattle.bac_protocol.specs.Service.{Octets}
 use Rattle.bac_protocol.specs.Service.Outcome.{Replies}
 use Rattle.bac_protocol.specs.Client.{Ask}
 use Rattle.bac_protocol.specs.Server as server
-use Rattle.bac_protocol.specs.Server.{Entry, is_live, live_entry, is_none_live, server_gets}
+use Rattle.bac_protocol.specs.Server.{ServerTransaction, is_live, live_entry, is_none_live, server_gets}
 use Rattle.bac_protocol.specs.Transaction.{Key, Rules, client_context, server_context}
 use Rattle.bac_protocol.specs.World.{Net, Post}
 use Rattle.bac_protocol.specs.Claims as claims
 use Rattle.bac_progress.specs.RoundTrip.{request_to, answer_to}
 use Rattle.bac_progress.proofs.Serving.{answer_any_time, performed_entry, answers_first, serves_new}
 use Rattle.bac_slots.specs.Slots.{value_at}
-use Rattle.bac_ends.specs.Keys.{same_key}
-use Rattle.bac_ends.specs.Ends.{is_free}
-use Rattle.bac_entry.specs.Services.{service_of, outcome_by}
+use Rattle.bac_transaction.specs.Keys.{same_key}
+use Rattle.bac_transaction.specs.Ends.{is_free}
+use Rattle.bac_responder.specs.Services.{service_of, outcome_by}
 use Rattle.bac_world.specs.Node.{Node}
 use Rattle.bac_world.specs.World.{World, IsAsked}
 use Rattle.bac_world.proofs.Bridge.{NodeFits, slot_key}
@@ -30,7 +30,7 @@ use Rattle.bac_completion.specs.RoundTrip.{CanPerform}
 use Rattle.bac_completion.proofs.Following.{Parts}
 use Rattle.bac_completion.proofs.Asked.{key, ask, client_link}
 
-none_is : (now : ℕ) (o : Option Entry) → live_entry now o ≡ None → is_none_live now o ≡ true
+none_is : (now : ℕ) (o : Option ServerTransaction) → live_entry now o ≡ None → is_none_live now o ≡ true
 none_is now None h = refl
 none_is now (Some e) h = go (is_live now e) h
   where
@@ -38,7 +38,7 @@ none_is now (Some e) h = go (is_live now e) h
     go true h = absurd cc
     go false h = refl
 
-pub is_none : (now : ℕ) (o : Option Entry) → is_none_live now o ≡ true → live_entry now o ≡ None
+pub is_none : (now : ℕ) (o : Option ServerTransaction) → is_none_live now o ≡ true → live_entry now o ≡ None
 is_none now None h = refl
 is_none now (Some e) h = go (is_live now e) h
   where

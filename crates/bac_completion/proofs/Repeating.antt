@@ -15,7 +15,7 @@ use Rattle.bac_protocol.specs.Service.{Octets, Reply}
 use Rattle.bac_protocol.specs.Service.Outcome.{Replies}
 use Rattle.bac_protocol.specs.Wire.{is_from_client}
 use Rattle.bac_protocol.specs.Client as client
-use Rattle.bac_protocol.specs.Client.{Ask, Ticket, is_idle, ending_of, request_of}
+use Rattle.bac_protocol.specs.Client.{Ask, ClientTransaction, is_idle, ending_of, request_of}
 use Rattle.bac_protocol.specs.Client.Phase.{AwaitConfirmation}
 use Rattle.bac_protocol.specs.Server as server
 use Rattle.bac_protocol.specs.Server.{Effect, Service, is_none_live, live_entry, server_gets}
@@ -35,10 +35,10 @@ use Rattle.bac_progress.proofs.Waits.{Waits, Finds, PatientOrOver, WasGiven, wai
 use Rattle.bac_progress.proofs.Waits.{brings_answer}
 use Rattle.bac_progress.proofs.Robust.{asked_on}
 use Rattle.bac_slots.specs.Slots.{value_at}
-use Rattle.bac_ends.specs.Keys.{PeerKey, same_key}
-use Rattle.bac_ends.specs.Sends.{Pairwise}
-use Rattle.bac_ends.specs.Ends.{Client, Held, act_at, is_free, open_unless}
-use Rattle.bac_entry.specs.Services.{service_of}
+use Rattle.bac_transaction.specs.Keys.{PeerKey, same_key}
+use Rattle.bac_transaction.specs.Sends.{Pairwise}
+use Rattle.bac_transaction.specs.Ends.{Client, TransactionSlot, act_at, is_free, open_unless}
+use Rattle.bac_responder.specs.Services.{service_of}
 use Rattle.bac_world.specs.Services.{Performed, ArePerformed}
 use Rattle.bac_world.specs.Node.{Node}
 use Rattle.bac_world.specs.Once.{Stores, IsOnce}
@@ -162,11 +162,11 @@ module _ (links : ℕ → Option Octets) (apart : (i j : ℕ) (l : Octets) → l
   followed events w run each = run_followed links apart W x bound readable Goes Finding gives events asked w first
       (made_over links apart W x bound readable old n h c s limits r asked a p) run each
 
-  patience : (w : World) (m : Net) → Over links apart W x w m → w.now < old.now + PATIENCE → m.now < its_ask.first + PATIENCE
-  patience w m over young = let one = over.now in let two = h.now in omega arith
+  wait_limit : (w : World) (m : Net) → Over links apart W x w m → w.now < old.now + PATIENCE → m.now < its_ask.first + PATIENCE
+  wait_limit w m over young = let one = over.now in let two = h.now in omega arith
 
   on_of : (w : World) (f : Followed links apart W x bound readable Goes w first) → w.now < old.now + PATIENCE → On f.net
-  on_of w f young = waits_path x its_key its_ask n.asks whole first f.net f.path first_on (patience w f.net f.over young)
+  on_of w f young = waits_path x its_key its_ask n.asks whole first f.net f.path first_on (wait_limit w f.net f.over young)
 
   spelled : SpellsRequest (request_of its_ask).choice r (request_of its_ask).service
   spelled = subst (λ (z : Octets). SpellsRequest (choice_of r) r z) (sym p.joined) a.asks.spelled
@@ -178,10 +178,10 @@ module _ (links : ℕ → Option Octets) (apart : (i j : ℕ) (l : Octets) → l
       (answered_values opening (stores_of w.nodes) n.asks (request_of its_ask) k.0 log w.log means right k.1 r spelled k.2)
 
   -- the ticket at its client
-  waiting : (w : World) (m : Net) → Over links apart W x w m → m.now < its_ask.first + PATIENCE → (o : On m) → (t : Ticket) → m.tickets its_key ≡ Some t
+  waiting : (w : World) (m : Net) → Over links apart W x w m → m.now < its_ask.first + PATIENCE → (o : On m) → (t : ClientTransaction) → m.tickets its_key ≡ Some t
       → t.phase ≡ AwaitConfirmation → (T_OUT ≤ m.now - t.since → 0 < t.repeats) → IsWaiting w c a.link a.accepted.invoke_id
   waiting w m over young o t at waits left = go (value_at same_key (slot_key a.link p.id) node.0.clients.slots) refl
-      (subst (λ (z : Option Ticket). TicketFits (m.asks_from c) m.now w.notes c (m.numbers its_key) (value_at same_key (slot_key a.link p.id) node.0.clients.slots) z) at
+      (subst (λ (z : Option ClientTransaction). TicketFits (m.asks_from c) m.now w.notes c (m.numbers its_key) (value_at same_key (slot_key a.link p.id) node.0.clients.slots) z) at
       ((over.nodes c node.0 node.1).clients.found s a.link p.id (server_link links apart W x bound readable old n h c s limits r asked a p)))
     where
       node : (b : Node) × (slice_get w.nodes c ≡ Some b)
@@ -201,7 +201,7 @@ module _ (links : ℕ → Option Octets) (apart : (i j : ℕ) (l : Octets) → l
         ticket = t;
         there = ap (λ (k : ℕ). value_at same_key (slot_key a.link k) node.0.clients.slots)
             (id_is links apart W x bound readable old n h c s limits r asked a p) ∙ look
-            ∙ ap (λ (z : Held). Some (record { number = v.number; held = z })) (f.held ∙ ap (λ (b : Bool). open_unless b t) going);
+            ∙ ap (λ (z : TransactionSlot). Some (record { number = v.number; held = z })) (f.held ∙ ap (λ (b : Bool). open_unless b t) going);
         waits = waits;
         left = λ due. let some = left (subst (λ (k : ℕ). T_OUT ≤ k - t.since) (sym over.now) due) in omega arith;
       }
@@ -218,8 +218,8 @@ module _ (links : ℕ → Option Octets) (apart : (i j : ℕ) (l : Octets) → l
 
       go : PatientOrOver x its_key its_ask n.asks (f.net.asks_from its_key.client) f.net.now o.ticket.ticket f.net.log
           → IsWaiting w c a.link a.accepted.invoke_id ⊎ IsAnswered (length old.notes) r w.log
-      go (inl k) = inl (waiting w f.net f.over (patience w f.net f.over young) o o.ticket.ticket o.ticket.at k.waits
-          (λ due. repeat_left x its_key its_ask n.asks f.net.now o.ticket.ticket k (patience w f.net f.over young) due))
+      go (inl k) = inl (waiting w f.net f.over (wait_limit w f.net f.over young) o o.ticket.ticket o.ticket.at k.waits
+          (λ due. repeat_left x its_key its_ask n.asks f.net.now o.ticket.ticket k (wait_limit w f.net f.over young) due))
       go (inr (idle, inl answered)) = inr (answered_as w f.net f.net.log f.over.log (once events w run) answered)
       go (inr (idle, inr lost)) =
           let made_since = stays links apart W x bound readable old n h c s limits r asked a p events w run life f.net f.over in absurd (omega arith)
@@ -303,14 +303,14 @@ module _ (links : ℕ → Option Octets) (apart : (i j : ℕ) (l : Octets) → l
     fine = fine_down x its_key its_ask n.asks m.log z.other.copy.apdu down (fine_comes x its_key its_ask n.asks m on number z.other
         (comes links apart W x bound readable w answered m over number z.other d heard) key_is)
 
-    abbrev hears : Ticket → Apdu → client.Reaction
+    abbrev hears : ClientTransaction → Apdu → client.Reaction
     hears t y = client.client_gets (client_context x its_key m.now) x.readable t y
 
     last_over : Over links apart W x answered (client_acts m its_key on.ticket.ticket (hears on.ticket.ticket (answer_to x its_key its_ask fine.0)))
     last_over = subst (λ (y : Apdu). Over links apart W x answered (client_acts m its_key on.ticket.ticket (hears on.ticket.ticket y))) fine.1
         (subst (λ (k : Key). Over links apart W x answered (client_acts m k on.ticket.ticket
         (client.client_gets (client_context x k m.now) x.readable on.ticket.ticket z.other.copy.apdu))) key_is
-        (subst (λ (o : Option Ticket). Over links apart W x answered (taken_by_client x m z.other o)) (ap m.tickets key_is ∙ on.ticket.at)
+        (subst (λ (o : Option ClientTransaction). Over links apart W x answered (taken_by_client x m z.other o)) (ap m.tickets key_is ∙ on.ticket.at)
         (told_over links apart W x bound readable w answered m over number z.other d heard down)))
 
     abbrev log_after : ℕ → List octets.Fact
@@ -328,10 +328,10 @@ module _ (links : ℕ → Option Octets) (apart : (i j : ℕ) (l : Octets) → l
     waits = λ events w run each life young. waits events w run each life young;
     brings = λ events w run each young number d may q f served did.
         let g = followed events w run each in
-        brings_one w served g.net g.over (on_of w g young) (patience w g.net g.over young) number d may q f did;
+        brings_one w served g.net g.over (on_of w g young) (wait_limit w g.net g.over young) number d may q f did;
     answers = λ events w run each life young number d may from answered did.
         let g = followed events w run each in
-        is_answered events w answered run life g.net g.over (on_of w g young) (patience w g.net g.over young) number d may from did;
+        is_answered events w answered run life g.net g.over (on_of w g young) (wait_limit w g.net g.over young) number d may from did;
   }
 
 pub repeats_suffice : (W overtake : ℕ) (opening reached : World) → IsFresh opening → IsBounded W overtake opening

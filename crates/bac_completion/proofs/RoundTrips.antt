@@ -13,10 +13,10 @@ use Rattle.bac_protocol.specs.Service.{Octets}
 use Rattle.bac_protocol.specs.Service.Ending.{Answered}
 use Rattle.bac_protocol.specs.Wire.{is_from_client}
 use Rattle.bac_protocol.specs.Client as client
-use Rattle.bac_protocol.specs.Client.{Ask, Ticket, is_idle, request_of}
+use Rattle.bac_protocol.specs.Client.{Ask, ClientTransaction, is_idle, request_of}
 use Rattle.bac_protocol.specs.Client.Reaction.{Ends}
 use Rattle.bac_protocol.specs.Server as server
-use Rattle.bac_protocol.specs.Server.{Entry, is_live, live_entry, is_none_live, server_gets}
+use Rattle.bac_protocol.specs.Server.{ServerTransaction, is_live, live_entry, is_none_live, server_gets}
 use Rattle.bac_protocol.specs.Log as octets
 use Rattle.bac_protocol.specs.Transaction.{Key, Rules, client_context, server_context}
 use Rattle.bac_protocol.specs.World.{Net, Post, post_of, client_acts, server_acts, net_start}
@@ -35,7 +35,7 @@ use Rattle.bac_progress.proofs.Kept.{IsKept}
 use Rattle.bac_progress.proofs.Awaiting.{IsAwaited, awaited_path}
 use Rattle.bac_progress.proofs.RoundTrips.{TakesAnswer, takes_ends, awaited_at, takes_awaited, answer_whole}
 use Rattle.bac_progress.proofs.Robust.{at_end}
-use Rattle.bac_ends.specs.Sends.{Pairwise}
+use Rattle.bac_transaction.specs.Sends.{Pairwise}
 use Rattle.bac_world.specs.Node.{Node}
 use Rattle.bac_world.specs.Once.{Stores, IsOnce}
 use Rattle.bac_world.specs.World.{World, Event, Copy, WorldStep, WorldRun, IsFresh, IsBounded, IsAsked, RunsOn, link_at, stores_of, peer_at}
@@ -226,7 +226,7 @@ module _ (links : ℕ → Option Octets) (apart : (i j : ℕ) (l : Octets) → l
       going = still (unended_open v f.net f.over life unended logged_then kept_then.there)
         where
           still : IsOpenIn f.net → is_idle kept_then.there.ticket.phase ≡ false
-          still o = subst (λ (z : Ticket). is_idle z.phase ≡ false)
+          still o = subst (λ (z : ClientTransaction). is_idle z.phase ≡ false)
               (some_is o.0.ticket kept_then.there.ticket (sym o.0.at ∙ kept_then.there.at)) o.1
 
       performed_then : octets.Has (octets.Fact.Performed n.asks (request_of its_ask) can.reply) f.net.log
@@ -255,7 +255,7 @@ module _ (links : ℕ → Option Octets) (apart : (i j : ℕ) (l : Octets) → l
 
       last_over : Over links apart W x answered (client_acts f.net its_key kept_then.there.ticket (Ends [] (Answered can.reply)))
       last_over = subst (λ z. Over links apart W x answered (client_acts f.net its_key kept_then.there.ticket z)) ends
-          (subst (λ (o : Option Ticket). Over links apart W x answered (taken_by_client x f.net (post_of its_key m.now answer) o)) kept_then.there.at
+          (subst (λ (o : Option ClientTransaction). Over links apart W x answered (taken_by_client x f.net (post_of its_key m.now answer) o)) kept_then.there.at
           (subst (λ (z : Post). Over links apart W x answered (taken_by_client x f.net z (f.net.tickets z.key))) post_is
           (told_over links apart W x bound readable v answered f.net f.over (length w.copies) reply_post.other one.0 reply_taken down)))
 

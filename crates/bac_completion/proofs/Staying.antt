@@ -3,7 +3,7 @@ use Rattle.std.proofs.Common.{ℕ, ◌+◌, ◌≤◌, Bool, true, false, List, 
 use Rattle.bac_protocol.specs.declared.times.TheConstants.{KEEP, REST}
 use Rattle.bac_protocol.specs.Service.{Octets}
 use Rattle.bac_protocol.specs.Wire.{is_from_client}
-use Rattle.bac_protocol.specs.Client.{Ticket}
+use Rattle.bac_protocol.specs.Client.{ClientTransaction}
 use Rattle.bac_protocol.specs.Server.{Service}
 use Rattle.bac_protocol.specs.Transaction.{Key, Rules}
 use Rattle.bac_protocol.specs.World.{Net, Post, asked_at, is_deliverable, is_id_held, net_start}
@@ -18,7 +18,7 @@ module _ (x : Rules) (n : Net) (h : Bounded n) where
   asked_bounded key choice whole front rest true = h
   asked_bounded key choice whole front rest false = record { asks = h.asks; serves = h.serves }
 
-  taken_bounded : (p : Post) (o : Option Ticket) → Bounded (taken_by_client x n p o)
+  taken_bounded : (p : Post) (o : Option ClientTransaction) → Bounded (taken_by_client x n p o)
   taken_bounded p None = h
   taken_bounded p (Some t) = record { asks = h.asks; serves = h.serves }
 
@@ -36,7 +36,7 @@ module _ (x : Rules) (n : Net) (h : Bounded n) where
       go true = heard_bounded p free service (is_from_client p.copy.apdu)
       go false = h
 
-  ticked_bounded : (key : Key) (o : Option Ticket) → Bounded (ticket_ticked x n key o)
+  ticked_bounded : (key : Key) (o : Option ClientTransaction) → Bounded (ticket_ticked x n key o)
   ticked_bounded key None = h
   ticked_bounded key (Some t) = record { asks = h.asks; serves = h.serves }
 

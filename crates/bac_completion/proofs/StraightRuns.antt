@@ -1,7 +1,7 @@
 -- The laws on straight runs, and what stands under them.
 pub mod Posts
 pub mod Growing
-pub mod Shops
+pub mod StoreModels
 pub mod Delivering
 pub mod Tickets
 pub mod Following

@@ -15,9 +15,9 @@ use Rattle.bac_store.proofs.ReplyKinds.{replies_fit}
 use Rattle.bac_protocol.specs.Service as machine
 use Rattle.bac_protocol.specs.Log as octets
 use Rattle.bac_protocol.specs.Straight.{KindFits}
-use Rattle.bac_ends.specs.Sends.{Pairwise}
-use Rattle.bac_ends.specs.Meanings.{MeansReply}
-use Rattle.bac_ends.specs.Meanings.Ending.{Answered, Rejected, Aborted, TimedOut, Expired}
+use Rattle.bac_transaction.specs.Sends.{Pairwise}
+use Rattle.bac_transaction.specs.Meanings.{MeansReply}
+use Rattle.bac_transaction.specs.Meanings.Ending.{Answered, Rejected, Aborted, TimedOut, Expired}
 use Rattle.bac_world.specs.Once.{Fact, Has, Stores, IsUnperformed, IsOnce}
 use Rattle.bac_world.specs.Once.Fact.{Asked, Performed, Ended, Changed, Restarted}
 use Rattle.bac_world.proofs.Logs.{FactMeans, performed_as}

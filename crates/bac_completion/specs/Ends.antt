@@ -5,13 +5,13 @@ use Rattle.bac_npdu.specs.Peers.{PeerView}
 use Rattle.bac_service.specs.Values.{Request}
 use Rattle.bac_protocol.specs.declared.times.TheConstants.{DEADLINE}
 use Rattle.bac_protocol.specs.Wire.{is_from_server}
-use Rattle.bac_protocol.specs.Client.{Ticket, is_idle}
+use Rattle.bac_protocol.specs.Client.{ClientTransaction, is_idle}
 use Rattle.bac_slots.specs.Slots.{value_at}
-use Rattle.bac_ends.specs.Keys.{PeerKey, same_key}
-use Rattle.bac_ends.specs.Meanings.{Finish}
-use Rattle.bac_ends.specs.Meanings.Ending.{Expired}
-use Rattle.bac_ends.specs.Ends.{key_of}
-use Rattle.bac_ends.specs.Ends.Held.{Open, Closed}
+use Rattle.bac_transaction.specs.Keys.{PeerKey, same_key}
+use Rattle.bac_transaction.specs.Meanings.{Finish}
+use Rattle.bac_transaction.specs.Meanings.Ending.{Expired}
+use Rattle.bac_transaction.specs.Ends.{key_of}
+use Rattle.bac_transaction.specs.Ends.TransactionSlot.{Open, Closed}
 use Rattle.bac_world.specs.Node.{Node, Outcome, NodeTick}
 use Rattle.bac_world.specs.Laws.{Gets}
 use Rattle.bac_world.specs.Keys.{HasKeysApart}
@@ -23,7 +23,7 @@ use Rattle.bac_completion.specs.RoundTrip.{MayArrive, IsFromServer}
 -- At a node.
 
 -- a ticket of that number is open, in the transaction of that peer and invoke ID
-abbrev pub IsOpen : Node → PeerKey → (number : ℕ) → Ticket → Type 0
+abbrev pub IsOpen : Node → PeerKey → (number : ℕ) → ClientTransaction → Type 0
 IsOpen n key number t = value_at same_key key n.clients.slots ≡ Some (record { number = number; held = Open t })
 
 -- how many of these are endings of that ticket
@@ -41,27 +41,27 @@ HasFinish f (g ∷ fs) = (g ≡ f) ⊎ HasFinish f fs
 -- no two slots of a table have one key, no two open tickets one number, and what is open has not ended
 pub record HasTicketsApart (n : Node) : Type 0 where
   pub keys : HasKeysApart n
-  pub apart : (p q : PeerKey) (number : ℕ) (t u : Ticket) → IsOpen n p number t → IsOpen n q number u → p ≡ q
-  pub going : (p : PeerKey) (number : ℕ) (t : Ticket) → IsOpen n p number t → is_idle t.phase ≡ false
+  pub apart : (p q : PeerKey) (number : ℕ) (t u : ClientTransaction) → IsOpen n p number t → IsOpen n q number u → p ≡ q
+  pub going : (p : PeerKey) (number : ℕ) (t : ClientTransaction) → IsOpen n p number t → is_idle t.phase ≡ false
 
 -- a ticket's end, and the slot that remembers it
-pub record Expires (n : Node) (key : PeerKey) (number : ℕ) (t : Ticket) (ended : List Finish) : Type 0 where
+pub record Expires (n : Node) (key : PeerKey) (number : ℕ) (t : ClientTransaction) (ended : List Finish) : Type 0 where
   pub has : HasFinish (expired number) ended
   pub once : finishes_of number ended ≡ 1
   pub closed : value_at same_key key n.clients.slots ≡ Some (record { number = number; held = Closed t.ask.first })
 
 -- a tick leaves no ticket open whose first sending is more than DEADLINE ago; each that was open ends in that tick, once
 pub record TickEnds : Type 0 where
-  pub leaves : (now : ℕ) (old new : Node) (o : Outcome) → NodeTick now old new o → (key : PeerKey) (number : ℕ) (t : Ticket) → IsOpen new key number t
+  pub leaves : (now : ℕ) (old new : Node) (o : Outcome) → NodeTick now old new o → (key : PeerKey) (number : ℕ) (t : ClientTransaction) → IsOpen new key number t
       → now - t.ask.first ≤ DEADLINE
-  pub ends : (now : ℕ) (old new : Node) (o : Outcome) → NodeTick now old new o → HasTicketsApart old → (key : PeerKey) (number : ℕ) (t : Ticket)
+  pub ends : (now : ℕ) (old new : Node) (o : Outcome) → NodeTick now old new o → HasTicketsApart old → (key : PeerKey) (number : ℕ) (t : ClientTransaction)
       → IsOpen old key number t → DEADLINE < now - t.ask.first → Expires new key number t o.ended
 
 -- and so does each APDU of a server that comes for it
 abbrev pub AnswerEnds : Type 0
 AnswerEnds =
     (now : ℕ) (peer : PeerView) (a : Apdu) (old new : Node) (o : Outcome) → Gets now peer a old new o → is_from_server a ≡ true → HasTicketsApart old
-    → (number : ℕ) (t : Ticket) → IsOpen old (key_of peer a) number t → DEADLINE < now - t.ask.first → Expires new (key_of peer a) number t o.ended
+    → (number : ℕ) (t : ClientTransaction) → IsOpen old (key_of peer a) number t → DEADLINE < now - t.ask.first → Expires new (key_of peer a) number t o.ended
 
 -- In every world.
 

@@ -3,10 +3,10 @@ use Rattle.std.specs.Prelude.{◌≡◌, ◌+◌, ◌-◌, ◌<◌, true, [], �
 use Rattle.bac_apdu.specs.Apdu.{Apdu}
 use Rattle.bac_protocol.specs.declared.times.TheConstants.{DEADLINE}
 use Rattle.bac_protocol.specs.Wire.{is_from_server}
-use Rattle.bac_protocol.specs.Client.{Ticket}
+use Rattle.bac_protocol.specs.Client.{ClientTransaction}
 use Rattle.bac_progress.specs.Repeats.{PATIENCE}
-use Rattle.bac_ends.specs.Meanings.Ending.{Expired}
-use Rattle.bac_ends.specs.Ends.{key_of}
+use Rattle.bac_transaction.specs.Meanings.Ending.{Expired}
+use Rattle.bac_transaction.specs.Ends.{key_of}
 use Rattle.bac_world.specs.Node.{Node, Outcome}
 use Rattle.bac_world.specs.Laws.{Gets}
 use Rattle.bac_world.specs.Once.Fact.{Ended}
@@ -87,7 +87,7 @@ pub record LateAnswer : Type 0 where
   pub new : Node
   pub outcome : Outcome
   pub gets : Gets 60001 (peer_at asks.link) apdu old new outcome
-  pub ticket : Ticket
+  pub ticket : ClientTransaction
   pub is_open : IsOpen old (key_of (peer_at asks.link) apdu) 0 ticket
   pub late : DEADLINE < 60001 - ticket.ask.first
   pub ends : outcome.ended ≡ expired 0 ∷ []

@@ -5,11 +5,11 @@ use Rattle.bac_apdu.specs.Apdu.{Limits}
 use Rattle.bac_service.specs.Values.{Request}
 use Rattle.bac_protocol.specs.declared.times.TheConstants.{T_OUT}
 use Rattle.bac_protocol.specs.Server.{live_entry}
-use Rattle.bac_protocol.specs.Client.{Ticket}
+use Rattle.bac_protocol.specs.Client.{ClientTransaction}
 use Rattle.bac_protocol.specs.Client.Phase.{AwaitConfirmation}
 use Rattle.bac_progress.specs.Repeats.{PATIENCE}
 use Rattle.bac_slots.specs.Slots.{value_at}
-use Rattle.bac_ends.specs.Keys.{same_key}
+use Rattle.bac_transaction.specs.Keys.{same_key}
 use Rattle.bac_world.specs.Node.{Node}
 use Rattle.bac_world.specs.World.{World, Copy, Event, WorldStep, WorldRun, IsAsked, RunsOn, peer_at}
 use Rattle.bac_world.specs.World.Event.{Deliver}
@@ -30,7 +30,7 @@ pub record IsWaiting (w : World) (client : ℕ) (server_link : List ℕ) (invoke
   pub node : Node
   pub at : slice_get w.nodes client ≡ Some node
   pub number : ℕ
-  pub ticket : Ticket
+  pub ticket : ClientTransaction
   pub there : IsOpen node (record { peer = peer_at server_link; invoke_id = invoke_id }) number ticket
   pub waits : ticket.phase ≡ AwaitConfirmation
   pub left : T_OUT ≤ w.now - ticket.since → 1 ≤ ticket.repeats

@@ -1,6 +1,6 @@
 -- What the tables of a node hold at most.
 use Rattle.std.specs.Prelude.{◌≡◌, ℕ, ◌≤◌, count_by, Some, slice_get}
-use Rattle.bac_ends.specs.Ends.{is_slot_held, is_slot_live}
+use Rattle.bac_transaction.specs.Ends.{is_slot_held, is_slot_live}
 use Rattle.bac_world.specs.Node.{Node}
 use Rattle.bac_world.specs.World.{World}
 

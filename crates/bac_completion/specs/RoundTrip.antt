@@ -12,10 +12,10 @@ use Rattle.bac_protocol.specs.Service as machine
 use Rattle.bac_protocol.specs.Service.Outcome.{Replies}
 use Rattle.bac_protocol.specs.Server.{live_entry}
 use Rattle.bac_slots.specs.Slots.{value_at}
-use Rattle.bac_ends.specs.Keys.{same_key}
-use Rattle.bac_ends.specs.Meanings.Ending.{Answered}
-use Rattle.bac_ends.specs.Ends.{is_free}
-use Rattle.bac_entry.specs.Services.{outcome_of}
+use Rattle.bac_transaction.specs.Keys.{same_key}
+use Rattle.bac_transaction.specs.Meanings.Ending.{Answered}
+use Rattle.bac_transaction.specs.Ends.{is_free}
+use Rattle.bac_responder.specs.Services.{outcome_of}
 use Rattle.bac_world.specs.Node.{Node}
 use Rattle.bac_world.specs.Once.{Fact, Has}
 use Rattle.bac_world.specs.Once.Fact.{Performed, Ended}

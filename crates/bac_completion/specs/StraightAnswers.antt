@@ -13,9 +13,9 @@ use Rattle.bac_protocol.specs.Sizes.{Way, request_way_of, reply_way_of}
 use Rattle.bac_protocol.specs.Sizes.Way.{InOne, InSegments, Refused}
 use Rattle.bac_protocol.specs.Service as machine
 use Rattle.bac_protocol.specs.Straight.{cost}
-use Rattle.bac_ends.specs.Meanings.{Ending}
-use Rattle.bac_ends.specs.Meanings.Ending.{Answered}
-use Rattle.bac_ends.specs.Ends.{is_free}
+use Rattle.bac_transaction.specs.Meanings.{Ending}
+use Rattle.bac_transaction.specs.Meanings.Ending.{Answered}
+use Rattle.bac_transaction.specs.Ends.{is_free}
 use Rattle.bac_world.specs.Node.{Node}
 use Rattle.bac_world.specs.Once.Fact.{Asked, Performed, Ended}
 use Rattle.bac_world.specs.World.{World, stores_of}

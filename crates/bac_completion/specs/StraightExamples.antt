@@ -5,7 +5,7 @@ use Rattle.bac_service.specs.Values.WriteAccess.{WriteStream}
 use Rattle.bac_store.specs.Replies.{reply_to}
 use Rattle.bac_protocol.specs.Service.{Octets}
 use Rattle.bac_protocol.specs.Sizes.{request_way_of}
-use Rattle.bac_ends.specs.Meanings.Ending.{Answered}
+use Rattle.bac_transaction.specs.Meanings.Ending.{Answered}
 use Rattle.bac_world.specs.World.{World, IsFresh, IsBounded}
 use Rattle.bac_world.specs.Examples as world
 use Rattle.bac_world.specs.Examples.{STORE}

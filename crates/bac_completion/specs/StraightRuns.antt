@@ -5,10 +5,10 @@ use Rattle.bac_apdu.specs.Apdu.{Limits}
 use Rattle.bac_service.specs.Values.{Request}
 use Rattle.bac_protocol.specs.Transaction.{Key}
 use Rattle.bac_slots.specs.Slots.{value_at}
-use Rattle.bac_ends.specs.Keys.{PeerKey, same_key}
-use Rattle.bac_ends.specs.Meanings.{Ending}
-use Rattle.bac_ends.specs.Ends.{Client, Held}
-use Rattle.bac_ends.specs.Ends.Held.{Open, Closed}
+use Rattle.bac_transaction.specs.Keys.{PeerKey, same_key}
+use Rattle.bac_transaction.specs.Meanings.{Ending}
+use Rattle.bac_transaction.specs.Ends.{Client, TransactionSlot}
+use Rattle.bac_transaction.specs.Ends.TransactionSlot.{Open, Closed}
 use Rattle.bac_world.specs.Node.{Node}
 use Rattle.bac_world.specs.Once.{Fact}
 use Rattle.bac_world.specs.Once.Fact.{Asked, Performed, Ended, Changed, Restarted}
@@ -17,7 +17,7 @@ use Rattle.bac_world.specs.World.Event.{Ask, Deliver}
 
 -- Whether a ticket is open.
 
-abbrev pub is_open_ticket : Held → Bool
+abbrev pub is_open_ticket : TransactionSlot → Bool
 is_open_ticket (Open t) = true
 is_open_ticket (Closed first) = false
 

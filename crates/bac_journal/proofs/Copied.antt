@@ -11,12 +11,12 @@ use Rattle.bac_protocol.specs.Own.{invoke_id_of}
 use Rattle.bac_protocol.specs.Transaction.{Key}
 use Rattle.bac_slots.specs.declared.slot.Slot.{Slot}
 use Rattle.bac_slots.specs.Slots.{value_at, IsApart, IsDistinct}
-use Rattle.bac_ends.specs.Keys.{PeerKey, same_key}
-use Rattle.bac_ends.specs.Sends.{Datagram, Pairwise, IsSent, to_peer, to_all}
-use Rattle.bac_ends.specs.Meanings.{Finish, IsFinish}
-use Rattle.bac_ends.specs.Ends.{ended_with}
+use Rattle.bac_transaction.specs.Keys.{PeerKey, same_key}
+use Rattle.bac_transaction.specs.Sends.{Datagram, Pairwise, IsSent, to_peer, to_all}
+use Rattle.bac_transaction.specs.Meanings.{Finish, IsFinish}
+use Rattle.bac_transaction.specs.Ends.{ended_with}
 use Rattle.bac_world.specs.World.{World, Note, link_at, peer_at, transaction_of, ask_of}
-use Rattle.bac_ends.proofs.KeyedSlots.{EachSlot, found_first}
+use Rattle.bac_transaction.proofs.KeyedSlots.{EachSlot, found_first}
 use Rattle.bac_world.proofs.Bridge.{key_of, copies_of, IsBetween, IsWay}
 use Rattle.bac_journal.specs.Entering.{Every, CanBeCopied, IsNoted, WasAsked}
 

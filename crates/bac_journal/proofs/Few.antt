@@ -5,23 +5,23 @@ use Rattle.std.specs.Prelude.{is_some}
 use Rattle.bac_apdu.specs.Apdu.{Apdu, Limits, Segment}
 use Rattle.bac_service.specs.Choices.{has_simple_ack, has_complex_ack}
 use Rattle.bac_apdu.specs.Apdu.Apdu.{ConfirmedRequest, SimpleAck, ComplexAck, SegmentAck, Error, Reject, Abort}
-use Rattle.bac_segment.specs.Limits.{RETRIES}
+use Rattle.bac_segment.specs.Limits.{N_RETRY}
 use Rattle.bac_segment.specs.Pieces.{join}
 use Rattle.bac_segment.specs.Numbers.{ahead}
 use Rattle.bac_segment.specs.Window.{Outgoing, outgoing, in_window, is_finished, acknowledged, again, resume, Incoming, incoming, Taking, takes}
 use Rattle.bac_segment.specs.Window.Taking.{Taken, Whole, Nak, TooLong}
-use Rattle.bac_protocol.specs.declared.times.TheConstants.{T_SEG, WAIT_SEG}
+use Rattle.bac_protocol.specs.declared.times.TheConstants.{T_SEG, T_WAIT_FOR_SEG}
 use Rattle.bac_protocol.specs.Context.{Context}
 use Rattle.bac_protocol.specs.Service.{Octets, Readable, OTHER, Reply as reply, Outcome}
 use Rattle.bac_protocol.specs.Service.Outcome.{Replies, Rejects}
 use Rattle.bac_protocol.specs.Service.Ending.{Answered, Aborted, Expired}
 use Rattle.bac_protocol.specs.Wire.{is_from_server, is_from_client, pieces_from}
 use Rattle.bac_protocol.specs.Client as client
-use Rattle.bac_protocol.specs.Client.{Ask, Phase, Ticket}
+use Rattle.bac_protocol.specs.Client.{Ask, Phase, ClientTransaction}
 use Rattle.bac_protocol.specs.Client.Phase.{AwaitConfirmation, SegmentedConf, Idle}
 use Rattle.bac_protocol.specs.Client.Reaction.{Stays, GoesOn, Repeats, Ends}
 use Rattle.bac_protocol.specs.Server as server
-use Rattle.bac_protocol.specs.Server.{Transfer, State, Entry, Service, is_live}
+use Rattle.bac_protocol.specs.Server.{Transfer, State, ServerTransaction, Service, is_live}
 use Rattle.bac_protocol.specs.Sizes.{Way, reply_way_of}
 use Rattle.bac_protocol.specs.Server.Transfer.{Running, Stopped, Finished}
 use Rattle.bac_protocol.specs.Server.State.{Done, SegmentedResponse, Dropped}
@@ -57,7 +57,7 @@ acknowledged_few : (W own : ℕ) → own ≤ W → (out : Outgoing) (number wind
 acknowledged_few W own le out number window = go (nat_lt (ahead number out.first) (in_window out))
   where
     go : (b : Bool) → OutFew W (if b
-        then Some (record out { first = out.first + ahead number out.first + 1; window = min window own; retries = RETRIES })
+        then Some (record out { first = out.first + ahead number out.first + 1; window = min window own; retries = N_RETRY })
         else None)
     go true = omega arith
     go false = tt
@@ -139,7 +139,7 @@ module _ (c : Context) (readable : Readable) (W : ℕ) (some : 1 ≤ W) (own : c
   open_few ask (SegmentedConf inc) a = segmented_conf_few ask inc a
   open_few ask Idle a = omega arith
 
-  pub client_gets_few : (t : Ticket) (a : Apdu) → length (client.sends_of (client.client_gets c readable t a)) ≤ W + 1
+  pub client_gets_few : (t : ClientTransaction) (a : Apdu) → length (client.sends_of (client.client_gets c readable t a)) ≤ W + 1
   client_gets_few t a = go (client.is_idle t.phase || not (is_from_server a)) (client.is_expired c.now t.ask)
     where
       go : (b d : Bool) → Few (if b then Stays else if d then Ends [] Expired else client.open_gets c readable t.ask t.phase a)
@@ -164,7 +164,7 @@ StateFew W (State.SegmentedRequest inc since) = Unit {0}
 StateFew W (Done kept) = Unit {0}
 StateFew W Dropped = Unit {0}
 
-abbrev pub EntryFew : ℕ → Option Entry → Type 0
+abbrev pub EntryFew : ℕ → Option ServerTransaction → Type 0
 EntryFew W None = Unit {0}
 EntryFew W (Some e) = StateFew W e.state
 
@@ -173,7 +173,7 @@ pub record IsFew (W : ℕ) (v : server.Reaction) : Type 0 where
   pub entry : EntryFew W v.entry
 
 module _ (c : Context) (service : Service) (W : ℕ) (some : 1 ≤ W) (own : c.settings.window ≤ W) where
-  sends_reply_few : (e : Entry) (acks : List Apdu) (octets : Octets) (p : reply) (way : Way ℕ) → length acks ≤ 1
+  sends_reply_few : (e : ServerTransaction) (acks : List Apdu) (octets : Octets) (p : reply) (way : Way ℕ) → length acks ≤ 1
       → IsFew W (server.sends_reply c e acks octets p way)
   sends_reply_few e acks octets p InOne h =
       record { sends = (let few = push_few acks (server.reply_apdu c e.choice p) 1 h in omega arith); entry = tt }
@@ -182,12 +182,12 @@ module _ (c : Context) (service : Service) (W : ℕ) (some : 1 ≤ W) (own : c.s
   sends_reply_few e acks octets p (Refused reason) h =
       record { sends = (let few = push_few acks (Abort true c.invoke_id reason) 1 h in omega arith); entry = tt }
 
-  so_few : (e : Entry) (acks : List Apdu) (octets : Octets) (o : Outcome) → length acks ≤ 1 → IsFew W (server.performs_so c e acks octets o)
+  so_few : (e : ServerTransaction) (acks : List Apdu) (octets : Octets) (o : Outcome) → length acks ≤ 1 → IsFew W (server.performs_so c e acks octets o)
   so_few e acks octets (Replies p) h = sends_reply_few e acks octets p (reply_way_of c.settings e.limits p) h
   so_few e acks octets (Rejects reason) h =
       record { sends = (let few = push_few acks (Reject c.invoke_id reason) 1 h in omega arith); entry = tt }
 
-  request_segment_few : (e : Entry) (number window : ℕ) (y : Taking) → IsFew W (server.request_segment_taken c service e number window y)
+  request_segment_few : (e : ServerTransaction) (number window : ℕ) (y : Taking) → IsFew W (server.request_segment_taken c service e number window y)
   request_segment_few e number window (Taken true inc) = record { sends = omega arith; entry = tt }
   request_segment_few e number window (Taken false inc) = record { sends = omega arith; entry = tt }
   request_segment_few e number window (Whole parts) = so_few e (server.server_ack c false number window ∷ []) (join parts)
@@ -195,18 +195,18 @@ module _ (c : Context) (service : Service) (W : ℕ) (some : 1 ≤ W) (own : c.s
   request_segment_few e number window (Nak inc) = record { sends = omega arith; entry = tt }
   request_segment_few e number window TooLong = record { sends = omega arith; entry = tt }
 
-  rests_few : (o : Option Entry) → EntryFew W o → IsFew W (server.rests o [])
+  rests_few : (o : Option ServerTransaction) → EntryFew W o → IsFew W (server.rests o [])
   rests_few o h = record { sends = omega arith; entry = h }
 
-  one_few : (o : Option Entry) (a : Apdu) → EntryFew W o → IsFew W (server.rests o (a ∷ []))
+  one_few : (o : Option ServerTransaction) (a : Apdu) → EntryFew W o → IsFew W (server.rests o (a ∷ []))
   one_few o a h = record { sends = omega arith; entry = h }
 
-  request_few : (o : Option Entry) → EntryFew W o → (free : Bool) (choice : ℕ) (limits : Limits) (octets : Octets)
+  request_few : (o : Option ServerTransaction) → EntryFew W o → (free : Bool) (choice : ℕ) (limits : Limits) (octets : Octets)
       → IsFew W (server.idle_gets_request c service o free choice limits octets)
   request_few o h true choice limits octets = so_few (server.begins c choice limits (Some octets)) [] octets (service choice octets) (omega arith)
   request_few o h false choice limits octets = one_few o (server.server_abort c OTHER) h
 
-  segment_few : (o : Option Entry) → EntryFew W o → (free : Bool) (choice : ℕ) (limits : Limits) (g : Segment) (octets : Octets)
+  segment_few : (o : Option ServerTransaction) → EntryFew W o → (free : Bool) (choice : ℕ) (limits : Limits) (g : Segment) (octets : Octets)
       → IsFew W (server.idle_gets_segment c service o free choice limits g octets)
   segment_few o h free choice limits g octets = go (nat_eq g.number 0) free
     where
@@ -218,14 +218,14 @@ module _ (c : Context) (service : Service) (W : ℕ) (some : 1 ≤ W) (own : c.s
       go true false = one_few o (server.server_abort c OTHER) h
       go false d = rests_few o h
 
-  idle_few : (o : Option Entry) → EntryFew W o → (free : Bool) (a : Apdu) → IsFew W (server.idle_gets c service o free a)
+  idle_few : (o : Option ServerTransaction) → EntryFew W o → (free : Bool) (a : Apdu) → IsFew W (server.idle_gets c service o free a)
   idle_few o h free (ConfirmedRequest limits i None choice octets) = request_few o h free choice limits octets
   idle_few o h free (ConfirmedRequest limits i (Some g) choice octets) = segment_few o h free choice limits g octets
   idle_few o h free _ = rests_few o h
 
-  request_in_segments_few : (e : Entry) → EntryFew W (Some e) → (inc : Incoming) (since : ℕ) (a : Apdu)
+  request_in_segments_few : (e : ServerTransaction) → EntryFew W (Some e) → (inc : Incoming) (since : ℕ) (a : Apdu)
       → IsFew W (server.segmented_request_gets c service e inc since a)
-  request_in_segments_few e h inc since (ConfirmedRequest limits i (Some g) choice octets) = go (nat_le WAIT_SEG (c.now - since))
+  request_in_segments_few e h inc since (ConfirmedRequest limits i (Some g) choice octets) = go (nat_le T_WAIT_FOR_SEG (c.now - since))
     where
       go : (b : Bool) → IsFew W (if b then server.becomes e Dropped (server.server_abort c OTHER ∷ []) else server.request_segment_taken c service e
           g.number inc.window (takes inc g.number g.more octets))
@@ -234,21 +234,21 @@ module _ (c : Context) (service : Service) (W : ℕ) (some : 1 ≤ W) (own : c.s
   request_in_segments_few e h inc since (Abort false i reason) = record { sends = omega arith; entry = tt }
   request_in_segments_few e h inc since _ = rests_few (Some e) h
 
-  done_few : (e : Entry) → EntryFew W (Some e) → (kept : Apdu) (a : Apdu) → IsFew W (server.done_gets c e kept a)
+  done_few : (e : ServerTransaction) → EntryFew W (Some e) → (kept : Apdu) (a : Apdu) → IsFew W (server.done_gets c e kept a)
   done_few e h kept (ConfirmedRequest limits i None choice octets) =
       one_few (Some e) (if server.is_kept e e.request choice octets then kept else server.server_abort c OTHER) h
   done_few e h kept (ConfirmedRequest limits i (Some g) choice octets) = one_few (Some e) (if is_some e.request then server.server_abort c OTHER else kept) h
   done_few e h kept _ = rests_few (Some e) h
 
-  sends_reply_window_few : (e : Entry) (out : Outgoing) → out.window ≤ W → IsFew W (server.sends_reply_window c e out)
+  sends_reply_window_few : (e : ServerTransaction) (out : Outgoing) → out.window ≤ W → IsFew W (server.sends_reply_window c e out)
   sends_reply_window_few e out h = record { sends = window_few W (server.reply_piece c e.choice out.pieces) out h; entry = h }
 
-  resumes_few : (e : Entry) → EntryFew W (Some e) → (out : Outgoing) → out.window ≤ W → (transfer : Transfer) → IsFew W (server.resumes c e out transfer)
+  resumes_few : (e : ServerTransaction) → EntryFew W (Some e) → (out : Outgoing) → out.window ≤ W → (transfer : Transfer) → IsFew W (server.resumes c e out transfer)
   resumes_few e h out k Stopped = sends_reply_window_few e (resume out) k
   resumes_few e h out k Running = rests_few (Some e) h
   resumes_few e h out k Finished = rests_few (Some e) h
 
-  moves_reply_window_few : (e : Entry) → EntryFew W (Some e) → (o : Option Outgoing) → OutFew W o → IsFew W (server.moves_reply_window c e o)
+  moves_reply_window_few : (e : ServerTransaction) → EntryFew W (Some e) → (o : Option Outgoing) → OutFew W o → IsFew W (server.moves_reply_window c e o)
   moves_reply_window_few e h None k = rests_few (Some e) h
   moves_reply_window_few e h (Some out) k = go (is_finished out)
     where
@@ -256,14 +256,14 @@ module _ (c : Context) (service : Service) (W : ℕ) (some : 1 ≤ W) (own : c.s
       go true = record { sends = omega arith; entry = k }
       go false = sends_reply_window_few e out k
 
-  response_ack_few : (e : Entry) → EntryFew W (Some e) → (out : Outgoing) → out.window ≤ W → (transfer : Transfer) (number window : ℕ)
+  response_ack_few : (e : ServerTransaction) → EntryFew W (Some e) → (out : Outgoing) → out.window ≤ W → (transfer : Transfer) (number window : ℕ)
       → IsFew W (server.segmented_response_gets_ack c e out transfer number window)
   response_ack_few e h out k Running number window = moves_reply_window_few e h (acknowledged c.settings.window out number window)
       (acknowledged_few W c.settings.window own out number window)
   response_ack_few e h out k Stopped number window = rests_few (Some e) h
   response_ack_few e h out k Finished number window = rests_few (Some e) h
 
-  response_few : (e : Entry) → EntryFew W (Some e) → (out : Outgoing) → out.window ≤ W → (transfer : Transfer) (since : ℕ) (a : Apdu)
+  response_few : (e : ServerTransaction) → EntryFew W (Some e) → (out : Outgoing) → out.window ≤ W → (transfer : Transfer) (since : ℕ) (a : Apdu)
       → IsFew W (server.segmented_response_gets c e out transfer since a)
   response_few e h out k transfer since (ConfirmedRequest limits i None choice octets) = go (server.is_kept e e.request choice octets)
     where
@@ -279,17 +279,17 @@ module _ (c : Context) (service : Service) (W : ℕ) (some : 1 ≤ W) (own : c.s
   response_few e h out k transfer since (Abort false i reason) = record { sends = omega arith; entry = k }
   response_few e h out k transfer since _ = rests_few (Some e) h
 
-  dropped_few : (e : Entry) → EntryFew W (Some e) → (a : Apdu) → IsFew W (server.dropped_gets c e a)
+  dropped_few : (e : ServerTransaction) → EntryFew W (Some e) → (a : Apdu) → IsFew W (server.dropped_gets c e a)
   dropped_few e h (ConfirmedRequest limits i g choice octets) = one_few (Some e) (server.server_abort c OTHER) h
   dropped_few e h _ = rests_few (Some e) h
 
-  live_few : (e : Entry) → EntryFew W (Some e) → (st : State) → StateFew W st → (a : Apdu) → IsFew W (server.live_gets c service e st a)
+  live_few : (e : ServerTransaction) → EntryFew W (Some e) → (st : State) → StateFew W st → (a : Apdu) → IsFew W (server.live_gets c service e st a)
   live_few e h (State.SegmentedRequest inc since) k a = request_in_segments_few e h inc since a
   live_few e h (Done kept) k a = done_few e h kept a
   live_few e h (SegmentedResponse out transfer since) k a = response_few e h out k transfer since a
   live_few e h Dropped k a = dropped_few e h a
 
-  pub server_gets_few : (o : Option Entry) (free : Bool) (a : Apdu) → EntryFew W o → IsFew W (server.server_gets c service o free a)
+  pub server_gets_few : (o : Option ServerTransaction) (free : Bool) (a : Apdu) → EntryFew W o → IsFew W (server.server_gets c service o free a)
   server_gets_few None free a h = idle_few None h free a
   server_gets_few (Some e) free a h = go (is_live c.now e)
     where
@@ -301,13 +301,13 @@ nothing : Service
 nothing choice octets = Rejects 0
 
 module _ (c : Context) (W : ℕ) (some : 1 ≤ W) (own : c.settings.window ≤ W) where
-  sends_again_few : (e : Entry) (out : Outgoing) → out.window ≤ W → (since : ℕ) (o : Option Outgoing) → OutFew W o
+  sends_again_few : (e : ServerTransaction) (out : Outgoing) → out.window ≤ W → (since : ℕ) (o : Option Outgoing) → OutFew W o
       → IsFew W (server.sends_reply_again c e out since o)
   sends_again_few e out k since None h = record { sends = omega arith; entry = k }
   sends_again_few e out k since (Some next) h = sends_reply_window_few c nothing W some own e next h
 
-  live_ticks_few : (e : Entry) → EntryFew W (Some e) → (st : State) → StateFew W st → IsFew W (server.live_ticks c e st)
-  live_ticks_few e h (State.SegmentedRequest inc since) k = go (nat_le WAIT_SEG (c.now - since))
+  live_ticks_few : (e : ServerTransaction) → EntryFew W (Some e) → (st : State) → StateFew W st → IsFew W (server.live_ticks c e st)
+  live_ticks_few e h (State.SegmentedRequest inc since) k = go (nat_le T_WAIT_FOR_SEG (c.now - since))
     where
       go : (b : Bool) → IsFew W (if b then server.becomes e Dropped [] else server.rests (Some e) [])
       go true = record { sends = omega arith; entry = tt }
@@ -322,7 +322,7 @@ module _ (c : Context) (W : ℕ) (some : 1 ≤ W) (own : c.settings.window ≤ W
   live_ticks_few e h (Done kept) k = record { sends = omega arith; entry = h }
   live_ticks_few e h Dropped k = record { sends = omega arith; entry = h }
 
-  server_ticks_few : (o : Option Entry) → EntryFew W o → IsFew W (server.server_ticks c o)
+  server_ticks_few : (o : Option ServerTransaction) → EntryFew W o → IsFew W (server.server_ticks c o)
   server_ticks_few None h = record { sends = omega arith; entry = tt }
   server_ticks_few (Some e) h = go (is_live c.now e)
     where
@@ -336,7 +336,7 @@ module _ (W : ℕ) (x : Rules) (bound : IsBounded W x) where
   abbrev Small : Net → Type 0
   Small n = (key : Key) → EntryFew W (n.entries key)
 
-  small_set : (n : Net) → Small n → (key : Key) (o : Option Entry) → EntryFew W o → (k : Key) → EntryFew W (set_at n.entries key o k)
+  small_set : (n : Net) → Small n → (key : Key) (o : Option ServerTransaction) → EntryFew W o → (k : Key) → EntryFew W (set_at n.entries key o k)
   small_set n s key o few k = go (decide_key key k)
     where
       go : ((key ≡ k) ⊎ (key ≡ k → ⊥)) → EntryFew W (set_at n.entries key o k)
@@ -349,7 +349,7 @@ module _ (W : ℕ) (x : Rules) (bound : IsBounded W x) where
       small_set n s p.key (server.server_gets c service (n.entries p.key) (is_room n p.key free) p.copy.apdu).entry
       (server_gets_few c service W bound.some (bound.windows p.key.server) (n.entries p.key) (is_room n p.key free) p.copy.apdu (s p.key)).entry
 
-  heard_small : (n : Net) → Small n → (p : Post) (o : Option Ticket) → Small (taken_by_client x n p o)
+  heard_small : (n : Net) → Small n → (p : Post) (o : Option ClientTransaction) → Small (taken_by_client x n p o)
   heard_small n s p None = s
   heard_small n s p (Some t) = s
 
@@ -362,7 +362,7 @@ module _ (W : ℕ) (x : Rules) (bound : IsBounded W x) where
       go true false = heard_small n s p (n.tickets p.key)
       go false b = s
 
-  ticked_small : (n : Net) → Small n → (key : Key) (o : Option Ticket) → Small (ticket_ticked x n key o)
+  ticked_small : (n : Net) → Small n → (key : Key) (o : Option ClientTransaction) → Small (ticket_ticked x n key o)
   ticked_small n s key None = s
   ticked_small n s key (Some t) = s
 

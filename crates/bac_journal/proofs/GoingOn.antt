@@ -16,10 +16,10 @@ use Rattle.bac_protocol.specs.Transaction.{Rules}
 use Rattle.bac_protocol.specs.World.{Net, Post, net_start}
 use Rattle.bac_protocol.specs.Claims.{IsBounded as IsBoundedNet}
 use Rattle.bac_slots.specs.Slots.{value_at}
-use Rattle.bac_ends.specs.Keys.{PeerKey, same_key}
-use Rattle.bac_ends.specs.Ends.{Client, ClientEnd, Held, Accepted, client_hears_at, client_hears_held, key_of}
-use Rattle.bac_ends.specs.Ends.Held.{Open, Closed}
-use Rattle.bac_entry.specs.Services.{service_of}
+use Rattle.bac_transaction.specs.Keys.{PeerKey, same_key}
+use Rattle.bac_transaction.specs.Ends.{Client, ClientEnd, TransactionSlot, Accepted, client_hears_at, client_hears_held, key_of}
+use Rattle.bac_transaction.specs.Ends.TransactionSlot.{Open, Closed}
+use Rattle.bac_responder.specs.Services.{service_of}
 use Rattle.bac_world.specs.Node.{Node, Outcome, IsHeardBy, NodeOn, NodeTick, NodeAsks, with_change}
 use Rattle.bac_world.specs.Once.{IsOnce}
 use Rattle.bac_world.specs.World.{World, Event, Copy, link_at, stores_of, peer_at, is_deliverable, IsWithNode, Acts, Hears, IsAsked, IsChanged, IsRestarted}
@@ -43,7 +43,7 @@ record IsCounted (now : ℕ) (more : ℕ) (a b : Node) : Type 0 where
 no_more : (k : ℕ) → k ≡ k + 0
 no_more k = omega arith
 
-held_asked : (c : Settings) (r : Readable) (now : ℕ) (p : Apdu) (e : ClientEnd) (q : PeerKey) (k : ℕ) (y : Held)
+held_asked : (c : Settings) (r : Readable) (now : ℕ) (p : Apdu) (e : ClientEnd) (q : PeerKey) (k : ℕ) (y : TransactionSlot)
     → (client_hears_held c r now p e q k y).end.asked ≡ e.asked
 held_asked c r now p e q k (Closed first) = refl
 held_asked c r now p e q k (Open t) = refl

@@ -1,7 +1,7 @@
 -- Copies that come one after the other.
 use Rattle.std.proofs.Common.{◌≡◌, ℕ, List, [], ◌∷◌, ◌++◌, length, append_assoc, refl, sym, ap, subst, ◌∙◌, arith}
 use Rattle.bac_protocol.specs.Service.{Octets}
-use Rattle.bac_ends.specs.Sends.{Datagram}
+use Rattle.bac_transaction.specs.Sends.{Datagram}
 use Rattle.bac_world.specs.Node.{Node}
 use Rattle.bac_world.specs.World.{Copy, Note, IsCopied}
 use Rattle.bac_world.proofs.Pairs.{pairwise_join, append_none}

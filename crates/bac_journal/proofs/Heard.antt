@@ -8,9 +8,9 @@ use Rattle.bac_protocol.specs.Service.{Octets}
 use Rattle.bac_protocol.specs.Wire.{is_from_client, Each}
 use Rattle.bac_protocol.specs.Own.{invoke_id_of}
 use Rattle.bac_protocol.specs.Client as client
-use Rattle.bac_protocol.specs.Client.{Ticket, client_gets}
+use Rattle.bac_protocol.specs.Client.{ClientTransaction, client_gets}
 use Rattle.bac_protocol.specs.Server as server
-use Rattle.bac_protocol.specs.Server.{Entry, Effect, Service, server_gets}
+use Rattle.bac_protocol.specs.Server.{ServerTransaction, Effect, Service, server_gets}
 use Rattle.bac_protocol.specs.Transaction.{Key, Rules, server_context}
 use Rattle.bac_protocol.specs.World.{Net, Post}
 use Rattle.bac_protocol.specs.Claims.{IsBounded}
@@ -18,12 +18,12 @@ use Rattle.bac_protocol.specs.Steps.{IsSameReaction}
 use Rattle.bac_protocol.proofs.Dead.{gets_same, same_of, same_then, same_back}
 use Rattle.bac_protocol.proofs.Own.{client_sends_own, server_sends_own}
 use Rattle.bac_slots.specs.Slots.{value_at}
-use Rattle.bac_ends.specs.Keys.{PeerKey, same_key}
-use Rattle.bac_ends.specs.Sends.{Datagram, Pairwise, IsSent, to_all}
-use Rattle.bac_ends.specs.Meanings.{Finish, IsFinish}
-use Rattle.bac_ends.specs.Ends.{Client, ClientTurn, Held, act_at, is_free, context_of, client_goes, client_hears, client_hears_at, client_hears_held}
-use Rattle.bac_ends.specs.Ends.{ServerTurn, server_hears, stays}
-use Rattle.bac_ends.specs.Ends.Held.{Open, Closed}
+use Rattle.bac_transaction.specs.Keys.{PeerKey, same_key}
+use Rattle.bac_transaction.specs.Sends.{Datagram, Pairwise, IsSent, to_all}
+use Rattle.bac_transaction.specs.Meanings.{Finish, IsFinish}
+use Rattle.bac_transaction.specs.Ends.{Client, ClientTurn, TransactionSlot, act_at, is_free, context_of, client_goes, client_hears, client_hears_at, client_hears_held}
+use Rattle.bac_transaction.specs.Ends.{ServerTurn, server_hears, stays}
+use Rattle.bac_transaction.specs.Ends.TransactionSlot.{Open, Closed}
 use Rattle.bac_world.specs.Services.{Performed, ArePerformed}
 use Rattle.bac_world.specs.Node.{Node, Outcome, IsServerTurn, IsClientTurn}
 use Rattle.bac_world.specs.World.{World, newest, peer_at}
@@ -79,7 +79,7 @@ module _ (links : ℕ → Option Octets) (apart : (i j : ℕ) (l : Octets) → l
     abbrev free : Bool
     free = is_free n.now a.servers
 
-    abbrev gets : Option Entry → server.Reaction
+    abbrev gets : Option ServerTransaction → server.Reaction
     gets e = server_gets (server_context x p.key n.now) service e (is_free n.now a.servers) p.copy.apdu
 
     abbrev v : server.Reaction
@@ -118,13 +118,13 @@ module _ (links : ℕ → Option Octets) (apart : (i j : ℕ) (l : Octets) → l
 
     same : IsSameReaction n.now v u
     same =
-        let y : Option Entry = value_at same_key q a.servers.slots in
-        let e : Option Entry = n.entries key in
+        let y : Option ServerTransaction = value_at same_key q a.servers.slots in
+        let e : Option ServerTransaction = n.entries key in
         let f : server.Reaction = server_gets context service y free apdu in
         same_then n.now v (gets (server.live_entry n.now y)) u (gets_same context service y free apdu)
         (same_then n.now (gets (server.live_entry n.now y)) (gets (server.live_entry n.now e)) u
         (same_of n.now (gets (server.live_entry n.now y)) (gets (server.live_entry n.now e))
-        (ap (λ (z : Option Entry). server_gets context service z free apdu) (fits.servers.found key.client l key.invoke_id client_at)))
+        (ap (λ (z : Option ServerTransaction). server_gets context service z free apdu) (fits.servers.found key.client l key.invoke_id client_at)))
         (same_back n.now u (gets (server.live_entry n.now e)) (gets_same context service e free apdu)))
 
     sent : Pairwise IsSent (to_all (peer_at l) u.sends) o.sends
@@ -137,7 +137,7 @@ module _ (links : ℕ → Option Octets) (apart : (i j : ℕ) (l : Octets) → l
     own = each_of_server key.invoke_id u.sends
         (server_sends_own.gets context service (n.entries key) free apdu (own_of W x bound n h.sound key)).0
 
-    ticket : (t : Ticket) × (n.tickets p.key ≡ Some t)
+    ticket : (t : ClientTransaction) × (n.tickets p.key ≡ Some t)
     ticket = ticket_of W x bound n h.sound number p at
 
     of_client : (d : Option Performed) → o.performed ≡ d → AreOfClient w p.key.server d
@@ -181,7 +181,7 @@ module _ (links : ℕ → Option Octets) (apart : (i j : ℕ) (l : Octets) → l
     at_client : Fits links apart W x w n n p.key.client a
     at_client = h.nodes p.key.client a node
 
-    goes : (k : ℕ) (t : Ticket) → value_at same_key (slot_key l p.key.invoke_id) a.clients.slots ≡ Some (record { number = k; held = Open t })
+    goes : (k : ℕ) (t : ClientTransaction) → value_at same_key (slot_key l p.key.invoke_id) a.clients.slots ≡ Some (record { number = k; held = Open t })
         → (now : ℕ) (c : Settings) → c.window ≤ W
         → Turn (client_goes now a.clients (slot_key l p.key.invoke_id) k t
         (client_gets (context_of c now (slot_key l p.key.invoke_id)) reads_reply t p.copy.apdu)) → Enters p.key.client o
@@ -210,7 +210,7 @@ module _ (links : ℕ → Option Octets) (apart : (i j : ℕ) (l : Octets) → l
           one = ends.1;
         }
 
-    held : (k : ℕ) (y : Held) → value_at same_key (slot_key l p.key.invoke_id) a.clients.slots ≡ Some (record { number = k; held = y })
+    held : (k : ℕ) (y : TransactionSlot) → value_at same_key (slot_key l p.key.invoke_id) a.clients.slots ≡ Some (record { number = k; held = y })
         → Turn (client_hears_held a.settings reads_reply w.now p.copy.apdu a.clients (slot_key l p.key.invoke_id) k y) → Enters p.key.client o
     held k (Closed first) is turn = still turn
     held k (Open t) is turn = goes k t is w.now a.settings (subst (λ (c : Settings). c.window ≤ W) (sym at_client.settings) (bound.windows p.key.client)) turn

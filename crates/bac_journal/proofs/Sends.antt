@@ -7,7 +7,7 @@ use Rattle.bac_npdu.specs.Datagram.{Means}
 use Rattle.bac_npdu.specs.Peers.{PeerView}
 use Rattle.bac_protocol.specs.Service.{Octets}
 use Rattle.bac_protocol.specs.Transaction.{Key}
-use Rattle.bac_ends.specs.Sends.{Datagram}
+use Rattle.bac_transaction.specs.Sends.{Datagram}
 use Rattle.bac_world.specs.Laws.{IsMeaningless}
 use Rattle.bac_world.specs.Node.{Node}
 use Rattle.bac_world.specs.World as world

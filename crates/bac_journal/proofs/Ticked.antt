@@ -7,9 +7,9 @@ use Rattle.bac_protocol.specs.Context.{Settings, Context}
 use Rattle.bac_protocol.specs.Service.{Octets}
 use Rattle.bac_protocol.specs.Own.{IsOwnEntry}
 use Rattle.bac_protocol.specs.Client as client
-use Rattle.bac_protocol.specs.Client.{Ask, Ticket, client_ticks, asks}
+use Rattle.bac_protocol.specs.Client.{Ask, ClientTransaction, client_ticks, asks}
 use Rattle.bac_protocol.specs.Server as server
-use Rattle.bac_protocol.specs.Server.{Entry, is_live, live_entry, server_ticks}
+use Rattle.bac_protocol.specs.Server.{ServerTransaction, is_live, live_entry, server_ticks}
 use Rattle.bac_protocol.specs.Transaction.{Key, Rules}
 use Rattle.bac_protocol.specs.World.{Net}
 use Rattle.bac_protocol.specs.World as machine
@@ -18,15 +18,15 @@ use Rattle.bac_protocol.proofs.SingleMoves as moves
 use Rattle.bac_protocol.specs.Claims.{IsBounded}
 use Rattle.bac_protocol.proofs.Own.{client_sends_own, server_sends_own}
 use Rattle.bac_slots.specs.Slots.{value_at, in_order}
-use Rattle.bac_ends.specs.Keys.{PeerKey, peer_key_cmp, same_key}
-use Rattle.bac_ends.specs.Sends.{Datagram, Pairwise, IsSent, to_all}
-use Rattle.bac_ends.specs.Meanings.{Finish, IsFinish}
-use Rattle.bac_ends.specs.Ends.{ClientSlot, ServerSlot, Client, Held, Accepted, context_of, from_each}
-use Rattle.bac_ends.specs.Ends.{client_tick_sends, client_tick_ends, held_tick_sends, held_tick_ends, server_tick_sends}
-use Rattle.bac_ends.specs.Ends.Held.{Open, Closed}
+use Rattle.bac_transaction.specs.Keys.{PeerKey, peer_key_cmp, same_key}
+use Rattle.bac_transaction.specs.Sends.{Datagram, Pairwise, IsSent, to_all}
+use Rattle.bac_transaction.specs.Meanings.{Finish, IsFinish}
+use Rattle.bac_transaction.specs.Ends.{ClientSlot, ServerSlot, Client, TransactionSlot, Accepted, context_of, from_each}
+use Rattle.bac_transaction.specs.Ends.{client_tick_sends, client_tick_ends, held_tick_sends, held_tick_ends, server_tick_sends}
+use Rattle.bac_transaction.specs.Ends.TransactionSlot.{Open, Closed}
 use Rattle.bac_world.specs.Node.{Node, Outcome, NodeTick, NodeAsks}
 use Rattle.bac_world.specs.World.{World, Note, link_at, peer_at, newest, ask_of}
-use Rattle.bac_ends.proofs.KeyedSlots.{EachSlot, each_so, each_in_order}
+use Rattle.bac_transaction.proofs.KeyedSlots.{EachSlot, each_so, each_in_order}
 use Rattle.bac_world.proofs.Machines.{own_of}
 use Rattle.bac_world.proofs.Pairs.{pairwise_split}
 use Rattle.bac_world.proofs.Bridge.{IsKnown, TicketFits, key_of, slot_key}
@@ -56,7 +56,7 @@ module _ (links : ℕ → Option Octets) (apart : (i j : ℕ) (l : Octets) → l
     peer_is q k = λ j. record { peer = k.peer j; invoke_id = q.invoke_id }
 
     -- a client's slot
-    ticket_of : (q : PeerKey) → (k : IsKnown links apart q) → (number : ℕ) (t : Ticket)
+    ticket_of : (q : PeerKey) → (k : IsKnown links apart q) → (number : ℕ) (t : ClientTransaction)
         → value_at same_key q a.clients.slots ≡ Some (record { number = number; held = Open t })
         → (n.tickets (key_of i k.node q.invoke_id) ≡ Some t) × (ask_of i number w.notes ≡ Some (n.numbers (key_of i k.node q.invoke_id)))
     ticket_of q k number t found =
@@ -68,7 +68,7 @@ module _ (links : ℕ → Option Octets) (apart : (i j : ℕ) (l : Octets) → l
         (fits.clients.found k.node k.link q.invoke_id k.at) in
         ticket_at (n.asks_from i) n.now w.notes i (n.numbers key) number t (n.tickets key) fit
 
-    held_sends : (y : Held) (q : PeerKey) → IsKnown links apart q → (number : ℕ)
+    held_sends : (y : TransactionSlot) (q : PeerKey) → IsKnown links apart q → (number : ℕ)
         → value_at same_key q a.clients.slots ≡ Some (record { number = number; held = y }) → (ds : List Datagram)
         → Pairwise IsSent (held_tick_sends (context_of c w.now q) q.peer y) ds → Every (CanBeCopied w.nodes w.notes w.now i) ds
     held_sends (Closed first) q k number found [] s = tt
@@ -81,7 +81,7 @@ module _ (links : ℕ → Option Octets) (apart : (i j : ℕ) (l : Octets) → l
         (client_sends_own.ticks (context_of c w.now q) t)
         (subst (λ y. Pairwise IsSent (to_all y sends) ds) k.peer s)
 
-    held_ends : (y : Held) (q : PeerKey) → IsKnown links apart q → (number : ℕ)
+    held_ends : (y : TransactionSlot) (q : PeerKey) → IsKnown links apart q → (number : ℕ)
         → value_at same_key q a.clients.slots ≡ Some (record { number = number; held = y }) → (fs : List Finish)
         → Pairwise IsFinish (held_tick_ends (context_of c w.now q) number y) fs → Every (IsNoted w i) fs
     held_ends (Closed first) q k number found [] s = tt
@@ -117,13 +117,13 @@ module _ (links : ℕ → Option Octets) (apart : (i j : ℕ) (l : Octets) → l
         (clients_end os k.1 f.1 y.rest y.second))
 
     -- an entry: the net's own is the same while it is live
-    abbrev IsServerSlot : PeerKey → Entry → Type 0
+    abbrev IsServerSlot : PeerKey → ServerTransaction → Type 0
     IsServerSlot q d = IsKnown links apart q
 
-    abbrev IsFoundEntry : PeerKey → Entry → Type 0
+    abbrev IsFoundEntry : PeerKey → ServerTransaction → Type 0
     IsFoundEntry q d = value_at same_key q a.servers.slots ≡ Some d
 
-    live_own : (d : Entry) → is_live n.now d ≡ true → (o : Option Entry) → live_entry n.now (Some d) ≡ live_entry n.now o → o ≡ Some d
+    live_own : (d : ServerTransaction) → is_live n.now d ≡ true → (o : Option ServerTransaction) → live_entry n.now (Some d) ≡ live_entry n.now o → o ≡ Some d
     live_own d live None is = let e : Some d ≡ None = sym (ap (λ b. if b then Some d else None) live) ∙ is in cc
     live_own d live (Some e) is = go (is_live n.now e) (sym (ap (λ b. if b then Some d else None) live) ∙ is)
       where
@@ -132,14 +132,14 @@ module _ (links : ℕ → Option Octets) (apart : (i j : ℕ) (l : Octets) → l
         go false s = cc
 
     -- an entry's transaction was asked
-    entry_asked : (key : Key) (d : Entry) → n.entries key ≡ Some d → WasAsked w.notes key
+    entry_asked : (key : Key) (d : ServerTransaction) → n.entries key ≡ Some d → WasAsked w.notes key
     entry_asked key d is = go (n.tickets key) refl
       where
-        go : (o : Option Ticket) → n.tickets key ≡ o → WasAsked w.notes key
+        go : (o : Option ClientTransaction) → n.tickets key ≡ o → WasAsked w.notes key
         go None e = absurd (let no : Some d ≡ None = sym is ∙ (moves.in_order W x bound n h.sound).entered key e in cc)
         go (Some t) e = (n.numbers key, h.noted key t e)
 
-    live_sends : (d : Entry) (q : PeerKey) → (k : IsKnown links apart q) → value_at same_key q a.servers.slots ≡ Some d → is_live w.now d ≡ true
+    live_sends : (d : ServerTransaction) (q : PeerKey) → (k : IsKnown links apart q) → value_at same_key q a.servers.slots ≡ Some d → is_live w.now d ≡ true
         → (ds : List Datagram) → Pairwise IsSent (to_all q.peer (server_ticks (context_of c w.now q) (Some d)).sends) ds → Every (CanBeCopied w.nodes w.notes w.now i) ds
     live_sends d q k found live ds s =
         let key : Key = key_of k.node i q.invoke_id in
@@ -155,7 +155,7 @@ module _ (links : ℕ → Option Octets) (apart : (i j : ℕ) (l : Octets) → l
         (each_of_server q.invoke_id sends (server_sends_own.ticks (context_of c w.now q) (Some d) own).0)
         (subst (λ y. Pairwise IsSent (to_all y sends) ds) k.peer s)
 
-    dead_sends : (d : Entry) (q : PeerKey) → is_live w.now d ≡ false → (ds : List Datagram)
+    dead_sends : (d : ServerTransaction) (q : PeerKey) → is_live w.now d ≡ false → (ds : List Datagram)
         → Pairwise IsSent (to_all q.peer (server_ticks (context_of c w.now q) (Some d)).sends) ds → Every (CanBeCopied w.nodes w.notes w.now i) ds
     dead_sends d q dead ds s = none ds (subst (λ (v : server.Reaction). Pairwise IsSent (to_all q.peer v.sends) ds) still s)
       where
@@ -166,7 +166,7 @@ module _ (links : ℕ → Option Octets) (apart : (i j : ℕ) (l : Octets) → l
         none [] s = tt
         none (d ∷ ds) s = absurd s
 
-    entry_sends : (d : Entry) (q : PeerKey) → IsKnown links apart q → value_at same_key q a.servers.slots ≡ Some d
+    entry_sends : (d : ServerTransaction) (q : PeerKey) → IsKnown links apart q → value_at same_key q a.servers.slots ≡ Some d
         → (ds : List Datagram) → Pairwise IsSent (to_all q.peer (server_ticks (context_of c w.now q) (Some d)).sends) ds → Every (CanBeCopied w.nodes w.notes w.now i) ds
     entry_sends d q k found ds s = go (is_live w.now d) refl
       where
@@ -174,7 +174,7 @@ module _ (links : ℕ → Option Octets) (apart : (i j : ℕ) (l : Octets) → l
         go true e = live_sends d q k found e ds s
         go false e = dead_sends d q e ds s
 
-    entries_send : (os : List ServerSlot) → EachSlot Entry IsServerSlot os → EachSlot Entry IsFoundEntry os → (ds : List Datagram)
+    entries_send : (os : List ServerSlot) → EachSlot ServerTransaction IsServerSlot os → EachSlot ServerTransaction IsFoundEntry os → (ds : List Datagram)
         → Pairwise IsSent (from_each (server_tick_sends c w.now) os) ds → Every (CanBeCopied w.nodes w.notes w.now i) ds
     entries_send [] k f [] s = tt
     entries_send [] k f (d ∷ ds) s = absurd s
@@ -190,11 +190,11 @@ module _ (links : ℕ → Option Octets) (apart : (i j : ℕ) (l : Octets) → l
     found_clients : EachSlot Client IsFoundClient (in_order peer_key_cmp a.clients.slots)
     found_clients = each_in_order Client IsFoundClient a.clients.slots (each_found Client a.clients.slots fits.clients.distinct)
 
-    known_entries : EachSlot Entry IsServerSlot (in_order peer_key_cmp a.servers.slots)
-    known_entries = each_in_order Entry IsServerSlot a.servers.slots fits.servers.known
+    known_entries : EachSlot ServerTransaction IsServerSlot (in_order peer_key_cmp a.servers.slots)
+    known_entries = each_in_order ServerTransaction IsServerSlot a.servers.slots fits.servers.known
 
-    found_entries : EachSlot Entry IsFoundEntry (in_order peer_key_cmp a.servers.slots)
-    found_entries = each_in_order Entry IsFoundEntry a.servers.slots (each_found Entry a.servers.slots fits.servers.distinct)
+    found_entries : EachSlot ServerTransaction IsFoundEntry (in_order peer_key_cmp a.servers.slots)
+    found_entries = each_in_order ServerTransaction IsFoundEntry a.servers.slots (each_found ServerTransaction a.servers.slots fits.servers.distinct)
 
     all_send : (ds : List Datagram)
         → Pairwise IsSent (from_each (client_tick_sends c w.now) (in_order peer_key_cmp a.clients.slots)

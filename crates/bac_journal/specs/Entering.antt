@@ -4,9 +4,9 @@ use Rattle.bac_apdu.specs.Apdu.{Limits}
 use Rattle.bac_service.specs.Values.{Request}
 use Rattle.bac_protocol.specs.Service.{Octets}
 use Rattle.bac_protocol.specs.Transaction.{Key}
-use Rattle.bac_ends.specs.Sends.{Datagram}
-use Rattle.bac_ends.specs.Meanings.{Finish}
-use Rattle.bac_ends.specs.Ends.{Accepted}
+use Rattle.bac_transaction.specs.Sends.{Datagram}
+use Rattle.bac_transaction.specs.Meanings.{Finish}
+use Rattle.bac_transaction.specs.Ends.{Accepted}
 use Rattle.bac_world.specs.Services.{Performed}
 use Rattle.bac_world.specs.Node.{Node, Outcome, NodeOn, NodeTick, NodeAsks}
 use Rattle.bac_world.specs.World.{World, Copy, Note, Event, link_at, peer_at, newest, ask_of, is_deliverable, IsCopied, WorldRun, IsFresh, IsBounded}

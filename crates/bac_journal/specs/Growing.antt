@@ -1,7 +1,7 @@
 -- How the copies and the log grow.
 use Rattle.std.specs.Prelude.{◌≡◌, ℕ, List, ◌++◌}
 use Rattle.bac_protocol.specs.Service.{Octets}
-use Rattle.bac_ends.specs.Sends.{Datagram, Pairwise}
+use Rattle.bac_transaction.specs.Sends.{Datagram, Pairwise}
 use Rattle.bac_world.specs.Node.{Node}
 use Rattle.bac_world.specs.World.{Copy, Note, IsCopied}
 use Rattle.bac_journal.specs.Entering.{Every, CanBeCopied}

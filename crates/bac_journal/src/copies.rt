@@ -7,8 +7,8 @@ ghost use Rattle.bac_journal.specs.Views.{copy_view, AreLinks};
 
 use crate::meaning::{meaning, transaction_of};
 use crate::transaction::Transaction;
-use bac_ends::Datagram;
 use bac_npdu::LinkAddress;
+use bac_transaction::Datagram;
 
 /// A datagram that was sent: when, in milliseconds, from which node to which, and in which transaction.
 #[derive(Debug, Drop)]

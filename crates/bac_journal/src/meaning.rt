@@ -13,8 +13,8 @@ ghost use Rattle.bac_journal.specs.Views.{key_view, AreLinks};
 use crate::copies::node_at;
 use crate::transaction::Transaction;
 use bac_apdu::Apdu;
-use bac_ends::invoke_id_of;
 use bac_npdu::{LinkAddress, read_datagram};
+use bac_transaction::invoke_id_of;
 
 /// The APDU of a peer that octets from a link mean; None where they mean none. It takes no memory.
 pub(crate) fn meaning(from: LinkAddress, octets: &[u8]) -> Option<Apdu<'_>>

@@ -11,8 +11,8 @@ ghost use Rattle.bac_journal.specs.Views.{key_view, copy_view, AreLinks};
 
 use crate::asks::{Cell, Row, known, set_known};
 use crate::copies::{Copy, copy_of};
-use bac_ends::Datagram;
 use bac_npdu::LinkAddress;
+use bac_transaction::Datagram;
 
 /// A copy comes to the end of the list, which has room for it; its transaction has a cell.
 pub(crate) fn add_copy(copies: &mut Vec<Copy>, rows: &mut [Row], copy: Copy)

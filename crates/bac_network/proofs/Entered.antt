@@ -1,7 +1,7 @@
 -- What comes of a node's call enters the world.
 use Rattle.std.proofs.Common.{◌≡◌, ℕ, List, [], ◌∷◌, ◌++◌, length, map, reverse, Option, Some, None, slice_get, refl, sym, ap, subst, ◌∙◌, arith}
 use Rattle.std.proofs.lemmas.List.{length-map, length-reverse, map-append, reverse-append}
-use Rattle.bac_ends.specs.Meanings.{Finish}
+use Rattle.bac_transaction.specs.Meanings.{Finish}
 use Rattle.bac_world.specs.Node.{Node, Outcome}
 use Rattle.bac_world.specs.Once as once
 use Rattle.bac_world.specs.Once.Fact.{Ended}

@@ -8,3 +8,12 @@ pub mod Alike
 pub mod Asked
 pub mod Makers
 pub mod Running
+pub mod Endings
+pub mod Still
+pub mod Open
+pub mod Grown
+pub mod Deliveries
+pub mod Results
+pub mod Tells
+pub mod Logs
+pub mod Going

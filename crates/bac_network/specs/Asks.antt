@@ -1,6 +1,6 @@
 -- An ask that was accepted enters the journal and the log.
 use Rattle.std.specs.Prelude.{◌≡◌, ◌<◌, ◌≤◌, ◌+◌, ℕ, List, ◌∷◌, length, Option, Some, Result, Ok, Err}
-use Rattle.bac_ends.specs.Sends.{Datagram}
+use Rattle.bac_transaction.specs.Sends.{Datagram}
 use Rattle.bac_requester.specs.declared.ask_fault.AskFault.{AskFault}
 use Rattle.bac_requester.specs.declared.ask_fault.AskFault.TheVariants as ask_fault
 use Rattle.bac_service.specs.Values.{Request}

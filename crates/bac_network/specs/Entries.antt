@@ -4,7 +4,7 @@ use Rattle.bac_world.specs.Node.{Node, Outcome}
 use Rattle.bac_world.specs.Once.{Fact}
 use Rattle.bac_world.specs.Services.{Performed}
 use Rattle.bac_world.specs.World.{Note, newest, ask_of, AreEnded, AreLogged}
-use Rattle.bac_ends.specs.Meanings.{Finish}
+use Rattle.bac_transaction.specs.Meanings.{Finish}
 use Rattle.bac_journal.specs.Entering.{Every}
 use Rattle.bac_journal.specs.Growing.{BecomeCopies, CanBecome}
 use Rattle.bac_journal.specs.Journals.{JournalView}

@@ -8,3 +8,9 @@ pub mod Steps
 pub mod Histories
 pub mod Fresh
 pub mod Runs
+pub mod Open
+pub mod Logs
+pub mod StraightRuns
+pub mod Tells
+pub mod Going
+pub mod StraightFaults

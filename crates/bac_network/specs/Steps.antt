@@ -1,7 +1,7 @@
 -- Whether an event happens, and why not.
 use Rattle.std.specs.Prelude.{◌≡◌, ◌⊎◌, ◌<◌, ◌+◌, ◌-◌, ◌^◌, ℕ, true, Option, Some, None, Result, Ok, Err, slice_get}
 use Rattle.bac_protocol.specs.Sizes.{RequestFault}
-use Rattle.bac_ends.specs.Ends.{AskRefusal, CannotGo}
+use Rattle.bac_transaction.specs.Ends.{AskRefusal, CannotGo}
 use Rattle.bac_requester.specs.declared.ask_fault.AskFault.{AskFault}
 use Rattle.bac_requester.specs.declared.ask_fault.AskFault.TheVariants as ask_fault
 use Rattle.bac_store.specs.AtNode.{change_fault}

@@ -3,7 +3,7 @@ use Rattle.std.specs.Prelude.{List, map, reverse}
 use Rattle.bac_apdu.specs.Views.{limits_view}
 use Rattle.bac_service.specs.Views.{owned_request_view, owned_reply_view}
 use Rattle.bac_store.specs.Views.{change_view}
-use Rattle.bac_ticket.specs.Views.{ending_view}
+use Rattle.bac_requester.specs.TransactionViews.{ending_view}
 use Rattle.bac_world.specs.Once as once
 use Rattle.bac_world.specs.World as world
 use Rattle.bac_network.specs.declared.event.Event.{Event}

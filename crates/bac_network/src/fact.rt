@@ -1,10 +1,10 @@
 //! What is logged.
 ghost use Rattle.std.specs.Prelude.{◌≡◌, ◌↔◌, IsTrue};
 
-use bac_comparing::{Alike, same_change, same_ending, same_reply, same_request};
-use bac_service::{OwnedReply, OwnedRequest};
+use crate::{Alike, same_change, same_ending};
+use bac_requester::Ending;
+use bac_service::{OwnedReply, OwnedRequest, same_reply, same_request};
 use bac_store::{Change, Store};
-use bac_ticket::Ending;
 
 /// What was asked, performed, ended, changed or restarted. Asks are numbered from 0; clients and servers are numbered among the nodes.
 #[derive(Drop)]

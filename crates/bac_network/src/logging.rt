@@ -10,10 +10,9 @@ ghost use Rattle.bac_network.specs.Entries.{AreNoted, HasClient, HaveClient, per
 ghost use Rattle.bac_network.specs.Views.{log_view};
 
 use crate::fact::Fact;
-use bac_entry::Effect;
 use bac_journal::{Journal, Transaction};
 use bac_requester::Finish;
-use bac_responder::Act;
+use bac_responder::{Act, Effect};
 
 /// The ending of a node's ticket comes into the log, which has room for it.
 fn log_ending(log: &mut Vec<Fact>, journal: &Journal, node: usize, finish: Finish)

@@ -9,11 +9,11 @@ ghost use Rattle.bac_network.specs.Steps.{NamesNoCopy, NamesNoNode, PassesClock,
 ghost use Rattle.bac_network.specs.Runs.{StopsAt};
 ghost use Rattle.bac_network.specs.Views.{event_view, log_view};
 
+use crate::are_alike;
 use crate::event::Event;
 use crate::fact::Fact;
 use crate::fault::{RunFault, WorldFault};
 use crate::network::Network;
-use bac_comparing::are_alike;
 use bac_journal::{Copy, Note};
 use bac_node::Node;
 use bac_requester::AskFault;

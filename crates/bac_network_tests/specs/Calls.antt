@@ -1,6 +1,6 @@
 -- What contracts see of the calls that a link of the tests notes.
-use Rattle.bac_link.specs.Calls.{Call}
-use Rattle.bac_link.specs.Calls.Call.{Send, Receive, ReceiveNothing, FailedReceive}
+use Rattle.bac_driver.specs.Calls.{Call}
+use Rattle.bac_driver.specs.Calls.Call.{Send, Receive, ReceiveNothing, FailedReceive}
 use Rattle.bac_network_tests.specs.declared.noted_call.NotedCall.{NotedCall}
 use Rattle.bac_network_tests.specs.declared.noted_call.NotedCall.TheVariants as noted
 

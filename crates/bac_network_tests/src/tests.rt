@@ -1,4 +1,4 @@
-//! What no row of text says of nodes, worlds and scripts (all else is in the rows of bac_rows_run): worlds that are made up from numbers,
+//! What no row of text says of nodes, worlds and scripts (all else is in the rows of bac_node_rows): worlds that are made up from numbers,
 //! noise, a link that tells its calls, refused memory and failing files, laws, and what is made of wrong settings. Here is what the tests share.
 use bac_network::World;
 use bac_npdu::LinkAddress;

@@ -5,7 +5,7 @@ use Rattle.bac_npdu.specs.Peers.{PeerView}
 use Rattle.bac_service.specs.Requests.{SpellsRequest}
 use Rattle.bac_service.specs.Values.{Request, choice_of}
 use Rattle.bac_protocol.specs.Service.{Octets}
-use Rattle.bac_ends.specs.Ends.{AskOutcome, ClientEnd, client_asks}
+use Rattle.bac_transaction.specs.Ends.{AskOutcome, ClientEnd, client_asks}
 use Rattle.bac_requester.specs.Turns as requester
 use Rattle.bac_requester.specs.declared.asking.Asked.{Asked}
 use Rattle.bac_requester.specs.declared.ask_fault.AskFault.{AskFault}

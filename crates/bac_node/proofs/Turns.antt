@@ -4,12 +4,12 @@ use Rattle.std.specs.Option.{option_map}
 use Rattle.bac_apdu.specs.Apdu.{Apdu}
 use Rattle.bac_npdu.specs.Peers.{PeerView}
 use Rattle.bac_store.specs.Stores.{Store}
-use Rattle.bac_ends.specs.Ends as ends
-use Rattle.bac_ends.specs.Ends.{ServerEnd, ServerTurn, clients_tick, server_hears, servers_tick}
-use Rattle.bac_ends.specs.Meanings.{Finish, IsFinish}
-use Rattle.bac_ends.specs.Sends.{Datagram, IsSent, Pairwise}
-use Rattle.bac_entry.specs.Services as server
-use Rattle.bac_entry.specs.Services.{service_of}
+use Rattle.bac_transaction.specs.Ends as ends
+use Rattle.bac_transaction.specs.Ends.{ServerEnd, ServerTurn, clients_tick, server_hears, servers_tick}
+use Rattle.bac_transaction.specs.Meanings.{Finish, IsFinish}
+use Rattle.bac_transaction.specs.Sends.{Datagram, IsSent, Pairwise}
+use Rattle.bac_responder.specs.Services as server
+use Rattle.bac_responder.specs.Services.{service_of}
 use Rattle.bac_requester.specs.Turns as requester
 use Rattle.bac_requester.specs.Views.{finish_view}
 use Rattle.bac_requester.specs.declared.turn.Due.{Due}

@@ -2,8 +2,8 @@
 use Rattle.std.proofs.Common.{◌≡◌, ◌≢◌, ℕ, ◌<◌, ◌≤◌, Bool, true, false, min, max, nat_le, refl, ap, sym, subst, ◌∙◌, arith}
 use Rattle.std.proofs.lemmas.Bool.Decides.{nat_tests}
 use Rattle.bac_protocol.specs.Context.{Settings}
-use Rattle.bac_ends.specs.Ends.{clients_tick, servers_tick}
-use Rattle.bac_ticket.specs.Timers.{LAST_MOMENT}
+use Rattle.bac_transaction.specs.Ends.{clients_tick, servers_tick}
+use Rattle.bac_requester.specs.Timers.{LAST_MOMENT}
 use Rattle.bac_world.specs.Node.{Node, NodeTick, Outcome}
 use Rattle.bac_node.specs.Waiting.{MovesAt}
 

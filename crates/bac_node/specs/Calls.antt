@@ -8,9 +8,9 @@ use Rattle.bac_protocol.specs.Service.{Octets}
 use Rattle.bac_protocol.specs.Sizes.{RequestFault}
 use Rattle.bac_protocol.specs.Wire.{is_from_client}
 use Rattle.bac_value.specs.declared.memory.NoMemory.{NoMemory}
-use Rattle.bac_ends.specs.Ends.{Accepted, AskOutcome, AskRefusal, CannotGo, client_asks, clients_tick, servers_tick}
-use Rattle.bac_ends.specs.Meanings.{IsFinish}
-use Rattle.bac_ends.specs.Sends.{IsSent, Pairwise}
+use Rattle.bac_transaction.specs.Ends.{Accepted, AskOutcome, AskRefusal, CannotGo, client_asks, clients_tick, servers_tick}
+use Rattle.bac_transaction.specs.Meanings.{IsFinish}
+use Rattle.bac_transaction.specs.Sends.{IsSent, Pairwise}
 use Rattle.bac_requester.specs.Views.{finish_view}
 use Rattle.bac_requester.specs.declared.ask_fault.AskFault.{AskFault}
 use Rattle.bac_requester.specs.declared.ask_fault.AskFault.TheVariants as fault

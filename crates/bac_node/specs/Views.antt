@@ -5,7 +5,7 @@ use Rattle.bac_apdu.specs.Views.{limits_view}
 use Rattle.bac_npdu.specs.declared.fault.Dropped.TheVariants as dropped
 use Rattle.bac_service.specs.Views.{owned_request_view, owned_reply_view}
 use Rattle.bac_protocol.specs.Context.{Settings}
-use Rattle.bac_ends.specs.Views.{peer_key_view}
+use Rattle.bac_transaction.specs.Views.{peer_key_view}
 use Rattle.bac_requester.specs.Views.{finish_view}
 use Rattle.bac_responder.specs.declared.served.Act.{Act}
 use Rattle.bac_world.specs.Node as world

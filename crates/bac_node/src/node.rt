@@ -9,9 +9,9 @@ ghost use Rattle.bac_store.specs.AtNode.{change_fault, IsFaultOf};
 ghost use Rattle.bac_store.specs.Replies.{reply_to};
 ghost use Rattle.bac_store.specs.ReplyLengths.{DATA_LIMIT, reply_length};
 ghost use Rattle.bac_store.specs.Views.{change_view};
-ghost use Rattle.bac_ends.specs.Ends.{first_after, is_slot_held, is_slot_live};
-ghost use Rattle.bac_ends.specs.Tables.{IsOrderlyClient, IsOrderlyServer};
-ghost use Rattle.bac_ends.specs.Views.{settings_view};
+ghost use Rattle.bac_transaction.specs.Ends.{first_after, is_slot_held, is_slot_live};
+ghost use Rattle.bac_transaction.specs.Tables.{IsOrderlyClient, IsOrderlyServer};
+ghost use Rattle.bac_transaction.specs.Views.{settings_view};
 ghost use Rattle.bac_protocol.specs.declared.times.TheConstants.{KEEP as KEPT_FOR, REST as REST_TIME};
 ghost use Rattle.bac_requester.specs.Short.{AreRepliesShort};
 ghost use Rattle.bac_requester.specs.Views.{finish_view, finishes_of};
@@ -22,7 +22,7 @@ ghost use Rattle.bac_node.specs.Calls.{Hears, IsAsked, IsDue, IsNotHeard, Refuse
 ghost use Rattle.bac_node.specs.Fresh.{fresh_node, has_slots, made_node, slots_fit, window_fits, with_first_id};
 ghost use Rattle.bac_node.specs.Views.{cause_view, outcome_view, settings_of};
 ghost use Rattle.bac_node.specs.Waiting.{MovesAt, RestsUntil};
-ghost use Rattle.bac_ticket.specs.Timers.{LAST_MOMENT};
+ghost use Rattle.bac_requester.specs.Timers.{LAST_MOMENT};
 
 use crate::cause::Cause;
 use crate::config::Config;
@@ -30,14 +30,13 @@ use crate::fault::{NewNodeFault, NodeFault};
 use crate::hearing::{heard, is_from_client};
 use crate::outcome::Outcome;
 use bac_apdu::{Apdu, Limits, Window};
-use bac_ends::{PeerKey, Settings};
-use bac_entry::Entry;
 use bac_npdu::{LinkAddress, Peer};
 use bac_requester::{AskFault, Asked, Client, Due, Finish, Requester, Turn};
-use bac_responder::{Responder, Served};
+use bac_responder::{Responder, Served, ServerTransaction};
 use bac_service::OwnedRequest;
 use bac_slots::IndexSlots;
 use bac_store::{Change, ChangeFault, Store, replies_can_be_sent};
+use bac_transaction::{PeerKey, Settings};
 use bac_value::NoMemory;
 use std::alloc::Global;
 use std::marker::Model;
@@ -50,7 +49,7 @@ pub struct Node {
     settings: Settings,
     latest: u64,
     clients: Requester<IndexSlots<PeerKey, Client>>,
-    servers: Responder<IndexSlots<PeerKey, Entry>>,
+    servers: Responder<IndexSlots<PeerKey, ServerTransaction>>,
     store: Store,
     /// Room for the next ticket that a datagram ends, so that one which ends none takes no memory for it.
     room: Vec<Finish>,
@@ -61,7 +60,7 @@ impl Model for Node {
 
     ghost Value = { world.Node };
 
-    ghost use Rattle.bac_ends.specs.Views.{settings_view};
+    ghost use Rattle.bac_transaction.specs.Views.{settings_view};
 
     ghost view = { λ n. record { link = n.link; settings = settings_view n.settings; latest = n.latest; clients = n.clients; servers = n.servers; store = n.store } };
 
@@ -128,7 +127,7 @@ fn empty_ends(
 ) -> Result<
     (
         Requester<IndexSlots<PeerKey, Client>>,
-        Responder<IndexSlots<PeerKey, Entry>>,
+        Responder<IndexSlots<PeerKey, ServerTransaction>>,
     ),
     NoMemory,
 >

@@ -1,8 +1,8 @@
 //! What comes of a call.
 use crate::cause::Cause;
-use bac_ends::Datagram;
 use bac_requester::Finish;
 use bac_responder::Act;
+use bac_transaction::Datagram;
 
 /// What comes of one call.
 #[derive(Drop)]

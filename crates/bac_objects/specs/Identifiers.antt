@@ -1,7 +1,7 @@
 -- Object types and identifiers in a document (clause 20.2.14).
 use Rattle.std.specs.Prelude.{ℕ, ◌==◌, List, codes, Bool, nat_le, if◌then◌else◌, Option, Some, None, Result, Ok, Err}
-use Rattle.bac_names.specs.Names.{number_in}
-use Rattle.bac_names.specs.ObjectTypes.{OBJECT_TYPES}
+use Rattle.bac_value_text.specs.Names.{number_in}
+use Rattle.bac_value_text.specs.ObjectTypes.{OBJECT_TYPES}
 use Rattle.bac_value.specs.Steps.{◌>>=◌}
 use Rattle.bac_value.specs.Value.{ObjectId}
 use Rattle.toml.specs.Data.{Data, Members, get_member, as_str}

@@ -1,8 +1,8 @@
 -- The properties and the file of an object, as a document gives them (clause 12).
 use Rattle.std.specs.Prelude.{ℕ, ◌+◌, ◌-◌, ◌*◌, nat_le, nat_lt, ◌==◌, ◌&&◌, not, Bool, true, false, List, [], ◌∷◌, length, codes, if◌then◌else◌, Option, Some, None, Result, Ok, Err}
 use Rattle.std.specs.Char.{is_ascii_digit}
-use Rattle.bac_names.specs.Names.{number_in}
-use Rattle.bac_names.specs.Properties.{PROPERTIES}
+use Rattle.bac_value_text.specs.Names.{number_in}
+use Rattle.bac_value_text.specs.Properties.{PROPERTIES}
 use Rattle.bac_value.specs.declared.fault.FaultKind.{FaultKind}
 use Rattle.bac_value.specs.Reading.{data_of}
 use Rattle.bac_value.specs.Steps.{◌>>=◌}

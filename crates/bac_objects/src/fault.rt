@@ -5,8 +5,8 @@ ghost use Rattle.bac_objects.specs.declared.fault.DocumentFault.TheVariants as d
 ghost use Rattle.bac_objects.specs.declared.fault.ObjectFault.TheVariants as object_fault;
 
 use crate::problem::Problem;
-use bac_names::object_type_name;
 use bac_value::{NoMemory, ObjectIdentifier};
+use bac_value_text::object_type_name;
 use std::alloc::{AllocError, AllocFailed};
 use std::fmt;
 use thiserror::Error;

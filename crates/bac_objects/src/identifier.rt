@@ -8,8 +8,8 @@ ghost use Rattle.bac_objects.specs.Identifiers.{identifier_of, named as named_of
 use crate::held::{count, member};
 use crate::problem::{Given, Problem, Wanted};
 use crate::scalars::{number_up_to, table};
-use bac_names::object_type_number;
 use bac_value::ObjectIdentifier;
+use bac_value_text::object_type_number;
 use toml::{Table, Value};
 
 /// The type of a name.

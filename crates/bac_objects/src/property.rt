@@ -1,7 +1,7 @@
 //! The properties and the file of an object (clause 12).
 ghost use Rattle.std.specs.Prelude.{◌≡◌, ◌≤◌, IfOk, IsTrue, false, length, map};
-ghost use Rattle.bac_names.specs.Names.{number_in as named_number};
-ghost use Rattle.bac_names.specs.Properties.{PROPERTIES};
+ghost use Rattle.bac_value_text.specs.Names.{number_in as named_number};
+ghost use Rattle.bac_value_text.specs.Properties.{PROPERTIES};
 ghost use Rattle.bac_value.specs.Reading.{data_of};
 ghost use Rattle.bac_value.specs.Steps.{ReadsAll};
 ghost use Rattle.bac_value.specs.Views.{value_view};
@@ -22,9 +22,9 @@ use crate::held::{held_file, held_values};
 use crate::problem::{Given, Problem, Wanted};
 use crate::scalars::text;
 use crate::values::{hex_octets, value_in};
-use bac_names::property_number;
 use bac_store::{FILE_LIMIT, File, Property, VALUE_LIMIT};
 use bac_value::{Class, DataBuf, NoMemory, kinds, take_data, take_element, write_value};
+use bac_value_text::property_number;
 use std::alloc::Global;
 use toml::Value;
 

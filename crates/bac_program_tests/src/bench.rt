@@ -1,11 +1,11 @@
 //! Machines in memory: links behind which a house answers, or others do, and clocks that go on, stand or go back.
 ghost use Rattle.std.specs.Prelude.{◌≡◌, ◌≤◌, length, is_ok, if◌then◌else◌, None, ⊤};
-ghost use Rattle.bac_link.specs.Calls.{one_more};
+ghost use Rattle.bac_driver.specs.Calls.{one_more};
 
 use crate::text_file::copy_front;
 use bac_command_line::Machine;
 use bac_commands::answer_datagram;
-use bac_link::{Clock, Link, LinkFault};
+use bac_driver::{Clock, Link, LinkFault};
 use std::alloc::Global;
 use std::cell::Cell;
 use std::io;

@@ -14,11 +14,11 @@ use Rattle.bac_protocol.specs.Service.{Octets, OTHER, Readable, Reply as reply}
 use Rattle.bac_protocol.specs.Service.Ending.{Answered, Aborted, TimedOut, Expired}
 use Rattle.bac_protocol.specs.Wire.{is_from_client, is_from_server, Each}
 use Rattle.bac_protocol.specs.Client as client
-use Rattle.bac_protocol.specs.Client.{Ask, Phase, Ticket, Reaction, is_idle}
+use Rattle.bac_protocol.specs.Client.{Ask, Phase, ClientTransaction, Reaction, is_idle}
 use Rattle.bac_protocol.specs.Client.Phase.{SegmentedRequest, AwaitConfirmation, SegmentedConf, Idle}
 use Rattle.bac_protocol.specs.Client.Reaction.{Stays, GoesOn, Repeats, Ends}
 use Rattle.bac_protocol.specs.Server as server
-use Rattle.bac_protocol.specs.Server.{State, Entry, Service, is_live}
+use Rattle.bac_protocol.specs.Server.{State, ServerTransaction, Service, is_live}
 use Rattle.bac_protocol.specs.Server.State.{Done}
 use Rattle.bac_protocol.specs.Transaction.{Key, Rules, Copy, client_context, server_context}
 use Rattle.bac_protocol.specs.World.{Net, Post, later, is_room, lost, set_at, copies_of, client_acts, server_acts, asked_at, is_id_held}
@@ -63,7 +63,7 @@ either_awaits : (b : Bool) (r s : Reaction) → AwaitsAfter r → AwaitsAfter s 
 either_awaits true r s h k = h
 either_awaits false r s h k = k
 
-after_awaits : (now : ℕ) (t : Ticket) (r : Reaction) → Awaits t.phase → AwaitsAfter r → Awaits (client.after now t r).phase
+after_awaits : (now : ℕ) (t : ClientTransaction) (r : Reaction) → Awaits t.phase → AwaitsAfter r → Awaits (client.after now t r).phase
 after_awaits now t Stays h k = h
 after_awaits now t (GoesOn phase sends) h k = k
 after_awaits now t (Repeats phase sends) h k = k
@@ -106,7 +106,7 @@ module _ (c : Context) (readable : Readable) where
   open_awaits ask (SegmentedConf inc) h a w = absurd h
   open_awaits ask Idle h a w = tt
 
-  gets_awaits : (t : Ticket) → Awaits t.phase → (a : Apdu) → IsWhole a → AwaitsAfter (client.client_gets c readable t a)
+  gets_awaits : (t : ClientTransaction) → Awaits t.phase → (a : Apdu) → IsWhole a → AwaitsAfter (client.client_gets c readable t a)
   gets_awaits t h a w = either_awaits (is_idle t.phase || not (is_from_server a)) Stays
       (if client.is_expired c.now t.ask then Ends [] Expired else client.open_gets c readable t.ask t.phase a) tt
       (either_awaits (client.is_expired c.now t.ask) (Ends [] Expired) (client.open_gets c readable t.ask t.phase a) tt (open_awaits t.ask t.phase h a w))
@@ -116,12 +116,12 @@ module _ (c : Context) where
   again_awaits choice None = tt
   again_awaits choice (Some out) = refl
 
-  sending_awaits : (t : Ticket) (out : Outgoing) (all_sent : Bool) → all_sent ≡ true → AwaitsAfter (client.segmented_request_ticks c t out all_sent)
+  sending_awaits : (t : ClientTransaction) (out : Outgoing) (all_sent : Bool) → all_sent ≡ true → AwaitsAfter (client.segmented_request_ticks c t out all_sent)
   sending_awaits t out false e = absurd cc
   sending_awaits t out true e = either_awaits (nat_le T_SEG (c.now - t.since)) (client.sends_request_again c t.ask.choice true (again out)) Stays
       (again_awaits t.ask.choice (again out)) tt
 
-  open_ticks_awaits : (t : Ticket) → Awaits t.phase → (phase : Phase) → Awaits phase → AwaitsAfter (client.open_ticks c t phase)
+  open_ticks_awaits : (t : ClientTransaction) → Awaits t.phase → (phase : Phase) → Awaits phase → AwaitsAfter (client.open_ticks c t phase)
   open_ticks_awaits t h (SegmentedRequest out all_sent) k = sending_awaits t out all_sent k
   open_ticks_awaits t h AwaitConfirmation k = either_awaits (nat_le T_OUT (c.now - t.since)) (client.repeats c t) Stays
       (either_awaits t.ask.whole (client.repeats_whole c t) (client.repeats_pieces c t)
@@ -131,7 +131,7 @@ module _ (c : Context) where
   open_ticks_awaits t h (SegmentedConf inc) k = absurd k
   open_ticks_awaits t h Idle k = tt
 
-  ticks_awaits : (t : Ticket) → Awaits t.phase → AwaitsAfter (client.client_ticks c t)
+  ticks_awaits : (t : ClientTransaction) → Awaits t.phase → AwaitsAfter (client.client_ticks c t)
   ticks_awaits t h = either_awaits (is_idle t.phase) Stays
       (if client.is_expired c.now t.ask then Ends [] Expired else client.open_ticks c t t.phase) tt
       (either_awaits (client.is_expired c.now t.ask) (Ends [] Expired) (client.open_ticks c t t.phase) tt (open_ticks_awaits t h t.phase h))
@@ -139,24 +139,24 @@ module _ (c : Context) where
 -- What its server does.
 
 module _ (c : Context) (service : Service) where
-  either_sends : (b : Bool) (o : Option Entry) (x y : Apdu) → IsWhole x → IsWhole y → Each IsWhole (server.rests o ((if b then x else y) ∷ [])).sends
+  either_sends : (b : Bool) (o : Option ServerTransaction) (x y : Apdu) → IsWhole x → IsWhole y → Each IsWhole (server.rests o ((if b then x else y) ∷ [])).sends
   either_sends true o x y h k = (h, tt)
   either_sends false o x y h k = (k, tt)
 
-  done_sends : (e : Entry) (kept : Apdu) → IsWhole kept → (a : Apdu) → Each IsWhole (server.done_gets c e kept a).sends
+  done_sends : (e : ServerTransaction) (kept : Apdu) → IsWhole kept → (a : Apdu) → Each IsWhole (server.done_gets c e kept a).sends
   done_sends e kept w (ConfirmedRequest limits i None choice o) =
       either_sends (server.is_kept e e.request choice o) (Some e) kept (server.server_abort c OTHER) w tt
   done_sends e kept w (ConfirmedRequest limits i (Some g) choice o) =
       either_sends (is_some e.request) (Some e) (server.server_abort c OTHER) kept tt w
   done_sends e kept w _ = tt
 
-  done_entry : (e : Entry) (kept a : Apdu) → (server.done_gets c e kept a).entry ≡ Some e
+  done_entry : (e : ServerTransaction) (kept a : Apdu) → (server.done_gets c e kept a).entry ≡ Some e
   done_entry e kept (ConfirmedRequest limits i None choice o) = refl
   done_entry e kept (ConfirmedRequest limits i (Some g) choice o) = refl
   done_entry e kept _ = refl
 
   -- a live entry that keeps it, and none where none may begin
-  kept_gets : (e : Entry) (kept : Apdu) → is_live c.now e ≡ true → e.state ≡ Done kept → (free : Bool) (a : Apdu)
+  kept_gets : (e : ServerTransaction) (kept : Apdu) → is_live c.now e ≡ true → e.state ≡ Done kept → (free : Bool) (a : Apdu)
       → server.server_gets c service (Some e) free a ≡ server.done_gets c e kept a
   kept_gets e kept live state free a =
       ap (λ b. if b then server.live_gets c service e e.state a else server.idle_gets c service (Some e) free a) live
@@ -174,14 +174,14 @@ module _ (c : Context) (service : Service) where
 
 module _ (x : Rules) (Q : Net → ℕ → Bool → Service → Type 0) (key : Key) (number : ℕ) (ask : Ask) (kept : Apdu) (whole : IsWhole kept) where
   -- the entry that was begun for it keeps the answer
-  pub record IsDone (o : Option Entry) : Type 0 where
-    pub entry : Entry
+  pub record IsDone (o : Option ServerTransaction) : Type 0 where
+    pub entry : ServerTransaction
     pub at : o ≡ Some entry
     pub since : ask.first ≤ entry.begin
     pub state : entry.state ≡ Done kept
 
   -- or its server restarted since
-  abbrev IsDoneOrLost : (from : ℕ) → Option Entry → Type 0
+  abbrev IsDoneOrLost : (from : ℕ) → Option ServerTransaction → Type 0
   IsDoneOrLost from o = IsDone o ⊎ ((o ≡ None) × (ask.first + KEEP < from))
 
   abbrev AreWhole : ℕ → List Copy → Type 0
@@ -211,7 +211,7 @@ module _ (x : Rules) (Q : Net → ℕ → Bool → Service → Type 0) (key : Ke
 
   -- a step at a moment at which the ask is in time
   module _ (n : Net) (h : IsAwaited n) (young : InTime n) where
-    live : (e : Entry) → ask.first ≤ e.begin → is_live n.now e ≡ true
+    live : (e : ServerTransaction) → ask.first ≤ e.begin → is_live n.now e ≡ true
     live e since = let clock = h.clock in grind (arith, nat_tests)
 
     -- a server that restarted since begins nothing
@@ -240,7 +240,7 @@ module _ (x : Rules) (Q : Net → ℕ → Bool → Service → Type 0) (key : Ke
         c = server_context x key n.now
 
         go : IsDoneOrLost (n.serves_from key.server) (n.entries key) → Goes (gets service free a)
-        go (inl d) = subst Goes (sym (ap (λ (o : Option Entry). server.server_gets (server_context x key n.now) service o (is_room n key free) a) d.at
+        go (inl d) = subst Goes (sym (ap (λ (o : Option ServerTransaction). server.server_gets (server_context x key n.now) service o (is_room n key free) a) d.at
             ∙ kept_gets (server_context x key n.now) service d.entry kept (live d.entry d.since) d.state (is_room n key free) a)) (
               done_sends (server_context x key n.now) service d.entry kept whole a,
               inl (record {
@@ -265,23 +265,23 @@ module _ (x : Rules) (Q : Net → ℕ → Bool → Service → Type 0) (key : Ke
             (tt, inl (record { entry = d.entry; at = refl; since = d.since; state = d.state }))
         go (inr lost) = subst Goes (ap (server.server_ticks (server_context x key n.now)) (sym lost.0)) (tt, inr (refl, lost.1))
 
-    awaiting : (t : Ticket) → n.tickets key ≡ Some t → Awaits t.phase
-    awaiting t at = subst (λ (y : Ticket). Awaits y.phase) (some_is h.there.ticket t (sym h.there.at ∙ at)) h.phase
+    awaiting : (t : ClientTransaction) → n.tickets key ≡ Some t → Awaits t.phase
+    awaiting t at = subst (λ (y : ClientTransaction). Awaits y.phase) (some_is h.there.ticket t (sym h.there.at ∙ at)) h.phase
 
     held : is_id_held n key ≡ true
     held = held_in_time x Q key number ask n h.there (omega arith)
 
     -- another's ask, an ending or a repeat of its own: what stays to be said of the ticket, the copies and the entry
     record Next (m : Net) : Type 0 where
-      ticket : (u : Ticket) → m.tickets key ≡ Some u → Awaits u.phase
+      ticket : (u : ClientTransaction) → m.tickets key ≡ Some u → Awaits u.phase
       copies : AreWhole m.now (copies_of key m.posts)
       entry : IsDoneOrLost (m.serves_from key.server) (m.entries key)
 
-    client_next : (k : Key) (t : Ticket) (r : Reaction) → (k ≡ key → AwaitsAfter r × Each IsWhole (client.sends_of r)) → n.tickets k ≡ Some t
+    client_next : (k : Key) (t : ClientTransaction) (r : Reaction) → (k ≡ key → AwaitsAfter r × Each IsWhole (client.sends_of r)) → n.tickets k ≡ Some t
         → Next (client_acts n k t r)
     client_next k t r own at = go (decide_key k key)
       where
-        made : Option Ticket
+        made : Option ClientTransaction
         made = Some (client.after n.now t r)
 
         go : ((k ≡ key) ⊎ (k ≡ key → ⊥)) → Next (client_acts n k t r)
@@ -289,7 +289,7 @@ module _ (x : Rules) (Q : Net → ℕ → Bool → Service → Type 0) (key : Ke
           ticket = λ u there.
               let same : client.after n.now t r ≡ u = some_is (client.after n.now t r) u
               (sym (subst (λ (j : Key). set_at n.tickets k made j ≡ made) is (set_same n.tickets k made)) ∙ there) in
-              subst (λ (y : Ticket). Awaits y.phase) same
+              subst (λ (y : ClientTransaction). Awaits y.phase) same
               (after_awaits n.now t r (awaiting t (ap n.tickets (sym is) ∙ at)) (own is).0);
           copies = copies_own n (client.sends_of r) (own is).1 h.copies (client_acts n k t r).posts
               (subst (λ (j : Key). copies_of key (client_acts n j t r).posts ≡ sent n.now (client.sends_of r) (copies_of key n.posts)) (sym is)
@@ -346,11 +346,11 @@ module _ (x : Rules) (Q : Net → ℕ → Bool → Service → Type 0) (key : Ke
     client_lost : (node : ℕ) → Next (client_restarted n node)
     client_lost node = record { ticket = go (nat_eq key.client node); copies = h.copies; entry = h.entry }
       where
-        over : (o : Option Ticket) (u : Ticket) → lost o ≡ Some u → Awaits u.phase
+        over : (o : Option ClientTransaction) (u : ClientTransaction) → lost o ≡ Some u → Awaits u.phase
         over None u e = absurd cc
-        over (Some t) u e = subst (λ (y : Ticket). Awaits y.phase) (some_is (record t { phase = Idle }) u e) tt
+        over (Some t) u e = subst (λ (y : ClientTransaction). Awaits y.phase) (some_is (record t { phase = Idle }) u e) tt
 
-        go : (b : Bool) (u : Ticket) → (if b then lost (n.tickets key) else n.tickets key) ≡ Some u → Awaits u.phase
+        go : (b : Bool) (u : ClientTransaction) → (if b then lost (n.tickets key) else n.tickets key) ≡ Some u → Awaits u.phase
         go true u e = over (n.tickets key) u e
         go false u e = awaiting u e
 
@@ -361,7 +361,7 @@ module _ (x : Rules) (Q : Net → ℕ → Bool → Service → Type 0) (key : Ke
         go true = let clock = h.clock in inr (refl, omega arith)
         go false = h.entry
 
-    own_hears : (k : Key) → k ≡ key → (t : Ticket) → n.tickets k ≡ Some t → (a : Apdu) → IsWhole a
+    own_hears : (k : Key) → k ≡ key → (t : ClientTransaction) → n.tickets k ≡ Some t → (a : Apdu) → IsWhole a
         → (let r = client.client_gets (client_context x k n.now) x.readable t a in AwaitsAfter r × Each IsWhole (client.sends_of r))
     own_hears k is t at a w =
         let c = client_context x k n.now in (
@@ -369,7 +369,7 @@ module _ (x : Rules) (Q : Net → ℕ → Bool → Service → Type 0) (key : Ke
           client_whole c.invoke_id (client.sends_of (client.client_gets c x.readable t a)) (client_sends_own.gets c x.readable t a),
         )
 
-    own_ticks : (k : Key) → k ≡ key → (t : Ticket) → n.tickets k ≡ Some t
+    own_ticks : (k : Key) → k ≡ key → (t : ClientTransaction) → n.tickets k ≡ Some t
         → (let r = client.client_ticks (client_context x k n.now) t in AwaitsAfter r × Each IsWhole (client.sends_of r))
     own_ticks k is t at =
         let c = client_context x k n.now in (

@@ -4,7 +4,7 @@ use Rattle.std.proofs.Common.{refl, sym, ap, subst, inl, inr, ◌∙◌, arith}
 use Rattle.bac_protocol.specs.declared.times.TheConstants.{REST}
 use Rattle.bac_protocol.specs.Service.{Ending}
 use Rattle.bac_protocol.specs.Client as client
-use Rattle.bac_protocol.specs.Client.{Ask, Ticket, Reaction, is_idle, after, ending_of}
+use Rattle.bac_protocol.specs.Client.{Ask, ClientTransaction, Reaction, is_idle, after, ending_of}
 use Rattle.bac_protocol.specs.Client.Phase.{Idle}
 use Rattle.bac_protocol.specs.Client.Reaction.{Stays, GoesOn, Repeats, Ends}
 use Rattle.bac_protocol.specs.Server.{Service}
@@ -23,8 +23,8 @@ use Rattle.bac_progress.proofs.Paths.Path.{Here, Then}
 -- it stays, a new ask takes its place, its client's machine acts on it, or its client restarts
 pub data Change (key : Key) (n m : Net) : Type 0 where
   Same : m.tickets key ≡ n.tickets key → m.numbers key ≡ n.numbers key → Change key n m
-  Fresh : is_id_held n key ≡ false → (t : Ticket) → m.tickets key ≡ Some t → is_idle t.phase ≡ false → t.ask.first ≤ n.now → Change key n m
-  Reacts : (t : Ticket) (r : Reaction) → n.tickets key ≡ Some t → Opens r → m.tickets key ≡ Some (after n.now t r)
+  Fresh : is_id_held n key ≡ false → (t : ClientTransaction) → m.tickets key ≡ Some t → is_idle t.phase ≡ false → t.ask.first ≤ n.now → Change key n m
+  Reacts : (t : ClientTransaction) (r : Reaction) → n.tickets key ≡ Some t → Opens r → m.tickets key ≡ Some (after n.now t r)
       → m.numbers key ≡ n.numbers key → m.log ≡ ended (n.numbers key) (ending_of r) n.log → Change key n m
   Loses : m.tickets key ≡ lost (n.tickets key) → m.numbers key ≡ n.numbers key → m.asks_from key.client ≡ n.now + REST + 1 → Change key n m
 
@@ -37,16 +37,16 @@ ended_grows number log new g h = (h.0, g (Ended number h.0) h.1)
 -- each ticket is of an ask that was made, and where it is idle and its client has not restarted since, the log has its ending
 abbrev pub IdleIsLogged : Net → Type 0
 IdleIsLogged n =
-    (key : Key) (t : Ticket) → n.tickets key ≡ Some t
+    (key : Key) (t : ClientTransaction) → n.tickets key ≡ Some t
     → (t.ask.first ≤ n.now) × (ClientStays n key t.ask → is_idle t.phase ≡ true → HasEnded (n.numbers key) n.log)
 
-after_ask : (now : ℕ) (t : Ticket) (r : Reaction) → (after now t r).ask ≡ t.ask
+after_ask : (now : ℕ) (t : ClientTransaction) (r : Reaction) → (after now t r).ask ≡ t.ask
 after_ask now t Stays = refl
 after_ask now t (GoesOn phase sends) = refl
 after_ask now t (Repeats phase sends) = refl
 after_ask now t (Ends sends how) = refl
 
-after_logged : (number now : ℕ) (t : Ticket) (r : Reaction) (log : List Fact) → Opens r → (is_idle t.phase ≡ true → HasEnded number log)
+after_logged : (number now : ℕ) (t : ClientTransaction) (r : Reaction) (log : List Fact) → Opens r → (is_idle t.phase ≡ true → HasEnded number log)
     → is_idle (after now t r).phase ≡ true → HasEnded number (ended number (ending_of r) log)
 after_logged number now t Stays log opens old idle = old idle
 after_logged number now t (GoesOn phase sends) log opens old idle = absurd cc
@@ -54,7 +54,7 @@ after_logged number now t (Repeats phase sends) log opens old idle = absurd cc
 after_logged number now t (Ends sends how) log opens old idle = (how, inl refl)
 
 module _ (x : Rules) (Q : Net → ℕ → Bool → Service → Type 0) where
-  acts_change : (n : Net) (k : Key) (t : Ticket) (r : Reaction) → n.tickets k ≡ Some t → Opens r → (key : Key) → Change key n (client_acts n k t r)
+  acts_change : (n : Net) (k : Key) (t : ClientTransaction) (r : Reaction) → n.tickets k ≡ Some t → Opens r → (key : Key) → Change key n (client_acts n k t r)
   acts_change n k t r at opens key = go (decide_key k key)
     where
       go : ((k ≡ key) ⊎ (k ≡ key → ⊥)) → Change key n (client_acts n k t r)
@@ -65,7 +65,7 @@ module _ (x : Rules) (Q : Net → ℕ → Bool → Service → Type 0) where
   asks_change : (n : Net) (k : Key) (ask : Ask) → ask.first ≤ n.now → is_id_held n k ≡ false → (key : Key) → Change key n (asked_at x n k ask)
   asks_change n k ask now free key = go (decide_key k key)
     where
-      made : Ticket
+      made : ClientTransaction
       made = client.asked_ticket (client_context x k n.now) ask
 
       made_now : made.ask.first ≤ n.now
@@ -121,10 +121,10 @@ module _ (x : Rules) (Q : Net → ℕ → Bool → Service → Type 0) where
       go (Change.Fresh free u is opens now) =
           let same : u ≡ t = some_is u t (sym is ∙ at) in
           let le = later in
-          let clock = subst (λ (y : Ticket). y.ask.first ≤ n.now) same now in (omega arith, λ stays idle. absurd cc)
+          let clock = subst (λ (y : ClientTransaction). y.ask.first ≤ n.now) same now in (omega arith, λ stays idle. absurd cc)
       go (Change.Reacts u r was opens is f log) =
           let same : after n.now u r ≡ t = some_is (after n.now u r) t (sym is ∙ at) in
-          let ask_is : u.ask ≡ t.ask = sym (after_ask n.now u r) ∙ ap (λ (y : Ticket). y.ask) same in
+          let ask_is : u.ask ≡ t.ask = sym (after_ask n.now u r) ∙ ap (λ (y : ClientTransaction). y.ask) same in
           let old = h key u was in
           let le = later in
           let clock = subst (λ (a : Ask). a.first ≤ n.now) ask_is old.0 in (
@@ -134,16 +134,16 @@ module _ (x : Rules) (Q : Net → ℕ → Bool → Service → Type 0) where
                 subst (λ (k : ℕ). HasEnded k m.log) (sym f) (subst (λ (l : List Fact). HasEnded (n.numbers key) l) (sym log)
                 (after_logged (n.numbers key) n.now u r n.log opens
                 (λ o. old.1 (subst (λ (a : Ask). ClientStays n key a) (sym ask_is) before) o)
-                (ap (λ (y : Ticket). is_idle y.phase) same ∙ idle))),
+                (ap (λ (y : ClientTransaction). is_idle y.phase) same ∙ idle))),
           )
       go (Change.Loses e f from) = taken (n.tickets key) refl (sym e ∙ at)
         where
-          taken : (o : Option Ticket) → n.tickets key ≡ o → lost o ≡ Some t
+          taken : (o : Option ClientTransaction) → n.tickets key ≡ o → lost o ≡ Some t
               → (t.ask.first ≤ m.now) × (ClientStays m key t.ask → is_idle t.phase ≡ true → HasEnded (m.numbers key) m.log)
           taken None was is = absurd cc
           taken (Some u) was is =
               let same : record u { phase = Idle } ≡ t = some_is (record u { phase = Idle }) t is in
-              let clock = subst (λ (a : Ask). a.first ≤ n.now) (ap (λ (y : Ticket). y.ask) same) (h key u was).0 in
+              let clock = subst (λ (a : Ask). a.first ≤ n.now) (ap (λ (y : ClientTransaction). y.ask) same) (h key u was).0 in
               let le = later in (omega arith, λ stays idle. absurd (restarted_since n m key t.ask from clock stays))
 
   pub logged_path : (n m : Net) → Path x Q n m → Bounded n → IdleIsLogged n → IdleIsLogged m
@@ -153,7 +153,7 @@ module _ (x : Rules) (Q : Net → ℕ → Bool → Service → Type 0) where
   -- One ask: its ticket is there, until its invoke ID is free.
   module _ (key : Key) (number : ℕ) (ask : Ask) where
     pub record IsThere (n : Net) : Type 0 where
-      pub ticket : Ticket
+      pub ticket : ClientTransaction
       pub at : n.tickets key ≡ Some ticket
       pub is : ticket.ask ≡ ask
       pub number_is : n.numbers key ≡ number
@@ -169,7 +169,7 @@ module _ (x : Rules) (Q : Net → ℕ → Bool → Service → Type 0) where
             inl (record {
               ticket = after n.now u r;
               at = is;
-              is = after_ask n.now u r ∙ ap (λ (y : Ticket). y.ask) same ∙ h.is;
+              is = after_ask n.now u r ∙ ap (λ (y : ClientTransaction). y.ask) same ∙ h.is;
               number_is = f ∙ h.number_is;
             })
         go (Change.Loses e f from) = inl (record {

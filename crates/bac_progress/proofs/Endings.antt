@@ -11,10 +11,10 @@ use Rattle.bac_protocol.specs.Service.{Ending}
 use Rattle.bac_protocol.specs.Service.Ending.{Expired}
 use Rattle.bac_protocol.specs.Wire.{is_from_client, is_from_server}
 use Rattle.bac_protocol.specs.Client as client
-use Rattle.bac_protocol.specs.Client.{Ask, Phase, Ticket, is_idle, is_held, is_expired, ending_of}
+use Rattle.bac_protocol.specs.Client.{Ask, Phase, ClientTransaction, is_idle, is_held, is_expired, ending_of}
 use Rattle.bac_protocol.specs.Client.Phase.{SegmentedRequest, AwaitConfirmation, SegmentedConf, Idle}
 use Rattle.bac_protocol.specs.Client.Reaction.{Stays, Ends}
-use Rattle.bac_protocol.specs.Log.{Fact, Shop, IsUnended, IsOrderly}
+use Rattle.bac_protocol.specs.Log.{Fact, StoreModel, IsUnended, IsOrderly}
 use Rattle.bac_protocol.specs.Log.Fact.{Asked, Performed, Ended, Changed, Restarted}
 use Rattle.bac_protocol.specs.Transaction.{Key, Rules, client_context, ended}
 use Rattle.bac_protocol.specs.World.{Net, World, Event, is_held_since, is_id_held, happens, run, start, ticks_ticket, ticks_as_client, ticks_as_server}
@@ -96,7 +96,7 @@ contains_tail k keys key (zero, lt, e) = inl e
 contains_tail k keys key (suc i, lt, e) = inr (i, omega arith, e)
 
 -- a copy on its way is delivered
-arrives_now : (S : Type 0) (shop : Shop S) (x : Rules) (w : World S) (key : Key) (a : Apdu) (number : ℕ) (free : Bool)
+arrives_now : (S : Type 0) (shop : StoreModel S) (x : Rules) (w : World S) (key : Key) (a : Apdu) (number : ℕ) (free : Bool)
     → IsOnItsWay x w.net key a number → happens S shop x w (Deliver number free) ≡ arrives S shop x w key free a
 arrives_now S shop x w key a number free m =
     ap (delivered S shop x w number free) m.at
@@ -104,7 +104,7 @@ arrives_now S shop x w key a number free m =
     ∙ (λ i. arrives S shop x w (m.key_is i) free (m.apdu_is i))
 
 -- to the server, where it is a client's
-pub request_now : (S : Type 0) (shop : Shop S) (x : Rules) (w : World S) (key : Key) (a : Apdu) (number : ℕ) (free : Bool)
+pub request_now : (S : Type 0) (shop : StoreModel S) (x : Rules) (w : World S) (key : Key) (a : Apdu) (number : ℕ) (free : Bool)
     → is_from_client a ≡ true → IsOnItsWay x w.net key a number
     → happens S shop x w (Deliver number free) ≡ takes_at_server S shop x w key free a
 request_now S shop x w key a number free up m =
@@ -112,7 +112,7 @@ request_now S shop x w key a number free up m =
     ∙ ap (λ b. if b then takes_at_server S shop x w key free a else takes_at_client S x w key a (w.net.tickets key)) up
 
 -- and otherwise to the client
-pub answer_now : (S : Type 0) (shop : Shop S) (x : Rules) (w : World S) (key : Key) (a : Apdu) (number : ℕ) (free : Bool)
+pub answer_now : (S : Type 0) (shop : StoreModel S) (x : Rules) (w : World S) (key : Key) (a : Apdu) (number : ℕ) (free : Bool)
     → is_from_client a ≡ false → IsOnItsWay x w.net key a number
     → happens S shop x w (Deliver number free) ≡ takes_at_client S x w key a (w.net.tickets key)
 answer_now S shop x w key a number free down m =
@@ -120,7 +120,7 @@ answer_now S shop x w key a number free down m =
     ∙ ap (λ b. if b then takes_at_server S shop x w key free a else takes_at_client S x w key a (w.net.tickets key)) down
 
 -- a ticket that holds its invoke ID no longer, where its client has not restarted since
-unheld : (n : Net) (key : Key) (t : Ticket) → n.tickets key ≡ Some t → ClientStays n key t.ask → is_id_held n key ≡ false → is_held n.now t ≡ false
+unheld : (n : Net) (key : Key) (t : ClientTransaction) → n.tickets key ≡ Some t → ClientStays n key t.ask → is_id_held n key ≡ false → is_held n.now t ≡ false
 unheld n key t at stays free = go (nat_lt n.now (n.asks_from key.client)) (sym free)
   where
     since : nat_le (n.asks_from key.client) (t.ask.first + REST) ≡ true
@@ -155,12 +155,12 @@ module _ (x : Rules) (key : Key) (number : ℕ) (ask : Ask) where
       tracked_step l m s before (logged_path x Any n l p b logged) (tracked_path n l p b before logged h)
 
   -- past DEADLINE a client's step ends it
-  module _ (S : Type 0) (shop : Shop S) (w : World S) (stays : ClientStays w.net key ask) (logged : IdleIsLogged w.net)
+  module _ (S : Type 0) (shop : StoreModel S) (w : World S) (stays : ClientStays w.net key ask) (logged : IdleIsLogged w.net)
       (late : DEADLINE < w.net.now - ask.first) where
     abbrev c : Context
     c = client_context x key w.net.now
 
-    expired : (t : Ticket) → t.ask ≡ ask → is_expired w.net.now t.ask ≡ true
+    expired : (t : ClientTransaction) → t.ask ≡ ask → is_expired w.net.now t.ask ≡ true
     expired t is = ap (is_expired w.net.now) is ∙ grind (arith, nat_tests)
 
     own_log : IsThere x Any key number ask w.net → (o : Option Ending) → HasEnded number (ended number o w.net.log)
@@ -174,7 +174,7 @@ module _ (x : Rules) (key : Key) (number : ℕ) (ask : Ask) where
     late_tick : Tracked w.net → HasEnded number (ticks_ticket S x w key (w.net.tickets key)).net.log
     late_tick (inr h) = let u = ticks_ticket S x w key (w.net.tickets key) in
         ended_grows number w.net.log u.net.log (path_log x Any w.net u.net (ticket_path x Any S shop w key (w.net.tickets key) refl)) h
-    late_tick (inl h) = subst (λ (o : Option Ticket). HasEnded number (ticks_ticket S x w key o).net.log) (sym h.at)
+    late_tick (inl h) = subst (λ (o : Option ClientTransaction). HasEnded number (ticks_ticket S x w key o).net.log) (sym h.at)
         (own_log h (ending_of (client.client_ticks c h.ticket)) (go (is_idle h.ticket.phase) refl (is_expired w.net.now h.ticket.ask) (expired h.ticket h.is)))
       where
         go : (b : Bool) → is_idle h.ticket.phase ≡ b → (d : Bool) → d ≡ true
@@ -186,7 +186,7 @@ module _ (x : Rules) (key : Key) (number : ℕ) (ask : Ask) where
 
     late_answer : (a : Apdu) → is_from_server a ≡ true → IsThere x Any key number ask w.net
         → HasEnded number (takes_at_client S x w key a (w.net.tickets key)).net.log
-    late_answer a from h = subst (λ (o : Option Ticket). HasEnded number (takes_at_client S x w key a o).net.log) (sym h.at)
+    late_answer a from h = subst (λ (o : Option ClientTransaction). HasEnded number (takes_at_client S x w key a o).net.log) (sym h.at)
         (own_log h (ending_of (client.client_gets c x.readable h.ticket a))
         (go (is_idle h.ticket.phase) refl (is_from_server a) from (is_expired w.net.now h.ticket.ask) (expired h.ticket h.is)))
       where
@@ -199,8 +199,8 @@ module _ (x : Rules) (key : Key) (number : ℕ) (ask : Ask) where
         go false e false g d i = absurd cc
 
 -- On worlds: the keys before it tick, then its own, then the others.
-module _ (S : Type 0) (shop : Shop S) (x : Rules) (key : Key) (number : ℕ) (ask : Ask) where
-  still_now : (w : World S) (k : Key) (o : Option Ticket) → (ticks_ticket S x w k o).net.now ≡ w.net.now
+module _ (S : Type 0) (shop : StoreModel S) (x : Rules) (key : Key) (number : ℕ) (ask : Ask) where
+  still_now : (w : World S) (k : Key) (o : Option ClientTransaction) → (ticks_ticket S x w k o).net.now ≡ w.net.now
   still_now w k None = refl
   still_now w k (Some t) = refl
 
@@ -215,7 +215,7 @@ module _ (S : Type 0) (shop : Shop S) (x : Rules) (key : Key) (number : ℕ) (as
       on : Path x Any w.net u.net
       on = ticket_path x Any S shop w k (w.net.tickets k) refl
 
-      stays_now : (o : Option Ticket) → ClientStays (ticks_ticket S x w k o).net key ask
+      stays_now : (o : Option ClientTransaction) → ClientStays (ticks_ticket S x w k o).net key ask
       stays_now None = stays
       stays_now (Some u) = stays
 
@@ -247,7 +247,7 @@ module _ (S : Type 0) (shop : Shop S) (x : Rules) (key : Key) (number : ℕ) (as
       (late_answer x key number ask S shop w stays logged late a from h)
 
 -- In every run.
-module _ (S : Type 0) (shop : Shop S) (opening : ℕ → S) (W : ℕ) (x : Rules) (bound : IsBounded W x) where
+module _ (S : Type 0) (shop : StoreModel S) (opening : ℕ → S) (W : ℕ) (x : Rules) (bound : IsBounded W x) where
   pub bounded_in_run : (events : List Event) → Bounded (run S shop x events (start S opening)).net
   bounded_in_run events =
       path_bounded x Any (start S opening).net (run S shop x events (start S opening)).net (run_steps x S shop events (start S opening)) bounded_start
@@ -279,7 +279,7 @@ module _ (S : Type 0) (shop : Shop S) (opening : ℕ → S) (W : ℕ) (x : Rules
       logged_on : (events : List Event) → IdleIsLogged (run S shop x events w).net
       logged_on events = logged_path x Any w.net (run S shop x events w).net (run_steps x S shop events w) b logged
 
-      tracked : (key : Key) (t : Ticket) → w.net.tickets key ≡ Some t → (events : List Event)
+      tracked : (key : Key) (t : ClientTransaction) → w.net.tickets key ≡ Some t → (events : List Event)
           → ClientStays (run S shop x events w).net key t.ask → Tracked x key (w.net.numbers key) t.ask (run S shop x events w).net
       tracked key t at events stays = tracked_path x key (w.net.numbers key) t.ask w.net (run S shop x events w).net (run_steps x S shop events w) b
           stays logged

@@ -3,18 +3,18 @@ use Rattle.std.proofs.Common.{◌≡◌, ℕ, ◌+◌, ◌-◌, ◌<◌, ◌≤�
 use Rattle.std.proofs.Common.{slice_get, if◌then◌else◌, nat_le, nat_eq, refl, sym, subst, inl, inr, ◌∙◌, arith, append_assoc, append-nil}
 use Rattle.std.proofs.lemmas.Bool.Decides.{nat_tests}
 use Rattle.bac_apdu.specs.Apdu.{Apdu}
-use Rattle.bac_segment.specs.Limits.{RETRIES}
+use Rattle.bac_segment.specs.Limits.{N_RETRY}
 use Rattle.bac_segment.specs.Window.{outgoing, in_window, Incoming}
 use Rattle.bac_protocol.specs.declared.times.TheConstants.{LIFE}
 use Rattle.bac_protocol.specs.Context.{Context}
 use Rattle.bac_protocol.specs.Service.{Octets}
 use Rattle.bac_protocol.specs.Wire.{is_from_client, Each}
 use Rattle.bac_protocol.specs.Client as client
-use Rattle.bac_protocol.specs.Client.{Ask, Phase, Ticket}
+use Rattle.bac_protocol.specs.Client.{Ask, Phase, ClientTransaction}
 use Rattle.bac_protocol.specs.Client.Phase.{SegmentedRequest, SegmentedConf, Idle}
 use Rattle.bac_protocol.specs.Server as server
-use Rattle.bac_protocol.specs.Server.{Entry}
-use Rattle.bac_protocol.specs.Log.{Shop}
+use Rattle.bac_protocol.specs.Server.{ServerTransaction}
+use Rattle.bac_protocol.specs.Log.{StoreModel}
 use Rattle.bac_protocol.specs.Own.{lesser_window, IsOwnPost, AreOwn}
 use Rattle.bac_protocol.specs.Transaction.{Key, Rules, Copy, client_context, server_context}
 use Rattle.bac_protocol.specs.World.{Net, World, Post, Event, later, is_deliverable, copies_of, is_id_held, is_room, lost, asked_at, ask_made, client_acts, server_acts}
@@ -37,39 +37,39 @@ use Rattle.bac_progress.proofs.Flow.{reach, SaysLimits, AllUp, all_up, all_limit
 use Rattle.bac_progress.proofs.InRun.{L_small, ticks_flow, entry_ticks_flow, served_flow, served_by, heard_by}
 
 module _ (W : ℕ) (x : Rules) (bound : IsBounded W x) (key : Key) (some : 0 < lesser_window x key) where
-  abbrev pub FlowOf : ℕ → Ticket → Option Entry → List Copy → Type 0
+  abbrev pub FlowOf : ℕ → ClientTransaction → Option ServerTransaction → List Copy → Type 0
   FlowOf now t o copies = Flow W x key now t.ask t.repeats t.phase o copies
 
   abbrev pub FlowAt : Net → Type 0
-  FlowAt n = (t : Ticket) → n.tickets key ≡ Some t → FlowOf n.now t (n.entries key) (copies_of key n.posts)
+  FlowAt n = (t : ClientTransaction) → n.tickets key ≡ Some t → FlowOf n.now t (n.entries key) (copies_of key n.posts)
 
   abbrev LimitsIn : List Copy → Type 0
   LimitsIn copies = EachCopy (λ k c. SaysLimits (x.settings key.client).limits c.apdu) copies
 
   -- What one end does.
 
-  client_own : (n : Net) (t : Ticket) (r : client.Reaction)
+  client_own : (n : Net) (t : ClientTransaction) (r : client.Reaction)
       → FlowOf n.now (client.after n.now t r) (n.entries key) (sent n.now (client.sends_of r) (copies_of key n.posts)) → FlowAt (client_acts n key t r)
   client_own n t r flow u at =
       let made = client.after n.now t r in
       let same : made ≡ u = some_is made u (sym (set_same n.tickets key (Some made)) ∙ at) in
-      subst (λ (y : Ticket). FlowOf n.now y (n.entries key) (copies_of key (n.posts ++ map (post_of key n.now) (client.sends_of r)))) same
+      subst (λ (y : ClientTransaction). FlowOf n.now y (n.entries key) (copies_of key (n.posts ++ map (post_of key n.now) (client.sends_of r)))) same
       (subst (λ (cs : List Copy). FlowOf n.now made (n.entries key) cs) (sym (copies_posted key n.now (client.sends_of r) n.posts)) flow)
 
-  client_other : (n : Net) (k : Key) (t : Ticket) (r : client.Reaction) → (k ≡ key → ⊥) → FlowAt n → FlowAt (client_acts n k t r)
+  client_other : (n : Net) (k : Key) (t : ClientTransaction) (r : client.Reaction) → (k ≡ key → ⊥) → FlowAt n → FlowAt (client_acts n k t r)
   client_other n k t r ne flow u at =
       subst (λ (cs : List Copy). FlowOf n.now u (n.entries key) cs) (sym (copies_other k key ne n.now (client.sends_of r) n.posts))
       (flow u (sym (set_other n.tickets k (Some (client.after n.now t r)) key ne) ∙ at))
 
   server_own : (n : Net) (v : server.Reaction)
-      → ((t : Ticket) → n.tickets key ≡ Some t → FlowOf n.now t v.entry (sent n.now v.sends (copies_of key n.posts))) → FlowAt (server_acts n key v)
+      → ((t : ClientTransaction) → n.tickets key ≡ Some t → FlowOf n.now t v.entry (sent n.now v.sends (copies_of key n.posts))) → FlowAt (server_acts n key v)
   server_own n v flow u at =
-      subst (λ (o : Option Entry). FlowOf n.now u o (copies_of key (n.posts ++ map (post_of key n.now) v.sends))) (sym (set_same n.entries key v.entry))
+      subst (λ (o : Option ServerTransaction). FlowOf n.now u o (copies_of key (n.posts ++ map (post_of key n.now) v.sends))) (sym (set_same n.entries key v.entry))
       (subst (λ (cs : List Copy). FlowOf n.now u v.entry cs) (sym (copies_posted key n.now v.sends n.posts)) (flow u at))
 
   server_other : (n : Net) (k : Key) (v : server.Reaction) → (k ≡ key → ⊥) → FlowAt n → FlowAt (server_acts n k v)
   server_other n k v ne flow u at =
-      subst (λ (o : Option Entry). FlowOf n.now u o (copies_of key (n.posts ++ map (post_of k n.now) v.sends))) (sym (set_other n.entries k v.entry key ne))
+      subst (λ (o : Option ServerTransaction). FlowOf n.now u o (copies_of key (n.posts ++ map (post_of k n.now) v.sends))) (sym (set_other n.entries k v.entry key ne))
       (subst (λ (cs : List Copy). FlowOf n.now u (n.entries key) cs) (sym (copies_other k key ne n.now v.sends n.posts)) (flow u at))
 
   -- An ask.
@@ -93,7 +93,7 @@ module _ (W : ℕ) (x : Rules) (bound : IsBounded W x) (key : Key) (some : 0 < l
     abbrev phase_of : Bool → Phase
     phase_of whole = (client.asked_ticket c (ask_of whole)).phase
 
-    past : (e : Entry) → n.entries key ≡ Some e → now ≤ e.begin → ⊥
+    past : (e : ServerTransaction) → n.entries key ≡ Some e → now ≤ e.begin → ⊥
     past e at begun = let d = spent.dead e at in omega arith
 
     limits_said : (whole : Bool) → Each (SaysLimits (x.settings key.client).limits) (sends whole)
@@ -112,7 +112,7 @@ module _ (W : ℕ) (x : Rules) (bound : IsBounded W x) (key : Key) (some : 0 < l
         all_up W now (reach (outgoing ps)) (reach (outgoing ps)) ps (sends false) (copies_of key n.posts) (omega arith) (omega arith)
         (request_window_near W c choice (outgoing ps) (omega arith)) (λ k d e young. absurd (spent.old k d e young))
 
-    phase_flows : (whole : Bool) → PhaseFlows (lesser_window x key) (ask_of whole) RETRIES (phase_of whole)
+    phase_flows : (whole : Bool) → PhaseFlows (lesser_window x key) (ask_of whole) N_RETRY (phase_of whole)
     phase_flows true = tt
     phase_flows false = (
       record { pieces_are = refl; left = omega arith; window = inl (refl, refl) },
@@ -120,7 +120,7 @@ module _ (W : ℕ) (x : Rules) (bound : IsBounded W x) (key : Key) (some : 0 < l
     )
       where
         go : (b : Bool) → nat_le (length ps) (0 + in_window (outgoing ps)) ≡ b
-            → ((false || b) ≡ true) ⊎ ((RETRIES ≡ RETRIES) × (reach (outgoing ps) < length ps))
+            → ((false || b) ≡ true) ⊎ ((N_RETRY ≡ N_RETRY) × (reach (outgoing ps) < length ps))
         go true e = inl refl
         go false e = inr (refl, grind (arith, nat_tests))
 
@@ -128,18 +128,18 @@ module _ (W : ℕ) (x : Rules) (bound : IsBounded W x) (key : Key) (some : 0 < l
     not_collecting true inc e = absurd cc
     not_collecting false inc e = absurd cc
 
-    abbrev ticket_of : Bool → Ticket
+    abbrev ticket_of : Bool → ClientTransaction
     ticket_of whole = client.asked_ticket c (ask_of whole)
 
     asked_ask : (whole : Bool) → (ticket_of whole).ask ≡ ask_of whole
     asked_ask true = refl
     asked_ask false = refl
 
-    asked_repeats : (whole : Bool) → (ticket_of whole).repeats ≡ RETRIES
+    asked_repeats : (whole : Bool) → (ticket_of whole).repeats ≡ N_RETRY
     asked_repeats true = refl
     asked_repeats false = refl
 
-    asked_flow : (whole : Bool) → Flow W x key now (ask_of whole) RETRIES (phase_of whole) (n.entries key) (sent now (sends whole) (copies_of key n.posts))
+    asked_flow : (whole : Bool) → Flow W x key now (ask_of whole) N_RETRY (phase_of whole) (n.entries key) (sent now (sends whole) (copies_of key n.posts))
     asked_flow whole = record {
       some = omega arith;
       few = omega arith;
@@ -159,7 +159,7 @@ module _ (W : ℕ) (x : Rules) (bound : IsBounded W x) (key : Key) (some : 0 < l
     ask_own : (whole : Bool) → FlowAt (asked_at x n key (ask_of whole))
     ask_own whole u at =
         let same : ticket_of whole ≡ u = some_is (ticket_of whole) u (sym (set_same n.tickets key (Some (ticket_of whole))) ∙ at) in
-        subst (λ (y : Ticket). FlowOf now y (n.entries key) (copies_of key (n.posts ++ map (post_of key now) (sends whole)))) same
+        subst (λ (y : ClientTransaction). FlowOf now y (n.entries key) (copies_of key (n.posts ++ map (post_of key now) (sends whole)))) same
         (subst (λ (cs : List Copy). FlowOf now (ticket_of whole) (n.entries key) cs) (sym (copies_posted key now (sends whole) n.posts)) (flow_asked whole))
 
   ask_other : (n : Net) (k : Key) (ask : Ask) → (k ≡ key → ⊥) → FlowAt n → FlowAt (asked_at x n k ask)
@@ -171,7 +171,7 @@ module _ (W : ℕ) (x : Rules) (bound : IsBounded W x) (key : Key) (some : 0 < l
   limits_at : (n : Net) → NetSound W n → FlowAt n → LimitsIn (copies_of key n.posts)
   limits_at n s flow = go (n.tickets key) refl
     where
-      go : (o : Option Ticket) → n.tickets key ≡ o → LimitsIn (copies_of key n.posts)
+      go : (o : Option ClientTransaction) → n.tickets key ≡ o → LimitsIn (copies_of key n.posts)
       go (Some t) at = (flow t at).limits
       go None at = subst LimitsIn (sym ((sound_at W n key None at s).no_copies)) (λ k d e. absurd cc)
 
@@ -180,15 +180,15 @@ module _ (W : ℕ) (x : Rules) (bound : IsBounded W x) (key : Key) (some : 0 < l
   client_lost : (n : Net) → FlowAt n → (node : ℕ) → FlowAt (client_restarted n node)
   client_lost n flow node = go (nat_eq key.client node)
     where
-      idle : (o : Option Ticket) → n.tickets key ≡ o → (u : Ticket) → lost o ≡ Some u → FlowOf n.now u (n.entries key) (copies_of key n.posts)
+      idle : (o : Option ClientTransaction) → n.tickets key ≡ o → (u : ClientTransaction) → lost o ≡ Some u → FlowOf n.now u (n.entries key) (copies_of key n.posts)
       idle None was u is = absurd cc
       idle (Some t) was u is =
           let f = flow t was in
           let same : record t { phase = Idle } ≡ u = some_is (record t { phase = Idle }) u is in
-          subst (λ (y : Ticket). FlowOf n.now y (n.entries key) (copies_of key n.posts)) same
+          subst (λ (y : ClientTransaction). FlowOf n.now y (n.entries key) (copies_of key n.posts)) same
           (client_flows W x key n.now t.ask t.phase (n.entries key) (copies_of key n.posts) t.repeats t.repeats Idle [] (λ e. e) f.few f tt tt tt)
 
-      go : (b : Bool) → (t : Ticket) → (if b then lost (n.tickets key) else n.tickets key) ≡ Some t
+      go : (b : Bool) → (t : ClientTransaction) → (if b then lost (n.tickets key) else n.tickets key) ≡ Some t
           → FlowOf n.now t (n.entries key) (copies_of key n.posts)
       go true = idle (n.tickets key) refl
       go false = flow
@@ -213,7 +213,7 @@ module _ (W : ℕ) (x : Rules) (bound : IsBounded W x) (key : Key) (some : 0 < l
       }
       go false = f
 
-  module _ (S : Type 0) (shop : Shop S) (opening : ℕ → S) where
+  module _ (S : Type 0) (shop : StoreModel S) (opening : ℕ → S) where
     asks_on : (w : World S) → Kept S shop opening W x bound w → FlowAt w.net → (k : Key) (choice : ℕ) (whole : Bool) (front : Octets) (rest : List Octets)
         → (b : Bool) → is_id_held w.net k ≡ b
         → FlowAt (if b then w
@@ -244,7 +244,7 @@ module _ (W : ℕ) (x : Rules) (bound : IsBounded W x) (key : Key) (some : 0 < l
         v : Key → server.Reaction
         v j = server.server_gets (server_context x j n.now) (service_of S shop w j) (n.entries j) (is_room n j free) p.copy.apdu
 
-        mine : p.key ≡ key → (t : Ticket) → n.tickets key ≡ Some t → FlowOf n.now t (v key).entry (sent n.now (v key).sends (copies_of key n.posts))
+        mine : p.key ≡ key → (t : ClientTransaction) → n.tickets key ≡ Some t → FlowOf n.now t (v key).entry (sent n.now (v key).sends (copies_of key n.posts))
         mine is t there =
             let f = sound_at W n key (Some t) there s.net in
             let place = subst (λ (j : Key). slice_get (copies_of j n.posts) (later j number n.posts) ≡ Some p.copy) is (copy_at number n.posts p at) in
@@ -260,7 +260,7 @@ module _ (W : ℕ) (x : Rules) (bound : IsBounded W x) (key : Key) (some : 0 < l
 
     heard_on : (w : World S) → Kept S shop opening W x bound w → AreOwn x w.net → FlowAt w.net → (number : ℕ) (p : Post)
         → slice_get w.net.posts number ≡ Some p → w.net.now - p.copy.moment ≤ LIFE → later p.key number w.net.posts ≤ x.overtake
-        → is_from_client p.copy.apdu ≡ false → (o : Option Ticket) → w.net.tickets p.key ≡ o
+        → is_from_client p.copy.apdu ≡ false → (o : Option ClientTransaction) → w.net.tickets p.key ≡ o
         → FlowAt (takes_at_client S x w p.key p.copy.apdu o).net
     heard_on w s own flow number p at young few down None there = flow
     heard_on w s own flow number p at young few down (Some t) there = go (decide_key p.key key)
@@ -306,7 +306,7 @@ module _ (W : ℕ) (x : Rules) (bound : IsBounded W x) (key : Key) (some : 0 < l
 
     -- Ticks.
 
-    ticket_on : (w : World S) → FlowAt w.net → (k : Key) (o : Option Ticket) → w.net.tickets k ≡ o → FlowAt (ticks_ticket S x w k o).net
+    ticket_on : (w : World S) → FlowAt w.net → (k : Key) (o : Option ClientTransaction) → w.net.tickets k ≡ o → FlowAt (ticks_ticket S x w k o).net
     ticket_on w flow k None there = flow
     ticket_on w flow k (Some t) there = go (decide_key k key)
       where

@@ -6,10 +6,10 @@ use Rattle.bac_protocol.specs.declared.times.TheConstants.{KEEP, REST}
 use Rattle.bac_protocol.specs.Service.{Octets, Ending}
 use Rattle.bac_protocol.specs.Wire.{is_from_client}
 use Rattle.bac_protocol.specs.Client as client
-use Rattle.bac_protocol.specs.Client.{Ask, Ticket}
+use Rattle.bac_protocol.specs.Client.{Ask, ClientTransaction}
 use Rattle.bac_protocol.specs.Server as server
 use Rattle.bac_protocol.specs.Server.{Effect, Service}
-use Rattle.bac_protocol.specs.Log.{Fact, Shop}
+use Rattle.bac_protocol.specs.Log.{Fact, StoreModel}
 use Rattle.bac_protocol.specs.Log.Fact.{Ended, Changed, Restarted}
 use Rattle.bac_protocol.specs.Transaction.{Key, Rules, client_context, server_context, ended, performed}
 use Rattle.bac_protocol.specs.World.{Net, World, Post, Event, is_deliverable, is_id_held, is_room, asked_at, ask_made, server_acts, notes_change, client_restarted, server_restarted}
@@ -36,9 +36,9 @@ pub data Step (x : Rules) (Q : Net → ℕ → Bool → Service → Type 0) (n :
       → Step x Q n (asked_at x n key (ask_of n.now choice whole front rest))
   Serves : (number : ℕ) (p : Post) (free : Bool) (service : Service) → Comes x n number p → is_from_client p.copy.apdu ≡ true
       → Q n number free service → Step x Q n (taken_by_server x n p free service)
-  Hears : (number : ℕ) (p : Post) (t : Ticket) → Comes x n number p → is_from_client p.copy.apdu ≡ false → n.tickets p.key ≡ Some t
+  Hears : (number : ℕ) (p : Post) (t : ClientTransaction) → Comes x n number p → is_from_client p.copy.apdu ≡ false → n.tickets p.key ≡ Some t
       → Step x Q n (taken_by_client x n p (Some t))
-  TicksTicket : (key : Key) (t : Ticket) → n.tickets key ≡ Some t → Step x Q n (ticket_ticked x n key (Some t))
+  TicksTicket : (key : Key) (t : ClientTransaction) → n.tickets key ≡ Some t → Step x Q n (ticket_ticked x n key (Some t))
   TicksEntry : (key : Key) → Step x Q n (server_acts n key (server.server_ticks (server_context x key n.now) (n.entries key)))
   Passes : (by : ℕ) → Step x Q n (record n { now = n.now + by })
   Changes : (node : ℕ) (change : Octets) → Step x Q n (notes_change n node change)
@@ -194,7 +194,7 @@ module _ (x : Rules) (Q : Net → ℕ → Bool → Service → Type 0) where
   step_path n m s = Then n m Here s
 
   -- A run of events is a path.
-  module _ (S : Type 0) (shop : Shop S) where
+  module _ (S : Type 0) (shop : StoreModel S) where
     -- what the premise says of an event
     abbrev pub Gives : World S → Event → Type 0
     Gives w (Deliver number free) = (p : Post) → slice_get w.net.posts number ≡ Some p → is_from_client p.copy.apdu ≡ true
@@ -208,7 +208,7 @@ module _ (x : Rules) (Q : Net → ℕ → Bool → Service → Type 0) where
     ask_path w key choice whole front rest false e =
         step_path w.net (asked_at x w.net key (ask_of w.net.now choice whole front rest)) (Asks key choice whole front rest e)
 
-    hears_path : (w : World S) (number : ℕ) (p : Post) → Comes x w.net number p → is_from_client p.copy.apdu ≡ false → (o : Option Ticket)
+    hears_path : (w : World S) (number : ℕ) (p : Post) → Comes x w.net number p → is_from_client p.copy.apdu ≡ false → (o : Option ClientTransaction)
         → w.net.tickets p.key ≡ o → Path x Q w.net (takes_at_client S x w p.key p.copy.apdu o).net
     hears_path w number p at down None there = Here
     hears_path w number p at down (Some t) there = step_path w.net (taken_by_client x w.net p (Some t)) (Hears number p t at down there)
@@ -228,7 +228,7 @@ module _ (x : Rules) (Q : Net → ℕ → Bool → Service → Type 0) where
             (Serves number p free service (record { at = e; arrives = arrives }) up (q p e up arrives))
         go true arrives false down = hears_path w number p (record { at = e; arrives = arrives }) down (w.net.tickets p.key) refl
 
-    pub ticket_path : (w : World S) (key : Key) (o : Option Ticket) → w.net.tickets key ≡ o → Path x Q w.net (ticks_ticket S x w key o).net
+    pub ticket_path : (w : World S) (key : Key) (o : Option ClientTransaction) → w.net.tickets key ≡ o → Path x Q w.net (ticks_ticket S x w key o).net
     ticket_path w key None e = Here
     ticket_path w key (Some t) e = step_path w.net (ticket_ticked x w.net key (Some t)) (TicksTicket key t e)
 
@@ -267,7 +267,7 @@ module _ (x : Rules) (Q : Net → ℕ → Bool → Service → Type 0) where
 abbrev pub Any : Net → ℕ → Bool → Service → Type 0
 Any n number free service = Unit {0}
 
-module _ (x : Rules) (S : Type 0) (shop : Shop S) where
+module _ (x : Rules) (S : Type 0) (shop : StoreModel S) where
   any_event : (w : World S) (e : Event) → Gives x Any S shop w e
   any_event w (MakeAsk key choice whole front rest) = tt
   any_event w (Deliver number free) = λ p at up arrives. tt

@@ -9,11 +9,11 @@ use Rattle.bac_protocol.specs.declared.times.TheConstants.{T_OUT, LIFE, KEEP}
 use Rattle.bac_protocol.specs.Service.{Octets, Reply}
 use Rattle.bac_protocol.specs.Service.Ending.{Answered}
 use Rattle.bac_protocol.specs.Client as client
-use Rattle.bac_protocol.specs.Client.{Ask, Ticket, is_idle, request_of}
+use Rattle.bac_protocol.specs.Client.{Ask, ClientTransaction, is_idle, request_of}
 use Rattle.bac_protocol.specs.Client.Phase.{AwaitConfirmation}
 use Rattle.bac_protocol.specs.Client.Reaction.{Repeats}
-use Rattle.bac_protocol.specs.Server.{Entry, is_live, is_none_live}
-use Rattle.bac_protocol.specs.Log.{Fact, Has, Shop}
+use Rattle.bac_protocol.specs.Server.{ServerTransaction, is_live, is_none_live}
+use Rattle.bac_protocol.specs.Log.{Fact, Has, StoreModel}
 use Rattle.bac_protocol.specs.Log.Fact.{Asked, Performed, Ended}
 use Rattle.bac_protocol.specs.Transaction.{Key, Rules, client_context}
 use Rattle.bac_protocol.specs.World.{Net, World, Post, Event, is_deliverable, is_id_held, asked_at, ask_made}
@@ -41,7 +41,7 @@ pub at_end : (xs : List Post) (q : Post) → slice_get (xs ++ q ∷ []) (length 
 at_end [] q = refl
 at_end (p ∷ xs) q = at_end xs q
 
-module _ (S : Type 0) (shop : Shop S) (x : Rules) (key : Key) (ask : Ask) (number : ℕ) (whole : ask.whole ≡ true) where
+module _ (S : Type 0) (shop : StoreModel S) (x : Rules) (key : Key) (ask : Ask) (number : ℕ) (whole : ask.whole ≡ true) where
   abbrev On : World S → Type 0
   On w = Waits x key ask number w.net
 
@@ -93,11 +93,11 @@ module _ (S : Type 0) (shop : Shop S) (x : Rules) (key : Key) (ask : Ask) (numbe
       go (inr (idle, inr lost)) = absurd (omega arith)
 
   -- a tick that is due
-  sent_again : (v : World S) → On v → Young v → (t : Ticket) → v.net.tickets key ≡ Some t → t.phase ≡ AwaitConfirmation → T_OUT ≤ v.net.now - t.since
+  sent_again : (v : World S) → On v → Young v → (t : ClientTransaction) → v.net.tickets key ≡ Some t → t.phase ≡ AwaitConfirmation → T_OUT ≤ v.net.now - t.since
       → (as_client as_server : List Key) → Contains as_client key
       → IsSentAgain x key ask t v.net (happens S shop x v (Tick as_client as_server)).net
   sent_again v h young t at awaits due as_client as_server i =
-      go (subst (λ (y : Ticket). PatientOrOver x key ask number (v.net.asks_from key.client) v.net.now y v.net.log) same h.ticket.state)
+      go (subst (λ (y : ClientTransaction). PatientOrOver x key ask number (v.net.asks_from key.client) v.net.now y v.net.log) same h.ticket.state)
     where
       same : h.ticket.ticket ≡ t
       same = some_is h.ticket.ticket t (sym h.ticket.at ∙ at)
@@ -107,7 +107,7 @@ module _ (S : Type 0) (shop : Shop S) (x : Rules) (key : Key) (ask : Ask) (numbe
       go (inr o) = absurd (let z = sym o.0 ∙ ap is_idle awaits in cc)
       go (inl w) =
           let sends = tick_sends S shop x key ask number whole v t as_client as_server at
-          (subst (λ (y : Ticket). y.ask ≡ ask) same h.ticket.is) w young due h.entry i in
+          (subst (λ (y : ClientTransaction). y.ask ≡ ask) same h.ticket.is) w young due h.entry i in
           record { left = repeat_left x key ask number v.net.now t w young due; sent = sends.copies_are; ticket = sends.ticket }
 
   -- where a copy of the request and the answer that it brings get through
@@ -233,7 +233,7 @@ asked_on W x n s key choice front rest calm free = record {
     spent : IsSpent (one n key)
     spent = spent_free W n s calm key free
 
-    none_live : (o : Option Entry) → ((e : Entry) → o ≡ Some e → e.begin + KEEP < n.now) → is_none_live n.now o ≡ true
+    none_live : (o : Option ServerTransaction) → ((e : ServerTransaction) → o ≡ Some e → e.begin + KEEP < n.now) → is_none_live n.now o ≡ true
     none_live None d = refl
     none_live (Some e) d =
         let lt = d e refl in let dead : is_live n.now e ≡ false = grind (arith, nat_tests) in ap (λ b. if b then false else true) dead
@@ -253,7 +253,7 @@ asked_on W x n s key choice front rest calm free = record {
     posts i q at is young (inr new) =
         of_map (IsFine x key ask n.asks asked_log) key n.now (request_to x key ask ∷ []) (inl refl, tt) new.0 q new.1
 
-module _ (S : Type 0) (shop : Shop S) (opening : ℕ → S) (W : ℕ) (x : Rules) (bound : IsBounded W x) where
+module _ (S : Type 0) (shop : StoreModel S) (opening : ℕ → S) (W : ℕ) (x : Rules) (bound : IsBounded W x) where
   repeats_suffice : (w : World S) → Kept S shop opening W x bound w → RepeatsSuffice S shop x w
   repeats_suffice w s key choice front rest free =
       subst (λ (u : World S). IsRobust S shop x key ask w.net.asks u) (sym path)

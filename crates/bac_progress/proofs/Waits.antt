@@ -11,11 +11,11 @@ use Rattle.bac_protocol.specs.Service.Outcome.{Replies}
 use Rattle.bac_protocol.specs.Service.Ending.{Answered, TimedOut, Expired}
 use Rattle.bac_protocol.specs.Wire.{Each, is_from_client}
 use Rattle.bac_protocol.specs.Client as client
-use Rattle.bac_protocol.specs.Client.{Ask, Phase, Ticket, is_idle, is_held, is_expired, after, sends_of, ending_of, request_of}
+use Rattle.bac_protocol.specs.Client.{Ask, Phase, ClientTransaction, is_idle, is_held, is_expired, after, sends_of, ending_of, request_of}
 use Rattle.bac_protocol.specs.Client.Phase.{AwaitConfirmation, Idle}
 use Rattle.bac_protocol.specs.Client.Reaction.{Stays, Repeats, Ends}
 use Rattle.bac_protocol.specs.Server as server
-use Rattle.bac_protocol.specs.Server.{State, Entry, Service, is_live, is_none_live}
+use Rattle.bac_protocol.specs.Server.{State, ServerTransaction, Service, is_live, is_none_live}
 use Rattle.bac_protocol.specs.Server.State.{Done}
 use Rattle.bac_protocol.specs.Log.{Fact, Has}
 use Rattle.bac_protocol.specs.Log.Fact.{Asked, Performed, Ended, Changed, Restarted}
@@ -52,7 +52,7 @@ of_map P k now [] h j q e = absurd cc
 of_map P k now (a ∷ more) h zero q e = let is : post_of k now a ≡ q = cc in subst (λ (y : Post). P y.copy.apdu) is h.0
 of_map P k now (a ∷ more) h (suc j) q e = of_map P k now more h.1 j q e
 
-none_later : (now by : ℕ) (o : Option Entry) → is_none_live now o ≡ true → is_none_live (now + by) o ≡ true
+none_later : (now by : ℕ) (o : Option ServerTransaction) → is_none_live now o ≡ true → is_none_live (now + by) o ≡ true
 none_later now by None e = refl
 none_later now by (Some d) e = go (is_live now d) refl (is_live (now + by) d) refl e
   where
@@ -71,8 +71,8 @@ module _ (x : Rules) (key : Key) (ask : Ask) (number : ℕ) where
   IsFine log a = (a ≡ request_to x key ask) ⊎ ((p : Reply) × (a ≡ answer_to x key ask p) × WasGiven p log)
 
   -- the entry keeps a reply with which it was performed
-  pub record IsDoneFor (o : Option Entry) (log : List Fact) : Type 0 where
-    pub entry : Entry
+  pub record IsDoneFor (o : Option ServerTransaction) (log : List Fact) : Type 0 where
+    pub entry : ServerTransaction
     pub at : o ≡ Some entry
     pub begun : ask.first ≤ entry.begin
     pub choice : entry.choice ≡ ask.choice
@@ -81,11 +81,11 @@ module _ (x : Rules) (key : Key) (ask : Ask) (number : ℕ) where
     pub state : entry.state ≡ Done (answer_to x key ask reply)
     pub given : WasGiven reply log
 
-  abbrev pub EntryFits : ℕ → Option Entry → List Fact → Type 0
+  abbrev pub EntryFits : ℕ → Option ServerTransaction → List Fact → Type 0
   EntryFits now o log = (is_none_live now o ≡ true) ⊎ IsDoneFor o log
 
   -- the ticket waits: each repeat that was used took T_OUT
-  pub record Patient (now : ℕ) (t : Ticket) : Type 0 where
+  pub record Patient (now : ℕ) (t : ClientTransaction) : Type 0 where
     pub waits : t.phase ≡ AwaitConfirmation
     pub few : t.repeats ≤ 3
     pub since : ask.first + (3 - t.repeats) * 3000 ≤ t.since
@@ -95,11 +95,11 @@ module _ (x : Rules) (key : Key) (ask : Ask) (number : ℕ) where
   abbrev pub IsOver : (from : ℕ) → List Fact → Type 0
   IsOver from log = IsAnswered number ask log ⊎ (ask.first + REST < from)
 
-  abbrev pub PatientOrOver : (from now : ℕ) → Ticket → List Fact → Type 0
+  abbrev pub PatientOrOver : (from now : ℕ) → ClientTransaction → List Fact → Type 0
   PatientOrOver from now t log = Patient now t ⊎ ((is_idle t.phase ≡ true) × IsOver from log)
 
-  pub record TicketFits (from now : ℕ) (o : Option Ticket) (log : List Fact) : Type 0 where
-    pub ticket : Ticket
+  pub record TicketFits (from now : ℕ) (o : Option ClientTransaction) (log : List Fact) : Type 0 where
+    pub ticket : ClientTransaction
     pub at : o ≡ Some ticket
     pub is : ticket.ask ≡ ask
     pub state : PatientOrOver from now ticket log
@@ -117,7 +117,7 @@ module _ (x : Rules) (key : Key) (ask : Ask) (number : ℕ) where
   fine_grows log new g a (inl h) = inl h
   fine_grows log new g a (inr h) = inr (h.0, h.1, (h.2.0, g (Performed number (request_of ask) h.0) h.2.1))
 
-  entry_grows : (now : ℕ) (o : Option Entry) (log new : List Fact) → Grows log new → EntryFits now o log → EntryFits now o new
+  entry_grows : (now : ℕ) (o : Option ServerTransaction) (log new : List Fact) → Grows log new → EntryFits now o log → EntryFits now o new
   entry_grows now o log new g (inl h) = inl h
   entry_grows now o log new g (inr h) = inr (record {
     entry = h.entry;
@@ -137,7 +137,7 @@ module _ (x : Rules) (key : Key) (ask : Ask) (number : ℕ) where
   over_grows from log new g (inl h) = inl (answered_grows log new g h)
   over_grows from log new g (inr h) = inr h
 
-  ticket_grows : (from now : ℕ) (o : Option Ticket) (log new : List Fact) → Grows log new → TicketFits from now o log → TicketFits from now o new
+  ticket_grows : (from now : ℕ) (o : Option ClientTransaction) (log new : List Fact) → Grows log new → TicketFits from now o log → TicketFits from now o new
   ticket_grows from now o log new g h = record { ticket = h.ticket; at = h.at; is = h.is; state = go h.state }
     where
       go : PatientOrOver from now h.ticket log → PatientOrOver from now h.ticket new
@@ -156,13 +156,13 @@ module _ (x : Rules) (key : Key) (ask : Ask) (number : ℕ) where
 
   -- What one end does.
 
-  abbrev ClientGoal : Net → Ticket → client.Reaction → Type 0
+  abbrev ClientGoal : Net → ClientTransaction → client.Reaction → Type 0
   ClientGoal n t r = TicketFits (n.asks_from key.client) n.now (Some (after n.now t r)) (ended number (ending_of r) n.log) × Each (IsFine n.log) (sends_of r)
 
   abbrev ServerGoal : Net → server.Reaction → Type 0
   ServerGoal n v = EntryFits n.now v.entry (performed number v.effect n.log) × Each (IsFine (performed number v.effect n.log)) v.sends
 
-  client_waits : (n : Net) (k : Key) (t : Ticket) (r : client.Reaction) → Waits n → (k ≡ key → ClientGoal n t r) → Waits (client_acts n k t r)
+  client_waits : (n : Net) (k : Key) (t : ClientTransaction) (r : client.Reaction) → Waits n → (k ≡ key → ClientGoal n t r) → Waits (client_acts n k t r)
   client_waits n k t r h own = record {
     clock = h.clock;
     entry = entry_grows n.now (n.entries key) n.log log g h.entry;
@@ -181,16 +181,16 @@ module _ (x : Rules) (key : Key) (ask : Ask) (number : ℕ) where
       all_grow [] e = tt
       all_grow (a ∷ ms) e = (fine_grows n.log log g a e.0, all_grow ms e.1)
 
-      made : Option Ticket
+      made : Option ClientTransaction
       made = Some (after n.now t r)
 
       go : ((k ≡ key) ⊎ (k ≡ key → ⊥)) → TicketFits (n.asks_from key.client) n.now (set_at n.tickets k made key) log
       go (inl is) =
           let own_log : n.numbers k ≡ number = ap n.numbers is ∙ h.number_is in
-          subst (λ (o : Option Ticket). TicketFits (n.asks_from key.client) n.now o log)
+          subst (λ (o : Option ClientTransaction). TicketFits (n.asks_from key.client) n.now o log)
           (sym (subst (λ (j : Key). set_at n.tickets k made j ≡ made) is (set_same n.tickets k made)))
           (subst (λ (m : ℕ). TicketFits (n.asks_from key.client) n.now made (ended m (ending_of r) n.log)) (sym own_log) (own is).0)
-      go (inr ne) = subst (λ (o : Option Ticket). TicketFits (n.asks_from key.client) n.now o log) (sym (set_other n.tickets k made key ne))
+      go (inr ne) = subst (λ (o : Option ClientTransaction). TicketFits (n.asks_from key.client) n.now o log) (sym (set_other n.tickets k made key ne))
           (ticket_grows (n.asks_from key.client) n.now (n.tickets key) n.log log g h.ticket)
 
   server_waits : (n : Net) (k : Key) (v : server.Reaction) → Waits n → (k ≡ key → ServerGoal n v) → Waits (server_acts n k v)
@@ -212,10 +212,10 @@ module _ (x : Rules) (key : Key) (ask : Ask) (number : ℕ) where
       own_log is = ap n.numbers is ∙ h.number_is
 
       go : ((k ≡ key) ⊎ (k ≡ key → ⊥)) → EntryFits n.now (set_at n.entries k v.entry key) log
-      go (inl is) = subst (λ (o : Option Entry). EntryFits n.now o log)
+      go (inl is) = subst (λ (o : Option ServerTransaction). EntryFits n.now o log)
           (sym (subst (λ (j : Key). set_at n.entries k v.entry j ≡ v.entry) is (set_same n.entries k v.entry)))
           (subst (λ (m : ℕ). EntryFits n.now v.entry (performed m v.effect n.log)) (sym (own_log is)) (own is).0)
-      go (inr ne) = subst (λ (o : Option Entry). EntryFits n.now o log) (sym (set_other n.entries k v.entry key ne))
+      go (inr ne) = subst (λ (o : Option ServerTransaction). EntryFits n.now o log) (sym (set_other n.entries k v.entry key ne))
           (entry_grows n.now (n.entries key) n.log log g h.entry)
 
   abbrev pub InPatience : Net → Type 0
@@ -223,16 +223,16 @@ module _ (x : Rules) (key : Key) (ask : Ask) (number : ℕ) where
 
   -- The ticket is over, or an answer or its timer comes.
 
-  idle_stays : (n : Net) (t : Ticket) → t.ask ≡ ask → is_idle t.phase ≡ true → IsOver (n.asks_from key.client) n.log → ClientGoal n t Stays
+  idle_stays : (n : Net) (t : ClientTransaction) → t.ask ≡ ask → is_idle t.phase ≡ true → IsOver (n.asks_from key.client) n.log → ClientGoal n t Stays
   idle_stays n t is idle over = (record { ticket = t; at = refl; is = is; state = inr (idle, over) }, tt)
 
   -- what is known of the ticket, by its name
-  pub known : (n : Net) (t : Ticket) → n.tickets key ≡ Some t → Waits n → (t.ask ≡ ask) × PatientOrOver (n.asks_from key.client) n.now t n.log
+  pub known : (n : Net) (t : ClientTransaction) → n.tickets key ≡ Some t → Waits n → (t.ask ≡ ask) × PatientOrOver (n.asks_from key.client) n.now t n.log
   known n t at h =
       let same : h.ticket.ticket ≡ t = some_is h.ticket.ticket t (sym h.ticket.at ∙ at) in
-      (subst (λ (y : Ticket). y.ask ≡ ask) same h.ticket.is, subst (λ (y : Ticket). PatientOrOver (n.asks_from key.client) n.now y n.log) same h.ticket.state)
+      (subst (λ (y : ClientTransaction). y.ask ≡ ask) same h.ticket.is, subst (λ (y : ClientTransaction). PatientOrOver (n.asks_from key.client) n.now y n.log) same h.ticket.state)
 
-  hears_answer : (n : Net) → InPatience n → (p : Reply) → WasGiven p n.log → (t : Ticket) → t.ask ≡ ask → PatientOrOver (n.asks_from key.client) n.now t n.log
+  hears_answer : (n : Net) → InPatience n → (p : Reply) → WasGiven p n.log → (t : ClientTransaction) → t.ask ≡ ask → PatientOrOver (n.asks_from key.client) n.now t n.log
       → ClientGoal n t (client.client_gets (client_context x key n.now) x.readable t (answer_to x key ask p))
   hears_answer n young p given t is (inr o) =
       subst (ClientGoal n t) (sym (ended_is_silent.gets (client_context x key n.now) x.readable t (answer_to x key ask p) o.0)) (idle_stays n t is o.0 o.1)
@@ -245,7 +245,7 @@ module _ (x : Rules) (key : Key) (ask : Ask) (number : ℕ) where
       (record { ticket = record t { phase = Idle }; at = refl; is = is; state = inr (refl, inl (p, inr given.1, inl refl)) }, tt)
 
   -- an answer that comes to it leaves the ask answered, where its client has not restarted
-  pub told_answered : (n : Net) → Waits n → InPatience n → n.asks_from key.client ≤ ask.first + REST → (t : Ticket) → n.tickets key ≡ Some t → (p : Reply) → WasGiven p n.log
+  pub told_answered : (n : Net) → Waits n → InPatience n → n.asks_from key.client ≤ ask.first + REST → (t : ClientTransaction) → n.tickets key ≡ Some t → (p : Reply) → WasGiven p n.log
       → IsAnswered number ask (ended number (ending_of (client.client_gets (client_context x key n.now) x.readable t (answer_to x key ask p))) n.log)
   told_answered n h young stays t at p given = go (known n t at h).0 (known n t at h).1
     where
@@ -265,7 +265,7 @@ module _ (x : Rules) (key : Key) (ask : Ask) (number : ℕ) where
           (p, inr given.1, inl refl)
 
   -- a tick's tests
-  pub ticks_by : (now : ℕ) (t : Ticket) → t.ask ≡ ask → Patient now t → now < ask.first + PATIENCE → client.client_ticks (client_context x key now) t
+  pub ticks_by : (now : ℕ) (t : ClientTransaction) → t.ask ≡ ask → Patient now t → now < ask.first + PATIENCE → client.client_ticks (client_context x key now) t
       ≡ (if nat_le T_OUT (now - t.since) then client.repeats (client_context x key now) t else Stays)
   ticks_by now t is w young =
       ap (λ (ph : Phase). if is_idle ph then Stays else if is_expired now t.ask then Ends [] Expired
@@ -276,7 +276,7 @@ module _ (x : Rules) (key : Key) (ask : Ask) (number : ℕ) where
       in_time = let e : t.ask.first ≡ ask.first = ap (λ (a : Ask). a.first) is in grind (arith, nat_tests)
 
   -- before PATIENCE a timer that is due finds a repeat
-  pub repeat_left : (now : ℕ) (t : Ticket) → Patient now t → now < ask.first + PATIENCE → T_OUT ≤ now - t.since → 0 < t.repeats
+  pub repeat_left : (now : ℕ) (t : ClientTransaction) → Patient now t → now < ask.first + PATIENCE → T_OUT ≤ now - t.since → 0 < t.repeats
   repeat_left now t w young due = go t.repeats w.few w.since
     where
       go : (r : ℕ) → r ≤ 3 → ask.first + (3 - r) * 3000 ≤ t.since → 0 < r
@@ -284,7 +284,7 @@ module _ (x : Rules) (key : Key) (ask : Ask) (number : ℕ) where
       go (suc r) few s = omega arith
 
   -- and the request is sent again
-  pub tick_repeats : (now : ℕ) (t : Ticket) → ask.whole ≡ true → t.ask ≡ ask → Patient now t → now < ask.first + PATIENCE → T_OUT ≤ now - t.since
+  pub tick_repeats : (now : ℕ) (t : ClientTransaction) → ask.whole ≡ true → t.ask ≡ ask → Patient now t → now < ask.first + PATIENCE → T_OUT ≤ now - t.since
       → client.client_ticks (client_context x key now) t ≡ Repeats t.phase (request_to x key ask ∷ [])
   tick_repeats now t whole is w young due =
       ticks_by now t is w young
@@ -302,14 +302,14 @@ module _ (x : Rules) (key : Key) (ask : Ask) (number : ℕ) where
       left : nat_eq t.repeats 0 ≡ false
       left = let some = repeat_left now t w young due in grind (arith, nat_tests)
 
-  pub patient_on : (now : ℕ) (t : Ticket) → Patient now t → now < ask.first + PATIENCE → T_OUT ≤ now - t.since
+  pub patient_on : (now : ℕ) (t : ClientTransaction) → Patient now t → now < ask.first + PATIENCE → T_OUT ≤ now - t.since
       → Patient now (after now t (Repeats t.phase (request_to x key ask ∷ [])))
   patient_on now t w young due = record { waits = w.waits; few = let f = w.few in omega arith; since = steps t.repeats w.few w.since; passed = omega arith }
     where
       steps : (r : ℕ) → r ≤ 3 → ask.first + (3 - r) * 3000 ≤ t.since → ask.first + (3 - (r - 1)) * 3000 ≤ now
       steps r few s = let p = w.passed in omega arith
 
-  ticks_timer : (n : Net) → ask.whole ≡ true → InPatience n → (t : Ticket) → t.ask ≡ ask → PatientOrOver (n.asks_from key.client) n.now t n.log
+  ticks_timer : (n : Net) → ask.whole ≡ true → InPatience n → (t : ClientTransaction) → t.ask ≡ ask → PatientOrOver (n.asks_from key.client) n.now t n.log
       → ClientGoal n t (client.client_ticks (client_context x key n.now) t)
   ticks_timer n whole young t is (inr o) =
       subst (ClientGoal n t) (sym (ended_is_silent.ticks (client_context x key n.now) t o.0)) (idle_stays n t is o.0 o.1)
@@ -335,10 +335,10 @@ module _ (x : Rules) (key : Key) (ask : Ask) (number : ℕ) where
   Finds n i free service = IsOnItsWay x n key (request_to x key ask) i → is_none_live n.now (n.entries key) ≡ true
       → (p : Reply) × (is_room n key free ≡ true) × (service ask.choice (join ask.pieces) ≡ Replies p) × FitsInOne x key ask p
 
-  abbrev gets_request : Net → Service → Option Entry → Bool → server.Reaction
+  abbrev gets_request : Net → Service → Option ServerTransaction → Bool → server.Reaction
   gets_request n service o b = server.server_gets (server_context x key n.now) service o b (request_to x key ask)
 
-  kept_goal : (n : Net) (o : Option Entry) (d : IsDoneFor o n.log) (sends : List Apdu) → Each (IsFine n.log) sends
+  kept_goal : (n : Net) (o : Option ServerTransaction) (d : IsDoneFor o n.log) (sends : List Apdu) → Each (IsFine n.log) sends
       → ServerGoal n (record { entry = Some d.entry; sends = sends; effect = None })
   kept_goal n o d sends fine = (
     inr (record {
@@ -376,7 +376,7 @@ module _ (x : Rules) (key : Key) (ask : Ask) (number : ℕ) where
         (inr (y.0, refl, (y.3, inl refl)), tt),
       )
   serves_request n h young service free finds (inr d) =
-      subst (ServerGoal n) (sym (ap (λ (o : Option Entry). gets_request n service o free) d.at
+      subst (ServerGoal n) (sym (ap (λ (o : Option ServerTransaction). gets_request n service o free) d.at
       ∙ serves_again (server_context x key n.now) (client_context x key ask.first) service d.entry free ask (answer_to x key ask d.reply)
       (done_live n young d) d.state d.choice d.request))
       (kept_goal n (n.entries key) d (answer_to x key ask d.reply ∷ []) (inr (d.reply, refl, d.given), tt))
@@ -398,7 +398,7 @@ module _ (x : Rules) (key : Key) (ask : Ask) (number : ℕ) where
           )
       go (inr d) = (
         d.reply,
-        ap (λ (v : server.Reaction). v.sends) (ap (λ (o : Option Entry). gets_request n service o free) d.at
+        ap (λ (v : server.Reaction). v.sends) (ap (λ (o : Option ServerTransaction). gets_request n service o free) d.at
             ∙ serves_again (server_context x key n.now) (client_context x key ask.first) service d.entry free ask (answer_to x key ask d.reply)
             (done_live n young d) d.state d.choice d.request),
       )
@@ -407,7 +407,7 @@ module _ (x : Rules) (key : Key) (ask : Ask) (number : ℕ) where
       → ServerGoal n (server.server_ticks (server_context x key n.now) (n.entries key))
   ticks_entry n young (inl none) = go (n.entries key) none
     where
-      go : (o : Option Entry) → is_none_live n.now o ≡ true → ServerGoal n (server.server_ticks (server_context x key n.now) o)
+      go : (o : Option ServerTransaction) → is_none_live n.now o ≡ true → ServerGoal n (server.server_ticks (server_context x key n.now) o)
       go None e = (inl refl, tt)
       go (Some d) e = by (is_live n.now d) refl e
         where
@@ -451,7 +451,7 @@ module _ (x : Rules) (key : Key) (ask : Ask) (number : ℕ) where
     clock = h.clock;
     entry = entry_grows n.now (n.entries key) n.log log g h.entry;
     posts = posts_on n k (sends_of (client.asks (client_context x k n.now) other)) log h g (λ is. absurd (ne is));
-    ticket = subst (λ (o : Option Ticket). TicketFits (n.asks_from key.client) n.now o log) (sym (set_other n.tickets k made key ne))
+    ticket = subst (λ (o : Option ClientTransaction). TicketFits (n.asks_from key.client) n.now o log) (sym (set_other n.tickets k made key ne))
         (ticket_grows (n.asks_from key.client) n.now (n.tickets key) n.log log g h.ticket);
     number_is = set_other n.numbers k n.asks key ne ∙ h.number_is;
   }
@@ -462,7 +462,7 @@ module _ (x : Rules) (key : Key) (ask : Ask) (number : ℕ) where
       g : Grows n.log log
       g = grows_more (Asked n.asks k.client k.server (request_of other)) n.log
 
-      made : Option Ticket
+      made : Option ClientTransaction
       made = Some (client.asked_ticket (client_context x k n.now) other)
 
   passes_waits : (n : Net) (by : ℕ) → Waits n → Waits (record n { now = n.now + by })

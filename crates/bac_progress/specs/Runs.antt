@@ -1,13 +1,13 @@
 -- What is said of a run: of each of its events, of the endings in its log, and of a copy that is on its way.
 use Rattle.std.specs.Prelude.{◌≡◌, ℕ, suc, ◌<◌, true, List, [], ◌∷◌, Some, slice_get, if◌then◌else◌, nat_eq}
 use Rattle.bac_apdu.specs.Apdu.{Apdu}
-use Rattle.bac_protocol.specs.Log.{Fact, Shop}
+use Rattle.bac_protocol.specs.Log.{Fact, StoreModel}
 use Rattle.bac_protocol.specs.Log.Fact.{Asked, Performed, Ended, Changed, Restarted}
 use Rattle.bac_protocol.specs.Transaction.{Key, Rules}
 use Rattle.bac_protocol.specs.World.{Net, World, Post, Event, is_deliverable, happens}
 
 -- each event of a run has that, in the world in which it happens
-abbrev pub Throughout : (S : Type 0) → Shop S → Rules → (World S → Event → Type 0) → List Event → World S → Type 0
+abbrev pub Throughout : (S : Type 0) → StoreModel S → Rules → (World S → Event → Type 0) → List Event → World S → Type 0
 Throughout S shop x P [] w = Unit {0}
 Throughout S shop x P (e ∷ es) w = P w e × Throughout S shop x P es (happens S shop x w e)
 

@@ -6,10 +6,10 @@ use Rattle.bac_protocol.specs.Times.{LIFE}
 use Rattle.bac_protocol.specs.Service.{Octets, Request, Ending}
 use Rattle.bac_protocol.specs.Wire.{is_from_client}
 use Rattle.bac_protocol.specs.Client as client
-use Rattle.bac_protocol.specs.Client.{Ask, request_of, Ticket}
+use Rattle.bac_protocol.specs.Client.{Ask, request_of, ClientTransaction}
 use Rattle.bac_protocol.specs.Server as server
-use Rattle.bac_protocol.specs.Server.{Entry, Effect}
-use Rattle.bac_protocol.specs.Log.{Fact, Has, asks_in, Shop, AreSame, MayEnter, IsOnce, HasNoRestart, IsOnceInOneLife, HasNoChange, IsOnceByRequests, IsOrderly}
+use Rattle.bac_protocol.specs.Server.{ServerTransaction, Effect}
+use Rattle.bac_protocol.specs.Log.{Fact, Has, asks_in, StoreModel, AreSame, MayEnter, IsOnce, HasNoRestart, IsOnceInOneLife, HasNoChange, IsOnceByRequests, IsOrderly}
 use Rattle.bac_protocol.specs.Log.Fact.{Asked, Performed, Ended, Changed, Restarted}
 use Rattle.bac_protocol.specs.Transaction.{Key, Rules, Copy, ended, client_context, server_context}
 use Rattle.bac_protocol.specs.World.{Net, World, Post, Event, later, client_acts, server_acts, asked_at, is_id_held, is_room, service_of, reacts}
@@ -72,7 +72,7 @@ none_there : (k : ℕ) (c : Copy) → slice_get [] k ≡ Some c → ⊥
 none_there k c e = cc
 
 -- Where no node changes its own store, stores change by performed requests alone.
-pub by_requests : (S : Type 0) (shop : Shop S) (opening : ℕ → S) (log : List Fact) (stores : ℕ → S) → HasNoChange log → IsOnce S shop opening log stores
+pub by_requests : (S : Type 0) (shop : StoreModel S) (opening : ℕ → S) (log : List Fact) (stores : ℕ → S) → HasNoChange log → IsOnce S shop opening log stores
     → IsOnceByRequests S shop opening log stores
 by_requests S shop opening [] stores none h = h
 by_requests S shop opening (Asked n c s r ∷ log) stores none h = (h.0, h.1, by_requests S shop opening log h.0 none h.2)
@@ -90,7 +90,7 @@ by_requests S shop opening (Restarted s o ∷ log) stores none h = (h.0, (none.0
     kept (Some store) is may = absurd cc
 
 -- Where no server restarts, the log is right without restarts.
-pub in_one_life : (S : Type 0) (shop : Shop S) (opening : ℕ → S) (log : List Fact) (stores : ℕ → S) → HasNoRestart log → IsOnce S shop opening log stores
+pub in_one_life : (S : Type 0) (shop : StoreModel S) (opening : ℕ → S) (log : List Fact) (stores : ℕ → S) → HasNoRestart log → IsOnce S shop opening log stores
     → IsOnceInOneLife S shop opening log stores
 in_one_life S shop opening [] stores none h = h
 in_one_life S shop opening (Asked n c s r ∷ log) stores none h = (h.0, h.1, in_one_life S shop opening log h.0 none h.2)
@@ -100,13 +100,13 @@ in_one_life S shop opening (Changed s c ∷ log) stores none h = (h.0, h.1, in_o
 in_one_life S shop opening (Restarted s o ∷ log) stores none h = absurd none
 
 -- No event moves the log and the stores apart.
-module _ (S : Type 0) (shop : Shop S) (opening : ℕ → S) (W : ℕ) (x : Rules) (bound : IsBounded W x) where
+module _ (S : Type 0) (shop : StoreModel S) (opening : ℕ → S) (W : ℕ) (x : Rules) (bound : IsBounded W x) where
   pub record Kept (w : World S) : Type 0 where
     pub net : NetSound W w.net
     pub calm : Calm w.net
     pub once : IsOnce S shop opening w.net.log w.stores
 
-  reacts_kept : (w : World S) → Kept w → (key : Key) (t : Ticket) (r : client.Reaction) → NetSound W (client_acts w.net key t r) → Calm (client_acts w.net key t r)
+  reacts_kept : (w : World S) → Kept w → (key : Key) (t : ClientTransaction) (r : client.Reaction) → NetSound W (client_acts w.net key t r) → Calm (client_acts w.net key t r)
       → Kept (reacts S w key t r)
   reacts_kept w s key t r sound calm = record { net = sound; calm = calm; once = go (client.ending_of r) ((net_log W (client_acts w.net key t r) sound).orderly) }
     where
@@ -115,7 +115,7 @@ module _ (S : Type 0) (shop : Shop S) (opening : ℕ → S) (W : ℕ) (x : Rules
       go (Some how) h = (w.stores, (h.0, h.1, λ node. refl), s.once)
 
   -- a request was performed
-  effect_once : (w : World S) → Kept w → (key : Key) (t : Ticket) → w.net.tickets key ≡ Some t → (e : Effect) → IsServed (service_of S shop w key) (Some e)
+  effect_once : (w : World S) → Kept w → (key : Key) (t : ClientTransaction) → w.net.tickets key ≡ Some t → (e : Effect) → IsServed (service_of S shop w key) (Some e)
       → IsOrderly (Performed (w.net.numbers key) e.request e.reply ∷ w.net.log)
       → IsOnce S shop opening (Performed (w.net.numbers key) e.request e.reply ∷ w.net.log) (stored S shop key.server (Some e) w.stores)
   effect_once w s key t at e is right =
@@ -125,7 +125,7 @@ module _ (S : Type 0) (shop : Shop S) (opening : ℕ → S) (W : ℕ) (x : Rules
       (request_of t.ask) e.request w.net.log right.2 own.asked right.0.2 in
       (w.stores, (key.client, key.server, subst (λ r. Has (Asked n key.client key.server r) w.net.log) same own.asked, right.1, is, λ node. refl), s.once)
 
-  serves_kept : (w : World S) → Kept w → (key : Key) (t : Ticket) → w.net.tickets key ≡ Some t → (v : server.Reaction)
+  serves_kept : (w : World S) → Kept w → (key : Key) (t : ClientTransaction) → w.net.tickets key ≡ Some t → (v : server.Reaction)
       → IsServed (service_of S shop w key) v.effect → NetSound W (server_acts w.net key v) → Calm (server_acts w.net key v) → Kept (serves S shop w key v)
   serves_kept w s key t at v is sound calm = go v.effect is sound
     where
@@ -157,7 +157,7 @@ module _ (S : Type 0) (shop : Shop S) (opening : ℕ → S) (W : ℕ) (x : Rules
     k : ℕ
     k = later p.key number w.net.posts
 
-    arrives_kept : (o : Option Ticket) → w.net.tickets p.key ≡ o → w.net.now - p.copy.moment ≤ LIFE → later p.key number w.net.posts ≤ x.overtake
+    arrives_kept : (o : Option ClientTransaction) → w.net.tickets p.key ≡ o → w.net.now - p.copy.moment ≤ LIFE → later p.key number w.net.posts ≤ x.overtake
         → (free up : Bool) → is_from_client p.copy.apdu ≡ up → Kept (if up then takes_at_server S shop x w p.key free p.copy.apdu else takes_at_client S x w p.key p.copy.apdu o)
     arrives_kept None at young few free up way =
         absurd (none_there (later p.key number w.net.posts) p.copy
@@ -198,7 +198,7 @@ module _ (S : Type 0) (shop : Shop S) (opening : ℕ → S) (W : ℕ) (x : Rules
       (nat_le (later p.key number w.net.posts) x.overtake) refl refl
 
   -- a ticket's tick
-  ticket_kept : (w : World S) → Kept w → (key : Key) (o : Option Ticket) → w.net.tickets key ≡ o → Kept (ticks_ticket S x w key o)
+  ticket_kept : (w : World S) → Kept w → (key : Key) (o : Option ClientTransaction) → w.net.tickets key ≡ o → Kept (ticks_ticket S x w key o)
   ticket_kept w s key None at = s
   ticket_kept w s key (Some t) at =
       let f = sound_at W w.net key (Some t) at s.net in
@@ -216,7 +216,7 @@ module _ (S : Type 0) (shop : Shop S) (opening : ℕ → S) (W : ℕ) (x : Rules
   quiet : (w : World S) (key : Key) (v : server.Reaction) → v.effect ≡ None → IsServed (service_of S shop w key) v.effect
   quiet w key v e = subst (IsServed (service_of S shop w key)) (sym e) tt
 
-  entry_kept : (w : World S) → Kept w → (key : Key) (o : Option Ticket) → w.net.tickets key ≡ o
+  entry_kept : (w : World S) → Kept w → (key : Key) (o : Option ClientTransaction) → w.net.tickets key ≡ o
       → Kept (serves S shop w key (server.server_ticks (server_context x key w.net.now) (w.net.entries key)))
   entry_kept w s key (Some t) at =
       let f = sound_at W w.net key (Some t) at s.net in
@@ -231,7 +231,7 @@ module _ (S : Type 0) (shop : Shop S) (opening : ℕ → S) (W : ℕ) (x : Rules
       all_there [] = refl
       all_there (p ∷ posts) = ap (λ ps. p ∷ ps) (all_there posts)
 
-      go : (o : Option Entry) → w.net.entries key ≡ o → o ≡ None → Kept (serves S shop w key (server.server_ticks (server_context x key w.net.now) o))
+      go : (o : Option ServerTransaction) → w.net.entries key ≡ o → o ≡ None → Kept (serves S shop w key (server.server_ticks (server_context x key w.net.now) o))
       go (Some e) is nil = absurd cc
       go None is nil = subst (λ (n : Net). Kept (record { net = n; stores = w.stores }))
           (λ i. record (w.net) { entries = sym (set_nothing w.net.entries key None is) i; posts = sym (all_there w.net.posts) i }) s

@@ -8,10 +8,10 @@ use Rattle.bac_apdu.specs.Apdu.Apdu.{SimpleAck, ComplexAck, Error, Reject, Abort
 use Rattle.bac_protocol.specs.Times.{KEEP}
 use Rattle.bac_protocol.specs.Service.{Octets, Ending}
 use Rattle.bac_protocol.specs.Client as client
-use Rattle.bac_protocol.specs.Client.{Ask, request_of, Phase, Ticket}
+use Rattle.bac_protocol.specs.Client.{Ask, request_of, Phase, ClientTransaction}
 use Rattle.bac_protocol.specs.Client.Phase.{AwaitConfirmation, SegmentedConf, Idle}
 use Rattle.bac_protocol.specs.Server as server
-use Rattle.bac_protocol.specs.Server.{State, Entry, Effect}
+use Rattle.bac_protocol.specs.Server.{State, ServerTransaction, Effect}
 use Rattle.bac_protocol.specs.Server.State.{Done, SegmentedResponse, Dropped}
 use Rattle.bac_protocol.specs.Log.{Fact, asks_in, IsUnperformed, IsUnended, IsOrderly}
 use Rattle.bac_protocol.specs.Log.Fact.{Asked, Performed, Ended, Changed, Restarted}
@@ -73,7 +73,7 @@ state_more W number ask f log (SegmentedResponse out transfer since) up down ne 
 state_more W number ask f log Dropped (Reading t s) Unsent ne h = (h.0, unperformed_more number f log ne h.1)
 state_more W number ask f log _ _ _ ne h = absurd h
 
-server_more : (W opens number : ℕ) (ask : Ask) (f : Fact) (log : List Fact) (up : Up) (down : Down) (o : Option Entry) → IsOfOther number f
+server_more : (W opens number : ℕ) (ask : Ask) (f : Fact) (log : List Fact) (up : Up) (down : Down) (o : Option ServerTransaction) → IsOfOther number f
     → ServerFits W opens number ask o up down log → ServerFits W opens number ask o up down (f ∷ log)
 server_more W opens number ask f log up down None ne (inl h) = inl (unbegun_more number f log up down ne h)
 server_more W opens number ask f log up down None ne (inr h) = inr (lost_more opens number ask f log up down h)
@@ -88,13 +88,13 @@ pub record IsLogOf (asks : ℕ) (log : List Fact) : Type 0 where
   pub counted : asks ≡ asks_in log
   pub orderly : IsOrderly log
 
-pub log_of : (W : ℕ) (key : Key) (o : Option Ticket) (w : Transaction) → IsSoundAt W key o w → IsLogOf w.asks w.log
+pub log_of : (W : ℕ) (key : Key) (o : Option ClientTransaction) (w : Transaction) → IsSoundAt W key o w → IsLogOf w.asks w.log
 log_of W key None w s = record { numbers = s.numbers; counted = s.counted; orderly = s.orderly }
 log_of W key (Some t) w s = record { numbers = (s.2).numbers; counted = (s.2).counted; orderly = (s.2).orderly }
 
 -- another transaction's fact enters the log
-elsewhere : (W asks' : ℕ) (key : Key) (f : Fact) (w : Transaction) (o : Option Ticket) → IsLogOf asks' (f ∷ w.log)
-    → ((t : Ticket) → o ≡ Some t → IsOfOther w.number f) → IsSoundAt W key o w → IsSoundAt W key o (record w { asks = asks'; log = f ∷ w.log })
+elsewhere : (W asks' : ℕ) (key : Key) (f : Fact) (w : Transaction) (o : Option ClientTransaction) → IsLogOf asks' (f ∷ w.log)
+    → ((t : ClientTransaction) → o ≡ Some t → IsOfOther w.number f) → IsSoundAt W key o w → IsSoundAt W key o (record w { asks = asks'; log = f ∷ w.log })
 elsewhere W asks' key f w None log ne s = record {
   no_entry = s.no_entry;
   no_copies = s.no_copies;
@@ -131,35 +131,35 @@ elsewhere W asks' key f w (Some t) log ne s = (
 pub record NetSound (W : ℕ) (n : Net) : Type 0 where
   pub each : (key : Key) → IsSound W key (one n key)
   -- no two have an ask of one number
-  pub apart : (a b : Key) (s t : Ticket) → n.tickets a ≡ Some s → n.tickets b ≡ Some t → n.numbers a ≡ n.numbers b → a ≡ b
+  pub apart : (a b : Key) (s t : ClientTransaction) → n.tickets a ≡ Some s → n.tickets b ≡ Some t → n.numbers a ≡ n.numbers b → a ≡ b
 
-pub sound_at : (W : ℕ) (n : Net) (key : Key) (o : Option Ticket) → n.tickets key ≡ o → NetSound W n → IsSoundAt W key o (one n key)
-sound_at W n key o at s = subst (λ (x : Option Ticket). IsSoundAt W key x (one n key)) at (s.each key)
+pub sound_at : (W : ℕ) (n : Net) (key : Key) (o : Option ClientTransaction) → n.tickets key ≡ o → NetSound W n → IsSoundAt W key o (one n key)
+sound_at W n key o at s = subst (λ (x : Option ClientTransaction). IsSoundAt W key x (one n key)) at (s.each key)
 
-number_below : (W : ℕ) (n : Net) (k : Key) (t : Ticket) → n.tickets k ≡ Some t → NetSound W n → n.numbers k < n.asks
+number_below : (W : ℕ) (n : Net) (k : Key) (t : ClientTransaction) → n.tickets k ≡ Some t → NetSound W n → n.numbers k < n.asks
 number_below W n k t is s =
     let at : IsSoundAt W k (Some t) (one n k) = sound_at W n k (Some t) is s in
     below_has n.asks (Asked (n.numbers k) k.client k.server (request_of t.ask)) n.log (at.2).numbers (at.2).asked
 
 -- the transaction has the number that it had, or a new one
 abbrev KeepsNumber : Net → Net → Key → Type 0
-KeepsNumber n n' key = (u : Ticket) → n'.tickets key ≡ Some u
-    → ((t : Ticket) × (n.tickets key ≡ Some t) × (n.numbers key ≡ n'.numbers key)) ⊎ (n.asks ≤ n'.numbers key)
+KeepsNumber n n' key = (u : ClientTransaction) → n'.tickets key ≡ Some u
+    → ((t : ClientTransaction) × (n.tickets key ≡ Some t) × (n.numbers key ≡ n'.numbers key)) ⊎ (n.asks ≤ n'.numbers key)
 
 -- the log is as it was, or has one more fact, which is the transaction's
 abbrev AddsOwn : Net → Net → Key → Type 0
 AddsOwn n n' key = ((n'.log ≡ n.log) × (n'.asks ≡ n.asks)) ⊎
-    ((f : Fact) × (n'.log ≡ f ∷ n.log) × ((u : Ticket) × (n'.tickets key ≡ Some u) × (OfAsk (λ m. m ≡ n'.numbers key) f)))
+    ((f : Fact) × (n'.log ≡ f ∷ n.log) × ((u : ClientTransaction) × (n'.tickets key ≡ Some u) × (OfAsk (λ m. m ≡ n'.numbers key) f)))
 
 -- all other transactions see no more than that
 abbrev LeavesOthers : Net → Net → Key → Type 0
 LeavesOthers n n' key = (k : Key) → (key ≡ k → ⊥) → one n' k ≡ record (one n k) { asks = n'.asks; log = n'.log }
 
-foreign : (W : ℕ) (n n' : Net) (key : Key) → NetSound W n → KeepsNumber n n' key → (k : Key) → (key ≡ k → ⊥) → (t u : Ticket) → n.tickets k ≡ Some t
+foreign : (W : ℕ) (n n' : Net) (key : Key) → NetSound W n → KeepsNumber n n' key → (k : Key) → (key ≡ k → ⊥) → (t u : ClientTransaction) → n.tickets k ≡ Some t
     → n'.tickets key ≡ Some u → n'.numbers key ≡ n.numbers k → ⊥
 foreign W n n' key s keeps k ne t u at at' same = go (keeps u at')
   where
-    go : (((t : Ticket) × (n.tickets key ≡ Some t) × (n.numbers key ≡ n'.numbers key)) ⊎ (n.asks ≤ n'.numbers key)) → ⊥
+    go : (((t : ClientTransaction) × (n.tickets key ≡ Some t) × (n.numbers key ≡ n'.numbers key)) ⊎ (n.asks ≤ n'.numbers key)) → ⊥
     go (inl h) = ne (s.apart key k h.0 t h.1 at (h.2 ∙ same))
     go (inr h) = let lt = number_below W n k t at s in omega arith
 
@@ -179,7 +179,7 @@ net_keeps W n n' key s own others keeps adds = record
     same_log k e f = subst (λ (lg : List Fact). IsSoundAt W k (n.tickets k) (record (one n k) { asks = n'.asks; log = lg })) (sym e)
         (subst (λ (x : ℕ). IsSoundAt W k (n.tickets k) (record (one n k) { asks = x })) (sym f) (s.each k))
 
-    more_log : (k : Key) → (key ≡ k → ⊥) → (f : Fact) (u : Ticket) → n'.log ≡ f ∷ n.log → n'.tickets key ≡ Some u → OfAsk (λ m. m ≡ n'.numbers key) f
+    more_log : (k : Key) → (key ≡ k → ⊥) → (f : Fact) (u : ClientTransaction) → n'.log ≡ f ∷ n.log → n'.tickets key ≡ Some u → OfAsk (λ m. m ≡ n'.numbers key) f
         → IsSoundAt W k (n.tickets k) (record (one n k) { asks = n'.asks; log = n'.log })
     more_log k ne f u e at same = subst (λ (lg : List Fact). IsSoundAt W k (n.tickets k) (record (one n k) { asks = n'.asks; log = lg })) (sym e)
         (elsewhere W n'.asks k f (one n k) (n.tickets k)
@@ -195,7 +195,7 @@ net_keeps W n n' key s own others keeps adds = record
     each k (inl is) = subst (λ (x : Key). IsSound W x (one n' x)) is own
     each k (inr ne) = subst (λ (w : Transaction). IsSound W k w) (sym (others k ne)) (after_log k ne adds)
 
-    apart : (a b : Key) (x y : Ticket) → ((key ≡ a) ⊎ (key ≡ a → ⊥)) → ((key ≡ b) ⊎ (key ≡ b → ⊥)) → n'.tickets a ≡ Some x → n'.tickets b ≡ Some y
+    apart : (a b : Key) (x y : ClientTransaction) → ((key ≡ a) ⊎ (key ≡ a → ⊥)) → ((key ≡ b) ⊎ (key ≡ b → ⊥)) → n'.tickets a ≡ Some x → n'.tickets b ≡ Some y
         → n'.numbers a ≡ n'.numbers b → a ≡ b
     apart a b x y (inl p) (inl q) at at' same = sym p ∙ q
     apart a b x y (inl p) (inr q) at at' same = absurd
@@ -207,7 +207,7 @@ net_keeps W n n' key s own others keeps adds = record
 
 -- One client, one server, one ask.
 
-pub net_client : (W : ℕ) (n : Net) (key : Key) (t : Ticket) → n.tickets key ≡ Some t → NetSound W n → (r : client.Reaction)
+pub net_client : (W : ℕ) (n : Net) (key : Key) (t : ClientTransaction) → n.tickets key ≡ Some t → NetSound W n → (r : client.Reaction)
     → IsSound W key (client_does (one n key) t r) → NetSound W (client_acts n key t r)
 net_client W n key t at s r own = net_keeps W n (client_acts n key t r) key s
     (subst (λ (w : Transaction). IsSound W key w) (λ i. record
@@ -225,16 +225,16 @@ net_client W n key t at s r own = net_keeps W n (client_acts n key t r) key s
     (λ u e. inl (t, at, refl))
     (adds (client.ending_of r))
   where
-    made : Option Ticket
+    made : Option ClientTransaction
     made = Some (client.after n.now t r)
 
     adds : (o : Option Ending) → ((ended (n.numbers key) o n.log ≡ n.log) × (n.asks ≡ n.asks)) ⊎
         ((f : Fact) × (ended (n.numbers key) o n.log ≡ f ∷ n.log)
-        × ((u : Ticket) × (set_at n.tickets key (Some (client.after n.now t r)) key ≡ Some u) × (OfAsk (λ m. m ≡ n.numbers key) f)))
+        × ((u : ClientTransaction) × (set_at n.tickets key (Some (client.after n.now t r)) key ≡ Some u) × (OfAsk (λ m. m ≡ n.numbers key) f)))
     adds None = inl (refl, refl)
     adds (Some how) = inr (Ended (n.numbers key) how, refl, (client.after n.now t r, set_same n.tickets key (Some (client.after n.now t r)), refl))
 
-pub net_server : (W : ℕ) (n : Net) (key : Key) (t : Ticket) → n.tickets key ≡ Some t → NetSound W n → (v : server.Reaction)
+pub net_server : (W : ℕ) (n : Net) (key : Key) (t : ClientTransaction) → n.tickets key ≡ Some t → NetSound W n → (v : server.Reaction)
     → IsSound W key (server_does (record (one n key) { ticket = Some t }) v) → NetSound W (server_acts n key v)
 net_server W n key t at s v own = net_keeps W n (server_acts n key v) key s
     (subst (λ (w : Transaction). IsSound W key w) (λ i. record
@@ -254,7 +254,7 @@ net_server W n key t at s v own = net_keeps W n (server_acts n key v) key s
     (adds v.effect)
   where
     adds : (x : Option Effect) → ((performed (n.numbers key) x n.log ≡ n.log) × (n.asks ≡ n.asks)) ⊎
-        ((f : Fact) × (performed (n.numbers key) x n.log ≡ f ∷ n.log) × ((u : Ticket) × (n.tickets key ≡ Some u) × (OfAsk (λ m. m ≡ n.numbers key) f)))
+        ((f : Fact) × (performed (n.numbers key) x n.log ≡ f ∷ n.log) × ((u : ClientTransaction) × (n.tickets key ≡ Some u) × (OfAsk (λ m. m ≡ n.numbers key) f)))
     adds None = inl (refl, refl)
     adds (Some x) = inr (Performed (n.numbers key) x.request x.reply, refl, (t, at, refl))
 
@@ -283,7 +283,7 @@ net_asked W some x n key s spent choice whole front rest = net_keeps W n (asked_
     ask : Ask
     ask = record { first = n.now; choice = choice; whole = whole; pieces = front ∷ rest }
 
-    made : Ticket
+    made : ClientTransaction
     made = client.asked_ticket (client_context x key n.now) ask
 
     sends : List Apdu
@@ -306,7 +306,7 @@ given_by W number ask log st up Unsent h = tt
 given_by W number ask log st up (Sent ps a b) h = (state_read W number ask log up ps a b st h, state_performed W number ask log ps a b st up h)
 
 -- the entry is lost
-server_lost : (W opens now number : ℕ) (ask : Ask) (log : List Fact) (up : Up) (down : Down) (o : Option Entry) → ask.first ≤ now
+server_lost : (W opens now number : ℕ) (ask : Ask) (log : List Fact) (up : Up) (down : Down) (o : Option ServerTransaction) → ask.first ≤ now
     → ServerFits W opens number ask o up down log → ServerFits W (now + KEEP + 1) number ask None up down log
 server_lost W opens now number ask log up down None clock (inl h) = inl h
 server_lost W opens now number ask log up down None clock (inr h) = inr (record { before = omega arith; given = h.given })
@@ -314,7 +314,7 @@ server_lost W opens now number ask log up down (Some e) clock (inl h) = inl h.un
 server_lost W opens now number ask log up down (Some e) clock (inr h) =
     inr (record { before = omega arith; given = given_by W number ask log e.state up down h.state })
 
-loses_entry : (W : ℕ) (key : Key) (w : Transaction) (o : Option Ticket) → IsSoundAt W key o w
+loses_entry : (W : ℕ) (key : Key) (w : Transaction) (o : Option ClientTransaction) → IsSoundAt W key o w
     → IsSoundAt W key o (record w { entry = None; opens = w.now + KEEP + 1 })
 loses_entry W key w None s =
     record { no_entry = refl; no_copies = s.no_copies; numbers = s.numbers; counted = s.counted; orderly = s.orderly }
@@ -355,7 +355,7 @@ net_server_restarted W n node store s = record { each = λ key. each key (nat_eq
     each key false = elsewhere W n.asks key (Restarted node store) (one n key) (n.tickets key) (log key) (λ t at. tt) (s.each key)
 
 -- the ticket is lost
-loses_ticket : (W : ℕ) (key : Key) (w : Transaction) (o : Option Ticket) → IsSoundAt W key o w → IsSoundAt W key (lost o) w
+loses_ticket : (W : ℕ) (key : Key) (w : Transaction) (o : Option ClientTransaction) → IsSoundAt W key o w → IsSoundAt W key (lost o) w
 loses_ticket W key w None s = s
 loses_ticket W key w (Some t) s = (
   s.0,
@@ -377,12 +377,12 @@ loses_ticket W key w (Some t) s = (
 )
 
 -- what is known of a ticket is not told by the record's own
-with_ticket : (W : ℕ) (key : Key) (w : Transaction) (o q : Option Ticket) → IsSoundAt W key o w → IsSoundAt W key o (record w { ticket = q })
+with_ticket : (W : ℕ) (key : Key) (w : Transaction) (o q : Option ClientTransaction) → IsSoundAt W key o w → IsSoundAt W key o (record w { ticket = q })
 with_ticket W key w None q s = s
 with_ticket W key w (Some t) q s = s
 
 -- where a ticket is left, there was one
-was_there : (o : Option Ticket) (b : Bool) (x : Ticket) → (if b then lost o else o) ≡ Some x → (t : Ticket) × (o ≡ Some t)
+was_there : (o : Option ClientTransaction) (b : Bool) (x : ClientTransaction) → (if b then lost o else o) ≡ Some x → (t : ClientTransaction) × (o ≡ Some t)
 was_there None true x e = absurd cc
 was_there None false x e = absurd cc
 was_there (Some t) b x e = (t, refl)
@@ -395,7 +395,7 @@ net_client_restarted W n node s = record { each = λ key. each key (nat_eq key.c
     each key true = with_ticket W key (one n key) (lost (n.tickets key)) (lost (n.tickets key)) (loses_ticket W key (one n key) (n.tickets key) (s.each key))
     each key false = s.each key
 
-    apart : (a b : Key) (x y : Ticket) → (client_restarted n node).tickets a ≡ Some x → (client_restarted n node).tickets b ≡ Some y
+    apart : (a b : Key) (x y : ClientTransaction) → (client_restarted n node).tickets a ≡ Some x → (client_restarted n node).tickets b ≡ Some y
         → n.numbers a ≡ n.numbers b → a ≡ b
     apart a b x y at at' same =
         let t = was_there (n.tickets a) (nat_eq a.client node) x at in
@@ -415,7 +415,7 @@ net_changed W n node change s = record {
 
 -- Time.
 
-later_moment : (W by : ℕ) (key : Key) (w : Transaction) (o : Option Ticket) → IsSoundAt W key o w → IsSoundAt W key o (record w { now = w.now + by })
+later_moment : (W by : ℕ) (key : Key) (w : Transaction) (o : Option ClientTransaction) → IsSoundAt W key o w → IsSoundAt W key o (record w { now = w.now + by })
 later_moment W by key w None s = record { no_entry = s.no_entry; no_copies = s.no_copies; numbers = s.numbers; counted = s.counted; orderly = s.orderly }
 later_moment W by key w (Some t) s = (
   s.0,

@@ -6,11 +6,11 @@ use Rattle.bac_apdu.specs.Apdu.Apdu.{ConfirmedRequest, ComplexAck}
 use Rattle.bac_protocol.specs.Times.{LIFE}
 use Rattle.bac_protocol.specs.Wire.{is_from_client, Each}
 use Rattle.bac_protocol.specs.Client as client
-use Rattle.bac_protocol.specs.Client.{Ask, Ticket, new_ticket}
+use Rattle.bac_protocol.specs.Client.{Ask, ClientTransaction, new_ticket}
 use Rattle.bac_protocol.specs.Service.{Reply}
 use Rattle.bac_protocol.specs.Server as server
-use Rattle.bac_protocol.specs.Server.{Entry}
-use Rattle.bac_protocol.specs.Log.{Shop}
+use Rattle.bac_protocol.specs.Server.{ServerTransaction}
+use Rattle.bac_protocol.specs.Log.{StoreModel}
 use Rattle.bac_protocol.specs.Transaction.{Key, Rules, client_context, server_context}
 use Rattle.bac_protocol.specs.World.{Net, World, Post, Event, post_of, set_at, later, client_acts, server_acts, is_id_held, is_room, lost, ask_made}
 use Rattle.bac_protocol.specs.World.{takes_at_client, takes_at_server, arrives, delivered, ticks_ticket, ticks_as_client, ticks_as_server, serves}
@@ -80,10 +80,10 @@ module _ (x : Rules) where
   from_server key now [] h = tt
   from_server key now (a ∷ more) h = (inr h.0, from_server key now more h.1)
 
-  abbrev EntryAt : (Key → Option Entry) → Key → Type 0
+  abbrev EntryAt : (Key → Option ServerTransaction) → Key → Type 0
   EntryAt entries key = EntryHas (IsSentByServer x key) (IsLesser x key) (entries key)
 
-  abbrev TicketAt : (Key → Option Ticket) → Key → Type 0
+  abbrev TicketAt : (Key → Option ClientTransaction) → Key → Type 0
   TicketAt tickets key = TicketHas (IsLesser x key) (tickets key)
 
   record Owned (n : Net) : Type 0 where
@@ -92,7 +92,7 @@ module _ (x : Rules) where
     tickets : (key : Key) → TicketAt n.tickets key
 
   -- one ticket or one entry is another
-  tickets_set : (tickets : Key → Option Ticket) → ((key : Key) → TicketAt tickets key) → (key : Key) (o : Option Ticket) → TicketHas (IsLesser x key) o
+  tickets_set : (tickets : Key → Option ClientTransaction) → ((key : Key) → TicketAt tickets key) → (key : Key) (o : Option ClientTransaction) → TicketHas (IsLesser x key) o
       → (k : Key) → TicketAt (set_at tickets key o) k
   tickets_set tickets h key o own k = go (decide_key key k)
     where
@@ -100,7 +100,7 @@ module _ (x : Rules) where
       go (inl is) = subst (λ (j : Key). TicketAt (set_at tickets key o) j) is (subst (TicketHas (IsLesser x key)) (sym (set_same tickets key o)) own)
       go (inr ne) = subst (TicketHas (IsLesser x k)) (sym (set_other tickets key o k ne)) (h k)
 
-  entries_set : (entries : Key → Option Entry) → ((key : Key) → EntryAt entries key) → (key : Key) (o : Option Entry)
+  entries_set : (entries : Key → Option ServerTransaction) → ((key : Key) → EntryAt entries key) → (key : Key) (o : Option ServerTransaction)
       → EntryHas (IsSentByServer x key) (IsLesser x key) o → (k : Key) → EntryAt (set_at entries key o) k
   entries_set entries h key o own k = go (decide_key key k)
     where
@@ -113,7 +113,7 @@ module _ (x : Rules) where
   abbrev IsOwn : Key → ℕ → client.Reaction → Type 0
   IsOwn key now r = Own (client_context x key now) x.readable (IsSentByClient x key) (IsLesser x key) (client_has key now) r
 
-  client_owned : (n : Net) → Owned n → (key : Key) (t : Ticket) → PhaseHas (IsLesser x key) t.phase → (r : client.Reaction) → IsOwn key n.now r
+  client_owned : (n : Net) → Owned n → (key : Key) (t : ClientTransaction) → PhaseHas (IsLesser x key) t.phase → (r : client.Reaction) → IsOwn key n.now r
       → Owned (client_acts n key t r)
   client_owned n h key t k r own =
       let c = client_context x key n.now in
@@ -133,7 +133,7 @@ module _ (x : Rules) where
     tickets = h.tickets;
   }
 
-  module _ (S : Type 0) (shop : Shop S) where
+  module _ (S : Type 0) (shop : StoreModel S) where
     ask_owned : (w : World S) → Owned w.net → (key : Key) (ask : Ask) (b : Bool) → Owned (if b then w else ask_made S x w key ask).net
     ask_owned w h key ask true = h
     ask_owned w h key ask false =
@@ -149,7 +149,7 @@ module _ (x : Rules) where
           tickets = tickets_set w.net.tickets h.tickets key (Some (client.asked_ticket c ask)) next;
         }
 
-    takes_owned : (w : World S) → Owned w.net → (key : Key) (a : Apdu) → is_from_client a ≡ false → IsSent key a → (o : Option Ticket)
+    takes_owned : (w : World S) → Owned w.net → (key : Key) (a : Apdu) → is_from_client a ≡ false → IsSent key a → (o : Option ClientTransaction)
         → TicketHas (IsLesser x key) o → Owned (takes_at_client S x w key a o).net
     takes_owned w h key a down sent None k = h
     takes_owned w h key a down sent (Some t) k =
@@ -175,7 +175,7 @@ module _ (x : Rules) where
         go true = arrives_owned w h p.key free p.copy.apdu (own_at w.net.posts h.posts number p e) (is_from_client p.copy.apdu) refl
         go false = h
 
-    ticket_owned : (w : World S) → Owned w.net → (key : Key) (o : Option Ticket) → TicketHas (IsLesser x key) o → Owned (ticks_ticket S x w key o).net
+    ticket_owned : (w : World S) → Owned w.net → (key : Key) (o : Option ClientTransaction) → TicketHas (IsLesser x key) o → Owned (ticks_ticket S x w key o).net
     ticket_owned w h key None k = h
     ticket_owned w h key (Some t) k =
         let c = client_context x key w.net.now in
@@ -208,7 +208,7 @@ module _ (x : Rules) where
         go : (key : Key) (b : Bool) → TicketHas (IsLesser x key) (if b then lost (w.net.tickets key) else w.net.tickets key)
         go key true = over (w.net.tickets key)
           where
-            over : (o : Option Ticket) → TicketHas (IsLesser x key) (lost o)
+            over : (o : Option ClientTransaction) → TicketHas (IsLesser x key) (lost o)
             over None = tt
             over (Some t) = tt
         go key false = h.tickets key

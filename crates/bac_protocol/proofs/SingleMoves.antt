@@ -7,9 +7,9 @@ use Rattle.bac_protocol.specs.Service.{Octets}
 use Rattle.bac_protocol.specs.Service.Outcome.{Rejects}
 use Rattle.bac_protocol.specs.Wire.{is_from_client}
 use Rattle.bac_protocol.specs.Client as client
-use Rattle.bac_protocol.specs.Client.{Ask, Ticket}
+use Rattle.bac_protocol.specs.Client.{Ask, ClientTransaction}
 use Rattle.bac_protocol.specs.Server as server
-use Rattle.bac_protocol.specs.Server.{Entry, Service}
+use Rattle.bac_protocol.specs.Server.{ServerTransaction, Service}
 use Rattle.bac_protocol.specs.Transaction.{Key, Rules, client_context, server_context, Copy}
 use Rattle.bac_protocol.specs.World.{Net, Post, later, server_acts, asked_at, is_id_held, is_room, net_start}
 use Rattle.bac_protocol.specs.Claims.{IsBounded}
@@ -46,7 +46,7 @@ module _ (W : ℕ) (x : Rules) (bound : IsBounded W x) where
       (copy_at number n.posts p at))
 
   arrives_sound : (n : Net) → Sound n → (number : ℕ) (p : Post) → slice_get n.posts number ≡ Some p → n.now - p.copy.moment ≤ LIFE
-      → later p.key number n.posts ≤ x.overtake → (free : Bool) (service : Service) (o : Option Ticket) → n.tickets p.key ≡ o → (up : Bool)
+      → later p.key number n.posts ≤ x.overtake → (free : Bool) (service : Service) (o : Option ClientTransaction) → n.tickets p.key ≡ o → (up : Bool)
       → is_from_client p.copy.apdu ≡ up → Sound (if up then taken_by_server x n p free service else taken_by_client x n p o)
   arrives_sound n s number p at young few free service None is up way = absurd (posted n s number p at is)
   arrives_sound n s number p at young few free service (Some t) is true way =
@@ -83,7 +83,7 @@ module _ (W : ℕ) (x : Rules) (bound : IsBounded W x) where
       go true false young few = s
       go false b young few = s
 
-  ticket_sound : (n : Net) → Sound n → (key : Key) (o : Option Ticket) → n.tickets key ≡ o → Sound (ticket_ticked x n key o)
+  ticket_sound : (n : Net) → Sound n → (key : Key) (o : Option ClientTransaction) → n.tickets key ≡ o → Sound (ticket_ticked x n key o)
   ticket_sound n s key None is = s
   ticket_sound n s key (Some t) is =
       let f = sound_at W n key (Some t) is s.net in
@@ -95,7 +95,7 @@ module _ (W : ℕ) (x : Rules) (bound : IsBounded W x) where
         calm = calm_client n s.calm key t is r (ended_is_silent.ticks (client_context x key n.now) t);
       }
 
-  entry_sound : (n : Net) → Sound n → (key : Key) (o : Option Ticket) → n.tickets key ≡ o
+  entry_sound : (n : Net) → Sound n → (key : Key) (o : Option ClientTransaction) → n.tickets key ≡ o
       → Sound (server_acts n key (server.server_ticks (server_context x key n.now) (n.entries key)))
   entry_sound n s key (Some t) is =
       let f = sound_at W n key (Some t) is s.net in
@@ -108,7 +108,7 @@ module _ (W : ℕ) (x : Rules) (bound : IsBounded W x) where
       }
   entry_sound n s key None is = go (n.entries key) refl (sound_at W n key None is s.net).no_entry
     where
-      go : (o : Option Entry) → n.entries key ≡ o → o ≡ None → Sound (server_acts n key (server.server_ticks (server_context x key n.now) o))
+      go : (o : Option ServerTransaction) → n.entries key ≡ o → o ≡ None → Sound (server_acts n key (server.server_ticks (server_context x key n.now) o))
       go (Some e) is nil = absurd cc
       go None is nil = subst (λ (m : Net). Sound m)
           (λ i. record n { entries = sym (set_nothing n.entries key None is) i; posts = sym (all_there n.posts) i }) s

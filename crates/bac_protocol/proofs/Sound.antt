@@ -2,14 +2,14 @@
 use Rattle.std.proofs.Common.{◌≡◌, ℕ, ◌+◌, ◌-◌, ◌<◌, ◌≤◌, ◌≢◌, ◌⊎◌, true, false, List, [], ◌∷◌, length, take, Option, Some, None}
 use Rattle.bac_apdu.specs.Apdu.{Apdu, Segment}
 use Rattle.bac_apdu.specs.Apdu.Apdu.{ConfirmedRequest, UnconfirmedRequest, SimpleAck, ComplexAck, SegmentAck, Error, Reject, Abort}
-use Rattle.bac_segment.specs.Limits.{RETRIES}
+use Rattle.bac_segment.specs.Limits.{N_RETRY}
 use Rattle.bac_segment.specs.Pieces.{join}
 use Rattle.bac_segment.specs.Window.{Outgoing, Incoming}
 use Rattle.bac_protocol.specs.Times.{LIFE, DEADLINE, KEEP}
 use Rattle.bac_protocol.specs.Service.{Octets, Reply as reply}
-use Rattle.bac_protocol.specs.Client.{Ask, request_of, Phase, Ticket}
+use Rattle.bac_protocol.specs.Client.{Ask, request_of, Phase, ClientTransaction}
 use Rattle.bac_protocol.specs.Client.Phase.{AwaitConfirmation, SegmentedConf, Idle}
-use Rattle.bac_protocol.specs.Server.{State, Entry}
+use Rattle.bac_protocol.specs.Server.{State, ServerTransaction}
 use Rattle.bac_protocol.specs.Server.State.{Done, SegmentedResponse, Dropped}
 use Rattle.bac_protocol.specs.Log.{Fact, Has, asks_in, IsUnperformed, IsUnended, IsOrderly}
 use Rattle.bac_protocol.specs.Log.Fact.{Asked, Performed, Ended, Changed, Restarted}
@@ -140,8 +140,8 @@ IsRead ask Repeated = Unit {0}
 
 -- a request in pieces is in its first pass until a repeat is made
 abbrev pub PassFits : Ask → (repeats : ℕ) → Up → Type 0
-PassFits ask repeats (Reading taken sent) = (ask.whole ≡ true) ⊎ (repeats ≡ RETRIES)
-PassFits ask repeats Repeated = repeats < RETRIES
+PassFits ask repeats (Reading taken sent) = (ask.whole ≡ true) ⊎ (repeats ≡ N_RETRY)
+PassFits ask repeats Repeated = repeats < N_RETRY
 
 abbrev pub CollectsDown : Incoming → Down → Type 0
 CollectsDown inc Unsent = ⊥
@@ -192,14 +192,14 @@ StateFits W number ask Dropped (Reading taken sent) Unsent log = (taken < length
 StateFits W number ask _ _ _ log = ⊥
 
 -- the entry was begun for the ask
-pub record IsBegunFor (W number : ℕ) (ask : Ask) (e : Entry) (up : Up) (down : Down) (log : List Fact) : Type 0 where
+pub record IsBegunFor (W number : ℕ) (ask : Ask) (e : ServerTransaction) (up : Up) (down : Down) (log : List Fact) : Type 0 where
   pub after : ask.first ≤ e.begin
   pub before : e.begin ≤ ask.first + DEADLINE + LIFE
   pub choice : e.choice ≡ ask.choice
   pub state : StateFits W number ask e.state up down log
 
 -- the entry was dead before the ask was made
-pub record IsPastFor (number : ℕ) (ask : Ask) (e : Entry) (up : Up) (down : Down) (log : List Fact) : Type 0 where
+pub record IsPastFor (number : ℕ) (ask : Ask) (e : ServerTransaction) (up : Up) (down : Down) (log : List Fact) : Type 0 where
   pub dead : e.begin + KEEP < ask.first
   pub unbegun : IsUnbegun number up down log
 
@@ -213,7 +213,7 @@ pub record IsLostFor (opens number : ℕ) (ask : Ask) (up : Up) (down : Down) (l
   pub before : ask.first + KEEP < opens
   pub given : WasGiven number ask up down log
 
-abbrev pub ServerFits : ℕ → ℕ → ℕ → Ask → Option Entry → Up → Down → List Fact → Type 0
+abbrev pub ServerFits : ℕ → ℕ → ℕ → Ask → Option ServerTransaction → Up → Down → List Fact → Type 0
 ServerFits W opens number ask None up down log = IsUnbegun number up down log ⊎ IsLostFor opens number ask up down log
 ServerFits W opens number ask (Some e) up down log = IsPastFor number ask e up down log ⊎ IsBegunFor W number ask e up down log
 
@@ -233,7 +233,7 @@ IsOpenIn AwaitConfirmation n log = IsUnended n log
 IsOpenIn (SegmentedConf inc) n log = IsUnended n log
 IsOpenIn Idle n log = Unit {0}
 
-pub record Sound (W : ℕ) (key : Key) (opens now asks number : ℕ) (t : Ticket) (entry : Option Entry) (copies : List Copy) (log : List Fact) (up : Up)
+pub record Sound (W : ℕ) (key : Key) (opens now asks number : ℕ) (t : ClientTransaction) (entry : Option ServerTransaction) (copies : List Copy) (log : List Fact) (up : Up)
     (down : Down) : Type 0 where
   pub clock : t.ask.first ≤ now
   pub numbers : IsBelow asks log
@@ -249,14 +249,14 @@ pub record Sound (W : ℕ) (key : Key) (opens now asks number : ℕ) (t : Ticket
   pub arriving : EachCopy (λ k c. Fits W now number t.ask log up down k c) copies
 
 -- nothing was asked yet of this transaction
-pub record IsFresh (asks : ℕ) (entry : Option Entry) (copies : List Copy) (log : List Fact) : Type 0 where
+pub record IsFresh (asks : ℕ) (entry : Option ServerTransaction) (copies : List Copy) (log : List Fact) : Type 0 where
   pub no_entry : entry ≡ None
   pub no_copies : copies ≡ []
   pub numbers : IsBelow asks log
   pub counted : asks ≡ asks_in log
   pub orderly : IsOrderly log
 
-abbrev pub IsSoundAt : ℕ → Key → Option Ticket → Transaction → Type 0
+abbrev pub IsSoundAt : ℕ → Key → Option ClientTransaction → Transaction → Type 0
 IsSoundAt W key None w = IsFresh w.asks w.entry w.copies w.log
 IsSoundAt W key (Some t) w = (up : Up) × (down : Down) × Sound W key w.opens w.now w.asks w.number t w.entry w.copies w.log up down
 

@@ -7,10 +7,10 @@ use Rattle.bac_protocol.specs.Times.{REST}
 use Rattle.bac_protocol.specs.Service.{Octets, Request, Reply, Ending}
 use Rattle.bac_protocol.specs.Wire.{is_from_client}
 use Rattle.bac_protocol.specs.Client as client
-use Rattle.bac_protocol.specs.Client.{Ask, Ticket, request_of, is_held}
+use Rattle.bac_protocol.specs.Client.{Ask, ClientTransaction, request_of, is_held}
 use Rattle.bac_protocol.specs.Server as server
 use Rattle.bac_protocol.specs.Server.{Effect}
-use Rattle.bac_protocol.specs.Log.{Fact, Shop, HasNoChange, HasNoRestart}
+use Rattle.bac_protocol.specs.Log.{Fact, StoreModel, HasNoChange, HasNoRestart}
 use Rattle.bac_protocol.specs.Log.Fact.{Asked, Performed, Ended}
 use Rattle.bac_protocol.specs.Transaction.{Key, Rules, ended, performed, client_context, server_context}
 use Rattle.bac_protocol.specs.World.{Net, World, Post, Event, is_deliverable, is_id_held, is_room, ask_made, arrives, takes_at_client, takes_at_server}
@@ -24,7 +24,7 @@ record IsLeft (Q : List Fact → (asks serves : ℕ → ℕ) → Type 0) : Type 
   performed : (n : ℕ) (r : Request) (p : Reply) (log : List Fact) (asks serves : ℕ → ℕ) → Q log asks serves → Q (Performed n r p ∷ log) asks serves
   ended : (n : ℕ) (how : Ending) (log : List Fact) (asks serves : ℕ → ℕ) → Q log asks serves → Q (Ended n how ∷ log) asks serves
 
-module _ (Q : List Fact → (asks serves : ℕ → ℕ) → Type 0) (left : IsLeft Q) (S : Type 0) (shop : Shop S) (x : Rules) where
+module _ (Q : List Fact → (asks serves : ℕ → ℕ) → Type 0) (left : IsLeft Q) (S : Type 0) (shop : StoreModel S) (x : Rules) where
   abbrev Quiet : World S → Type 0
   Quiet w = Q w.net.log w.net.asks_from w.net.serves_from
 
@@ -41,7 +41,7 @@ module _ (Q : List Fact → (asks serves : ℕ → ℕ) → Type 0) (left : IsLe
   ask_quiet w h key ask false =
       left.asked w.net.asks key.client key.server (request_of ask) w.net.log w.net.asks_from w.net.serves_from h
 
-  takes_quiet : (w : World S) → Quiet w → (key : Key) (a : Apdu) (o : Option Ticket) → Quiet (takes_at_client S x w key a o)
+  takes_quiet : (w : World S) → Quiet w → (key : Key) (a : Apdu) (o : Option ClientTransaction) → Quiet (takes_at_client S x w key a o)
   takes_quiet w h key a None = h
   takes_quiet w h key a (Some t) =
       ended_quiet (w.net.numbers key) (client.ending_of (client.client_gets (client_context x key w.net.now) x.readable t a)) w.net.log
@@ -64,7 +64,7 @@ module _ (Q : List Fact → (asks serves : ℕ → ℕ) → Type 0) (left : IsLe
       go true = arrives_quiet w h p.key free p.copy.apdu (is_from_client p.copy.apdu)
       go false = h
 
-  ticket_quiet : (w : World S) → Quiet w → (key : Key) (o : Option Ticket) → Quiet (ticks_ticket S x w key o)
+  ticket_quiet : (w : World S) → Quiet w → (key : Key) (o : Option ClientTransaction) → Quiet (ticks_ticket S x w key o)
   ticket_quiet w h key None = h
   ticket_quiet w h key (Some t) =
       ended_quiet (w.net.numbers key) (client.ending_of (client.client_ticks (client_context x key w.net.now) t)) w.net.log w.net.asks_from
@@ -115,7 +115,7 @@ left_waiting = record {
   ended = λ n how log asks serves h. h;
 }
 
-module _ (S : Type 0) (shop : Shop S) (x : Rules) where
+module _ (S : Type 0) (shop : StoreModel S) (x : Rules) where
   no_change : (events : List Event) (w : World S) → MakeNoChange events → HasNoChange w.net.log → HasNoChange (run S shop x events w).net.log
   no_change [] w none h = h
   no_change (MakeAsk key choice whole front rest ∷ es) w none h = no_change es (happens S shop x w (MakeAsk key choice whole front rest)) none
@@ -163,7 +163,7 @@ never_waits n h = record { held = held; room = room }
     since : (from first : ℕ) → from ≡ 0 → nat_le from (first + REST) ≡ true
     since from first is = grind (arith, nat_tests)
 
-    by_ticket : (from : ℕ) → from ≡ 0 → (o : Option Ticket) → is_held_since from n.now o ≡ is_key_held n.now o
+    by_ticket : (from : ℕ) → from ≡ 0 → (o : Option ClientTransaction) → is_held_since from n.now o ≡ is_key_held n.now o
     by_ticket from is None = refl
     by_ticket from is (Some t) = ap (λ (b : Bool). b && is_held n.now t) (since from t.ask.first is)
 

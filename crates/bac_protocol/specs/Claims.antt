@@ -3,16 +3,16 @@ use Rattle.std.specs.Prelude.{◌≡◌, ℕ, ◌+◌, ◌-◌, ◌*◌, ◌%◌
 use Rattle.std.specs.Prelude.{if◌then◌else◌, nat_lt}
 use Rattle.bac_apdu.specs.Apdu.{Apdu, Segment}
 use Rattle.bac_apdu.specs.Apdu.Apdu.{ConfirmedRequest, UnconfirmedRequest, SimpleAck, ComplexAck, SegmentAck, Error}
-use Rattle.bac_segment.specs.Limits.{RETRIES}
+use Rattle.bac_segment.specs.Limits.{N_RETRY}
 use Rattle.bac_segment.specs.Numbers.{ahead}
 use Rattle.bac_segment.specs.Pieces.{join, piece_at}
 use Rattle.bac_segment.specs.Window.{Outgoing, in_window, Incoming}
 use Rattle.bac_protocol.specs.Times.{LIFE, DEADLINE, KEEP, REST}
 use Rattle.bac_protocol.specs.Service.{Octets, Reply as reply}
 use Rattle.bac_protocol.specs.Wire.{is_from_client}
-use Rattle.bac_protocol.specs.Client.{Ask, request_of, Phase, Ticket}
+use Rattle.bac_protocol.specs.Client.{Ask, request_of, Phase, ClientTransaction}
 use Rattle.bac_protocol.specs.Client.Phase.{AwaitConfirmation, SegmentedConf, Idle}
-use Rattle.bac_protocol.specs.Server.{State, Entry, is_live}
+use Rattle.bac_protocol.specs.Server.{State, ServerTransaction, is_live}
 use Rattle.bac_protocol.specs.Server.State.{Done, SegmentedResponse, Dropped}
 use Rattle.bac_protocol.specs.Log.{Fact, Has}
 use Rattle.bac_protocol.specs.Log.Fact.{Asked, Performed}
@@ -83,18 +83,18 @@ pub record IsCopyOf (number : ℕ) (ask : Ask) (log : List Fact) (c : Copy) : Ty
   pub is_of : IsOfAsk number ask log c.apdu
 
 -- an entry was begun for the ask
-pub record IsEntryOf (ask : Ask) (e : Entry) : Type 0 where
+pub record IsEntryOf (ask : Ask) (e : ServerTransaction) : Type 0 where
   pub after : ask.first ≤ e.begin
   pub before : e.begin ≤ ask.first + DEADLINE + LIFE
   pub choice : e.choice ≡ ask.choice
 
 -- an entry that is live was begun for that ask
-abbrev pub LiveIsOf : ℕ → Ask → Option Entry → Type 0
+abbrev pub LiveIsOf : ℕ → Ask → Option ServerTransaction → Type 0
 LiveIsOf now ask None = Unit {0}
 LiveIsOf now ask (Some e) = is_live now e ≡ true → IsEntryOf ask e
 
 -- each copy of the transaction that may arrive is of its newest ask, and so is its entry, where it is live
-pub record IsOfNewest (x : Rules) (n : Net) (key : Key) (t : Ticket) : Type 0 where
+pub record IsOfNewest (x : Rules) (n : Net) (key : Key) (t : ClientTransaction) : Type 0 where
   pub asked : Has (Asked (n.numbers key) key.client key.server (request_of t.ask)) n.log
   pub copies : EachCopy (λ k c. MayArrive x.overtake n.now k c → IsCopyOf (n.numbers key) t.ask n.log c) (copies_of key n.posts)
   pub entry : LiveIsOf n.now t.ask (n.entries key)
@@ -105,7 +105,7 @@ pub record IsUnasked (n : Net) (key : Key) : Type 0 where
   pub entry : n.entries key ≡ None
 
 -- what is known of a transaction, with a ticket or without one
-abbrev pub IsOfTicket : Rules → Net → Key → Option Ticket → Type 0
+abbrev pub IsOfTicket : Rules → Net → Key → Option ClientTransaction → Type 0
 IsOfTicket x n key None = IsUnasked n key
 IsOfTicket x n key (Some t) = IsOfNewest x n key t
 
@@ -194,7 +194,7 @@ abbrev pub RestartedSince : Net → Key → Ask → Type 0
 RestartedSince n key ask = ask.first + KEEP < n.serves_from key.server
 
 -- and it has taken none, where no entry was begun for the ask; where it restarted since, it may have taken any
-abbrev pub ServerHasTaken : (lost : Type 0) → Ask → Option Entry → ℕ → Type 0
+abbrev pub ServerHasTaken : (lost : Type 0) → Ask → Option ServerTransaction → ℕ → Type 0
 ServerHasTaken lost ask None taken = (taken ≡ 0) ⊎ lost
 ServerHasTaken lost ask (Some e) taken = ((e.begin < ask.first) × (taken ≡ 0)) ⊎ ((ask.first ≤ e.begin) × StateHasTaken ask.pieces e.state taken)
 
@@ -206,7 +206,7 @@ ClientIsInWindow W ask (SegmentedConf inc) taken sent = taken ≡ length ask.pie
 ClientIsInWindow W ask Idle taken sent = Unit {0}
 
 -- the first pass of a request in segments
-pub record IsRequestPass (W : ℕ) (x : Rules) (n : Net) (key : Key) (t : Ticket) : Type 0 where
+pub record IsRequestPass (W : ℕ) (x : Rules) (n : Net) (key : Key) (t : ClientTransaction) : Type 0 where
   pub taken : ℕ
   pub sent : ℕ
   pub server : ServerHasTaken (RestartedSince n key t.ask) t.ask (n.entries key) taken
@@ -216,7 +216,7 @@ pub record IsRequestPass (W : ℕ) (x : Rules) (n : Net) (key : Key) (t : Ticket
 -- a request in segments is in its first pass until a repeat is made
 abbrev pub RequestsAreInWindow : ℕ → Rules → Net → Type 0
 RequestsAreInWindow W x n =
-    (key : Key) (t : Ticket) → n.tickets key ≡ Some t → t.ask.whole ≡ false → t.repeats ≡ RETRIES → IsRequestPass W x n key t
+    (key : Key) (t : ClientTransaction) → n.tickets key ≡ Some t → t.ask.whole ≡ false → t.repeats ≡ N_RETRY → IsRequestPass W x n key t
 
 -- how many pieces of its reply a ticket has taken: none yet; those that it holds; where it is over, that is not known any more
 abbrev pub ClientHasTaken : List Octets → Phase → ℕ → Type 0
@@ -226,7 +226,7 @@ ClientHasTaken pieces (SegmentedConf inc) taken = HasFront pieces inc taken
 ClientHasTaken pieces Idle taken = taken ≤ length pieces
 
 -- the one pass of a reply in segments
-pub record IsReplyPass (W : ℕ) (x : Rules) (n : Net) (key : Key) (t : Ticket) (out : Outgoing) : Type 0 where
+pub record IsReplyPass (W : ℕ) (x : Rules) (n : Net) (key : Key) (t : ClientTransaction) (out : Outgoing) : Type 0 where
   pub taken : ℕ
   pub sent : ℕ
   pub performed : WasPerformed (n.numbers key) t.ask (reply.Complex (join out.pieces)) n.log
@@ -245,7 +245,7 @@ abbrev pub IsUnsent : Rules → Net → Key → Type 0
 IsUnsent x n key = EachCopy (λ k c. MayArrive x.overtake n.now k c → IsOfNoPass c.apdu) (copies_of key n.posts)
 
 -- the pass of a reply whose server restarted in it, and gives no more of it
-pub record IsLostPass (W : ℕ) (x : Rules) (n : Net) (key : Key) (t : Ticket) : Type 0 where
+pub record IsLostPass (W : ℕ) (x : Rules) (n : Net) (key : Key) (t : ClientTransaction) : Type 0 where
   pub pieces : List Octets
   pub taken : ℕ
   pub sent : ℕ
@@ -254,28 +254,28 @@ pub record IsLostPass (W : ℕ) (x : Rules) (n : Net) (key : Key) (t : Ticket) :
   pub pass : IsNearPass W x.overtake n.now (length pieces) taken sent (IsNearDown W pieces taken sent) (copies_of key n.posts)
 
 -- in SEGMENTED_RESPONSE the one pass of the reply goes on; otherwise it has not begun
-abbrev pub StateHasReplyPass : (W : ℕ) → Rules → Net → Key → Ticket → State → Type 0
+abbrev pub StateHasReplyPass : (W : ℕ) → Rules → Net → Key → ClientTransaction → State → Type 0
 StateHasReplyPass W x n key t (SegmentedResponse out transfer since) = IsReplyPass W x n key t out
 StateHasReplyPass W x n key t _ = IsUnsent x n key
 
 -- the same of an entry, which may be of an earlier ask
-abbrev pub ServerHasReplyPass : (W : ℕ) → Rules → Net → Key → Ticket → Option Entry → Type 0
+abbrev pub ServerHasReplyPass : (W : ℕ) → Rules → Net → Key → ClientTransaction → Option ServerTransaction → Type 0
 ServerHasReplyPass W x n key t None = IsUnsent x n key ⊎ (RestartedSince n key t.ask × IsLostPass W x n key t)
 ServerHasReplyPass W x n key t (Some e) =
     ((e.begin < t.ask.first) × IsUnsent x n key) ⊎ ((t.ask.first ≤ e.begin) × StateHasReplyPass W x n key t e.state)
 
 -- a reply in segments is given in one pass by the entry that was begun for the ask, also after the ticket's end
 abbrev pub RepliesAreInWindow : ℕ → Rules → Net → Type 0
-RepliesAreInWindow W x n = (key : Key) (t : Ticket) → n.tickets key ≡ Some t → ServerHasReplyPass W x n key t (n.entries key)
+RepliesAreInWindow W x n = (key : Key) (t : ClientTransaction) → n.tickets key ≡ Some t → ServerHasReplyPass W x n key t (n.entries key)
 
 -- Later passes.
 
 -- a later pass of a request was begun, or its first was acknowledged, or a segment of its reply came
 abbrev pub IsPastFirstPass : Phase → (repeats : ℕ) → Type 0
-IsPastFirstPass (Phase.SegmentedRequest out all_sent) repeats = repeats < RETRIES
+IsPastFirstPass (Phase.SegmentedRequest out all_sent) repeats = repeats < N_RETRY
 IsPastFirstPass AwaitConfirmation repeats = Unit {0}
 IsPastFirstPass (SegmentedConf inc) repeats = Unit {0}
-IsPastFirstPass Idle repeats = repeats < RETRIES
+IsPastFirstPass Idle repeats = repeats < N_RETRY
 
 -- the entry keeps a reply
 abbrev pub HasReply : State → Type 0
@@ -285,7 +285,7 @@ HasReply (SegmentedResponse out transfer since) = Unit {0}
 HasReply Dropped = ⊥
 
 -- the entry was begun for this ask, is live and keeps a reply
-abbrev pub IsLiveWithReply : ℕ → Ask → Option Entry → Type 0
+abbrev pub IsLiveWithReply : ℕ → Ask → Option ServerTransaction → Type 0
 IsLiveWithReply now ask None = ⊥
 IsLiveWithReply now ask (Some e) = (ask.first ≤ e.begin) × (is_live now e ≡ true) × HasReply e.state
 
@@ -297,6 +297,6 @@ IsSegmentOfRequest _ = ⊥
 -- from then on, while a segment of the request may arrive, the entry that was begun for this ask is live and keeps a reply, or its server restarted
 abbrev pub LaterPassesFindReply : Rules → Net → Type 0
 LaterPassesFindReply x n =
-    (key : Key) (t : Ticket) → n.tickets key ≡ Some t → t.ask.whole ≡ false → IsPastFirstPass t.phase t.repeats
+    (key : Key) (t : ClientTransaction) → n.tickets key ≡ Some t → t.ask.whole ≡ false → IsPastFirstPass t.phase t.repeats
     → EachCopy (λ k c. MayArrive x.overtake n.now k c → IsSegmentOfRequest c.apdu
     → RestartedSince n key t.ask ⊎ IsLiveWithReply n.now t.ask (n.entries key)) (copies_of key n.posts)

@@ -3,7 +3,7 @@
 use Rattle.std.specs.Prelude.{◌≡◌, ℕ, ◌+◌, Bool, true, false, ◌∷◌, Option, Some, None, List, slice_get, if◌then◌else◌}
 use Rattle.bac_protocol.specs.Service.{Octets}
 use Rattle.bac_protocol.specs.Wire.{is_from_client}
-use Rattle.bac_protocol.specs.Client.{Ticket, request_of, client_gets, client_ticks}
+use Rattle.bac_protocol.specs.Client.{ClientTransaction, request_of, client_gets, client_ticks}
 use Rattle.bac_protocol.specs.Server.{Service, is_none_live, server_gets, server_ticks}
 use Rattle.bac_protocol.specs.Log.{Has, asks_in, IsOrderly}
 use Rattle.bac_protocol.specs.Log.Fact.{Asked}
@@ -25,7 +25,7 @@ pub data Move : Type 0 where
   RestartsServer : (node : ℕ) (store : Option Octets) → Move
 
 -- a copy reaches its client (clause 5.4.4); without a ticket it is dropped
-abbrev pub taken_by_client : Rules → Net → Post → Option Ticket → Net
+abbrev pub taken_by_client : Rules → Net → Post → Option ClientTransaction → Net
 taken_by_client x n p None = n
 taken_by_client x n p (Some t) = client_acts n p.key t (client_gets (client_context x p.key n.now) x.readable t p.copy.apdu)
 
@@ -43,7 +43,7 @@ arrived x n number free service (Some p) =
     else n
 
 -- a tick of one ticket
-abbrev pub ticket_ticked : Rules → Net → Key → Option Ticket → Net
+abbrev pub ticket_ticked : Rules → Net → Key → Option ClientTransaction → Net
 ticket_ticked x n key None = n
 ticket_ticked x n key (Some t) = client_acts n key t (client_ticks (client_context x key n.now) t)
 
@@ -71,7 +71,7 @@ pub record IsInOrder (n : Net) : Type 0 where
   pub orderly : IsOrderly n.log
   pub counted : n.asks ≡ asks_in n.log
   -- a ticket's request is the one that was asked under its number
-  pub asked : (key : Key) (t : Ticket) → n.tickets key ≡ Some t → Has (Asked (n.numbers key) key.client key.server (request_of t.ask)) n.log
+  pub asked : (key : Key) (t : ClientTransaction) → n.tickets key ≡ Some t → Has (Asked (n.numbers key) key.client key.server (request_of t.ask)) n.log
   -- where copies or an entry are, there is a ticket
   pub posted : (number : ℕ) (p : Post) → slice_get n.posts number ≡ Some p → n.tickets p.key ≡ None → ⊥
   pub entered : (key : Key) → n.tickets key ≡ None → n.entries key ≡ None

@@ -5,12 +5,12 @@ use Rattle.bac_apdu.specs.Apdu.{Apdu}
 use Rattle.bac_protocol.specs.Times.{LIFE, KEEP, REST}
 use Rattle.bac_protocol.specs.Service.{Octets}
 use Rattle.bac_protocol.specs.Wire.{is_from_client}
-use Rattle.bac_protocol.specs.Client.{Ask, request_of, Phase, Ticket, after, sends_of, ending_of, asked_ticket, asks, client_gets, client_ticks, is_held}
+use Rattle.bac_protocol.specs.Client.{Ask, request_of, Phase, ClientTransaction, after, sends_of, ending_of, asked_ticket, asks, client_gets, client_ticks, is_held}
 use Rattle.bac_protocol.specs.Client as client
 use Rattle.bac_protocol.specs.Client.Phase.{Idle}
-use Rattle.bac_protocol.specs.Server.{Entry, Effect, Service, server_gets, server_ticks}
+use Rattle.bac_protocol.specs.Server.{ServerTransaction, Effect, Service, server_gets, server_ticks}
 use Rattle.bac_protocol.specs.Server as server
-use Rattle.bac_protocol.specs.Log.{Fact, Shop, restarted}
+use Rattle.bac_protocol.specs.Log.{Fact, StoreModel, restarted}
 use Rattle.bac_protocol.specs.Log.Fact.{Asked, Changed, Restarted}
 use Rattle.bac_protocol.specs.Transaction.{Key, Rules, client_context, server_context, Copy, ended, performed}
 
@@ -28,8 +28,8 @@ pub record Net : Type 0 where
   pub now : ℕ
   pub asks : ℕ  -- how many asks there were
   pub numbers : Key → ℕ  -- the number of each transaction's newest ask
-  pub tickets : Key → Option Ticket
-  pub entries : Key → Option Entry
+  pub tickets : Key → Option ClientTransaction
+  pub entries : Key → Option ServerTransaction
   pub posts : List Post  -- every copy that was sent, oldest first, numbered from 0
   pub log : List Fact  -- newest first
   pub asks_from : ℕ → ℕ  -- the first moment at which each node asks; 0 where its client never restarted
@@ -77,7 +77,7 @@ abbrev pub set_at : {A : Type 0} → (Key → A) → Key → A → Key → A
 set_at f key a k = if same_key key k then a else f k
 
 -- what its client does for a ticket: the ticket after it, the copies that it sends, and its ending in the log
-abbrev pub client_acts : Net → Key → Ticket → client.Reaction → Net
+abbrev pub client_acts : Net → Key → ClientTransaction → client.Reaction → Net
 client_acts n key t r =
     record n {
       tickets = set_at n.tickets key (Some (after n.now t r));
@@ -111,24 +111,24 @@ abbrev pub notes_change : Net → (node : ℕ) → (change : Octets) → Net
 notes_change n node change = record n { log = Changed node change ∷ n.log }
 
 -- the servers' stores after what was performed
-abbrev pub stored : (S : Type 0) → Shop S → (server : ℕ) → Option Effect → (ℕ → S) → ℕ → S
+abbrev pub stored : (S : Type 0) → StoreModel S → (server : ℕ) → Option Effect → (ℕ → S) → ℕ → S
 stored S shop server None stores node = stores node
 stored S shop server (Some effect) stores node = if nat_eq node server then shop.after (stores server) effect.request else stores node
 
 -- the stores after a change at that node
-abbrev pub changed_at : (S : Type 0) → Shop S → (node : ℕ) → (change : Octets) → (ℕ → S) → ℕ → S
+abbrev pub changed_at : (S : Type 0) → StoreModel S → (node : ℕ) → (change : Octets) → (ℕ → S) → ℕ → S
 changed_at S shop node change stores n = if nat_eq n node then shop.changed (stores node) change else stores n
 
 -- the stores after that node's server restarted
-abbrev pub restarted_at : (S : Type 0) → Shop S → (node : ℕ) → (store : Option Octets) → (ℕ → S) → ℕ → S
+abbrev pub restarted_at : (S : Type 0) → StoreModel S → (node : ℕ) → (store : Option Octets) → (ℕ → S) → ℕ → S
 restarted_at S shop node store stores n = if nat_eq n node then restarted S shop store (stores node) else stores n
 
 -- a client acts; no store changes
-abbrev pub reacts : (S : Type 0) → World S → Key → Ticket → client.Reaction → World S
+abbrev pub reacts : (S : Type 0) → World S → Key → ClientTransaction → client.Reaction → World S
 reacts S w key t r = record { net = client_acts w.net key t r; stores = w.stores }
 
 -- a server acts, and its store changes with what it performed
-abbrev pub serves : (S : Type 0) → Shop S → World S → Key → server.Reaction → World S
+abbrev pub serves : (S : Type 0) → StoreModel S → World S → Key → server.Reaction → World S
 serves S shop w key v = record { net = server_acts w.net key v; stores = stored S shop key.server v.effect w.stores }
 
 -- Events.
@@ -146,7 +146,7 @@ pub data Event : Type 0 where
   RestartServer : (node : ℕ) (store : Option Octets) → Event  -- its entries are lost; its store is as it was, or that one
 
 -- whether an invoke ID is held for that server
-abbrev pub is_key_held : ℕ → Option Ticket → Bool
+abbrev pub is_key_held : ℕ → Option ClientTransaction → Bool
 is_key_held now None = false
 is_key_held now (Some t) = is_held now t
 
@@ -161,7 +161,7 @@ abbrev pub waits_to_serve : Net → Key → Bool
 waits_to_serve n key = nat_lt n.now (n.serves_from key.server)
 
 -- a ticket that a restart took holds no invoke ID once its client asks again: its ask was made REST and more before that
-abbrev pub is_held_since : (from now : ℕ) → Option Ticket → Bool
+abbrev pub is_held_since : (from now : ℕ) → Option ClientTransaction → Bool
 is_held_since from now None = false
 is_held_since from now (Some t) = nat_le from (t.ask.first + REST) && is_held now t
 
@@ -178,7 +178,7 @@ abbrev pub set_node : (ℕ → ℕ) → (node moment : ℕ) → ℕ → ℕ
 set_node from node moment n = if nat_eq n node then moment else from n
 
 -- a ticket that was lost takes nothing any more, and how its ask ends is not known: it stands here as idle, since its copies are on their way
-abbrev pub lost : Option Ticket → Option Ticket
+abbrev pub lost : Option ClientTransaction → Option ClientTransaction
 lost None = None
 lost (Some t) = Some (record t { phase = Idle })
 
@@ -200,30 +200,30 @@ server_restarted n node store =
     }
 
 -- what the transaction's server makes of a request, by its store as it is
-abbrev pub service_of : (S : Type 0) → Shop S → World S → Key → Service
+abbrev pub service_of : (S : Type 0) → StoreModel S → World S → Key → Service
 service_of S shop w key = shop.outcome (w.stores key.server)
 
 -- an APDU reaches the client (clause 5.4.4); without a ticket it is dropped
-abbrev pub takes_at_client : (S : Type 0) → Rules → World S → Key → Apdu → Option Ticket → World S
+abbrev pub takes_at_client : (S : Type 0) → Rules → World S → Key → Apdu → Option ClientTransaction → World S
 takes_at_client S x w key a None = w
 takes_at_client S x w key a (Some t) = reacts S w key t (client_gets (client_context x key w.net.now) x.readable t a)
 
 -- an APDU reaches the server (clause 5.4.5)
-abbrev pub takes_at_server : (S : Type 0) → Shop S → Rules → World S → Key → (free : Bool) → Apdu → World S
+abbrev pub takes_at_server : (S : Type 0) → StoreModel S → Rules → World S → Key → (free : Bool) → Apdu → World S
 takes_at_server S shop x w key free a = serves S shop w key
     (server_gets (server_context x key w.net.now) (service_of S shop w key) (w.net.entries key) (is_room w.net key free) a)
 
 -- a copy reaches the other end of its transaction
-abbrev pub arrives : (S : Type 0) → Shop S → Rules → World S → Key → (free : Bool) → Apdu → World S
+abbrev pub arrives : (S : Type 0) → StoreModel S → Rules → World S → Key → (free : Bool) → Apdu → World S
 arrives S shop x w key free a = if is_from_client a then takes_at_server S shop x w key free a else takes_at_client S x w key a (w.net.tickets key)
 
 -- one that is not deliverable is lost
-abbrev pub delivered : (S : Type 0) → Shop S → Rules → World S → (number : ℕ) → (free : Bool) → Option Post → World S
+abbrev pub delivered : (S : Type 0) → StoreModel S → Rules → World S → (number : ℕ) → (free : Bool) → Option Post → World S
 delivered S shop x w number free None = w
 delivered S shop x w number free (Some p) = if is_deliverable x w.net.now number w.net.posts p then arrives S shop x w p.key free p.copy.apdu else w
 
 -- a tick of one ticket
-abbrev pub ticks_ticket : (S : Type 0) → Rules → World S → Key → Option Ticket → World S
+abbrev pub ticks_ticket : (S : Type 0) → Rules → World S → Key → Option ClientTransaction → World S
 ticks_ticket S x w key None = w
 ticks_ticket S x w key (Some t) = reacts S w key t (client_ticks (client_context x key w.net.now) t)
 
@@ -233,7 +233,7 @@ ticks_as_client S x [] w = w
 ticks_as_client S x (key ∷ keys) w = ticks_as_client S x keys (ticks_ticket S x w key (w.net.tickets key))
 
 -- a tick of these entries, one after the other
-abbrev pub ticks_as_server : (S : Type 0) → Shop S → Rules → List Key → World S → World S
+abbrev pub ticks_as_server : (S : Type 0) → StoreModel S → Rules → List Key → World S → World S
 ticks_as_server S shop x [] w = w
 ticks_as_server S shop x (key ∷ keys) w = ticks_as_server S shop x keys
     (serves S shop w key (server_ticks (server_context x key w.net.now) (w.net.entries key)))
@@ -243,7 +243,7 @@ abbrev pub ask_made : (S : Type 0) → Rules → World S → Key → Ask → Wor
 ask_made S x w key ask = record { net = asked_at x w.net key ask; stores = w.stores }
 
 -- the world after an event; an ask whose invoke ID is held, or whose client waits, is refused, and changes nothing
-abbrev pub happens : (S : Type 0) → Shop S → Rules → World S → Event → World S
+abbrev pub happens : (S : Type 0) → StoreModel S → Rules → World S → Event → World S
 happens S shop x w (MakeAsk key choice whole front rest) =
     if is_id_held w.net key then w
     else ask_made S x w key (record { first = w.net.now; choice = choice; whole = whole; pieces = front ∷ rest })
@@ -257,7 +257,7 @@ happens S shop x w (RestartServer node store) =
     record { net = server_restarted w.net node store; stores = restarted_at S shop node store w.stores }
 
 -- the world after these events, in their order
-abbrev pub run : (S : Type 0) → Shop S → Rules → List Event → World S → World S
+abbrev pub run : (S : Type 0) → StoreModel S → Rules → List Event → World S → World S
 run S shop x [] w = w
 run S shop x (e ∷ es) w = run S shop x es (happens S shop x w e)
 

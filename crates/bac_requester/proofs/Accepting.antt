@@ -7,28 +7,28 @@ use Rattle.bac_npdu.specs.Peers.{PeerView}
 use Rattle.bac_slots.specs.declared.slot.Slot.{Slot}
 use Rattle.bac_slots.specs.Slots.{value_at, keep}
 use Rattle.bac_protocol.specs.Context.{Settings, Context}
-use Rattle.bac_protocol.specs.Client.{Ask, Ticket, after, asked_ticket, new_ticket, request_apdu, sends_request_window}
+use Rattle.bac_protocol.specs.Client.{Ask, ClientTransaction, after, asked_ticket, new_ticket, request_apdu, sends_request_window}
 use Rattle.bac_protocol.specs.Client.Reaction.{GoesOn}
 use Rattle.bac_protocol.specs.Client.Phase.{AwaitConfirmation}
 use Rattle.bac_segment.specs.Window.{outgoing}
 use Rattle.bac_protocol.specs.Service.{Octets}
 use Rattle.bac_protocol.specs.Sizes as sizes
-use Rattle.bac_ends.specs.Ends.{Client, ClientEnd, ClientSlot, AskOutcome, AskRefusal, CannotGo, Held, MOST_ASKS, context_of, kept, is_held, is_held_there}
-use Rattle.bac_ends.specs.Ends.{is_id_held, is_id_taken, waits_to_ask, is_slot_held, has_no_slot, least_not, least_around, free_id, accepts, asks_by_way, asks_for, asks_with_id}
-use Rattle.bac_ends.specs.Ends.Held.{Open}
-use Rattle.bac_ends.specs.Keys as keys
-use Rattle.bac_ends.specs.Views.{code_same_key, peer_key_view, slot_view, slots_view}
-use Rattle.bac_ends.specs.declared.peer_key.PeerKey.{PeerKey}
-use Rattle.bac_ends.proofs.ClientTables.{least_around_is, none_refused_around}
-use Rattle.bac_ends.proofs.Keyed.{value_viewed, put_viewed, filter_viewed}
-use Rattle.bac_aged.proofs.Viewed.{count_viewed}
+use Rattle.bac_transaction.specs.Ends.{Client, ClientEnd, ClientSlot, AskOutcome, AskRefusal, CannotGo, TransactionSlot, MOST_ASKS, context_of, kept, is_held, is_held_there}
+use Rattle.bac_transaction.specs.Ends.{is_id_held, is_id_taken, waits_to_ask, is_slot_held, has_no_slot, least_not, least_around, free_id, accepts, asks_by_way, asks_for, asks_with_id}
+use Rattle.bac_transaction.specs.Ends.TransactionSlot.{Open}
+use Rattle.bac_transaction.specs.Keys as keys
+use Rattle.bac_transaction.specs.Views.{code_same_key, peer_key_view, slot_view, slots_view}
+use Rattle.bac_transaction.specs.declared.peer_key.PeerKey.{PeerKey}
+use Rattle.bac_transaction.proofs.ClientTables.{least_around_is, none_refused_around}
+use Rattle.bac_transaction.proofs.Keyed.{value_viewed, put_viewed, filter_viewed}
+use Rattle.bac_transaction.proofs.Viewed.{count_viewed}
 use Rattle.bac_service.specs.Spellings.{request_spelling}
 use Rattle.bac_service.specs.Values.{Request, choice_of}
-use Rattle.bac_ticket.specs.Requests.{ask_at, request_by}
-use Rattle.bac_ticket.specs.Views.{fault_view, way_view}
-use Rattle.bac_ticket.specs.declared.outgoing_request.RequestFault.{RequestFault}
-use Rattle.bac_ticket.specs.declared.outgoing_request.RequestWay.{RequestWay}
-use Rattle.bac_ticket.specs.declared.outgoing_request.RequestWay.TheVariants as way
+use Rattle.bac_requester.specs.Requests.{ask_at, request_by}
+use Rattle.bac_requester.specs.TransactionViews.{fault_view, way_view}
+use Rattle.bac_requester.specs.declared.outgoing_request.RequestFault.{RequestFault}
+use Rattle.bac_requester.specs.declared.outgoing_request.RequestWay.{RequestWay}
+use Rattle.bac_requester.specs.declared.outgoing_request.RequestWay.TheVariants as way
 use Rattle.bac_requester.specs.Turns.{MayBegin}
 use Rattle.bac_requester.specs.Views.{end_of}
 
@@ -180,14 +180,14 @@ can_go c now peer choice octets e w r x is can =
 
 -- The end after an ask.
 
-pub entered_end : (c : Settings) (now : ℕ) (key : keys.PeerKey) (ask : Ask) (slots new : List ClientSlot) (capacity room number from first_id : ℕ) (t : Ticket)
+pub entered_end : (c : Settings) (now : ℕ) (key : keys.PeerKey) (ask : Ask) (slots new : List ClientSlot) (capacity room number from first_id : ℕ) (t : ClientTransaction)
     → t ≡ asked_ticket (context_of c now key) ask
     → new ≡ filter (is_slot_held now) slots ++ record { key = key; begin = now; value = record { number = number; held = Open t } } ∷ [] → room ≡ capacity
     → (let e : ClientEnd = record { slots = new; capacity = room; asked = number + 1; asks_from = from; first_id = first_id } in e)
     ≡ (accepts c now key ask (record { slots = slots; capacity = capacity; asked = number; asks_from = from; first_id = first_id })).end
 entered_end c now key ask slots new capacity room number from first_id t is put same =
     let with_slots : List ClientSlot → ℕ → ClientEnd = λ l k. record { slots = l; capacity = k; asked = number + 1; asks_from = from; first_id = first_id } in
-    let with_held : Held → List ClientSlot = λ h. filter (is_slot_held now) slots
+    let with_held : TransactionSlot → List ClientSlot = λ h. filter (is_slot_held now) slots
     ++ record { key = key; begin = now; value = record { number = number; held = h } } ∷ [] in
     ap (λ l. with_slots l room) put ∙ ap (λ k. with_slots (with_held (Open t)) k) same
     ∙ ap (λ h. with_slots (with_held h) capacity) (ap (λ u. Open u) is ∙ sym (kept_open (context_of c now key) ask))

@@ -11,10 +11,10 @@ use Rattle.bac_npdu.specs.Views.{peer_view}
 use Rattle.bac_npdu.specs.declared.peer.Peer.{Peer}
 use Rattle.bac_slots.specs.declared.slot.Slot.{Slot}
 use Rattle.bac_slots.specs.Slots.{IsDistinct, is_less, nth_by_key, rank, value_at}
-use Rattle.bac_ends.specs.Ends.{Client, is_held, is_held_there, is_id_held}
-use Rattle.bac_ends.specs.Keys as keys
-use Rattle.bac_ends.specs.Views.{code_key_cmp, code_same_key, peer_key_view, slots_view}
-use Rattle.bac_ends.specs.declared.peer_key.PeerKey.{PeerKey}
+use Rattle.bac_transaction.specs.Ends.{Client, is_held, is_held_there, is_id_held}
+use Rattle.bac_transaction.specs.Keys as keys
+use Rattle.bac_transaction.specs.Views.{code_key_cmp, code_same_key, peer_key_view, slots_view}
+use Rattle.bac_transaction.specs.declared.peer_key.PeerKey.{PeerKey}
 use Rattle.bac_requester.proofs.Accepting.{id_held}
 
 abbrev Slots : Type 0

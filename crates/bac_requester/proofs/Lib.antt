@@ -5,3 +5,7 @@ pub mod Ticks
 pub mod Accepting
 pub mod Ids
 pub mod Waiting
+pub mod Short
+pub mod Ways
+pub mod Taking
+pub mod Services

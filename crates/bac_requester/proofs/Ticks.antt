@@ -2,14 +2,14 @@
 use Rattle.std.proofs.Common.{◌≡◌, ℕ, ◌<◌, List, [], ◌∷◌, map, refl, ap, ◌∙◌}
 use Rattle.bac_slots.specs.declared.slot.Slot.{Slot}
 use Rattle.bac_slots.proofs.Ages.{each_more}
-use Rattle.bac_ends.specs.declared.settings.Settings.{Settings}
-use Rattle.bac_ends.specs.Ends.{Client, ClientEnd, ClientSlot, client_tick_ends, client_tick_sends, client_ticked, clients_tick, context_of}
-use Rattle.bac_ends.specs.Meanings.{Finish, IsFinish}
-use Rattle.bac_ends.specs.Sends.{Datagram, IsSent}
-use Rattle.bac_ends.specs.Views.{peer_key_view, settings_view, slot_view, slots_view}
-use Rattle.bac_ends.specs.declared.peer_key.PeerKey.{PeerKey}
-use Rattle.bac_aged.specs.Ages.{AreQuiet, changed, ticked_in}
-use Rattle.bac_aged.proofs.Telling.{told_none}
+use Rattle.bac_transaction.specs.declared.settings.Settings.{Settings}
+use Rattle.bac_transaction.specs.Ends.{Client, ClientEnd, ClientSlot, client_tick_ends, client_tick_sends, client_ticked, clients_tick, context_of}
+use Rattle.bac_transaction.specs.Meanings.{Finish, IsFinish}
+use Rattle.bac_transaction.specs.Sends.{Datagram, IsSent}
+use Rattle.bac_transaction.specs.Views.{peer_key_view, settings_view, slot_view, slots_view}
+use Rattle.bac_transaction.specs.declared.peer_key.PeerKey.{PeerKey}
+use Rattle.bac_slots.specs.Ages.{AreQuiet, changed, ticked_in}
+use Rattle.bac_transaction.proofs.Telling.{told_none}
 use Rattle.bac_requester.specs.Aging.{IsClientQuiet, value_ticked}
 use Rattle.bac_requester.specs.Turns.{IsTold}
 use Rattle.bac_requester.specs.Views.{end_of}

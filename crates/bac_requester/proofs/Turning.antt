@@ -9,28 +9,28 @@ use Rattle.bac_slots.specs.Slots.{value_at, with_value}
 use Rattle.bac_protocol.specs.Context.{Settings}
 use Rattle.bac_protocol.specs.Service as machine
 use Rattle.bac_protocol.specs.Client.{client_gets, ending_of, sends_of}
-use Rattle.bac_ends.specs.Ends.{Client, ClientEnd, ClientTurn, Held, client_hears, client_hears_at, key_of, client_after, ended_with}
-use Rattle.bac_ends.specs.Ends.Held.{Open, Closed}
-use Rattle.bac_ends.specs.Keys as keys
-use Rattle.bac_ends.specs.Keys.{same_key}
-use Rattle.bac_ends.specs.Meanings as meanings
-use Rattle.bac_ends.specs.Meanings.{Finish, IsFinish}
-use Rattle.bac_ends.specs.Sends.{Datagram, IsSent, Pairwise, to_all}
-use Rattle.bac_ends.specs.Views.{code_same_key, peer_key_view, settings_view, slots_view}
-use Rattle.bac_ends.specs.declared.peer_key.PeerKey.{PeerKey}
-use Rattle.bac_ends.proofs.Keyed.{value_viewed, with_value_viewed}
-use Rattle.bac_ticket.specs.Reacts.{HearsSo, MeansEnd}
-use Rattle.bac_ends.specs.Views.{context_view}
-use Rattle.bac_ticket.specs.Views.{ending_view}
-use Rattle.bac_ends.specs.declared.context.Context.{Context}
-use Rattle.bac_ticket.specs.declared.reaction.Reaction.{Reaction}
+use Rattle.bac_transaction.specs.Ends.{Client, ClientEnd, ClientTurn, TransactionSlot, client_hears, client_hears_at, key_of, client_after, ended_with}
+use Rattle.bac_transaction.specs.Ends.TransactionSlot.{Open, Closed}
+use Rattle.bac_transaction.specs.Keys as keys
+use Rattle.bac_transaction.specs.Keys.{same_key}
+use Rattle.bac_transaction.specs.Meanings as meanings
+use Rattle.bac_transaction.specs.Meanings.{Finish, IsFinish}
+use Rattle.bac_transaction.specs.Sends.{Datagram, IsSent, Pairwise, to_all}
+use Rattle.bac_transaction.specs.Views.{code_same_key, peer_key_view, settings_view, slots_view}
+use Rattle.bac_transaction.specs.declared.peer_key.PeerKey.{PeerKey}
+use Rattle.bac_transaction.proofs.Keyed.{value_viewed, with_value_viewed}
+use Rattle.bac_requester.specs.Reacts.{HearsSo, MeansEnd}
+use Rattle.bac_transaction.specs.Views.{context_view}
+use Rattle.bac_requester.specs.TransactionViews.{ending_view}
+use Rattle.bac_transaction.specs.declared.context.Context.{Context}
+use Rattle.bac_requester.specs.declared.reaction.Reaction.{Reaction}
 use Rattle.bac_npdu.specs.Peers.{PeerView}
 use Rattle.bac_value.specs.declared.memory.NoMemory.{NoMemory}
 use Rattle.bac_requester.specs.Aging.{first_of}
 use Rattle.bac_requester.specs.Turns.{Hears, IsTold, finishes_with, hears_key}
 use Rattle.bac_requester.specs.Views.{end_of, finishes_of}
 use Rattle.bac_requester.specs.declared.turn.Turn.{Turn}
-use Rattle.bac_aged.proofs.Viewed.{put_back}
+use Rattle.bac_transaction.proofs.Viewed.{put_back}
 use Rattle.bac_requester.proofs.Aging.{next_first}
 
 abbrev Slots : Type 0
@@ -57,7 +57,7 @@ turn_at c a slots capacity asked from first_id o is =
 same_end : (old new : Slots) (capacity room asked from first_id : ℕ) → new ≡ old → room ≡ capacity → end_of new room asked from first_id ≡ end_of old capacity asked from first_id
 same_end old new capacity room asked from first_id e f = ap (λ l. end_of l room asked from first_id) e ∙ ap (λ k. end_of old k asked from first_id) f
 
-same_client : (w : Client) (number : ℕ) (held : Held) → w.number ≡ number → w.held ≡ held → w ≡ record { number = number; held = held }
+same_client : (w : Client) (number : ℕ) (held : TransactionSlot) → w.number ≡ number → w.held ≡ held → w ≡ record { number = number; held = held }
 same_client w number held e f = ap (λ n. let v : Client = record { number = n; held = w.held } in v) e ∙ ap (λ h. let v : Client = record { number = number; held = h } in v) f
 
 nothing_told : (e : ClientEnd) (x : Turn) → x.sends.items ≡ [] → finishes_of x.ended ≡ []
@@ -86,7 +86,7 @@ heard_failed turn old new (Ok x) failed same = absurd cc
 heard_failed turn old new (Err e) failed same = same
 
 -- what is kept of its ticket hears it
-pub heard_held : (c : Context) (a : Apdu) (old new : Slots) (w : Client) (capacity room asked from first_id number : ℕ) (held : Held) (r : Reaction) (x : Turn)
+pub heard_held : (c : Context) (a : Apdu) (old new : Slots) (w : Client) (capacity room asked from first_id number : ℕ) (held : TransactionSlot) (r : Reaction) (x : Turn)
     → value_at code_same_key c.key old ≡ Some (record { number = number; held = held }) → HearsSo c a held r w.held → w.number ≡ number
     → new ≡ with_value code_same_key c.key w old → room ≡ capacity
     → x.sends.items ≡ r.sends.items → finishes_of x.ended ≡ finishes_with number (option_map ending_view r.ended)
@@ -121,7 +121,7 @@ heard_held c a old new w capacity room asked from first_id number (Open t) r x i
     })
 
 -- what is kept of its ticket keeps the moment of its first sending
-pub heard_first : (c : Context) (a : Apdu) (old new : Held) (r : Reaction) → HearsSo c a old r new → first_of new ≡ first_of old
+pub heard_first : (c : Context) (a : Apdu) (old new : TransactionSlot) (r : Reaction) → HearsSo c a old r new → first_of new ≡ first_of old
 heard_first c a (Open t) new r did = ap first_of did.held ∙ next_first c.moment t (client_gets (context_view c) reads_reply t a)
 heard_first c a (Closed first) new r did = ap first_of did.1
 

@@ -1,18 +1,18 @@
 -- How the values of a client's slots age.
 use Rattle.std.specs.Prelude.{ℕ, List}
 use Rattle.bac_slots.specs.declared.slot.Slot.{Slot}
-use Rattle.bac_ends.specs.Ends.{Client, Held, context_of, held_ticked}
-use Rattle.bac_ends.specs.Views.{peer_key_view, settings_view}
-use Rattle.bac_ends.specs.declared.peer_key.PeerKey.{PeerKey}
-use Rattle.bac_ends.specs.declared.settings.Settings.{Settings}
-use Rattle.bac_aged.specs.Ages.{IsAged}
-use Rattle.bac_aged.specs.declared.ages.Ages.{Ages}
-use Rattle.bac_ticket.specs.Timers.{IsHeldQuiet, held_due}
+use Rattle.bac_transaction.specs.Ends.{Client, TransactionSlot, context_of, held_ticked}
+use Rattle.bac_transaction.specs.Views.{peer_key_view, settings_view}
+use Rattle.bac_transaction.specs.declared.peer_key.PeerKey.{PeerKey}
+use Rattle.bac_transaction.specs.declared.settings.Settings.{Settings}
+use Rattle.bac_slots.specs.Ages.{IsAged}
+use Rattle.bac_slots.specs.declared.ages.Ages.{Ages}
+use Rattle.bac_requester.specs.Timers.{IsHeldQuiet, held_due}
 
 -- the moment of the first sending, which an ended ticket keeps too
-abbrev pub first_of : Held → ℕ
-first_of (Held.Open t) = t.ask.first
-first_of (Held.Closed first) = first
+abbrev pub first_of : TransactionSlot → ℕ
+first_of (TransactionSlot.Open t) = t.ask.first
+first_of (TransactionSlot.Closed first) = first
 
 -- a slot's life begins with the first sending of its ticket
 abbrev pub began : Client → ℕ

@@ -4,3 +4,8 @@ pub mod Faults
 pub mod Turns
 pub mod Aging
 pub mod Short
+pub mod TransactionViews
+pub mod Requests
+pub mod Fits
+pub mod Reacts
+pub mod Timers

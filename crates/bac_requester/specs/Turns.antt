@@ -5,12 +5,12 @@ use Rattle.bac_service.specs.Services.{reads_reply}
 use Rattle.bac_slots.specs.Slots.{value_at}
 use Rattle.bac_value.specs.declared.memory.NoMemory.{NoMemory}
 use Rattle.bac_protocol.specs.Context.{Settings}
-use Rattle.bac_ends.specs.Ends.{ClientEnd, ClientSlot, ClientTurn, client_hears_at, client_tick_sends, client_tick_ends}
-use Rattle.bac_ends.specs.Keys as keys
-use Rattle.bac_ends.specs.Keys.{same_key}
-use Rattle.bac_ends.specs.Meanings as meanings
-use Rattle.bac_ends.specs.Meanings.{Finish, IsFinish}
-use Rattle.bac_ends.specs.Sends.{Datagram, IsSent, Pairwise}
+use Rattle.bac_transaction.specs.Ends.{ClientEnd, ClientSlot, ClientTurn, client_hears_at, client_tick_sends, client_tick_ends}
+use Rattle.bac_transaction.specs.Keys as keys
+use Rattle.bac_transaction.specs.Keys.{same_key}
+use Rattle.bac_transaction.specs.Meanings as meanings
+use Rattle.bac_transaction.specs.Meanings.{Finish, IsFinish}
+use Rattle.bac_transaction.specs.Sends.{Datagram, IsSent, Pairwise}
 use Rattle.bac_requester.specs.Views.{finish_view, finishes_of}
 use Rattle.bac_requester.specs.declared.turn.Turn.{Turn}
 use Rattle.bac_requester.specs.declared.turn.Due.{Due}
@@ -18,7 +18,7 @@ use Rattle.bac_requester.specs.declared.asking.Asked.{Asked}
 use Rattle.bac_requester.specs.declared.ask_fault.AskFault.{AskFault}
 use Rattle.bac_requester.specs.declared.ask_fault.AskFault.TheVariants as fault
 use Rattle.bac_protocol.specs.Sizes.{RequestFault}
-use Rattle.bac_ends.specs.Ends.{Accepted, AskOutcome, AskRefusal, CannotGo}
+use Rattle.bac_transaction.specs.Ends.{Accepted, AskOutcome, AskRefusal, CannotGo}
 
 -- what is sent and what has ended are this turn's, as datagrams and values
 pub record IsTold (turn : ClientTurn) (sent : List Datagram) (ended : List Finish) : Type 0 where

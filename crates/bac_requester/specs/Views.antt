@@ -1,11 +1,11 @@
 -- What contracts see of the types in code.
 use Rattle.std.specs.Prelude.{ℕ, List, [], ◌∷◌, Option, Some, None}
 use Rattle.bac_slots.specs.declared.slot.Slot.{Slot}
-use Rattle.bac_ends.specs.Ends.{Client, ClientEnd}
-use Rattle.bac_ends.specs.Meanings as meanings
-use Rattle.bac_ends.specs.Views.{slots_view}
-use Rattle.bac_ends.specs.declared.peer_key.PeerKey.{PeerKey}
-use Rattle.bac_ticket.specs.Views.{ending_view}
+use Rattle.bac_transaction.specs.Ends.{Client, ClientEnd}
+use Rattle.bac_transaction.specs.Meanings as meanings
+use Rattle.bac_transaction.specs.Views.{slots_view}
+use Rattle.bac_transaction.specs.declared.peer_key.PeerKey.{PeerKey}
+use Rattle.bac_requester.specs.TransactionViews.{ending_view}
 use Rattle.bac_requester.specs.declared.turn.Finish.{Finish}
 
 -- the end whose table has these slots

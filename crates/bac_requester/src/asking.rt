@@ -2,27 +2,26 @@
 ghost use Rattle.std.specs.Prelude.{◌≡◌, ℕ, ◌+◌, ◌-◌, ◌<◌, ◌&&◌, ◌||◌, IfOk, Some, None, false, length, nat_le, nat_lt, not};
 ghost use Rattle.bac_npdu.specs.Views.{peer_view};
 ghost use Rattle.bac_slots.specs.Slots.{rank};
-ghost use Rattle.bac_aged.specs.Ages.{IsKnownBy};
-ghost use Rattle.bac_ends.specs.Ends.{asks_for, has_no_slot, is_held, is_id_held, least_around, least_not};
-ghost use Rattle.bac_ends.specs.Views.{code_key_cmp, code_same_key, settings_view, slots_view};
+ghost use Rattle.bac_slots.specs.Ages.{IsKnownBy};
+ghost use Rattle.bac_transaction.specs.Ends.{asks_for, has_no_slot, is_held, is_id_held, least_around, least_not};
+ghost use Rattle.bac_transaction.specs.Views.{code_key_cmp, code_same_key, settings_view, slots_view};
 ghost use Rattle.bac_service.specs.Spellings.{request_spelling};
 ghost use Rattle.bac_service.specs.Values.{choice_of};
 ghost use Rattle.bac_service.specs.Views.{request_view};
-ghost use Rattle.bac_ticket.specs.Fits.{IsWayFor};
-ghost use Rattle.bac_ticket.specs.Reacts.{IsBegun};
-ghost use Rattle.bac_ticket.specs.Requests.{ask_at, request_by};
+ghost use Rattle.bac_requester.specs.Fits.{IsWayFor};
+ghost use Rattle.bac_requester.specs.Reacts.{IsBegun};
+ghost use Rattle.bac_requester.specs.Requests.{ask_at, request_by};
 ghost use Rattle.bac_requester.specs.Aging.{AreAged};
 ghost use Rattle.bac_requester.specs.Turns.{Asks};
 ghost use Rattle.bac_requester.specs.Views.{end_of};
 
 use crate::ask_fault::AskFault;
 use crate::client::{Client, ClientRules};
-use bac_aged::{AgedTable, enter, has_room};
-use bac_ends::{Context, Datagram, PeerKey, Settings};
+use crate::{Begun, ClientTransaction, OutgoingRequest, RequestWay, TransactionSlot};
 use bac_npdu::Peer;
 use bac_service::{AnyRequest, Request, Service, write_request};
-use bac_slots::{SlotTable, ranks_of_keys};
-use bac_ticket::{Begun, Held, OutgoingRequest, RequestWay, Ticket};
+use bac_slots::{AgedTable, SlotTable, enter, has_room, ranks_of_keys};
+use bac_transaction::{Context, Datagram, PeerKey, Settings};
 use bac_value::NoMemory;
 use std::alloc::Global;
 
@@ -149,7 +148,7 @@ fn begin(
     let mut service = Vec::new(alloc);
     write_request(request, &mut service)?;
     let outgoing = OutgoingRequest::new(choice_of(request), way, service);
-    Ticket::begin(alloc, context, outgoing)
+    ClientTransaction::begin(alloc, context, outgoing)
 }
 
 /// A request that can go that way is asked, by an end that does not wait. Memory is taken once an invoke ID and a slot are found.
@@ -194,7 +193,7 @@ pub(crate) fn ask<S: SlotTable<PeerKey, Client>>(
     let Begun { ticket, sends } = begun;
     let client = Client {
         number: *asked,
-        held: Held::Open(ticket),
+        held: TransactionSlot::Open(ticket),
     };
     enter(aged, context.key, now, client);
     let ticket = *asked;

@@ -1,32 +1,31 @@
 //! The value of a slot.
 ghost use Rattle.std.specs.Prelude.{◌≡◌, ℕ};
 ghost use Rattle.bac_protocol.specs.declared.times.TheConstants.{HOLD as HELD_FOR};
-ghost use Rattle.bac_ends.specs.Ends.{held_ticked, is_held};
-ghost use Rattle.bac_ends.specs.Views.{context_view};
-ghost use Rattle.bac_ticket.specs.Views.{held_view};
+ghost use Rattle.bac_transaction.specs.Ends.{held_ticked, is_held};
+ghost use Rattle.bac_transaction.specs.Views.{context_view};
+ghost use Rattle.bac_requester.specs.TransactionViews.{held_view};
 ghost use Rattle.bac_requester.specs.Aging.{IsClientQuiet, began, client_due, value_ticked};
 ghost use Rattle.bac_requester.specs.Short.{IsHeldShort};
 
-use bac_aged::{Aged, Fact, Ticks};
-use bac_ends::{Context, PeerKey, Settings};
+use crate::TransactionSlot;
 use bac_protocol::times::HOLD;
-use bac_slots::Same;
-use bac_ticket::Held;
+use bac_slots::{Aged, Fact, Same, Ticks};
+use bac_transaction::{Context, PeerKey, Settings};
 use std::marker::Model;
 
 /// The value of a slot: a ticket's number, and what is kept of the ticket.
 #[derive(Drop)]
 pub struct Client {
     pub(crate) number: u64,
-    pub(crate) held: Held,
+    pub(crate) held: TransactionSlot,
 }
 
 impl Model for Client {
-    ghost use Rattle.bac_ends.specs.Ends as ends;
+    ghost use Rattle.bac_transaction.specs.Ends as ends;
 
     ghost Value = { ends.Client };
 
-    ghost use Rattle.bac_ticket.specs.Views.{held_view};
+    ghost use Rattle.bac_requester.specs.TransactionViews.{held_view};
 
     ghost view = { λ c. record { number = c.number; held = held_view c.held } };
 }
@@ -41,12 +40,12 @@ impl Client {
 }
 
 /// What is kept of a ticket after a tick.
-fn ticked(context: &Context, held: Held) -> Held
+fn ticked(context: &Context, held: TransactionSlot) -> TransactionSlot
     ensures { (number : ℕ) → held_ticked (context_view context.now) number (held_view held) ≡ record { number = number; held = held_view result } }
 {
     match held {
-        Held::Closed { first } => Held::Closed { first },
-        Held::Open(ticket) => ticket.commit_tick(context),
+        TransactionSlot::Closed { first } => TransactionSlot::Closed { first },
+        TransactionSlot::Open(ticket) => ticket.commit_tick(context),
     }
 }
 
@@ -85,7 +84,7 @@ impl Ticks<ClientRules, PeerKey, Settings> for Client {
     fn stand_in() -> Client {
         Client {
             number: 0,
-            held: Held::Closed { first: 0 },
+            held: TransactionSlot::Closed { first: 0 },
         }
     }
 
@@ -111,7 +110,7 @@ impl Fact<Client> for ShortReplies {
     ghost Holds = { λ c. IsHeldShort c.held };
 
     fn holds(&self, client: &Client) {
-        let Held::Open(ticket) = &client.held else {
+        let TransactionSlot::Open(ticket) = &client.held else {
             return;
         };
         let _octets = ticket.reassembled();
@@ -119,7 +118,7 @@ impl Fact<Client> for ShortReplies {
 }
 
 impl Same for Client {
-    ghost use Rattle.bac_ends.specs.Ends as ends;
+    ghost use Rattle.bac_transaction.specs.Ends as ends;
 
     ghost Seen = { ends.Client };
 

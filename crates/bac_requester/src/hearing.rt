@@ -1,20 +1,19 @@
 //! An APDU comes for a key.
 ghost use Rattle.std.specs.Prelude.{◌≡◌, ℕ, []};
 ghost use Rattle.std.specs.Option.{option_map};
-ghost use Rattle.bac_ticket.specs.Views.{ending_view};
+ghost use Rattle.bac_requester.specs.TransactionViews.{ending_view};
 ghost use Rattle.bac_apdu.specs.Views.{apdu_view};
-ghost use Rattle.bac_ends.specs.Views.{peer_key_view, settings_view};
+ghost use Rattle.bac_transaction.specs.Views.{peer_key_view, settings_view};
 ghost use Rattle.bac_requester.specs.Aging.{AreAged};
 ghost use Rattle.bac_requester.specs.Turns.{Hears, finishes_with, hears_key};
 ghost use Rattle.bac_requester.specs.Views.{end_of, finishes_of};
 
 use crate::client::{Client, ClientRules};
 use crate::turn::{Finish, Turn};
-use bac_aged::{Aged, AgedTable};
+use crate::{Ending, Reaction};
 use bac_apdu::Apdu;
-use bac_ends::{Context, Datagram, PeerKey};
-use bac_slots::SlotTable;
-use bac_ticket::{Ending, Reaction};
+use bac_slots::{Aged, AgedTable, SlotTable};
+use bac_transaction::{Context, Datagram, PeerKey};
 use bac_value::NoMemory;
 use std::alloc::Global;
 

@@ -9,12 +9,12 @@ ghost use Rattle.bac_service.specs.Values.{choice_of};
 ghost use Rattle.bac_service.specs.Views.{owned_request_view, request_view};
 ghost use Rattle.bac_protocol.specs.Context.{Settings as Set};
 ghost use Rattle.bac_protocol.specs.declared.times.TheConstants.{REST as REST_TIME};
-ghost use Rattle.bac_ends.specs.Ends.{CannotGo, first_after, client_asks, client_hears, clients_tick, is_slot_held};
-ghost use Rattle.bac_ends.specs.Tables.{IsOrderlyClient};
-ghost use Rattle.bac_ends.specs.Ends.AskOutcome.{Refused};
-ghost use Rattle.bac_ends.specs.Views.{settings_view};
-ghost use Rattle.bac_ticket.specs.Timers.{LAST_MOMENT};
-ghost use Rattle.bac_ticket.specs.Views.{fault_view};
+ghost use Rattle.bac_transaction.specs.Ends.{CannotGo, first_after, client_asks, client_hears, clients_tick, is_slot_held};
+ghost use Rattle.bac_transaction.specs.Tables.{IsOrderlyClient};
+ghost use Rattle.bac_transaction.specs.Ends.AskOutcome.{Refused};
+ghost use Rattle.bac_transaction.specs.Views.{settings_view};
+ghost use Rattle.bac_requester.specs.Timers.{LAST_MOMENT};
+ghost use Rattle.bac_requester.specs.TransactionViews.{fault_view};
 ghost use Rattle.bac_requester.specs.Short.{AreRepliesShort};
 ghost use Rattle.bac_requester.specs.Turns.{Asks, Hears, IsDue, Refuses};
 
@@ -24,14 +24,15 @@ use crate::client::{Client, ClientRules, ShortReplies};
 use crate::hearing::hears;
 use crate::ticking::{nothing_due, prepare};
 use crate::turn::{Due, Turn};
-use bac_aged::{AgedTable, count_alive, each_slot, empty_table, first_due, tick};
+use crate::{RequestFault, RequestWay};
 use bac_apdu::{Apdu, Limits};
-use bac_ends::{Context, PeerKey, Settings, invoke_id_of, is_waiting};
 use bac_npdu::Peer;
 use bac_protocol::times::REST;
 use bac_service::{OwnedRequest, Request, request_len};
-use bac_slots::{SlotTable, same_tables};
-use bac_ticket::{RequestFault, RequestWay};
+use bac_slots::{
+    AgedTable, SlotTable, count_alive, each_slot, empty_table, first_due, same_tables, tick,
+};
+use bac_transaction::{Context, PeerKey, Settings, invoke_id_of, is_waiting};
 use bac_value::NoMemory;
 use std::alloc::Global;
 use std::marker::Model;
@@ -46,13 +47,13 @@ pub struct Requester<S: SlotTable<PeerKey, Client> + Drop> {
 }
 
 impl<S: SlotTable<PeerKey, Client> + Drop> Model for Requester<S> {
-    ghost use Rattle.bac_ends.specs.Ends as ends;
+    ghost use Rattle.bac_transaction.specs.Ends as ends;
 
     ghost Value = { ends.ClientEnd };
 
     ghost use Rattle.bac_requester.specs.Aging.{AreAged};
     ghost use Rattle.bac_requester.specs.Views.{end_of};
-    ghost use Rattle.bac_ends.specs.Ends.{first_after};
+    ghost use Rattle.bac_transaction.specs.Ends.{first_after};
     ghost use Rattle.bac_protocol.specs.declared.times.TheConstants.{REST};
 
     ghost view = { λ r. end_of (S.slots r.aged.table) (S.capacity r.aged.table) r.asked (first_after REST r.restart) r.first_id };

@@ -1,16 +1,16 @@
 //! What a tick of all tickets sends and ends.
 ghost use Rattle.std.specs.Prelude.{◌≡◌, ℕ, [], ◌++◌, IfOk, OnOk, map};
-ghost use Rattle.bac_ends.specs.Ends.{clients_tick};
-ghost use Rattle.bac_ends.specs.Views.{peer_key_view, settings_view};
+ghost use Rattle.bac_transaction.specs.Ends.{clients_tick};
+ghost use Rattle.bac_transaction.specs.Views.{peer_key_view, settings_view};
 ghost use Rattle.bac_requester.specs.Turns.{IsDue, IsSlotTold};
 ghost use Rattle.bac_requester.specs.Views.{end_of, finish_view, finishes_of};
 
+use crate::TransactionSlot;
 use crate::client::Client;
 use crate::hearing::{nothing, turn_of};
 use crate::turn::{Due, Turn};
-use bac_ends::{Context, PeerKey, Settings};
 use bac_slots::{SlotTable, slots_in_order};
-use bac_ticket::Held;
+use bac_transaction::{Context, PeerKey, Settings};
 use bac_value::NoMemory;
 use std::alloc::Global;
 
@@ -25,7 +25,7 @@ fn slot_due(
     ensures { (begin : ℕ) → IfOk result (λ x. IsSlotTold (settings_view settings.now) now
         (record { key = peer_key_view key.now; begin = begin; value = client.now }) x.sends.items (finishes_of x.ended)) }
 {
-    let Held::Open(ticket) = &client.held else {
+    let TransactionSlot::Open(ticket) = &client.held else {
         return Ok(nothing(alloc));
     };
     let context = Context {

@@ -1,6 +1,6 @@
 //! What a call makes a client's end send and end.
-use bac_ends::Datagram;
-use bac_ticket::Ending;
+use crate::Ending;
+use bac_transaction::Datagram;
 
 /// A ticket has ended.
 #[derive(Drop)]

@@ -4,3 +4,9 @@ pub mod Ticks
 pub mod Turned
 pub mod Sweeps
 pub mod Waiting
+pub mod Performances
+pub mod Takings
+pub mod Copies
+pub mod Same
+pub mod Begun
+pub mod Standing

@@ -2,22 +2,22 @@
 use Rattle.std.proofs.Common.{◌≡◌, ℕ, ◌<◌, ◌≤◌, Option, List, [], ◌∷◌, map, refl, ap, ◌∙◌}
 use Rattle.bac_slots.specs.declared.slot.Slot.{Slot}
 use Rattle.bac_slots.proofs.Ages.{each_more}
-use Rattle.bac_ends.specs.declared.settings.Settings.{Settings}
+use Rattle.bac_transaction.specs.declared.settings.Settings.{Settings}
 use Rattle.bac_protocol.specs.declared.times.TheConstants.{KEEP}
-use Rattle.bac_protocol.specs.Server.{Entry}
-use Rattle.bac_ends.specs.Ends.{ServerEnd, ServerSlot, first_after, context_of, server_tick_sends, server_ticked, servers_tick}
-use Rattle.bac_ends.specs.Sends.{Datagram, IsSent, Pairwise, to_all}
-use Rattle.bac_ends.specs.Views.{peer_key_view, settings_view, slot_view, slots_view}
-use Rattle.bac_ends.specs.declared.peer_key.PeerKey.{PeerKey}
-use Rattle.bac_aged.specs.Ages.{AreQuiet, changed, ticked_in}
-use Rattle.bac_aged.proofs.Telling.{told_none}
-use Rattle.bac_entry.specs.Timers.{IsQuiet}
+use Rattle.bac_protocol.specs.Server.{ServerTransaction}
+use Rattle.bac_transaction.specs.Ends.{ServerEnd, ServerSlot, first_after, context_of, server_tick_sends, server_ticked, servers_tick}
+use Rattle.bac_transaction.specs.Sends.{Datagram, IsSent, Pairwise, to_all}
+use Rattle.bac_transaction.specs.Views.{peer_key_view, settings_view, slot_view, slots_view}
+use Rattle.bac_transaction.specs.declared.peer_key.PeerKey.{PeerKey}
+use Rattle.bac_slots.specs.Ages.{AreQuiet, changed, ticked_in}
+use Rattle.bac_transaction.proofs.Telling.{told_none}
+use Rattle.bac_responder.specs.Timers.{IsQuiet}
 use Rattle.bac_responder.specs.Aging.{entry_ticked}
 use Rattle.bac_responder.specs.Views.{end_of}
 use Rattle.bac_responder.proofs.Timers.{stays}
 
 abbrev Slots : Type 0
-Slots = List (Slot PeerKey Entry)
+Slots = List (Slot PeerKey ServerTransaction)
 
 ticked_viewed : (c : Settings) (now : ℕ) (slots : Slots)
     → slots_view (map (changed (ticked_in entry_ticked c now)) slots) ≡ map (server_ticked (settings_view c) now) (slots_view slots)
@@ -34,6 +34,6 @@ committed c now old new capacity room restart e f =
 pub nothing_due : (c : Settings) (now from due : ℕ) (started : from ≤ now) (before : now < due) (slots : Slots) (capacity : ℕ) (restart : Option ℕ) (sent : List Datagram)
     → AreQuiet IsQuiet from due slots → sent ≡ [] → Pairwise IsSent (servers_tick (settings_view c) now (end_of slots capacity restart)).sends sent
 nothing_due c now from due started before slots capacity restart sent q no_sent =
-    told_none Entry IsSent (server_tick_sends (settings_view c) now) slots sent
+    told_none ServerTransaction IsSent (server_tick_sends (settings_view c) now) slots sent
     (each_more (λ s. IsQuiet from due s.value) (λ s. server_tick_sends (settings_view c) now (slot_view s) ≡ []) slots
     (λ s h. ap (λ r. to_all (peer_key_view s.key).peer r.sends) (stays (context_of (settings_view c) now (peer_key_view s.key)) from due started before s.value h)) q) no_sent

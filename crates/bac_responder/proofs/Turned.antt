@@ -9,22 +9,22 @@ use Rattle.bac_slots.specs.Slots.{value_at}
 use Rattle.bac_store.specs.Stores.{Store}
 use Rattle.bac_protocol.specs.declared.times.TheConstants.{KEEP}
 use Rattle.bac_protocol.specs.Context.{Context}
-use Rattle.bac_protocol.specs.Server.{Entry, Effect, Reaction, Service, is_live, is_none_live, live_gets, idle_gets, server_gets}
+use Rattle.bac_protocol.specs.Server.{ServerTransaction, Effect, Reaction, Service, is_live, is_none_live, live_gets, idle_gets, server_gets}
 use Rattle.bac_protocol.specs.Server.{begins, request_segment_taken, rests, server_abort}
 use Rattle.bac_protocol.specs.Service.{OTHER}
 use Rattle.bac_responder.specs.Aging.{begins_request}
 use Rattle.bac_protocol.specs.Steps.{StaysIn}
 use Rattle.bac_protocol.proofs.Served.{live_stays_law}
-use Rattle.bac_ends.specs.Keys.{PeerKey, same_key}
-use Rattle.bac_ends.specs.Ends.{ServerSlot, ServerEnd, ServerTurn, set_or_put, put_entry, act_at, server_goes}
-use Rattle.bac_ends.specs.Sends.{Datagram, Pairwise, IsSent}
-use Rattle.bac_entry.specs.Services.{Performed, ArePerformed, store_after}
-use Rattle.bac_entry.specs.Reactions.{IsReaction, IsStill}
+use Rattle.bac_transaction.specs.Keys.{PeerKey, same_key}
+use Rattle.bac_transaction.specs.Ends.{ServerSlot, ServerEnd, ServerTurn, set_or_put, put_entry, act_at, server_goes}
+use Rattle.bac_transaction.specs.Sends.{Datagram, Pairwise, IsSent}
+use Rattle.bac_responder.specs.Services.{Performed, ArePerformed, store_after}
+use Rattle.bac_responder.specs.Reactions.{IsReaction, IsStill}
 use Rattle.bac_responder.specs.Turns.{Acted, AreActed, IsServed, acted_of, performed_by}
 use Rattle.bac_responder.specs.Views.{turn_of, Serves}
 use Rattle.bac_responder.specs.declared.served.Served.{Served}
 use Rattle.bac_value.specs.declared.memory.NoMemory.{NoMemory}
-use Rattle.bac_ends.specs.declared.context.Context as code
+use Rattle.bac_transaction.specs.declared.context.Context as code
 
 pub acted : (s : Store) (key : PeerKey) (x : Option Effect) (q : Option Performed) → ArePerformed s x q → AreActed s (act_at key x) (acted_of key q)
 acted s key None None h = tt
@@ -38,7 +38,7 @@ after_acted key (Some q) = refl
 
 -- The end after a reaction.
 
-pub goes_so : (now : ℕ) (e : ServerEnd) (key : PeerKey) (v : Reaction) (d : Entry) (b : Bool) (slots : List ServerSlot) → v.entry ≡ Some d
+pub goes_so : (now : ℕ) (e : ServerEnd) (key : PeerKey) (v : Reaction) (d : ServerTransaction) (b : Bool) (slots : List ServerSlot) → v.entry ≡ Some d
     → is_live now d ≡ true → is_none_live now (value_at same_key key e.slots) ≡ b → slots ≡ set_or_put now key d e.slots b
     → record e { slots = slots } ≡ (server_goes now e key v).end
 goes_so now e key v d b slots is live none put =
@@ -55,7 +55,7 @@ live_of : (b : Bool) → (if b then false else true) ≡ false → b ≡ true
 live_of true e = refl
 live_of false e = absurd cc
 
-pub goes_still : (now : ℕ) (e : ServerEnd) (key : PeerKey) (v : Reaction) (o : Option Entry) → v.entry ≡ o → is_none_live now o ≡ true
+pub goes_still : (now : ℕ) (e : ServerEnd) (key : PeerKey) (v : Reaction) (o : Option ServerTransaction) → v.entry ≡ o → is_none_live now o ≡ true
     → (server_goes now e key v).end ≡ e
 goes_still now e key v None is dead = ap (λ o. record e { slots = put_entry now key o e.slots }) is
 goes_still now e key v (Some d) is dead =
@@ -63,14 +63,14 @@ goes_still now e key v (Some d) is dead =
     ∙ ap (λ x. record e { slots = if x then set_or_put now key d e.slots (is_none_live now (value_at same_key key e.slots)) else e.slots })
     (dead_of (is_live now d) dead)
 
-pub idle_is : (c : Context) (service : Service) (o : Option Entry) (free : Bool) (a : Apdu) → is_none_live c.now o ≡ true
+pub idle_is : (c : Context) (service : Service) (o : Option ServerTransaction) (free : Bool) (a : Apdu) → is_none_live c.now o ≡ true
     → server_gets c service o free a ≡ idle_gets c service o free a
 idle_is c service None free a dead = refl
 idle_is c service (Some d) free a dead =
     ap (λ x. if x then live_gets c service d d.state a else idle_gets c service (Some d) free a) (dead_of (is_live c.now d) dead)
 
 -- whether a slot is free is asked only where a request begins
-pub where_it_begins : (c : Context) (service : Service) (o : Option Entry) (free : Bool) (a : Apdu)
+pub where_it_begins : (c : Context) (service : Service) (o : Option ServerTransaction) (free : Bool) (a : Apdu)
     → idle_gets c service o free a ≡ idle_gets c service o (begins_request a && free) a
 where_it_begins c service o free (ConfirmedRequest limits id None choice octets) = refl
 where_it_begins c service o free (ConfirmedRequest limits id (Some segment) choice octets) =
@@ -92,30 +92,30 @@ its_place a false h = go (begins_request a) h
     go true h = h
     go false h = h
 
-pub live_is : (c : Context) (service : Service) (o : Option Entry) (d : Entry) (free : Bool) (a : Apdu) → o ≡ Some d → is_none_live c.now o ≡ false
+pub live_is : (c : Context) (service : Service) (o : Option ServerTransaction) (d : ServerTransaction) (free : Bool) (a : Apdu) → o ≡ Some d → is_none_live c.now o ≡ false
     → server_gets c service o free a ≡ live_gets c service d d.state a
 live_is c service o d free a is live =
     let alive : is_live c.now d ≡ true = live_of (is_live c.now d) (ap (is_none_live c.now) (sym is) ∙ live) in
     ap (λ x. server_gets c service x free a) is ∙ ap (λ x. if x then live_gets c service d d.state a else idle_gets c service (Some d) free a) alive
 
 -- an entry that goes on is live
-same_begin : (e : Entry) (o : Option Entry) (d : Entry) → StaysIn e o → o ≡ Some d → d.begin ≡ e.begin
+same_begin : (e : ServerTransaction) (o : Option ServerTransaction) (d : ServerTransaction) → StaysIn e o → o ≡ Some d → d.begin ≡ e.begin
 same_begin e None d h is = absurd cc
-same_begin e (Some x) d h is = let same : x ≡ d = cc in ap (λ (y : Entry). y.begin) (sym same) ∙ h.0.begin
+same_begin e (Some x) d h is = let same : x ≡ d = cc in ap (λ (y : ServerTransaction). y.begin) (sym same) ∙ h.0.begin
 
-pub live_begun : (c : Context) (service : Service) (e d : Entry) (a : Apdu) → is_live c.now e ≡ true → (live_gets c service e e.state a).entry ≡ Some d
+pub live_begun : (c : Context) (service : Service) (e d : ServerTransaction) (a : Apdu) → is_live c.now e ≡ true → (live_gets c service e e.state a).entry ≡ Some d
     → d.begin ≡ e.begin
 live_begun c service e d a live is =
     let gets = ap (λ (b : Bool). (if b then live_gets c service e e.state a else idle_gets c service (Some e) true a).entry) live ∙ is in
     same_begin e _ d (live_stays_law.gets c service e true a live) gets
 
-pub stays_live : (c : Context) (service : Service) (e d : Entry) (a : Apdu) → is_live c.now e ≡ true → (live_gets c service e e.state a).entry ≡ Some d
+pub stays_live : (c : Context) (service : Service) (e d : ServerTransaction) (a : Apdu) → is_live c.now e ≡ true → (live_gets c service e e.state a).entry ≡ Some d
     → is_live c.now d ≡ true
 stays_live c service e d a live is = ap (λ k. nat_le (c.now - k) KEEP) (live_begun c service e d a live is) ∙ live
 
 -- The turn after a reaction.
 
-pub served_so : (now : ℕ) (e : ServerEnd) (key : PeerKey) (v w : Reaction) (s t : Store) (d : Entry) (b : Bool) (sent : List Datagram) (q : Option Performed)
+pub served_so : (now : ℕ) (e : ServerEnd) (key : PeerKey) (v w : Reaction) (s t : Store) (d : ServerTransaction) (b : Bool) (sent : List Datagram) (q : Option Performed)
     (slots : List ServerSlot)
     → v ≡ w → IsReaction w key.peer s d sent q t → is_live now d ≡ true → is_none_live now (value_at same_key key e.slots) ≡ b
     → slots ≡ set_or_put now key d e.slots b → IsServed (server_goes now e key v) s sent (acted_of key q) (record e { slots = slots }) t
@@ -128,7 +128,7 @@ served_so now e key v w s t d b sent q slots same r live none put =
       store = did.store ∙ ap (store_after s) (sym (after_acted key q));
     }
 
-pub served_still : (now : ℕ) (e : ServerEnd) (key : PeerKey) (v w : Reaction) (s t : Store) (o : Option Entry) (sent : List Datagram)
+pub served_still : (now : ℕ) (e : ServerEnd) (key : PeerKey) (v w : Reaction) (s t : Store) (o : Option ServerTransaction) (sent : List Datagram)
     → v ≡ w → IsStill w o key.peer s sent t → is_none_live now o ≡ true → IsServed (server_goes now e key v) s sent None e t
 served_still now e key v w s t o sent same r dead =
     let did : IsStill v o key.peer s sent t = subst (λ (z : Reaction). IsStill z o key.peer s sent t) (sym same) r in
@@ -139,12 +139,12 @@ served_still now e key v w s t o sent same r dead =
       store = did.store;
     }
 
-pub begun_live : (now : ℕ) (d : Entry) → d.begin ≡ now → is_live now d ≡ true
+pub begun_live : (now : ℕ) (d : ServerTransaction) → d.begin ≡ now → is_live now d ≡ true
 begun_live now d is =
     let zero_age : nat_le (now - now) KEEP ≡ true = grind (arith, nat_tests) in
     ap (λ k. nat_le (now - k) KEEP) is ∙ zero_age
 
-pub live_one : (now : ℕ) (o : Option Entry) (d : Entry) → o ≡ Some d → is_none_live now o ≡ false → is_live now d ≡ true
+pub live_one : (now : ℕ) (o : Option ServerTransaction) (d : ServerTransaction) → o ≡ Some d → is_none_live now o ≡ false → is_live now d ≡ true
 live_one now o d is live = live_of (is_live now d) (ap (is_none_live now) (sym is) ∙ live)
 
 pub served_with : (turn : ServerTurn) (s t : Store) (sent sent' : List Datagram) (x x' : Option Acted) (e e' : ServerEnd) → IsServed turn s sent x e t

@@ -5,13 +5,13 @@ use Rattle.bac_slots.specs.Slots.{EachSlot}
 use Rattle.bac_slots.proofs.Ages.{each_more}
 use Rattle.bac_protocol.specs.declared.times.TheConstants.{KEEP}
 use Rattle.bac_protocol.specs.Context.{Settings}
-use Rattle.bac_protocol.specs.Server.{Entry, is_live}
-use Rattle.bac_ends.specs.Ends.{ServerEnd, ServerSlot, ServerTurn, context_of, entry_or, server_tick_sends, server_ticked, servers_tick}
-use Rattle.bac_ends.specs.Sends.{Send, to_all}
-use Rattle.bac_aged.specs.Ages.{first_due}
-use Rattle.bac_aged.proofs.Fronts.{all_rest, one_moves}
-use Rattle.bac_aged.proofs.Telling.{none_told}
-use Rattle.bac_entry.specs.Timers.{IsQuiet, LAST_MOMENT, due_of, state_due}
+use Rattle.bac_protocol.specs.Server.{ServerTransaction, is_live}
+use Rattle.bac_transaction.specs.Ends.{ServerEnd, ServerSlot, ServerTurn, context_of, entry_or, server_tick_sends, server_ticked, servers_tick}
+use Rattle.bac_transaction.specs.Sends.{Send, to_all}
+use Rattle.bac_slots.specs.Ages.{first_due}
+use Rattle.bac_slots.proofs.Fronts.{all_rest, one_moves}
+use Rattle.bac_transaction.proofs.Telling.{none_told}
+use Rattle.bac_responder.specs.Timers.{IsQuiet, LAST_MOMENT, due_of, state_due}
 use Rattle.bac_responder.proofs.Timers.{moves, stays}
 
 -- Before anything is due.
@@ -27,7 +27,7 @@ module _ (c : Settings) (now from due : ℕ) (started : from ≤ now) (before : 
       let turn : List ServerSlot → List Send → ServerTurn = λ l x. record { end = record e { slots = l }; sends = x; act = None } in
       let quiet : (s : ServerSlot) → Type 0 = λ s. IsQuiet from due s.value in
       let slots = all_rest (server_ticked c now) e.slots (each_more quiet (λ s. server_ticked c now s ≡ s) e.slots slot_rests q) in
-      let sends = none_told Entry (server_tick_sends c now) e.slots (each_more quiet (λ s. server_tick_sends c now s ≡ []) e.slots slot_silent q) in
+      let sends = none_told ServerTransaction (server_tick_sends c now) e.slots (each_more quiet (λ s. server_tick_sends c now s ≡ []) e.slots slot_silent q) in
       ap (λ l. turn l (servers_tick c now e).sends) slots ∙ ap (λ l. turn e.slots l) sends
 
 -- When a timer is due.

@@ -3,3 +3,10 @@ pub mod Turns
 pub mod Views
 pub mod Aging
 pub mod Short
+pub mod Services
+pub mod TransactionViews
+pub mod Reactions
+pub mod Reading
+pub mod Preparing
+pub mod Segments
+pub mod Timers

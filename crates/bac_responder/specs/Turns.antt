@@ -1,10 +1,10 @@
 -- What an event makes of the server's end, in code.
 use Rattle.std.specs.Prelude.{◌≡◌, List, Option, Some, None}
 use Rattle.bac_store.specs.Stores.{Store}
-use Rattle.bac_ends.specs.Keys.{PeerKey}
-use Rattle.bac_ends.specs.Sends.{Datagram, Pairwise, IsSent}
-use Rattle.bac_ends.specs.Ends.{Act, ServerEnd, ServerTurn}
-use Rattle.bac_entry.specs.Services.{Performed, IsPerformed, store_after}
+use Rattle.bac_transaction.specs.Keys.{PeerKey}
+use Rattle.bac_transaction.specs.Sends.{Datagram, Pairwise, IsSent}
+use Rattle.bac_transaction.specs.Ends.{Act, ServerEnd, ServerTurn}
+use Rattle.bac_responder.specs.Services.{Performed, IsPerformed, store_after}
 
 -- a request was performed, for that transaction
 pub record Acted : Type 0 where

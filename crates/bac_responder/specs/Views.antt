@@ -4,18 +4,18 @@ use Rattle.std.specs.Option.{option_map}
 use Rattle.bac_slots.specs.declared.slot.Slot.{Slot}
 use Rattle.bac_slots.specs.Slots.{value_at}
 use Rattle.bac_apdu.specs.Apdu.{Apdu}
-use Rattle.bac_entry.specs.Services.{service_of}
-use Rattle.bac_ends.specs.declared.context.Context as code
-use Rattle.bac_ends.specs.Keys.{same_key}
+use Rattle.bac_responder.specs.Services.{service_of}
+use Rattle.bac_transaction.specs.declared.context.Context as code
+use Rattle.bac_transaction.specs.Keys.{same_key}
 use Rattle.bac_store.specs.Stores.{Store}
-use Rattle.bac_protocol.specs.Server.{Entry, server_gets}
+use Rattle.bac_protocol.specs.Server.{ServerTransaction, server_gets}
 use Rattle.bac_value.specs.declared.memory.NoMemory.{NoMemory}
 use Rattle.bac_protocol.specs.declared.times.TheConstants.{KEEP}
-use Rattle.bac_ends.specs.Ends.{ServerEnd, ServerTurn, first_after, is_free, server_goes}
-use Rattle.bac_ends.specs.Views.{peer_key_view, slots_view}
-use Rattle.bac_ends.specs.declared.peer_key.PeerKey.{PeerKey}
-use Rattle.bac_ends.specs.Views.{context_view}
-use Rattle.bac_entry.specs.Views.{effect_view}
+use Rattle.bac_transaction.specs.Ends.{ServerEnd, ServerTurn, first_after, is_free, server_goes}
+use Rattle.bac_transaction.specs.Views.{peer_key_view, slots_view}
+use Rattle.bac_transaction.specs.declared.peer_key.PeerKey.{PeerKey}
+use Rattle.bac_transaction.specs.Views.{context_view}
+use Rattle.bac_responder.specs.TransactionViews.{effect_view}
 use Rattle.bac_responder.specs.Turns.{Acted, IsServed}
 use Rattle.bac_responder.specs.declared.served.Act.{Act}
 use Rattle.bac_responder.specs.declared.served.Served.{Served}
@@ -27,7 +27,7 @@ abbrev pub acted_view : Option Act → Option Acted
 acted_view a = option_map act_view a
 
 -- a table as an end
-abbrev pub end_of : (slots : List (Slot PeerKey Entry)) → (capacity : ℕ) → (restart : Option ℕ) → ServerEnd
+abbrev pub end_of : (slots : List (Slot PeerKey ServerTransaction)) → (capacity : ℕ) → (restart : Option ℕ) → ServerEnd
 end_of slots capacity restart = record { slots = slots_view slots; capacity = capacity; serves_from = first_after KEEP restart }
 
 -- the turn that an APDU for the context's transaction makes of an end, with a store as the service

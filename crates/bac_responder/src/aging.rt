@@ -1,21 +1,21 @@
 //! How entries age.
 ghost use Rattle.bac_protocol.specs.declared.times.TheConstants.{KEEP as KEPT_FOR};
 ghost use Rattle.bac_protocol.specs.Server.{is_live};
-ghost use Rattle.bac_entry.specs.Timers.{IsQuiet, due_of};
+ghost use Rattle.bac_responder.specs.Timers.{IsQuiet, due_of};
 ghost use Rattle.bac_responder.specs.Aging.{began, entry_ticked};
 ghost use Rattle.bac_responder.specs.Short.{IsRequestShort};
 
-use bac_aged::{Aged, Fact, Ticks};
-use bac_ends::{Context, PeerKey, Settings};
-use bac_entry::Entry;
+use crate::ServerTransaction;
 use bac_protocol::times::KEEP;
+use bac_slots::{Aged, Fact, Ticks};
+use bac_transaction::{Context, PeerKey, Settings};
 
 /// The rules by which the slots of a server's end age.
 #[derive(Drop)]
 pub(crate) struct ServerRules;
 
 /// An entry is alive while it is live.
-impl Aged<ServerRules> for Entry {
+impl Aged<ServerRules> for ServerTransaction {
     ghost began = { began };
 
     ghost lives = { is_live };
@@ -33,20 +33,20 @@ impl Aged<ServerRules> for Entry {
     }
 
     fn due(&self, from: u64) -> u64 {
-        Entry::due(self, from)
+        ServerTransaction::due(self, from)
     }
 
     fn ages() {}
 }
 
-impl Ticks<ServerRules, PeerKey, Settings> for Entry {
+impl Ticks<ServerRules, PeerKey, Settings> for ServerTransaction {
     ghost ticked = { entry_ticked };
 
-    fn stand_in() -> Entry {
-        Entry::placeholder()
+    fn stand_in() -> ServerTransaction {
+        ServerTransaction::placeholder()
     }
 
-    fn tick(self, settings: &Settings, now: u64, key: &PeerKey) -> Entry {
+    fn tick(self, settings: &Settings, now: u64, key: &PeerKey) -> ServerTransaction {
         let context = Context {
             settings: *settings,
             key: *key,
@@ -62,10 +62,10 @@ impl Ticks<ServerRules, PeerKey, Settings> for Entry {
 #[derive(Drop)]
 pub(crate) struct ShortRequests;
 
-impl Fact<Entry> for ShortRequests {
+impl Fact<ServerTransaction> for ShortRequests {
     ghost Holds = { IsRequestShort };
 
-    fn holds(&self, entry: &Entry) {
+    fn holds(&self, entry: &ServerTransaction) {
         let _octets = entry.reassembled();
     }
 }

@@ -3,23 +3,22 @@ ghost use Rattle.std.specs.Prelude.{◌≡◌, ◌&&◌, true};
 ghost use Rattle.bac_apdu.specs.Views.{apdu_view};
 ghost use Rattle.bac_slots.specs.Slots.{value_at};
 ghost use Rattle.bac_protocol.specs.Server.{is_none_live};
-ghost use Rattle.bac_aged.specs.Ages.{IsKnownBy};
-ghost use Rattle.bac_ends.specs.Ends.{is_free};
-ghost use Rattle.bac_ends.specs.Views.{code_same_key, peer_key_view};
-ghost use Rattle.bac_entry.specs.Views.{performed_view};
+ghost use Rattle.bac_slots.specs.Ages.{IsKnownBy};
+ghost use Rattle.bac_transaction.specs.Ends.{is_free};
+ghost use Rattle.bac_transaction.specs.Views.{code_same_key, peer_key_view};
+ghost use Rattle.bac_responder.specs.TransactionViews.{performed_view};
 ghost use Rattle.bac_responder.specs.Aging.{AreAged, begins_request};
 ghost use Rattle.bac_responder.specs.Turns.{acted_of};
 ghost use Rattle.bac_responder.specs.Views.{acted_view, end_of, turn_of, Serves};
 
 use crate::aging::ServerRules;
 use crate::served::{Act, Served};
-use bac_aged::{AgedTable, enter, has_room};
+use crate::{Answered, Effect, IdleReaction, Reaction, ServerTransaction, idle_gets, live_gets};
 use bac_apdu::Apdu;
-use bac_ends::{Context, Datagram, PeerKey, is_waiting};
-use bac_entry::{Answered, Effect, Entry, IdleReaction, Reaction, idle_gets, live_gets};
 use bac_protocol::times::KEEP;
-use bac_slots::SlotTable;
+use bac_slots::{AgedTable, SlotTable, enter, has_room};
 use bac_store::Store;
+use bac_transaction::{Context, Datagram, PeerKey, is_waiting};
 use bac_value::NoMemory;
 use std::alloc::Global;
 
@@ -52,7 +51,7 @@ fn begins_request(apdu: &Apdu<'_>) -> bool
 }
 
 /// Whether an APDU begins a request, a slot has no live entry, and the end does not wait after a restart. For any other APDU no entry is looked at.
-fn has_place<S: SlotTable<PeerKey, Entry>>(
+fn has_place<S: SlotTable<PeerKey, ServerTransaction>>(
     aged: &AgedTable<ServerRules, S>,
     restart: Option<u64>,
     now: u64,
@@ -65,7 +64,7 @@ fn has_place<S: SlotTable<PeerKey, Entry>>(
 }
 
 /// No entry of the context's key is live. Whether a slot is free is asked where the APDU begins a request.
-fn idle_hears<S: SlotTable<PeerKey, Entry>>(
+fn idle_hears<S: SlotTable<PeerKey, ServerTransaction>>(
     alloc: Global,
     context: &Context,
     aged: &mut AgedTable<ServerRules, S>,
@@ -96,7 +95,7 @@ fn idle_hears<S: SlotTable<PeerKey, Entry>>(
 }
 
 /// An APDU comes for the context's transaction. Its key is looked up once; a live entry goes on in its slot.
-pub(crate) fn hears<S: SlotTable<PeerKey, Entry>>(
+pub(crate) fn hears<S: SlotTable<PeerKey, ServerTransaction>>(
     alloc: Global,
     context: &Context,
     aged: &mut AgedTable<ServerRules, S>,

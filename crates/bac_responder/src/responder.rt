@@ -4,39 +4,40 @@ ghost use Rattle.bac_apdu.specs.Views.{apdu_view};
 ghost use Rattle.bac_npdu.specs.Views.{peer_view};
 ghost use Rattle.bac_protocol.specs.Context.{Settings as Set};
 ghost use Rattle.bac_protocol.specs.declared.times.TheConstants.{KEEP as KEPT_FOR};
-ghost use Rattle.bac_ends.specs.Ends.{first_after, is_slot_live, server_hears, servers_tick};
-ghost use Rattle.bac_ends.specs.Tables.{IsOrderlyServer};
-ghost use Rattle.bac_ends.specs.Sends.{Pairwise, IsSent};
-ghost use Rattle.bac_ends.specs.Views.{settings_view};
-ghost use Rattle.bac_entry.specs.Services.{service_of};
-ghost use Rattle.bac_entry.specs.Timers.{LAST_MOMENT};
+ghost use Rattle.bac_transaction.specs.Ends.{first_after, is_slot_live, server_hears, servers_tick};
+ghost use Rattle.bac_transaction.specs.Tables.{IsOrderlyServer};
+ghost use Rattle.bac_transaction.specs.Sends.{Pairwise, IsSent};
+ghost use Rattle.bac_transaction.specs.Views.{settings_view};
+ghost use Rattle.bac_responder.specs.Services.{service_of};
+ghost use Rattle.bac_responder.specs.Timers.{LAST_MOMENT};
 ghost use Rattle.bac_responder.specs.Short.{AreRequestsShort};
 ghost use Rattle.bac_responder.specs.Views.{end_of, Serves};
 
+use crate::ServerTransaction;
 use crate::aging::{ServerRules, ShortRequests};
 use crate::hearing::hears;
 use crate::served::Served;
 use crate::ticking::{nothing_due, prepare};
-use bac_aged::{AgedTable, count_alive, each_slot, empty_table, first_due, tick};
 use bac_apdu::Apdu;
-use bac_ends::{Context, Datagram, PeerKey, Settings, invoke_id_of};
-use bac_entry::Entry;
 use bac_npdu::Peer;
-use bac_slots::{SlotTable, same_tables};
+use bac_slots::{
+    AgedTable, SlotTable, count_alive, each_slot, empty_table, first_due, same_tables, tick,
+};
 use bac_store::Store;
+use bac_transaction::{Context, Datagram, PeerKey, Settings, invoke_id_of};
 use bac_value::NoMemory;
 use std::alloc::Global;
 use std::marker::Model;
 
 /// The server's end of a node: the reply table.
 #[derive(Drop)]
-pub struct Responder<S: SlotTable<PeerKey, Entry> + Drop> {
+pub struct Responder<S: SlotTable<PeerKey, ServerTransaction> + Drop> {
     aged: AgedTable<ServerRules, S>,
     restart: Option<u64>,
 }
 
-impl<S: SlotTable<PeerKey, Entry> + Drop> Model for Responder<S> {
-    ghost use Rattle.bac_ends.specs.Ends.{ServerEnd};
+impl<S: SlotTable<PeerKey, ServerTransaction> + Drop> Model for Responder<S> {
+    ghost use Rattle.bac_transaction.specs.Ends.{ServerEnd};
 
     ghost Value = { ServerEnd };
 
@@ -48,7 +49,7 @@ impl<S: SlotTable<PeerKey, Entry> + Drop> Model for Responder<S> {
     ghost invariant = { λ r. AreAged r.aged.ages (S.slots r.aged.table) };
 }
 
-impl<S: SlotTable<PeerKey, Entry> + Drop> Responder<S> {
+impl<S: SlotTable<PeerKey, ServerTransaction> + Drop> Responder<S> {
     /// A server's end without entries, with room for so many slots; an Err where the memory for them is refused. Nothing takes memory for slots later.
     ///
     /// Where its node restarts at a moment, in milliseconds, it has lost its entries, and turns each request away while no more than 65,000 ms have passed

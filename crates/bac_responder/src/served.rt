@@ -1,6 +1,6 @@
 //! What an APDU made of the server's end.
-use bac_ends::{Datagram, PeerKey};
-use bac_entry::Effect;
+use crate::Effect;
+use bac_transaction::{Datagram, PeerKey};
 
 /// A request was performed, for that transaction.
 #[derive(Drop)]

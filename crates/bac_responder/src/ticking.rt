@@ -1,13 +1,13 @@
 //! What a tick of the table sends.
 ghost use Rattle.std.specs.Prelude.{◌≡◌, ℕ, [], IfOk, None};
-ghost use Rattle.bac_ends.specs.Ends.{server_tick_sends, servers_tick};
-ghost use Rattle.bac_ends.specs.Sends.{Pairwise, IsSent};
-ghost use Rattle.bac_ends.specs.Views.{peer_key_view, settings_view};
+ghost use Rattle.bac_transaction.specs.Ends.{server_tick_sends, servers_tick};
+ghost use Rattle.bac_transaction.specs.Sends.{Pairwise, IsSent};
+ghost use Rattle.bac_transaction.specs.Views.{peer_key_view, settings_view};
 ghost use Rattle.bac_responder.specs.Views.{end_of};
 
-use bac_ends::{Context, Datagram, PeerKey, Settings};
-use bac_entry::Entry;
+use crate::ServerTransaction;
 use bac_slots::{SlotTable, slots_in_order};
+use bac_transaction::{Context, Datagram, PeerKey, Settings};
 use bac_value::NoMemory;
 use std::alloc::Global;
 
@@ -17,7 +17,7 @@ fn slot_sends(
     settings: &Settings,
     now: u64,
     key: &PeerKey,
-    entry: &Entry,
+    entry: &ServerTransaction,
 ) -> Result<Vec<Datagram>, NoMemory>
     ensures { (begin : ℕ) → IfOk result (λ v. Pairwise IsSent (server_tick_sends (settings_view settings.now) now
         (record { key = peer_key_view key.now; begin = begin; value = entry.now })) v.items) }
@@ -31,7 +31,7 @@ fn slot_sends(
 }
 
 /// What all entries send at a tick, in ascending order of their keys.
-pub(crate) fn prepare<S: SlotTable<PeerKey, Entry>>(
+pub(crate) fn prepare<S: SlotTable<PeerKey, ServerTransaction>>(
     alloc: Global,
     settings: &Settings,
     table: &S,
@@ -42,7 +42,7 @@ pub(crate) fn prepare<S: SlotTable<PeerKey, Entry>>(
 {
     let mut sends = Vec::new(alloc);
     // the n-th by key is the n-th in order
-    slots_in_order::<PeerKey, Entry>();
+    slots_in_order::<PeerKey, ServerTransaction>();
     for n in 0..table.len() {
         let Some((key, _, entry)) = table.at(n) else {
             continue;

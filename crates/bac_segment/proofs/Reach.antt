@@ -4,7 +4,7 @@ use Rattle.std.proofs.Common.{List, [], ◌∷◌, ◌++◌, length, take, if◌
 use Rattle.std.proofs.lemmas.Bool.Decides.{nat_tests}
 use Rattle.std.proofs.lemmas.List.{take_more, length_push}
 use Rattle.bac_segment.specs.Laws.{AreDifferent, TakesOnlyExpected, KeepsFirst, AcknowledgesOnlyWindow, AcknowledgesWindow}
-use Rattle.bac_segment.specs.Limits.{RETRIES}
+use Rattle.bac_segment.specs.Limits.{N_RETRY}
 use Rattle.bac_segment.specs.Numbers.{ahead, IsInReach}
 use Rattle.bac_segment.specs.Pieces.{piece_at}
 use Rattle.bac_segment.specs.Window.{Outgoing, in_window, acknowledged, Incoming, Taking, takes, parts_after, AreFirst}
@@ -102,7 +102,7 @@ acknowledges_only_window V W own out bound few = λ p window next reach is.
     go p window next reach (nat_lt (ahead (p % 256) out.first) (in_window out)) refl is
   where
     later : (p window : ℕ) → Outgoing
-    later p window = record out { first = out.first + ahead (p % 256) out.first + 1; window = min window own; retries = RETRIES }
+    later p window = record out { first = out.first + ahead (p % 256) out.first + 1; window = min window own; retries = N_RETRY }
 
     meant : (p : ℕ) → IsInReach V W out.first p → ahead (p % 256) out.first < in_window out
         → (out.first ≤ p) × (p < out.first + in_window out) × (out.first + ahead (p % 256) out.first + 1 ≡ p + 1)
@@ -121,7 +121,7 @@ pub acknowledges_window : (own : ℕ) (out : Outgoing) → out.window ≤ 256 �
 acknowledges_window own out few = λ p window after before. each p window after before
   where
     after_ack : (first window : ℕ) → Option Outgoing
-    after_ack first window = Some (record out { first = first; window = min window own; retries = RETRIES })
+    after_ack first window = Some (record out { first = first; window = min window own; retries = N_RETRY })
 
     each : (p window : ℕ) → out.first ≤ p → p < out.first + in_window out
         → acknowledged own out (p % 256) window ≡ after_ack (p + 1) window

@@ -1,7 +1,7 @@
 -- What holds of the definitions of pieces and windows. The functions of src/laws.rt carry the proofs.
 use Rattle.std.specs.Prelude.{◌≡◌, ◌≢◌, ℕ, ◌+◌, ◌%◌, ◌<◌, ◌≤◌, min, Bool, List, length, Some, Ok}
 use Rattle.bac_segment.specs.Answers.{IsKept, Takes}
-use Rattle.bac_segment.specs.Limits.{RETRIES}
+use Rattle.bac_segment.specs.Limits.{N_RETRY}
 use Rattle.bac_segment.specs.Numbers.{IsInReach}
 use Rattle.bac_segment.specs.Pieces.{piece_at}
 use Rattle.bac_segment.specs.Window.{Outgoing, in_window, acknowledged, Incoming, Taking, takes, taken_back, parts_after, AreFirst}
@@ -34,7 +34,7 @@ AcknowledgesOnlyWindow V W own out =
 abbrev pub AcknowledgesWindow : (own : ℕ) → Outgoing → Type 0
 AcknowledgesWindow own out =
     (p window : ℕ) → out.first ≤ p → p < out.first + in_window out
-    → acknowledged own out (p % 256) window ≡ Some (record out { first = p + 1; window = min window own; retries = RETRIES })
+    → acknowledged own out (p % 256) window ≡ Some (record out { first = p + 1; window = min window own; retries = N_RETRY })
 
 -- a segment that was taken is taken back: the receiver is as it was before
 abbrev pub IsUndone : Type 0

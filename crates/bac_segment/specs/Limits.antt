@@ -3,8 +3,8 @@ use Rattle.std.specs.Prelude.{ℕ}
 use Rattle.bac_segment.specs.declared.limits.TheConstants as code
 
 -- how often a window is sent again before the sender gives up
-abbrev pub RETRIES : ℕ
-RETRIES = code.RETRIES
+abbrev pub N_RETRY : ℕ
+N_RETRY = code.N_RETRY
 
 -- the most octets of service data, and the most segments of one transfer
 abbrev pub DATA : ℕ

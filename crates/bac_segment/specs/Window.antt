@@ -2,7 +2,7 @@
 -- given W, the greatest window of the node itself. Pieces have whole numbers here, segments have the wire's numbers.
 use Rattle.std.specs.Prelude.{◌≡◌, ℕ, ◌+◌, ◌-◌, ◌%◌, ◌||◌, min, Bool, true, false, List, []}
 use Rattle.std.specs.Prelude.{◌∷◌, ◌++◌, length, take, drop, Option, Some, None, if◌then◌else◌, nat_eq, nat_lt, nat_le}
-use Rattle.bac_segment.specs.Limits.{RETRIES, DATA}
+use Rattle.bac_segment.specs.Limits.{N_RETRY, DATA}
 use Rattle.bac_segment.specs.Numbers.{ahead}
 use Rattle.bac_segment.specs.Pieces.{join}
 
@@ -16,7 +16,7 @@ pub record Outgoing : Type 0 where
 
 -- a sender that has sent nothing yet: the first window has one piece
 abbrev pub outgoing : List (List ℕ) → Outgoing
-outgoing pieces = record { pieces = pieces; first = 0; window = 1; retries = RETRIES }
+outgoing pieces = record { pieces = pieces; first = 0; window = 1; retries = N_RETRY }
 
 -- how many pieces are in the window
 abbrev pub in_window : Outgoing → ℕ
@@ -35,7 +35,7 @@ is_finished out = nat_le (length out.pieces) out.first
 abbrev pub acknowledged : ℕ → Outgoing → ℕ → ℕ → Option Outgoing
 acknowledged W out number window =
     if nat_lt (ahead number out.first) (in_window out)
-    then Some (record out { first = out.first + ahead number out.first + 1; window = min window W; retries = RETRIES })
+    then Some (record out { first = out.first + ahead number out.first + 1; window = min window W; retries = N_RETRY })
     else None
 
 -- after a timeout, where a retry is left
@@ -48,7 +48,7 @@ restart out = outgoing out.pieces
 
 -- a transfer that had stopped goes on where it was
 abbrev pub resume : Outgoing → Outgoing
-resume out = record out { retries = RETRIES }
+resume out = record out { retries = N_RETRY }
 
 -- The receiver.
 

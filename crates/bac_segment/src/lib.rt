@@ -17,5 +17,5 @@ pub use laws::{
     numbers_in_reach_differ, parts_are_the_first_pieces, pieces_are_few, pieces_are_unique,
     segment_ack_is_of_the_window, segment_is_the_expected_one, taking_back_undoes,
 };
-pub use limits::{DATA, RETRIES};
+pub use limits::{DATA, N_RETRY};
 pub use outgoing::{Outgoing, Position, Progress, Timeout};

@@ -6,7 +6,7 @@ ghost use Rattle.bac_segment.specs.Window.{outgoing, in_window, window_pieces, i
 ghost use Rattle.bac_segment.specs.Answers.{Moves, TimesOut};
 
 use crate::incoming::lesser;
-use crate::limits::RETRIES;
+use crate::limits::N_RETRY;
 use bac_apdu::Window;
 use std::marker::Model;
 use std::ops::Range;
@@ -47,7 +47,7 @@ impl Position {
     const START: Position = Position {
         first: 0,
         window: Window { size: 1 },
-        retries: RETRIES,
+        retries: N_RETRY,
     };
 }
 
@@ -203,7 +203,7 @@ impl Outgoing {
     pub fn resume(&mut self)
         ensures { self.new ≡ resume self.old }
     {
-        self.at.retries = RETRIES;
+        self.at.retries = N_RETRY;
     }
 
     /// Whether both have the same pieces and stand alike.

@@ -5,6 +5,8 @@
 
 mod atomic_read_file;
 mod atomic_write_file;
+mod comparing_replies;
+mod comparing_requests;
 mod file;
 mod laws;
 mod member_len;
@@ -26,6 +28,8 @@ mod write_property;
 
 pub use atomic_read_file::{FileRead, ReadAccess, ReadFile};
 pub use atomic_write_file::{FileWritten, WriteAccess, WriteFile, WriteRecords, WriteStream};
+pub use comparing_replies::same_reply;
+pub use comparing_requests::{same_object, same_request};
 pub use file::Content;
 pub use laws::{one_reply_spelling, one_request_spelling, replies_are_read, requests_are_read};
 pub use owned_records::OwnedRecords;

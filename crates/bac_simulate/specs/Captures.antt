@@ -1,6 +1,6 @@
 -- The copies of a world as a capture file, each at the moment of its sending.
 use Rattle.std.specs.Prelude.{ℕ, List, [], ◌∷◌, ◌++◌}
-use Rattle.bac_pcap.specs.Records.{file_head, record_octets}
+use Rattle.bac_capture.specs.Records.{file_head, record_octets}
 use Rattle.bac_world.specs.World.{Copy}
 
 abbrev pub record_of : Copy → List ℕ

@@ -7,7 +7,7 @@ use Rattle.bac_chart.specs.Marks.{Mark}
 use Rattle.bac_chart.specs.Views.{mark_view}
 use Rattle.bac_chart.specs.declared.mark.Mark as code
 use Rattle.bac_commands.specs.Facts.{ending_text}
-use Rattle.bac_ends.specs.Meanings.{Ending}
+use Rattle.bac_transaction.specs.Meanings.{Ending}
 use Rattle.bac_network.specs.Histories.{WorldView}
 use Rattle.bac_requester.specs.Faults.{ask_fault_number}
 use Rattle.bac_requester.specs.declared.ask_fault.AskFault.{AskFault}

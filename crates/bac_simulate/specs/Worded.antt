@@ -3,8 +3,8 @@ use Rattle.std.specs.Prelude.{◌≡◌, ℕ, codes, decimal, ◌+◌, ◌-◌, 
 use Rattle.bac_chart.specs.Labels.{datagram_words}
 use Rattle.bac_commands.specs.Facts.{fault_line}
 use Rattle.bac_commands.specs.Words.{AreEndingWords, AreReplyWords}
-use Rattle.bac_ends.specs.Meanings.{Ending}
-use Rattle.bac_explain_text.specs.Requests.{AreRequestWords}
+use Rattle.bac_transaction.specs.Meanings.{Ending}
+use Rattle.bac_explain_report.specs.Requests.{AreRequestWords}
 use Rattle.bac_network.specs.Histories.{WorldView}
 use Rattle.bac_protocol.specs.declared.times.TheConstants.{LIFE}
 use Rattle.bac_requester.specs.Faults.{ask_fault_number}

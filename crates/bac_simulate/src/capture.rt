@@ -4,8 +4,8 @@ ghost use Rattle.std.specs.Io.KnownBytes.{Appends};
 ghost use Rattle.bac_journal.specs.Views.{copy_view};
 ghost use Rattle.bac_simulate.specs.Captures.{capture_of, record_of, records_of};
 
+use bac_capture::{NodeDatagram, print_head, print_record};
 use bac_journal::Copy;
-use bac_pcap::{Datagram, print_head, print_record};
 use std::alloc::Global;
 use std::io;
 use std::io::Write;
@@ -13,7 +13,7 @@ use std::io::Write;
 fn print_copy<W: Write>(alloc: Global, copy: &Copy, out: &mut W) -> io::Result<()>
     ensures { OnOk result (Appends (W.contents out.old) (W.contents out.new) (record_of (copy_view copy.now))) }
 {
-    let datagram = Datagram {
+    let datagram = NodeDatagram {
         moment: copy.moment,
         from: copy.from as u64,
         to: copy.to as u64,

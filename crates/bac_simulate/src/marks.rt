@@ -9,7 +9,7 @@ ghost use Rattle.bac_network.specs.Views.{event_view, fact_view};
 ghost use Rattle.bac_protocol.specs.World.{same_key};
 ghost use Rattle.bac_protocol.specs.declared.times.TheConstants.{LIFE};
 ghost use Rattle.bac_simulate.specs.Traces.{arrow_of, client_in, coming_in, coming_mark, delivered_mark, ended_mark, ended_words, fact_mark, optional_marks, performed_mark, place_of, refused_mark, AddsMarks};
-ghost use Rattle.bac_ticket.specs.Views.{ending_view};
+ghost use Rattle.bac_requester.specs.TransactionViews.{ending_view};
 ghost use Rattle.bac_world.specs.World.{count_of};
 
 use bac_chart::{Arrow, Mark, datagram_words};
@@ -17,7 +17,7 @@ use bac_commands::print_ending;
 use bac_journal::{Copy, Note, Transaction};
 use bac_network::{Event, Fact, World};
 use bac_protocol::times::LIFE;
-use bac_ticket::Ending;
+use bac_requester::Ending;
 use std::alloc::{AllocError, Global};
 use std::io;
 

@@ -7,3 +7,5 @@ pub mod Swept
 pub mod Values
 pub mod Ages
 pub mod Numbers
+pub mod Aging
+pub mod Fronts

@@ -8,7 +8,7 @@ use Rattle.std.proofs.lemmas.Bool.Decides.{nat_tests}
 use Rattle.std.proofs.lemmas.List.{with_items_is}
 use Rattle.std.specs.Global.{Vec}
 use Rattle.std.specs.Vec.{with_items}
-use Rattle.bac_store.specs.declared.entry.Entry.{Entry}
+use Rattle.bac_store.specs.declared.entry.StoredObject.{StoredObject}
 use Rattle.bac_store.specs.Views.{entry_view}
 use Rattle.bac_store.specs.Changes.{where_that, with_own_values, with_values, with_contents, with_octets}
 use Rattle.bac_store.specs.Kept.{object_number, IsShort, IsKept, IsInOrder, Fits}
@@ -108,7 +108,7 @@ effect_in_order (Effect.Octets id at new) f s o = record {
 }
 
 -- what a change of the objects in their vector leaves
-pub vector_in_order : (v : Vec Entry) (ws : List Entry) (c : Effect) → Fits c → IsInOrder (map entry_view v.items) → length ws ≡ v.len
+pub vector_in_order : (v : Vec StoredObject) (ws : List StoredObject) (c : Effect) → Fits c → IsInOrder (map entry_view v.items) → length ws ≡ v.len
     → map entry_view ws ≡ with_effect c (map entry_view v.items) → IsInOrder (map entry_view (with_items v ws).items)
 vector_in_order v ws c f o kept is =
     subst (λ xs. IsInOrder (map entry_view xs)) (sym (with_items_is v ws kept)) (subst IsInOrder (sym is) (effect_in_order c f (map entry_view v.items) o))

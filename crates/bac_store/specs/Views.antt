@@ -6,8 +6,8 @@ use Rattle.bac_value.specs.Views.{object_identifier_view}
 use Rattle.bac_store.specs.declared.object.Property as listed
 use Rattle.bac_store.specs.declared.object.File as contents
 use Rattle.bac_store.specs.declared.object.Object as thing
-use Rattle.bac_store.specs.declared.entry.Slot.{Slot}
-use Rattle.bac_store.specs.declared.entry.Entry.{Entry}
+use Rattle.bac_store.specs.declared.entry.StoredProperty.{StoredProperty}
+use Rattle.bac_store.specs.declared.entry.StoredObject.{StoredObject}
 use Rattle.bac_store.specs.declared.change.Change as change
 use Rattle.bac_store.specs.declared.change.Change.TheVariants as change_case
 use Rattle.bac_store.specs.declared.planned.Effect as code
@@ -32,10 +32,10 @@ object_view o =
       file = option_map file_view o.file;
     }
 
-abbrev pub slot_view : Slot → Property
+abbrev pub slot_view : StoredProperty → Property
 slot_view s = record { number = s.number; values = s.values.octets.items; writable = s.writable; kind = s.kind }
 
-abbrev pub entry_view : Entry → Object
+abbrev pub entry_view : StoredObject → Object
 entry_view e =
     record {
       id = object_identifier_view e.id;

@@ -9,13 +9,13 @@ ghost use Rattle.bac_store.specs.Replies.{overwritten};
 ghost use Rattle.bac_store.specs.Stores.{is_number};
 ghost use Rattle.bac_store.specs.Views.{entry_view, slot_view};
 
-use crate::entry::{Entry, Slot};
+use crate::entry::{StoredObject, StoredProperty};
 use crate::lookups::{place_of, slot_place};
 use crate::splice::Splice;
 use bac_value::{DataBuf, ObjectIdentifier};
 
 /// Sets the values of a listed property.
-fn set_slot(slots: &mut [Slot], number: u32, values: DataBuf)
+fn set_slot(slots: &mut [StoredProperty], number: u32, values: DataBuf)
     requires { AllPairs (λ p q. p.number < q.number) (map slot_view slots.old) }
     ensures { map slot_view slots.new ≡ where_that (is_number number) (with_own_values values.octets.items) (map slot_view slots.old) }
 {
@@ -27,7 +27,7 @@ fn set_slot(slots: &mut [Slot], number: u32, values: DataBuf)
 
 /// Sets the values of a listed property of an object.
 pub(crate) fn set_values(
-    objects: &mut [Entry],
+    objects: &mut [StoredObject],
     object: ObjectIdentifier,
     property: u32,
     values: DataBuf,
@@ -42,7 +42,7 @@ pub(crate) fn set_values(
 }
 
 /// Writes new octets of a file.
-pub(crate) fn set_octets(objects: &mut [Entry], object: ObjectIdentifier, splice: Splice)
+pub(crate) fn set_octets(objects: &mut [StoredObject], object: ObjectIdentifier, splice: Splice)
     requires order { IsInOrder (map entry_view objects.old) }
     requires short { splice.at + length splice.new.items ≤ FILE_LIMIT }
     ensures { map entry_view objects.new
@@ -58,7 +58,7 @@ pub(crate) fn set_octets(objects: &mut [Entry], object: ObjectIdentifier, splice
 }
 
 /// Sets all octets of a file.
-pub(crate) fn set_contents(objects: &mut [Entry], object: ObjectIdentifier, octets: Vec<u8>)
+pub(crate) fn set_contents(objects: &mut [StoredObject], object: ObjectIdentifier, octets: Vec<u8>)
     requires { IsInOrder (map entry_view objects.old) }
     ensures { map entry_view objects.new
         ≡ with_object (object_identifier_view object) (with_octets (λ _. octets.items)) (map entry_view objects.old) }

@@ -3,10 +3,10 @@ ghost use Rattle.std.specs.Prelude.{◌≡◌, map, MatchBool};
 ghost use Rattle.std.specs.Option.{option_map};
 ghost use Rattle.bac_store.specs.Views.{entry_view, file_view, slot_view};
 
-use crate::entry::{Entry, Slot};
+use crate::entry::{StoredObject, StoredProperty};
 use crate::object::File;
 
-fn are_same_slots(slots: &[Slot], others: &[Slot]) -> bool
+fn are_same_slots(slots: &[StoredProperty], others: &[StoredProperty]) -> bool
     ensures { MatchBool result (map slot_view slots.now ≡ map slot_view others.now) (map slot_view slots.now ≡ map slot_view others.now → ⊥) }
 {
     if slots.len() != others.len() {
@@ -20,7 +20,7 @@ fn are_same_slots(slots: &[Slot], others: &[Slot]) -> bool
     true
 }
 
-fn is_same_slot(slot: &Slot, other: &Slot) -> bool
+fn is_same_slot(slot: &StoredProperty, other: &StoredProperty) -> bool
     ensures { MatchBool result (slot_view slot.now ≡ slot_view other.now) (slot_view slot.now ≡ slot_view other.now → ⊥) }
 {
     if slot.number != other.number {
@@ -58,7 +58,7 @@ fn are_same_files(file: &Option<File>, other: &Option<File>) -> bool
     }
 }
 
-fn is_same_object(entry: &Entry, other: &Entry) -> bool
+fn is_same_object(entry: &StoredObject, other: &StoredObject) -> bool
     ensures { MatchBool result (entry_view entry.now ≡ entry_view other.now) (entry_view entry.now ≡ entry_view other.now → ⊥) }
 {
     if entry.id.kind != other.id.kind {
@@ -77,7 +77,7 @@ fn is_same_object(entry: &Entry, other: &Entry) -> bool
 }
 
 /// Whether both are the same objects in the same order.
-pub(crate) fn are_same_objects(objects: &[Entry], others: &[Entry]) -> bool
+pub(crate) fn are_same_objects(objects: &[StoredObject], others: &[StoredObject]) -> bool
     ensures { MatchBool result (map entry_view objects.now ≡ map entry_view others.now) (map entry_view objects.now ≡ map entry_view others.now → ⊥) }
 {
     if objects.len() != others.len() {

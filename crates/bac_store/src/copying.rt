@@ -3,7 +3,7 @@ ghost use Rattle.std.specs.Prelude.{◌≡◌, ◌≤◌, length, map, IfOk, OnE
 ghost use Rattle.std.specs.Option.{option_map};
 ghost use Rattle.bac_store.specs.Views.{entry_view, file_view, slot_view};
 
-use crate::entry::{Entry, Slot};
+use crate::entry::{StoredObject, StoredProperty};
 use crate::object::File;
 use bac_value::NoMemory;
 use std::alloc::Global;
@@ -18,11 +18,11 @@ pub(crate) fn copied_octets(alloc: Global, octets: &[u8]) -> Result<Vec<u8>, NoM
     Ok(copy)
 }
 
-fn copied_slot(alloc: Global, slot: &Slot) -> Result<Slot, NoMemory>
+fn copied_slot(alloc: Global, slot: &StoredProperty) -> Result<StoredProperty, NoMemory>
     ensures { IfOk result (λ s. slot_view s ≡ slot_view slot.now) }
 {
     let values = slot.values.as_data().to_owned(alloc)?;
-    Ok(Slot {
+    Ok(StoredProperty {
         number: slot.number,
         values,
         writable: slot.writable,
@@ -30,7 +30,7 @@ fn copied_slot(alloc: Global, slot: &Slot) -> Result<Slot, NoMemory>
     })
 }
 
-fn copied_slots(alloc: Global, slots: &[Slot]) -> Result<Vec<Slot>, NoMemory>
+fn copied_slots(alloc: Global, slots: &[StoredProperty]) -> Result<Vec<StoredProperty>, NoMemory>
     ensures { IfOk result (λ v. map slot_view v.items ≡ map slot_view slots.now) }
 {
     let mut copies = Vec::with_capacity(alloc, slots.len())?;
@@ -53,14 +53,14 @@ fn copied_file(alloc: Global, file: Option<&File>) -> Result<Option<File>, NoMem
     }
 }
 
-fn copied_entry(alloc: Global, entry: &Entry) -> Result<Entry, NoMemory>
+fn copied_entry(alloc: Global, entry: &StoredObject) -> Result<StoredObject, NoMemory>
     ensures { IfOk result (λ e. entry_view e ≡ entry_view entry.now) }
 {
     let name = String::from_str(alloc, &entry.name)?;
     let slots = copied_slots(alloc, &entry.slots)?;
     let file = copied_file(alloc, entry.file.as_ref())?;
     let id = entry.id;
-    Ok(Entry {
+    Ok(StoredObject {
         id,
         name,
         slots,
@@ -69,7 +69,7 @@ fn copied_entry(alloc: Global, entry: &Entry) -> Result<Entry, NoMemory>
 }
 
 /// Equal objects.
-pub(crate) fn copied(alloc: Global, objects: &[Entry]) -> Result<Vec<Entry>, NoMemory>
+pub(crate) fn copied(alloc: Global, objects: &[StoredObject]) -> Result<Vec<StoredObject>, NoMemory>
     ensures same { IfOk result (λ v. map entry_view v.items ≡ map entry_view objects.now) }
     ensures some { OnErr result (1 ≤ length objects.now) }
 {

@@ -4,7 +4,7 @@ use bac_value::{DataBuf, ObjectIdentifier};
 
 /// A listed property, with the application tag that its values must have, if they must have one.
 #[derive(Debug, Drop)]
-pub(crate) struct Slot {
+pub(crate) struct StoredProperty {
     pub number: u32,
     pub values: DataBuf,
     pub writable: bool,
@@ -13,9 +13,9 @@ pub(crate) struct Slot {
 
 /// An object whose properties stand in ascending order.
 #[derive(Debug, Drop)]
-pub(crate) struct Entry {
+pub(crate) struct StoredObject {
     pub id: ObjectIdentifier,
     pub name: String,
-    pub slots: Vec<Slot>,
+    pub slots: Vec<StoredProperty>,
     pub file: Option<File>,
 }

@@ -10,7 +10,7 @@ ghost use Rattle.bac_store.specs.Kept.{object_number, IsInOrder, IsKept};
 ghost use Rattle.bac_store.specs.Stores.{is_object, is_number, object_in, property_in};
 ghost use Rattle.bac_store.specs.Views.{entry_view, slot_view};
 
-use crate::entry::{Entry, Slot};
+use crate::entry::{StoredObject, StoredProperty};
 use crate::limits::{
     FILE_ACCESS_METHOD, FILE_SIZE, INSTANCES, OBJECT_IDENTIFIER, OBJECT_NAME, OBJECT_TYPE,
     STREAM_ACCESS,
@@ -47,7 +47,7 @@ pub(crate) fn number_of(id: ObjectIdentifier) -> u32
 }
 
 /// The place of an object.
-pub(crate) fn place_of(objects: &[Entry], id: ObjectIdentifier) -> Option<usize>
+pub(crate) fn place_of(objects: &[StoredObject], id: ObjectIdentifier) -> Option<usize>
     requires { IsInOrder (map entry_view objects.now) }
     ensures { IsPlaceOf entry_view (is_object (object_identifier_view id)) objects.now result }
 {
@@ -58,7 +58,7 @@ pub(crate) fn place_of(objects: &[Entry], id: ObjectIdentifier) -> Option<usize>
 }
 
 /// The object of an identifier.
-pub(crate) fn entry_of(objects: &[Entry], id: ObjectIdentifier) -> Option<&Entry>
+pub(crate) fn entry_of(objects: &[StoredObject], id: ObjectIdentifier) -> Option<&StoredObject>
     requires { IsInOrder (map entry_view objects.now) }
     ensures found { option_map (λ e. entry_view e.now) result ≡ object_in (map entry_view objects.now) (object_identifier_view id) }
     ensures kept { IfSome result (λ e. IsKept (entry_view e.now)) }
@@ -70,7 +70,7 @@ pub(crate) fn entry_of(objects: &[Entry], id: ObjectIdentifier) -> Option<&Entry
 }
 
 /// The place of a listed property.
-pub(crate) fn slot_place(slots: &[Slot], number: u32) -> Option<usize>
+pub(crate) fn slot_place(slots: &[StoredProperty], number: u32) -> Option<usize>
     requires { AllPairs (λ p q. p.number < q.number) (map slot_view slots.now) }
     ensures { IsPlaceOf slot_view (is_number number) slots.now result }
 {
@@ -78,7 +78,7 @@ pub(crate) fn slot_place(slots: &[Slot], number: u32) -> Option<usize>
 }
 
 /// The property of a number, if the object has one.
-pub(crate) fn find(entry: &Entry, number: u32) -> Option<Found>
+pub(crate) fn find(entry: &StoredObject, number: u32) -> Option<Found>
     requires { IsKept (entry_view entry.now) }
     ensures { MatchOption result (property_in (entry_view entry.now) number ≡ None)
         (λ f. IsSome (found_in (entry_view entry.now) f) × (property_in (entry_view entry.now) number ≡ found_in (entry_view entry.now) f)) }
@@ -103,7 +103,7 @@ pub(crate) fn find(entry: &Entry, number: u32) -> Option<Found>
 }
 
 /// A copy of a computed value.
-fn computed_values(alloc: Global, entry: &Entry, own: Computed) -> Result<DataBuf, NoMemory>
+fn computed_values(alloc: Global, entry: &StoredObject, own: Computed) -> Result<DataBuf, NoMemory>
     requires { IsKept (entry_view entry.now) }
     ensures { IfOk result (λ d. d.octets.items ≡ value_spelling (computed_value (entry_view entry.now) own)) }
 {
@@ -118,7 +118,11 @@ fn computed_values(alloc: Global, entry: &Entry, own: Computed) -> Result<DataBu
 
 /// A copy of a property's values.
 #[tactic(auto, using(crate::proofs::ReplySizes::value_some))]
-pub(crate) fn values_of(alloc: Global, entry: &Entry, found: Found) -> Result<DataBuf, NoMemory>
+pub(crate) fn values_of(
+    alloc: Global,
+    entry: &StoredObject,
+    found: Found,
+) -> Result<DataBuf, NoMemory>
     requires kept { IsKept (entry_view entry.now) }
     requires there { IsSome (found_in (entry_view entry.now) found) }
     ensures same { IfOk result (λ d. option_map (λ p. p.values) (found_in (entry_view entry.now) found) ≡ Some d.octets.items) }

@@ -2,13 +2,13 @@
 ghost use Rattle.std.specs.Prelude.{◌≡◌, map, IfOk};
 ghost use Rattle.bac_store.specs.Views.{entry_view, object_view, property_view, slot_view};
 
-use crate::entry::{Entry, Slot};
+use crate::entry::{StoredObject, StoredProperty};
 use crate::kind::kind_of;
 use crate::object::{Object, Property};
 use bac_value::NoMemory;
 use std::alloc::Global;
 
-fn slot_made(property: Property) -> Slot
+fn slot_made(property: Property) -> StoredProperty
     ensures { slot_view result ≡ property_view property }
 {
     let kind = kind_of(&property.values.octets);
@@ -17,7 +17,7 @@ fn slot_made(property: Property) -> Slot
         values,
         writable,
     } = property;
-    Slot {
+    StoredProperty {
         number,
         values,
         writable,
@@ -25,7 +25,7 @@ fn slot_made(property: Property) -> Slot
     }
 }
 
-fn slots_made(alloc: Global, properties: Vec<Property>) -> Result<Vec<Slot>, NoMemory>
+fn slots_made(alloc: Global, properties: Vec<Property>) -> Result<Vec<StoredProperty>, NoMemory>
     ensures { IfOk result (λ v. map slot_view v.items ≡ map property_view properties.items) }
 {
     let mut slots = Vec::with_capacity(alloc, properties.len())?;
@@ -35,7 +35,7 @@ fn slots_made(alloc: Global, properties: Vec<Property>) -> Result<Vec<Slot>, NoM
     Ok(slots)
 }
 
-fn entry_made(alloc: Global, object: Object) -> Result<Entry, NoMemory>
+fn entry_made(alloc: Global, object: Object) -> Result<StoredObject, NoMemory>
     ensures { IfOk result (λ e. entry_view e ≡ object_view object) }
 {
     let Object {
@@ -45,7 +45,7 @@ fn entry_made(alloc: Global, object: Object) -> Result<Entry, NoMemory>
         file,
     } = object;
     let slots = slots_made(alloc, properties)?;
-    Ok(Entry {
+    Ok(StoredObject {
         id,
         name,
         slots,
@@ -54,7 +54,10 @@ fn entry_made(alloc: Global, object: Object) -> Result<Entry, NoMemory>
 }
 
 /// The same objects, with the kinds of their properties.
-pub(crate) fn entries_made(alloc: Global, objects: Vec<Object>) -> Result<Vec<Entry>, NoMemory>
+pub(crate) fn entries_made(
+    alloc: Global,
+    objects: Vec<Object>,
+) -> Result<Vec<StoredObject>, NoMemory>
     ensures { IfOk result (λ v. map entry_view v.items ≡ map object_view objects.items) }
 {
     let mut entries = Vec::with_capacity(alloc, objects.len())?;

@@ -8,7 +8,7 @@ ghost use Rattle.bac_store.specs.Views.{entry_view, slot_view};
 ghost use Rattle.bac_value.specs.Views.{object_identifier_view};
 
 use crate::change_fault::ChangeFault;
-use crate::entry::{Entry, Slot};
+use crate::entry::{StoredObject, StoredProperty};
 use crate::kind::{is_binary_state, is_of_kind, is_state};
 use crate::limits::{FILE_LIMIT, VALUE_LIMIT};
 use crate::lookups::{entry_of, slot_place};
@@ -28,7 +28,7 @@ fn whole_data(octets: &[u8]) -> Option<Data<'_>>
 
 /// The octets as values of a listed property, or why they are none.
 fn values_for<'a>(
-    slot: &Slot,
+    slot: &StoredProperty,
     reference: PropertyReference,
     octets: &'a [u8],
 ) -> Result<Data<'a>, ChangeFault>
@@ -52,7 +52,7 @@ fn values_for<'a>(
 
 /// The octets as other values of a listed property of an object, or why they are none.
 pub(crate) fn permitted_values<'a>(
-    objects: &[Entry],
+    objects: &[StoredObject],
     object: ObjectIdentifier,
     property: u32,
     octets: &'a [u8],
@@ -79,7 +79,7 @@ pub(crate) fn permitted_values<'a>(
 
 /// Whether other octets may be those of a file, or why not.
 pub(crate) fn permit_contents(
-    objects: &[Entry],
+    objects: &[StoredObject],
     object: ObjectIdentifier,
     octets: &[u8],
 ) -> Result<(), ChangeFault>

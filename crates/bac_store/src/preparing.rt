@@ -14,7 +14,7 @@ ghost use Rattle.bac_store.specs.Stores.{object_in};
 ghost use Rattle.bac_store.specs.Views.{entry_view, file_view};
 ghost use Rattle.bac_value.specs.Views.{object_identifier_view};
 
-use crate::entry::Entry;
+use crate::entry::StoredObject;
 use crate::files::{read_file, write_place};
 use crate::lookups::entry_of;
 use crate::object::File;
@@ -42,7 +42,7 @@ fn answered(reply: OwnedReply) -> Planned
 /// A plan for a read of a property (clause 15.5).
 pub(crate) fn plan_read_property(
     alloc: Global,
-    objects: &[Entry],
+    objects: &[StoredObject],
     reference: PropertyReference,
 ) -> Result<Planned, NoMemory>
     requires { IsInOrder (map entry_view objects.now) }
@@ -62,7 +62,7 @@ pub(crate) fn plan_read_property(
 /// A plan for a write of a property (clause 15.9).
 pub(crate) fn plan_write_property(
     alloc: Global,
-    objects: &[Entry],
+    objects: &[StoredObject],
     write: WriteProperty<Data<'_>>,
 ) -> Result<Planned, NoMemory>
     requires { IsInOrder (map entry_view objects.now) }
@@ -92,7 +92,7 @@ pub(crate) fn plan_write_property(
 }
 
 /// The file of an identifier.
-pub(crate) fn file_of(objects: &[Entry], id: ObjectIdentifier) -> Option<&File>
+pub(crate) fn file_of(objects: &[StoredObject], id: ObjectIdentifier) -> Option<&File>
     requires { IsInOrder (map entry_view objects.now) }
     ensures found { option_map (λ f. file_view f.now) result ≡ file_in (object_in (map entry_view objects.now) (object_identifier_view id)) }
     ensures short { IfSome result (λ f. length f.now.octets.items ≤ FILE_MOST) }
@@ -106,7 +106,7 @@ pub(crate) fn file_of(objects: &[Entry], id: ObjectIdentifier) -> Option<&File>
 /// A plan for a read of a file (clause 14.1).
 pub(crate) fn plan_read_file(
     alloc: Global,
-    objects: &[Entry],
+    objects: &[StoredObject],
     read: ReadFile,
 ) -> Result<Planned, NoMemory>
     requires { IsInOrder (map entry_view objects.now) }
@@ -150,7 +150,7 @@ fn plan_write_stream(
 /// A plan for a write of a file (clause 14.2).
 pub(crate) fn plan_write_file(
     alloc: Global,
-    objects: &[Entry],
+    objects: &[StoredObject],
     write: WriteFile<Content<'_>, Records<'_>>,
 ) -> Result<Planned, NoMemory>
     requires { IsInOrder (map entry_view objects.now) }

@@ -11,7 +11,7 @@ ghost use Rattle.bac_store.specs.Replies.{at_property, read_reply, write_reply};
 ghost use Rattle.bac_store.specs.Stores.{computed, property_in};
 ghost use Rattle.bac_store.specs.Views.{entry_view, slot_view};
 
-use crate::entry::{Entry, Slot};
+use crate::entry::{StoredObject, StoredProperty};
 use crate::kind::{is_binary_state, is_of_kind, is_state};
 use crate::limits::VALUE_LIMIT;
 use crate::lookups::{Found, find, values_of};
@@ -23,7 +23,7 @@ use std::alloc::Global;
 /// The reply to a read of a property of this object.
 pub(crate) fn read_property(
     alloc: Global,
-    entry: &Entry,
+    entry: &StoredObject,
     reference: PropertyReference,
 ) -> Result<OwnedReply, NoMemory>
     requires { IsKept (entry_view entry.now) }
@@ -45,7 +45,11 @@ pub(crate) fn read_property(
 }
 
 /// Why a listed property is not written; None where it is.
-fn slot_refusal(slot: &Slot, reference: PropertyReference, values: &[u8]) -> Option<Refusal>
+fn slot_refusal(
+    slot: &StoredProperty,
+    reference: PropertyReference,
+    values: &[u8],
+) -> Option<Refusal>
     ensures { refused_or Simple result ≡ write_reply (property_reference_view reference) values.now (slot_view slot.now) }
 {
     if reference.index.is_some() {
@@ -79,7 +83,7 @@ fn computed_refusal(reference: PropertyReference) -> Refusal
 
 /// Why a property of this object is not written; None where it is.
 pub(crate) fn write_refusal(
-    entry: &Entry,
+    entry: &StoredObject,
     reference: PropertyReference,
     values: &[u8],
 ) -> Option<Refusal>

@@ -16,7 +16,7 @@ use crate::change_fault::ChangeFault;
 use crate::changing::{set_contents, set_octets, set_values};
 use crate::comparing::are_same_objects;
 use crate::copying::{copied, copied_octets};
-use crate::entry::Entry;
+use crate::entry::StoredObject;
 use crate::making::entries_made;
 use crate::object::Object;
 use crate::ordering::{are_distinct, sort_and_check_each, sort_objects};
@@ -32,7 +32,7 @@ use std::marker::Model;
 /// Objects, their properties and their files, in ascending order of object and property, so that look-ups halve what is left.
 #[derive(Drop)]
 pub struct Store {
-    pub(crate) objects: Vec<Entry>,
+    pub(crate) objects: Vec<StoredObject>,
 }
 
 impl Model for Store {

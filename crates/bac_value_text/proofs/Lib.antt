@@ -8,3 +8,6 @@ mod Objects
 mod Values
 mod ElementTexts
 pub mod Splits
+pub mod Inverse
+pub mod Appended
+pub mod Looking

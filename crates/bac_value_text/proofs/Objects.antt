@@ -6,8 +6,8 @@ use Rattle.std.specs.Fmt.{decimal}
 use Rattle.std.specs.List.{list_all}
 use Rattle.std.specs.Option.{option_or}
 use Rattle.std.proofs.lemmas.Bool.Decides.{nat_tests}
-use Rattle.bac_names.specs.Names.{Row, AreInverse, name_in, number_in}
-use Rattle.bac_names.specs.ObjectTypes.{OBJECT_TYPES}
+use Rattle.bac_value_text.specs.Names.{Row, AreInverse, name_in, number_in}
+use Rattle.bac_value_text.specs.ObjectTypes.{OBJECT_TYPES}
 use Rattle.bac_value.specs.Value.{ObjectId}
 use Rattle.bac_value_text.specs.Numbers.{◌>>=◌, at_most, number_of}
 use Rattle.bac_value_text.specs.Reading.{type_of, object_of}

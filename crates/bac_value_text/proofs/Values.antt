@@ -7,8 +7,8 @@ use Rattle.std.specs.Prelude.{codes}
 use Rattle.std.proofs.lemmas.Bool.Decides.{nat_tests}
 use Rattle.hex.specs.Hex.{encode_upper}
 use Rattle.hex.proofs.HexLemmas.{decode_of-encode_upper, decode_sized-twice, length-encode_with}
-use Rattle.bac_names.specs.Names.{AreInverse}
-use Rattle.bac_names.specs.ObjectTypes.{OBJECT_TYPES}
+use Rattle.bac_value_text.specs.Names.{AreInverse}
+use Rattle.bac_value_text.specs.ObjectTypes.{OBJECT_TYPES}
 use Rattle.bac_value.specs.Octets.{IsBytes}
 use Rattle.bac_value.specs.Value.{Datum, IsValue, null, boolean, unsigned, signed, real, double, octets, characters, bits, enumerated}
 use Rattle.bac_value.specs.Value.{date, time, object}

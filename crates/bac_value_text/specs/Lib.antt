@@ -5,3 +5,10 @@ pub mod Laws
 pub mod Reasons
 pub mod Splits
 pub mod DataTexts
+pub mod Names
+pub mod ObjectTypes
+pub mod Properties
+pub mod ErrorClasses
+pub mod ErrorCodes
+pub mod RejectReasons
+pub mod AbortReasons

@@ -8,9 +8,9 @@ use Rattle.std.specs.Option.{option_map, option_or}
 use Rattle.std.specs.Str.{bytes_eq}
 use Rattle.fast_float.specs.Parse.{parse_float}
 use Rattle.percent_encoding.specs.Percent.{percent_decode}
-use Rattle.bac_names.specs.Names.{number_in}
-use Rattle.bac_names.specs.ObjectTypes.{OBJECT_TYPES}
-use Rattle.bac_names.specs.Properties.{PROPERTIES}
+use Rattle.bac_value_text.specs.Names.{number_in}
+use Rattle.bac_value_text.specs.ObjectTypes.{OBJECT_TYPES}
+use Rattle.bac_value_text.specs.Properties.{PROPERTIES}
 use Rattle.bac_value.specs.Limits.{bits_fit}
 use Rattle.bac_value.specs.Value.{Datum, ObjectId, null, boolean, unsigned, signed, real, double, octets, characters, bits, enumerated}
 use Rattle.bac_value.specs.Value.{date, time, object}

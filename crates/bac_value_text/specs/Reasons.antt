@@ -1,10 +1,10 @@
 -- Errors, and the reasons of Rejects and Aborts (clauses 18 and 21).
 use Rattle.std.specs.Prelude.{ℕ, List, ◌++◌, codes, decimal}
-use Rattle.bac_names.specs.Names.{name_in}
-use Rattle.bac_names.specs.AbortReasons.{ABORT_REASONS}
-use Rattle.bac_names.specs.ErrorClasses.{ERROR_CLASSES}
-use Rattle.bac_names.specs.ErrorCodes.{ERROR_CODES}
-use Rattle.bac_names.specs.RejectReasons.{REJECT_REASONS}
+use Rattle.bac_value_text.specs.Names.{name_in}
+use Rattle.bac_value_text.specs.AbortReasons.{ABORT_REASONS}
+use Rattle.bac_value_text.specs.ErrorClasses.{ERROR_CLASSES}
+use Rattle.bac_value_text.specs.ErrorCodes.{ERROR_CODES}
+use Rattle.bac_value_text.specs.RejectReasons.{REJECT_REASONS}
 use Rattle.bac_value_text.specs.Texts.{named_or_number}
 
 -- each by its name where the standard has one

@@ -8,9 +8,9 @@ use Rattle.std.specs.Str.{is_utf8}
 use Rattle.percent_encoding.specs.Percent.{percent_encode_byte}
 use Rattle.fast_float.specs.Parse.{parse_float}
 use Rattle.hex.specs.Hex.{encode_upper}
-use Rattle.bac_names.specs.Names.{name_in}
-use Rattle.bac_names.specs.ObjectTypes.{OBJECT_TYPES}
-use Rattle.bac_names.specs.Properties.{PROPERTIES}
+use Rattle.bac_value_text.specs.Names.{name_in}
+use Rattle.bac_value_text.specs.ObjectTypes.{OBJECT_TYPES}
+use Rattle.bac_value_text.specs.Properties.{PROPERTIES}
 use Rattle.bac_value.specs.Value.{Datum, ObjectId, null, boolean, unsigned, signed, real, double, octets, characters, bits, enumerated}
 use Rattle.bac_value.specs.Value.{date, time, object}
 

@@ -8,7 +8,7 @@ ghost use Rattle.bac_value.specs.Views.{object_identifier_view};
 ghost use Rattle.bac_value_text.specs.Texts.{boolean_text, is_real_number, is_double_number, IsRealText, IsDoubleText, is_text, escaped_octet, escaped};
 ghost use Rattle.bac_value_text.specs.Texts.{characters_text, bit_digits, all_bits, bits_text, field_text, fields_text, type_text, property_text, object_text};
 
-use bac_names::{object_type_name, property_name};
+use crate::{object_type_name, property_name};
 use bac_value::ObjectIdentifier;
 use percent_encoding::percent_encode_byte;
 use ryu::Buffer;

@@ -2,7 +2,7 @@
 ghost use Rattle.std.specs.Prelude.{◌≡◌, IfOk, drop};
 ghost use Rattle.std.specs.Option.{option_map, option_or};
 ghost use Rattle.std.specs.List.{list_all};
-ghost use Rattle.bac_names.specs.Names.{number_in};
+ghost use Rattle.bac_value_text.specs.Names.{number_in};
 ghost use Rattle.bac_value.specs.Views.{object_identifier_view, value_view};
 ghost use Rattle.bac_value_text.specs.Numbers.{number_of};
 ghost use Rattle.bac_value_text.specs.Reading.{boolean_in, real_in, double_in, field_from, field_in, fields_in, type_of, property_of, object_of};
@@ -10,7 +10,7 @@ ghost use Rattle.bac_value_text.specs.Reading.{octets_fit, characters_fit, chara
 
 use crate::numbers::{at_most, number_in, number_up_to, octets_in, parts_at};
 use crate::value_fault::ValueFault;
-use bac_names::{object_type_named, property_named};
+use crate::{object_type_named, property_named};
 use bac_value::{BitString, CharacterString, ObjectIdentifier, OctetString, Value};
 use std::alloc::{AllocError, Global};
 

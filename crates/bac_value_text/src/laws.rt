@@ -1,7 +1,7 @@
 //! Laws of the texts: functions that change nothing, whose contracts are the laws.
 ghost use Rattle.bac_value_text.specs.Laws.{AreRead};
 
-use bac_names::names_and_numbers_are_inverse;
+use crate::names_and_numbers_are_inverse;
 
 /// Each text that is printed of a value reads as that value.
 pub fn printed_values_are_read()

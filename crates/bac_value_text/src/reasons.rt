@@ -2,7 +2,7 @@
 ghost use Rattle.std.specs.Prelude.{◌≡◌, IfOk, string_bytes};
 ghost use Rattle.bac_value_text.specs.Reasons.{abort_text, aborting_text, class_text, code_text, error_text, reject_text, rejection_text};
 
-use bac_names::{abort_reason_name, error_class_name, error_code_name, reject_reason_name};
+use crate::{abort_reason_name, error_class_name, error_code_name, reject_reason_name};
 use std::alloc::{AllocError, Global};
 
 fn class_text(alloc: Global, number: u32) -> Result<String, AllocError>

@@ -13,7 +13,7 @@ use Rattle.bac_protocol.specs.Sizes.Way.{InOne, InSegments}
 use Rattle.bac_protocol.specs.Service.{Octets}
 use Rattle.bac_protocol.specs.declared.times.TheConstants.{REST}
 use Rattle.bac_protocol.specs.Client as machine
-use Rattle.bac_protocol.specs.Client.{Ask, Ticket, asked_ticket, asks, sends_of}
+use Rattle.bac_protocol.specs.Client.{Ask, ClientTransaction, asked_ticket, asks, sends_of}
 use Rattle.bac_protocol.specs.Transaction.{Key, Rules, client_context}
 use Rattle.bac_protocol.specs.World.{Net, set_at, post_of, is_held_since, asked_at}
 use Rattle.bac_protocol.specs.World as net
@@ -23,18 +23,18 @@ use Rattle.bac_protocol.proofs.Keys.{set_same, set_other, decide_key}
 use Rattle.bac_protocol.proofs.Own.{client_sends_own}
 use Rattle.bac_protocol.proofs.Short.{requests_are_short}
 use Rattle.bac_slots.specs.Slots.{value_at, keep}
-use Rattle.bac_ends.specs.Keys.{PeerKey, same_key}
-use Rattle.bac_ends.specs.Sends.{Pairwise, IsSent}
-use Rattle.bac_ends.specs.Ends.{Client, ClientEnd, kept, is_held, is_held_there, is_id_held, is_id_taken, waits_to_ask, free_id, has_no_slot}
-use Rattle.bac_ends.specs.Ends.{Accepted, AskRefusal, AskOutcome, accepts, asks_with_id, asks_for, asks_by_way, client_asks}
-use Rattle.bac_ends.specs.Ends.AskOutcome.{Asked}
-use Rattle.bac_ends.proofs.ClientTables.{is_untaken, least_around_is, no_wait}
-use Rattle.bac_ends.proofs.Holding.{held_is}
+use Rattle.bac_transaction.specs.Keys.{PeerKey, same_key}
+use Rattle.bac_transaction.specs.Sends.{Pairwise, IsSent}
+use Rattle.bac_transaction.specs.Ends.{Client, ClientEnd, kept, is_held, is_held_there, is_id_held, is_id_taken, waits_to_ask, free_id, has_no_slot}
+use Rattle.bac_transaction.specs.Ends.{Accepted, AskRefusal, AskOutcome, accepts, asks_with_id, asks_for, asks_by_way, client_asks}
+use Rattle.bac_transaction.specs.Ends.AskOutcome.{Asked}
+use Rattle.bac_transaction.proofs.ClientTables.{is_untaken, least_around_is, no_wait}
+use Rattle.bac_transaction.proofs.Holding.{held_is}
 use Rattle.bac_world.specs.Node.{Node}
 use Rattle.bac_world.specs.Once.{Fact, Stores, IsOnce}
 use Rattle.bac_world.specs.World.{World, Note, Copy, stores_of, newest, ask_of, peer_at, IsCopied, IsAsked}
-use Rattle.bac_ends.proofs.KeyedSlots.{slot, passing, passing_value, passing_distinct, put_same, put_other, put_distinct}
-use Rattle.bac_ends.proofs.KeyedSlots.{each_at, each_so, each_passing, each_put}
+use Rattle.bac_transaction.proofs.KeyedSlots.{slot, passing, passing_value, passing_distinct, put_same, put_other, put_distinct}
+use Rattle.bac_transaction.proofs.KeyedSlots.{each_at, each_so, each_passing, each_put}
 use Rattle.bac_world.proofs.Machines.{Sound, counted, asked}
 use Rattle.bac_world.proofs.Pairs.{pairwise_join, append_none}
 use Rattle.bac_world.proofs.Logs.{FactMeans, asks_counted}
@@ -115,7 +115,7 @@ abbrev pub holds : ℕ → Client → Bool
 holds now s = is_held now s.held
 
 -- a ticket that is not held is gone, and stays gone
-pub gone_unheld : (from now : ℕ) (t : Ticket) → machine.is_held now t ≡ false → IsGone from now (Some t)
+pub gone_unheld : (from now : ℕ) (t : ClientTransaction) → machine.is_held now t ≡ false → IsGone from now (Some t)
 gone_unheld from now t unheld = record { over = ended_is_silent.unheld now t unheld; free = both (nat_le from (t.ask.first + REST)) }
   where
     both : (b : Bool) → (b && machine.is_held now t) ≡ false
@@ -123,7 +123,7 @@ gone_unheld from now t unheld = record { over = ended_is_silent.unheld now t unh
     both false = refl
 
 -- a slot that is not held may go
-fits_kept : (from now : ℕ) (notes : List Note) (i number : ℕ) (o : Option Client) (t : Option Ticket) → TicketFits from now notes i number o t
+fits_kept : (from now : ℕ) (notes : List Note) (i number : ℕ) (o : Option Client) (t : Option ClientTransaction) → TicketFits from now notes i number o t
     → TicketFits from now notes i number (keep (holds now) o) t
 fits_kept from now notes i number None t h = h
 fits_kept from now notes i number (Some s) None h = absurd h
@@ -134,7 +134,7 @@ fits_kept from now notes i number (Some s) (Some t) h = go (is_held now s.held) 
     go false is = gone_unheld from now t (sym (held_is now t) ∙ sym (ap (is_held now) h.held) ∙ is)
 
 -- where an invoke ID is not held for the peer, no ticket of its client's life holds it
-pub free_ticket : (from now : ℕ) (notes : List Note) (i number : ℕ) (o : Option Client) (t : Option Ticket) → TicketFits from now notes i number o t
+pub free_ticket : (from now : ℕ) (notes : List Note) (i number : ℕ) (o : Option Client) (t : Option ClientTransaction) → TicketFits from now notes i number o t
     → is_held_there now o ≡ false → is_held_since from now t ≡ false
 free_ticket from now notes i number None t h free = h.free
 free_ticket from now notes i number (Some s) None h free = absurd h
@@ -153,7 +153,7 @@ free_kept now None e = refl
 free_kept now (Some s) e = ap (λ b. if b then Some s else None) e
 
 -- another note is nothing to a slot of another client or of an earlier ticket
-fits_noted : (from now : ℕ) (notes : List Note) (note : Note) (i number : ℕ) (o : Option Client) (t : Option Ticket)
+fits_noted : (from now : ℕ) (notes : List Note) (note : Note) (i number : ℕ) (o : Option Client) (t : Option ClientTransaction)
     → ((s : Client) → o ≡ Some s → (nat_eq note.key.client i && nat_eq note.ticket s.number) ≡ false)
     → TicketFits from now notes i number o t → TicketFits from now (note ∷ notes) i number o t
 fits_noted from now notes note i number None t other h = h
@@ -189,7 +189,7 @@ module _ (links : ℕ → Option Octets) (apart : (i j : ℕ) (l : Octets) → l
     abbrev m : Net
     m = asked_at x n key ask
 
-    abbrev made : Ticket
+    abbrev made : ClientTransaction
     made = asked_ticket (client_context x key n.now) ask
 
     abbrev client : Client
@@ -217,7 +217,7 @@ module _ (links : ℕ → Option Octets) (apart : (i j : ℕ) (l : Octets) → l
     fit : TicketFits (n.asks_from key.client) n.now (note ∷ notes) key.client (m.numbers key) (value_at same_key p ended.slots) (m.tickets key)
     fit = subst (λ (o : Option Client). TicketFits (n.asks_from key.client) n.now (note ∷ notes) key.client (m.numbers key) o (m.tickets key))
         (sym (put_same Client p n.now client (passing Client (holds n.now) e.slots) gone))
-        (subst (λ (o : Option Ticket). TicketFits (n.asks_from key.client) n.now (note ∷ notes) key.client (m.numbers key) (Some client) o)
+        (subst (λ (o : Option ClientTransaction). TicketFits (n.asks_from key.client) n.now (note ∷ notes) key.client (m.numbers key) (Some client) o)
         (sym (set_same n.tickets key (Some made))) (record { held = refl; noted = λ still_open. own }))
 
     found : (s : ℕ) (l' : Octets) (id : ℕ) → links s ≡ Some l' → ((key ≡ key_of key.client s id) ⊎ (key ≡ key_of key.client s id → ⊥))
@@ -246,7 +246,7 @@ module _ (links : ℕ → Option Octets) (apart : (i j : ℕ) (l : Octets) → l
         subst (λ (o : Option Client). TicketFits (n.asks_from key.client) n.now (note ∷ notes) key.client (m.numbers k) o (m.tickets k)) (sym look)
         (subst (λ (y : ℕ). TicketFits (n.asks_from key.client) n.now (note ∷ notes) key.client y (keep (holds n.now) (value_at same_key q e.slots)) (m.tickets k))
         (sym (set_other n.numbers key n.asks k ne))
-        (subst (λ (o : Option Ticket). TicketFits (n.asks_from key.client) n.now (note ∷ notes) key.client (n.numbers k) (keep (holds n.now) (value_at same_key q e.slots)) o)
+        (subst (λ (o : Option ClientTransaction). TicketFits (n.asks_from key.client) n.now (note ∷ notes) key.client (n.numbers k) (keep (holds n.now) (value_at same_key q e.slots)) o)
         (sym (set_other n.tickets key (Some made) k ne)) after))
 
     pub ask_fits : ClientsFit links apart n.now (note ∷ notes) (asked_at x n key ask) key.client ended
@@ -279,7 +279,7 @@ module _ (links : ℕ → Option Octets) (apart : (i j : ℕ) (l : Octets) → l
             (λ z is. ap (λ b. b && nat_eq e.asked z.number) (differ key.client j (λ same. ne (sym same)))) (f.clients.found s l' id at') in
             subst (λ (y : ℕ). TicketFits (n.asks_from j) n.now (note ∷ notes) j y (value_at same_key q a.clients.slots) (m.tickets k))
             (sym (set_other n.numbers key n.asks k away))
-            (subst (λ (o : Option Ticket). TicketFits (n.asks_from j) n.now (note ∷ notes) j (n.numbers k) (value_at same_key q a.clients.slots) o)
+            (subst (λ (o : Option ClientTransaction). TicketFits (n.asks_from j) n.now (note ∷ notes) j (n.numbers k) (value_at same_key q a.clients.slots) o)
             (sym (set_other n.tickets key (Some made) k away)) before);
       };
       servers = record { distinct = f.servers.distinct; known = f.servers.known; found = f.servers.found };
@@ -346,7 +346,7 @@ module _ (links : ℕ → Option Octets) (apart : (i j : ℕ) (l : Octets) → l
     nodes j b at (inr ne) = others_noted n w.notes h.asks key step.link server_at ask a.clients fits.clients parts.free j b ne
         (h.nodes j b (sym (step.nodes.others j ne) ∙ at))
 
-    noted : (k : Key) (t : Ticket) → set_at n.tickets key (Some (asked_ticket context ask)) k ≡ Some t → ((key ≡ k) ⊎ (key ≡ k → ⊥))
+    noted : (k : Key) (t : ClientTransaction) → set_at n.tickets key (Some (asked_ticket context ask)) k ≡ Some t → ((key ≡ k) ⊎ (key ≡ k → ⊥))
         → newest k (note' ∷ w.notes) ≡ Some (after.numbers k)
     noted k t at (inl is) = subst (λ (y : Key). newest y (note' ∷ w.notes) ≡ Some (after.numbers y)) is
         (set_same (λ y. newest y w.notes) key (Some (length w.notes)) ∙ ap Some (sym h.asks ∙ sym (set_same n.numbers key n.asks)))

@@ -11,19 +11,19 @@ use Rattle.bac_protocol.specs.Service.{Octets}
 use Rattle.bac_protocol.specs.Short.{IsShort}
 use Rattle.bac_protocol.specs.Wire.{is_from_client, Each}
 use Rattle.bac_protocol.specs.Own.{invoke_id_of}
-use Rattle.bac_protocol.specs.Client.{Ticket, is_idle}
-use Rattle.bac_protocol.specs.Server.{Entry, live_entry}
+use Rattle.bac_protocol.specs.Client.{ClientTransaction, is_idle}
+use Rattle.bac_protocol.specs.Server.{ServerTransaction, live_entry}
 use Rattle.bac_protocol.specs.Transaction.{Key, Rules}
 use Rattle.bac_protocol.specs.Straight.{is_ended}
 use Rattle.bac_protocol.specs.World.{Net, Post, post_of, is_held_since}
 use Rattle.bac_protocol.specs.World as machine
 use Rattle.bac_slots.specs.Slots.{value_at, IsDistinct}
-use Rattle.bac_ends.specs.Keys.{PeerKey, same_key}
-use Rattle.bac_ends.specs.Sends.{Datagram, Pairwise, IsSent, to_peer, to_all}
-use Rattle.bac_ends.specs.Ends.{Client, ClientEnd, ServerEnd, kept}
+use Rattle.bac_transaction.specs.Keys.{PeerKey, same_key}
+use Rattle.bac_transaction.specs.Sends.{Datagram, Pairwise, IsSent, to_peer, to_all}
+use Rattle.bac_transaction.specs.Ends.{Client, ClientEnd, ServerEnd, kept}
 use Rattle.bac_world.specs.Node.{Node}
 use Rattle.bac_world.specs.World.{World, Copy, Note, link_at, newest, ask_of, peer_at, transaction_of, IsCopied, count_of, later}
-use Rattle.bac_ends.proofs.KeyedSlots.{EachSlot}
+use Rattle.bac_transaction.proofs.KeyedSlots.{EachSlot}
 use Rattle.bac_world.proofs.Machines.{Sound}
 use Rattle.bac_world.proofs.Logs.{FactMeans}
 
@@ -42,23 +42,23 @@ key_of c s id = record { client = c; server = s; invoke_id = id }
 abbrev pub slot_key : Octets → ℕ → PeerKey
 slot_key link id = record { peer = peer_at link; invoke_id = id }
 
-pub record SlotFits (notes : List Note) (client number : ℕ) (s : Client) (t : Ticket) : Type 0 where
+pub record SlotFits (notes : List Note) (client number : ℕ) (s : Client) (t : ClientTransaction) : Type 0 where
   pub held : s.held ≡ kept t
   pub noted : is_idle t.phase ≡ false → ask_of client s.number notes ≡ Some number
 
 -- nothing is left of a ticket but its copies: it is over, and holds no invoke ID of a client that asks from then on
-pub record IsGone (from now : ℕ) (o : Option Ticket) : Type 0 where
+pub record IsGone (from now : ℕ) (o : Option ClientTransaction) : Type 0 where
   pub over : is_ended o ≡ true
   pub free : is_held_since from now o ≡ false
 
 -- a slot is its ticket's, and where there is none the ticket is gone
-abbrev pub TicketFits : (from now : ℕ) → List Note → (client number : ℕ) → Option Client → Option Ticket → Type 0
+abbrev pub TicketFits : (from now : ℕ) → List Note → (client number : ℕ) → Option Client → Option ClientTransaction → Type 0
 TicketFits from now notes client number None o = IsGone from now o
 TicketFits from now notes client number (Some s) None = ⊥
 TicketFits from now notes client number (Some s) (Some t) = SlotFits notes client number s t
 
 -- entries are alike while they are live
-abbrev pub EntryFits : (now : ℕ) → (a b : Option Entry) → Type 0
+abbrev pub EntryFits : (now : ℕ) → (a b : Option ServerTransaction) → Type 0
 EntryFits now a b = live_entry now a ≡ live_entry now b
 
 abbrev pub IsBetween : (up : Bool) → Key → (from to : ℕ) → Type 0
@@ -81,7 +81,7 @@ module _ (links : ℕ → Option Octets) (apart : (i j : ℕ) (l : Octets) → l
 
   pub record ServersFit (now : ℕ) (n : Net) (i : ℕ) (e : ServerEnd) : Type 0 where
     pub distinct : IsDistinct same_key e.slots
-    pub known : EachSlot Entry (λ p d. IsKnown p) e.slots
+    pub known : EachSlot ServerTransaction (λ p d. IsKnown p) e.slots
     pub found : (c : ℕ) (l : Octets) (id : ℕ) → links c ≡ Some l
         → EntryFits now (value_at same_key (slot_key l id) e.slots) (n.entries (key_of c i id))
 
@@ -111,7 +111,7 @@ module _ (links : ℕ → Option Octets) (apart : (i j : ℕ) (l : Octets) → l
     pub asks : n.asks ≡ length w.notes
     pub linked : (i : ℕ) → link_at w.nodes i ≡ links i
     pub nodes : (i : ℕ) (a : Node) → slice_get w.nodes i ≡ Some a → NodeFits x n.now w.notes n i a
-    pub noted : (key : Key) (t : Ticket) → n.tickets key ≡ Some t → newest key w.notes ≡ Some (n.numbers key)
+    pub noted : (key : Key) (t : ClientTransaction) → n.tickets key ≡ Some t → newest key w.notes ≡ Some (n.numbers key)
     pub posts : Pairwise IsCopyOf n.posts w.copies
     pub log : Pairwise FactMeans n.log w.log
     pub sound : Sound x n

@@ -9,14 +9,14 @@ use Rattle.bac_protocol.specs.World.{Net, client_acts}
 use Rattle.bac_protocol.specs.Claims.{IsBounded}
 use Rattle.bac_protocol.proofs.Own.{client_sends_own}
 use Rattle.bac_slots.specs.Slots.{value_at, IsDistinct}
-use Rattle.bac_ends.specs.Keys.{PeerKey, same_key}
-use Rattle.bac_ends.specs.Sends.{Datagram, Pairwise, IsSent, to_all}
-use Rattle.bac_ends.specs.Meanings.{Finish, IsFinish}
-use Rattle.bac_ends.specs.Ends.{ClientSlot, Client, Held, context_of, held_ticked, client_tick_sends, client_tick_ends, from_each, ended_with}
-use Rattle.bac_ends.specs.Ends.Held.{Open, Closed}
+use Rattle.bac_transaction.specs.Keys.{PeerKey, same_key}
+use Rattle.bac_transaction.specs.Sends.{Datagram, Pairwise, IsSent, to_all}
+use Rattle.bac_transaction.specs.Meanings.{Finish, IsFinish}
+use Rattle.bac_transaction.specs.Ends.{ClientSlot, Client, TransactionSlot, context_of, held_ticked, client_tick_sends, client_tick_ends, from_each, ended_with}
+use Rattle.bac_transaction.specs.Ends.TransactionSlot.{Open, Closed}
 use Rattle.bac_world.specs.Once.{Fact}
 use Rattle.bac_world.specs.World.{World, Note, Copy, AreEnded, peer_at, IsCopied}
-use Rattle.bac_ends.proofs.KeyedSlots.{EachSlot, slot}
+use Rattle.bac_transaction.proofs.KeyedSlots.{EachSlot, slot}
 use Rattle.bac_world.proofs.Changes.{look, Change, look_first, look_next, look_here, look_same, change_rest}
 use Rattle.bac_world.proofs.Leads.{Leads}
 use Rattle.bac_world.proofs.Leads.Leads.{TicksTicket}
@@ -84,7 +84,7 @@ module _ (links : ℕ → Option Octets) (apart : (i j : ℕ) (l : Octets) → l
         (look_same Client tick all p begin v os distinct.0 change refl) r)
         ds cs fs log' sent copied finished logged
 
-    one_open : (t : client.Ticket) → Folds (slot Client (slot_key l id) begin (record { number = k; held = Open t }) ∷ os)
+    one_open : (t : client.ClientTransaction) → Folds (slot Client (slot_key l id) begin (record { number = k; held = Open t }) ∷ os)
     one_open t distinct known change copies log m r ds cs fs log' sent copied finished logged =
         let v : Client = record { number = k; held = Open t } in
         let key : Key = key_of i node id in
@@ -110,7 +110,7 @@ module _ (links : ℕ → Option Octets) (apart : (i j : ℕ) (l : Octets) → l
               (append_assoc copies e.front e.rest ∙ ap (λ (z : List Copy). copies ++ z) (sym e.is)) rest.1,
         )
 
-    one_slot : (y : Held) → Folds (slot Client (slot_key l id) begin (record { number = k; held = y }) ∷ os)
+    one_slot : (y : TransactionSlot) → Folds (slot Client (slot_key l id) begin (record { number = k; held = y }) ∷ os)
     one_slot (Closed first) = one_closed first
     one_slot (Open t) = one_open t
 

@@ -10,7 +10,7 @@ use Rattle.bac_protocol.specs.Service.{Octets}
 use Rattle.bac_protocol.specs.Wire.{is_from_client}
 use Rattle.bac_protocol.specs.Own.{invoke_id_of}
 use Rattle.bac_protocol.specs.Client as client
-use Rattle.bac_protocol.specs.Client.{Ticket, is_idle, client_gets}
+use Rattle.bac_protocol.specs.Client.{ClientTransaction, is_idle, client_gets}
 use Rattle.bac_protocol.specs.Server.{live_entry}
 use Rattle.bac_protocol.specs.Transaction.{Key, Rules, client_context}
 use Rattle.bac_protocol.specs.World.{Net, Post, client_acts}
@@ -22,15 +22,15 @@ use Rattle.bac_protocol.proofs.Keys.{set_nothing}
 use Rattle.bac_protocol.proofs.Dead.{ended_is_silent}
 use Rattle.bac_protocol.proofs.Own.{client_sends_own}
 use Rattle.bac_slots.specs.Slots.{value_at, with_value, IsDistinct}
-use Rattle.bac_ends.specs.Keys.{PeerKey, same_key}
-use Rattle.bac_ends.specs.Sends.{Datagram, Pairwise, IsSent}
-use Rattle.bac_ends.specs.Meanings.{Finish, IsFinish}
-use Rattle.bac_ends.specs.Ends.{Client, ClientEnd, ClientTurn, Held, client_after, client_goes, client_hears_at, client_hears_held, stays}
-use Rattle.bac_ends.specs.Ends.Held.{Open, Closed}
+use Rattle.bac_transaction.specs.Keys.{PeerKey, same_key}
+use Rattle.bac_transaction.specs.Sends.{Datagram, Pairwise, IsSent}
+use Rattle.bac_transaction.specs.Meanings.{Finish, IsFinish}
+use Rattle.bac_transaction.specs.Ends.{Client, ClientEnd, ClientTurn, TransactionSlot, client_after, client_goes, client_hears_at, client_hears_held, stays}
+use Rattle.bac_transaction.specs.Ends.TransactionSlot.{Open, Closed}
 use Rattle.bac_world.specs.Node.{Node, Outcome, IsClientTurn}
 use Rattle.bac_world.specs.Once.{Fact, IsOnce}
 use Rattle.bac_world.specs.World.{World, Copy, stores_of, Acts, AreLogged, AreEnded, IsCopied}
-use Rattle.bac_ends.proofs.KeyedSlots.{EachSlot, with_same, with_other, with_distinct, each_with, each_at}
+use Rattle.bac_transaction.proofs.KeyedSlots.{EachSlot, with_same, with_other, with_distinct, each_with, each_at}
 use Rattle.bac_world.proofs.Leads.Leads.{Here, Hears}
 use Rattle.bac_world.proofs.Machines.{gets_at_client, may_arrive}
 use Rattle.bac_world.proofs.Pairs.{pairwise_none, append_none}
@@ -40,7 +40,7 @@ use Rattle.bac_world.proofs.Steps.{Over, Fits, Goes, acts_over, once_same, store
 use Rattle.bac_world.proofs.Hearing.{Reached, reached_none, reacts, ticket_at, closed_idle}
 
 -- a ticket that has ended hears nothing
-hears_nothing : (x : Rules) (n : Net) (p : Post) (o : Option Ticket) → n.tickets p.key ≡ o → ((u : Ticket) → o ≡ Some u → is_idle u.phase ≡ true)
+hears_nothing : (x : Rules) (n : Net) (p : Post) (o : Option ClientTransaction) → n.tickets p.key ≡ o → ((u : ClientTransaction) → o ≡ Some u → is_idle u.phase ≡ true)
     → taken_by_client x n p o ≡ n
 hears_nothing x n p None is over = refl
 hears_nothing x n p (Some t) is over =
@@ -162,12 +162,12 @@ module _ (links : ℕ → Option Octets) (apart : (i j : ℕ) (l : Octets) → l
       fit : TicketFits (n.asks_from key.client) n.now w.notes key.client (n.numbers key) (value_at same_key q a.clients.slots) (n.tickets key)
       fit = fits.clients.found key.server l key.invoke_id server_at
 
-      unheard : ((u : Ticket) → n.tickets key ≡ Some u → is_idle u.phase ≡ true) → IsClientTurn (stays a.clients) w.now a b o
+      unheard : ((u : ClientTransaction) → n.tickets key ≡ Some u → is_idle u.phase ≡ true) → IsClientTurn (stays a.clients) w.now a b o
           → Goes links apart W x w w' made_net
       unheard over t = subst (λ (m : Net). Goes links apart W x w w' m) (sym (hears_nothing x n p (n.tickets key) refl over))
           (quiet w w' n h key.client a b o node' acts' t.performed (pairwise_none IsSent o.sends t.sends) (pairwise_none IsFinish o.ended t.ended) t.node)
 
-      goes : (k : ℕ) (t : Ticket) → value_at same_key q a.clients.slots ≡ Some (record { number = k; held = Open t })
+      goes : (k : ℕ) (t : ClientTransaction) → value_at same_key q a.clients.slots ≡ Some (record { number = k; held = Open t })
           → IsClientTurn (client_goes n.now a.clients q k t (client_gets context x.readable t apdu)) w.now a b o
           → Goes links apart W x w w' made_net
       goes k t found turn = subst (λ (m : Net). Goes links apart W x w w' m) (sym (ap (taken_by_client x n p) open_is))
@@ -203,11 +203,11 @@ module _ (links : ℕ → Option Octets) (apart : (i j : ℕ) (l : Octets) → l
           made : ClientEnd
           made = record (a.clients) { slots = with_value same_key q (client_after n.now k t r) a.clients.slots }
 
-      held : (k : ℕ) (y : Held) → value_at same_key q a.clients.slots ≡ Some (record { number = k; held = y })
+      held : (k : ℕ) (y : TransactionSlot) → value_at same_key q a.clients.slots ≡ Some (record { number = k; held = y })
           → IsClientTurn (client_hears_held s x.readable n.now apdu a.clients q k y) w.now a b o
           → Goes links apart W x w w' made_net
       held k (Closed first) is turn = unheard
-          (λ u at. closed_idle (n.asks_from key.client) n.now w.notes key.client (n.numbers key) k first u (subst (λ (y : Option Ticket).
+          (λ u at. closed_idle (n.asks_from key.client) n.now w.notes key.client (n.numbers key) k first u (subst (λ (y : Option ClientTransaction).
           TicketFits (n.asks_from key.client) n.now w.notes key.client (n.numbers key) (Some (record { number = k; held = Closed first })) y) at
           (subst (λ (y : Option Client). TicketFits (n.asks_from key.client) n.now w.notes key.client (n.numbers key) y (n.tickets key)) is fit))) turn
       held k (Open t) is turn = goes k t is turn

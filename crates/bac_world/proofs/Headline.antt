@@ -15,25 +15,25 @@ use Rattle.bac_protocol.specs.Service.{Octets}
 use Rattle.bac_protocol.specs.Wire.{is_from_client}
 use Rattle.bac_protocol.specs.declared.times.TheConstants.{REST}
 use Rattle.bac_protocol.specs.Client as client
-use Rattle.bac_protocol.specs.Client.{Ticket}
-use Rattle.bac_protocol.specs.Server.{Entry, live_entry}
+use Rattle.bac_protocol.specs.Client.{ClientTransaction}
+use Rattle.bac_protocol.specs.Server.{ServerTransaction, live_entry}
 use Rattle.bac_protocol.specs.Transaction.{Key, Rules}
 use Rattle.bac_protocol.specs.World.{Net, Post, notes_change, net_start}
 use Rattle.bac_protocol.specs.World as machine
 use Rattle.bac_protocol.specs.Claims as claims
 use Rattle.bac_protocol.proofs.Dead.{dead_is_none, ended_is_silent}
 use Rattle.bac_slots.specs.Slots.{value_at, IsDistinct}
-use Rattle.bac_ends.specs.Keys.{same_key}
-use Rattle.bac_ends.specs.Sends.{Pairwise}
-use Rattle.bac_ends.specs.Ends.{Client}
-use Rattle.bac_entry.specs.Services.{service_of}
+use Rattle.bac_transaction.specs.Keys.{same_key}
+use Rattle.bac_transaction.specs.Sends.{Pairwise}
+use Rattle.bac_transaction.specs.Ends.{Client}
+use Rattle.bac_responder.specs.Services.{service_of}
 use Rattle.bac_world.specs.Node.{Node, Outcome, IsDropped, IsHeard, IsHeardBy, NodeOn, with_change}
 use Rattle.bac_world.specs.Once.{Fact, Stores, IsOnce, with_changed}
 use Rattle.bac_world.specs.Once.Fact.{Changed}
 use Rattle.bac_world.specs.World.{World, Event, Copy, Note, link_at, stores_of, newest, later, peer_at, Acts, DeliversIf, Delivers, HearsNoise}
 use Rattle.bac_world.specs.World.{IsChanged, WorldStep, WorldRun, IsFresh, IsBounded}
 use Rattle.bac_world.specs.World.Event.{Ask, Deliver, Noise, Tick, Advance, Change, Restart}
-use Rattle.bac_ends.proofs.KeyedSlots.{EachSlot}
+use Rattle.bac_transaction.proofs.KeyedSlots.{EachSlot}
 use Rattle.bac_world.proofs.Machines.{passed, changes, starts}
 use Rattle.bac_world.proofs.Pairs.{IsPaired, pairwise_get}
 use Rattle.bac_world.proofs.Logs.{FactMeans}
@@ -118,7 +118,7 @@ module _ (links : ℕ → Option Octets) (apart : (i j : ℕ) (l : Octets) → l
 
   -- Time.
 
-  gone_later : (from now by : ℕ) (o : Option Ticket) → IsGone from now o → IsGone from (now + by) o
+  gone_later : (from now by : ℕ) (o : Option ClientTransaction) → IsGone from now o → IsGone from (now + by) o
   gone_later from now by None h = record { over = refl; free = refl }
   gone_later from now by (Some t) h = record { over = h.over; free = go (nat_le from (t.ask.first + REST)) h.free }
     where
@@ -126,13 +126,13 @@ module _ (links : ℕ → Option Octets) (apart : (i j : ℕ) (l : Octets) → l
       go true unheld = ended_is_silent.later now (now + by) t (omega arith) unheld
       go false unheld = refl
 
-  ticket_later : (from now by : ℕ) (notes : List Note) (i number : ℕ) (o : Option Client) (t : Option Ticket) → TicketFits from now notes i number o t
+  ticket_later : (from now by : ℕ) (notes : List Note) (i number : ℕ) (o : Option Client) (t : Option ClientTransaction) → TicketFits from now notes i number o t
       → TicketFits from (now + by) notes i number o t
   ticket_later from now by notes i number None t h = gone_later from now by t h
   ticket_later from now by notes i number (Some s) None h = absurd h
   ticket_later from now by notes i number (Some s) (Some t) h = h
 
-  entry_later : (now by : ℕ) (a b : Option Entry) → EntryFits now a b → EntryFits (now + by) a b
+  entry_later : (now by : ℕ) (a b : Option ServerTransaction) → EntryFits now a b → EntryFits (now + by) a b
   entry_later now by a b h =
       let le : now ≤ now + by = omega arith in
       sym (dead_is_none.later now (now + by) a le) ∙ ap (live_entry (now + by)) h ∙ dead_is_none.later now (now + by) b le
@@ -280,7 +280,7 @@ fresh_over W overtake w h b = record {
     };
     servers = record {
       distinct = subst (IsDistinct same_key) (sym f.entries) tt;
-      known = subst (EachSlot Entry (λ p d. IsKnown (link_at w.nodes) h.apart p)) (sym f.entries) tt;
+      known = subst (EachSlot ServerTransaction (λ p d. IsKnown (link_at w.nodes) h.apart p)) (sym f.entries) tt;
       found = λ c l id at'. subst (λ slots. EntryFits 0 (value_at same_key (slot_key l id) slots) None) (sym f.entries) refl;
     };
   };

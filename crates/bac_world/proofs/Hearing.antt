@@ -6,7 +6,7 @@ use Rattle.bac_protocol.specs.Service.{Octets}
 use Rattle.bac_protocol.specs.Wire.{Each}
 use Rattle.bac_protocol.specs.Own.{IsOfClient}
 use Rattle.bac_protocol.specs.Client as client
-use Rattle.bac_protocol.specs.Client.{Ticket, request_of, is_idle}
+use Rattle.bac_protocol.specs.Client.{ClientTransaction, request_of, is_idle}
 use Rattle.bac_protocol.specs.Log as octets
 use Rattle.bac_protocol.specs.Log.{IsOrderly}
 use Rattle.bac_protocol.specs.Transaction.{Key, Rules, ended}
@@ -14,11 +14,11 @@ use Rattle.bac_protocol.specs.World.{Net, client_acts, set_at, post_of}
 use Rattle.bac_protocol.specs.Claims.{IsBounded}
 use Rattle.bac_protocol.proofs.Keys.{set_same, set_other, decide_key}
 use Rattle.bac_slots.specs.Slots.{value_at}
-use Rattle.bac_ends.specs.Keys.{PeerKey, same_key}
-use Rattle.bac_ends.specs.Sends.{Datagram, Pairwise, IsSent, to_all}
-use Rattle.bac_ends.specs.Meanings.{Finish, IsFinish}
-use Rattle.bac_ends.specs.Ends.{Client, kept, open_unless, ended_with, client_after}
-use Rattle.bac_ends.specs.Ends.Held.{Open, Closed}
+use Rattle.bac_transaction.specs.Keys.{PeerKey, same_key}
+use Rattle.bac_transaction.specs.Sends.{Datagram, Pairwise, IsSent, to_all}
+use Rattle.bac_transaction.specs.Meanings.{Finish, IsFinish}
+use Rattle.bac_transaction.specs.Ends.{Client, kept, open_unless, ended_with, client_after}
+use Rattle.bac_transaction.specs.Ends.TransactionSlot.{Open, Closed}
 use Rattle.bac_world.specs.Node.{Node}
 use Rattle.bac_world.specs.Once.{Fact, Stores, IsOnce, MayEnd}
 use Rattle.bac_world.specs.World.{World, Note, Copy, link_at, AreEnded, ask_of, newest, peer_at, IsCopied}
@@ -32,11 +32,11 @@ use Rattle.bac_world.proofs.Steps.{Over}
 
 -- A slot and its ticket.
 
-record IsOpen (s u : Ticket) : Type 0 where
+record IsOpen (s u : ClientTransaction) : Type 0 where
   same : s ≡ u
   goes_on : is_idle u.phase ≡ false
 
-open_is : (s u : Ticket) → Open s ≡ kept u → IsOpen s u
+open_is : (s u : ClientTransaction) → Open s ≡ kept u → IsOpen s u
 open_is s u e = go (is_idle u.phase) refl e
   where
     go : (b : Bool) → is_idle u.phase ≡ b → Open s ≡ open_unless b u → IsOpen s u
@@ -44,13 +44,13 @@ open_is s u e = go (is_idle u.phase) refl e
     go false is e = record { same = (let same : s ≡ u = cc in same); goes_on = is }
 
 -- the ticket of an open slot
-pub ticket_at : (from now : ℕ) (notes : List Note) (i number k : ℕ) (t : Ticket) (o : Option Ticket)
+pub ticket_at : (from now : ℕ) (notes : List Note) (i number k : ℕ) (t : ClientTransaction) (o : Option ClientTransaction)
     → TicketFits from now notes i number (Some (record { number = k; held = Open t })) o → (o ≡ Some t) × (ask_of i k notes ≡ Some number)
 ticket_at from now notes i number k t None h = absurd h
 ticket_at from now notes i number k t (Some u) h = let is = open_is t u h.held in (ap Some (sym is.same), h.noted is.goes_on)
 
 -- a slot that has closed is of a ticket that has ended
-pub closed_idle : (from now : ℕ) (notes : List Note) (i number k first : ℕ) (u : Ticket)
+pub closed_idle : (from now : ℕ) (notes : List Note) (i number k first : ℕ) (u : ClientTransaction)
     → TicketFits from now notes i number (Some (record { number = k; held = Closed first })) (Some u) → is_idle u.phase ≡ true
 closed_idle from now notes i number k first u h = go (is_idle u.phase) refl h.held
   where
@@ -67,7 +67,7 @@ module _ (links : ℕ → Option Octets) (apart : (i j : ℕ) (l : Octets) → l
     pub entries : m.entries ≡ n.entries
     pub asks_from : m.asks_from ≡ n.asks_from
     pub serves_from : m.serves_from ≡ n.serves_from
-    pub noted : (key : Key) (t : Ticket) → m.tickets key ≡ Some t → newest key w.notes ≡ Some (m.numbers key)
+    pub noted : (key : Key) (t : ClientTransaction) → m.tickets key ≡ Some t → newest key w.notes ≡ Some (m.numbers key)
     pub found : (s : ℕ) (l : Octets) (id : ℕ) → links s ≡ Some l
         → TicketFits (m.asks_from i) n.now w.notes i (m.numbers (key_of i s id)) (look (slot_key l id)) (m.tickets (key_of i s id))
     pub others : (j : ℕ) (a : Node) → (j ≡ i → ⊥) → NodeFits links apart x n.now w.notes n j a → NodeFits links apart x n.now w.notes m j a
@@ -119,7 +119,7 @@ module _ (links : ℕ → Option Octets) (apart : (i j : ℕ) (l : Octets) → l
 
   module _ (bound : IsBounded W x) (w : World) (n : Net) (key : Key) (l li : Octets) (from_at : links key.client ≡ Some li) (to_at : links key.server ≡ Some l)
       (look look' : PeerKey → Option Client) (copies : List Copy) (log : List Fact) (m : Net) (h : Reached w key.client n look copies log m)
-      (linked : (k : ℕ) → link_at w.nodes k ≡ links k) (number : ℕ) (t : Ticket)
+      (linked : (k : ℕ) → link_at w.nodes k ≡ links k) (number : ℕ) (t : ClientTransaction)
       (there : look (slot_key l key.invoke_id) ≡ Some (record { number = number; held = Open t })) (r : client.Reaction)
       (goes : m.tickets key ≡ Some t → Sound x (client_acts m key t r) × Leads x n (client_acts m key t r))
       (own : Each (IsOfClient key.invoke_id) (client.sends_of r))
@@ -128,7 +128,7 @@ module _ (links : ℕ → Option Octets) (apart : (i j : ℕ) (l : Octets) → l
     abbrev q : PeerKey
     q = slot_key l key.invoke_id
 
-    abbrev made : Option Ticket
+    abbrev made : Option ClientTransaction
     made = Some (client.after m.now t r)
 
     is : (m.tickets key ≡ Some t) × (ask_of key.client number w.notes ≡ Some (m.numbers key))
@@ -139,13 +139,13 @@ module _ (links : ℕ → Option Octets) (apart : (i j : ℕ) (l : Octets) → l
     sound : Sound x (client_acts m key t r)
     sound = (goes is.0).0
 
-    noted : (k : Key) (u : Ticket) → set_at m.tickets key made k ≡ Some u → ((key ≡ k) ⊎ (key ≡ k → ⊥)) → newest k w.notes ≡ Some (m.numbers k)
+    noted : (k : Key) (u : ClientTransaction) → set_at m.tickets key made k ≡ Some u → ((key ≡ k) ⊎ (key ≡ k → ⊥)) → newest k w.notes ≡ Some (m.numbers k)
     noted k u at (inl e) = subst (λ (y : Key). newest y w.notes ≡ Some (m.numbers y)) e (h.noted key t is.0)
     noted k u at (inr ne) = h.noted k u (sym (set_other m.tickets key made k ne) ∙ at)
 
     fit : TicketFits (m.asks_from key.client) n.now w.notes key.client (m.numbers key) (look' q) (set_at m.tickets key made key)
     fit = subst (λ (o : Option Client). TicketFits (m.asks_from key.client) n.now w.notes key.client (m.numbers key) o (set_at m.tickets key made key)) (sym here)
-        (subst (λ (o : Option Ticket). TicketFits (m.asks_from key.client) n.now w.notes key.client (m.numbers key) (Some (client_after n.now number t r)) o)
+        (subst (λ (o : Option ClientTransaction). TicketFits (m.asks_from key.client) n.now w.notes key.client (m.numbers key) (Some (client_after n.now number t r)) o)
         (sym (set_same m.tickets key made))
         (record { held = ap (λ (tm : ℕ). kept (client.after tm t r)) (sym h.now); noted = λ f. is.1 }))
 
@@ -164,7 +164,7 @@ module _ (links : ℕ → Option Octets) (apart : (i j : ℕ) (l : Octets) → l
         ne (λ j. key_of key.client (node j) (e j).invoke_id) in
         subst (λ (o : Option Client). TicketFits (m.asks_from key.client) n.now w.notes key.client (m.numbers (key_of key.client s id)) o
         (set_at m.tickets key made (key_of key.client s id))) (sym (away (slot_key l' id) other))
-        (subst (λ (o : Option Ticket). TicketFits (m.asks_from key.client) n.now w.notes key.client (m.numbers (key_of key.client s id)) (look (slot_key l' id)) o)
+        (subst (λ (o : Option ClientTransaction). TicketFits (m.asks_from key.client) n.now w.notes key.client (m.numbers (key_of key.client s id)) (look (slot_key l' id)) o)
         (sym (set_other m.tickets key made (key_of key.client s id) ne)) (h.found s l' id at))
 
     others : (j : ℕ) (a : Node) → (j ≡ key.client → ⊥) → NodeFits links apart x n.now w.notes m j a
@@ -178,7 +178,7 @@ module _ (links : ℕ → Option Octets) (apart : (i j : ℕ) (l : Octets) → l
         distinct = f.clients.distinct;
         known = f.clients.known;
         found = λ s l' id at.
-            subst (λ (o : Option Ticket). TicketFits (m.asks_from j) n.now w.notes j (m.numbers (key_of j s id)) (value_at same_key (slot_key l' id) a.clients.slots) o)
+            subst (λ (o : Option ClientTransaction). TicketFits (m.asks_from j) n.now w.notes j (m.numbers (key_of j s id)) (value_at same_key (slot_key l' id) a.clients.slots) o)
             (sym (set_other m.tickets key made (key_of j s id) (λ e. ne (sym (ap (λ (k : Key). k.client) e))))) (f.clients.found s l' id at);
       };
       servers = record { distinct = f.servers.distinct; known = f.servers.known; found = f.servers.found };

@@ -8,11 +8,11 @@ use Rattle.bac_protocol.specs.Context.{Settings}
 use Rattle.bac_protocol.specs.Service.{Octets, Readable}
 use Rattle.bac_protocol.specs.Wire.{is_from_client}
 use Rattle.bac_slots.specs.Slots.{value_at}
-use Rattle.bac_ends.specs.Keys.{PeerKey, same_key}
-use Rattle.bac_ends.specs.Sends.{Datagram}
-use Rattle.bac_ends.specs.Meanings.{Finish}
-use Rattle.bac_ends.specs.Ends.{Client, ClientEnd, Held, Accepted, client_hears_at, client_hears_held, key_of}
-use Rattle.bac_ends.specs.Ends.Held.{Open, Closed}
+use Rattle.bac_transaction.specs.Keys.{PeerKey, same_key}
+use Rattle.bac_transaction.specs.Sends.{Datagram}
+use Rattle.bac_transaction.specs.Meanings.{Finish}
+use Rattle.bac_transaction.specs.Ends.{Client, ClientEnd, TransactionSlot, Accepted, client_hears_at, client_hears_held, key_of}
+use Rattle.bac_transaction.specs.Ends.TransactionSlot.{Open, Closed}
 use Rattle.bac_world.specs.Services.{Performed}
 use Rattle.bac_world.specs.Node.{Node, Outcome, IsHeardBy, NodeOn, NodeTick, NodeAsks}
 use Rattle.bac_world.specs.Once.{Fact, HasNoRestart}
@@ -28,7 +28,7 @@ record Stays (a b : Node) : Type 0 where
   asks : b.clients.asks_from ≡ a.clients.asks_from
   serves : b.servers.serves_from ≡ a.servers.serves_from
 
-held_from : (c : Settings) (r : Readable) (now : ℕ) (p : Apdu) (e : ClientEnd) (q : PeerKey) (k : ℕ) (y : Held)
+held_from : (c : Settings) (r : Readable) (now : ℕ) (p : Apdu) (e : ClientEnd) (q : PeerKey) (k : ℕ) (y : TransactionSlot)
     → (client_hears_held c r now p e q k y).end.asks_from ≡ e.asks_from
 held_from c r now p e q k (Closed first) = refl
 held_from c r now p e q k (Open t) = refl

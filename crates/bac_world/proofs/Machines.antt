@@ -6,7 +6,7 @@ use Rattle.bac_protocol.specs.declared.times.TheConstants.{LIFE}
 use Rattle.bac_protocol.specs.Service.{Octets}
 use Rattle.bac_protocol.specs.Wire.{is_from_client}
 use Rattle.bac_protocol.specs.Client as client
-use Rattle.bac_protocol.specs.Client.{Ticket, request_of}
+use Rattle.bac_protocol.specs.Client.{ClientTransaction, request_of}
 use Rattle.bac_protocol.specs.Server as server
 use Rattle.bac_protocol.specs.Server.{Service}
 use Rattle.bac_protocol.specs.Log.{Has, asks_in, IsOrderly}
@@ -40,14 +40,14 @@ module _ (W : ℕ) (x : Rules) (bound : IsBounded W x) where
   pub own_of : (n : Net) → Sound x n → (key : Key) → IsOwnEntry key.invoke_id (n.entries key)
   own_of n s key = (known n s).own key
 
-  pub ticket_of : (n : Net) → Sound x n → (number : ℕ) (p : Post) → slice_get n.posts number ≡ Some p → (t : Ticket) × (n.tickets p.key ≡ Some t)
+  pub ticket_of : (n : Net) → Sound x n → (number : ℕ) (p : Post) → slice_get n.posts number ≡ Some p → (t : ClientTransaction) × (n.tickets p.key ≡ Some t)
   ticket_of n s number p at = go (n.tickets p.key) refl
     where
-      go : (o : Option Ticket) → n.tickets p.key ≡ o → (t : Ticket) × (n.tickets p.key ≡ Some t)
+      go : (o : Option ClientTransaction) → n.tickets p.key ≡ o → (t : ClientTransaction) × (n.tickets p.key ≡ Some t)
       go None is = absurd ((known n s).posted number p at is)
       go (Some t) is = (t, is)
 
-  pub asked_of : (n : Net) → Sound x n → (key : Key) (t : Ticket) → n.tickets key ≡ Some t
+  pub asked_of : (n : Net) → Sound x n → (key : Key) (t : ClientTransaction) → n.tickets key ≡ Some t
       → Has (Asked (n.numbers key) key.client key.server (request_of t.ask)) n.log
   asked_of n s key t is = (known n s).asked key t is
 
@@ -61,7 +61,7 @@ module _ (W : ℕ) (x : Rules) (bound : IsBounded W x) where
       go false b e f = absurd (grind (arith, nat_tests))
 
   -- no ticket was asked later than now
-  pub asked_before : (n : Net) → Sound x n → (key : Key) (t : Ticket) → n.tickets key ≡ Some t → t.ask.first ≤ n.now
+  pub asked_before : (n : Net) → Sound x n → (key : Key) (t : ClientTransaction) → n.tickets key ≡ Some t → t.ask.first ≤ n.now
   asked_before n s key t is = let known = sound_at W n key (Some t) is (reached_net W x bound n s) in (known.2).clock
 
   arrived_sound : (n : Net) → Sound x n → (number : ℕ) (free : Bool) (service : Service) → Sound x (arrived x n number free service (slice_get n.posts number))
@@ -85,7 +85,7 @@ module _ (W : ℕ) (x : Rules) (bound : IsBounded W x) where
       room (by_room n s number p at young few up service free)
 
   pub gets_at_client : (n : Net) → Sound x n → (number : ℕ) (p : Post) → slice_get n.posts number ≡ Some p → n.now - p.copy.moment ≤ LIFE
-      → later p.key number n.posts ≤ x.overtake → is_from_client p.copy.apdu ≡ false → (service : Service) → (t : Ticket) → n.tickets p.key ≡ Some t
+      → later p.key number n.posts ≤ x.overtake → is_from_client p.copy.apdu ≡ false → (service : Service) → (t : ClientTransaction) → n.tickets p.key ≡ Some t
       → Sound x (client_acts n p.key t (client.client_gets (client_context x p.key n.now) x.readable t p.copy.apdu))
   gets_at_client n s number p at young few down service t is =
       let way : Bool → Net = λ b. if b then taken_by_server x n p false service else taken_by_client x n p (n.tickets p.key) in
@@ -94,7 +94,7 @@ module _ (W : ℕ) (x : Rules) (bound : IsBounded W x) where
       ∙ ap (taken_by_client x n p) is)
       (arrived_sound n s number false service)
 
-  pub ticks_at_client : (n : Net) → Sound x n → (key : Key) (t : Ticket) → n.tickets key ≡ Some t
+  pub ticks_at_client : (n : Net) → Sound x n → (key : Key) (t : ClientTransaction) → n.tickets key ≡ Some t
       → Sound x (client_acts n key t (client.client_ticks (client_context x key n.now) t))
   ticks_at_client n s key t is = subst (λ (m : Net). Sound x m) (ap (ticket_ticked x n key) is) (Moved n (TicksTicket key) s)
 

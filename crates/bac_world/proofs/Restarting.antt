@@ -7,15 +7,15 @@ use Rattle.bac_store.specs.Stores.{Store}
 use Rattle.bac_protocol.specs.declared.times.TheConstants.{KEEP, REST}
 use Rattle.bac_protocol.specs.Service.{Octets}
 use Rattle.bac_protocol.specs.Client as client
-use Rattle.bac_protocol.specs.Client.{Ticket}
+use Rattle.bac_protocol.specs.Client.{ClientTransaction}
 use Rattle.bac_protocol.specs.Client.Phase.{Idle}
 use Rattle.bac_protocol.specs.Server.{live_entry}
 use Rattle.bac_protocol.specs.Transaction.{Key, Rules}
 use Rattle.bac_protocol.specs.World.{Net, lost, client_restarted, server_restarted}
 use Rattle.bac_protocol.specs.Claims.{IsBounded}
 use Rattle.bac_slots.specs.Slots.{value_at}
-use Rattle.bac_ends.specs.Keys.{same_key}
-use Rattle.bac_ends.specs.Sends.{Pairwise}
+use Rattle.bac_transaction.specs.Keys.{same_key}
+use Rattle.bac_transaction.specs.Sends.{Pairwise}
 use Rattle.bac_world.specs.Node.{Node, restarted, store_after_restart}
 use Rattle.bac_world.specs.Once.{Fact, IsOnce, with_restarted}
 use Rattle.bac_world.specs.World.{World, Copy, Note, stores_of, newest, IsRestarted}
@@ -35,7 +35,7 @@ away j i ne = go (nat_eq j i) refl
     go false e = refl
 
 -- a lost ticket holds no invoke ID of its client's next life
-gone_lost : (now : ℕ) (o : Option Ticket) → ((t : Ticket) → o ≡ Some t → t.ask.first ≤ now) → IsGone (now + REST + 1) now (lost o)
+gone_lost : (now : ℕ) (o : Option ClientTransaction) → ((t : ClientTransaction) → o ≡ Some t → t.ask.first ≤ now) → IsGone (now + REST + 1) now (lost o)
 gone_lost now None before = record { over = refl; free = refl }
 gone_lost now (Some t) before = record {
   over = refl;
@@ -107,12 +107,12 @@ module _ (links : ℕ → Option Octets) (apart : (i j : ℕ) (l : Octets) → l
       (subst (λ (d : Node). NodeFits links apart x n.now w.notes m i d) same made_fits)
   fits j c at (inr ne) = others j c ne (h.nodes j c (sym (s.nodes.others j ne) ∙ at))
 
-  noted : (key : Key) (t : Ticket) (b : Bool) → (if b then lost (n.tickets key) else n.tickets key) ≡ Some t
+  noted : (key : Key) (t : ClientTransaction) (b : Bool) → (if b then lost (n.tickets key) else n.tickets key) ≡ Some t
       → newest key w.notes ≡ Some (n.numbers key)
   noted key t false is = h.noted key t is
   noted key t true is = go (n.tickets key) refl is
     where
-      go : (y : Option Ticket) → n.tickets key ≡ y → lost y ≡ Some t → newest key w.notes ≡ Some (n.numbers key)
+      go : (y : Option ClientTransaction) → n.tickets key ≡ y → lost y ≡ Some t → newest key w.notes ≡ Some (n.numbers key)
       go None e is = absurd cc
       go (Some u) e is = h.noted key u e
 

@@ -5,7 +5,7 @@ use Rattle.bac_apdu.specs.Apdu.{Apdu}
 use Rattle.bac_protocol.specs.Context.{Settings, Context}
 use Rattle.bac_protocol.specs.Service.{Octets}
 use Rattle.bac_protocol.specs.Server as server
-use Rattle.bac_protocol.specs.Server.{Entry, live_entry, is_live, server_ticks}
+use Rattle.bac_protocol.specs.Server.{ServerTransaction, live_entry, is_live, server_ticks}
 use Rattle.bac_protocol.specs.Transaction.{Key, Rules, performed, server_context}
 use Rattle.bac_protocol.specs.World.{Net, server_acts, set_at}
 use Rattle.bac_protocol.specs.Claims.{IsBounded}
@@ -15,12 +15,12 @@ use Rattle.bac_protocol.proofs.Dead.{dead_is_none, same_of, same_then, same_back
 use Rattle.bac_protocol.proofs.Served.{live_stays_law, ticks_quiet}
 use Rattle.bac_protocol.proofs.Own.{server_sends_own}
 use Rattle.bac_slots.specs.Slots.{value_at, IsApart, IsDistinct}
-use Rattle.bac_ends.specs.Keys.{PeerKey, same_key}
-use Rattle.bac_ends.specs.Sends.{Send, Datagram, Pairwise, IsSent, to_all}
-use Rattle.bac_ends.specs.Ends.{ServerSlot, context_of, server_tick_sends, entry_or, from_each}
+use Rattle.bac_transaction.specs.Keys.{PeerKey, same_key}
+use Rattle.bac_transaction.specs.Sends.{Send, Datagram, Pairwise, IsSent, to_all}
+use Rattle.bac_transaction.specs.Ends.{ServerSlot, context_of, server_tick_sends, entry_or, from_each}
 use Rattle.bac_world.specs.Node.{Node}
 use Rattle.bac_world.specs.World.{World, Copy, link_at, peer_at, IsCopied}
-use Rattle.bac_ends.proofs.KeyedSlots.{EachSlot, slot}
+use Rattle.bac_transaction.proofs.KeyedSlots.{EachSlot, slot}
 use Rattle.bac_world.proofs.Changes.{look, Change, look_first, look_next, look_here, look_same, change_rest}
 use Rattle.bac_world.proofs.Leads.{Leads}
 use Rattle.bac_world.proofs.Leads.Leads.{TicksEntry}
@@ -29,17 +29,17 @@ use Rattle.bac_world.proofs.Pairs.{pairwise_join, pairwise_split, pairwise_none,
 use Rattle.bac_world.proofs.Bridge.{NodeFits, IsKnown, IsCopyOf, EntryFits, key_of, slot_key, copies_of}
 use Rattle.bac_world.proofs.Serving.{others_fit, one_client, each_of_server}
 
-abbrev pub entry_tick : Settings → ℕ → PeerKey → Entry → Entry
+abbrev pub entry_tick : Settings → ℕ → PeerKey → ServerTransaction → ServerTransaction
 entry_tick c now q d = entry_or d (server_ticks (context_of c now q) (Some d)).entry
 
-stays_some : (e : Entry) (o : Option Entry) → StaysIn e o → Some (entry_or e o) ≡ o
+stays_some : (e : ServerTransaction) (o : Option ServerTransaction) → StaysIn e o → Some (entry_or e o) ≡ o
 stays_some e None h = absurd h
 stays_some e (Some d) h = refl
 
 module _ (links : ℕ → Option Octets) (apart : (i j : ℕ) (l : Octets) → links i ≡ Some l → links j ≡ Some l → i ≡ j) (W : ℕ) (x : Rules)
     (bound : IsBounded W x) (w : World) (n k : Net) (linked : (j : ℕ) → link_at w.nodes j ≡ links j) (i : ℕ) (li : Octets) (from : links i ≡ Some li) where
   -- what the entries of a node and the net have in common, while some have gone on since the net was k
-  pub record Served (found : PeerKey → Option Entry) (every : List Copy) (m : Net) : Type 0 where
+  pub record Served (found : PeerKey → Option ServerTransaction) (every : List Copy) (m : Net) : Type 0 where
     pub now : m.now ≡ n.now
     pub asks : m.asks ≡ k.asks
     pub numbers : m.numbers ≡ k.numbers
@@ -57,12 +57,12 @@ module _ (links : ℕ → Option Octets) (apart : (i j : ℕ) (l : Octets) → l
     abbrev c : Settings
     c = x.settings i
 
-    abbrev tick : PeerKey → Entry → Entry
+    abbrev tick : PeerKey → ServerTransaction → ServerTransaction
     tick = entry_tick (x.settings i) n.now
 
     abbrev Folds : List ServerSlot → Type 0
-    Folds os = IsDistinct same_key os → EachSlot Entry (λ p v. IsKnown links apart p) os → Change Entry tick all os
-        → (copies : List Copy) (m : Net) → Served (look Entry tick all os) copies m
+    Folds os = IsDistinct same_key os → EachSlot ServerTransaction (λ p v. IsKnown links apart p) os → Change ServerTransaction tick all os
+        → (copies : List Copy) (m : Net) → Served (look ServerTransaction tick all os) copies m
         → (ds : List Datagram) (cs : List Copy)
         → Pairwise IsSent (from_each (server_tick_sends (x.settings i) n.now) os) ds → Pairwise (IsCopied w.nodes n.now i) ds cs
         → (m' : Net) × Served (λ q. value_at same_key q all) (copies ++ cs) m'
@@ -75,7 +75,7 @@ module _ (links : ℕ → Option Octets) (apart : (i j : ℕ) (l : Octets) → l
         (m, subst (λ (l : List Copy). Served (λ q. value_at same_key q all) l m) (sym (append_none copies) ∙ ap (λ (l : List Copy). copies ++ l) (sym cs_is)) r)
 
     -- The net's entry goes on like the slot's.
-    module _ (node : ℕ) (l : Octets) (id : ℕ) (at : links node ≡ Some l) (begin : ℕ) (d : Entry) (os : List ServerSlot) where
+    module _ (node : ℕ) (l : Octets) (id : ℕ) (at : links node ≡ Some l) (begin : ℕ) (d : ServerTransaction) (os : List ServerSlot) where
       abbrev p : PeerKey
       p = slot_key l id
 
@@ -88,42 +88,42 @@ module _ (links : ℕ → Option Octets) (apart : (i j : ℕ) (l : Octets) → l
       abbrev did : server.Reaction
       did = server_ticks context (Some d)
 
-      module _ (copies : List Copy) (m : Net) (r : Served (look Entry tick all (slot Entry (slot_key l id) begin d ∷ os)) copies m)
-          (away : IsApart same_key (slot_key l id) os) (change : Change Entry tick all (slot Entry (slot_key l id) begin d ∷ os))
+      module _ (copies : List Copy) (m : Net) (r : Served (look ServerTransaction tick all (slot ServerTransaction (slot_key l id) begin d ∷ os)) copies m)
+          (away : IsApart same_key (slot_key l id) os) (change : Change ServerTransaction tick all (slot ServerTransaction (slot_key l id) begin d ∷ os))
           (live : is_live n.now d ≡ true) where
         abbrev does : server.Reaction
         does = server_ticks (server_context x key m.now) (m.entries key)
 
         fit : live_entry n.now (Some d) ≡ live_entry n.now (m.entries key)
-        fit = ap (live_entry n.now) (sym (look_first Entry tick all p begin d os)) ∙ r.entries node l id at
+        fit = ap (live_entry n.now) (sym (look_first ServerTransaction tick all p begin d os)) ∙ r.entries node l id at
 
         same : IsSameReaction n.now did does
         same =
-            let e : Option Entry = m.entries key in
-            let ticks : Option Entry → server.Reaction = server_ticks context in
+            let e : Option ServerTransaction = m.entries key in
+            let ticks : Option ServerTransaction → server.Reaction = server_ticks context in
             subst (λ (now : ℕ). IsSameReaction n.now did (server_ticks (server_context x key now) e)) (sym r.now)
             (same_then n.now did (ticks (live_entry n.now (Some d))) (ticks e) (dead_is_none.ticks context (Some d))
             (same_then n.now (ticks (live_entry n.now (Some d))) (ticks (live_entry n.now e)) (ticks e)
             (same_of n.now (ticks (live_entry n.now (Some d))) (ticks (live_entry n.now e)) (ap ticks fit))
             (same_back n.now (ticks e) (ticks (live_entry n.now e)) (dead_is_none.ticks context e))))
 
-        made : look Entry tick all os p ≡ did.entry
-        made = look_here Entry tick all p begin d os away change ∙ stays_some d did.entry (live_stays_law.ticks context d live)
+        made : look ServerTransaction tick all os p ≡ did.entry
+        made = look_here ServerTransaction tick all p begin d os away change ∙ stays_some d did.entry (live_stays_law.ticks context d live)
 
         entries : (c : ℕ) (l' : Octets) (id' : ℕ) → links c ≡ Some l' → ((key ≡ key_of c i id') ⊎ (key ≡ key_of c i id' → ⊥))
-            → EntryFits n.now (look Entry tick all os (slot_key l' id')) (set_at m.entries key does.entry (key_of c i id'))
+            → EntryFits n.now (look ServerTransaction tick all os (slot_key l' id')) (set_at m.entries key does.entry (key_of c i id'))
         entries c l' id' at' (inl is) =
             let link : l ≡ l' = let e : Some l ≡ Some l' = sym at ∙ ap (λ (y : Key). links y.client) is ∙ at' in cc in
-            ap (λ (q : PeerKey). live_entry n.now (look Entry tick all os q)) (λ j. slot_key (sym link j) (sym is j).invoke_id)
+            ap (λ (q : PeerKey). live_entry n.now (look ServerTransaction tick all os q)) (λ j. slot_key (sym link j) (sym is j).invoke_id)
             ∙ ap (live_entry n.now) made ∙ same.entry
             ∙ ap (live_entry n.now) (sym (set_same m.entries key does.entry) ∙ ap (set_at m.entries key does.entry) is)
         entries c l' id' at' (inr ne) =
-            ap (live_entry n.now) (look_next Entry tick all p begin d os (slot_key l' id') (λ is. ne (one_client links apart W x key l at c l' id' at' is)))
+            ap (live_entry n.now) (look_next ServerTransaction tick all p begin d os (slot_key l' id') (λ is. ne (one_client links apart W x key l at c l' id' at' is)))
             ∙ r.entries c l' id' at'
             ∙ ap (live_entry n.now) (sym (set_other m.entries key does.entry (key_of c i id') ne))
 
         goes_on : (ds : List Datagram) (cs : List Copy) → Pairwise IsSent (to_all (peer_at l) did.sends) ds → Pairwise (IsCopied w.nodes n.now i) ds cs
-            → Served (look Entry tick all os) (copies ++ cs) (server_acts m key does)
+            → Served (look ServerTransaction tick all os) (copies ++ cs) (server_acts m key does)
         goes_on ds cs sent copied = record {
           now = r.now;
           asks = r.asks;
@@ -144,13 +144,13 @@ module _ (links : ℕ → Option Octets) (apart : (i j : ℕ) (l : Octets) → l
           leads = TicksEntry m key r.leads;
         }
 
-      one_live : Folds os → is_live n.now d ≡ true → Folds (slot Entry (slot_key l id) begin d ∷ os)
+      one_live : Folds os → is_live n.now d ≡ true → Folds (slot ServerTransaction (slot_key l id) begin d ∷ os)
       one_live again live distinct known change copies m r ds cs sent copied =
           let y = pairwise_split IsSent (to_all (peer_at l) did.sends) (from_each (server_tick_sends (x.settings i) n.now) os) ds sent in
           let e = pairwise_split (IsCopied w.nodes n.now i) y.front y.rest cs
           (subst (λ (z : List Datagram). Pairwise (IsCopied w.nodes n.now i) z cs) y.is copied) in
           let next = goes_on copies m r distinct.0 change live y.front e.front y.first e.first in
-          let rest = again distinct.1 known.1 (change_rest Entry tick all p begin d os distinct.0 change) (copies ++ e.front)
+          let rest = again distinct.1 known.1 (change_rest ServerTransaction tick all p begin d os distinct.0 change) (copies ++ e.front)
           (server_acts m key (does copies m r distinct.0 change live)) next y.rest e.rest y.second e.second in (
             rest.0,
             subst (λ (z : List Copy). Served (λ q. value_at same_key q all) z rest.0)
@@ -158,16 +158,16 @@ module _ (links : ℕ → Option Octets) (apart : (i j : ℕ) (l : Octets) → l
           )
 
       -- one that is not live sends nothing and stays as it is
-      one_dead : Folds os → is_live n.now d ≡ false → Folds (slot Entry (slot_key l id) begin d ∷ os)
+      one_dead : Folds os → is_live n.now d ≡ false → Folds (slot ServerTransaction (slot_key l id) begin d ∷ os)
       one_dead again dead distinct known change copies m r ds cs sent copied =
-          again distinct.1 known.1 (change_rest Entry tick all p begin d os distinct.0 change) copies m alike ds cs
+          again distinct.1 known.1 (change_rest ServerTransaction tick all p begin d os distinct.0 change) copies m alike ds cs
           (subst (λ (z : List Send). Pairwise IsSent z ds)
           (ap (λ (v : server.Reaction). to_all (peer_at l) v.sends ++ from_each (server_tick_sends (x.settings i) n.now) os) still) sent) copied
         where
           still : server_ticks context (Some d) ≡ server.rests (Some d) []
           still = ap (λ b. if b then server.live_ticks context d d.state else server.rests (Some d) []) dead
 
-          alike : Served (look Entry tick all os) copies m
+          alike : Served (look ServerTransaction tick all os) copies m
           alike = record {
             now = r.now;
             asks = r.asks;
@@ -177,7 +177,7 @@ module _ (links : ℕ → Option Octets) (apart : (i j : ℕ) (l : Octets) → l
             asks_from = r.asks_from;
             serves_from = r.serves_from;
             entries = λ c l' id' at'. ap (live_entry n.now)
-                (sym (look_same Entry tick all p begin d os distinct.0 change (ap (λ (v : server.Reaction). entry_or d v.entry) still) (slot_key l' id')))
+                (sym (look_same ServerTransaction tick all p begin d os distinct.0 change (ap (λ (v : server.Reaction). entry_or d v.entry) still) (slot_key l' id')))
                 ∙ r.entries c l' id' at';
             others = r.others;
             posts = r.posts;
@@ -185,12 +185,12 @@ module _ (links : ℕ → Option Octets) (apart : (i j : ℕ) (l : Octets) → l
             leads = r.leads;
           }
 
-      one_entry : Folds os → (b : Bool) → is_live n.now d ≡ b → Folds (slot Entry (slot_key l id) begin d ∷ os)
+      one_entry : Folds os → (b : Bool) → is_live n.now d ≡ b → Folds (slot ServerTransaction (slot_key l id) begin d ∷ os)
       one_entry again true live = one_live again live
       one_entry again false dead = one_dead again dead
 
     pub serves : (os : List ServerSlot) → Folds os
     serves [] = no_entries
     serves (s ∷ os) = λ distinct known.
-        subst (λ (p : PeerKey). Folds (slot Entry p s.begin s.value ∷ os)) (λ j. record { peer = sym known.0.peer j; invoke_id = s.key.invoke_id })
+        subst (λ (p : PeerKey). Folds (slot ServerTransaction p s.begin s.value ∷ os)) (λ j. record { peer = sym known.0.peer j; invoke_id = s.key.invoke_id })
         (one_entry known.0.node known.0.link s.key.invoke_id known.0.at s.begin s.value os (serves os) (is_live n.now s.value) refl) distinct known

@@ -13,9 +13,9 @@ use Rattle.bac_protocol.specs.Context.{Settings, Context}
 use Rattle.bac_protocol.specs.Service.{Octets}
 use Rattle.bac_protocol.specs.Wire.{is_from_client, is_from_server, Each}
 use Rattle.bac_protocol.specs.Own.{invoke_id_of, IsOfServer}
-use Rattle.bac_protocol.specs.Client.{Ticket, request_of}
+use Rattle.bac_protocol.specs.Client.{ClientTransaction, request_of}
 use Rattle.bac_protocol.specs.Server as server
-use Rattle.bac_protocol.specs.Server.{Entry, Effect, Service, live_entry, server_gets}
+use Rattle.bac_protocol.specs.Server.{ServerTransaction, Effect, Service, live_entry, server_gets}
 use Rattle.bac_protocol.specs.Log as octets
 use Rattle.bac_protocol.specs.Log.{IsOrderly}
 use Rattle.bac_protocol.specs.Transaction.{Key, Rules, performed, server_context}
@@ -28,9 +28,9 @@ use Rattle.bac_protocol.proofs.Dead.{gets_same, same_of, same_then, same_back}
 use Rattle.bac_protocol.proofs.Own.{server_sends_own}
 use Rattle.bac_protocol.proofs.Headline.{asked_once}
 use Rattle.bac_slots.specs.Slots.{value_at}
-use Rattle.bac_ends.specs.Keys.{PeerKey, same_key}
-use Rattle.bac_ends.specs.Sends.{Pairwise, IsSent, to_all}
-use Rattle.bac_ends.specs.Ends.{ServerEnd, ServerTurn, act_at, is_free, is_slot_live, put_entry, server_goes, context_of}
+use Rattle.bac_transaction.specs.Keys.{PeerKey, same_key}
+use Rattle.bac_transaction.specs.Sends.{Pairwise, IsSent, to_all}
+use Rattle.bac_transaction.specs.Ends.{ServerEnd, ServerTurn, act_at, is_free, is_slot_live, put_entry, server_goes, context_of}
 use Rattle.bac_world.specs.Services.{Performed, ArePerformed, store_after}
 use Rattle.bac_world.specs.Node.{Node, Outcome, IsServerTurn}
 use Rattle.bac_world.specs.Once.{Fact, Has, Stores, IsOnce, MayPerform}
@@ -40,7 +40,7 @@ use Rattle.bac_world.proofs.Pairs.{pairwise_join}
 use Rattle.bac_world.proofs.Logs.{FactMeans, WasAskedAs, asked_as, unperformed}
 use Rattle.bac_world.proofs.Bridge.{NodeFits, ServersFit, IsKnown, IsCopyOf, IsWay, EntryFits, key_of, slot_key, copies_of}
 use Rattle.bac_world.proofs.Steps.{Over, Fits, Goes, acts_over, once_same, stores_same}
-use Rattle.bac_ends.proofs.Entries.{entry_here, entry_there, entry_distinct, entry_each}
+use Rattle.bac_transaction.proofs.Entries.{entry_here, entry_there, entry_distinct, entry_each}
 use Rattle.bac_world.proofs.Table.{none_left}
 
 -- what a server sends is no client's
@@ -131,7 +131,7 @@ module _ (links : ℕ → Option Octets) (apart : (i j : ℕ) (l : Octets) → l
     once : (opening : Stores) → IsOnce opening w.log (stores_of w.nodes) → IsOnce opening w'.log (stores_of w'.nodes)
 
   module _ (bound : IsBounded W x) (w w' : World) (n : Net) (h : Over links apart W x w n) (key : Key) (l : Octets) (at : links key.client ≡ Some l)
-      (t : Ticket) (is : n.tickets key ≡ Some t) (a b : Node) (node : slice_get w.nodes key.server ≡ Some a)
+      (t : ClientTransaction) (is : n.tickets key ≡ Some t) (a b : Node) (node : slice_get w.nodes key.server ≡ Some a)
       (nodes : IsWithNode w.nodes key.server b w'.nodes) where
     -- a request was performed
     module _ (e : Effect) (d : Performed) (done : ArePerformed a.store (act_at (slot_key l key.invoke_id) (Some e)) (Some d))
@@ -261,7 +261,7 @@ module _ (links : ℕ → Option Octets) (apart : (i j : ℕ) (l : Octets) → l
         free : Bool
         free = is_free n.now a.servers
 
-        gets : Option Entry → server.Reaction
+        gets : Option ServerTransaction → server.Reaction
         gets e = server_gets context service e free apdu
 
         v : server.Reaction
@@ -272,8 +272,8 @@ module _ (links : ℕ → Option Octets) (apart : (i j : ℕ) (l : Octets) → l
 
         same : IsSameReaction n.now v u
         same =
-            let o : Option Entry = value_at same_key q a.servers.slots in
-            let e : Option Entry = n.entries key in
+            let o : Option ServerTransaction = value_at same_key q a.servers.slots in
+            let e : Option ServerTransaction = n.entries key in
             same_then n.now v (gets (live_entry n.now o)) u (gets_same context service o free apdu)
             (same_then n.now (gets (live_entry n.now o)) (gets (live_entry n.now e)) u
             (same_of n.now (gets (live_entry n.now o)) (gets (live_entry n.now e)) (ap gets (fits.servers.found key.client l key.invoke_id client_at)))
@@ -303,7 +303,7 @@ module _ (links : ℕ → Option Octets) (apart : (i j : ℕ) (l : Octets) → l
               (none_left context service (value_at same_key q a.servers.slots) free apdu);
         }
 
-        ticket : (t : Ticket) × (n.tickets key ≡ Some t)
+        ticket : (t : ClientTransaction) × (n.tickets key ≡ Some t)
         ticket = ticket_of W x bound n h.sound number p at
 
         way : IsWay links apart false key key.server key.client a.link l

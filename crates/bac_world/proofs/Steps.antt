@@ -4,10 +4,10 @@ use Rattle.std.proofs.Common.{nat_eq, refl, sym, ap, subst, inl, inr, ◌∙◌,
 use Rattle.std.proofs.lemmas.Bool.Decides.{nat_tests}
 use Rattle.std.specs.Option.{option_map}
 use Rattle.bac_protocol.specs.Service.{Octets}
-use Rattle.bac_protocol.specs.Client.{Ticket}
+use Rattle.bac_protocol.specs.Client.{ClientTransaction}
 use Rattle.bac_protocol.specs.Transaction.{Key, Rules}
 use Rattle.bac_protocol.specs.World.{Net}
-use Rattle.bac_ends.specs.Sends.{Pairwise}
+use Rattle.bac_transaction.specs.Sends.{Pairwise}
 use Rattle.bac_world.specs.Node.{Node, Outcome}
 use Rattle.bac_world.specs.Once.{Fact, Stores, AreSame, MayEnter, IsOnce}
 use Rattle.bac_world.specs.Once.Fact.{Asked, Performed, Ended, Changed, Restarted}
@@ -95,7 +95,7 @@ module _ (links : ℕ → Option Octets) (apart : (i j : ℕ) (l : Octets) → l
   Next w w' = (m : Net) × Goes w w' m
 
   pub acts_over : (w w' : World) (n m : Net) → Over w n → (i : ℕ) (a b : Node) (o : Outcome) → slice_get w.nodes i ≡ Some a → (acts : Acts w i b o w')
-      → m.now ≡ n.now → m.asks ≡ n.asks → ((key : Key) (t : Ticket) → m.tickets key ≡ Some t → newest key w.notes ≡ Some (m.numbers key))
+      → m.now ≡ n.now → m.asks ≡ n.asks → ((key : Key) (t : ClientTransaction) → m.tickets key ≡ Some t → newest key w.notes ≡ Some (m.numbers key))
       → b.link ≡ a.link
       → Fits w n m i b
       → ((j : ℕ) (c : Node) → (j ≡ i → ⊥) → Fits w n n j c → Fits w n m j c)

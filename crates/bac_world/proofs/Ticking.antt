@@ -2,22 +2,22 @@
 use Rattle.std.proofs.Common.{◌≡◌, ℕ, ◌<◌, List, ◌++◌, Option, Some, refl, sym, ap, subst, ◌∙◌, append_assoc}
 use Rattle.bac_protocol.specs.Context.{Settings, Context}
 use Rattle.bac_protocol.specs.Service.{Octets}
-use Rattle.bac_protocol.specs.Client.{Ticket}
-use Rattle.bac_protocol.specs.Server.{Entry, live_entry}
+use Rattle.bac_protocol.specs.Client.{ClientTransaction}
+use Rattle.bac_protocol.specs.Server.{ServerTransaction, live_entry}
 use Rattle.bac_protocol.specs.Transaction.{Key, Rules}
 use Rattle.bac_protocol.specs.World.{Net}
 use Rattle.bac_protocol.specs.Claims.{IsBounded}
 use Rattle.bac_slots.specs.Slots.{value_at, in_order}
-use Rattle.bac_ends.specs.Keys.{PeerKey, peer_key_cmp, same_key}
-use Rattle.bac_ends.specs.Sends.{Send, Datagram, Pairwise, IsSent}
-use Rattle.bac_ends.specs.Meanings.{IsFinish}
-use Rattle.bac_ends.specs.Ends.{ClientSlot, ServerSlot, Client, Held, held_ticked, client_tick_sends, client_tick_ends, server_tick_sends, from_each}
-use Rattle.bac_ends.specs.Ends.{clients_tick, servers_tick}
-use Rattle.bac_ends.specs.Ends.Held.{Open, Closed}
+use Rattle.bac_transaction.specs.Keys.{PeerKey, peer_key_cmp, same_key}
+use Rattle.bac_transaction.specs.Sends.{Send, Datagram, Pairwise, IsSent}
+use Rattle.bac_transaction.specs.Meanings.{IsFinish}
+use Rattle.bac_transaction.specs.Ends.{ClientSlot, ServerSlot, Client, TransactionSlot, held_ticked, client_tick_sends, client_tick_ends, server_tick_sends, from_each}
+use Rattle.bac_transaction.specs.Ends.{clients_tick, servers_tick}
+use Rattle.bac_transaction.specs.Ends.TransactionSlot.{Open, Closed}
 use Rattle.bac_world.specs.Node.{Node, Outcome, NodeTick}
 use Rattle.bac_world.specs.Once.{Fact, IsOnce}
 use Rattle.bac_world.specs.World.{World, Copy, stores_of, AreLogged, IsCopied, Ticks}
-use Rattle.bac_ends.proofs.KeyedSlots.{changed, distinct_changed, distinct_in_order, each_changed, each_in_order, each_so}
+use Rattle.bac_transaction.proofs.KeyedSlots.{changed, distinct_changed, distinct_in_order, each_changed, each_in_order, each_so}
 use Rattle.bac_world.proofs.Changes.{look, look_all, change_all}
 use Rattle.bac_world.proofs.Pairs.{IsSplit, pairwise_split}
 use Rattle.bac_world.proofs.Logs.{FactMeans}
@@ -28,7 +28,7 @@ use Rattle.bac_world.proofs.Hearing.{Reached, reached_none, reached_alike}
 use Rattle.bac_world.proofs.ClientTick.{client_tick, folds}
 use Rattle.bac_world.proofs.ServerTick.{Served, entry_tick, serves}
 
-number_kept : (c : Context) (k : ℕ) (y : Held) → (held_ticked c k y).number ≡ k
+number_kept : (c : Context) (k : ℕ) (y : TransactionSlot) → (held_ticked c k y).number ≡ k
 number_kept c k (Open t) = refl
 number_kept c k (Closed first) = refl
 
@@ -55,7 +55,7 @@ module _ (links : ℕ → Option Octets) (apart : (i j : ℕ) (l : Octets) → l
   abbrev f : PeerKey → Client → Client
   f = client_tick (x.settings i) n.now
 
-  abbrev g : PeerKey → Entry → Entry
+  abbrev g : PeerKey → ServerTransaction → ServerTransaction
   g = entry_tick (x.settings i) n.now
 
   fits : Fits links apart W x w n n i step.before
@@ -67,7 +67,7 @@ module _ (links : ℕ → Option Octets) (apart : (i j : ℕ) (l : Octets) → l
   node_is : step.after ≡ record (step.before) {
     latest = n.now;
     clients = record (step.before.clients) { slots = changed Client f clients };
-    servers = record (step.before.servers) { slots = changed Entry g entries };
+    servers = record (step.before.servers) { slots = changed ServerTransaction g entries };
   }
   node_is = subst (λ (y : Settings). b ≡ record a {
     latest = n.now;
@@ -104,7 +104,7 @@ module _ (links : ℕ → Option Octets) (apart : (i j : ℕ) (l : Octets) → l
       step.acts.ended
 
   start : Served links apart W x bound w n r.0 h.linked i a.link fits.link
-      (look Entry g (changed Entry g entries) (in_order peer_key_cmp entries)) (w.copies ++ cs.front) r.0
+      (look ServerTransaction g (changed ServerTransaction g entries) (in_order peer_key_cmp entries)) (w.copies ++ cs.front) r.0
   start = record {
     now = r.1.now;
     asks = refl;
@@ -113,8 +113,8 @@ module _ (links : ℕ → Option Octets) (apart : (i j : ℕ) (l : Octets) → l
     log = refl;
     asks_from = refl;
     serves_from = refl;
-    entries = λ c' l id at. ap (live_entry n.now) (look_all Entry g entries fits.servers.distinct (slot_key l id)) ∙ fits.servers.found c' l id at
-        ∙ ap (λ (e : Key → Option Entry). live_entry n.now (e (key_of c' i id))) (sym r.1.entries);
+    entries = λ c' l id at. ap (live_entry n.now) (look_all ServerTransaction g entries fits.servers.distinct (slot_key l id)) ∙ fits.servers.found c' l id at
+        ∙ ap (λ (e : Key → Option ServerTransaction). live_entry n.now (e (key_of c' i id))) (sym r.1.entries);
     others = λ j d ne y. y;
     posts = r.1.posts;
     sound = r.1.sound;
@@ -122,11 +122,11 @@ module _ (links : ℕ → Option Octets) (apart : (i j : ℕ) (l : Octets) → l
   }
 
   -- then the entries
-  s : (m : Net) × Served links apart W x bound w n r.0 h.linked i a.link fits.link (λ q. value_at same_key q (changed Entry g entries))
+  s : (m : Net) × Served links apart W x bound w n r.0 h.linked i a.link fits.link (λ q. value_at same_key q (changed ServerTransaction g entries))
       ((w.copies ++ cs.front) ++ cs.rest) m
-  s = serves links apart W x bound w n r.0 h.linked i a.link fits.link (changed Entry g entries) (in_order peer_key_cmp entries)
-      (distinct_in_order Entry entries fits.servers.distinct) (each_in_order Entry (λ p v. IsKnown links apart p) entries fits.servers.known)
-      (change_all Entry g entries fits.servers.distinct) (w.copies ++ cs.front) r.0 start ds.rest cs.rest ds.second cs.second
+  s = serves links apart W x bound w n r.0 h.linked i a.link fits.link (changed ServerTransaction g entries) (in_order peer_key_cmp entries)
+      (distinct_in_order ServerTransaction entries fits.servers.distinct) (each_in_order ServerTransaction (λ p v. IsKnown links apart p) entries fits.servers.known)
+      (change_all ServerTransaction g entries fits.servers.distinct) (w.copies ++ cs.front) r.0 start ds.rest cs.rest ds.second cs.second
 
   all_copies : (w.copies ++ cs.front) ++ cs.rest ≡ w.copies ++ step.acts.sent
   all_copies = append_assoc w.copies cs.front cs.rest ∙ ap (λ (l : List Copy). w.copies ++ l) (sym cs.is)
@@ -134,14 +134,14 @@ module _ (links : ℕ → Option Octets) (apart : (i j : ℕ) (l : Octets) → l
   log_is : w'.log ≡ step.acts.between
   log_is = subst (λ d. AreLogged w.nodes w.notes i d step.acts.between w'.log) tick'.performed step.acts.logged
 
-  abbrev TicketFound : (from : ℕ → ℕ) → (Key → ℕ) → (Key → Option Ticket) → (s' : ℕ) → Octets → ℕ → Type 0
+  abbrev TicketFound : (from : ℕ → ℕ) → (Key → ℕ) → (Key → Option ClientTransaction) → (s' : ℕ) → Octets → ℕ → Type 0
   TicketFound from numbers tickets s' l id =
       TicketFits (from i) n.now w.notes i (numbers (key_of i s' id)) (value_at same_key (slot_key l id) (changed Client f clients)) (tickets (key_of i s' id))
 
   made : Fits links apart W x w n s.0 i (record (step.before) {
     latest = n.now;
     clients = record (step.before.clients) { slots = changed Client f clients };
-    servers = record (step.before.servers) { slots = changed Entry g entries };
+    servers = record (step.before.servers) { slots = changed ServerTransaction g entries };
   })
   made = record {
     settings = fits.settings;
@@ -158,11 +158,11 @@ module _ (links : ℕ → Option Octets) (apart : (i j : ℕ) (l : Octets) → l
           )) clients fits.clients.known;
       found = λ s' l id at. subst (λ (y : ℕ → ℕ). TicketFound y s.0.numbers s.0.tickets s' l id) (sym s.1.asks_from)
           (subst (λ (y : Key → ℕ). TicketFound r.0.asks_from y s.0.tickets s' l id) (sym s.1.numbers)
-          (subst (λ (y : Key → Option Ticket). TicketFound r.0.asks_from r.0.numbers y s' l id) (sym s.1.tickets) (r.1.found s' l id at)));
+          (subst (λ (y : Key → Option ClientTransaction). TicketFound r.0.asks_from r.0.numbers y s' l id) (sym s.1.tickets) (r.1.found s' l id at)));
     };
     servers = record {
-      distinct = distinct_changed Entry g entries fits.servers.distinct;
-      known = each_changed Entry g (λ p v. IsKnown links apart p) (λ p v y. y) entries fits.servers.known;
+      distinct = distinct_changed ServerTransaction g entries fits.servers.distinct;
+      known = each_changed ServerTransaction g (λ p v. IsKnown links apart p) (λ p v y. y) entries fits.servers.known;
       found = λ c' l id at. s.1.entries c' l id at;
     };
   }

@@ -16,9 +16,9 @@ use Rattle.bac_protocol.specs.Wire.{is_from_client}
 use Rattle.bac_protocol.specs.Own.{invoke_id_of}
 use Rattle.bac_protocol.specs.Transaction.{Key}
 use Rattle.bac_protocol.specs.World.{same_key}
-use Rattle.bac_ends.specs.Sends.{Datagram, Pairwise}
-use Rattle.bac_ends.specs.Meanings.{Finish}
-use Rattle.bac_ends.specs.Ends.{Accepted}
+use Rattle.bac_transaction.specs.Sends.{Datagram, Pairwise}
+use Rattle.bac_transaction.specs.Meanings.{Finish}
+use Rattle.bac_transaction.specs.Ends.{Accepted}
 use Rattle.bac_world.specs.Services as service
 use Rattle.bac_world.specs.Node.{Node, Outcome, Refusal, NodeOn, NodeTick, NodeAsks, NodeRefuses, with_change, restarted, store_after_restart}
 use Rattle.bac_world.specs.Once.{Fact, Stores}

@@ -4,9 +4,9 @@ ghost use Rattle.std.specs.Io.KnownBytes.{Appends};
 ghost use Rattle.bac_commands.specs.AnswerTexts.{ArePrintedOf, IsAnsweredBy, line_of, lines_of, sent_text};
 
 use crate::answering::sends;
-use bac_ends::Datagram;
 use bac_store::Store;
 use bac_text::{Status, complain, no_memory, output_failed};
+use bac_transaction::Datagram;
 use hex::FromHexError;
 use std::alloc::Global;
 use std::io;

@@ -2,7 +2,7 @@
 ghost use Rattle.std.specs.Prelude.{◌≡◌, ◌++◌, codes, IfOk};
 ghost use Rattle.std.specs.Option.{option_map};
 ghost use Rattle.bac_service.specs.Views.{complex_view, property_reference_view, reply_view};
-ghost use Rattle.bac_ticket.specs.Views.{ending_view};
+ghost use Rattle.bac_requester.specs.TransactionViews.{ending_view};
 ghost use Rattle.bac_commands.specs.Facts.{complex_text};
 ghost use Rattle.bac_commands.specs.Others.{is_asked};
 ghost use Rattle.bac_commands.specs.Words.{AreAnswerWords, AreComplexWords, AreEndingWords, AreReplyWords, AreTicketWords, AreValuesWords, front_of};
@@ -10,9 +10,9 @@ ghost use Rattle.bac_value_text.specs.Reasons.{abort_text, error_text, reject_te
 
 use super::reply::print_complex;
 use crate::others::is_asked;
-use bac_explain_text::reference_text;
+use bac_explain_report::reference_text;
+use bac_requester::Ending;
 use bac_service::{AnyComplex, AnyReply, Complex, PropertyRead, PropertyReference, Reply};
-use bac_ticket::Ending;
 use bac_value::Data;
 use bac_value_text::{abort_text, data_text, error_text, reject_text};
 use std::alloc::Global;

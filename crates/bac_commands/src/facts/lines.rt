@@ -1,11 +1,11 @@
 //! Facts, one a line.
 ghost use Rattle.std.specs.Prelude.{OnOk};
 ghost use Rattle.std.specs.Io.KnownBytes.{Appends};
-ghost use Rattle.bac_ticket.specs.Views.{ending_view};
+ghost use Rattle.bac_requester.specs.TransactionViews.{ending_view};
 ghost use Rattle.bac_commands.specs.Facts.{asked_line, changed_line, ended_line, fault_line, nothing_line, performed_line, refused_line, sent_line};
 
 use super::ending::print_ending_line;
-use bac_ticket::Ending;
+use bac_requester::Ending;
 use std::alloc::Global;
 use std::io;
 use std::io::Write;

@@ -1,15 +1,14 @@
 //! `bac ask`: a node that asks.
 ghost use Rattle.std.specs.Prelude.{IfOk};
-ghost use Rattle.bac_run.specs.Runs.{timed};
-ghost use Rattle.bac_run.specs.Views.{question_view};
+ghost use Rattle.bac_driver.specs.Runs.{timed};
+ghost use Rattle.bac_driver.specs.Views.{question_view};
 ghost use Rattle.bac_commands.specs.Told.{Asked, ReportsAsking};
 
-use super::manner::Manner;
+use super::command_error::CommandError;
+use super::output_format::OutputFormat;
 use super::progress::Progress;
 use super::telling::tell_end;
-use super::trouble::Trouble;
-use bac_link::{Clock, Link};
-use bac_run::{Patience, Question, Station};
+use bac_driver::{BoundNode, Clock, Link, Question, WaitLimit};
 use bac_text::Status;
 use std::alloc::Global;
 use std::io::Write;
@@ -20,27 +19,27 @@ pub const TURNS: u64 = 100_000;
 /// Whether the ask succeeded.
 fn ask_and_tell<L: Link, C: Clock, O: Write, E: Write>(
     alloc: Global,
-    station: &mut Station<L>,
+    bound_node: &mut BoundNode<L>,
     clock: &mut C,
-    manner: Manner,
+    output_format: OutputFormat,
     shows_progress: bool,
     question: &Question,
-    patience: &Patience,
+    wait_limit: &WaitLimit,
     out: &mut O,
     err: &mut E,
-) -> Result<bool, Trouble>
-    ensures { IfOk result (λ succeeded. Asked manner succeeded (question_view question.now) patience.now
-        (timed station.old (C.told clock.old)) (timed station.new (C.told clock.new)) (O.contents out.old) (O.contents out.new)) }
+) -> Result<bool, CommandError>
+    ensures { IfOk result (λ succeeded. Asked output_format succeeded (question_view question.now) wait_limit.now
+        (timed bound_node.old (C.told clock.old)) (timed bound_node.new (C.told clock.new)) (O.contents out.old) (O.contents out.new)) }
 {
     let mut progress = Progress::new(shows_progress);
-    let ended = station.ask_watched(clock, question, patience, TURNS, &mut progress, err);
+    let ended = bound_node.ask_watched(clock, question, wait_limit, TURNS, &mut progress, err);
     progress.end(err);
     let end = ended?;
-    let succeeded = tell_end(alloc, manner, &question.request, &end, out, err)?;
+    let succeeded = tell_end(alloc, output_format, &question.request, &end, out, err)?;
     Ok(succeeded)
 }
 
-/// A node asks, and takes at most 100,000 turns on its link, each with that patience, until the ask has ended; how it did is told in that manner, as
+/// A node asks, and takes at most 100,000 turns on its link, each with that wait_limit, until the ask has ended; how it did is told in that output_format, as
 /// [`tell_end`](crate::tell_end) does. Ends with `Faulty` where the ask did not succeed. Where progress is shown, one line of `err`, a terminal, has how many octets
 /// its turns have sent and received, from the first quarter of a second on, until it has ended.
 ///
@@ -48,31 +47,31 @@ fn ask_and_tell<L: Link, C: Clock, O: Write, E: Write>(
 /// refused.
 pub fn ask<L: Link, C: Clock, O: Write, E: Write>(
     alloc: Global,
-    station: &mut Station<L>,
+    bound_node: &mut BoundNode<L>,
     clock: &mut C,
-    manner: Manner,
+    output_format: OutputFormat,
     shows_progress: bool,
     question: &Question,
-    patience: &Patience,
+    wait_limit: &WaitLimit,
     out: &mut O,
     err: &mut E,
 ) -> Status
-    ensures { ReportsAsking result manner (question_view question.now) patience.now
-        (timed station.old (C.told clock.old)) (timed station.new (C.told clock.new)) (O.contents out.old) (O.contents out.new) }
+    ensures { ReportsAsking result output_format (question_view question.now) wait_limit.now
+        (timed bound_node.old (C.told clock.old)) (timed bound_node.new (C.told clock.new)) (O.contents out.old) (O.contents out.new) }
 {
     match ask_and_tell(
         alloc,
-        station,
+        bound_node,
         clock,
-        manner,
+        output_format,
         shows_progress,
         question,
-        patience,
+        wait_limit,
         out,
         err,
     ) {
         Ok(true) => Status::Done,
         Ok(false) => Status::Faulty,
-        Err(trouble) => trouble.tell(err),
+        Err(command_error) => command_error.tell(err),
     }
 }

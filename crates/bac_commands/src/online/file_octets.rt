@@ -2,13 +2,13 @@
 ghost use Rattle.std.specs.Prelude.{◌≡◌, IfOk};
 ghost use Rattle.std.specs.Option.{option_map};
 ghost use Rattle.bac_service.specs.Views.{owned_complex_view, owned_reply_view};
-ghost use Rattle.bac_run.specs.Views.{question_view};
+ghost use Rattle.bac_driver.specs.Views.{question_view};
 ghost use Rattle.bac_commands.specs.FileOctets.{AreWritten, octets_of, octets_of_complex, octets_of_reply, reads_file};
 ghost use Rattle.bac_commands.specs.Reports.{reply_of};
 
 use super::success::reply_of;
 use super::telling::print_end;
-use bac_run::{AskEnd, Question};
+use bac_driver::{AskEnd, Question};
 use bac_service::{AnyComplex, AnyReply, AnyRequest, FileWritten, OwnedComplex, OwnedReply};
 use std::alloc::Global;
 use std::io;

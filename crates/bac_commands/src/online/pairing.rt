@@ -1,16 +1,15 @@
 //! `bac pair`: two nodes in one process.
 ghost use Rattle.std.specs.Prelude.{◌≡◌, ◌&&◌, IfOk};
 ghost use Rattle.bac_service.specs.Views.{owned_request_view};
-ghost use Rattle.bac_run.specs.Pairs.{paired};
-ghost use Rattle.bac_run.specs.Views.{question_view};
+ghost use Rattle.bac_driver.specs.Pairs.{paired};
+ghost use Rattle.bac_driver.specs.Views.{question_view};
 ghost use Rattle.bac_commands.specs.Pairs.{ReportsPair, TwoTexts, PairText, append_request, read_request};
 
+use super::command_error::CommandError;
 use super::question::{peer_at, question_for};
 use super::success::is_answered;
 use super::telling::print_end;
-use super::trouble::Trouble;
-use bac_link::{Clock, Link};
-use bac_run::{Question, Station};
+use bac_driver::{BoundNode, Clock, Link, Question};
 use bac_service::{
     AnyRequest, OwnedRequest, PropertyReference, WriteAccess, WriteFile, WriteStream,
 };
@@ -59,16 +58,16 @@ fn read_request() -> OwnedRequest
 /// The first node asks, beside the second, and how that ended is printed. Answers whether it was answered.
 fn ask_beside<L: Link, C: Clock, O: Write>(
     alloc: Global,
-    first: &mut Station<L>,
-    second: &mut Station<L>,
+    first: &mut BoundNode<L>,
+    second: &mut BoundNode<L>,
     clock: &mut C,
     question: &Question,
     out: &mut O,
-) -> Result<bool, Trouble>
+) -> Result<bool, CommandError>
     ensures { IfOk result (λ answered. PairText answered (question_view question.now)
         (paired first.old second.old (C.told clock.old)) (paired first.new second.new (C.told clock.new)) (O.contents out.old) (O.contents out.new)) }
 {
-    let end = bac_run::pair(first, second, clock, question, TURNS)?;
+    let end = bac_driver::pair(first, second, clock, question, TURNS)?;
     print_end(alloc, &end, out)?;
     out.flush()?;
     Ok(is_answered(&end))
@@ -83,11 +82,11 @@ fn are_both(first: bool, second: bool) -> bool
 /// The first node asks the second to append AABBCC to file 1, and then for the present-value of analog-input 5. Answers whether both were answered.
 fn ask_both<L: Link, C: Clock, O: Write>(
     alloc: Global,
-    first: &mut Station<L>,
-    second: &mut Station<L>,
+    first: &mut BoundNode<L>,
+    second: &mut BoundNode<L>,
     clock: &mut C,
     out: &mut O,
-) -> Result<bool, Trouble>
+) -> Result<bool, CommandError>
     ensures { IfOk result (λ answered. TwoTexts answered
         (paired first.old second.old (C.told clock.old)) (paired first.new second.new (C.told clock.new)) (O.contents out.old) (O.contents out.new)) }
 {
@@ -105,8 +104,8 @@ fn ask_both<L: Link, C: Clock, O: Write>(
 /// `link fault` on `err` where a link can't receive, `clock fault` where the clock goes back, both with status `Output`; `no memory` where memory is refused.
 pub fn pair<L: Link, C: Clock, O: Write, E: Write>(
     alloc: Global,
-    first: &mut Station<L>,
-    second: &mut Station<L>,
+    first: &mut BoundNode<L>,
+    second: &mut BoundNode<L>,
     clock: &mut C,
     out: &mut O,
     err: &mut E,
@@ -117,6 +116,6 @@ pub fn pair<L: Link, C: Clock, O: Write, E: Write>(
     match ask_both(alloc, first, second, clock, out) {
         Ok(true) => Status::Done,
         Ok(false) => Status::Faulty,
-        Err(trouble) => trouble.tell(err),
+        Err(command_error) => command_error.tell(err),
     }
 }

@@ -1,9 +1,9 @@
 //! The progress of an ask, on a terminal.
 ghost use Rattle.std.specs.Prelude.{⊤};
 
-use bac_ends::Datagram;
+use bac_driver::{Turn, Watch};
 use bac_node::Node;
-use bac_run::{Turn, Watch};
+use bac_transaction::Datagram;
 use std::io::Write;
 
 /// So many milliseconds pass at least before progress is shown, and from one time to the next.

@@ -2,12 +2,12 @@
 ghost use Rattle.std.specs.Prelude.{◌≡◌, map};
 ghost use Rattle.bac_npdu.specs.Views.{peer_view};
 ghost use Rattle.bac_service.specs.Views.{owned_request_view};
-ghost use Rattle.bac_run.specs.Views.{question_view};
+ghost use Rattle.bac_driver.specs.Views.{question_view};
 ghost use Rattle.bac_commands.specs.Questions.{ReadsQuestion, peer_at, question_for};
 
 use crate::fresh_node::LIMITS;
+use bac_driver::Question;
 use bac_npdu::{LinkAddress, Peer};
-use bac_run::Question;
 use bac_script::{FormFault, read_request_words};
 use bac_service::OwnedRequest;
 use std::alloc::Global;

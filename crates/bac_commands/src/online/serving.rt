@@ -1,54 +1,53 @@
 //! `bac serve`: a node that serves.
 ghost use Rattle.std.specs.Prelude.{IfOk};
-ghost use Rattle.bac_run.specs.Runs.{timed};
+ghost use Rattle.bac_driver.specs.Runs.{timed};
 ghost use Rattle.bac_commands.specs.Reports.{ReportsServing, ServedText, ServingIsWatched, WatchedServing};
 
-use super::trouble::Trouble;
-use bac_link::{Clock, Link};
-use bac_run::{Patience, Station, Watch};
+use super::command_error::CommandError;
+use bac_driver::{BoundNode, Clock, Link, WaitLimit, Watch};
 use bac_text::Status;
 use std::io::Write;
 
 fn serve_and_print<L: Link, C: Clock, V: Watch<E>, O: Write, E: Write>(
-    station: &mut Station<L>,
+    bound_node: &mut BoundNode<L>,
     clock: &mut C,
-    patience: &Patience,
+    wait_limit: &WaitLimit,
     turns: u64,
     watch: &mut V,
     out: &mut O,
     err: &mut E,
-) -> Result<(), Trouble>
-    ensures printed { IfOk result (λ _. ServedText patience.now turns (timed station.old (C.told clock.old)) (timed station.new (C.told clock.new))
+) -> Result<(), CommandError>
+    ensures printed { IfOk result (λ _. ServedText wait_limit.now turns (timed bound_node.old (C.told clock.old)) (timed bound_node.new (C.told clock.new))
         (O.contents out.old) (O.contents out.new)) }
-    ensures watched { IfOk result (λ _. WatchedServing V.Sees patience.now turns (timed station.old (C.told clock.old)) (timed station.new (C.told clock.new))
+    ensures watched { IfOk result (λ _. WatchedServing V.Sees wait_limit.now turns (timed bound_node.old (C.told clock.old)) (timed bound_node.new (C.told clock.new))
         (V.state watch.old err.old) (V.state watch.new err.new)) }
 {
-    let effects = station.serve_watched(clock, patience, turns, watch, err)?;
+    let effects = bound_node.serve_watched(clock, wait_limit, turns, watch, err)?;
     writeln!(out, "served {effects}")?;
     out.flush()?;
     Ok(())
 }
 
-/// A node takes so many turns on its link, each with that patience, or as many as begin before its last moment, if it has one; and how many requests it performed
+/// A node takes so many turns on its link, each with that wait_limit, or as many as begin before its last moment, if it has one; and how many requests it performed
 /// is printed. The watcher sees each turn, and may tell of it on `err`.
 ///
 /// `link fault` on `err` where the link can't receive, `clock fault` where the clock goes back, both with status `Output`.
 pub fn serve<L: Link, C: Clock, V: Watch<E>, O: Write, E: Write>(
-    station: &mut Station<L>,
+    bound_node: &mut BoundNode<L>,
     clock: &mut C,
-    patience: &Patience,
+    wait_limit: &WaitLimit,
     turns: u64,
     watch: &mut V,
     out: &mut O,
     err: &mut E,
 ) -> Status
-    ensures printed { ReportsServing result patience.now turns (timed station.old (C.told clock.old)) (timed station.new (C.told clock.new))
+    ensures printed { ReportsServing result wait_limit.now turns (timed bound_node.old (C.told clock.old)) (timed bound_node.new (C.told clock.new))
         (O.contents out.old) (O.contents out.new) }
-    ensures watched { ServingIsWatched result V.Sees patience.now turns (timed station.old (C.told clock.old)) (timed station.new (C.told clock.new))
+    ensures watched { ServingIsWatched result V.Sees wait_limit.now turns (timed bound_node.old (C.told clock.old)) (timed bound_node.new (C.told clock.new))
         (V.state watch.old err.old) (V.state watch.new err.new) }
 {
-    match serve_and_print(station, clock, patience, turns, watch, out, err) {
+    match serve_and_print(bound_node, clock, wait_limit, turns, watch, out, err) {
         Ok(()) => Status::Done,
-        Err(trouble) => trouble.tell(err),
+        Err(command_error) => command_error.tell(err),
     }
 }

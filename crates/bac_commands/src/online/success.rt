@@ -2,13 +2,13 @@
 ghost use Rattle.std.specs.Prelude.{◌≡◌};
 ghost use Rattle.std.specs.Option.{option_map};
 ghost use Rattle.bac_service.specs.Views.{owned_reply_view, owned_request_view};
-ghost use Rattle.bac_ticket.specs.Views.{ending_view};
+ghost use Rattle.bac_requester.specs.TransactionViews.{ending_view};
 ghost use Rattle.bac_commands.specs.Reports.{is_answered, is_error, is_success, reply_of, reply_of_ending};
 
 use crate::others::names_other;
-use bac_run::AskEnd;
+use bac_driver::AskEnd;
+use bac_requester::Ending;
 use bac_service::{AnyReply, OwnedReply, OwnedRequest};
-use bac_ticket::Ending;
 
 fn reply_of_ending(ending: &Ending) -> Option<&OwnedReply>
     ensures { option_map (λ r. owned_reply_view r.now) result ≡ reply_of_ending (ending_view ending.now) }

@@ -8,11 +8,11 @@ ghost use Rattle.bac_commands.specs.Told.{TellsEnd, TellsNumbers, TellsWords};
 ghost use Rattle.bac_commands.specs.Words.{AreEndWords};
 
 use super::file_octets::tell_octets;
-use super::manner::{Manner, Style};
+use super::output_format::{OutputFormat, Style};
 use super::success::is_success;
 use crate::facts::{print_ending_line, print_refused, ticket_words};
 use crate::others::property_read;
-use bac_run::AskEnd;
+use bac_driver::AskEnd;
 use bac_service::OwnedRequest;
 use std::alloc::Global;
 use std::io;
@@ -83,22 +83,22 @@ fn tell_words<W: Write>(
     Ok(is_success(strict, request, end))
 }
 
-/// Tells in that manner how the ask of a request ended, and flushes what was written. Answers whether the ask succeeded: it was answered, and where that is
+/// Tells in that output_format how the ask of a request ended, and flushes what was written. Answers whether the ask succeeded: it was answered, and where that is
 /// strict, by no Error and by no reply that names another object, property or index than was asked; of octets, whether there are any. Where there are none,
 /// `err` tells how it ended.
 pub fn tell_end<O: Write, E: Write>(
     alloc: Global,
-    manner: Manner,
+    output_format: OutputFormat,
     request: &OwnedRequest,
     end: &AskEnd,
     out: &mut O,
     err: &mut E,
 ) -> io::Result<bool>
-    ensures { IfOk result (λ succeeded. TellsEnd manner (owned_request_view request.now) end.now succeeded (O.contents out.old) (O.contents out.new)) }
+    ensures { IfOk result (λ succeeded. TellsEnd output_format (owned_request_view request.now) end.now succeeded (O.contents out.old) (O.contents out.new)) }
 {
-    match manner.style {
-        Style::Numbers => tell_numbers(alloc, manner.strict, request, end, out),
-        Style::Words => tell_words(alloc, manner.strict, request, end, out),
+    match output_format.style {
+        Style::Numbers => tell_numbers(alloc, output_format.strict, request, end, out),
+        Style::Words => tell_words(alloc, output_format.strict, request, end, out),
         Style::Octets => tell_octets(alloc, end, out, err),
     }
 }

@@ -33,13 +33,13 @@ use Rattle.bac_protocol.proofs.Nets.{room_opens}
 use Rattle.bac_protocol.proofs.SingleMoves.{in_order}
 use Rattle.bac_protocol.proofs.StraightRuns.{machines_answer}
 use Rattle.bac_slots.specs.Slots.{value_at}
-use Rattle.bac_ends.specs.Keys.{PeerKey, same_key}
-use Rattle.bac_ends.specs.Sends.{Pairwise}
-use Rattle.bac_ends.specs.Meanings.{Ending, MeansReply}
-use Rattle.bac_ends.specs.Meanings.Ending.{Answered}
-use Rattle.bac_ends.specs.Ends.{Accepted, AskOutcome, client_asks, is_free}
-use Rattle.bac_ends.specs.Ends.AskOutcome.{Asked}
-use Rattle.bac_entry.specs.Services.{outcome_of, outcome_by}
+use Rattle.bac_transaction.specs.Keys.{PeerKey, same_key}
+use Rattle.bac_transaction.specs.Sends.{Pairwise}
+use Rattle.bac_transaction.specs.Meanings.{Ending, MeansReply}
+use Rattle.bac_transaction.specs.Meanings.Ending.{Answered}
+use Rattle.bac_transaction.specs.Ends.{Accepted, AskOutcome, client_asks, is_free}
+use Rattle.bac_transaction.specs.Ends.AskOutcome.{Asked}
+use Rattle.bac_responder.specs.Services.{outcome_of, outcome_by}
 use Rattle.bac_world.specs.Node.{Node}
 use Rattle.bac_world.specs.Once.{Fact, Stores, IsOnce}
 use Rattle.bac_world.specs.World.{World, stores_of, peer_at}
@@ -52,7 +52,7 @@ use Rattle.bac_world.proofs.Asking.{IsAccepted, accepted_is, asks_with, free_tic
 use Rattle.bac_completion.specs.StraightRuns.{is_open, DeliverEach, ending_in, IsStraight, key_of_ask, AreOf}
 use Rattle.bac_completion.specs.StraightAnswers.{datagrams, way_between, CanAnswer, IsAnswered}
 use Rattle.bac_completion.proofs.StraightRuns.Posts.{AreOwn, own_none, own_more, own_at}
-use Rattle.bac_completion.proofs.StraightRuns.Shops.{Machines, shop, outcome_at, after_read}
+use Rattle.bac_completion.proofs.StraightRuns.StoreModels.{Machines, shop, outcome_at, after_read}
 use Rattle.bac_completion.proofs.StraightRuns.Delivering.{Fit}
 use Rattle.bac_completion.proofs.StraightRuns.Following.{Followed, follows}
 use Rattle.bac_completion.proofs.StraightRuns.Tickets.{closed_there}

@@ -4,7 +4,7 @@ use Rattle.std.proofs.Common.{refl, sym, ap, subst, ◌∙◌, arith}
 use Rattle.std.proofs.lemmas.List.Recursion.{is_count_by}
 use Rattle.bac_slots.specs.declared.slot.Slot.{Slot}
 use Rattle.bac_slots.specs.Slots.{value_at, with_value}
-use Rattle.bac_ends.specs.Keys.{PeerKey, same_key}
+use Rattle.bac_transaction.specs.Keys.{PeerKey, same_key}
 
 module _ (T : Type 0) where
   abbrev Table : Type 0

@@ -14,7 +14,7 @@ use Rattle.bac_protocol.specs.declared.times.TheConstants.{LIFE}
 use Rattle.bac_protocol.specs.Service.{Octets}
 use Rattle.bac_protocol.specs.Wire.{is_from_client}
 use Rattle.bac_protocol.specs.Client as client
-use Rattle.bac_protocol.specs.Client.{Ticket}
+use Rattle.bac_protocol.specs.Client.{ClientTransaction}
 use Rattle.bac_protocol.specs.Server as server
 use Rattle.bac_protocol.specs.Server.{Service, server_gets}
 use Rattle.bac_protocol.specs.Transaction.{Key, Rules, client_context, server_context}
@@ -23,8 +23,8 @@ use Rattle.bac_protocol.specs.World as net
 use Rattle.bac_protocol.specs.World.Event.{Deliver}
 use Rattle.bac_protocol.specs.Claims.{IsBounded}
 use Rattle.bac_protocol.specs.Moves.{taken_by_client}
-use Rattle.bac_ends.specs.Ends.{is_free, act_at}
-use Rattle.bac_entry.specs.Services.{service_of}
+use Rattle.bac_transaction.specs.Ends.{is_free, act_at}
+use Rattle.bac_responder.specs.Services.{service_of}
 use Rattle.bac_world.specs.Services.{ArePerformed}
 use Rattle.bac_world.specs.Node.{Node, Outcome, NodeOn, IsHeard, IsHeardBy}
 use Rattle.bac_world.specs.Laws.{IsMeaningless}
@@ -39,7 +39,7 @@ use Rattle.bac_world.proofs.Serving.{room_is, serves, served_so}
 use Rattle.bac_world.proofs.Clients.{hears}
 use Rattle.bac_completion.proofs.StraightRuns.Posts.{AreOwn, own_more, own_at}
 use Rattle.bac_completion.proofs.StraightRuns.Growing.{Grows, grows_not, acts_grow}
-use Rattle.bac_completion.proofs.StraightRuns.Shops.{Machines, shop, outcome_at, stores_fit}
+use Rattle.bac_completion.proofs.StraightRuns.StoreModels.{Machines, shop, outcome_at, stores_fit}
 
 and_both : (a b : Bool) → (a && b) ≡ true → (a ≡ true) × (b ≡ true)
 and_both true true e = (refl, refl)
@@ -73,15 +73,15 @@ module _ (links : ℕ → Option Octets) (apart : (i j : ℕ) (l : Octets) → l
     pub now : w'.now ≡ w.now
     pub grows : Grows w.log w'.log
 
-  at_client_net : (v : Machines) (p : Post) (o : Option Ticket) → (takes_at_client (Option Store) x v p.key p.copy.apdu o).net ≡ taken_by_client x v.net p o
+  at_client_net : (v : Machines) (p : Post) (o : Option ClientTransaction) → (takes_at_client (Option Store) x v p.key p.copy.apdu o).net ≡ taken_by_client x v.net p o
   at_client_net v p None = refl
   at_client_net v p (Some t) = refl
 
-  at_client_stores : (v : Machines) (p : Post) (o : Option Ticket) → (takes_at_client (Option Store) x v p.key p.copy.apdu o).stores ≡ v.stores
+  at_client_stores : (v : Machines) (p : Post) (o : Option ClientTransaction) → (takes_at_client (Option Store) x v p.key p.copy.apdu o).stores ≡ v.stores
   at_client_stores v p None = refl
   at_client_stores v p (Some t) = refl
 
-  at_client_own : (old : List Post) (n : Net) (p : Post) → AreOwn old p.key n.posts → (o : Option Ticket) → AreOwn old p.key (taken_by_client x n p o).posts
+  at_client_own : (old : List Post) (n : Net) (p : Post) → AreOwn old p.key n.posts → (o : Option ClientTransaction) → AreOwn old p.key (taken_by_client x n p o).posts
   at_client_own old n p h None = h
   at_client_own old n p h (Some t) =
       own_more old p.key n.posts h n.now (client.sends_of (client.client_gets (client_context x p.key n.now) x.readable t p.copy.apdu))

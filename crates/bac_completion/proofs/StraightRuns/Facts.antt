@@ -7,8 +7,8 @@ use Rattle.bac_service.proofs.OnlySpelling.{one_request}
 use Rattle.bac_protocol.specs.Service as machine
 use Rattle.bac_protocol.specs.Service.{Octets}
 use Rattle.bac_protocol.specs.Log as machine_log
-use Rattle.bac_ends.specs.Sends.{Pairwise}
-use Rattle.bac_ends.specs.Meanings.Ending.{Answered}
+use Rattle.bac_transaction.specs.Sends.{Pairwise}
+use Rattle.bac_transaction.specs.Meanings.Ending.{Answered}
 use Rattle.bac_world.specs.Once.{Fact, Has, Stores, IsOnce}
 use Rattle.bac_world.specs.Once.Fact.{Asked, Performed, Ended, Changed, Restarted}
 use Rattle.bac_world.proofs.Logs.{FactMeans}

@@ -8,7 +8,7 @@ use Rattle.bac_protocol.specs.World.{Post, happens}
 use Rattle.bac_protocol.specs.World.Event.{Deliver}
 use Rattle.bac_protocol.specs.Claims.{IsBounded}
 use Rattle.bac_protocol.specs.Straight.{IsLike, like_machine, Straight}
-use Rattle.bac_ends.specs.Ends.{is_free}
+use Rattle.bac_transaction.specs.Ends.{is_free}
 use Rattle.bac_world.specs.Node.{Node}
 use Rattle.bac_world.specs.Once.{Stores}
 use Rattle.bac_world.specs.World.{World}
@@ -17,7 +17,7 @@ use Rattle.bac_world.proofs.Bridge.{IsCopyOf, slot_key}
 use Rattle.bac_completion.specs.StraightRuns.{DeliverEach}
 use Rattle.bac_completion.proofs.StraightRuns.Posts.{AreOwn, within}
 use Rattle.bac_completion.proofs.StraightRuns.Growing.{Grows, grows_not, grows_then}
-use Rattle.bac_completion.proofs.StraightRuns.Shops.{Machines, shop}
+use Rattle.bac_completion.proofs.StraightRuns.StoreModels.{Machines, shop}
 use Rattle.bac_completion.proofs.StraightRuns.Delivering.{Fit, delivers}
 use Rattle.bac_completion.proofs.StraightRuns.Tickets.{open_there}
 

@@ -1,6 +1,6 @@
 -- The log of a world only grows.
 use Rattle.std.proofs.Common.{◌≡◌, ℕ, List, [], ◌∷◌, ◌++◌, Option, Some, None, refl, sym, ap, ◌∙◌, append_assoc}
-use Rattle.bac_ends.specs.Meanings.{Finish}
+use Rattle.bac_transaction.specs.Meanings.{Finish}
 use Rattle.bac_world.specs.Services as service
 use Rattle.bac_world.specs.Node.{Node, Outcome}
 use Rattle.bac_world.specs.Once.{Fact}

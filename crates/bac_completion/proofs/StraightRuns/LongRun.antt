@@ -15,11 +15,11 @@ use Rattle.bac_protocol.specs.Context.{Context}
 use Rattle.bac_protocol.specs.Service.{Octets}
 use Rattle.bac_protocol.specs.Service as machine
 use Rattle.bac_protocol.specs.Server as server
-use Rattle.bac_protocol.specs.Server.{Entry, begins, performs_so}
-use Rattle.bac_ends.specs.Keys.{PeerKey}
-use Rattle.bac_ends.specs.Meanings.Ending.{Answered}
-use Rattle.bac_ends.specs.Ends.{Accepted, ClientEnd, ServerEnd, accepts, context_of, client_hears, server_hears, server_goes}
-use Rattle.bac_entry.specs.Services.{service_of, outcome_by}
+use Rattle.bac_protocol.specs.Server.{ServerTransaction, begins, performs_so}
+use Rattle.bac_transaction.specs.Keys.{PeerKey}
+use Rattle.bac_transaction.specs.Meanings.Ending.{Answered}
+use Rattle.bac_transaction.specs.Ends.{Accepted, ClientEnd, ServerEnd, accepts, context_of, client_hears, server_hears, server_goes}
+use Rattle.bac_responder.specs.Services.{service_of, outcome_by}
 use Rattle.bac_world.specs.Services.{Performed}
 use Rattle.bac_world.specs.Node.{Node, Outcome, IsServerTurn, NodeAsks}
 use Rattle.bac_world.specs.Once.{Fact}
@@ -110,7 +110,7 @@ TAKEN = (server_hears SETTINGS 0 (service_of STORE) (peer_at (link 0)) FIRST (re
 abbrev CONTEXT : Context
 CONTEXT = context_of SETTINGS 0 (slot 0)
 
-abbrev ENTRY : Entry
+abbrev ENTRY : ServerTransaction
 ENTRY = record (begins CONTEXT 7 LIMITS None) { state = server.State.SegmentedRequest (record { parts = FRONT ∷ []; unacknowledged = 0; window = 1 }) 0 }
 
 abbrev done_by : machine.Outcome → server.Reaction

@@ -8,7 +8,7 @@ use Rattle.bac_protocol.specs.Service.{Octets}
 use Rattle.bac_protocol.specs.Short.{IsShort}
 use Rattle.bac_protocol.specs.Wire.{is_from_client, Each}
 use Rattle.bac_protocol.specs.Transaction.{Key}
-use Rattle.bac_ends.specs.Sends.{Datagram, Pairwise, IsSent, to_all}
+use Rattle.bac_transaction.specs.Sends.{Datagram, Pairwise, IsSent, to_all}
 use Rattle.bac_world.specs.Node.{Node, Outcome, IsHeardBy}
 use Rattle.bac_world.specs.Once.{Fact}
 use Rattle.bac_world.specs.World.{World, Copy, Note, AreEnded, AreLogged, IsCopied, IsDelivered, IsWithNode, is_deliverable, link_at, peer_at, transaction_of}

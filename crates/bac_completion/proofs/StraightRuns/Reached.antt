@@ -5,15 +5,15 @@ use Rattle.std.specs.Option.{option_map}
 use Rattle.bac_apdu.specs.Apdu.{Limits}
 use Rattle.bac_service.specs.Values.{Request, choice_of}
 use Rattle.bac_protocol.specs.Service.{Octets}
-use Rattle.bac_protocol.specs.Server.{Entry, live_entry, is_live, is_none_live}
+use Rattle.bac_protocol.specs.Server.{ServerTransaction, live_entry, is_live, is_none_live}
 use Rattle.bac_protocol.specs.Transaction.{Key, Rules}
 use Rattle.bac_protocol.specs.World.{Net, net_start, is_held_since}
 use Rattle.bac_protocol.specs.Claims as claims
 use Rattle.bac_protocol.proofs.SingleMoves.{in_order}
 use Rattle.bac_slots.specs.Slots.{value_at}
-use Rattle.bac_ends.specs.Keys.{same_key}
-use Rattle.bac_ends.specs.Ends.{Accepted, is_id_held, waits_to_ask}
-use Rattle.bac_ends.proofs.ClientTables.{is_untaken, no_wait}
+use Rattle.bac_transaction.specs.Keys.{same_key}
+use Rattle.bac_transaction.specs.Ends.{Accepted, is_id_held, waits_to_ask}
+use Rattle.bac_transaction.proofs.ClientTables.{is_untaken, no_wait}
 use Rattle.bac_world.specs.Node.{Node}
 use Rattle.bac_world.specs.Once.{IsOnce}
 use Rattle.bac_world.specs.World.{World, Event, WorldRun, IsFresh, IsBounded, IsAsked, link_at, stores_of, peer_at}
@@ -65,7 +65,7 @@ module _ (W overtake : ℕ) (first old : World) (fresh : IsFresh first) (bound :
 
   -- Free invoke IDs.
 
-  none_live : (now : ℕ) (o : Option Entry) → is_none_live now o ≡ true → live_entry now o ≡ None
+  none_live : (now : ℕ) (o : Option ServerTransaction) → is_none_live now o ≡ true → live_entry now o ≡ None
   none_live now None e = refl
   none_live now (Some e) dead = go (is_live now e) dead
     where

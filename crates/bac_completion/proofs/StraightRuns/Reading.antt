@@ -6,14 +6,14 @@ use Rattle.bac_segment.specs.Pieces.{join}
 use Rattle.bac_protocol.specs.Service.{Octets, Reply, Ending}
 use Rattle.bac_protocol.specs.Service.Outcome.{Replies}
 use Rattle.bac_protocol.specs.Wire.{is_from_client}
-use Rattle.bac_protocol.specs.Client.{Ask, request_of, Ticket}
+use Rattle.bac_protocol.specs.Client.{Ask, request_of, ClientTransaction}
 use Rattle.bac_protocol.specs.Server.{Effect, is_none_live}
-use Rattle.bac_protocol.specs.Log.{Fact, Has, Shop}
+use Rattle.bac_protocol.specs.Log.{Fact, Has, StoreModel}
 use Rattle.bac_protocol.specs.Log.Fact.{Asked, Performed}
 use Rattle.bac_protocol.specs.Transaction.{Key, Rules, ended, performed}
 use Rattle.bac_protocol.specs.World.{World, Post, delivered, arrives, takes_at_client, takes_at_server, is_deliverable}
 use Rattle.bac_protocol.specs.Straight.{AreStraight, RequestFits, WayFits, Straight, Stops, like_machine, request_count, way_to}
-use Rattle.bac_protocol.proofs.Queue.{Duo, Leads, Starts, step}
+use Rattle.bac_protocol.proofs.Queue.{TransactionPair, Leads, Starts, step}
 use Rattle.bac_protocol.proofs.Requested.{whole_read, pieces_read}
 use Rattle.bac_protocol.proofs.Follow.{Shows, went, not_stopped}
 use Rattle.bac_protocol.proofs.StraightRuns.{asked, first_duo, asked_shows}
@@ -28,8 +28,8 @@ performed_has : (f : Fact) (n : ℕ) (o : Option Effect) (log : List Fact) → H
 performed_has f n None log h = h
 performed_has f n (Some e) log h = inr h
 
-module _ (S : Type 0) (shop : Shop S) (x : Rules) (f : Fact) where
-  at_client_has : (w : World S) (key : Key) (a : Apdu) (o : Option Ticket) → Has f w.net.log → Has f (takes_at_client S x w key a o).net.log
+module _ (S : Type 0) (shop : StoreModel S) (x : Rules) (f : Fact) where
+  at_client_has : (w : World S) (key : Key) (a : Apdu) (o : Option ClientTransaction) → Has f w.net.log → Has f (takes_at_client S x w key a o).net.log
   at_client_has w key a None h = h
   at_client_has w key a (Some t) h = ended_has f (w.net.numbers key) _ w.net.log h
 
@@ -57,29 +57,29 @@ module _ (S : Type 0) (shop : Shop S) (x : Rules) (f : Fact) where
   has_still key has_slot (suc count) number w v run h = has_still key false count (suc number) run.4 v run.6
       (subst (Has f) (sym run.5.log) (delivered_has w number run.0 (slice_get w.net.posts number) h))
 
-module _ (S : Type 0) (shop : Shop S) (x : Rules) (now number : ℕ) (key : Key) where
+module _ (S : Type 0) (shop : StoreModel S) (x : Rules) (now number : ℕ) (key : Key) where
   stops_at : (a b : ℕ) (u : World S) → a ≡ b → Stops S key a u → Stops S key b u
   stops_at a b u e h = subst (λ (n : ℕ). Stops S key n u) e h
 
   -- a run that stops comes by where the two ends lead
-  record ComesBy (u : World S) (q : Duo S) : Type 0 where
+  record ComesBy (u : World S) (q : TransactionPair S) : Type 0 where
     first : ℕ
     count : ℕ
     mid : World S
     shows : Shows S shop x now number key mid q first
     run : Straight S (like_machine S shop x key) key false count first mid u
 
-  comes_by : (count j first : ℕ) (w u : World S) (p q : Duo S) → Leads S shop x now number key count p q → Shows S shop x now number key w p first
+  comes_by : (count j first : ℕ) (w u : World S) (p q : TransactionPair S) → Leads S shop x now number key count p q → Shows S shop x now number key w p first
       → Straight S (like_machine S shop x key) key false j first w u → Stops S key (first + j) u → ComesBy u q
   comes_by zero j first w u p q h s run stops =
-      record { first = first; count = j; mid = w; shows = subst (λ (d : Duo S). Shows S shop x now number key w d first) h s; run = run }
+      record { first = first; count = j; mid = w; shows = subst (λ (d : TransactionPair S). Shows S shop x now number key w d first) h s; run = run }
   comes_by (suc count) zero first w u p q h s run stops = absurd (not_stopped S shop x now number key w u p first h.0 h.1 s h.2 h.4 run stops)
   comes_by (suc count) (suc j) first w u p q h s run stops =
       comes_by count j (suc first) run.4 u (step S shop x now number key p h.0 h.1) q h.6
       (went S shop x now number key (like_machine S shop x key) (λ y e z like. like) w run.4 p first h.0 h.1 run.0 run.5 s h.2 h.3 (inr h.5)) run.6
       (stops_at (first + suc j) (suc first + j) u (omega arith) stops)
 
-  starts_by : (most j first : ℕ) (w u : World S) (p q : Duo S) → Starts S shop x now number key most p q → Shows S shop x now number key w p first
+  starts_by : (most j first : ℕ) (w u : World S) (p q : TransactionPair S) → Starts S shop x now number key most p q → Shows S shop x now number key w p first
       → Straight S (like_machine S shop x key) key true j first w u → Stops S key (first + j) u → ComesBy u q
   starts_by most zero first w u p q h s run stops = absurd (not_stopped S shop x now number key w u p first h.xs h.a s h.is h.going run stops)
   starts_by most (suc j) first w u p q h s run stops =
@@ -88,7 +88,7 @@ module _ (S : Type 0) (shop : Shop S) (x : Rules) (now number : ℕ) (key : Key)
       (inl (run.1 refl))) run.6
       (stops_at (first + suc j) (suc first + j) u (omega arith) stops)
 
-module _ (S : Type 0) (shop : Shop S) (x : Rules) (w : World S) (key : Key) (good : AreStraight x key) (choice : ℕ) (front : Octets) (rest : List Octets)
+module _ (S : Type 0) (shop : StoreModel S) (x : Rules) (w : World S) (key : Key) (good : AreStraight x key) (choice : ℕ) (front : Octets) (rest : List Octets)
     (p : Reply) (dead : is_none_live w.net.now (w.net.entries key) ≡ true)
     (outcome : shop.outcome (w.stores key.server) choice (join (front ∷ rest)) ≡ Replies p)
     (way : WayFits (way_to x key p)) where
@@ -104,12 +104,12 @@ module _ (S : Type 0) (shop : Shop S) (x : Rules) (w : World S) (key : Key) (goo
   abbrev log : Bool → List Fact
   log whole = Asked w.net.asks key.client key.server (request_of (ask whole)) ∷ w.net.log
 
-  abbrev Begins : Bool → Duo S → Type 0
+  abbrev Begins : Bool → TransactionPair S → Type 0
   Begins whole q = Starts S shop x w.net.now w.net.asks key (2 * request_count whole pieces) (first_duo S shop x w key (ask whole) whole) q
 
   -- where it was performed
   record Performs (whole : Bool) : Type 0 where
-    end : Duo S
+    end : TransactionPair S
     has : Has (fact whole) end.log
     begins : Begins whole end
 

@@ -14,17 +14,17 @@ use Rattle.bac_protocol.specs.Service.{Octets, OTHER}
 use Rattle.bac_protocol.specs.Wire.{is_from_client}
 use Rattle.bac_protocol.specs.Client.{Ask, client_gets}
 use Rattle.bac_protocol.specs.Server as server
-use Rattle.bac_protocol.specs.Server.{Entry, Service, is_live, is_none_live, server_gets, server_ticks, live_ticks, idle_gets, rests}
+use Rattle.bac_protocol.specs.Server.{ServerTransaction, Service, is_live, is_none_live, server_gets, server_ticks, live_ticks, idle_gets, rests}
 use Rattle.bac_slots.specs.Slots.{value_at}
-use Rattle.bac_ends.specs.Keys.{PeerKey, same_key}
-use Rattle.bac_ends.specs.Sends.{Datagram}
-use Rattle.bac_ends.specs.Ends.{Client, ClientEnd, ServerEnd, Held, Accepted, AskOutcome, AskRefusal, is_held, is_slot_held, is_slot_live, is_free}
-use Rattle.bac_ends.specs.Ends.{client_hears_at, client_hears_held, client_after, client_ticked, held_ticked, server_ticked, entry_or, set_or_put, put_entry}
-use Rattle.bac_ends.specs.Ends.{key_of, context_of, has_no_slot, asks_with_id, asks_for, asks_by_way, accepts, free_id, MOST_ASKS, new_client}
-use Rattle.bac_ends.proofs.ServerTables.{has_space}
-use Rattle.bac_ends.specs.Ends.Held.{Open, Closed}
-use Rattle.bac_ends.specs.Ends.AskOutcome.{Asked}
-use Rattle.bac_entry.specs.Services.{service_of}
+use Rattle.bac_transaction.specs.Keys.{PeerKey, same_key}
+use Rattle.bac_transaction.specs.Sends.{Datagram}
+use Rattle.bac_transaction.specs.Ends.{Client, ClientEnd, ServerEnd, TransactionSlot, Accepted, AskOutcome, AskRefusal, is_held, is_slot_held, is_slot_live, is_free}
+use Rattle.bac_transaction.specs.Ends.{client_hears_at, client_hears_held, client_after, client_ticked, held_ticked, server_ticked, entry_or, set_or_put, put_entry}
+use Rattle.bac_transaction.specs.Ends.{key_of, context_of, has_no_slot, asks_with_id, asks_for, asks_by_way, accepts, free_id, MOST_ASKS, new_client}
+use Rattle.bac_transaction.proofs.ServerTables.{has_space}
+use Rattle.bac_transaction.specs.Ends.TransactionSlot.{Open, Closed}
+use Rattle.bac_transaction.specs.Ends.AskOutcome.{Asked}
+use Rattle.bac_responder.specs.Services.{service_of}
 use Rattle.bac_world.specs.Node.{Node, Outcome, NodeOn, NodeTick, NodeAsks, IsHeardBy, with_change}
 use Rattle.bac_world.specs.World.{World, Event, WorldStep, WorldRun, IsFresh, IsFreshNode, IsWithNode, Acts, DeliversIf, Hears, is_deliverable}
 use Rattle.bac_world.specs.World.Event.{Deliver, Noise, Tick, Advance, Change, Restart}
@@ -37,7 +37,7 @@ use Rattle.bac_completion.proofs.StraightRuns.Counts.{count, count_changed, coun
 
 -- where none is live and no slot is free, what comes leaves the entry as it was
 module _ (c : Context) (s : Service) where
-  unfree_idle : (o : Option Entry) (a : Apdu) → (idle_gets c s o false a).entry ≡ o
+  unfree_idle : (o : Option ServerTransaction) (a : Apdu) → (idle_gets c s o false a).entry ≡ o
   unfree_idle o (ConfirmedRequest limits i None choice octets) = refl
   unfree_idle o (ConfirmedRequest limits i (Some g) choice octets) = go (not (nat_eq g.number 0))
     where
@@ -52,7 +52,7 @@ module _ (c : Context) (s : Service) where
   unfree_idle o (Reject i r) = refl
   unfree_idle o (Abort up i r) = refl
 
-  unfree : (o : Option Entry) (a : Apdu) → is_none_live c.now o ≡ true → (server_gets c s o false a).entry ≡ o
+  unfree : (o : Option ServerTransaction) (a : Apdu) → is_none_live c.now o ≡ true → (server_gets c s o false a).entry ≡ o
   unfree None a dead = unfree_idle None a
   unfree (Some e) a dead = go (is_live c.now e) dead
     where
@@ -61,35 +61,35 @@ module _ (c : Context) (s : Service) where
       go true dead = absurd cc
       go false dead = unfree_idle (Some e) a
 
-not_dead : (now : ℕ) (d : Entry) → is_live now d ≡ true → is_none_live now (Some d) ≡ false
+not_dead : (now : ℕ) (d : ServerTransaction) → is_live now d ≡ true → is_none_live now (Some d) ≡ false
 not_dead now d live = ap (λ b. if b then false else true) live
 
-live_there : (now : ℕ) (o : Option Entry) → is_none_live now o ≡ false → (d : Entry) × (o ≡ Some d) × (is_live now d ≡ true)
+live_there : (now : ℕ) (o : Option ServerTransaction) → is_none_live now o ≡ false → (d : ServerTransaction) × (o ≡ Some d) × (is_live now d ≡ true)
 live_there now None e = absurd cc
 live_there now (Some d) e = go (is_live now d) refl e
   where
-    go : (b : Bool) → is_live now d ≡ b → (if b then false else true) ≡ false → (y : Entry) × (Some d ≡ Some y) × (is_live now y ≡ true)
+    go : (b : Bool) → is_live now d ≡ b → (if b then false else true) ≡ false → (y : ServerTransaction) × (Some d ≡ Some y) × (is_live now y ≡ true)
     go true is e = (d, refl, is)
     go false is e = absurd cc
 
-module _ (now : ℕ) (key : PeerKey) (e : ServerEnd) (room : count Entry (is_live now) e.slots ≤ e.capacity) where
-  abbrev there : Option Entry
+module _ (now : ℕ) (key : PeerKey) (e : ServerEnd) (room : count ServerTransaction (is_live now) e.slots ≤ e.capacity) where
+  abbrev there : Option ServerTransaction
   there = value_at same_key key e.slots
 
-  set_room : (d : Entry) (b : Bool) → is_none_live now there ≡ b → (b ≡ true → is_free now e ≡ true)
-      → count Entry (is_live now) (set_or_put now key d e.slots b) ≤ e.capacity
+  set_room : (d : ServerTransaction) (b : Bool) → is_none_live now there ≡ b → (b ≡ true → is_free now e ≡ true)
+      → count ServerTransaction (is_live now) (set_or_put now key d e.slots b) ≤ e.capacity
   set_room d false live free =
       let old = live_there now there live in
-      let k = count_with Entry (is_live now) key d old.0 e.slots old.1 old.2 in
+      let k = count_with ServerTransaction (is_live now) key d old.0 e.slots old.1 old.2 in
       omega arith
   set_room d true dead free =
       let f = has_space now e (free refl) in
-      let lt : count Entry (is_live now) e.slots < e.capacity = grind (arith, nat_tests) in
-      let k = count_put Entry (is_live now) (record { key = key; begin = d.begin; value = d }) e.slots in
+      let lt : count ServerTransaction (is_live now) e.slots < e.capacity = grind (arith, nat_tests) in
+      let k = count_put ServerTransaction (is_live now) (record { key = key; begin = d.begin; value = d }) e.slots in
       omega arith
 
-  put_room : (o : Option Entry) → (is_none_live now there ≡ true → is_free now e ≡ false → o ≡ there)
-      → count Entry (is_live now) (put_entry now key o e.slots) ≤ e.capacity
+  put_room : (o : Option ServerTransaction) → (is_none_live now there ≡ true → is_free now e ≡ false → o ≡ there)
+      → count ServerTransaction (is_live now) (put_entry now key o e.slots) ≤ e.capacity
   put_room None so = room
   put_room (Some d) so = go (is_live now d) refl
     where
@@ -104,7 +104,7 @@ module _ (now : ℕ) (key : PeerKey) (e : ServerEnd) (room : count Entry (is_liv
               absurd cc
 
       go : (b : Bool) → is_live now d ≡ b
-          → count Entry (is_live now) (if b then set_or_put now key d e.slots (is_none_live now there) else e.slots) ≤ e.capacity
+          → count ServerTransaction (is_live now) (if b then set_or_put now key d e.slots (is_none_live now there) else e.slots) ≤ e.capacity
       go true live = set_room d (is_none_live now there) refl (λ dead. free live dead)
       go false dead = room
 
@@ -114,7 +114,7 @@ abbrev holds : ℕ → Client → Bool
 holds now v = is_held now v.held
 
 module _ (c : Settings) (now : ℕ) (a : Apdu) (e : ClientEnd) (key : PeerKey) where
-  held_room : (number : ℕ) (y : Held) → value_at same_key key e.slots ≡ Some (record { number = number; held = y })
+  held_room : (number : ℕ) (y : TransactionSlot) → value_at same_key key e.slots ≡ Some (record { number = number; held = y })
       → count Client (holds now) e.slots ≤ e.capacity
       → count Client (holds now) (client_hears_held c reads_reply now a e key number y).end.slots ≤ (client_hears_held c reads_reply now a e key number
       y).end.capacity
@@ -157,16 +157,16 @@ tick_room now old new o tick h = subst (HasRoom now) (sym tick.node) (record {
       let r = h.held in
       omega arith;
   live =
-      let k = count_changed Entry (is_live now) (is_live now) (server_ticked old.settings now) (λ s l. lives s.key s.value l) old.servers.slots in
+      let k = count_changed ServerTransaction (is_live now) (is_live now) (server_ticked old.settings now) (λ s l. lives s.key s.value l) old.servers.slots in
       let r = h.live in
       omega arith;
 })
   where
-    still : (key : PeerKey) (number : ℕ) (y : Held) → is_held now (held_ticked (context_of old.settings now key) number y).held ≡ true → is_held now y ≡ true
+    still : (key : PeerKey) (number : ℕ) (y : TransactionSlot) → is_held now (held_ticked (context_of old.settings now key) number y).held ≡ true → is_held now y ≡ true
     still key number (Closed first) l = l
     still key number (Open t) l = refl
 
-    lives : (key : PeerKey) (e : Entry) → is_live now (entry_or e (server_ticks (context_of old.settings now key) (Some e)).entry) ≡ true
+    lives : (key : PeerKey) (e : ServerTransaction) → is_live now (entry_or e (server_ticks (context_of old.settings now key) (Some e)).entry) ≡ true
         → is_live now e ≡ true
     lives key e = go (is_live now e) refl
       where
@@ -228,12 +228,12 @@ later_room now by n h = record {
       let r = h.held in
       omega arith;
   live =
-      let k = count_weaker Entry (is_live now) (is_live (now + by)) (λ d l. grind (arith, nat_tests)) n.servers.slots in
+      let k = count_weaker ServerTransaction (is_live now) (is_live (now + by)) (λ d l. grind (arith, nat_tests)) n.servers.slots in
       let r = h.live in
       omega arith;
 }
   where
-    earlier : (y : Held) → is_held (now + by) y ≡ true → is_held now y ≡ true
+    earlier : (y : TransactionSlot) → is_held (now + by) y ≡ true → is_held now y ≡ true
     earlier (Open t) l = refl
     earlier (Closed first) l = grind (arith, nat_tests)
 

@@ -2,15 +2,16 @@
 use super::scene::request_of;
 use super::*;
 use bac_apdu::{Limits, Window, read};
-use bac_ends::{Context, PeerKey, Settings};
-use bac_entry::{Entry, IdleReaction, Reaction, idle_gets};
 use bac_npdu::Peer;
-use bac_requester::{AskFault, Client, Requester};
-use bac_responder::Responder;
+use bac_requester::{
+    AskFault, Begun, Client, ClientTransaction, OutgoingRequest, RequestWay, Requester,
+    TransactionSlot,
+};
+use bac_responder::{IdleReaction, Reaction, Responder, ServerTransaction, idle_gets};
 use bac_service::OwnedRequest;
 use bac_slots::{IndexSlots, Same};
 use bac_store::{Store, house};
-use bac_ticket::{Begun, Held, OutgoingRequest, RequestWay, Ticket};
+use bac_transaction::{Context, PeerKey, Settings};
 
 /// Takes APDUs of 1,476 octets and any number of segments, and the same of 50.
 const LIMITS: Limits = Limits {
@@ -55,7 +56,7 @@ const READS: &[Read] = &[
 /// A server's end, and its store.
 #[derive(Drop)]
 struct Server {
-    end: Responder<IndexSlots<PeerKey, Entry>>,
+    end: Responder<IndexSlots<PeerKey, ServerTransaction>>,
     store: Store,
 }
 
@@ -178,9 +179,12 @@ fn begun(alloc: Global) -> Option<Reaction> {
 }
 
 /// Whether an entry began at moment 5, is live for 65,000 ms, has no timer, and is as itself alone.
-fn is_entry(entry: &Entry) -> bool {
+fn is_entry(entry: &ServerTransaction) -> bool {
     let is_timed = entry.begin() == 5 && entry.is_live(65_005) && !entry.is_live(65_006);
-    is_timed && entry.due(5) == u64::MAX && entry.same(entry) && !entry.same(&Entry::placeholder())
+    is_timed
+        && entry.due(5) == u64::MAX
+        && entry.same(entry)
+        && !entry.same(&ServerTransaction::placeholder())
 }
 
 #[test]
@@ -193,13 +197,13 @@ fn an_entry(rt: HostRuntime) -> Result<(), Fail> {
 }
 
 /// A ticket of an ask at moment 1,000, of service choice 7, though its service data are those of a read.
-fn ticket(alloc: Global) -> Option<Ticket> {
+fn ticket(alloc: Global) -> Option<ClientTransaction> {
     let service = Vec::from_slice(alloc, b"\x0C\x00\x00\x00\x05\x19\x55").ok()?;
     let Ok(way) = RequestWay::of(&SETTINGS, &SMALL_APDUS, service.len()) else {
         return None;
     };
     let request = OutgoingRequest::new(7, way, service);
-    match Ticket::begin(alloc, &context(1_000), request) {
+    match ClientTransaction::begin(alloc, &context(1_000), request) {
         Ok(
             Begun {
                 ticket,
@@ -211,7 +215,7 @@ fn ticket(alloc: Global) -> Option<Ticket> {
 }
 
 /// Whether its timer is set, and it expires after 60,000 ms.
-fn is_timed(ticket: &Ticket) -> bool {
+fn is_timed(ticket: &ClientTransaction) -> bool {
     ticket.first() == 1_000
         && ticket.choice() == 7
         && ticket.due() == 4_000
@@ -226,7 +230,7 @@ fn ignores_a_request(alloc: Global) -> Option<bool> {
     let Ok(apdu) = read(READ) else {
         return None;
     };
-    let mut held = Held::Open(ticket);
+    let mut held = TransactionSlot::Open(ticket);
     match held.gets(alloc, &context(2_000), &apdu) {
         Ok(reaction) => Some(is_timed && reaction.sends.is_empty() && reaction.ended.is_none()),
         Err(_) => None,

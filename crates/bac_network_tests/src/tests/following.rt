@@ -1,11 +1,10 @@
 //! Logs that are followed as they grow, on stores of the test's own.
 use super::scene::put;
 use super::*;
-use bac_comparing::{same_reply, same_request};
 use bac_network::{Fact, World};
-use bac_service::{OwnedReply, OwnedRequest};
+use bac_requester::Ending;
+use bac_service::{OwnedReply, OwnedRequest, same_reply, same_request};
 use bac_store::{Change, Store};
-use bac_ticket::Ending;
 
 /// What a log says of an ask.
 #[derive(Clone, Copy)]

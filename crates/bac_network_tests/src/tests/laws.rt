@@ -4,15 +4,15 @@ ghost use Rattle.bac_apdu.specs.Apdu.{Limits as PlainLimits};
 ghost use Rattle.bac_npdu.specs.Peers.{PeerView};
 ghost use Rattle.bac_segment.specs.Window.{Outgoing};
 ghost use Rattle.bac_service.specs.Values.{Request};
-ghost use Rattle.bac_protocol.specs.Client.{Ticket};
+ghost use Rattle.bac_protocol.specs.Client.{ClientTransaction};
 ghost use Rattle.bac_protocol.specs.Server.{Transfer};
 ghost use Rattle.bac_protocol.specs.Service.{Octets};
 ghost use Rattle.bac_protocol.specs.declared.times.TheConstants.{DEADLINE};
 ghost use Rattle.bac_slots.specs.Slots.{value_at};
-ghost use Rattle.bac_ends.specs.Ends.{Accepted};
-ghost use Rattle.bac_ends.specs.Ends.Held.{Open};
-ghost use Rattle.bac_ends.specs.Keys.{PeerKey, same_key};
-ghost use Rattle.bac_ends.specs.Sends.{Datagram as PlainDatagram};
+ghost use Rattle.bac_transaction.specs.Ends.{Accepted};
+ghost use Rattle.bac_transaction.specs.Ends.TransactionSlot.{Open};
+ghost use Rattle.bac_transaction.specs.Keys.{PeerKey, same_key};
+ghost use Rattle.bac_transaction.specs.Sends.{Datagram as PlainDatagram};
 ghost use Rattle.bac_world.specs.Counts.{IsNew, IsReply, IsReplyLeft, IsReplyNew, IsTicket};
 ghost use Rattle.bac_world.specs.Node.{Node as PlainNode, NodeAsks, NodeOn, NodeTick, Outcome as PlainOutcome};
 ghost use Rattle.bac_world.specs.Ticks.{IsDue, IsRepeated};
@@ -24,7 +24,7 @@ use bac_world::node::{repeats_fall, retries_fall, tick_repeats_what_is_due};
 /// After an ask each open ticket was open before it, as it is, or is that of the ask, with all its repeats and retries.
 fn tickets_after_an_ask(node: &Node)
     ensures { (now : ℕ) (peer : PeerView) (limits : PlainLimits) (r : Request) (new : PlainNode) (a : Accepted) (sends : List PlainDatagram)
-        → NodeAsks now peer limits r node.now new a sends → (key : PeerKey) (number : ℕ) (next : Ticket) → IsTicket new key number next
+        → NodeAsks now peer limits r node.now new a sends → (key : PeerKey) (number : ℕ) (next : ClientTransaction) → IsTicket new key number next
         → IsTicket node.now key number next ⊎ IsNew peer a key number next }
 {
     node.keys_are_apart();
@@ -43,7 +43,7 @@ fn replies_after_a_datagram(node: &Node)
 
 /// A tick sends again what an open ticket waits for whose timer is due, once, and it stays open.
 fn tickets_in_a_tick(node: &Node)
-    ensures { (now : ℕ) (new : PlainNode) (o : PlainOutcome) → NodeTick now node.now new o → (key : PeerKey) (number : ℕ) (t : Ticket)
+    ensures { (now : ℕ) (new : PlainNode) (o : PlainOutcome) → NodeTick now node.now new o → (key : PeerKey) (number : ℕ) (t : ClientTransaction)
         → value_at same_key key node.now.clients.slots ≡ Some (record { number = number; held = Open t }) → now - t.ask.first ≤ DEADLINE
         → IsDue now t t.phase → IsRepeated now node.now new o key number t }
 {

@@ -1,4 +1,4 @@
-//! Run with each allocation refused in turn, too: `sh tests/memory/refused.sh`. Those of nodes and worlds are rows of bac_rows_run.
+//! Run with each allocation refused in turn, too: `sh tests/memory/refused.sh`. Those of nodes and worlds are rows of bac_node_rows.
 use super::*;
 use bac_simulate::simulate_over;
 

@@ -7,8 +7,8 @@ use super::generated::{change, restart};
 use super::scene::{limits_of, request_of};
 use super::*;
 use bac_network::{Event, Fact, World, WorldFault};
+use bac_requester::Ending;
 use bac_rows::octets_of;
-use bac_ticket::Ending;
 
 /// What nodes ask, in words.
 const REQUESTS: &[&str] = &[

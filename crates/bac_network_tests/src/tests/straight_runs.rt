@@ -1,10 +1,9 @@
 //! Straight runs of two nodes: how many copies come until the ask is answered by data.
 use super::scene::request_of;
 use super::*;
-use bac_network::{World, WorldFault};
+use bac_network::{World, WorldFault, straight};
+use bac_requester::Ending;
 use bac_service::AnyReply;
-use bac_straight_runs::straight;
-use bac_ticket::Ending;
 
 /// Client, server, the words of the request, how many copies are delivered until it is answered by data (None: it is not), and how many facts there are then.
 type Run = (

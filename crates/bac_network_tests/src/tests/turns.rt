@@ -2,8 +2,7 @@
 use super::limits::house_node;
 use super::*;
 use crate::noted_call::NotedCall;
-use bac_link::Link;
-use bac_run::{Patience, Station};
+use bac_driver::{BoundNode, Link, WaitLimit};
 use std::process::Abort;
 
 mod listed_clock;
@@ -46,21 +45,21 @@ fn are_told(noted: &[NotedCall]) -> bool {
 }
 
 /// A node on a link to which the request comes.
-fn station<R: Abort>(rt: &R, alloc: Global) -> Result<Station<TellingLink<'_, R>>, Fail> {
+fn bound_node<R: Abort>(rt: &R, alloc: Global) -> Result<BoundNode<TellingLink<'_, R>>, Fail> {
     let node = house_node(alloc, 1)?;
     let coming = TellingLink::new(rt, alloc, link(0), READ.to_vec(alloc)?);
-    Ok(Station::new(alloc, node, coming)?)
+    Ok(BoundNode::new(alloc, node, coming)?)
 }
 
 /// A node takes two turns; whether its link's calls are those of the request and its answer.
-fn serves<R: Abort>(rt: &R, station: &mut Station<TellingLink<'_, R>>) -> bool {
+fn serves<R: Abort>(rt: &R, bound_node: &mut BoundNode<TellingLink<'_, R>>) -> bool {
     let mut clock = ListedClock::new(rt, MOMENTS);
-    let served = station.serve(&mut clock, &Patience::BRIEF, 2);
-    matches!(served, Ok(1)) && clock.told() == 4 && are_told(station.link().noted())
+    let served = bound_node.serve(&mut clock, &WaitLimit::BRIEF, 2);
+    matches!(served, Ok(1)) && clock.told() == 4 && are_told(bound_node.link().noted())
 }
 
 #[test]
 fn calls_of_turns_are_told(rt: HostRuntime) -> Result<(), Fail> {
-    let mut station = station(&rt, rt.alloc())?;
-    holds(serves(&rt, &mut station), "the calls of two turns")
+    let mut bound_node = bound_node(&rt, rt.alloc())?;
+    holds(serves(&rt, &mut bound_node), "the calls of two turns")
 }

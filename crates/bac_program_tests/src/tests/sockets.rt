@@ -1,7 +1,7 @@
 //! Commands on the files, sockets and the clock of this machine.
 use super::*;
 use bac_command_line::System;
-use bac_link::{Clock, MonotonicClock, UdpLink};
+use bac_driver::{Clock, MonotonicClock, UdpLink};
 
 /// A port that is taken while the commands run.
 const TAKEN: u16 = 47_897;

@@ -1,6 +1,6 @@
 -- What was told of the reader was told of the file.
 use Rattle.std.proofs.Common.{List, ℕ, Option}
-use Rattle.bac_explain_chart.specs.Charted.{IsReportOf}
+use Rattle.bac_explain_report.specs.Charted.{IsReportOf}
 use Rattle.bac_command_line.proofs.CheckedFiles.{told_file}
 use Rattle.bac_command_line.proofs.files.chart.Goals as goal
 

@@ -1,6 +1,6 @@
 -- What was told of the reader was told of the file.
 use Rattle.std.proofs.Common.{List, ℕ, Option}
-use Rattle.bac_check.specs.Checked.{IsReportOf}
+use Rattle.bac_capture.specs.Checked.{IsReportOf}
 use Rattle.bac_command_line.proofs.CheckedFiles.{told_file}
 use Rattle.bac_command_line.proofs.files.check.Goals as goal
 

@@ -1,25 +1,25 @@
 -- Both stations are on links that were bound, and the clock was made.
 use Rattle.std.proofs.Common.{refl}
-use Rattle.bac_link.specs.Udp.{LOCAL_HOST}
+use Rattle.bac_driver.specs.Udp.{LOCAL_HOST}
 use Rattle.bac_command_line.specs.Online.{IsHouseAt, OnClock, OnPort}
 use Rattle.bac_command_line.proofs.Statuses.{lifted}
 use Rattle.bac_command_line.proofs.online.pair.Goals as goal
 
 pub returns : goal.returns
 returns g c =
-    let first : IsHouseAt (OnPort g.M.Machine.is_bound g.M.Link.Link.failures g.M.Link.Link.calls) LOCAL_HOST 0 c.in-Ok-house_station.station = record {
+    let first : IsHouseAt (OnPort g.M.Machine.is_bound g.M.Link.Link.failures g.M.Link.Link.calls) LOCAL_HOST 0 c.in-Ok-bound_house.bound_node = record {
       address = c.in-Ok.bound.1;
-      node = c.in-Ok-house_station.ensures.node;
-      on = record { link = c.in-Ok.bound.0; bound = c.in-Ok.ensures; failed = c.in-Ok-house_station.ensures.failures; made = c.in-Ok-house_station.ensures.calls };
+      node = c.in-Ok-bound_house.ensures.node;
+      on = record { link = c.in-Ok.bound.0; bound = c.in-Ok.ensures; failed = c.in-Ok-bound_house.ensures.failures; made = c.in-Ok-bound_house.ensures.calls };
     } in
-    let second : IsHouseAt (OnPort g.M.Machine.is_bound g.M.Link.Link.failures g.M.Link.Link.calls) LOCAL_HOST 0 c.in-Ok-house_station-2.other = record {
+    let second : IsHouseAt (OnPort g.M.Machine.is_bound g.M.Link.Link.failures g.M.Link.Link.calls) LOCAL_HOST 0 c.in-Ok-bound_house-2.other = record {
       address = c.in-Ok-bind.other_bound.1;
-      node = c.in-Ok-house_station-2.ensures.node;
+      node = c.in-Ok-bound_house-2.ensures.node;
       on = record {
         link = c.in-Ok-bind.other_bound.0;
         bound = c.in-Ok-bind.ensures;
-        failed = c.in-Ok-house_station-2.ensures.failures;
-        made = c.in-Ok-house_station-2.ensures.calls;
+        failed = c.in-Ok-bound_house-2.ensures.failures;
+        made = c.in-Ok-bound_house-2.ensures.calls;
       };
     } in
     let clock : OnClock g.M.Machine.is_made g.M.Timer.Clock.told (g.M.Timer.Clock.told c.in-Some.timer) =

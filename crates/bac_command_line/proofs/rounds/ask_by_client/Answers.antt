@@ -1,4 +1,4 @@
--- The station is on a link that was bound, and the clock was made.
+-- The bound_node is on a link that was bound, and the clock was made.
 use Rattle.std.proofs.Common.{refl}
 use Rattle.bac_command_line.specs.Online.{IsClientAt, OnClock, OnPort}
 use Rattle.bac_command_line.proofs.Statuses.{lifted}
@@ -7,10 +7,10 @@ use Rattle.bac_command_line.proofs.rounds.ask_by_client.Goals as goal
 pub returns : goal.returns
 returns g c =
     let client : IsClientAt (OnPort g.M.Machine.is_bound g.M.Link.Link.failures g.M.Link.Link.calls) c.args.asking.now.host c.in-Some-first_id.first_id
-    c.in-Ok-client_station.station = record {
+    c.in-Ok-bound_client.bound_node = record {
       address = c.in-Ok.bound.1;
-      node = c.in-Ok-client_station.ensures.node;
-      on = record { link = c.in-Ok.bound.0; bound = c.in-Ok.ensures; failed = c.in-Ok-client_station.ensures.failures; made = c.in-Ok-client_station.ensures.calls };
+      node = c.in-Ok-bound_client.ensures.node;
+      on = record { link = c.in-Ok.bound.0; bound = c.in-Ok.ensures; failed = c.in-Ok-bound_client.ensures.failures; made = c.in-Ok-bound_client.ensures.calls };
     } in
     let clock : OnClock g.M.Machine.is_made g.M.Timer.Clock.told (g.M.Timer.Clock.told c.in-Some.timer) =
     record { timer = c.in-Some.timer; made = c.in-Some.ensures; is = refl } in

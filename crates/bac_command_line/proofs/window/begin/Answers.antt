@@ -1,9 +1,9 @@
 -- The clock told when the ask is waited for from, and then the node refused it.
 use Rattle.std.proofs.Common.{rules, subst}
-use Rattle.bac_link.specs.Moments.{Told}
-use Rattle.bac_run.specs.Asking.{IsRefused}
-use Rattle.bac_run.specs.Runs.{timed}
-use Rattle.bac_run.specs.Views.{question_view}
+use Rattle.bac_driver.specs.Moments.{Told}
+use Rattle.bac_driver.specs.Asking.{IsRefused}
+use Rattle.bac_driver.specs.Runs.{timed}
+use Rattle.bac_driver.specs.Views.{question_view}
 use Rattle.bac_command_line.proofs.window.begin.Goals as goal
 
 pub returns-in-Err : goal.returns-in-Err
@@ -13,7 +13,7 @@ returns-in-Err g c =
           record {
             start = c.now.result;
             begun =
-                subst (λ (t : Told). IsRefused (question_view c.args.question.now) c.in-Err.fault (timed c.args.station.now t)
+                subst (λ (t : Told). IsRefused (question_view c.args.question.now) c.in-Err.fault (timed c.args.bound_node.now t)
                 (timed c.begin_by.new.self (g.C.Clock.told c.begin_by.new.clock))) c.now.ensures.tells (c.in-Err.ensures.refused (search rules));
           };
       failed = tt;

@@ -11,16 +11,16 @@ returns-in_default-clause-ended g c =
 pub returns-then-not-went-clause-ended : goal.returns-then-not-went-clause-ended
 returns-then-not-went-clause-ended g c =
     let no : c.in_ok-went.went ≡ false = search rules in
-    ran_out c.loop.counter c.in-Some.patience _ _ _ _ _ (omega arith) c.loop.invariant.waits (sym c.first_patience.ensures ∙ c.in-Some.is)
-    (went_not c.in-Some.patience c.in_ok-went.went _ _ no c.in_ok-went.ensures.went) c.take_first-then-not-went.ensures
+    ran_out c.loop.counter c.in-Some.wait_limit _ _ _ _ _ (omega arith) c.loop.invariant.waits (sym c.first_patience.ensures ∙ c.in-Some.is)
+    (went_not c.in-Some.wait_limit c.in_ok-went.went _ _ no c.in_ok-went.ensures.went) c.take_first-then-not-went.ensures
 
 pub loop-preserved : goal.loop-preserved
 loop-preserved g c =
     let yes : c.in_ok-went.went ≡ true = search rules in
-    let takes = went_on c.in-Some.patience c.in_ok-went.went _ _ yes c.in_ok-went.ensures.went in
+    let takes = went_on c.in-Some.wait_limit c.in_ok-went.went _ _ yes c.in_ok-went.ensures.went in
     record {
-      waits = one_more_waited c.loop.counter c.in-Some.patience _ _ _ c.loop.invariant.waits (sym c.first_patience.ensures ∙ c.in-Some.is) takes;
-      same = length_turned c.in-Some.patience _ _ takes ∙ c.loop.invariant.same;
+      waits = one_more_waited c.loop.counter c.in-Some.wait_limit _ _ _ c.loop.invariant.waits (sym c.first_patience.ensures ∙ c.in-Some.is) takes;
+      same = length_turned c.in-Some.wait_limit _ _ takes ∙ c.loop.invariant.same;
     }
 
 pub returns-clause-ended : goal.returns-clause-ended

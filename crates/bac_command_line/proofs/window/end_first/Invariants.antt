@@ -1,13 +1,13 @@
 -- So many turns were taken while the first was open.
 use Rattle.std.proofs.Common.{◌≡◌, length}
-use Rattle.bac_run.specs.Runs.{timed}
+use Rattle.bac_driver.specs.Runs.{timed}
 use Rattle.bac_command_line.specs.InFlight.{Waits, aloft}
 use Rattle.bac_command_line.proofs.window.end_first.Given as goal
 
 abbrev pub invariant-loop : goal.invariant-loop
 invariant-loop g l =
     record {
-      waits : Waits l.counter (aloft (timed l.fn.station (g.C.Clock.told l.fn.clock)) l.fn.flights.asks.items)
-          (aloft (timed l.station (g.C.Clock.told l.clock)) l.flights.asks.items);
+      waits : Waits l.counter (aloft (timed l.fn.bound_node (g.C.Clock.told l.fn.clock)) l.fn.flights.asks.items)
+          (aloft (timed l.bound_node (g.C.Clock.told l.clock)) l.flights.asks.items);
       same : length l.flights.asks.items ≡ length l.fn.flights.asks.items;
     }

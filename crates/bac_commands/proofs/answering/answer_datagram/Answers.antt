@@ -1,5 +1,5 @@
 use Rattle.std.specs.Global.{Vec}
-use Rattle.bac_ends.specs.Sends.{Datagram}
+use Rattle.bac_transaction.specs.Sends.{Datagram}
 use Rattle.bac_commands.proofs.OneReply.{replied}
 use Rattle.bac_commands.proofs.answering.answer_datagram.Goals as goal
 

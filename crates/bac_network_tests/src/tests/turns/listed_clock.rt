@@ -1,7 +1,7 @@
 //! A clock that tells the moments of a list.
 ghost use Rattle.std.specs.Prelude.{Some, take};
 
-use bac_link::Clock;
+use bac_driver::Clock;
 use std::process::Abort;
 
 /// A clock that tells the moments of a list in their order. It stops the test where none is left.

@@ -1,10 +1,10 @@
 //! A link in memory that tells its calls.
 ghost use Rattle.std.specs.Prelude.{◌≡◌, ◌∷◌, ◌++◌, [], map, Some, IfOk, IfSome, IsOk, length, ◌≤◌};
-ghost use Rattle.bac_link.specs.Calls.{received};
+ghost use Rattle.bac_driver.specs.Calls.{received};
 ghost use Rattle.bac_network_tests.specs.Calls.{call_view};
 
 use crate::noted_call::NotedCall;
-use bac_link::{Link, LinkFault};
+use bac_driver::{Link, LinkFault};
 use bac_npdu::LinkAddress;
 use std::alloc::Global;
 use std::process::Abort;

@@ -1,13 +1,13 @@
 -- How an ask is refused, and the end after an accepted one.
 use Rattle.std.proofs.Common.{◌<◌, ◌+◌, ◌∙◌, ap, refl, sym, subst, arith}
 use Rattle.bac_npdu.specs.Views.{peer_view}
-use Rattle.bac_protocol.specs.Client.{Ask, Ticket}
-use Rattle.bac_ends.specs.Ends.{AskOutcome, ClientEnd, context_of, is_id_held}
-use Rattle.bac_ends.specs.Ends.Held.{Open}
-use Rattle.bac_ends.specs.Keys.{PeerKey}
-use Rattle.bac_ends.specs.Views.{settings_view, slots_view}
+use Rattle.bac_protocol.specs.Client.{Ask, ClientTransaction}
+use Rattle.bac_transaction.specs.Ends.{AskOutcome, ClientEnd, context_of, is_id_held}
+use Rattle.bac_transaction.specs.Ends.TransactionSlot.{Open}
+use Rattle.bac_transaction.specs.Keys.{PeerKey}
+use Rattle.bac_transaction.specs.Views.{settings_view, slots_view}
 use Rattle.bac_service.specs.Views.{request_view}
-use Rattle.bac_aged.proofs.Aging.{stays_known}
+use Rattle.bac_slots.proofs.Aging.{stays_known}
 use Rattle.bac_requester.specs.Turns.{Accepts}
 use Rattle.bac_requester.specs.Views.{end_of}
 use Rattle.bac_requester.proofs.Accepting.{asked_by, no_id, no_slot, may_begin, free_around, has_room, has_number, accepted, entered, entered_end, not_alive}
@@ -43,7 +43,7 @@ returns-in_default-begin-clause-asks g c = λ from awake.
 
 pub enter-requires-clause-begins : goal.enter-requires-clause-begins
 enter-requires-clause-begins g c =
-    ap (λ (t : Ticket). t.ask.first) c.in-Ok.ensures.ticket
+    ap (λ (t : ClientTransaction). t.ask.first) c.in-Ok.ensures.ticket
     ∙ asked_first (context_of (settings_view c.args.settings.now) c.args.now (record { peer = peer_view c.args.peer.now; invoke_id = c.in-Some.invoke_id }))
     (asked_by c.args.now (request_view c.args.request) c.args.way)
 

@@ -1,7 +1,7 @@
 -- An invoke ID was found from the first one on, or from 0 on.
 use Rattle.bac_npdu.specs.Views.{peer_view}
-use Rattle.bac_ends.specs.Ends.{is_id_held}
-use Rattle.bac_ends.specs.Views.{slots_view}
+use Rattle.bac_transaction.specs.Ends.{is_id_held}
+use Rattle.bac_transaction.specs.Views.{slots_view}
 use Rattle.bac_requester.proofs.Accepting.{found_first, found_around}
 use Rattle.bac_requester.proofs.asking.free_id.Goals as goal
 

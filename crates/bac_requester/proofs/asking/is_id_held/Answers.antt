@@ -1,7 +1,7 @@
 -- A held slot at the rank of the key, another one, or none.
 use Rattle.bac_slots.specs.declared.slot.Slot.{Slot}
-use Rattle.bac_ends.specs.Ends.{Client}
-use Rattle.bac_ends.specs.declared.peer_key.PeerKey.{PeerKey}
+use Rattle.bac_transaction.specs.Ends.{Client}
+use Rattle.bac_transaction.specs.declared.peer_key.PeerKey.{PeerKey}
 use Rattle.bac_requester.proofs.Ids.{stands, stands_none}
 use Rattle.bac_requester.proofs.asking.is_id_held.Goals as goal
 

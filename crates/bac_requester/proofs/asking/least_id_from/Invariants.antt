@@ -2,8 +2,8 @@
 use Rattle.std.proofs.Common.{◌≡◌, ◌-◌}
 use Rattle.bac_npdu.specs.Views.{peer_view}
 use Rattle.bac_slots.specs.Slots.{rank}
-use Rattle.bac_ends.specs.Ends.{is_id_held, least_not}
-use Rattle.bac_ends.specs.Views.{code_key_cmp, slots_view}
+use Rattle.bac_transaction.specs.Ends.{is_id_held, least_not}
+use Rattle.bac_transaction.specs.Views.{code_key_cmp, slots_view}
 use Rattle.bac_requester.proofs.Ids.{key_at}
 use Rattle.bac_requester.proofs.asking.least_id_from.Given as goal
 

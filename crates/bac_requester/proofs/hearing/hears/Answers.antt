@@ -1,13 +1,13 @@
 -- One APDU at one slot.
 use Rattle.std.proofs.Common.{◌≡◌, ◌∙◌, List, Some, refl, ap, subst, sym}
 use Rattle.bac_apdu.specs.Views.{apdu_view}
-use Rattle.bac_ends.specs.Ends.{Client}
-use Rattle.bac_ticket.specs.Views.{held_view}
+use Rattle.bac_transaction.specs.Ends.{Client}
+use Rattle.bac_requester.specs.TransactionViews.{held_view}
 use Rattle.bac_slots.specs.declared.slot.Slot.{Slot}
-use Rattle.bac_ends.specs.Views.{code_same_key}
-use Rattle.bac_ends.specs.declared.peer_key.PeerKey.{PeerKey}
-use Rattle.bac_aged.proofs.Aging.{goes_on}
-use Rattle.bac_aged.proofs.Viewed.{put_back}
+use Rattle.bac_transaction.specs.Views.{code_same_key}
+use Rattle.bac_transaction.specs.declared.peer_key.PeerKey.{PeerKey}
+use Rattle.bac_slots.proofs.Aging.{goes_on}
+use Rattle.bac_transaction.proofs.Viewed.{put_back}
 use Rattle.bac_requester.specs.Aging.{AreAged, IsClientQuiet, began}
 use Rattle.bac_requester.proofs.Aging.{quiet_earlier}
 use Rattle.bac_requester.proofs.Turning.{heard_failed, heard_first, heard_held, heard_nothing, heard_unchanged}

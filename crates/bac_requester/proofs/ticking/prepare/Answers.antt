@@ -1,13 +1,13 @@
 -- One more slot's sends and ends.
 use Rattle.std.proofs.Common.{◌≡◌, Some, None, List, map, length, subst, arith}
 use Rattle.bac_slots.specs.declared.slot.Slot.{Slot}
-use Rattle.bac_ends.specs.Ends.{Client, ClientSlot, client_tick_sends, client_tick_ends, from_each}
-use Rattle.bac_ends.specs.Meanings.{IsFinish}
-use Rattle.bac_ends.specs.Sends.{IsSent, Pairwise}
-use Rattle.bac_ends.specs.Views.{settings_view}
-use Rattle.bac_ends.specs.declared.peer_key.PeerKey.{PeerKey}
+use Rattle.bac_transaction.specs.Ends.{Client, ClientSlot, client_tick_sends, client_tick_ends, from_each}
+use Rattle.bac_transaction.specs.Meanings.{IsFinish}
+use Rattle.bac_transaction.specs.Sends.{IsSent, Pairwise}
+use Rattle.bac_transaction.specs.Views.{settings_view}
+use Rattle.bac_transaction.specs.declared.peer_key.PeerKey.{PeerKey}
 use Rattle.bac_requester.specs.Views.{finish_view}
-use Rattle.bac_aged.proofs.Telling.{nth_slot, told_more, told_past, take_ordered}
+use Rattle.bac_transaction.proofs.Telling.{nth_slot, told_more, told_past, take_ordered}
 use Rattle.bac_requester.proofs.ticking.prepare.Goals as goal
 
 pub loop-n-preserved-in_default : goal.loop-n-preserved-in_default

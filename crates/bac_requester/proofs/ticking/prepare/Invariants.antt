@@ -1,12 +1,12 @@
 -- What the first n slots in order of keys send and end.
 use Rattle.std.proofs.Common.{◌≡◌, length, map, take}
 use Rattle.bac_slots.specs.Slots.{IsDistinct}
-use Rattle.bac_ends.specs.Ends.{Client, client_tick_sends, client_tick_ends, from_each}
-use Rattle.bac_ends.specs.Meanings.{IsFinish}
-use Rattle.bac_ends.specs.Sends.{IsSent, Pairwise}
-use Rattle.bac_ends.specs.Views.{code_same_key, settings_view}
+use Rattle.bac_transaction.specs.Ends.{Client, client_tick_sends, client_tick_ends, from_each}
+use Rattle.bac_transaction.specs.Meanings.{IsFinish}
+use Rattle.bac_transaction.specs.Sends.{IsSent, Pairwise}
+use Rattle.bac_transaction.specs.Views.{code_same_key, settings_view}
 use Rattle.bac_requester.specs.Views.{finish_view}
-use Rattle.bac_aged.proofs.Telling.{ordered}
+use Rattle.bac_transaction.proofs.Telling.{ordered}
 use Rattle.bac_requester.proofs.ticking.prepare.Given as goal
 
 abbrev pub invariant-loop-n : goal.invariant-loop-n

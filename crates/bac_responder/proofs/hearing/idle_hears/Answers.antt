@@ -4,15 +4,15 @@ use Rattle.bac_apdu.specs.Views.{apdu_view}
 use Rattle.bac_slots.specs.declared.slot.Slot.{Slot}
 use Rattle.bac_slots.specs.Slots.{value_at}
 use Rattle.bac_protocol.specs.Context.{Context}
-use Rattle.bac_protocol.specs.Server.{Entry, is_none_live, idle_gets}
-use Rattle.bac_ends.specs.Ends.{ServerEnd, is_free}
-use Rattle.bac_ends.specs.Keys.{PeerKey, same_key}
-use Rattle.bac_ends.specs.Views.{peer_key_view}
-use Rattle.bac_ends.specs.declared.peer_key.PeerKey.{PeerKey as CodeKey}
-use Rattle.bac_ends.proofs.Keyed.{value_viewed}
-use Rattle.bac_entry.specs.Services.{service_of}
-use Rattle.bac_ends.specs.Views.{context_view}
-use Rattle.bac_aged.proofs.Aging.{stays_known}
+use Rattle.bac_protocol.specs.Server.{ServerTransaction, is_none_live, idle_gets}
+use Rattle.bac_transaction.specs.Ends.{ServerEnd, is_free}
+use Rattle.bac_transaction.specs.Keys.{PeerKey, same_key}
+use Rattle.bac_transaction.specs.Views.{peer_key_view}
+use Rattle.bac_transaction.specs.declared.peer_key.PeerKey.{PeerKey as CodeKey}
+use Rattle.bac_transaction.proofs.Keyed.{value_viewed}
+use Rattle.bac_responder.specs.Services.{service_of}
+use Rattle.bac_transaction.specs.Views.{context_view}
+use Rattle.bac_slots.proofs.Aging.{stays_known}
 use Rattle.bac_responder.specs.Views.{end_of}
 use Rattle.bac_responder.proofs.Turned.{served_so, served_still, served_with, idle_is, begun_live, where_it_begins, its_place}
 use Rattle.bac_responder.proofs.Sweeps.{entered, keep_none, room}
@@ -22,13 +22,13 @@ pub returns-in-Stays-clause-turn : goal.returns-in-Stays-clause-turn
 returns-in-Stays-clause-turn g c =
     let key : CodeKey = c.args.context.now.key in
     let now : ℕ = c.args.context.now.moment in
-    let slots : List (Slot CodeKey Entry) = g.S.SlotTable.slots c.args.aged.now.table in
+    let slots : List (Slot CodeKey ServerTransaction) = g.S.SlotTable.slots c.args.aged.now.table in
     let e : ServerEnd = end_of slots (g.S.SlotTable.capacity c.args.aged.now.table) c.args.restart in
     let k : PeerKey = peer_key_view key in
     let set : Context = context_view c.args.context.now in
-    let o : Option Entry = value_at same_key k e.slots in
+    let o : Option ServerTransaction = value_at same_key k e.slots in
     let dead : is_none_live now o ≡ true =
-    ap (is_none_live now) (sym (value_viewed Entry key slots)) ∙ c.requires.dead in
+    ap (is_none_live now) (sym (value_viewed ServerTransaction key slots)) ∙ c.requires.dead in
     let same =
     idle_is set (service_of c.args.store.now) o (is_free now e) (apdu_view c.args.apdu.now) dead
     ∙ where_it_begins set (service_of c.args.store.now) o (is_free now e) (apdu_view c.args.apdu.now)
@@ -40,14 +40,14 @@ pub returns-in-Begins-clause-turn : goal.returns-in-Begins-clause-turn
 returns-in-Begins-clause-turn g c =
     let key : CodeKey = c.args.context.now.key in
     let now : ℕ = c.args.context.now.moment in
-    let slots : List (Slot CodeKey Entry) = g.S.SlotTable.slots c.args.aged.now.table in
+    let slots : List (Slot CodeKey ServerTransaction) = g.S.SlotTable.slots c.args.aged.now.table in
     let e : ServerEnd = end_of slots (g.S.SlotTable.capacity c.args.aged.now.table) c.args.restart in
     let k : PeerKey = peer_key_view key in
     let set : Context = context_view c.args.context.now in
-    let o : Option Entry = value_at same_key k e.slots in
-    let x : Entry = c.in-Begins.reaction.entry in
+    let o : Option ServerTransaction = value_at same_key k e.slots in
+    let x : ServerTransaction = c.in-Begins.reaction.entry in
     let dead : is_none_live now o ≡ true =
-    ap (is_none_live now) (sym (value_viewed Entry key slots)) ∙ c.requires.dead in
+    ap (is_none_live now) (sym (value_viewed ServerTransaction key slots)) ∙ c.requires.dead in
     let same =
     idle_is set (service_of c.args.store.now) o (is_free now e) (apdu_view c.args.apdu.now) dead
     ∙ where_it_begins set (service_of c.args.store.now) o (is_free now e) (apdu_view c.args.apdu.now)

@@ -1,6 +1,6 @@
 -- An end moves at that moment.
 use Rattle.std.proofs.Common.{◌<◌, ◌∙◌, max, min, ap, subst, arith}
-use Rattle.bac_ticket.specs.Timers.{LAST_MOMENT}
+use Rattle.bac_requester.specs.Timers.{LAST_MOMENT}
 use Rattle.bac_node.proofs.Waits.{moves_at}
 use Rattle.bac_node.proofs.node.Node.next_due.Goals as goal
 

@@ -7,8 +7,8 @@ use Rattle.bac_service.specs.Views.{request_view}
 use Rattle.bac_protocol.specs.Context.{Settings}
 use Rattle.bac_protocol.specs.declared.times.TheConstants.{REST}
 use Rattle.bac_protocol.specs.Service.{Octets}
-use Rattle.bac_ends.specs.Ends.{AskOutcome, ClientEnd, first_after}
-use Rattle.bac_ends.specs.Views.{settings_view}
+use Rattle.bac_transaction.specs.Ends.{AskOutcome, ClientEnd, first_after}
+use Rattle.bac_transaction.specs.Views.{settings_view}
 use Rattle.bac_requester.specs.Turns.{Asks}
 use Rattle.bac_requester.specs.Views.{end_of}
 use Rattle.bac_requester.proofs.Accepting.{asked_by, can_go, waiting}

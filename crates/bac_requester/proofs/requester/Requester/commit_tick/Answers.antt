@@ -1,6 +1,6 @@
 -- All slots have gone on.
 use Rattle.bac_protocol.specs.declared.times.TheConstants.{REST}
-use Rattle.bac_ends.specs.Ends.{first_after}
+use Rattle.bac_transaction.specs.Ends.{first_after}
 use Rattle.bac_requester.proofs.Ticks.{committed}
 use Rattle.bac_requester.proofs.requester.Requester.commit_tick.Goals as goal
 

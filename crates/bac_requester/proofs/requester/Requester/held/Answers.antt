@@ -1,6 +1,6 @@
 -- A table's slots are in order.
-use Rattle.bac_ends.specs.Ends.{Client}
-use Rattle.bac_aged.proofs.Viewed.{orderly_viewed}
+use Rattle.bac_transaction.specs.Ends.{Client}
+use Rattle.bac_transaction.proofs.Viewed.{orderly_viewed}
 use Rattle.bac_requester.proofs.requester.Requester.held.Goals as goal
 
 pub returns-clause-orderly : goal.returns-clause-orderly

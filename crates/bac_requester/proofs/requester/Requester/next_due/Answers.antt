@@ -1,9 +1,9 @@
 -- What is due first in the table is due first at the end.
 use Rattle.std.proofs.Common.{◌∙◌, sym}
 use Rattle.bac_protocol.specs.declared.times.TheConstants.{REST}
-use Rattle.bac_ends.specs.Ends.{Client, first_after}
-use Rattle.bac_aged.proofs.Viewed.{due_viewed, each_viewed}
-use Rattle.bac_ticket.specs.Timers.{IsHeldQuiet}
+use Rattle.bac_transaction.specs.Ends.{Client, first_after}
+use Rattle.bac_transaction.proofs.Viewed.{due_viewed, each_viewed}
+use Rattle.bac_requester.specs.Timers.{IsHeldQuiet}
 use Rattle.bac_requester.specs.Aging.{client_due}
 use Rattle.bac_requester.specs.Views.{end_of}
 use Rattle.bac_requester.proofs.Waiting.{clients_move, clients_rest}

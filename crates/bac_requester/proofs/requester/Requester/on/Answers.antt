@@ -3,8 +3,8 @@ use Rattle.std.proofs.Common.{ap}
 use Rattle.bac_apdu.specs.Views.{apdu_view}
 use Rattle.bac_npdu.specs.Views.{peer_view}
 use Rattle.bac_protocol.specs.declared.times.TheConstants.{REST}
-use Rattle.bac_ends.specs.Ends.{first_after}
-use Rattle.bac_ends.specs.Views.{settings_view}
+use Rattle.bac_transaction.specs.Ends.{first_after}
+use Rattle.bac_transaction.specs.Views.{settings_view}
 use Rattle.bac_requester.specs.Views.{end_of}
 use Rattle.bac_requester.proofs.Turning.{heard}
 use Rattle.bac_requester.proofs.requester.Requester.on.Goals as goal

@@ -1,8 +1,8 @@
 -- Before anything is due nothing is sent or ended.
 use Rattle.std.proofs.Common.{◌∙◌, ap, map, sym}
 use Rattle.bac_protocol.specs.declared.times.TheConstants.{REST}
-use Rattle.bac_ends.specs.Ends.{first_after}
-use Rattle.bac_aged.proofs.Aging.{between}
+use Rattle.bac_transaction.specs.Ends.{first_after}
+use Rattle.bac_slots.proofs.Aging.{between}
 use Rattle.bac_requester.specs.Views.{finish_view}
 use Rattle.bac_requester.proofs.Ticks.{nothing_due}
 use Rattle.bac_requester.proofs.requester.Requester.prepare_tick.Goals as goal

@@ -1,6 +1,6 @@
 -- What is short in the table is short in the end's slots.
-use Rattle.bac_ends.specs.Ends.{Client}
-use Rattle.bac_aged.proofs.Viewed.{each_viewed}
+use Rattle.bac_transaction.specs.Ends.{Client}
+use Rattle.bac_transaction.proofs.Viewed.{each_viewed}
 use Rattle.bac_requester.specs.Short.{IsHeldShort}
 use Rattle.bac_requester.proofs.requester.Requester.reassemblies_are_short.Goals as goal
 

@@ -1,6 +1,6 @@
 -- Before anything is due nothing is sent.
 use Rattle.std.proofs.Common.{◌∙◌, sym}
-use Rattle.bac_aged.proofs.Aging.{between}
+use Rattle.bac_slots.proofs.Aging.{between}
 use Rattle.bac_responder.proofs.Ticks.{nothing_due}
 use Rattle.bac_responder.proofs.responder.Responder.prepare_tick.Goals as goal
 

@@ -1,2 +1,0 @@
--- What is known of the ages of a table's slots.
-pub mod Ages

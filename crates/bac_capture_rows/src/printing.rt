@@ -1,0 +1,118 @@
+//! What is printed of capture files.
+use crate::seen::file_of;
+use crate::words::octets_of;
+use bac_capture::{Ports, check_capture_over};
+use bac_explain_report::{Form, chart_over, explain_over};
+use std::alloc::Global;
+use std::io::{BufRead, BufReader, Write};
+
+const PORTS: Ports = Ports { also: None };
+
+/// What is printed of a file.
+#[derive(Clone, Copy)]
+pub(crate) enum Print {
+    /// The datagrams that are faulty, and counts, without other functions by name or with them.
+    Check,
+    Named,
+    /// The transactions.
+    Explain,
+    /// A chart of them.
+    Chart(Form),
+}
+
+/// Prints that; the exit status.
+pub(crate) fn status_of<R: BufRead, O: Write>(
+    alloc: Global,
+    print: Print,
+    input: &mut R,
+    out: &mut O,
+    err: &mut Vec<u8>,
+) -> u8 {
+    let status = match print {
+        Print::Check => check_capture_over(alloc, input, PORTS, false, out, err),
+        Print::Named => check_capture_over(alloc, input, PORTS, true, out, err),
+        Print::Explain => explain_over(alloc, input, PORTS, out, err),
+        Print::Chart(form) => chart_over(alloc, form, input, PORTS, out, err),
+    };
+    status.code()
+}
+
+/// Prints what was complained of, and the status.
+pub(crate) fn print_end(code: u8, err: &[u8], out: &mut Vec<u8>) -> Option<()> {
+    if !err.is_empty() {
+        out.write_all(b"! ").ok()?;
+        out.write_all(err).ok()?;
+    }
+    if code != 0 {
+        writeln!(out, "status {code}").ok()?;
+    }
+    Some(())
+}
+
+/// Prints an input, and how it ends.
+pub(crate) fn print_over<R: BufRead>(
+    alloc: Global,
+    print: Print,
+    input: &mut R,
+    out: &mut Vec<u8>,
+) -> Option<()> {
+    let mut err = Vec::new(alloc);
+    let code = status_of(alloc, print, input, out, &mut err);
+    print_end(code, &err, out)
+}
+
+/// What is printed of a file whose reader has that many octets at hand at a time.
+fn printed_by(alloc: Global, print: Print, file: &[u8], at_hand: usize) -> Option<Vec<u8>> {
+    let Ok(mut input) = BufReader::with_capacity(alloc, at_hand, file) else {
+        return None;
+    };
+    let mut out = Vec::new(alloc);
+    print_over(alloc, print, &mut input, &mut out)?;
+    Some(out)
+}
+
+/// Prints a file, and whether something else is printed where its reader has few octets at hand.
+fn print_file(alloc: Global, print: Print, file: &[u8], out: &mut Vec<u8>) -> Option<()> {
+    let told = printed_by(alloc, print, file, 8_192)?;
+    out.write_all(&told).ok()?;
+    if printed_by(alloc, print, file, 1)? != told || printed_by(alloc, print, file, 7)? != told {
+        out.write_all(b"otherwise by few octets\n").ok()?;
+    }
+    Some(())
+}
+
+/// Prints a file of hexadecimal digits.
+pub(crate) fn print_octets(
+    alloc: Global,
+    print: Print,
+    digits: &str,
+    out: &mut Vec<u8>,
+) -> Option<()> {
+    print_file(alloc, print, &octets_of(alloc, digits)?, out)
+}
+
+/// Prints a file of datagrams.
+pub(crate) fn print_seen(
+    alloc: Global,
+    print: Print,
+    lines: &str,
+    out: &mut Vec<u8>,
+) -> Option<()> {
+    print_file(alloc, print, &file_of(alloc, lines)?, out)
+}
+
+/// Prints how a chart of a file of datagrams ends, and not the chart.
+pub(crate) fn print_end_of_chart(alloc: Global, lines: &str, out: &mut Vec<u8>) -> Option<()> {
+    let file = file_of(alloc, lines)?;
+    let mut input = file.as_slice();
+    let mut drawn = Vec::new(alloc);
+    let mut err = Vec::new(alloc);
+    let code = status_of(
+        alloc,
+        Print::Chart(Form::Chart),
+        &mut input,
+        &mut drawn,
+        &mut err,
+    );
+    print_end(code, &err, out)
+}

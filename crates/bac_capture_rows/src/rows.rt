@@ -1,0 +1,81 @@
+//! Rows one after the other.
+use crate::printing::{Print, print_end_of_chart, print_octets, print_seen};
+use crate::words::first;
+use crate::{failing, frames, transactions};
+use bac_explain_report::Form;
+use std::alloc::Global;
+use std::io;
+use std::io::Write;
+
+/// What plays a row.
+#[derive(Clone, Copy)]
+enum Kind {
+    Frames,
+    Transaction,
+    /// A capture file of datagrams that are seen.
+    Seen(Print),
+    /// A capture file in hexadecimal digits.
+    File(Print),
+    /// How a chart ends.
+    End,
+    /// An input or an output that fails.
+    Input,
+    Output(Print),
+}
+
+const KINDS: &[(&str, Kind)] = &[
+    ("frames", Kind::Frames),
+    ("transaction", Kind::Transaction),
+    ("explain", Kind::Seen(Print::Explain)),
+    ("chart", Kind::Seen(Print::Chart(Form::Chart))),
+    ("mermaid", Kind::Seen(Print::Chart(Form::Mermaid))),
+    ("end", Kind::End),
+    ("check", Kind::File(Print::Check)),
+    ("named", Kind::File(Print::Named)),
+    ("explain-file", Kind::File(Print::Explain)),
+    ("chart-file", Kind::File(Print::Chart(Form::Chart))),
+    ("mermaid-file", Kind::File(Print::Chart(Form::Mermaid))),
+    ("input", Kind::Input),
+    ("output", Kind::Output(Print::Check)),
+    ("named-output", Kind::Output(Print::Named)),
+];
+
+fn kind_of(word: &str) -> Option<Kind> {
+    for (name, kind) in KINDS {
+        if *name == word {
+            return Some(*kind);
+        }
+    }
+    None
+}
+
+fn play_lines(alloc: Global, kind: Kind, lines: &str, out: &mut Vec<u8>) -> Option<()> {
+    match kind {
+        Kind::Frames => frames::play(alloc, lines, out),
+        Kind::Transaction => transactions::play(alloc, lines, out),
+        Kind::Seen(print) => print_seen(alloc, print, lines, out),
+        Kind::File(print) => print_octets(alloc, print, lines, out),
+        Kind::End => print_end_of_chart(alloc, lines, out),
+        Kind::Input => failing::input(alloc, lines, out),
+        Kind::Output(print) => failing::output(alloc, print, lines, out),
+    }
+}
+
+/// A row's title and its lines; the title's first word says what plays it.
+fn play(alloc: Global, row: &str, out: &mut Vec<u8>) -> Option<()> {
+    let row = row.trim_end_matches('\n');
+    let (title, lines) = row.split_once('\n').unwrap_or((row, ""));
+    writeln!(out, "\n={title}").ok()?;
+    play_lines(alloc, kind_of(first(title).0)?, lines, out)
+}
+
+/// Each row of a text.
+pub(crate) fn play_all(alloc: Global, text: &str, out: &mut Vec<u8>) -> io::Result<()> {
+    let rows = text.strip_prefix('=').unwrap_or(text);
+    for row in rows.split("\n=") {
+        if play(alloc, row, out).is_none() {
+            out.write_all(b"?\n")?;
+        }
+    }
+    Ok(())
+}

@@ -1,4 +1,0 @@
-pub mod Steps
-pub mod Report
-pub mod Few
-pub mod Telling

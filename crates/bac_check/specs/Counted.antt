@@ -1,6 +1,0 @@
--- The counts of a tally.
-use Rattle.bac_check.specs.declared.tally.Tally.{Tally}
-use Rattle.bac_check.specs.Counts.{Counts}
-
-abbrev pub counts_of : Tally → Counts
-counts_of t = record { frames = t.frames; good = t.good; bad = t.bad; other = t.other; others = t.others }

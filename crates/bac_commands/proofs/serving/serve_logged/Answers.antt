@@ -1,0 +1,15 @@
+-- The log began whole, and is whole in the end.
+use Rattle.std.proofs.Common.{true}
+use Rattle.bac_commands.specs.Logs.{Log}
+use Rattle.bac_commands.proofs.Logging.{logged}
+use Rattle.bac_commands.proofs.serving.serve_logged.Goals as goal
+
+pub returns-clause-logged : goal.returns-clause-logged
+returns-clause-logged g c whole =
+    let from : Log = record { serves_from = c.args.serves_from; whole = true; text = g.E.Write.contents c.args.err.now } in
+    let to : Log = record {
+      serves_from = c.serve-status.new.watch.serves_from;
+      whole = c.serve-status.new.watch.whole;
+      text = g.E.Write.contents c.serve-status.new.err;
+    } in
+    logged c.serve-status.result c.args.wait_limit.now c.args.turns from to _ _ whole c.serve-status.ensures.watched

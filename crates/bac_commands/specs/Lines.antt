@@ -1,0 +1,82 @@
+-- The lines of a turn.
+use Rattle.std.specs.Prelude.{◌≡◌, ◌==◌, ℕ, nat_le, nat_lt, count_by, Bool, List, [], ◌++◌, codes, decimal, length, take, Option, Some, None, if◌then◌else◌}
+use Rattle.bac_protocol.specs.Service.{Octets}
+use Rattle.bac_protocol.specs.Own.{invoke_id_of}
+use Rattle.bac_apdu.specs.Apdu.{Apdu, UnconfirmedRequest}
+use Rattle.bac_npdu.specs.Npdu.{NpduView}
+use Rattle.bac_npdu.specs.Peers.{PeerView}
+use Rattle.bac_transaction.specs.Ends.{ServerEnd, is_slot_live}
+use Rattle.bac_world.specs.Node.{Cause}
+use Rattle.bac_driver.specs.Seen.{Seen}
+use Rattle.bac_driver.specs.Turns.{Turn}
+use Rattle.bac_explain_report.specs.Peers.{link_text, peer_text}
+use Rattle.bac_text.specs.Texts.{line_end}
+use Rattle.bac_commands.specs.Frames.{contents_of, npdu_in}
+use Rattle.bac_commands.specs.LogWords.{AreAskingWords, AreDoneWords, cause_words}
+
+-- ---- a datagram
+
+-- why a request is turned away: the server restarted, and serves from a moment on, or each slot of the reply table is live
+abbrev pub is_full : (now : ℕ) → ServerEnd → Bool
+is_full now e = nat_le e.capacity (count_by (is_slot_live now) e.slots)
+
+abbrev pub away_words : (serves_from now : ℕ) → ServerEnd → List ℕ
+away_words from now e = if nat_lt now from then codes ", restarted" else (if is_full now e then codes ", table full" else [])
+
+-- an Unconfirmed-Request has no invoke ID
+abbrev pub id_text : Apdu → List ℕ
+id_text (UnconfirmedRequest choice service) = []
+id_text a = codes " id " ++ decimal (invoke_id_of a)
+
+-- a moment, in milliseconds, and the other end
+abbrev pub head_text : (at : ℕ) → PeerView → Apdu → List ℕ
+head_text at peer a = decimal at ++ (codes " " ++ (peer_text peer ++ (id_text a ++ codes " ")))
+
+-- what came, and what was done
+pub record IsHeardLine (away : List ℕ) (turn : Turn) (peer : PeerView) (a : Apdu) (text : List ℕ) : Type 0 where
+  pub asking : List ℕ
+  pub are_asking : AreAskingWords turn.performed a asking
+  pub done : List ℕ
+  pub are_done : AreDoneWords away turn.performed turn.sends done
+  pub is : text ≡ (((head_text turn.at peer a ++ asking) ++ codes ": ") ++ done) ++ line_end
+
+abbrev pub IsApduText : (away : List ℕ) → Turn → PeerView → Option Apdu → List ℕ → Type 0
+IsApduText away turn peer None text = text ≡ []
+IsApduText away turn peer (Some a) text = IsHeardLine away turn peer a text
+
+-- the sender is the link, or stands behind it
+abbrev pub IsNpduText : (away : List ℕ) → Turn → (from : Octets) → Option NpduView → List ℕ → Type 0
+IsNpduText away turn from None text = text ≡ []
+IsNpduText away turn from (Some n) text = IsApduText away turn (record { link = from; route = n.source }) (contents_of (Some n)) text
+
+abbrev pub dropped_line : (at : ℕ) → (from : Octets) → Cause → List ℕ
+dropped_line at from cause = decimal at ++ (codes " " ++ (link_text from ++ (codes " dropped: " ++ (cause_words cause ++ codes "\n"))))
+
+-- a datagram is dropped, or heard
+abbrev pub IsCameText : (away : List ℕ) → Turn → (from octets : Octets) → Option Cause → List ℕ → Type 0
+IsCameText away turn from octets (Some cause) text = text ≡ dropped_line turn.at from cause
+IsCameText away turn from octets None text = IsNpduText away turn from (npdu_in octets) text
+
+-- where one came
+abbrev pub IsReceivedText : (away : List ℕ) → Turn → (buffer : Octets) → Option (Octets × ℕ) → List ℕ → Type 0
+IsReceivedText away turn buffer None text = text ≡ []
+IsReceivedText away turn buffer (Some d) text = IsCameText away turn d.0 (take d.1 buffer) turn.dropped text
+
+-- ---- what else a turn gave
+
+-- so many datagrams or steps, where there are any
+abbrev pub count_line : (at : ℕ) → (front : List ℕ) → (count : ℕ) → (name : List ℕ) → List ℕ
+count_line at front count name = if count == 0 then [] else decimal at ++ (codes " " ++ (front ++ (decimal count ++ (name ++ codes "\n"))))
+
+abbrev pub rest_text : Turn → List ℕ
+rest_text turn =
+    (count_line turn.at (codes "timer: ") (length turn.tick_sends) (codes " sent again")
+    ++ count_line turn.at (codes "link: ") turn.lost (codes " not sent"))
+    ++ count_line turn.at (codes "no memory: ") turn.skipped (codes " not done")
+
+-- ---- all of a turn, of a server that serves from a moment on
+
+pub record AreTurnLines (serves_from : ℕ) (s : Seen) (text : List ℕ) : Type 0 where
+  pub came : List ℕ
+  pub is_came : IsReceivedText (away_words serves_from s.turn.at s.node.servers) s.turn s.buffer s.turn.received came
+  pub is : text ≡ came ++ rest_text s.turn

@@ -1,0 +1,84 @@
+//! What came, in words.
+ghost use Rattle.std.specs.Prelude.{◌≡◌, ◌++◌, codes, IfOk};
+ghost use Rattle.std.specs.Option.{option_map};
+ghost use Rattle.bac_apdu.specs.Views.{apdu_view, segment_view};
+ghost use Rattle.bac_node.specs.Views.{performed_view};
+ghost use Rattle.bac_value_text.specs.Reasons.{abort_text};
+ghost use Rattle.bac_commands.specs.LogWords.{AreAskedWords, AreAskingWords, AreCameWords, segment_words};
+
+use bac_apdu::{Apdu, Segment};
+use bac_explain_report::{request_in_words, service_words};
+use bac_responder::Act;
+use bac_value::NoMemory;
+use bac_value_text::abort_text;
+use std::alloc::{AllocError, Global};
+
+fn segment_words(alloc: Global, choice: u8, segment: Segment) -> Result<Vec<u8>, AllocError>
+    ensures { IfOk result (λ t. t.items ≡ segment_words choice (segment_view segment)) }
+{
+    let number = segment.number;
+    let text = format!(in alloc; "service {choice} segment {number}")?;
+    Ok(text.into_bytes())
+}
+
+/// A request, or a segment of one.
+fn asked_words(
+    alloc: Global,
+    segment: Option<Segment>,
+    choice: u8,
+    service: &[u8],
+) -> Result<Vec<u8>, NoMemory>
+    ensures { IfOk result (λ t. AreAskedWords (option_map segment_view segment) choice service.now t.items) }
+{
+    match segment {
+        None => service_words(alloc, choice, service),
+        Some(segment) => Ok(segment_words(alloc, choice, segment)?),
+    }
+}
+
+fn aborted_words(alloc: Global, reason: u8) -> Result<Vec<u8>, AllocError>
+    ensures { IfOk result (λ t. t.items ≡ codes "abort " ++ abort_text reason) }
+{
+    let reason = abort_text(alloc, reason)?;
+    let text = format!(in alloc; "abort {reason}")?;
+    Ok(text.into_bytes())
+}
+
+/// An APDU that came.
+fn came_words(alloc: Global, apdu: &Apdu<'_>) -> Result<Vec<u8>, NoMemory>
+    ensures { IfOk result (λ t. AreCameWords (apdu_view apdu.now) t.items) }
+{
+    match *apdu {
+        Apdu::ConfirmedRequest {
+            segment,
+            choice,
+            service,
+            ..
+        } => asked_words(alloc, segment, choice, service),
+        Apdu::UnconfirmedRequest { choice, .. } => {
+            Ok(format!(in alloc; "unconfirmed-request {choice}")?.into_bytes())
+        }
+        Apdu::SimpleAck { .. } => Ok(Vec::from_slice(alloc, b"simple-ack")?),
+        Apdu::ComplexAck { .. } => Ok(Vec::from_slice(alloc, b"complex-ack")?),
+        Apdu::SegmentAck { number, .. } => {
+            Ok(format!(in alloc; "segment-ack {number}")?.into_bytes())
+        }
+        Apdu::Error { .. } => Ok(Vec::from_slice(alloc, b"error")?),
+        Apdu::Reject { .. } => Ok(Vec::from_slice(alloc, b"reject")?),
+        Apdu::Abort { reason, .. } => Ok(aborted_words(alloc, reason)?),
+    }
+}
+
+/// An APDU that came, or the request that was performed for it.
+pub(crate) fn asking_words(
+    alloc: Global,
+    effect: &Option<Act>,
+    apdu: &Apdu<'_>,
+) -> Result<Vec<u8>, NoMemory>
+    ensures { IfOk result (λ t. AreAskingWords (option_map performed_view effect.now) (apdu_view apdu.now) t.items) }
+{
+    match effect {
+        Some(act) => request_in_words(alloc, act.effect.request.as_request()),
+        None => came_words(alloc, apdu),
+    }
+}

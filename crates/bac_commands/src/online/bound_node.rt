@@ -1,0 +1,72 @@
+//! The node of each command, on its link.
+ghost use Rattle.std.specs.Prelude.{◌≡◌, false, IfOk, IsErrOf};
+ghost use Rattle.bac_node.specs.Fresh.{slots_fit};
+ghost use Rattle.bac_commands.specs.Houses.{client_node, house_node, server_node};
+
+use crate::fresh_node::{node_of, node_with, server_node};
+use bac_driver::{BoundNode, Link};
+use bac_node::NewNodeFault;
+use bac_npdu::LinkAddress;
+use bac_store::{Store, house};
+use bac_value::NoMemory;
+use std::alloc::Global;
+
+/// A node of that address that serves a store, on that link, with so many slots at each end, 1 to 1,024. Where a moment is given, in milliseconds, it restarts
+/// then: it turns new requests away while no more than 65,000 ms have passed since.
+///
+/// `BadSlots` where there can't be so many slots, `NoMemory` where memory is refused.
+pub fn bound_server<L: Link>(
+    alloc: Global,
+    link: L,
+    address: LinkAddress,
+    store: Store,
+    slots: usize,
+    restart: Option<u64>,
+) -> Result<BoundNode<L>, NewNodeFault>
+    ensures node { IfOk result (λ s. s.node ≡ server_node slots restart address store) }
+    ensures failures { IfOk result (λ s. s.failures ≡ L.failures link) }
+    ensures calls { IfOk result (λ s. s.calls ≡ L.calls link) }
+    ensures slots { IsErrOf result NewNodeFault.BadSlots → slots_fit slots ≡ false }
+    ensures window { IsErrOf result NewNodeFault.BadWindow → ⊥ }
+{
+    let node = server_node(alloc, slots, restart, address, store)?;
+    Ok(BoundNode::new(alloc, node, link)?)
+}
+
+/// A node of that address with a house store of its own and 64 slots at each end, on that link, whose invoke IDs begin at that one; an Err where memory is
+/// refused.
+pub fn bound_house<L: Link>(
+    alloc: Global,
+    link: L,
+    address: LinkAddress,
+    first_id: u8,
+) -> Result<BoundNode<L>, NoMemory>
+    ensures node { IfOk result (λ s. s.node ≡ house_node first_id address) }
+    ensures failures { IfOk result (λ s. s.failures ≡ L.failures link) }
+    ensures calls { IfOk result (λ s. s.calls ≡ L.calls link) }
+{
+    let store = house(alloc)?;
+    let mut node = node_with(alloc, address, store)?;
+    node.begin_ids_at(first_id);
+    BoundNode::new(alloc, node, link)
+}
+
+/// How many slots a node has that asks for a list: one for each invoke ID.
+const IDS: usize = 256;
+
+/// The same with 256 slots at each end.
+pub fn bound_client<L: Link>(
+    alloc: Global,
+    link: L,
+    address: LinkAddress,
+    first_id: u8,
+) -> Result<BoundNode<L>, NoMemory>
+    ensures node { IfOk result (λ s. s.node ≡ client_node first_id address) }
+    ensures failures { IfOk result (λ s. s.failures ≡ L.failures link) }
+    ensures calls { IfOk result (λ s. s.calls ≡ L.calls link) }
+{
+    let store = house(alloc)?;
+    let mut node = node_of(alloc, IDS, address, store)?;
+    node.begin_ids_at(first_id);
+    BoundNode::new(alloc, node, link)
+}

@@ -1,0 +1,81 @@
+//! Why a command stopped.
+ghost use Rattle.std.specs.Prelude.{◌≡◌};
+ghost use Rattle.bac_text.specs.Statuses.{IsFailure};
+ghost use Rattle.bac_text.specs.declared.status.Status.TheVariants as status;
+ghost use Rattle.bac_commands.specs.CommandErrors.{IsToldBy, trouble_of};
+ghost use Rattle.bac_commands.specs.declared.online.command_error.CommandError.TheVariants as command_error;
+
+use bac_driver::TurnFault;
+use bac_text::{Status, complain, no_memory, output_failed};
+use bac_value::NoMemory;
+use std::io;
+use std::io::Write;
+
+/// Why a command stopped before its end.
+#[derive(Debug, Drop)]
+pub enum CommandError {
+    /// The link can't be made, or can't receive.
+    Link,
+    /// The clock can't be read, or goes back.
+    Clock,
+    /// Memory was refused.
+    Memory,
+    /// What is told could not be written.
+    Output(io::Error),
+}
+
+/// Complains of a link that can't be made, or can't receive. The status is that of all that is outside of the program.
+pub fn link_fault<E: Write>(err: &mut E) -> Status
+    ensures { result ≡ status.Output }
+{
+    complain(err, "link fault", Status::Output)
+}
+
+/// Complains of a clock that can't be read, or goes back. The status is that of all that is outside of the program.
+pub fn clock_fault<E: Write>(err: &mut E) -> Status
+    ensures { result ≡ status.Output }
+{
+    complain(err, "clock fault", Status::Output)
+}
+
+impl CommandError {
+    /// Complains of it.
+    pub fn tell<E: Write>(self, err: &mut E) -> Status
+        ensures told { IsToldBy self result }
+        ensures failed { IsFailure result }
+    {
+        match self {
+            CommandError::Link => link_fault(err),
+            CommandError::Clock => clock_fault(err),
+            CommandError::Memory => no_memory(err),
+            CommandError::Output(error) => output_failed(err, &error),
+        }
+    }
+}
+
+impl From<TurnFault> for CommandError {
+    ghost from_gives = { λ f t. t ≡ trouble_of f };
+
+    fn from(fault: TurnFault) -> CommandError {
+        match fault {
+            TurnFault::Link => CommandError::Link,
+            TurnFault::ClockBack => CommandError::Clock,
+        }
+    }
+}
+
+impl From<NoMemory> for CommandError {
+    ghost from_gives = { λ _ t. t ≡ command_error.Memory };
+
+    fn from(_error: NoMemory) -> CommandError {
+        CommandError::Memory
+    }
+}
+
+impl From<io::Error> for CommandError {
+    ghost from_gives = { λ e t. t ≡ command_error.Output e };
+
+    fn from(error: io::Error) -> CommandError {
+        CommandError::Output(error)
+    }
+}

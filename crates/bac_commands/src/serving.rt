@@ -1,0 +1,50 @@
+//! A node that serves, and whose turns are logged.
+ghost use Rattle.std.specs.Prelude.{IsTrue};
+ghost use Rattle.bac_driver.specs.Runs.{timed};
+ghost use Rattle.bac_commands.specs.Reports.{ReportsServing, ServingIsWatched};
+ghost use Rattle.bac_commands.specs.Logs.{Tells};
+
+use crate::log::Log;
+use bac_driver::{BoundNode, Clock, Link, WaitLimit};
+use bac_text::Status;
+use std::alloc::Global;
+use std::io::Write;
+
+/// How serving ended, and whether its log is whole.
+#[derive(Clone, Copy, Debug, PartialEq, Eq)]
+pub struct Logged {
+    pub status: Status,
+    /// Whether each line of each turn was written.
+    pub whole: bool,
+}
+
+/// Serves as `serve` of bac_commands does, and logs each turn on `err`: a line for the datagram that came, with what was done, and one for each thing else
+/// that the turn gave. The server serves from a moment on, in milliseconds: 0 where it did not restart.
+///
+/// Where a line cannot be written, or finds no memory, no further one is, and serving goes on.
+pub fn serve_logged<L: Link, C: Clock, O: Write, E: Write>(
+    alloc: Global,
+    bound_node: &mut BoundNode<L>,
+    clock: &mut C,
+    wait_limit: &WaitLimit,
+    turns: u64,
+    serves_from: u64,
+    out: &mut O,
+    err: &mut E,
+) -> Logged
+    ensures printed { ReportsServing result.status wait_limit.now turns (timed bound_node.old (C.told clock.old)) (timed bound_node.new (C.told clock.new))
+        (O.contents out.old) (O.contents out.new) }
+    ensures logged { IsTrue result.whole → ServingIsWatched result.status (Tells serves_from) wait_limit.now turns
+        (timed bound_node.old (C.told clock.old)) (timed bound_node.new (C.told clock.new)) (E.contents err.old) (E.contents err.new) }
+{
+    let mut log = Log {
+        alloc,
+        serves_from,
+        whole: true,
+    };
+    let status = crate::serve(bound_node, clock, wait_limit, turns, &mut log, out, err);
+    Logged {
+        status,
+        whole: log.whole,
+    }
+}

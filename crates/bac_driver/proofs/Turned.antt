@@ -1,0 +1,50 @@
+-- A turn, of its two parts.
+use Rattle.std.proofs.Common.{◌≡◌, ℕ, ◌+◌, ◌≤◌, min, List, ◌++◌, map, length, ap, sym, subst, ◌∙◌, arith, length-append}
+use Rattle.std.proofs.lemmas.List.{map-append}
+use Rattle.bac_protocol.specs.Service.{Octets}
+use Rattle.bac_transaction.specs.Sends.{Datagram}
+use Rattle.bac_driver.specs.Calls.{Calls, MOST}
+use Rattle.bac_driver.specs.BoundNodes.{BoundNode}
+use Rattle.bac_driver.specs.Turns.{Acts, IsCarried, Step, Steps, Turn, call_of, counted, with_calls}
+use Rattle.bac_driver.proofs.Counts.{counted_both, with_more}
+
+-- what a step sends goes to the link
+pub record IsSentBy (sends : List Datagram) (lost : ℕ) (failures after : ℕ) (calls calls_after : Calls) : Type 0 where
+  pub count : after ≡ counted failures lost
+  pub order : calls_after ≡ with_calls calls (map call_of sends)
+  pub most : lost ≤ length sends
+
+-- what two steps send, one after the other
+pub carried : (a b : List Datagram) (x y lost g : ℕ) (m : Calls) (old new : BoundNode)
+    → IsSentBy a x old.failures g old.calls m → IsSentBy b y g new.failures m new.calls → lost ≡ min (x + y) MOST → IsCarried (a ++ b) lost old new
+carried a b x y lost g m old new sends more sum =
+    record {
+      order =
+          more.order
+          ∙ ap (λ calls. with_calls calls (map call_of b)) sends.order
+          ∙ with_more old.calls (map call_of a) (map call_of b)
+          ∙ ap (with_calls old.calls) (sym (map-append call_of a b));
+      count = counted_both old.failures x y lost g new.failures sends.count more.count sum;
+      most = let both = length-append a b in omega (arith, sends.most, more.most);
+    }
+
+-- the same of what both vectors hold that were lent to be sent
+pub carried_of : (a b all more : List Datagram) (lost : ℕ) (old new : BoundNode) → a ≡ all → b ≡ more → IsCarried (a ++ b) lost old new
+    → IsCarried (all ++ more) lost old new
+carried_of a b all more lost old new is is_more sent =
+    subst (λ (x : List Datagram). IsCarried (all ++ x) lost old new) is_more (subst (λ (x : List Datagram). IsCarried (x ++ b) lost old new) is sent)
+
+-- both steps of a bound_node that was so before them, over the octets that it had in its buffer
+pub acted : (now : ℕ) (seen : Octets) (before old new : BoundNode) (turn : Turn) (first second : Step) → before ≡ old → seen ≡ before.buffer
+    → turn.at ≡ now → new.buffer ≡ before.buffer → Steps now seen before.node new.node turn first second → IsCarried (first.sends ++ second.sends) turn.lost before new
+    → Acts now old turn new
+acted now seen before old new turn first second is seen_is at same steps sent =
+    subst (λ (o : BoundNode). Acts now o turn new) is
+    (record {
+      first = first;
+      second = second;
+      at = at;
+      steps = subst (λ (b : Octets). Steps now b before.node new.node turn first second) seen_is steps;
+      carried = sent;
+      buffer = same;
+    })

@@ -1,0 +1,17 @@
+use Rattle.std.proofs.Common.{◌≡◌, Option, Some, MatchOption, subst}
+use Rattle.bac_requester.specs.TransactionViews.{ending_view}
+use Rattle.bac_driver.specs.Views.{turn_view}
+use Rattle.bac_driver.specs.Serving.{TakesEarlyTurn}
+use Rattle.bac_driver.specs.Asking.{own_turn}
+use Rattle.bac_driver.proofs.Loops.{none_told, one_more_waited}
+use Rattle.bac_driver.proofs.bound_node.BoundNode.wait.Goals as goal
+
+-- what a turn was, where it was taken
+taken_of : {A : Type 0} (r : Option A) (is_over : Type 0) (is_taken : A → Type 0) (x : A) → r ≡ Some x → MatchOption r is_over is_taken → is_taken x
+taken_of r is_over is_taken x is taken = subst (λ o. MatchOption o is_over is_taken) is taken
+
+pub loop-preserved : goal.loop-preserved
+loop-preserved g c =
+    one_more_waited (TakesEarlyTurn c.args.wait_limit.now) own_turn c.loop.counter c.args.ticket (turn_view c.in-Some.turn) _ _ _ c.loop.invariant
+    (taken_of _ _ _ c.in-Some.turn c.in-Some.is c.in_ok-turn.ensures.taken)
+    (none_told ending_view c.ending_in.result _ c.in_default-ending_in.not-Some c.ending_in.ensures)

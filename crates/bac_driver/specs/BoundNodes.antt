@@ -1,0 +1,16 @@
+-- A node on its link.
+use Rattle.std.specs.Prelude.{ℕ}
+use Rattle.bac_protocol.specs.Service.{Octets}
+use Rattle.bac_driver.specs.Calls.{Calls}
+use Rattle.bac_world.specs.Node.{Node}
+
+-- how many octets of a datagram are received
+abbrev pub BUFFER : ℕ
+BUFFER = 2048
+
+-- a node, and of its link how many calls failed, and which calls were made, where it tells; and the buffer for what comes
+pub record BoundNode : Type 0 where
+  pub node : Node
+  pub failures : ℕ
+  pub calls : Calls
+  pub buffer : Octets

@@ -1,0 +1,14 @@
+pub mod Faults
+pub mod BoundNodes
+pub mod Turns
+pub mod Waits
+pub mod Runs
+pub mod Serving
+pub mod Seen
+pub mod Asking
+pub mod Pairs
+pub mod Views
+pub mod Calls
+pub mod Udp
+pub mod Moments
+pub mod Clocks

@@ -1,0 +1,54 @@
+-- Turns of a node that serves, as they are seen.
+use Rattle.std.specs.Prelude.{◌≡◌, ◌⊎◌, ℕ, List, map, length}
+use Rattle.bac_protocol.specs.Service.{Octets}
+use Rattle.bac_world.specs.Node.{Node}
+use Rattle.bac_driver.specs.Runs.{Run, Timed}
+use Rattle.bac_driver.specs.Serving.{IsOver, StopsAfter, TakesEarlyTurn, count_of, performed_in}
+use Rattle.bac_driver.specs.Turns.{Turn}
+use Rattle.bac_driver.specs.declared.wait_limit.WaitLimit.{WaitLimit}
+
+-- the node after a turn, the buffer, and what the turn gave
+pub record Seen : Type 0 where
+  pub node : Node
+  pub buffer : Octets
+  pub turn : Turn
+
+abbrev pub seen : Node → Octets → Turn → Seen
+seen node buffer turn = record { node = node; buffer = buffer; turn = turn }
+
+abbrev pub turn_of : Seen → Turn
+turn_of s = s.turn
+
+-- what a watcher makes of a turn
+abbrev pub Watcher : Type 0 → Type 1
+Watcher S = Seen → (old new : S) → Type 0
+
+-- a turn that began before the last moment, and what was seen of it
+pub record TakesSeenTurn (p : WaitLimit) (old : Timed) (s : Seen) (new : Timed) : Type 0 where
+  pub takes : TakesEarlyTurn p old s.turn new
+  pub is : s ≡ seen new.bound_node.node new.bound_node.buffer s.turn
+
+-- the watcher saw it, and its state went on
+abbrev pub goes_on : {S : Type 0} → Watcher S → S → Seen → S → Type 0
+goes_on Sees old s new = Sees s old new
+
+-- so many such turns were taken, in which so many requests were performed; each was seen, in order
+pub record WatchesTurns {S : Type 0} (Sees : Watcher S) (p : WaitLimit) (from to : S) (turns effects : ℕ) (old new : Timed) : Type 0 where
+  pub taken : List Seen
+  pub all : length taken ≡ turns
+  pub run : Run (TakesSeenTurn p) taken old new
+  pub told : Run (goes_on Sees) taken from to
+  pub counted : effects ≡ performed_in (map turn_of taken)
+
+-- all turns were taken, or the time was over before
+abbrev pub Watches : {S : Type 0} → Watcher S → WaitLimit → (from to : S) → (turns effects : ℕ) → (old new : Timed) → Type 0
+Watches Sees p from to turns effects old new =
+    WatchesTurns Sees p from to turns effects old new
+    ⊎ StopsAfter (λ (taken : ℕ). WatchesTurns Sees p from to taken effects) turns (IsOver p) old new
+
+-- one such turn was taken and seen, in which so many requests were performed
+pub record WatchesOnce {S : Type 0} (Sees : Watcher S) (p : WaitLimit) (from to : S) (effects : ℕ) (old new : Timed) : Type 0 where
+  pub s : Seen
+  pub takes : TakesSeenTurn p old s new
+  pub told : Sees s from to
+  pub counted : effects ≡ count_of s.turn.performed

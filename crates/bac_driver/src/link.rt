@@ -1,0 +1,42 @@
+//! What carries datagrams from and to a node.
+ghost use Rattle.std.specs.Prelude.{◌≡◌, ℕ, ◌≤◌, length, IfOk, IfSome};
+ghost use Rattle.std.specs.Option.{option_map};
+ghost use Rattle.bac_driver.specs.Calls.{Calls, IsCounted, received, with_call};
+ghost use Rattle.bac_driver.specs.Calls.Call.{Send};
+
+use bac_npdu::LinkAddress;
+use thiserror::Error;
+
+/// A call of a link failed.
+#[derive(Clone, Copy, Debug, PartialEq, Eq, Error)]
+#[error("a call of the link failed")]
+pub struct LinkFault;
+
+/// What carries datagrams from and to a node. Addresses are those of clause J.1.2: four octets of an IP address and two of a UDP port.
+///
+/// A link counts its failures, and may tell which calls were made and what came of them.
+pub trait Link: Drop {
+    ghost failures: { Self → ℕ };
+
+    ghost calls: { Self → Calls };
+
+    /// How many calls failed, at most 2^64 - 1.
+    fn failures(&self) -> u64
+        ensures { result ≡ Self.failures self.now };
+
+    /// Hands a datagram over to be sent to an address. After an Err it is lost.
+    fn send(&mut self, to: LinkAddress, octets: &[u8]) -> Result<(), LinkFault>
+        ensures counted { IsCounted result (Self.failures self.old) (Self.failures self.new) }
+        ensures told { Self.calls self.new ≡ with_call (Self.calls self.old) (Send to octets.now) };
+
+    /// Waits for a datagram, so many milliseconds at most. Its sender, and how many octets it has; the octets are the first of the buffer, and of a longer
+    /// datagram those that fit it. None where no datagram has come.
+    fn recv(
+        &mut self,
+        buffer: &mut [u8],
+        wait: u64,
+    ) -> Result<Option<(LinkAddress, usize)>, LinkFault>
+        ensures within { IfOk result (λ r. IfSome r (λ d. d.1 ≤ length buffer.new)) }
+        ensures counted { IsCounted result (Self.failures self.old) (Self.failures self.new) }
+        ensures told { Self.calls self.new ≡ with_call (Self.calls self.old) (received wait buffer.new result) };
+}

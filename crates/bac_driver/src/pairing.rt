@@ -1,0 +1,93 @@
+//! Two nodes in one process, each on its own link; the first of them asks.
+ghost use Rattle.std.specs.Prelude.{IfOk, IfErr};
+ghost use Rattle.bac_driver.specs.Asking.{Waits};
+ghost use Rattle.bac_driver.specs.Pairs.{IsBeside, PairEnds, PairFails, RoundFails, RoundGives, RoundsFail, TakesRound, paired, turn_of_first};
+ghost use Rattle.bac_driver.specs.Views.{question_view, turn_view};
+
+use crate::bound_node::BoundNode;
+use crate::endings::ending_in;
+use crate::fault::TurnFault;
+use crate::question::{AskEnd, Question};
+use crate::turn::Turn;
+use crate::wait_limit::WaitLimit;
+use crate::{Clock, Link};
+use bac_requester::{AskFault, Ending};
+
+/// How long the second node may wait after a turn of the first: until something is due at that one, and not at all where a datagram came to it, since more may
+/// have come.
+fn patience_beside<L: Link>(first: &BoundNode<L>, turn: &Turn) -> WaitLimit
+    ensures { IsBeside first.now.node (turn_view turn.now) result }
+{
+    let wait = match turn.received {
+        Some(_) => 0,
+        None => u64::MAX,
+    };
+    WaitLimit {
+        wait,
+        until: first.node().next_due(),
+    }
+}
+
+/// A turn of the first node, which doesn't wait, and then one of the second. Answers what the first turn gave.
+fn take_round<L: Link, C: Clock>(
+    first: &mut BoundNode<L>,
+    second: &mut BoundNode<L>,
+    clock: &mut C,
+) -> Result<Turn, TurnFault>
+    ensures taken { IfOk result (λ t. RoundGives (turn_view t)
+        (paired first.old second.old (C.told clock.old)) (paired first.new second.new (C.told clock.new))) }
+    ensures failed { IfErr result (λ e. RoundFails e
+        (paired first.old second.old (C.told clock.old)) (paired first.new second.new (C.told clock.new))) }
+{
+    let turn = first.turn_by(clock, &WaitLimit::AT_ONCE)?;
+    second.turn_by(clock, &patience_beside(first, &turn))?;
+    Ok(turn)
+}
+
+/// Takes rounds until the ticket of the first node has ended, but no more than so many.
+fn wait<L: Link, C: Clock>(
+    first: &mut BoundNode<L>,
+    second: &mut BoundNode<L>,
+    clock: &mut C,
+    ticket: u64,
+    turns: u64,
+) -> Result<Option<Ending>, TurnFault>
+    ensures waited { IfOk result (Waits TakesRound turn_of_first turns ticket
+        (paired first.old second.old (C.told clock.old)) (paired first.new second.new (C.told clock.new))) }
+    ensures failed { IfErr result (λ e. RoundsFail e turns ticket
+        (paired first.old second.old (C.told clock.old)) (paired first.new second.new (C.told clock.new))) }
+{
+    for _ in 0..turns {
+        let turn = take_round(first, second, clock)?;
+        if let Some(ending) = ending_in(turn, ticket) {
+            return Ok(Some(ending));
+        }
+    }
+    Ok(None)
+}
+
+/// As `BoundNode::ask` of the first, with a second node that takes one turn on its own link after each turn of the first. The first does not wait, and the
+/// second until something is due at either node, or a datagram comes; where one has just come to the first, it does not wait either. `Link` and `ClockBack` are
+/// those of either node.
+pub fn pair<L: Link, C: Clock>(
+    first: &mut BoundNode<L>,
+    second: &mut BoundNode<L>,
+    clock: &mut C,
+    question: &Question,
+    turns: u64,
+) -> Result<AskEnd, TurnFault>
+    ensures ended { IfOk result (λ end. PairEnds (question_view question.now) end turns
+        (paired first.old second.old (C.told clock.old)) (paired first.new second.new (C.told clock.new))) }
+    ensures failed { IfErr result (λ e. PairFails (question_view question.now) e turns
+        (paired first.old second.old (C.told clock.old)) (paired first.new second.new (C.told clock.new))) }
+{
+    let ticket = match first.begin_by(clock, question) {
+        Ok(ticket) => ticket,
+        Err(AskFault::ClockBack) => return Err(TurnFault::ClockBack),
+        Err(fault) => return Ok(AskEnd::Refused(fault)),
+    };
+    match wait(first, second, clock, ticket, turns)? {
+        Some(ending) => Ok(AskEnd::Ended(ending)),
+        None => Ok(AskEnd::NoEnding),
+    }
+}

@@ -1,0 +1,169 @@
+//! A link over UDP (clause J.1).
+ghost use Rattle.std.specs.Prelude.{◌≡◌, ℕ, None, IfOk};
+ghost use Rattle.bac_driver.specs.Calls.{one_more};
+ghost use Rattle.bac_driver.specs.Udp.{LOCAL_HOST, bound_host, bound_port, udp_address};
+
+use crate::link::{Link, LinkFault};
+use bac_npdu::LinkAddress;
+use std::io;
+use std::io::ErrorKind;
+use std::net::{Ipv4Addr, Net, SocketAddr, UdpSocket};
+use std::time::Duration;
+
+/// The shortest wait for a datagram, in milliseconds: a socket takes no time-out of 0.
+const LEAST_WAIT: u64 = 1;
+
+/// The longest wait of one call, in milliseconds: a day. Systems differ in how long a time-out they take.
+const MOST_WAIT: u64 = 86_400_000;
+
+/// The address of this machine that no other one reaches.
+const LOCAL_HOST: [u8; 4] = [127, 0, 0, 1];
+
+/// A UDP socket. A call of `recv` that is to wait 0 milliseconds waits 1, and none waits longer than a day.
+#[derive(Drop)]
+pub struct UdpLink {
+    socket: UdpSocket,
+    /// The IPv4 address that was asked for.
+    host: [u8; 4],
+    /// The port that was asked for.
+    port: u16,
+    /// The address that the system tells.
+    address: LinkAddress,
+    /// How long the socket waits for a datagram, in milliseconds.
+    wait: u64,
+    failures: u64,
+}
+
+/// The address of a link.
+fn link_of(address: SocketAddr) -> Option<LinkAddress> {
+    let SocketAddr::V4(address) = address else {
+        return None;
+    };
+    let [a, b, c, d] = address.ip().octets();
+    let [high, low] = address.port().to_be_bytes();
+    Some([a, b, c, d, high, low])
+}
+
+/// The socket address of a link.
+fn address_of(link: LinkAddress) -> SocketAddr {
+    let [a, b, c, d, high, low] = link;
+    let port = u16::from_be_bytes([high, low]);
+    SocketAddr::from((Ipv4Addr::new(a, b, c, d), port))
+}
+
+impl UdpLink {
+    /// A link at that port of 127.0.0.1; as `bind_at`.
+    pub fn bind<R: Net>(net: &R, port: u16) -> io::Result<UdpLink>
+        ensures port { IfOk result (λ l. bound_port l ≡ port) }
+        ensures host { IfOk result (λ l. bound_host l ≡ LOCAL_HOST) }
+    {
+        UdpLink::bind_at(net, LOCAL_HOST, port)
+    }
+
+    /// A link at that port of an IPv4 address of this machine: 0.0.0.0 is each of them, and port 0 any free one. An Err where the system refuses it, or
+    /// tells no IPv4 address of it.
+    pub fn bind_at<R: Net>(net: &R, host: [u8; 4], port: u16) -> io::Result<UdpLink>
+        ensures port { IfOk result (λ l. bound_port l ≡ port) }
+        ensures host { IfOk result (λ l. bound_host l ≡ host) }
+    {
+        let [a, b, c, d] = host;
+        let asked = SocketAddr::from((Ipv4Addr::new(a, b, c, d), port));
+        let socket = UdpSocket::bind(net, asked)?;
+        socket.set_read_timeout(Some(Duration::from_millis(LEAST_WAIT)))?;
+        let Some(address) = link_of(socket.local_addr()?) else {
+            return Err(io::Error::from(ErrorKind::AddrNotAvailable));
+        };
+        Ok(UdpLink {
+            socket,
+            host,
+            port,
+            address,
+            wait: LEAST_WAIT,
+            failures: 0,
+        })
+    }
+
+    /// The IPv4 address that it was bound to; 0.0.0.0 was each of this machine.
+    pub fn host(&self) -> [u8; 4]
+        ensures { result ≡ bound_host self.now }
+    {
+        self.host
+    }
+
+    /// The port that it was bound to; 0 was any free one.
+    pub fn port(&self) -> u16
+        ensures { result ≡ bound_port self.now }
+    {
+        self.port
+    }
+
+    /// The address of this link.
+    pub fn address(&self) -> LinkAddress
+        ensures { result ≡ udp_address self.now }
+    {
+        self.address
+    }
+
+    /// The socket waits so long from now on.
+    fn set_wait(&mut self, wait: u64) -> io::Result<()>
+        ensures { self.new.failures ≡ self.old.failures }
+    {
+        let wait = wait.max(LEAST_WAIT).min(MOST_WAIT);
+        if wait != self.wait {
+            self.socket
+                .set_read_timeout(Some(Duration::from_millis(wait)))?;
+            self.wait = wait;
+        }
+        Ok(())
+    }
+
+    fn failed(&mut self) -> LinkFault
+        ensures { self.new.failures ≡ one_more self.old.failures }
+    {
+        self.failures = self.failures.saturating_add(1);
+        LinkFault
+    }
+}
+
+/// Whether no datagram came in time, or a signal came first.
+fn is_empty_wait(error: &io::Error) -> bool {
+    matches!(
+        error.kind(),
+        ErrorKind::WouldBlock | ErrorKind::TimedOut | ErrorKind::Interrupted
+    )
+}
+
+impl Link for UdpLink {
+    ghost failures = { λ l. l.failures };
+
+    ghost calls = { λ _. None };
+
+    fn failures(&self) -> u64 {
+        self.failures
+    }
+
+    fn send(&mut self, to: LinkAddress, octets: &[u8]) -> Result<(), LinkFault> {
+        match self.socket.send_to(octets, address_of(to)) {
+            Ok(len) if len == octets.len() => Ok(()),
+            _ => Err(self.failed()),
+        }
+    }
+
+    fn recv(
+        &mut self,
+        buffer: &mut [u8],
+        wait: u64,
+    ) -> Result<Option<(LinkAddress, usize)>, LinkFault> {
+        if self.set_wait(wait).is_err() {
+            return Err(self.failed());
+        }
+        match self.socket.recv_from(buffer) {
+            Ok((len, from)) => match link_of(from) {
+                Some(from) => Ok(Some((from, len))),
+                None => Ok(None),
+            },
+            Err(error) if is_empty_wait(&error) => Ok(None),
+            Err(_) => Err(self.failed()),
+        }
+    }
+}

@@ -1,0 +1,42 @@
+//! How long turns wait.
+ghost use Rattle.std.specs.Prelude.{◌≡◌};
+ghost use Rattle.bac_driver.specs.Waits.{wait_until};
+
+/// How long a turn may wait for a datagram where nothing is due.
+#[derive(Clone, Copy, Debug, PartialEq, Eq)]
+pub struct WaitLimit {
+    /// So many milliseconds at most; 2^64 - 1 is as long as the link can.
+    pub wait: u64,
+    /// And not beyond this moment, in milliseconds, if there is one.
+    pub until: Option<u64>,
+}
+
+impl WaitLimit {
+    /// At most 100 milliseconds.
+    pub const BRIEF: WaitLimit = WaitLimit {
+        wait: 100,
+        until: None,
+    };
+
+    /// No wait.
+    pub const AT_ONCE: WaitLimit = WaitLimit {
+        wait: 0,
+        until: None,
+    };
+
+    /// Until something is due.
+    pub const UNTIL_DUE: WaitLimit = WaitLimit {
+        wait: u64::MAX,
+        until: None,
+    };
+}
+
+/// So many milliseconds, but none beyond that moment.
+pub(crate) fn wait_until(most: u64, now: u64, moment: Option<u64>) -> u64
+    ensures { result ≡ wait_until most now moment }
+{
+    match moment {
+        Some(moment) => moment.saturating_sub(now).min(most),
+        None => most,
+    }
+}

@@ -1,0 +1,4 @@
+pub mod Blocking
+pub mod Report
+pub mod Telling
+pub mod ChartReport

@@ -1,0 +1,27 @@
+-- What contracts see of what is known of a capture, and of what there is to tell.
+use Rattle.std.specs.Option.{option_map}
+use Rattle.bac_explain.specs.Closings.{closed_view}
+use Rattle.bac_explain.specs.KeyViews.{key_view}
+use Rattle.bac_explain_report.specs.Accounts as plain
+use Rattle.bac_explain_report.specs.Accounts.{HearingView, ToldView}
+use Rattle.bac_explain_report.specs.Accounts.ToldView.{NothingTold, UnreadTold, HeardTold}
+use Rattle.bac_explain_report.specs.declared.account.Account.{Account}
+use Rattle.bac_explain_report.specs.declared.told.Hearing.{Hearing}
+use Rattle.bac_explain_report.specs.declared.told.Told.{Told}
+use Rattle.bac_explain_report.specs.declared.told.Told.TheVariants as told
+
+abbrev pub account_view : Account → plain.Account
+account_view a = record { slots = a.explainer; tally = a.tally }
+
+abbrev pub hearing_view : Hearing → HearingView
+hearing_view h = record {
+  key = key_view h.key;
+  over = option_map closed_view h.over;
+  closed = option_map closed_view h.closed;
+  finding = h.finding;
+}
+
+abbrev pub told_view : Told → ToldView
+told_view told.Nothing = NothingTold
+told_view (told.Unread why) = UnreadTold why
+told_view (told.Heard h) = HeardTold (hearing_view h)

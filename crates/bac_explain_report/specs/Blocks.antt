@@ -1,0 +1,74 @@
+-- The block of a transaction.
+use Rattle.std.specs.Prelude.{◌≡◌, ℕ, ◌-◌, ◌==◌, Bool, List, [], ◌∷◌, ◌++◌, codes, decimal, Option, Some, None, if◌then◌else◌}
+use Rattle.bac_explain.specs.Keys.{Key}
+use Rattle.bac_explain.specs.Sent.{SentView}
+use Rattle.bac_explain.specs.Tables.{ClosedView}
+use Rattle.bac_explain.specs.Transactions.{TransactionView}
+use Rattle.bac_explain_report.specs.Answers as answer
+use Rattle.bac_explain_report.specs.Endings.{answer_ending, ending_name}
+use Rattle.bac_explain_report.specs.Peers.{key_text}
+use Rattle.bac_explain_report.specs.Requests as request
+
+abbrev pub head_text : Key → List ℕ
+head_text k = codes "transaction " ++ (key_text k ++ codes "\n")
+
+-- how often its first APDU was seen, and how many segments beside it
+abbrev pub counts_text : SentView → List ℕ
+counts_text s =
+    if s.segments == 0 then codes "times=" ++ decimal s.times else
+    codes "times=" ++ (decimal s.times ++ (codes " more-segments=" ++ decimal s.segments))
+
+abbrev pub asked_front : SentView → List ℕ
+asked_front s = codes "  asked at=" ++ (decimal s.moment ++ (codes " " ++ (counts_text s ++ codes " ")))
+
+-- when it was asked, how often, and for what
+pub record IsAskedLine (s : SentView) (text : List ℕ) : Type 0 where
+  pub words : List ℕ
+  pub are : request.AreOctetsWords s.octets words
+  pub is : text ≡ (asked_front s ++ words) ++ (10 ∷ [])
+
+-- what answers, or began to
+abbrev pub answer_name : SentView → List ℕ
+answer_name s = if s.whole then ending_name (answer_ending s.octets) else codes "began"
+
+abbrev pub answered_front : (asked : ℕ) → SentView → List ℕ
+answered_front asked s =
+    codes "  " ++ (answer_name s ++ (codes " after=" ++ (decimal (s.moment - asked) ++ (codes " " ++ (counts_text s ++ codes " ")))))
+
+-- how it was answered, after how many milliseconds, how often, and with what
+pub record IsAnsweredLine (asked : ℕ) (s : SentView) (text : List ℕ) : Type 0 where
+  pub words : List ℕ
+  pub are : answer.AreOctetsWords s.octets words
+  pub is : text ≡ (answered_front asked s ++ words) ++ (10 ∷ [])
+
+abbrev pub IsAnswerLineIn : (asked : ℕ) → Option SentView → List ℕ → Type 0
+IsAnswerLineIn asked None text = text ≡ []
+IsAnswerLineIn asked (Some s) text = IsAnsweredLine asked s text
+
+abbrev pub IsAnswerLine : TransactionView → List ℕ → Type 0
+IsAnswerLine t text = IsAnswerLineIn t.request.moment t.answer text
+
+abbrev pub naks_text : ℕ → List ℕ
+naks_text naks = if naks == 0 then [] else codes "  negative SegmentACKs=" ++ (decimal naks ++ codes "\n")
+
+-- the end of the answer was not seen, maybe since the server aborted it
+abbrev pub part_text : (broken_off : Bool) → List ℕ
+part_text broken_off = if broken_off then codes "  aborted by the server\n" else codes "  answer began, not whole\n"
+
+abbrev pub rest_text : (broken_off : Bool) → Option SentView → List ℕ
+rest_text broken_off None = codes "  unanswered\n"
+rest_text broken_off (Some s) = if s.whole then [] else part_text broken_off
+
+-- the client gave up, or no answer was seen, or not all of it
+abbrev pub end_text : TransactionView → List ℕ
+end_text t = if t.gave_up then codes "  given up by the client\n" else rest_text t.broken_off t.answer
+
+abbrev pub tail_text : TransactionView → List ℕ
+tail_text t = naks_text t.naks ++ end_text t
+
+pub record IsBlock (c : ClosedView) (text : List ℕ) : Type 0 where
+  pub asked : List ℕ
+  pub answer : List ℕ
+  pub is_asked : IsAskedLine c.transaction.request asked
+  pub is_answer : IsAnswerLine c.transaction answer
+  pub is : text ≡ ((head_text c.key ++ asked) ++ answer) ++ tail_text c.transaction

@@ -1,0 +1,43 @@
+-- How a transaction ended, as far as it was seen.
+use Rattle.std.specs.Prelude.{ℕ, Bool, ◌||◌, List, codes, Option, Some, None, Result, Ok, Err, if◌then◌else◌}
+use Rattle.bac_apdu.specs.Apdu.{Apdu, Reject, Abort}
+use Rattle.bac_apdu.specs.Reading.{apdu_at}
+use Rattle.bac_apdu.specs.declared.fault.ApduFault.{ApduFault}
+use Rattle.bac_explain.specs.Sent.{SentView}
+use Rattle.bac_explain.specs.Transactions.{TransactionView}
+use Rattle.bac_explain_report.specs.declared.ending.Ending.{Ending}
+use Rattle.bac_explain_report.specs.declared.ending.Ending.TheVariants.{Answered, Rejected, Aborted, Unanswered}
+
+abbrev pub ending_name : Ending → List ℕ
+ending_name Answered = codes "answered"
+ending_name Rejected = codes "rejected"
+ending_name Aborted = codes "aborted"
+ending_name Unanswered = codes "unanswered"
+
+-- an Error is an answer too
+abbrev pub apdu_ending : Apdu → Ending
+apdu_ending (Reject invoke_id reason) = Rejected
+apdu_ending (Abort server invoke_id reason) = Aborted
+apdu_ending _ = Answered
+
+abbrev pub read_ending : Result Apdu ApduFault → Ending
+read_ending (Ok a) = apdu_ending a
+read_ending (Err fault) = Answered
+
+abbrev pub answer_ending : List ℕ → Ending
+answer_ending octets = read_ending (apdu_at octets)
+
+abbrev pub no_answer_ending : (gave_up : Bool) → Ending
+no_answer_ending gave_up = if gave_up then Aborted else Unanswered
+
+-- an answer whose last segment was not seen is none; the server's Abort may come in the midst of it
+abbrev pub seen_ending : (broken_off gave_up : Bool) → SentView → Ending
+seen_ending broken_off gave_up s = if s.whole then answer_ending s.octets else no_answer_ending (broken_off || gave_up)
+
+-- without an answer the client's Abort ends it
+abbrev pub ending_in : (broken_off gave_up : Bool) → Option SentView → Ending
+ending_in broken_off gave_up None = no_answer_ending gave_up
+ending_in broken_off gave_up (Some s) = seen_ending broken_off gave_up s
+
+abbrev pub ending_of : TransactionView → Ending
+ending_of t = ending_in t.broken_off t.gave_up t.answer

@@ -1,0 +1,137 @@
+-- What is drawn of a frame, and what is kept of it.
+use Rattle.std.specs.Prelude.{◌≡◌, ◌≤◌, ℕ, ◌+◌, ◌-◌, ◌^◌, min, Bool, true, false, not, if◌then◌else◌, List, [], ◌++◌, length, codes, decimal, Option, Some, None, Result, Ok, Err}
+use Rattle.bac_apdu.specs.Reading.{apdu_at}
+use Rattle.bac_capture.specs.Blocks.{FrameView}
+use Rattle.bac_capture.specs.declared.fault.FileFault.{FileFault}
+use Rattle.bac_chart.specs.Drawings.{line_text}
+use Rattle.bac_chart.specs.Labels.{read_words}
+use Rattle.bac_chart.specs.Lines.{coming_line}
+use Rattle.bac_chart.specs.Marks.{Arrow}
+use Rattle.bac_chart.specs.declared.drawing.Form.{Form}
+use Rattle.bac_chart.specs.declared.drawing.Form.TheVariants as form
+use Rattle.bac_explain.specs.Sightings.{SightingView}
+use Rattle.bac_explain.specs.declared.part.Role.{Role}
+use Rattle.bac_explain.specs.declared.part.Role.TheVariants.{Request, Answer, Acknowledgement, GivesUp}
+use Rattle.bac_explain_report.specs.Seen.{seen_of}
+use Rattle.bac_explain_report.specs.Unread.{unread_text}
+use Rattle.bac_explain_report.specs.declared.unread.Unread.{Unread}
+use Rattle.bac_explain_report.specs.declared.unread.Unread.TheVariants.{File}
+use Rattle.bac_npdu.specs.Peers.{PeerView}
+use Rattle.bac_explain_report.specs.Columns.{Ends, ends_of, with_columns}
+use Rattle.bac_explain_report.specs.Copies.{Drawn, is_again, with_drawn}
+use Rattle.bac_explain_report.specs.declared.sketch.TheConstants.{MOST_PEERS}
+
+-- a chart so far: what it is drawn as, the moment of its first datagram, the peers that have columns, the last datagrams that were drawn, how many frames
+-- there were, and whether each of them was looked at
+pub record Sketch : Type 0 where
+  pub form : Form
+  pub start : Option ℕ
+  pub peers : List PeerView
+  pub drawn : List Drawn
+  pub frames : ℕ
+  pub is_whole : Bool
+
+abbrev pub fresh : Form → Sketch
+fresh f = record { form = f; start = None; peers = []; drawn = []; frames = 0; is_whole = true }
+
+-- what stands above a chart
+abbrev pub front_text : Form → List ℕ
+front_text form.Chart = codes "      ms\n"
+front_text form.Mermaid = codes "sequenceDiagram\n"
+
+-- ---- a datagram
+
+-- the client asks, acknowledges segments of the answer, and gives up
+abbrev pub is_by_client : Role → Bool
+is_by_client (Request number) = true
+is_by_client (Answer number) = false
+is_by_client (Acknowledgement taken) = not taken.of_request
+is_by_client GivesUp = true
+
+abbrev pub sender_of : SightingView → PeerView
+sender_of s = if is_by_client s.role then s.key.client else s.key.server
+
+abbrev pub receiver_of : SightingView → PeerView
+receiver_of s = if is_by_client s.role then s.key.server else s.key.client
+
+-- moments are counted from the first datagram that is drawn
+abbrev pub start_of : ℕ → Option ℕ → ℕ
+start_of now None = now
+start_of now (Some start) = start
+
+abbrev pub moment_in : ℕ → Sketch → ℕ
+moment_in now k = now - start_of now k.start
+
+abbrev pub ends_in : ℕ → SightingView → Sketch → Ends
+ends_in now s k = ends_of k.form (moment_in now k) (sender_of s) (receiver_of s) k.peers
+
+abbrev pub peers_after : SightingView → Sketch → List PeerView
+peers_after s k = with_columns (sender_of s) (receiver_of s) k.peers
+
+abbrev pub drawn_at : ℕ → Ends → (octets : List ℕ) → Drawn
+drawn_at now c octets = record { moment = now; from = c.from; to = c.to; octets = octets }
+
+abbrev pub drawn_of : ℕ → SightingView → Ends → Drawn
+drawn_of now s c = drawn_at now c s.octets
+
+-- an arrow with the number of its frame, and what the APDU is
+abbrev pub arrow_of : (number moment : ℕ) → Ends → (octets : List ℕ) → Arrow
+arrow_of number moment e octets = record { number = number; sent = moment; from = e.from; to = e.to; words = read_words (apdu_at octets) }
+
+-- it tells whether the same came before
+abbrev pub row_text : Form → (nodes : ℕ) → (again : Bool) → (moment : ℕ) → Arrow → List ℕ
+row_text f nodes again moment a = line_text f nodes (coming_line again moment a)
+
+abbrev pub sighting_text : ℕ → SightingView → Sketch → List ℕ
+sighting_text now s k =
+    (ends_in now s k).text ++ row_text k.form (length (peers_after s k)) (is_again (drawn_of now s (ends_in now s k)) k.drawn) (moment_in now k)
+    (arrow_of k.frames (moment_in now k) (ends_in now s k) s.octets)
+
+abbrev pub sighting_kept : ℕ → SightingView → Sketch → Sketch
+sighting_kept now s k = record {
+  form = k.form;
+  start = Some (start_of now k.start);
+  peers = peers_after s k;
+  drawn = with_drawn (drawn_of now s (ends_in now s k)) k.drawn;
+  frames = k.frames;
+  is_whole = k.is_whole;
+}
+
+-- ---- a frame
+
+-- counts stay at their last value
+abbrev pub one_frame : Sketch → Sketch
+one_frame k = record k { frames = min (k.frames + 1) (2 ^ 64 - 1) }
+
+-- a line that is no arrow: a comment of Mermaid
+abbrev pub remark_front : Form → List ℕ
+remark_front form.Chart = []
+remark_front form.Mermaid = codes "    %% "
+
+abbrev pub unread_line : Form → (number : ℕ) → Unread → List ℕ
+unread_line f number why = remark_front f ++ (codes "frame " ++ (decimal number ++ (codes ": " ++ (unread_text why ++ codes "\n"))))
+
+-- it cannot be looked at
+pub record IsUnread (why : Unread) (k : Sketch) (text : List ℕ) (next : Sketch) : Type 0 where
+  pub is_text : text ≡ unread_line k.form k.frames why
+  pub is_next : next ≡ record k { is_whole = false }
+
+-- it has a datagram of a transaction, which is drawn; there are at most 16 columns
+pub record IsDrawn (now : ℕ) (s : SightingView) (k : Sketch) (text : List ℕ) (next : Sketch) : Type 0 where
+  pub is_text : text ≡ sighting_text now s k
+  pub is_next : next ≡ sighting_kept now s k
+  pub room : length next.peers ≤ MOST_PEERS
+
+-- of what is seen in a frame
+abbrev pub IsSeen : Result (Option (ℕ × SightingView)) Unread → Sketch → (text : List ℕ) → (next : Sketch) → Type 0
+IsSeen (Err why) k text next = IsUnread why k text next
+IsSeen (Ok None) k text next = (text ≡ []) × (next ≡ k)
+IsSeen (Ok (Some s)) k text next = IsDrawn s.0 s.1 k text next
+
+-- of a frame; there is a port beside the sixteen, or none
+abbrev pub SeesFrame : (also : Option ℕ) → FrameView → Sketch → (text : List ℕ) → (next : Sketch) → Type 0
+SeesFrame also frame k text next = IsSeen (seen_of also frame) (one_frame k) text next
+
+-- the file cannot be read on: that is told of the frame that would come
+abbrev pub BreaksFile : FileFault → Sketch → (text : List ℕ) → (next : Sketch) → Type 0
+BreaksFile fault k text next = IsUnread (File fault) (one_frame k) text next

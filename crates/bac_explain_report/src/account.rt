@@ -1,0 +1,85 @@
+//! What is known of a capture so far: its open transactions, and what was counted.
+ghost use Rattle.std.specs.Prelude.{◌≡◌, IfOk};
+ghost use Rattle.std.specs.Option.{option_map};
+ghost use Rattle.bac_capture.specs.BlockViews.{frame_view};
+ghost use Rattle.bac_explain.specs.Sightings.{sighting_view};
+ghost use Rattle.bac_explain_report.specs.Accounts.{fresh, frame_heard, broken_off, sighting_heard};
+ghost use Rattle.bac_explain_report.specs.AccountViews.{account_view, told_view};
+
+use crate::seeing::seen_of;
+use crate::tally::Tally;
+use crate::told::{Hearing, Told};
+use crate::unread::Unread;
+use bac_capture::{FileFault, Frame, Ports};
+use bac_explain::{Explainer, Sighting};
+use std::alloc::{AllocError, Global};
+
+/// The open transactions, and what was counted.
+#[derive(Drop)]
+pub(crate) struct Account {
+    pub alloc: Global,
+    pub explainer: Explainer,
+    pub tally: Tally,
+}
+
+impl Account {
+    /// Nothing was seen; an Err where the memory for the table of transactions is refused.
+    pub(crate) fn new(alloc: Global) -> Result<Account, AllocError>
+        ensures { IfOk result (λ a. account_view a ≡ fresh) }
+    {
+        let explainer = Explainer::new(alloc)?;
+        Ok(Account {
+            alloc,
+            explainer,
+            tally: Tally::NONE,
+        })
+    }
+
+    /// An APDU of a transaction is seen.
+    fn hear_sighting(&mut self, now: u64, sighting: Sighting<'_>) -> Result<Told, AllocError>
+        ensures { IfOk result (λ t. (told_view t, account_view self.new) ≡ sighting_heard now (sighting_view sighting.entry) (account_view self.old)) }
+    {
+        let over = self.explainer.pop_over(now);
+        let heard = self.explainer.hear(
+            self.alloc,
+            now,
+            sighting.key,
+            sighting.role,
+            sighting.octets,
+        )?;
+        self.tally = self
+            .tally
+            .with_blocks(&over)
+            .with_blocks(&heard.closed)
+            .with_finding(heard.finding);
+        Ok(Told::Heard(Hearing {
+            key: sighting.key,
+            over,
+            closed: heard.closed,
+            finding: heard.finding,
+        }))
+    }
+
+    /// A frame is seen.
+    pub(crate) fn hear_frame(&mut self, frame: Frame<'_>, ports: Ports) -> Result<Told, AllocError>
+        ensures { IfOk result (λ t. (told_view t, account_view self.new) ≡ frame_heard ports.also (frame_view frame.entry) (account_view self.old)) }
+    {
+        self.tally = self.tally.with_frame();
+        match seen_of(frame, ports) {
+            Ok(Some((now, sighting))) => self.hear_sighting(now, sighting),
+            Ok(None) => Ok(Told::Nothing),
+            Err(why) => {
+                self.tally = self.tally.with_unread();
+                Ok(Told::Unread(why))
+            }
+        }
+    }
+
+    /// The file cannot be read on.
+    pub(crate) fn break_off(&mut self, fault: FileFault) -> Told
+        ensures { (told_view result, account_view self.new) ≡ broken_off fault (account_view self.old) }
+    {
+        self.tally = self.tally.with_frame().with_unread();
+        Told::Unread(Unread::File(fault))
+    }
+}

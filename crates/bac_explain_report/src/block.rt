@@ -1,0 +1,165 @@
+//! A transaction, line by line.
+ghost use Rattle.std.specs.Prelude.{◌≡◌, IfOk, string_bytes};
+ghost use Rattle.std.specs.Option.{option_map};
+ghost use Rattle.bac_explain.specs.Closings.{closed_view};
+ghost use Rattle.bac_explain.specs.KeyViews.{key_view};
+ghost use Rattle.bac_explain.specs.SentViews.{sent_view};
+ghost use Rattle.bac_explain.specs.Views.{transaction_view};
+ghost use Rattle.bac_explain_report.specs.Blocks.{answer_name, asked_front, answered_front, counts_text, end_text, head_text, naks_text, part_text, rest_text, tail_text};
+ghost use Rattle.bac_explain_report.specs.Blocks.{IsAnsweredLine, IsAnswerLine, IsAskedLine, IsBlock};
+
+use crate::ending::answer_ending;
+use crate::peers::key_text;
+use crate::{answer_words, request_words};
+use bac_explain::{Closed, Sent, Transaction, TransactionKey};
+use bac_value::NoMemory;
+use std::alloc::{AllocError, Global};
+
+/// How often something was seen, and how many more segments of it.
+fn counts_text(alloc: Global, sent: &Sent) -> Result<String, AllocError>
+    ensures { IfOk result (λ t. string_bytes t ≡ counts_text (sent_view sent.now)) }
+{
+    let times = sent.times;
+    let segments = sent.segments;
+    if segments == 0 {
+        format!(in alloc; "times={times}")
+    } else {
+        format!(in alloc; "times={times} more-segments={segments}")
+    }
+}
+
+fn asked_front(alloc: Global, sent: &Sent) -> Result<Vec<u8>, AllocError>
+    ensures { IfOk result (λ t. t.items ≡ asked_front (sent_view sent.now)) }
+{
+    let counts = counts_text(alloc, sent)?;
+    let moment = sent.moment;
+    let text = format!(in alloc; "  asked at={moment} {counts} ")?;
+    Ok(text.into_bytes())
+}
+
+/// When it was asked, how often, and for what.
+fn asked_line(alloc: Global, sent: &Sent) -> Result<Vec<u8>, NoMemory>
+    ensures { IfOk result (λ t. IsAskedLine (sent_view sent.now) t.items) }
+{
+    let words = request_words::octets_words(alloc, &sent.octets)?;
+    let mut text = asked_front(alloc, sent)?;
+    text.extend_from_slice(words.as_slice())?;
+    text.push(b'\n')?;
+    Ok(text)
+}
+
+/// What answers, or that an answer began.
+fn answer_name(sent: &Sent) -> &'static str
+    ensures { result.now ≡ answer_name (sent_view sent.now) }
+{
+    if sent.whole {
+        answer_ending(&sent.octets).name()
+    } else {
+        "began"
+    }
+}
+
+fn answered_front(alloc: Global, asked: u64, sent: &Sent) -> Result<Vec<u8>, AllocError>
+    ensures { IfOk result (λ t. t.items ≡ answered_front asked (sent_view sent.now)) }
+{
+    let name = answer_name(sent);
+    let counts = counts_text(alloc, sent)?;
+    let delay = sent.moment.saturating_sub(asked);
+    let text = format!(in alloc; "  {name} after={delay} {counts} ")?;
+    Ok(text.into_bytes())
+}
+
+/// How it was answered, after how long, how often, and with what.
+fn answered_line(alloc: Global, asked: u64, sent: &Sent) -> Result<Vec<u8>, NoMemory>
+    ensures { IfOk result (λ t. IsAnsweredLine asked (sent_view sent.now) t.items) }
+{
+    let words = answer_words::octets_words(alloc, &sent.octets)?;
+    let mut text = answered_front(alloc, asked, sent)?;
+    text.extend_from_slice(words.as_slice())?;
+    text.push(b'\n')?;
+    Ok(text)
+}
+
+/// The line of the answer, where there is one.
+fn answer_line(alloc: Global, transaction: &Transaction) -> Result<Vec<u8>, NoMemory>
+    ensures { IfOk result (λ t. IsAnswerLine (transaction_view transaction.now) t.items) }
+{
+    match &transaction.answer {
+        Some(answer) => answered_line(alloc, transaction.request.moment, answer),
+        None => Ok(Vec::new(alloc)),
+    }
+}
+
+fn naks_text(alloc: Global, naks: u64) -> Result<Vec<u8>, AllocError>
+    ensures { IfOk result (λ t. t.items ≡ naks_text naks) }
+{
+    if naks == 0 {
+        return Ok(Vec::new(alloc));
+    }
+    let text = format!(in alloc; "  negative SegmentACKs={naks}\n")?;
+    Ok(text.into_bytes())
+}
+
+/// That the end of the answer was not seen.
+fn part_text(broken_off: bool) -> &'static str
+    ensures { result.now ≡ part_text broken_off }
+{
+    if broken_off {
+        "  aborted by the server\n"
+    } else {
+        "  answer began, not whole\n"
+    }
+}
+
+/// That no answer was seen, or not all of it.
+fn rest_text(broken_off: bool, answer: &Option<Sent>) -> &'static str
+    ensures { result.now ≡ rest_text broken_off (option_map sent_view answer.now) }
+{
+    match answer {
+        Some(answer) if answer.whole => "",
+        Some(_) => part_text(broken_off),
+        None => "  unanswered\n",
+    }
+}
+
+/// That the client gave up, or that there is no whole answer.
+fn end_text(transaction: &Transaction) -> &'static str
+    ensures { result.now ≡ end_text (transaction_view transaction.now) }
+{
+    if transaction.gave_up {
+        "  given up by the client\n"
+    } else {
+        rest_text(transaction.broken_off, &transaction.answer)
+    }
+}
+
+fn tail_text(alloc: Global, transaction: &Transaction) -> Result<Vec<u8>, AllocError>
+    ensures { IfOk result (λ t. t.items ≡ tail_text (transaction_view transaction.now)) }
+{
+    let mut text = naks_text(alloc, transaction.naks)?;
+    let end = end_text(transaction);
+    text.extend_from_slice(end.as_bytes())?;
+    Ok(text)
+}
+
+fn head_text(alloc: Global, key: TransactionKey) -> Result<Vec<u8>, AllocError>
+    ensures { IfOk result (λ t. t.items ≡ head_text (key_view key)) }
+{
+    let key = key_text(alloc, key)?;
+    let text = format!(in alloc; "transaction {key}\n")?;
+    Ok(text.into_bytes())
+}
+
+/// The block of a transaction.
+pub(crate) fn block(alloc: Global, closed: &Closed) -> Result<Vec<u8>, NoMemory>
+    ensures { IfOk result (λ t. IsBlock (closed_view closed.now) t.items) }
+{
+    let asked = asked_line(alloc, &closed.transaction.request)?;
+    let answer = answer_line(alloc, &closed.transaction)?;
+    let tail = tail_text(alloc, &closed.transaction)?;
+    let mut text = head_text(alloc, closed.key)?;
+    text.extend_from_slice(asked.as_slice())?;
+    text.extend_from_slice(answer.as_slice())?;
+    text.extend_from_slice(tail.as_slice())?;
+    Ok(text)
+}

@@ -1,0 +1,87 @@
+//! How a transaction ended, as far as it was seen.
+ghost use Rattle.std.specs.Prelude.{◌≡◌, ◌||◌};
+ghost use Rattle.bac_apdu.specs.Views.{apdu_view};
+ghost use Rattle.bac_explain.specs.SentViews.{sent_view};
+ghost use Rattle.bac_explain.specs.Views.{transaction_view};
+ghost use Rattle.bac_explain_report.specs.Endings.{answer_ending, apdu_ending, ending_name, ending_of, no_answer_ending, seen_ending};
+
+use bac_apdu::{Apdu, read};
+use bac_explain::{Sent, Transaction};
+
+/// How a transaction ended.
+#[derive(Clone, Copy, Debug, PartialEq, Eq)]
+pub(crate) enum Ending {
+    /// By a SimpleACK, a ComplexACK or an Error.
+    Answered,
+    /// By a Reject.
+    Rejected,
+    /// By an Abort of either end.
+    Aborted,
+    /// No answer was seen, or not the end of it.
+    Unanswered,
+}
+
+impl Ending {
+    pub(crate) fn name(self) -> &'static str
+        ensures { result.now ≡ ending_name self }
+    {
+        match self {
+            Ending::Answered => "answered",
+            Ending::Rejected => "rejected",
+            Ending::Aborted => "aborted",
+            Ending::Unanswered => "unanswered",
+        }
+    }
+}
+
+fn apdu_ending(apdu: Apdu<'_>) -> Ending
+    ensures { result ≡ apdu_ending (apdu_view apdu.entry) }
+{
+    match apdu {
+        Apdu::Reject { .. } => Ending::Rejected,
+        Apdu::Abort { .. } => Ending::Aborted,
+        _ => Ending::Answered,
+    }
+}
+
+/// How a transaction with that answer ended.
+pub(crate) fn answer_ending(octets: &[u8]) -> Ending
+    ensures { result ≡ answer_ending octets.now }
+{
+    match read(octets) {
+        Ok(apdu) => apdu_ending(apdu),
+        Err(_) => Ending::Answered,
+    }
+}
+
+/// How a transaction without an answer ended.
+fn no_answer_ending(gave_up: bool) -> Ending
+    ensures { result ≡ no_answer_ending gave_up }
+{
+    if gave_up {
+        Ending::Aborted
+    } else {
+        Ending::Unanswered
+    }
+}
+
+/// How a transaction with the beginning of an answer ended: by that where its end was seen too.
+fn seen_ending(broken_off: bool, gave_up: bool, answer: &Sent) -> Ending
+    ensures { result ≡ seen_ending broken_off gave_up (sent_view answer.now) }
+{
+    if answer.whole {
+        answer_ending(&answer.octets)
+    } else {
+        no_answer_ending(broken_off || gave_up)
+    }
+}
+
+/// How a transaction ended: by its answer, or where there is no whole one by an Abort.
+pub(crate) fn ending_of(transaction: &Transaction) -> Ending
+    ensures { result ≡ ending_of (transaction_view transaction.now) }
+{
+    match &transaction.answer {
+        Some(answer) => seen_ending(transaction.broken_off, transaction.gave_up, answer),
+        None => no_answer_ending(transaction.gave_up),
+    }
+}

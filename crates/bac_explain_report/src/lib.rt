@@ -1,0 +1,31 @@
+//! What `bac explain` prints of a capture: its transactions, what was wrong with their datagrams, and a summary.
+//!
+//! A sequence chart of a capture file: a column for each peer, and an arrow for each datagram of a transaction.
+#![tactic(auto)]
+
+mod account;
+mod answer_words;
+mod block;
+mod chart;
+mod column;
+mod copies;
+mod ending;
+mod explain;
+mod peers;
+mod request_words;
+mod seeing;
+mod sketch;
+mod summary;
+mod tally;
+mod told;
+mod unread;
+mod words;
+
+pub use bac_chart::Form;
+pub use chart::chart_over;
+pub use explain::explain_over;
+pub use peers::{link_text, peer_text};
+pub use request_words::{request_in_words, service_words};
+pub use seeing::seen_of;
+pub use unread::Unread;
+pub use words::reference_text;

@@ -1,0 +1,44 @@
+//! The summary at the end.
+ghost use Rattle.std.specs.Prelude.{◌≡◌, IfOk, string_bytes};
+ghost use Rattle.bac_explain_report.specs.Explained.{endings_text, slowest_text, summary_text};
+
+use crate::tally::Tally;
+use std::alloc::{AllocError, Global};
+
+/// The slowest answer, in milliseconds; `-` where there is none.
+fn slowest_text(alloc: Global, slowest: Option<u64>) -> Result<String, AllocError>
+    ensures { IfOk result (λ t. string_bytes t ≡ slowest_text slowest) }
+{
+    match slowest {
+        Some(slowest) => format!(in alloc; "{slowest}"),
+        None => String::from_str(alloc, "-"),
+    }
+}
+
+/// How many transactions there are, and how they ended.
+fn endings_text(alloc: Global, tally: Tally) -> Result<String, AllocError>
+    ensures { IfOk result (λ t. string_bytes t ≡ endings_text tally) }
+{
+    let all = tally.transactions;
+    let answered = tally.answered;
+    let rejected = tally.rejected;
+    let aborted = tally.aborted;
+    let unanswered = tally.unanswered;
+    format!(in alloc;
+        "transactions={all} answered={answered} rejected={rejected} aborted={aborted} unanswered={unanswered}"
+    )
+}
+
+/// How many transactions there are, how they ended, and what was counted beside them.
+pub(crate) fn summary_text(alloc: Global, tally: Tally) -> Result<String, AllocError>
+    ensures { IfOk result (λ t. string_bytes t ≡ summary_text tally) }
+{
+    let endings = endings_text(alloc, tally)?;
+    let slowest = slowest_text(alloc, tally.slowest)?;
+    let findings = tally.findings;
+    let frames = tally.frames;
+    let unread = tally.unread;
+    format!(in alloc;
+        "{endings} slowest={slowest} findings={findings} frames={frames} unread={unread}\n"
+    )
+}

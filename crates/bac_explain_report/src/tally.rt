@@ -1,0 +1,164 @@
+//! How many frames and transactions there are so far, and what they are.
+ghost use Rattle.std.specs.Prelude.{◌≡◌};
+ghost use Rattle.std.specs.Option.{option_map};
+ghost use Rattle.bac_explain.specs.Closings.{closed_view};
+ghost use Rattle.bac_explain.specs.Views.{transaction_view};
+ghost use Rattle.bac_explain_report.specs.Tallies.{delay_of, later, one_more, status_of, with_block, with_blocks, with_delay, with_ending, with_finding, with_frame, with_unread};
+
+use crate::ending::{Ending, ending_of};
+use bac_explain::{Closed, Finding, Transaction};
+use bac_text::Status;
+
+/// The frames and the transactions so far. Counts stay at their last value.
+#[derive(Clone, Copy, Debug)]
+pub(crate) struct Tally {
+    pub frames: u64,
+    /// Frames that cannot be looked at.
+    pub unread: u64,
+    pub findings: u64,
+    pub transactions: u64,
+    pub answered: u64,
+    pub rejected: u64,
+    pub aborted: u64,
+    pub unanswered: u64,
+    /// After how many milliseconds the last of all first answers came; None where none came.
+    pub slowest: Option<u64>,
+}
+
+fn one_more(count: u64) -> u64
+    ensures { result ≡ one_more count }
+{
+    count.saturating_add(1)
+}
+
+/// The greater of two delays.
+fn later(slowest: Option<u64>, delay: u64) -> Option<u64>
+    ensures { result ≡ later slowest delay }
+{
+    match slowest {
+        None => Some(delay),
+        Some(slowest) => Some(slowest.max(delay)),
+    }
+}
+
+/// After how long a transaction was answered.
+fn delay_of(transaction: &Transaction) -> Option<u64>
+    ensures { result ≡ delay_of (transaction_view transaction.now) }
+{
+    match &transaction.answer {
+        None => None,
+        Some(answer) => Some(answer.moment.saturating_sub(transaction.request.moment)),
+    }
+}
+
+impl Tally {
+    pub(crate) const NONE: Tally = Tally {
+        frames: 0,
+        unread: 0,
+        findings: 0,
+        transactions: 0,
+        answered: 0,
+        rejected: 0,
+        aborted: 0,
+        unanswered: 0,
+        slowest: None,
+    };
+
+    pub(crate) fn with_frame(self) -> Tally
+        ensures { result ≡ with_frame self }
+    {
+        Tally {
+            frames: one_more(self.frames),
+            ..self
+        }
+    }
+
+    pub(crate) fn with_unread(self) -> Tally
+        ensures { result ≡ with_unread self }
+    {
+        Tally {
+            unread: one_more(self.unread),
+            ..self
+        }
+    }
+
+    pub(crate) fn with_finding(self, finding: Option<Finding>) -> Tally
+        ensures { result ≡ with_finding finding self }
+    {
+        match finding {
+            None => self,
+            Some(_) => Tally {
+                findings: one_more(self.findings),
+                ..self
+            },
+        }
+    }
+
+    fn with_ending(self, ending: Ending) -> Tally
+        ensures { result ≡ with_ending ending self }
+    {
+        match ending {
+            Ending::Answered => Tally {
+                answered: one_more(self.answered),
+                ..self
+            },
+            Ending::Rejected => Tally {
+                rejected: one_more(self.rejected),
+                ..self
+            },
+            Ending::Aborted => Tally {
+                aborted: one_more(self.aborted),
+                ..self
+            },
+            Ending::Unanswered => Tally {
+                unanswered: one_more(self.unanswered),
+                ..self
+            },
+        }
+    }
+
+    fn with_delay(self, delay: Option<u64>) -> Tally
+        ensures { result ≡ with_delay delay self }
+    {
+        match delay {
+            None => self,
+            Some(delay) => Tally {
+                slowest: later(self.slowest, delay),
+                ..self
+            },
+        }
+    }
+
+    /// With a transaction of which nothing more is looked for.
+    pub(crate) fn with_block(self, closed: &Closed) -> Tally
+        ensures { result ≡ with_block (closed_view closed.now) self }
+    {
+        let counted = Tally {
+            transactions: one_more(self.transactions),
+            ..self
+        };
+        counted
+            .with_ending(ending_of(&closed.transaction))
+            .with_delay(delay_of(&closed.transaction))
+    }
+
+    pub(crate) fn with_blocks(self, closed: &Option<Closed>) -> Tally
+        ensures { result ≡ with_blocks (option_map closed_view closed.now) self }
+    {
+        match closed {
+            None => self,
+            Some(closed) => self.with_block(closed),
+        }
+    }
+
+    /// Whether nothing was wrong, and every frame was looked at.
+    pub(crate) fn status(self) -> Status
+        ensures { result ≡ status_of self }
+    {
+        if self.findings == 0 && self.unread == 0 {
+            Status::Done
+        } else {
+            Status::Faulty
+        }
+    }
+}

@@ -1,3 +1,0 @@
-pub mod Blocking
-pub mod Report
-pub mod Telling

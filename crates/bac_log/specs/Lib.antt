@@ -1,4 +1,0 @@
-pub mod Frames
-pub mod Words
-pub mod Lines
-pub mod Logs

@@ -1,3 +1,0 @@
-pub mod Inverse
-pub mod Appended
-pub mod Looking

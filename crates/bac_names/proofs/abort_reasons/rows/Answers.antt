@@ -1,7 +1,0 @@
-use Rattle.std.proofs.Common.{refl}
-use Rattle.bac_names.specs.AbortReasons.{ABORT_REASONS}
-use Rattle.bac_names.proofs.abort_reasons.rows.Goals as goal
-
-pub returns : goal.returns
-unfolding ABORT_REASONS
-returns c = refl

@@ -1,7 +1,0 @@
-use Rattle.std.proofs.Common.{refl}
-use Rattle.bac_names.specs.ErrorCodes.{L_TO_R}
-use Rattle.bac_names.proofs.error_codes.l_to_r.rows.Goals as goal
-
-pub returns : goal.returns
-unfolding L_TO_R
-returns c = refl

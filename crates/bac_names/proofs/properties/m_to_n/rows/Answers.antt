@@ -1,7 +1,0 @@
-use Rattle.std.proofs.Common.{refl}
-use Rattle.bac_names.specs.Properties.{M_TO_N}
-use Rattle.bac_names.proofs.properties.m_to_n.rows.Goals as goal
-
-pub returns : goal.returns
-unfolding M_TO_N
-returns c = refl

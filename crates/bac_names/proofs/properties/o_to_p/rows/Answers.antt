@@ -1,7 +1,0 @@
-use Rattle.std.proofs.Common.{refl}
-use Rattle.bac_names.specs.Properties.{O_TO_P}
-use Rattle.bac_names.proofs.properties.o_to_p.rows.Goals as goal
-
-pub returns : goal.returns
-unfolding O_TO_P
-returns c = refl

@@ -1,7 +1,0 @@
-use Rattle.std.proofs.Common.{refl}
-use Rattle.bac_names.specs.Properties.{T_TO_Z}
-use Rattle.bac_names.proofs.properties.t_to_z.rows.Goals as goal
-
-pub returns : goal.returns
-unfolding T_TO_Z
-returns c = refl

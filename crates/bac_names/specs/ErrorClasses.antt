@@ -1,7 +1,0 @@
--- Error classes of the standard, as in code.
-use Rattle.std.specs.Prelude.{List, map}
-use Rattle.bac_names.specs.Names.{Row}
-use Rattle.bac_names.specs.declared.error_classes.TheConstants as code
-
-unfoldable pub ERROR_CLASSES : List Row
-ERROR_CLASSES = map (λ r. (r.0.now, r.1)) code.ROWS.now

@@ -1,7 +1,0 @@
--- Reasons of a Reject of the standard, as in code.
-use Rattle.std.specs.Prelude.{List, map}
-use Rattle.bac_names.specs.Names.{Row}
-use Rattle.bac_names.specs.declared.reject_reasons.TheConstants as code
-
-unfoldable pub REJECT_REASONS : List Row
-REJECT_REASONS = map (λ r. (r.0.now, r.1)) code.ROWS.now

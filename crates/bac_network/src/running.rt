@@ -1,0 +1,216 @@
+//! The straight run.
+ghost use Rattle.std.specs.Prelude.{◌≡◌, ◌+◌, ◌<◌, ◌^◌, IfErr, IfOk, OnErr, OnOk, MatchBool, MatchOption, MatchResult, None, Some, length, slice_get};
+ghost use Rattle.bac_apdu.specs.Views.{limits_view};
+ghost use Rattle.bac_service.specs.Views.{owned_request_view};
+ghost use Rattle.bac_requester.specs.TransactionViews.{ending_view};
+ghost use Rattle.bac_world.specs.Node.{Node};
+ghost use Rattle.bac_world.specs.World.{WorldStep};
+ghost use Rattle.bac_world.specs.World.Event.{Ask, Deliver};
+ghost use Rattle.bac_network.specs.Histories.{AreEndedOnceNow, ArePerformedOnceNow, AreReplayedNow, HasHistory, IsOnceNow};
+ghost use Rattle.bac_network.specs.Steps.{IsFault};
+ghost use Rattle.bac_completion.specs.StraightRuns.{ending_in};
+ghost use Rattle.bac_network.specs.StraightFaults.{Fails, StopsShort};
+ghost use Rattle.bac_network.specs.Going.{HasStopped, IsStuck};
+ghost use Rattle.bac_network.specs.Logs.{IsSince, Stops, ending_by};
+ghost use Rattle.bac_network.specs.StraightRuns.{AsksIf, CanBeAnswered, Goes, GoesAt, IsAnsweredSoon, IsWellMadeAt, WentSoFar};
+
+use crate::ended::ending_of;
+use crate::{Event, World, WorldFault};
+use bac_apdu::Limits;
+use bac_requester::Ending;
+use bac_service::OwnedRequest;
+
+/// How a straight run went.
+#[derive(Clone, Copy, Debug, PartialEq, Eq)]
+pub struct StraightRun {
+    /// The number of its ask in the world; None where it was refused.
+    pub ask: Option<usize>,
+    /// How many copies were delivered.
+    pub deliveries: usize,
+}
+
+impl StraightRun {
+    /// How its ask ended, which the world's log has; None where it was refused, or has not ended.
+    pub fn ending<'a>(&self, world: &'a World) -> Option<&'a Ending>
+        ensures { MatchOption result (ending_by self.now.ask world.now.world.log ≡ None)
+            (λ how. ending_by self.now.ask world.now.world.log ≡ Some (ending_view how.now)) }
+    {
+        match self.ask {
+            Some(ask) => ending_of(world.log(), 0, ask),
+            None => None,
+        }
+    }
+}
+
+/// What a node takes of APDUs; None where there is no such node.
+fn limits_of(world: &World, node: usize) -> Option<Limits>
+    ensures { MatchOption result (slice_get world.now.world.nodes node ≡ None)
+        (λ l. (n : Node) × (slice_get world.now.world.nodes node ≡ Some n) × (limits_view l ≡ n.settings.limits)) }
+{
+    match world.nodes().get(node) {
+        Some(node) => Some(node.settings().limits),
+        None => None,
+    }
+}
+
+/// What holds of each node: its window is 1 at least, and each reply of its store can be sent.
+fn is_well_made(world: &World, node: usize)
+    ensures { IsWellMadeAt world.now.world node }
+{
+    if let Some(node) = world.nodes().get(node) {
+        node.replies_can_be_sent();
+    }
+}
+
+/// Asks, and tells whether the ask was accepted. After an Err the world is as before.
+fn ask(
+    world: &mut World,
+    client: usize,
+    server: usize,
+    limits: Limits,
+    request: OwnedRequest,
+) -> Result<bool, WorldFault>
+    ensures asked { IfOk result (λ accepted. AsksIf accepted world.old.world client server (limits_view limits) (owned_request_view request) world.new.world) }
+    ensures fault { IfErr result (λ f. IsFault f world.old.overtake world.old.world (Ask client server (limits_view limits) (owned_request_view request))) }
+    ensures err { OnErr result (world.new ≡ world.old) }
+    ensures overtake { world.new.overtake ≡ world.old.overtake }
+    ensures opening { world.new.opening ≡ world.old.opening }
+{
+    let event = Event::Ask {
+        client,
+        server,
+        limits,
+        request,
+    };
+    match world.step(&event)? {
+        None => Ok(true),
+        Some(_fault) => Ok(false),
+    }
+}
+
+/// Whether the ask has ended, or no copy is left from that number on. Where one is left, there is a number after its own.
+fn is_over(world: &World, ask: usize, since: usize, number: usize) -> bool
+    requires { IsSince since ask world.now.world.log }
+    ensures { MatchBool result (Stops ask number world.now.world)
+        ((ending_in ask world.now.world.log ≡ None) × (number < length world.now.world.copies) × (number + 1 < 2 ^ 64)) }
+{
+    if number >= world.copies().len() {
+        return true;
+    }
+    match ending_of(world.log(), since, ask) {
+        Some(_ending) => true,
+        None => false,
+    }
+}
+
+/// Delivers a copy. After an Err the world is as before.
+fn deliver(world: &mut World, number: usize) -> Result<(), WorldFault>
+    ensures went { OnOk result (WorldStep world.old.overtake world.old.world (Deliver number) world.new.world) }
+    ensures fault { IfErr result (λ f. IsFault f world.old.overtake world.old.world (Deliver number)) }
+    ensures err { OnErr result (world.new ≡ world.old) }
+    ensures overtake { world.new.overtake ≡ world.old.overtake }
+    ensures opening { world.new.opening ≡ world.old.opening }
+{
+    world.step(&Event::Deliver { number })?;
+    Ok(())
+}
+
+/// Delivers the copies from that number on, each once, until the ask has ended or none is left, and tells how many it delivered.
+fn deliver_each(
+    world: &mut World,
+    ask: usize,
+    since: usize,
+    first: usize,
+) -> Result<usize, WorldFault>
+    requires { IsSince since ask world.old.world.log }
+    ensures { MatchResult result (λ count. HasStopped ask since first world.old world.new count) (λ f. IsStuck f ask since first world.old world.new) }
+{
+    let mut number = first;
+    while !is_over(world, ask, since, number) {
+        deliver(world, number)?;
+        number += 1;
+    }
+    Ok(number - first)
+}
+
+/// Delivers what arises from an accepted ask, and tells how that went.
+fn deliver_all(
+    world: &mut World,
+    ask: usize,
+    since: usize,
+    first: usize,
+) -> Result<StraightRun, WorldFault>
+    requires { IsSince since ask world.old.world.log }
+    ensures { MatchResult result (λ s. HasStopped ask since first world.old world.new s.deliveries × (s.ask ≡ Some ask))
+        (λ f. IsStuck f ask since first world.old world.new) }
+{
+    let deliveries = deliver_each(world, ask, since, first)?;
+    Ok(StraightRun {
+        ask: Some(ask),
+        deliveries,
+    })
+}
+
+/// Asks, where the server is said to take that of APDUs, and delivers what arises from it.
+fn ask_and_deliver(
+    world: &mut World,
+    client: usize,
+    server: usize,
+    limits: Limits,
+    request: OwnedRequest,
+) -> Result<StraightRun, WorldFault>
+    requires { HasHistory world.old }
+    ensures goes { MatchResult result (λ s. Goes world.old.overtake world.old.world client server (limits_view limits) (owned_request_view request)
+        (ending_by s.ask world.new.world.log) s.deliveries world.new.world)
+        (λ f. Fails f world.old.overtake world.old.world client server (limits_view limits) (owned_request_view request) world.new.world) }
+    ensures overtake { world.new.overtake ≡ world.old.overtake }
+    ensures opening { world.new.opening ≡ world.old.opening }
+{
+    let number = world.asks().len();
+    let since = world.log().len();
+    let first = world.copies().len();
+    if ask(world, client, server, limits, request)? {
+        deliver_all(world, number, since, first)
+    } else {
+        Ok(StraightRun {
+            ask: None,
+            deliveries: 0,
+        })
+    }
+}
+
+/// A straight run: asks with what the server takes of APDUs, and delivers each copy that arises from it once, in order of sending, at one moment, until the
+/// ask has ended or no copy is left. A refused ask changes nothing.
+///
+/// It stops at the first fault of an event, and tells it; what was done before stands. `NoSuchNode` where either node is not there, and then nothing changed;
+/// `NoMemory` where there is none for an event. It tells no other fault: each copy that it delivers is there. It takes no memory of its own.
+pub fn straight(
+    world: &mut World,
+    client: usize,
+    server: usize,
+    request: OwnedRequest,
+) -> Result<StraightRun, WorldFault>
+    ensures run { WentSoFar world.old.overtake world.old.world client server (owned_request_view request) world.new.world }
+    ensures goes { IfOk result (λ s. GoesAt world.old.overtake world.old.world client server (owned_request_view request)
+        (ending_by s.ask world.new.world.log) s.deliveries world.new.world) }
+    ensures stopped { IfErr result (λ f. StopsShort f world.old.overtake world.old.world client server (owned_request_view request) world.new.world) }
+    ensures answered { (a b : Node) → CanBeAnswered world.old.overtake world.old.world client server a b (owned_request_view request)
+        → IfOk result (λ s. IsAnsweredSoon world.old.world client server a b (owned_request_view request)
+        (ending_by s.ask world.new.world.log) s.deliveries world.new.world) }
+    ensures overtake { world.new.overtake ≡ world.old.overtake }
+    ensures opening { world.new.opening ≡ world.old.opening }
+    ensures once { IsOnceNow world.new }
+    ensures performed { ArePerformedOnceNow world.new }
+    ensures ended { AreEndedOnceNow world.new }
+    ensures stores { AreReplayedNow world.new }
+{
+    world.is_once();
+    is_well_made(world, client);
+    is_well_made(world, server);
+    let Some(limits) = limits_of(world, server) else {
+        return Err(WorldFault::NoSuchNode);
+    };
+    let run = ask_and_deliver(world, client, server, limits, request);
+    world.is_once();
+    run
+}

@@ -1,0 +1,103 @@
+//! A client and a server on one medium.
+use crate::medium::{End, Medium};
+use crate::memory_link::{MemoryClock, MemoryLink};
+use crate::words::request_of;
+use bac_apdu::Limits;
+use bac_driver::{BoundNode, Question};
+use bac_node::{Config, Node};
+use bac_npdu::{LinkAddress, Peer};
+use bac_store::house;
+use std::alloc::Global;
+use std::cell::RefCell;
+
+/// What the nodes take of APDUs.
+pub(crate) const LIMITS: Limits = Limits {
+    max_apdu: 5,
+    takes_segments: true,
+    max_segments: 7,
+};
+
+/// What the nodes are set to, on that link.
+pub(crate) fn config(link: LinkAddress) -> Config {
+    Config {
+        link,
+        limits: LIMITS,
+        window: 32,
+        client_slots: 64,
+        reply_slots: 64,
+    }
+}
+
+/// A node of that link with the house store.
+pub(crate) fn house_node(alloc: Global, link: LinkAddress) -> Option<Node> {
+    let Ok(store) = house(alloc) else {
+        return None;
+    };
+    match Node::new(alloc, config(link), store) {
+        Ok(node) => Some(node),
+        Err(_) => None,
+    }
+}
+
+/// A node on a link in memory.
+pub(crate) type MemoryStation<'a> = BoundNode<MemoryLink<'a>>;
+
+fn bound_node<'a>(
+    alloc: Global,
+    medium: &'a RefCell<Medium>,
+    end: End,
+) -> Option<MemoryStation<'a>> {
+    let node = house_node(alloc, end.link())?;
+    match BoundNode::new(alloc, node, MemoryLink::new(medium, end)) {
+        Ok(bound_node) => Some(bound_node),
+        Err(_) => None,
+    }
+}
+
+/// A client and a server on one medium.
+#[derive(Drop)]
+pub(crate) struct Side<'a> {
+    pub(crate) alloc: Global,
+    pub(crate) medium: &'a RefCell<Medium>,
+    pub(crate) client: MemoryStation<'a>,
+    pub(crate) server: MemoryStation<'a>,
+}
+
+impl<'a> Side<'a> {
+    pub(crate) fn new(alloc: Global, medium: &'a RefCell<Medium>) -> Option<Side<'a>> {
+        let client = bound_node(alloc, medium, End::Client)?;
+        let server = bound_node(alloc, medium, End::Server)?;
+        Some(Side {
+            alloc,
+            medium,
+            client,
+            server,
+        })
+    }
+
+    /// The bound_node of that name.
+    pub(crate) fn named(&mut self, name: &str) -> Option<&mut MemoryStation<'a>> {
+        match name.as_bytes() {
+            b"client" => Some(&mut self.client),
+            b"server" => Some(&mut self.server),
+            _ => None,
+        }
+    }
+
+    pub(crate) fn clock(&self) -> MemoryClock<'a> {
+        MemoryClock::new(self.medium)
+    }
+}
+
+/// A question for the server, in words.
+pub(crate) fn question(alloc: Global, words: &str) -> Option<Question> {
+    let request = request_of(alloc, words)?;
+    Some(Question {
+        peer: Peer {
+            link: End::Server.link(),
+            route: None,
+        },
+        limits: LIMITS,
+        request,
+    })
+}

@@ -1,0 +1,188 @@
+//! The reply of a request that was sent (clause 5.4.4.3).
+ghost use Rattle.std.specs.Prelude.{◌≡◌, ◌&&◌, [], IfOk, nat_eq};
+ghost use Rattle.bac_apdu.specs.Views.{apdu_view, segment_view};
+ghost use Rattle.bac_service.specs.Choices.{has_complex_ack, has_simple_ack};
+ghost use Rattle.bac_service.specs.Services.{reads_reply};
+ghost use Rattle.bac_protocol.specs.Client.{answered_with, await_confirmation_gets, gets_complex_ack, gets_error, gets_first_segment, gets_simple_ack};
+ghost use Rattle.bac_requester.specs.Reacts.{Does, IsClosing, Reacts};
+ghost use Rattle.bac_transaction.specs.Views.{context_view};
+
+use crate::ending::Ending;
+use crate::getting::gets_refusal;
+use crate::reaction::{Closing, Reaction, closes, ends, stays};
+use crate::reading::read_one;
+use crate::segmented_conf::takes_segment;
+use crate::ticket::{ClientTransaction, Phase};
+use bac_apdu::{Apdu, Segment};
+use bac_protocol::reasons::OTHER;
+use bac_segment::Incoming;
+use bac_service::{AnyReply, Service};
+use bac_transaction::{Context, only_abort};
+use bac_value::NoMemory;
+use std::alloc::Global;
+
+/// Whether a request of that service choice is answered by a ComplexACK.
+fn has_complex_ack(choice: u8) -> bool
+    ensures { result ≡ has_complex_ack choice }
+{
+    match Service::of(choice) {
+        Some(service) => service.has_complex_ack(),
+        None => false,
+    }
+}
+
+/// Whether a request of that service choice is answered by a SimpleACK.
+fn has_simple_ack(choice: u8) -> bool
+    ensures { result ≡ has_simple_ack choice }
+{
+    match Service::of(choice) {
+        Some(service) => service.has_simple_ack(),
+        None => false,
+    }
+}
+
+/// A SimpleACK comes.
+fn gets_simple_ack(
+    alloc: Global,
+    context: &Context,
+    ticket: &ClientTransaction,
+    choice: u8,
+) -> Reaction
+    ensures { Does context.now ticket.now (gets_simple_ack ticket.now.ask choice) result ticket.now }
+{
+    if choice != ticket.choice() || !has_simple_ack(choice) {
+        return stays(alloc, context, ticket);
+    }
+    ends(alloc, Ending::Answered(AnyReply::Simple))
+}
+
+/// An Error comes.
+fn gets_error(
+    alloc: Global,
+    context: &Context,
+    ticket: &ClientTransaction,
+    choice: u8,
+    class: u32,
+    code: u32,
+) -> Reaction
+    ensures { Does context.now ticket.now (gets_error ticket.now.ask choice class code) result ticket.now }
+{
+    if choice != ticket.choice() {
+        return stays(alloc, context, ticket);
+    }
+    ends(alloc, Ending::Answered(AnyReply::Error { class, code }))
+}
+
+/// The service data of a ComplexACK in one APDU.
+fn close_with_one(
+    alloc: Global,
+    context: &Context,
+    choice: u8,
+    service: &[u8],
+) -> Result<Closing, NoMemory>
+    ensures { IfOk result (IsClosing context.now choice (answered_with (context_view context.now) reads_reply choice [] service.now)) }
+{
+    let Some(complex) = read_one(alloc, choice, service)? else {
+        let sends = only_abort(alloc, context, false, OTHER)?;
+        return Ok(Closing {
+            sends,
+            how: Ending::Aborted(OTHER),
+        });
+    };
+    Ok(Closing {
+        sends: Vec::new(alloc),
+        how: Ending::Answered(AnyReply::Complex(complex)),
+    })
+}
+
+/// A ComplexACK in one APDU comes.
+fn gets_complex_ack(
+    alloc: Global,
+    context: &Context,
+    ticket: &ClientTransaction,
+    choice: u8,
+    service: &[u8],
+) -> Result<Reaction, NoMemory>
+    ensures { Reacts context.now ticket.now (gets_complex_ack (context_view context.now) reads_reply ticket.now.ask choice service.now) result ticket.now }
+{
+    if choice != ticket.choice() || !has_complex_ack(choice) {
+        return Ok(stays(alloc, context, ticket));
+    }
+    let closing = close_with_one(alloc, context, choice, service)?;
+    Ok(closes(closing))
+}
+
+/// Whether a segment is the first of a reply that is awaited, on a node that takes segments.
+fn is_first_segment(context: &Context, asked: u8, choice: u8, number: u8) -> bool
+    ensures { result ≡ (nat_eq choice asked && (has_complex_ack asked && (context.now.settings.limits.takes_segments && nat_eq number 0))) }
+{
+    choice == asked
+        && has_complex_ack(asked)
+        && context.settings.limits.takes_segments
+        && number == 0
+}
+
+/// A segment of a ComplexACK comes, where none has come.
+fn gets_first_segment(
+    alloc: Global,
+    context: &Context,
+    ticket: &mut ClientTransaction,
+    segment: Segment,
+    choice: u8,
+    service: &[u8],
+) -> Result<Reaction, NoMemory>
+    ensures { Reacts context.now ticket.old
+        (gets_first_segment (context_view context.now) reads_reply ticket.old.ask (segment_view segment) choice service.now) result ticket.new }
+{
+    if !is_first_segment(context, ticket.choice(), choice, segment.number) {
+        return Ok(stays(alloc, context, ticket));
+    }
+    let mut incoming = Incoming::new(alloc, segment.window, context.settings.window);
+    let reaction = takes_segment(
+        alloc,
+        context,
+        &ticket.core,
+        &mut incoming,
+        segment.number,
+        segment.more,
+        service,
+    )?;
+    ticket.core.since = context.moment;
+    ticket.phase = Phase::SegmentedConf { incoming };
+    Ok(reaction)
+}
+
+/// An APDU comes in AWAIT_CONFIRMATION, or in SEGMENTED_REQUEST once all segments were sent.
+pub(crate) fn await_confirmation_gets(
+    alloc: Global,
+    context: &Context,
+    ticket: &mut ClientTransaction,
+    apdu: &Apdu<'_>,
+) -> Result<Reaction, NoMemory>
+    ensures { Reacts context.now ticket.old
+        (await_confirmation_gets (context_view context.now) reads_reply ticket.old.ask (apdu_view apdu.now)) result ticket.new }
+{
+    match *apdu {
+        // SimpleACK_Received
+        Apdu::SimpleAck { choice, .. } => Ok(gets_simple_ack(alloc, context, ticket, choice)),
+        Apdu::ComplexAck {
+            segment,
+            choice,
+            service,
+            ..
+        } => match segment {
+            // UnsegmentedComplexACK_Received
+            None => gets_complex_ack(alloc, context, ticket, choice, service),
+            // SegmentedComplexACK_Received
+            Some(segment) => gets_first_segment(alloc, context, ticket, segment, choice, service),
+        },
+        // ErrorPDU_Received
+        Apdu::Error {
+            choice,
+            class,
+            code,
+            ..
+        } => Ok(gets_error(alloc, context, ticket, choice, class, code)),
+        _ => Ok(gets_refusal(alloc, context, ticket, apdu)),
+    }
+}

@@ -1,0 +1,136 @@
+//! An APDU comes for a ticket.
+ghost use Rattle.std.specs.Prelude.{◌≡◌};
+ghost use Rattle.bac_apdu.specs.Views.{apdu_view};
+ghost use Rattle.bac_service.specs.Services.{reads_reply};
+ghost use Rattle.bac_protocol.specs.Client.{client_gets, gets_refusal, open_gets};
+ghost use Rattle.bac_protocol.specs.Wire.{is_from_server};
+ghost use Rattle.bac_requester.specs.Reacts.{Does, Hears, Reacts};
+ghost use Rattle.bac_requester.specs.TransactionViews.{held_view};
+ghost use Rattle.bac_transaction.specs.Views.{context_view};
+
+use crate::await_confirmation::await_confirmation_gets;
+use crate::ending::Ending;
+use crate::held::TransactionSlot;
+use crate::reaction::{Reaction, ends, nothing, stays};
+use crate::segmented_conf::gets_next_segment;
+use crate::segmented_request::gets_segment_ack;
+use crate::ticket::{ClientTransaction, Phase};
+use bac_apdu::Apdu;
+use bac_transaction::Context;
+use bac_value::NoMemory;
+use std::alloc::Global;
+
+/// A Reject or an Abort of the server ends the ticket; nothing else is looked at.
+pub(crate) fn gets_refusal(
+    alloc: Global,
+    context: &Context,
+    ticket: &ClientTransaction,
+    apdu: &Apdu<'_>,
+) -> Reaction
+    ensures { Does context.now ticket.now (gets_refusal (apdu_view apdu.now)) result ticket.now }
+{
+    match *apdu {
+        // RejectPDU_Received
+        Apdu::Reject { reason, .. } => ends(alloc, Ending::Rejected(reason)),
+        // AbortPDU_Received
+        Apdu::Abort {
+            server: true,
+            reason,
+            ..
+        } => ends(alloc, Ending::Aborted(reason)),
+        // own: UnexpectedPDU_Received is ignored
+        _ => stays(alloc, context, ticket),
+    }
+}
+
+/// Whether an APDU is one that the server of a transaction sends.
+fn is_from_server(apdu: &Apdu<'_>) -> bool
+    ensures { result ≡ is_from_server (apdu_view apdu.now) }
+{
+    match *apdu {
+        Apdu::ConfirmedRequest { .. } | Apdu::UnconfirmedRequest { .. } => false,
+        Apdu::SegmentAck { server, .. } | Apdu::Abort { server, .. } => server,
+        _ => true,
+    }
+}
+
+impl ClientTransaction {
+    /// An APDU that a server sends comes, in the state that the ticket is in.
+    fn open_gets(
+        &mut self,
+        alloc: Global,
+        context: &Context,
+        apdu: &Apdu<'_>,
+    ) -> Result<Reaction, NoMemory>
+        ensures { Reacts context.now self.old (open_gets (context_view context.now) reads_reply self.old.ask self.old.phase (apdu_view apdu.now)) result self.new }
+    {
+        let ClientTransaction { core, phase } = self;
+        match phase {
+            Phase::SegmentedRequest { all_sent } => {
+                let all_sent = *all_sent;
+                match *apdu {
+                    Apdu::SegmentAck {
+                        server: true,
+                        number,
+                        window,
+                        ..
+                    } => gets_segment_ack(alloc, context, core, phase, all_sent, number, window),
+                    _ if all_sent => await_confirmation_gets(alloc, context, self, apdu),
+                    _ => Ok(gets_refusal(alloc, context, self, apdu)),
+                }
+            }
+            Phase::AwaitConfirmation => await_confirmation_gets(alloc, context, self, apdu),
+            Phase::SegmentedConf { incoming } => match *apdu {
+                Apdu::ComplexAck {
+                    segment: Some(segment),
+                    choice,
+                    service,
+                    ..
+                } => gets_next_segment(alloc, context, core, incoming, segment, choice, service),
+                _ => Ok(gets_refusal(alloc, context, self, apdu)),
+            },
+        }
+    }
+
+    /// An APDU comes from the ticket's peer, with its invoke ID (clause 5.4.4).
+    fn gets(
+        &mut self,
+        alloc: Global,
+        context: &Context,
+        apdu: &Apdu<'_>,
+    ) -> Result<Reaction, NoMemory>
+        ensures { Reacts context.now self.old (client_gets (context_view context.now) reads_reply self.old (apdu_view apdu.now)) result self.new }
+    {
+        if !is_from_server(apdu) {
+            return Ok(stays(alloc, context, self));
+        }
+        if self.is_expired(context.moment) {
+            return Ok(ends(alloc, Ending::Expired));
+        }
+        self.open_gets(alloc, context, apdu)
+    }
+}
+
+impl TransactionSlot {
+    /// An APDU comes from the ticket's peer, with its invoke ID (clause 5.4.4), and an open ticket goes on where it stands. What no server sends is ignored,
+    /// and so is all after the ticket's end. More than 60,000 milliseconds after the first sending the ticket ends as Expired, whatever came. Where memory
+    /// is refused, all is as it was.
+    pub fn gets(
+        &mut self,
+        alloc: Global,
+        context: &Context,
+        apdu: &Apdu<'_>,
+    ) -> Result<Reaction, NoMemory>
+        ensures { Hears context.now (apdu_view apdu.now) (held_view self.old) result (held_view self.new) }
+    {
+        let TransactionSlot::Open(ticket) = self else {
+            return Ok(nothing(alloc));
+        };
+        let reaction = ticket.gets(alloc, context, apdu)?;
+        if reaction.ended.is_some() {
+            let first = ticket.first();
+            *self = TransactionSlot::Closed { first };
+        }
+        Ok(reaction)
+    }
+}

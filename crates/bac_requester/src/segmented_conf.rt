@@ -1,0 +1,156 @@
+//! A ComplexACK that comes in segments (clause 5.4.4.4).
+ghost use Rattle.std.specs.Prelude.{◌≡◌, ◌∷◌, [], IfOk, Ok, false, length};
+ghost use Rattle.bac_apdu.specs.Views.{segment_view};
+ghost use Rattle.bac_segment.specs.Pieces.{join};
+ghost use Rattle.bac_segment.specs.Answers.{answer_of};
+ghost use Rattle.bac_segment.specs.Window.{takes};
+ghost use Rattle.bac_segment.specs.Window.Taking.{TooLong};
+ghost use Rattle.bac_segment.specs.declared.incoming.Step.TheVariants.{Whole};
+ghost use Rattle.bac_service.specs.Services.{reads_reply};
+ghost use Rattle.bac_protocol.specs.Client.{answered_with, client_ack, conf_segment_taken, gets_next_segment};
+ghost use Rattle.bac_requester.specs.Fits.{IsShort};
+ghost use Rattle.bac_requester.specs.Reacts.{IsClosing, Reacts, TakesSegment};
+ghost use Rattle.bac_transaction.specs.Views.{context_view};
+ghost use Rattle.bac_requester.specs.TransactionViews.{ask_view, ticket_view};
+ghost use Rattle.bac_requester.specs.declared.ticket.Phase.TheVariants.{SegmentedConf as Conf};
+
+use crate::ending::Ending;
+use crate::reaction::{Closing, Reaction, closes, nothing};
+use crate::reading::read_parts;
+use crate::sending::abort;
+use crate::ticket::RequestState;
+use bac_apdu::Segment;
+use bac_protocol::reasons::{BUFFER_OVERFLOW, OTHER};
+use bac_segment::{Incoming, Step};
+use bac_service::AnyReply;
+use bac_transaction::{Context, only_abort, only_ack, step_acks};
+use bac_value::NoMemory;
+use std::alloc::Global;
+
+/// All segments are there.
+fn close_with_segments(
+    alloc: Global,
+    context: &Context,
+    choice: u8,
+    incoming: &Incoming,
+    number: u8,
+) -> Result<Closing, NoMemory>
+    ensures { IfOk result (IsClosing context.now choice (answered_with (context_view context.now) reads_reply choice
+        (client_ack (context_view context.now) false number incoming.now.window ∷ []) (join incoming.now.parts))) }
+{
+    let mut sends = only_ack(alloc, context, false, false, number, incoming.window())?;
+    let Some(complex) = read_parts(alloc, choice, incoming)? else {
+        let abort = abort(alloc, context, OTHER)?;
+        sends.push(abort)?;
+        return Ok(Closing {
+            sends,
+            how: Ending::Aborted(OTHER),
+        });
+    };
+    Ok(Closing {
+        sends,
+        how: Ending::Answered(AnyReply::Complex(complex)),
+    })
+}
+
+/// The reassembly has grown too long (NewSegmentReceived_NoSpace).
+fn too_long(
+    alloc: Global,
+    context: &Context,
+    core: &RequestState,
+    incoming: &Incoming,
+) -> Result<Reaction, NoMemory>
+    ensures { TakesSegment context.now (conf_segment_taken (context_view context.now) reads_reply core.now.choice 0 0 TooLong) core.now incoming.now result
+        incoming.now }
+{
+    let sends = only_abort(alloc, context, false, BUFFER_OVERFLOW)?;
+    let closing = Closing {
+        sends,
+        how: Ending::Aborted(BUFFER_OVERFLOW),
+    };
+    Ok(closes(closing))
+}
+
+/// The last segment comes (LastSegmentOfComplexACK_Received).
+fn takes_last(
+    alloc: Global,
+    context: &Context,
+    core: &RequestState,
+    incoming: &mut Incoming,
+    number: u8,
+    more: bool,
+    octets: &[u8],
+) -> Result<Reaction, NoMemory>
+    requires { answer_of (takes incoming.old number more octets.now) ≡ Ok Whole }
+    ensures { TakesSegment context.now (conf_segment_taken (context_view context.now) reads_reply core.now.choice number incoming.old.window
+        (takes incoming.old number more octets.now)) core.now incoming.old result incoming.new }
+{
+    let unacknowledged = incoming.unacknowledged();
+    let Ok(_) = incoming.on_segment(number, more, octets) else {
+        return Err(NoMemory);
+    };
+    let Ok(closing) = close_with_segments(alloc, context, core.choice, incoming, number) else {
+        incoming.take_back(unacknowledged);
+        return Err(NoMemory);
+    };
+    Ok(closes(closing))
+}
+
+/// A segment comes, of the reply that is awaited (NewSegmentReceived, LastSegmentOfGroupReceived, SegmentReceivedOutOfOrder and those above).
+pub(crate) fn takes_segment(
+    alloc: Global,
+    context: &Context,
+    core: &RequestState,
+    incoming: &mut Incoming,
+    number: u8,
+    more: bool,
+    octets: &[u8],
+) -> Result<Reaction, NoMemory>
+    ensures { TakesSegment context.now (conf_segment_taken (context_view context.now) reads_reply core.now.choice number incoming.old.window
+        (takes incoming.old number more octets.now)) core.now incoming.old result incoming.new }
+{
+    let Ok(step) = incoming.answer(number, more, octets) else {
+        return too_long(alloc, context, core, incoming);
+    };
+    if let Step::Whole = step {
+        return takes_last(alloc, context, core, incoming, number, more, octets);
+    }
+    let (window, taken) = (incoming.window(), incoming.taken());
+    let sends = step_acks(alloc, context, false, number, window, taken, step)?;
+    let Ok(_) = incoming.on_segment(number, more, octets) else {
+        return Err(NoMemory);
+    };
+    Ok(Reaction { sends, ended: None })
+}
+
+/// A further segment of a ComplexACK comes in SEGMENTED_CONF.
+pub(crate) fn gets_next_segment(
+    alloc: Global,
+    context: &Context,
+    core: &mut RequestState,
+    incoming: &mut Incoming,
+    segment: Segment,
+    choice: u8,
+    octets: &[u8],
+) -> Result<Reaction, NoMemory>
+    requires { IsShort core.old.whole core.old.outgoing }
+    ensures short { IsShort core.new.whole core.new.outgoing }
+    ensures reacts { Reacts context.now (ticket_view core.old (Conf incoming.old))
+        (gets_next_segment (context_view context.now) reads_reply (ask_view core.old) incoming.old (segment_view segment) choice octets.now) result
+        (ticket_view core.new (Conf incoming.new)) }
+{
+    if choice != core.choice {
+        return Ok(nothing(alloc));
+    }
+    let reaction = takes_segment(
+        alloc,
+        context,
+        core,
+        incoming,
+        segment.number,
+        segment.more,
+        octets,
+    )?;
+    core.since = context.moment;
+    Ok(reaction)
+}

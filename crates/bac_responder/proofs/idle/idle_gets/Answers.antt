@@ -1,0 +1,24 @@
+-- A request, whole or in segments.
+use Rattle.bac_apdu.specs.Views.{apdu_view}
+use Rattle.bac_responder.specs.Services.{service_of}
+use Rattle.bac_transaction.specs.Views.{context_view, peer_of}
+use Rattle.bac_responder.proofs.Begun.{idle_begins_now}
+use Rattle.bac_responder.proofs.idle.idle_gets.Goals as goal
+
+pub returns-in-None-clause-does : goal.returns-in-None-clause-does
+returns-in-None-clause-does c = rw (c.in-ConfirmedRequest.is, c.in-None.is) c.request_comes.ensures.does
+
+pub returns-in-Some-clause-does : goal.returns-in-Some-clause-does
+returns-in-Some-clause-does c = rw (c.in-ConfirmedRequest.is, c.in-Some.is) c.segment_comes.ensures.does
+
+pub returns-in-None-clause-begin : goal.returns-in-None-clause-begin
+returns-in-None-clause-begin c =
+    idle_begins_now (context_view c.args.context.now) (service_of c.args.store.now) (peer_of c.args.context.now) c.args.store.now c.request_comes.new.store
+    c.args.free (apdu_view c.args.apdu.now) c.request_comes.result
+    (rw (c.in-ConfirmedRequest.is, c.in-None.is) c.request_comes.ensures.does)
+
+pub returns-in-Some-clause-begin : goal.returns-in-Some-clause-begin
+returns-in-Some-clause-begin c =
+    idle_begins_now (context_view c.args.context.now) (service_of c.args.store.now) (peer_of c.args.context.now) c.args.store.now c.segment_comes.new.store
+    c.args.free (apdu_view c.args.apdu.now) c.segment_comes.result
+    (rw (c.in-ConfirmedRequest.is, c.in-Some.is) c.segment_comes.ensures.does)

@@ -1,0 +1,39 @@
+//! When an entry is due.
+ghost use Rattle.std.specs.Prelude.{◌≡◌};
+ghost use Rattle.bac_responder.specs.Timers.{IsQuiet, IsStateQuiet, due_of, state_due};
+ghost use Rattle.bac_responder.specs.TransactionViews.{state_view};
+
+use crate::entry::{ServerTransaction, State, Transfer};
+use bac_protocol::times::{T_SEG, T_WAIT_FOR_SEG};
+
+/// The first moment at which the timer of a state is due; the last moment of all, where it has none.
+fn state_due(state: &State) -> u64
+    ensures { result ≡ state_due (state_view 0 state.now) }
+{
+    match state {
+        State::SegmentedRequest { since, .. } => since.saturating_add(T_WAIT_FOR_SEG),
+        State::SegmentedResponse {
+            transfer: Transfer::Running,
+            since,
+            ..
+        } => since.saturating_add(T_SEG),
+        _ => u64::MAX,
+    }
+}
+
+impl ServerTransaction {
+    /// The first moment, in milliseconds, at which a tick finds the timer of its state due (clause 5.4.5), looked at from a moment on: before it a tick
+    /// sends nothing and changes nothing. The last moment of all, where the entry is not live then, or its state has no timer
+    /// that is due while it lives.
+    pub fn due(&self, from: u64) -> u64
+        ensures due { result ≡ due_of from self.now }
+        ensures quiet { IsQuiet from result self.now }
+    {
+        let due = state_due(&self.state);
+        if self.is_live(from) && self.is_live(due) {
+            due
+        } else {
+            u64::MAX
+        }
+    }
+}

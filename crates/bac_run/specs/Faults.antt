@@ -1,8 +1,0 @@
--- Why a turn is not taken, by numbers.
-use Rattle.std.specs.Prelude.{ℕ}
-use Rattle.bac_run.specs.declared.fault.TurnFault.{TurnFault}
-use Rattle.bac_run.specs.declared.fault.TurnFault.TheVariants as fault
-
-abbrev pub fault_number : TurnFault → ℕ
-fault_number fault.Link = 1
-fault_number fault.ClockBack = 2

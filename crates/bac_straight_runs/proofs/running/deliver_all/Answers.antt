@@ -1,9 +1,0 @@
--- As many copies were delivered as it tells.
-use Rattle.std.proofs.Common.{refl}
-use Rattle.bac_straight_runs.specs.Going.{IsStuck}
-use Rattle.bac_straight_runs.proofs.Going.{told_why}
-use Rattle.bac_straight_runs.proofs.running.deliver_all.Goals as goal
-
-pub returns-in_err-deliveries : goal.returns-in_err-deliveries
-returns-in_err-deliveries c = told_why _ (λ f. IsStuck f c.args.ask c.args.since c.args.first c.args.world.now c.deliver_each.new.world) _
-    c.from_residual.result c.from_residual.ensures.1 c.in_err-deliveries.ensures

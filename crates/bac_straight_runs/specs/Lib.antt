@@ -1,6 +1,0 @@
-pub mod Open
-pub mod Logs
-pub mod Runs
-pub mod Tells
-pub mod Going
-pub mod Faults

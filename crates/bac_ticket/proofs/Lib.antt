@@ -1,5 +1,0 @@
--- Lemmas of the client's transactions.
-pub mod Short
-pub mod Ways
-pub mod Taking
-pub mod Services
