@@ -21,7 +21,7 @@ use Rattle.bac_segment.specs.Pieces.{pieces_of}
 use Rattle.bac_transaction.specs.Ends.{context_of}
 use Rattle.bac_transaction.specs.Keys.{PeerKey}
 use Rattle.bac_transaction.specs.Sends.{Datagram, Pairwise, IsSent, to_peer}
-use Rattle.bac_responder.specs.Services.{outcome_of}
+use Rattle.bac_transaction.specs.Services.{outcome_of}
 use Rattle.bac_world.specs.Node.{Node}
 use Rattle.bac_world.specs.Laws.{Gets, IsPerformedNow}
 use Rattle.bac_world.proofs.NodeLaws.{new_is_performed, stores_reply}

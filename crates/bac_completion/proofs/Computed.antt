@@ -14,7 +14,7 @@ use Rattle.bac_protocol.specs.Service as machine
 use Rattle.bac_transaction.specs.Keys.{PeerKey}
 use Rattle.bac_transaction.specs.Meanings.Ending.{Answered, Expired}
 use Rattle.bac_transaction.specs.Ends.{clients_tick, servers_tick, context_of, server_goes, client_hears}
-use Rattle.bac_responder.specs.Services.{service_of, outcome_by}
+use Rattle.bac_transaction.specs.Services.{service_of, outcome_by}
 use Rattle.bac_world.specs.Node.{Node, Outcome, IsServerTurn}
 use Rattle.bac_world.specs.Once.Fact.{Performed, Ended}
 use Rattle.bac_world.specs.World.{World, Copy, Hears, Ticks, IsCopied, link_at, peer_at, transaction_of}

@@ -23,7 +23,7 @@ use Rattle.bac_protocol.specs.Claims as claims
 use Rattle.bac_slots.specs.Slots.{value_at}
 use Rattle.bac_transaction.specs.Keys.{same_key}
 use Rattle.bac_transaction.specs.Ends.{AskOutcome, act_at, is_free, client_asks}
-use Rattle.bac_responder.specs.Services.{service_of}
+use Rattle.bac_transaction.specs.Services.{service_of}
 use Rattle.bac_progress.proofs.Paths.{ask_of, Comes, Step, Path, path_then}
 use Rattle.bac_progress.proofs.Paths.Path.{Here, Then}
 use Rattle.bac_world.specs.Services.{ArePerformed}

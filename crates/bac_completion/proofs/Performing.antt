@@ -21,7 +21,7 @@ use Rattle.bac_progress.proofs.Serving.{answer_any_time, performed_entry, answer
 use Rattle.bac_slots.specs.Slots.{value_at}
 use Rattle.bac_transaction.specs.Keys.{same_key}
 use Rattle.bac_transaction.specs.Ends.{is_free}
-use Rattle.bac_responder.specs.Services.{service_of, outcome_by}
+use Rattle.bac_transaction.specs.Services.{service_of, outcome_by}
 use Rattle.bac_world.specs.Node.{Node}
 use Rattle.bac_world.specs.World.{World, IsAsked}
 use Rattle.bac_world.proofs.Bridge.{NodeFits, slot_key}

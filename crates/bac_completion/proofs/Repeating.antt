@@ -38,7 +38,7 @@ use Rattle.bac_slots.specs.Slots.{value_at}
 use Rattle.bac_transaction.specs.Keys.{PeerKey, same_key}
 use Rattle.bac_transaction.specs.Sends.{Pairwise}
 use Rattle.bac_transaction.specs.Ends.{Client, TransactionSlot, act_at, is_free, open_unless}
-use Rattle.bac_responder.specs.Services.{service_of}
+use Rattle.bac_transaction.specs.Services.{service_of}
 use Rattle.bac_world.specs.Services.{Performed, ArePerformed}
 use Rattle.bac_world.specs.Node.{Node}
 use Rattle.bac_world.specs.Once.{Stores, IsOnce}

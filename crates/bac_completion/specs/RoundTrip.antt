@@ -15,7 +15,7 @@ use Rattle.bac_slots.specs.Slots.{value_at}
 use Rattle.bac_transaction.specs.Keys.{same_key}
 use Rattle.bac_transaction.specs.Meanings.Ending.{Answered}
 use Rattle.bac_transaction.specs.Ends.{is_free}
-use Rattle.bac_responder.specs.Services.{outcome_of}
+use Rattle.bac_transaction.specs.Services.{outcome_of}
 use Rattle.bac_world.specs.Node.{Node}
 use Rattle.bac_world.specs.Once.{Fact, Has}
 use Rattle.bac_world.specs.Once.Fact.{Performed, Ended}

@@ -4,7 +4,7 @@ pub mod Happening
 pub mod Delivered
 pub mod Changed
 pub mod Restarted
-pub mod Alike
+pub mod Compared
 pub mod Asked
 pub mod Makers
 pub mod Running

@@ -8,8 +8,8 @@ use Rattle.bac_transaction.specs.Ends as ends
 use Rattle.bac_transaction.specs.Ends.{ServerEnd, ServerTurn, clients_tick, server_hears, servers_tick}
 use Rattle.bac_transaction.specs.Meanings.{Finish, IsFinish}
 use Rattle.bac_transaction.specs.Sends.{Datagram, IsSent, Pairwise}
-use Rattle.bac_responder.specs.Services as server
-use Rattle.bac_responder.specs.Services.{service_of}
+use Rattle.bac_transaction.specs.Services as server
+use Rattle.bac_transaction.specs.Services.{service_of}
 use Rattle.bac_requester.specs.Turns as requester
 use Rattle.bac_requester.specs.Views.{finish_view}
 use Rattle.bac_requester.specs.declared.turn.Due.{Due}

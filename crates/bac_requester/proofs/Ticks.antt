@@ -1,7 +1,7 @@
 -- A tick of the client's end: the slots after it, and what is told before anything is due.
 use Rattle.std.proofs.Common.{◌≡◌, ℕ, ◌<◌, List, [], ◌∷◌, map, refl, ap, ◌∙◌}
 use Rattle.bac_slots.specs.declared.slot.Slot.{Slot}
-use Rattle.bac_slots.proofs.Ages.{each_more}
+use Rattle.bac_slots.proofs.SlotAges.{each_more}
 use Rattle.bac_transaction.specs.declared.settings.Settings.{Settings}
 use Rattle.bac_transaction.specs.Ends.{Client, ClientEnd, ClientSlot, client_tick_ends, client_tick_sends, client_ticked, clients_tick, context_of}
 use Rattle.bac_transaction.specs.Meanings.{Finish, IsFinish}

@@ -2,7 +2,7 @@
 use Rattle.std.proofs.Common.{◌≡◌, ℕ, ◌+◌, ◌-◌, ◌<◌, ◌≤◌, Bool, true, false, nat_eq, nat_le, if◌then◌else◌, List, [], ◌∷◌, Option, Some, None, refl, ap, sym, ◌∙◌, arith}
 use Rattle.std.proofs.lemmas.Bool.Decides.{nat_tests}
 use Rattle.bac_slots.specs.Slots.{EachSlot}
-use Rattle.bac_slots.proofs.Ages.{each_more}
+use Rattle.bac_slots.proofs.SlotAges.{each_more}
 use Rattle.bac_segment.specs.Window.{Outgoing, again, outgoing}
 use Rattle.bac_protocol.specs.declared.times.TheConstants.{T_SEG, T_OUT, T_WAIT_FOR_SEG}
 use Rattle.bac_protocol.specs.Context.{Context, Settings}

@@ -21,7 +21,7 @@ use Rattle.bac_protocol.specs.Server as server
 use Rattle.bac_protocol.specs.Server.{ServerTransaction, Effect, State, sends_reply, performs, performs_so, effect_of}
 use Rattle.bac_transaction.specs.Meanings.{MeansReply}
 use Rattle.bac_transaction.specs.Sends.{Datagram, Pairwise, IsSent, to_all}
-use Rattle.bac_responder.specs.Services.{Performed, ArePerformed, outcome_of, outcome_by, service_of, store_after}
+use Rattle.bac_transaction.specs.Services.{Performed, ArePerformed, outcome_of, outcome_by, service_of, store_after}
 use Rattle.bac_responder.specs.Reactions.{IsReaction}
 use Rattle.bac_responder.specs.Reading.{IsRead}
 use Rattle.bac_responder.specs.TransactionViews.{state_view}

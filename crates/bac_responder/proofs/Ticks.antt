@@ -1,7 +1,7 @@
 -- A tick of the server's end: the slots after it, and what is sent before anything is due.
 use Rattle.std.proofs.Common.{◌≡◌, ℕ, ◌<◌, ◌≤◌, Option, List, [], ◌∷◌, map, refl, ap, ◌∙◌}
 use Rattle.bac_slots.specs.declared.slot.Slot.{Slot}
-use Rattle.bac_slots.proofs.Ages.{each_more}
+use Rattle.bac_slots.proofs.SlotAges.{each_more}
 use Rattle.bac_transaction.specs.declared.settings.Settings.{Settings}
 use Rattle.bac_protocol.specs.declared.times.TheConstants.{KEEP}
 use Rattle.bac_protocol.specs.Server.{ServerTransaction}

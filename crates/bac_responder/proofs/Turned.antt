@@ -18,7 +18,7 @@ use Rattle.bac_protocol.proofs.Served.{live_stays_law}
 use Rattle.bac_transaction.specs.Keys.{PeerKey, same_key}
 use Rattle.bac_transaction.specs.Ends.{ServerSlot, ServerEnd, ServerTurn, set_or_put, put_entry, act_at, server_goes}
 use Rattle.bac_transaction.specs.Sends.{Datagram, Pairwise, IsSent}
-use Rattle.bac_responder.specs.Services.{Performed, ArePerformed, store_after}
+use Rattle.bac_transaction.specs.Services.{Performed, ArePerformed, store_after}
 use Rattle.bac_responder.specs.Reactions.{IsReaction, IsStill}
 use Rattle.bac_responder.specs.Turns.{Acted, AreActed, IsServed, acted_of, performed_by}
 use Rattle.bac_responder.specs.Views.{turn_of, Serves}

@@ -2,7 +2,7 @@
 use Rattle.std.proofs.Common.{◌≡◌, ℕ, ◌-◌, ◌<◌, ◌≤◌, Bool, true, false, ◌&&◌, max, nat_le, if◌then◌else◌, List, [], ◌∷◌, None, refl, ap, ◌∙◌, arith}
 use Rattle.std.proofs.lemmas.Bool.Decides.{nat_tests}
 use Rattle.bac_slots.specs.Slots.{EachSlot}
-use Rattle.bac_slots.proofs.Ages.{each_more}
+use Rattle.bac_slots.proofs.SlotAges.{each_more}
 use Rattle.bac_protocol.specs.declared.times.TheConstants.{KEEP}
 use Rattle.bac_protocol.specs.Context.{Settings}
 use Rattle.bac_protocol.specs.Server.{ServerTransaction, is_live}

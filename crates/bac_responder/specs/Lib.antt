@@ -3,7 +3,6 @@ pub mod Turns
 pub mod Views
 pub mod Aging
 pub mod Short
-pub mod Services
 pub mod TransactionViews
 pub mod Reactions
 pub mod Reading

@@ -20,7 +20,7 @@ use Rattle.bac_protocol.specs.Server.{State, Transfer, reply_apdu, reply_piece, 
 use Rattle.bac_transaction.specs.Meanings.{MeansReply}
 use Rattle.bac_transaction.specs.Sends as sends
 use Rattle.bac_transaction.specs.Sends.{IsSent, to_peer}
-use Rattle.bac_responder.specs.Services.{Performed, outcome_of}
+use Rattle.bac_transaction.specs.Services.{Performed, outcome_of}
 use Rattle.bac_responder.specs.TransactionViews.{state_view, IsSendable}
 use Rattle.bac_responder.specs.declared.entry.State as code
 use Rattle.bac_responder.specs.declared.preparing.Pending.{Pending}

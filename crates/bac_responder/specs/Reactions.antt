@@ -8,7 +8,7 @@ use Rattle.bac_protocol.specs.Server as server
 use Rattle.bac_protocol.specs.Server.{ServerTransaction, State}
 use Rattle.bac_protocol.specs.Service.{Octets}
 use Rattle.bac_transaction.specs.Sends.{Datagram, Pairwise, IsSent, to_all}
-use Rattle.bac_responder.specs.Services.{Performed, ArePerformed, store_after}
+use Rattle.bac_transaction.specs.Services.{Performed, ArePerformed, store_after}
 use Rattle.bac_responder.specs.TransactionViews.{performed_view}
 use Rattle.bac_responder.specs.declared.reaction.Answered.{Answered}
 use Rattle.bac_responder.specs.declared.reaction.Reaction.{Reaction}

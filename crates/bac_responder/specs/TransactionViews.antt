@@ -8,7 +8,7 @@ use Rattle.bac_protocol.specs.Service as machine
 use Rattle.bac_protocol.specs.Server as server
 use Rattle.bac_protocol.specs.Short.{IsShort}
 use Rattle.bac_transaction.specs.Segments.{ArePiecesShort}
-use Rattle.bac_responder.specs.Services.{Performed}
+use Rattle.bac_transaction.specs.Services.{Performed}
 use Rattle.bac_responder.specs.declared.effect.Effect.{Effect}
 use Rattle.bac_responder.specs.declared.entry.Origin.{Origin}
 use Rattle.bac_responder.specs.declared.entry.State as state

@@ -4,7 +4,7 @@ use Rattle.bac_store.specs.Stores.{Store}
 use Rattle.bac_transaction.specs.Keys.{PeerKey}
 use Rattle.bac_transaction.specs.Sends.{Datagram, Pairwise, IsSent}
 use Rattle.bac_transaction.specs.Ends.{Act, ServerEnd, ServerTurn}
-use Rattle.bac_responder.specs.Services.{Performed, IsPerformed, store_after}
+use Rattle.bac_transaction.specs.Services.{Performed, IsPerformed, store_after}
 
 -- a request was performed, for that transaction
 pub record Acted : Type 0 where

@@ -4,7 +4,7 @@ use Rattle.std.specs.Option.{option_map}
 use Rattle.bac_slots.specs.declared.slot.Slot.{Slot}
 use Rattle.bac_slots.specs.Slots.{value_at}
 use Rattle.bac_apdu.specs.Apdu.{Apdu}
-use Rattle.bac_responder.specs.Services.{service_of}
+use Rattle.bac_transaction.specs.Services.{service_of}
 use Rattle.bac_transaction.specs.declared.context.Context as code
 use Rattle.bac_transaction.specs.Keys.{same_key}
 use Rattle.bac_store.specs.Stores.{Store}

@@ -3,7 +3,7 @@ ghost use Rattle.std.specs.Prelude.{◌≡◌};
 ghost use Rattle.bac_apdu.specs.Views.{apdu_view, limits_view, segment_view};
 ghost use Rattle.bac_protocol.specs.Server as machine;
 ghost use Rattle.bac_responder.specs.Reactions.{IdleReacts, BeginsAt, BeginsWhereFree};
-ghost use Rattle.bac_responder.specs.Services.{service_of};
+ghost use Rattle.bac_transaction.specs.Services.{service_of};
 ghost use Rattle.bac_transaction.specs.Views.{context_view, peer_of};
 
 use crate::entry::{Origin, ServerTransaction, Terms};

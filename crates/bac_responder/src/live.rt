@@ -7,7 +7,7 @@ ghost use Rattle.bac_store.specs.Stores.{Store as Objects};
 ghost use Rattle.bac_protocol.specs.Short.{IsShort};
 ghost use Rattle.bac_transaction.specs.Sends.{Pairwise, IsSent, to_all};
 ghost use Rattle.bac_responder.specs.Reactions.{is_done, Answers, Reacts, Stands};
-ghost use Rattle.bac_responder.specs.Services.{service_of};
+ghost use Rattle.bac_transaction.specs.Services.{service_of};
 ghost use Rattle.bac_transaction.specs.Views.{context_view, peer_of};
 ghost use Rattle.bac_responder.specs.TransactionViews.{entry_of, kept_reply_view};
 

@@ -1,7 +1,7 @@
 //! The second step of a performance: the change of the store.
 ghost use Rattle.std.specs.Prelude.{◌≡◌};
 ghost use Rattle.bac_responder.specs.Preparing.{CanCommit, IsCommitted};
-ghost use Rattle.bac_responder.specs.Services.{store_after};
+ghost use Rattle.bac_transaction.specs.Services.{store_after};
 ghost use Rattle.bac_responder.specs.TransactionViews.{performed_view};
 
 use crate::effect::Effect;

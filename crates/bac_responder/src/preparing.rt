@@ -6,7 +6,7 @@ ghost use Rattle.bac_service.specs.Views.{owned_request_view, reply_view};
 ghost use Rattle.bac_protocol.specs.Service.Outcome.{Replies};
 ghost use Rattle.bac_responder.specs.Preparing.{IsPrepared, IsReady, IsRejected, IsNoReject, IsSpelledReply};
 ghost use Rattle.bac_responder.specs.Reading.{HasChoice, found_view};
-ghost use Rattle.bac_responder.specs.Services.{outcome_of};
+ghost use Rattle.bac_transaction.specs.Services.{outcome_of};
 ghost use Rattle.bac_transaction.specs.Views.{context_view, peer_of};
 ghost use Rattle.bac_responder.specs.TransactionViews.{spelled_view};
 

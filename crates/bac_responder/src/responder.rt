@@ -8,7 +8,7 @@ ghost use Rattle.bac_transaction.specs.Ends.{first_after, is_slot_live, server_h
 ghost use Rattle.bac_transaction.specs.Tables.{IsOrderlyServer};
 ghost use Rattle.bac_transaction.specs.Sends.{Pairwise, IsSent};
 ghost use Rattle.bac_transaction.specs.Views.{settings_view};
-ghost use Rattle.bac_responder.specs.Services.{service_of};
+ghost use Rattle.bac_transaction.specs.Services.{service_of};
 ghost use Rattle.bac_responder.specs.Timers.{LAST_MOMENT};
 ghost use Rattle.bac_responder.specs.Short.{AreRequestsShort};
 ghost use Rattle.bac_responder.specs.Views.{end_of, Serves};

@@ -10,7 +10,7 @@ ghost use Rattle.bac_protocol.specs.Server as machine;
 ghost use Rattle.bac_transaction.specs.Sends.{Pairwise, IsSent, to_all};
 ghost use Rattle.bac_responder.specs.Reactions.{Reacts};
 ghost use Rattle.bac_responder.specs.Segments.{IsNext, TakesNext, TakesSegment, StaysReceiving, IsWhole, IsGiven, Gives};
-ghost use Rattle.bac_responder.specs.Services.{service_of};
+ghost use Rattle.bac_transaction.specs.Services.{service_of};
 ghost use Rattle.bac_responder.specs.declared.entry.Origin.{Origin};
 ghost use Rattle.bac_store.specs.Stores.{Store as Objects};
 ghost use Rattle.bac_transaction.specs.Views.{context_view, peer_of};

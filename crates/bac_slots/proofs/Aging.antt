@@ -4,7 +4,7 @@ use Rattle.std.proofs.Common.{Option, Some, None, MatchOption, refl, ap, sym, su
 use Rattle.std.proofs.lemmas.Bool.Decides.{nat_tests}
 use Rattle.bac_slots.specs.declared.slot.Slot.{Slot}
 use Rattle.bac_slots.specs.Slots.{Ascends, EachSlot, YoungPass, value_at, with_value}
-use Rattle.bac_slots.proofs.Ages.{ascends_kept, ascends_put, ascends_set, each_kept, each_more, each_put, each_set}
+use Rattle.bac_slots.proofs.SlotAges.{ascends_kept, ascends_put, ascends_set, each_kept, each_more, each_put, each_set}
 use Rattle.bac_slots.specs.Ages.{AreInOrder, AreInOrderIf, AreQuiet, HasBegun, IsAged, IsKnownBy, changed, later_of, ticked_in}
 use Rattle.bac_slots.specs.declared.ages.Ages.{Ages}
 

@@ -5,7 +5,7 @@ pub mod Indexes
 pub mod Ranks
 pub mod Swept
 pub mod Values
-pub mod Ages
+pub mod SlotAges
 pub mod Numbers
 pub mod Aging
 pub mod Fronts

@@ -7,3 +7,4 @@ pub mod Segments
 pub mod Tables
 pub mod Meanings
 pub mod Examples
+pub mod Services

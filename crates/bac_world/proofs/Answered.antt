@@ -21,7 +21,7 @@ use Rattle.bac_transaction.specs.Keys.{PeerKey}
 use Rattle.bac_transaction.specs.Sends.{Datagram, IsSent, to_peer}
 use Rattle.bac_transaction.specs.Meanings.Ending.{Answered}
 use Rattle.bac_transaction.specs.Ends.{Accepted, accepts, context_of, server_goes, client_hears}
-use Rattle.bac_responder.specs.Services.{service_of, outcome_by}
+use Rattle.bac_transaction.specs.Services.{service_of, outcome_by}
 use Rattle.bac_service.specs.Services.{reads_reply}
 use Rattle.bac_world.specs.Services.{Performed}
 use Rattle.bac_world.specs.Node.{Node, Outcome, IsServerTurn, NodeAsks}

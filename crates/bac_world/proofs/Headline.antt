@@ -26,7 +26,7 @@ use Rattle.bac_slots.specs.Slots.{value_at, IsDistinct}
 use Rattle.bac_transaction.specs.Keys.{same_key}
 use Rattle.bac_transaction.specs.Sends.{Pairwise}
 use Rattle.bac_transaction.specs.Ends.{Client}
-use Rattle.bac_responder.specs.Services.{service_of}
+use Rattle.bac_transaction.specs.Services.{service_of}
 use Rattle.bac_world.specs.Node.{Node, Outcome, IsDropped, IsHeard, IsHeardBy, NodeOn, with_change}
 use Rattle.bac_world.specs.Once.{Fact, Stores, IsOnce, with_changed}
 use Rattle.bac_world.specs.Once.Fact.{Changed}

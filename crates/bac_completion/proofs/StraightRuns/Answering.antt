@@ -39,7 +39,7 @@ use Rattle.bac_transaction.specs.Meanings.{Ending, MeansReply}
 use Rattle.bac_transaction.specs.Meanings.Ending.{Answered}
 use Rattle.bac_transaction.specs.Ends.{Accepted, AskOutcome, client_asks, is_free}
 use Rattle.bac_transaction.specs.Ends.AskOutcome.{Asked}
-use Rattle.bac_responder.specs.Services.{outcome_of, outcome_by}
+use Rattle.bac_transaction.specs.Services.{outcome_of, outcome_by}
 use Rattle.bac_world.specs.Node.{Node}
 use Rattle.bac_world.specs.Once.{Fact, Stores, IsOnce}
 use Rattle.bac_world.specs.World.{World, stores_of, peer_at}

@@ -24,7 +24,7 @@ use Rattle.bac_protocol.specs.World.Event.{Deliver}
 use Rattle.bac_protocol.specs.Claims.{IsBounded}
 use Rattle.bac_protocol.specs.Moves.{taken_by_client}
 use Rattle.bac_transaction.specs.Ends.{is_free, act_at}
-use Rattle.bac_responder.specs.Services.{service_of}
+use Rattle.bac_transaction.specs.Services.{service_of}
 use Rattle.bac_world.specs.Services.{ArePerformed}
 use Rattle.bac_world.specs.Node.{Node, Outcome, NodeOn, IsHeard, IsHeardBy}
 use Rattle.bac_world.specs.Laws.{IsMeaningless}

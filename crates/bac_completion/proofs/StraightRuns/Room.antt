@@ -24,7 +24,7 @@ use Rattle.bac_transaction.specs.Ends.{key_of, context_of, has_no_slot, asks_wit
 use Rattle.bac_transaction.proofs.ServerTables.{has_space}
 use Rattle.bac_transaction.specs.Ends.TransactionSlot.{Open, Closed}
 use Rattle.bac_transaction.specs.Ends.AskOutcome.{Asked}
-use Rattle.bac_responder.specs.Services.{service_of}
+use Rattle.bac_transaction.specs.Services.{service_of}
 use Rattle.bac_world.specs.Node.{Node, Outcome, NodeOn, NodeTick, NodeAsks, IsHeardBy, with_change}
 use Rattle.bac_world.specs.World.{World, Event, WorldStep, WorldRun, IsFresh, IsFreshNode, IsWithNode, Acts, DeliversIf, Hears, is_deliverable}
 use Rattle.bac_world.specs.World.Event.{Deliver, Noise, Tick, Advance, Change, Restart}

@@ -17,7 +17,7 @@ use Rattle.bac_protocol.specs.Server.{ServerTransaction, begins, performs_so}
 use Rattle.bac_transaction.specs.Keys.{PeerKey}
 use Rattle.bac_transaction.specs.Meanings.Ending.{Answered}
 use Rattle.bac_transaction.specs.Ends.{Accepted, ClientEnd, ServerEnd, accepts, context_of, client_hears, server_goes}
-use Rattle.bac_responder.specs.Services.{service_of, outcome_by}
+use Rattle.bac_transaction.specs.Services.{service_of, outcome_by}
 use Rattle.bac_world.specs.Services.{Performed}
 use Rattle.bac_world.specs.Node.{Node, Outcome, IsServerTurn, NodeAsks}
 use Rattle.bac_world.specs.Once.{Fact}

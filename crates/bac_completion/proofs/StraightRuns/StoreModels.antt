@@ -16,7 +16,7 @@ use Rattle.bac_protocol.specs.World.{stored}
 use Rattle.bac_protocol.specs.World as net
 use Rattle.bac_transaction.specs.Keys.{PeerKey}
 use Rattle.bac_transaction.specs.Ends.{act_at}
-use Rattle.bac_responder.specs.Services.{service_of}
+use Rattle.bac_transaction.specs.Services.{service_of}
 use Rattle.bac_world.specs.Services.{Performed, ArePerformed, store_after}
 use Rattle.bac_world.specs.Node.{Node}
 use Rattle.bac_world.specs.World.{IsWithNode, stores_of}

@@ -27,7 +27,7 @@ use Rattle.bac_protocol.proofs.Short.{requests_are_short, replies_are_short}
 use Rattle.bac_transaction.specs.Ends.{ClientEnd, Accepted, AskOutcome, AskRefusal, accepts, asks_with_id, asks_for, asks_by_way, client_asks, free_id}
 use Rattle.bac_transaction.specs.Ends.{has_no_slot}
 use Rattle.bac_transaction.specs.Ends.AskOutcome.{Asked}
-use Rattle.bac_responder.specs.Services.{outcome_of}
+use Rattle.bac_transaction.specs.Services.{outcome_of}
 use Rattle.bac_completion.specs.StraightAnswers.{datagrams, CanGo, way_between}
 
 cut_fits : (service : Octets) (pieces : List Octets) → IsCutInto service pieces → length service ≤ DATA → FitsData pieces

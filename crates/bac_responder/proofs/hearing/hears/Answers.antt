@@ -10,7 +10,7 @@ use Rattle.bac_transaction.specs.Keys.{PeerKey, same_key}
 use Rattle.bac_transaction.specs.Views.{peer_key_view, code_same_key}
 use Rattle.bac_transaction.specs.declared.peer_key.PeerKey.{PeerKey as CodeKey}
 use Rattle.bac_transaction.proofs.Keyed.{value_viewed}
-use Rattle.bac_responder.specs.Services.{service_of}
+use Rattle.bac_transaction.specs.Services.{service_of}
 use Rattle.bac_transaction.specs.Views.{context_view}
 use Rattle.bac_responder.specs.Timers.{IsQuiet}
 use Rattle.bac_slots.proofs.Aging.{goes_on}

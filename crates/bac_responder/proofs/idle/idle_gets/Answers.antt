@@ -1,6 +1,6 @@
 -- A request, whole or in segments.
 use Rattle.bac_apdu.specs.Views.{apdu_view}
-use Rattle.bac_responder.specs.Services.{service_of}
+use Rattle.bac_transaction.specs.Services.{service_of}
 use Rattle.bac_transaction.specs.Views.{context_view, peer_of}
 use Rattle.bac_responder.proofs.Begun.{idle_begins_now}
 use Rattle.bac_responder.proofs.idle.idle_gets.Goals as goal

@@ -4,7 +4,7 @@ use Rattle.bac_apdu.specs.Views.{apdu_view}
 use Rattle.bac_protocol.specs.Server.{ServerTransaction, live_gets}
 use Rattle.bac_transaction.specs.Views.{context_view, peer_of}
 use Rattle.bac_responder.specs.Reactions.{is_done, Answers}
-use Rattle.bac_responder.specs.Services.{service_of}
+use Rattle.bac_transaction.specs.Services.{service_of}
 use Rattle.bac_responder.proofs.Standing.{stands_answers}
 use Rattle.bac_responder.proofs.live.live_gets.Goals as goal
 

@@ -5,7 +5,7 @@ use Rattle.bac_protocol.specs.Server.{ServerTransaction, live_gets}
 use Rattle.bac_protocol.specs.Server.State.{SegmentedRequest}
 use Rattle.bac_transaction.specs.Views.{context_view, peer_of}
 use Rattle.bac_responder.specs.Reactions.{Stands}
-use Rattle.bac_responder.specs.Services.{service_of}
+use Rattle.bac_transaction.specs.Services.{service_of}
 use Rattle.bac_responder.specs.TransactionViews.{entry_of, entry_view}
 use Rattle.bac_responder.proofs.Standing.{receiving_stands}
 use Rattle.bac_responder.proofs.live.stands.Goals as goal

@@ -4,7 +4,7 @@ use Rattle.bac_apdu.specs.Views.{apdu_view}
 use Rattle.bac_protocol.specs.Server.{ServerTransaction, live_gets}
 use Rattle.bac_protocol.specs.Server.State.{Dropped, SegmentedResponse}
 use Rattle.bac_responder.specs.Reactions.{Reacts}
-use Rattle.bac_responder.specs.Services.{service_of}
+use Rattle.bac_transaction.specs.Services.{service_of}
 use Rattle.bac_transaction.specs.Views.{context_view, peer_of}
 use Rattle.bac_responder.specs.TransactionViews.{entry_of, entry_view, transfer_view}
 use Rattle.bac_responder.proofs.live.taken_gets.Goals as goal

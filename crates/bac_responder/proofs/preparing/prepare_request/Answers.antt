@@ -10,7 +10,7 @@ use Rattle.bac_store.specs.Plans.{IsPlanFor}
 use Rattle.bac_protocol.specs.Service.{Reply}
 use Rattle.bac_protocol.specs.Service.Outcome.{Replies}
 use Rattle.bac_protocol.specs.Sizes.{reply_way_of}
-use Rattle.bac_responder.specs.Services.{outcome_of}
+use Rattle.bac_transaction.specs.Services.{outcome_of}
 use Rattle.bac_responder.specs.Preparing.{is_performed, IsNoReject, IsSpelledReply}
 use Rattle.bac_transaction.specs.Views.{context_view}
 use Rattle.bac_responder.specs.TransactionViews.{spelled_view}

@@ -8,7 +8,7 @@ use Rattle.bac_protocol.specs.Server.{ServerTransaction, segmented_request_gets}
 use Rattle.bac_protocol.specs.Server.State.{SegmentedRequest}
 use Rattle.bac_transaction.specs.Views.{context_view, peer_of}
 use Rattle.bac_responder.specs.Segments.{StaysReceiving}
-use Rattle.bac_responder.specs.Services.{service_of}
+use Rattle.bac_transaction.specs.Services.{service_of}
 use Rattle.bac_responder.specs.TransactionViews.{entry_of}
 use Rattle.bac_responder.proofs.segmented_request.stays_receiving.Goals as goal
 

@@ -1,5 +1,5 @@
 -- Slots that ascend still do.
-use Rattle.bac_slots.proofs.Ages.{ascends_put, ascends_set, ascends_without, ascends_kept}
+use Rattle.bac_slots.proofs.SlotAges.{ascends_put, ascends_set, ascends_without, ascends_kept}
 use Rattle.bac_slots.proofs.laws.ascending_slots.Goals as goal
 
 pub returns-clause-put : goal.returns-clause-put

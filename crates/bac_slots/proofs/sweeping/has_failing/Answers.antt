@@ -1,6 +1,6 @@
 -- One slot fails, or all before a young one pass.
 use Rattle.std.proofs.Common.{◌<◌, length, arith}
-use Rattle.bac_slots.proofs.Ages.{pass_one, count_all, count_young, count_failing}
+use Rattle.bac_slots.proofs.SlotAges.{pass_one, count_all, count_young, count_failing}
 use Rattle.bac_slots.proofs.sweeping.has_failing.Goals as goal
 
 pub loop-n-init : goal.loop-n-init

@@ -1,5 +1,5 @@
 -- The first n slots pass.
-use Rattle.bac_slots.proofs.Ages.{PassBefore}
+use Rattle.bac_slots.proofs.SlotAges.{PassBefore}
 use Rattle.bac_slots.proofs.sweeping.has_failing.Given as goal
 
 abbrev pub invariant-loop-n : goal.invariant-loop-n

@@ -2,7 +2,7 @@
 use Rattle.std.proofs.Common.{◌≡◌, ◌<◌, ◌∙◌, arith, refl, sym, ap, slice_get, subst, length, Some, List, filter}
 use Rattle.bac_slots.specs.declared.slot.Slot.{Slot}
 use Rattle.bac_slots.specs.Slots.{Ascends, YoungPass}
-use Rattle.bac_slots.proofs.Ages.{PassBefore, pass_one, swept_all, swept_young, drop_filter, drop_before, drop_length, ascends_without, each_without}
+use Rattle.bac_slots.proofs.SlotAges.{PassBefore, pass_one, swept_all, swept_young, drop_filter, drop_before, drop_length, ascends_without, each_without}
 use Rattle.bac_slots.proofs.sweeping.sweep_oldest.Goals as goal
 
 pub loop-kept-init : goal.loop-kept-init

@@ -1,7 +1,7 @@
 -- The first slots pass, and a sweep leaves of all what it left of the old ones.
 use Rattle.std.proofs.Common.{◌≡◌, ◌-◌, ◌≤◌, filter, length}
 use Rattle.bac_slots.specs.Slots.{Ascends, YoungPass}
-use Rattle.bac_slots.proofs.Ages.{PassBefore}
+use Rattle.bac_slots.proofs.SlotAges.{PassBefore}
 use Rattle.bac_slots.proofs.sweeping.sweep_oldest.Given as goal
 
 abbrev pub invariant-loop-kept : goal.invariant-loop-kept

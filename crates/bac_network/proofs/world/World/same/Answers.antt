@@ -3,7 +3,7 @@ use Rattle.std.proofs.Common.{refl, sym, ap, ◌∙◌, map}
 use Rattle.bac_store.specs.Stores.{Store}
 use Rattle.bac_world.specs.Node.{Node}
 use Rattle.bac_network.specs.Views.{fact_view}
-use Rattle.bac_network.proofs.Alike.{same_facts, same_journals, worlds_alike}
+use Rattle.bac_network.proofs.Compared.{same_facts, same_journals, worlds_alike}
 use Rattle.bac_network.proofs.Histories.{ready_now}
 use Rattle.bac_network.proofs.world.World.same.Goals as goal
 
