@@ -8,7 +8,7 @@ use Rattle.bac_protocol.specs.Context.{Context}
 use Rattle.bac_protocol.specs.Service as machine
 use Rattle.bac_protocol.specs.Service.{Octets}
 use Rattle.bac_protocol.specs.Client as client
-use Rattle.bac_protocol.specs.Client.{ClientTransaction, Reaction, is_idle, is_expired, client_gets, client_ticks}
+use Rattle.bac_protocol.specs.Client.{ClientTransaction, Reaction, is_idle, is_expired, client_on_apdu, client_ticks}
 use Rattle.bac_protocol.specs.Client.Reaction.{Stays, Ends}
 use Rattle.bac_protocol.specs.Transaction.{Key, Rules}
 use Rattle.bac_protocol.specs.World.{Net, net_start}
@@ -21,7 +21,7 @@ use Rattle.bac_transaction.specs.Sends.{Pairwise}
 use Rattle.bac_transaction.specs.Meanings as plain
 use Rattle.bac_transaction.specs.Meanings.{Finish, IsFinish, MeansEnding}
 use Rattle.bac_transaction.specs.Ends.{Client, TransactionSlot, ClientSlot, Ended, context_of, from_each, client_tick_ends}
-use Rattle.bac_transaction.specs.Ends.{client_hears_at, key_of, kept, ended_with}
+use Rattle.bac_transaction.specs.Ends.{requester_on_apdu_at, key_of, kept, ended_with}
 use Rattle.bac_transaction.specs.Ends.TransactionSlot.{Open, Closed}
 use Rattle.bac_world.specs.Node.{Node, Outcome, NodeTick, IsHeardBy, IsClientTurn}
 use Rattle.bac_world.specs.World.{World, WorldRun, Event, IsFresh, IsBounded, ask_of, peer_at, link_at}
@@ -218,12 +218,12 @@ answer_ends now peer a old new o gets from apart number t there late = record { 
     going : is_idle t.phase ≡ false
     going = apart.going (key_of peer a) number t there
 
-    turn : IsClientTurn (client_hears_at old.settings reads_reply now a old.clients (key_of peer a)
+    turn : IsClientTurn (requester_on_apdu_at old.settings reads_reply now a old.clients (key_of peer a)
         (Some (record { number = number; held = Open t }))) now old new o
-    turn = subst (λ (v : Option Client). IsClientTurn (client_hears_at old.settings reads_reply now a old.clients (key_of peer a) v) now old new o) there
+    turn = subst (λ (v : Option Client). IsClientTurn (requester_on_apdu_at old.settings reads_reply now a old.clients (key_of peer a) v) now old new o) there
         (subst (λ (b : Bool). IsHeardBy b peer a now old new o) (not_from_client a from) (heard_as now peer a old new o gets))
 
-    reaction : client_gets (context_of old.settings now (key_of peer a)) reads_reply t a ≡ Ends [] machine.Ending.Expired
+    reaction : client_on_apdu (context_of old.settings now (key_of peer a)) reads_reply t a ≡ Ends [] machine.Ending.Expired
     reaction = late_gets reads_reply (context_of old.settings now (key_of peer a)) t a from going late
 
     only : IsOnlyExpired number o.ended

@@ -13,7 +13,7 @@ use Rattle.bac_protocol.specs.Server.{performs_so, begins}
 use Rattle.bac_protocol.specs.Service as machine
 use Rattle.bac_transaction.specs.Keys.{PeerKey}
 use Rattle.bac_transaction.specs.Meanings.Ending.{Answered, Expired}
-use Rattle.bac_transaction.specs.Ends.{clients_tick, servers_tick, context_of, server_goes, client_hears}
+use Rattle.bac_transaction.specs.Ends.{requester_tick, responder_tick, context_of, server_goes, requester_on_apdu}
 use Rattle.bac_transaction.specs.Services.{service_of, outcome_by}
 use Rattle.bac_world.specs.Node.{Node, Outcome, IsServerTurn}
 use Rattle.bac_world.specs.Once.Fact.{Performed, Ended}
@@ -31,8 +31,8 @@ abbrev ticked_node : ℕ → Node
 ticked_node now =
     record (ASKED_NODE) {
       latest = now;
-      clients = (clients_tick SETTINGS now ASKED_NODE.clients).end;
-      servers = (servers_tick SETTINGS now ASKED_NODE.servers).end;
+      clients = (requester_tick SETTINGS now ASKED_NODE.clients).end;
+      servers = (responder_tick SETTINGS now ASKED_NODE.servers).end;
     }
 
 -- A tick at 60,001.
@@ -252,7 +252,7 @@ serves = record {
 }
 
 abbrev ENDED_NODE : Node
-ENDED_NODE = record (ticked_node 3000) { clients = (client_hears SETTINGS reads_reply 3000 (peer_at (link 1)) ANSWER (ticked_node 3000).clients).end }
+ENDED_NODE = record (ticked_node 3000) { clients = (requester_on_apdu SETTINGS reads_reply 3000 (peer_at (link 1)) ANSWER (ticked_node 3000).clients).end }
 
 abbrev ANSWERED : World
 ANSWERED = record { nodes = ENDED_NODE ∷ SERVED_NODE ∷ []; now = 3000; copies = SERVED.copies; log = LOG; notes = NOTES }
@@ -313,7 +313,7 @@ second_sending = record {
 abbrev LATE_NODE : Node
 LATE_NODE = record (ASKED_NODE) {
   latest = 60001;
-  clients = (client_hears SETTINGS reads_reply 60001 (peer_at (link 1)) ANSWER ASKED_NODE.clients).end;
+  clients = (requester_on_apdu SETTINGS reads_reply 60001 (peer_at (link 1)) ANSWER ASKED_NODE.clients).end;
 }
 
 pub late_answer : LateAnswer

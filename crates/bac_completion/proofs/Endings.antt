@@ -167,13 +167,13 @@ tick_leaves now old new o tick key number u is = go (value_at same_key key old.c
 -- An APDU of a server ends an old ticket.
 
 pub late_gets : (readable : Readable) (c : Context) (t : ClientTransaction) (a : Apdu) → is_from_server a ≡ true → is_idle t.phase ≡ false → DEADLINE < c.now - t.ask.first
-    → client.client_gets c readable t a ≡ Ends [] Ending.Expired
+    → client.client_on_apdu c readable t a ≡ Ends [] Ending.Expired
 late_gets readable c t a from going late =
     ap (λ (b : Bool). if b || not (is_from_server a) then Stays else if is_expired c.now t.ask then Ends [] Ending.Expired
-    else client.open_gets c readable t.ask t.phase a) going
+    else client.open_on_apdu c readable t.ask t.phase a) going
     ∙ ap (λ (b : Bool). if not b then Stays else if is_expired c.now t.ask then Ends [] Ending.Expired
-    else client.open_gets c readable t.ask t.phase a) from
-    ∙ ap (λ (b : Bool). if b then Ends [] Ending.Expired else client.open_gets c readable t.ask t.phase a) expires
+    else client.open_on_apdu c readable t.ask t.phase a) from
+    ∙ ap (λ (b : Bool). if b then Ends [] Ending.Expired else client.open_on_apdu c readable t.ask t.phase a) expires
   where
     expires : is_expired c.now t.ask ≡ true
     expires = grind (arith, nat_tests)
@@ -380,7 +380,7 @@ module _ (links : ℕ → Option Octets) (apart : (i j : ℕ) (l : Octets) → l
           z.other.copy.apdu (((known.2).arriving (later z.other.key number m.posts) z.other.copy (copy_at number m.posts z.other heard.at) heard.young).1) down
 
       abbrev turn : Reaction
-      turn = client.client_gets (client_context x z.other.key m.now) x.readable t.ticket z.other.copy.apdu
+      turn = client.client_on_apdu (client_context x z.other.key m.now) x.readable t.ticket z.other.copy.apdu
 
       told : Over links apart W x answered (client_acts m z.other.key t.ticket turn)
       told = subst (λ (o : Option ClientTransaction). Over links apart W x answered (taken_by_client x m z.other o)) at

@@ -22,7 +22,7 @@ use Rattle.bac_protocol.specs.Moves.{taken_by_client, taken_by_server, ticket_ti
 use Rattle.bac_protocol.specs.Claims as claims
 use Rattle.bac_slots.specs.Slots.{value_at}
 use Rattle.bac_transaction.specs.Keys.{same_key}
-use Rattle.bac_transaction.specs.Ends.{AskOutcome, act_at, is_free, client_asks}
+use Rattle.bac_transaction.specs.Ends.{AskOutcome, act_at, is_free, requester_ask}
 use Rattle.bac_transaction.specs.Services.{service_of}
 use Rattle.bac_progress.proofs.Paths.{ask_of, Comes, Step, Path, path_then}
 use Rattle.bac_progress.proofs.Paths.Path.{Here, Then}
@@ -57,9 +57,9 @@ module _ (links : ℕ → Option Octets) (apart : (i j : ℕ) (l : Octets) → l
 
   -- the end's outcome, with the net's settings and moment
   pub accepted : (w : World) (n : Net) → Over links apart W x w n → (c s : ℕ) (limits : Limits) (r : Request) (w' : World) (a : IsAsked w c s limits r w')
-      → client_asks (x.settings c) n.now (peer_at a.link) limits (choice_of r) a.asks.octets a.before.clients ≡ AskOutcome.Asked a.accepted
+      → requester_ask (x.settings c) n.now (peer_at a.link) limits (choice_of r) a.asks.octets a.before.clients ≡ AskOutcome.Asked a.accepted
   accepted w n h c s limits r w' a =
-      let of : Settings → ℕ → AskOutcome = λ y now. client_asks y now (peer_at a.link) limits (choice_of r) a.asks.octets a.before.clients in
+      let of : Settings → ℕ → AskOutcome = λ y now. requester_ask y now (peer_at a.link) limits (choice_of r) a.asks.octets a.before.clients in
       subst (λ (y : Settings). of y n.now ≡ AskOutcome.Asked a.accepted) (h.nodes c a.before a.at).settings
       (subst (λ (y : ℕ). of a.before.settings y ≡ AskOutcome.Asked a.accepted) (sym h.now) a.asks.accepted)
 
@@ -255,7 +255,7 @@ module _ (links : ℕ → Option Octets) (apart : (i j : ℕ) (l : Octets) → l
             record {
               net = server_acts n p.key (served_so links apart W x n p (service_of t.before.store) t.before.servers);
               over = s.over;
-              path = subst (λ (b : Bool). Path x Q n (server_acts n p.key (server.server_gets (server_context x p.key n.now)
+              path = subst (λ (b : Bool). Path x Q n (server_acts n p.key (server.server_on_apdu (server_context x p.key n.now)
                   (service_of t.before.store) (n.entries p.key) b p.copy.apdu))) (room_is n p.key t.before.servers (h.nodes p.key.server t.before s.node).serves)
                   (Then n (taken_by_server x n p (is_free n.now t.before.servers) (service_of t.before.store)) Here
                   (Step.Serves number p (is_free n.now t.before.servers) (service_of t.before.store) comes_now up (gives w' p c t up)));

@@ -12,7 +12,7 @@ use Rattle.bac_protocol.specs.Service.{Octets}
 use Rattle.bac_protocol.specs.Service.Outcome.{Replies}
 use Rattle.bac_protocol.specs.Client.{Ask}
 use Rattle.bac_protocol.specs.Server as server
-use Rattle.bac_protocol.specs.Server.{ServerTransaction, is_live, live_entry, is_none_live, server_gets}
+use Rattle.bac_protocol.specs.Server.{ServerTransaction, is_live, live_entry, is_none_live, server_on_apdu}
 use Rattle.bac_protocol.specs.Transaction.{Key, Rules, client_context, server_context}
 use Rattle.bac_protocol.specs.World.{Net, Post}
 use Rattle.bac_protocol.specs.Claims as claims
@@ -93,14 +93,14 @@ module _ (links : ℕ → Option Octets) (apart : (i j : ℕ) (l : Octets) → l
           (answer_to x its_key its_ask can.reply)
 
       abbrev gets : Key → Node → Apdu → server.Reaction
-      gets k b z = server_gets (server_context x k m.now) (service_of b.store) (m.entries k) (is_free m.now b.servers) z
+      gets k b z = server_on_apdu (server_context x k m.now) (service_of b.store) (m.entries k) (is_free m.now b.servers) z
 
       -- what it makes of a copy
       pub reaction : (y : Post) → y.key ≡ its_key → y.copy.apdu ≡ request_to x its_key its_ask → (b : Node) → b ≡ node
-          → server_gets (server_context x y.key m.now) (service_of b.store) (m.entries y.key) (is_free m.now b.servers) y.copy.apdu ≡ does
+          → server_on_apdu (server_context x y.key m.now) (service_of b.store) (m.entries y.key) (is_free m.now b.servers) y.copy.apdu ≡ does
       reaction y is apdu b same =
           (λ i. gets (is i) (same i) (apdu i))
-          ∙ ap (λ (z : Bool). server_gets (server_context x its_key m.now) (service_of node.store) (m.entries its_key) z (request_to x its_key its_ask)) slot
+          ∙ ap (λ (z : Bool). server_on_apdu (server_context x its_key m.now) (service_of node.store) (m.entries its_key) z (request_to x its_key its_ask)) slot
           ∙ serves_new (server_context x its_key m.now) (client_context x its_key its_ask.first) (service_of node.store) (m.entries its_key) its_ask can.reply
           none outcome way
           ∙ ap (λ (z : Apdu). answers_first (performed_entry m.now (client_context x its_key its_ask.first) its_ask z) its_ask can.reply z)

@@ -18,7 +18,7 @@ use Rattle.bac_protocol.specs.Client as client
 use Rattle.bac_protocol.specs.Client.{Ask, ClientTransaction, is_idle, ending_of, request_of}
 use Rattle.bac_protocol.specs.Client.Phase.{AwaitConfirmation}
 use Rattle.bac_protocol.specs.Server as server
-use Rattle.bac_protocol.specs.Server.{Effect, Service, is_none_live, live_entry, server_gets}
+use Rattle.bac_protocol.specs.Server.{Effect, Service, is_none_live, live_entry, server_on_apdu}
 use Rattle.bac_protocol.specs.Log as octets
 use Rattle.bac_protocol.specs.Transaction.{Key, Rules, client_context, server_context, ended}
 use Rattle.bac_protocol.specs.World.{Net, Post, post_of, asked_at, client_acts, net_start}
@@ -241,13 +241,13 @@ module _ (links : ℕ → Option Octets) (apart : (i j : ℕ) (l : Octets) → l
     served_so : IsServedBy links apart W x bound readable w served m over number y.other d taken
     served_so = served_over links apart W x bound readable w served m over number y.other d taken (ap is_from_client is.1)
 
-    brought : (u : Reply) × ((server_gets (server_context x its_key m.now) (service_of taken.before.store) (m.entries its_key)
+    brought : (u : Reply) × ((server_on_apdu (server_context x its_key m.now) (service_of taken.before.store) (m.entries its_key)
         (is_free m.now taken.before.servers) (request_to x its_key its_ask)).sends ≡ answer_to x its_key its_ask u ∷ [])
     brought = brings_answer x its_key its_ask n.asks m on young (service_of taken.before.store) (is_free m.now taken.before.servers)
         (λ none. finds w served m over number y.other d taken is.0 is.1 f none)
 
     abbrev gets : Key → Apdu → server.Reaction
-    gets k z = server_gets (server_context x k m.now) (service_of taken.before.store) (m.entries k) (is_free m.now taken.before.servers) z
+    gets k z = server_on_apdu (server_context x k m.now) (service_of taken.before.store) (m.entries k) (is_free m.now taken.before.servers) z
 
     sends_is : map (post_of y.other.key m.now) (gets y.other.key y.other.copy.apdu).sends ≡ post_of its_key m.now (answer_to x its_key its_ask brought.0) ∷ []
     sends_is = (λ i. map (post_of (is.0 i) m.now) (gets (is.0 i) (is.1 i)).sends) ∙ ap (map (post_of its_key m.now)) brought.1
@@ -304,12 +304,12 @@ module _ (links : ℕ → Option Octets) (apart : (i j : ℕ) (l : Octets) → l
         (comes links apart W x bound readable w answered m over number z.other d heard) key_is)
 
     abbrev hears : ClientTransaction → Apdu → client.Reaction
-    hears t y = client.client_gets (client_context x its_key m.now) x.readable t y
+    hears t y = client.client_on_apdu (client_context x its_key m.now) x.readable t y
 
     last_over : Over links apart W x answered (client_acts m its_key on.ticket.ticket (hears on.ticket.ticket (answer_to x its_key its_ask fine.0)))
     last_over = subst (λ (y : Apdu). Over links apart W x answered (client_acts m its_key on.ticket.ticket (hears on.ticket.ticket y))) fine.1
         (subst (λ (k : Key). Over links apart W x answered (client_acts m k on.ticket.ticket
-        (client.client_gets (client_context x k m.now) x.readable on.ticket.ticket z.other.copy.apdu))) key_is
+        (client.client_on_apdu (client_context x k m.now) x.readable on.ticket.ticket z.other.copy.apdu))) key_is
         (subst (λ (o : Option ClientTransaction). Over links apart W x answered (taken_by_client x m z.other o)) (ap m.tickets key_is ∙ on.ticket.at)
         (told_over links apart W x bound readable w answered m over number z.other d heard down)))
 

@@ -16,7 +16,7 @@ use Rattle.bac_protocol.specs.Client as client
 use Rattle.bac_protocol.specs.Client.{Ask, ClientTransaction, is_idle, request_of}
 use Rattle.bac_protocol.specs.Client.Reaction.{Ends}
 use Rattle.bac_protocol.specs.Server as server
-use Rattle.bac_protocol.specs.Server.{ServerTransaction, is_live, live_entry, is_none_live, server_gets}
+use Rattle.bac_protocol.specs.Server.{ServerTransaction, is_live, live_entry, is_none_live, server_on_apdu}
 use Rattle.bac_protocol.specs.Log as octets
 use Rattle.bac_protocol.specs.Transaction.{Key, Rules, client_context, server_context}
 use Rattle.bac_protocol.specs.World.{Net, Post, post_of, client_acts, server_acts, net_start}
@@ -246,8 +246,8 @@ module _ (links : ℕ → Option Octets) (apart : (i j : ℕ) (l : Octets) → l
       takes : TakesAnswer kept_then.there.ticket.phase
       takes = takes_awaited kept_then.there.ticket.phase going kept_then.phase
 
-      ends : client.client_gets (client_context x its_key f.net.now) x.readable kept_then.there.ticket answer ≡ Ends [] (Answered can.reply)
-      ends = subst (λ (k : Ask). client.client_gets (client_context x its_key f.net.now) x.readable kept_then.there.ticket (answer_to x its_key k can.reply)
+      ends : client.client_on_apdu (client_context x its_key f.net.now) x.readable kept_then.there.ticket answer ≡ Ends [] (Answered can.reply)
+      ends = subst (λ (k : Ask). client.client_on_apdu (client_context x its_key f.net.now) x.readable kept_then.there.ticket (answer_to x its_key k can.reply)
           ≡ Ends [] (Answered can.reply)) kept_then.there.is
           (takes_ends x f.net.now its_key kept_then.there.ticket can.reply takes
           (subst (λ (k : Ask). f.net.now - k.first ≤ DEADLINE) (sym kept_then.there.is) in_time)

@@ -93,12 +93,12 @@ module _ (c : Context) (readable : Readable) (W : ℕ) (some : 1 ≤ W) (own : c
   if_few true r h = h
   if_few false r h = omega arith
 
-  refusal_few : (a : Apdu) → Few (client.gets_refusal a)
+  refusal_few : (a : Apdu) → Few (client.on_refusal a)
   refusal_few (Reject i r) = omega arith
   refusal_few (Abort true i r) = omega arith
   refusal_few _ = omega arith
 
-  await_confirmation_few : (ask : Ask) (a : Apdu) → Few (client.await_confirmation_gets c readable ask a)
+  await_confirmation_few : (ask : Ask) (a : Apdu) → Few (client.await_confirmation_on_apdu c readable ask a)
   await_confirmation_few ask (SimpleAck i choice) =
       if_few (nat_eq choice ask.choice && has_simple_ack ask.choice) (Ends [] (Answered reply.Simple)) (omega arith)
   await_confirmation_few ask (ComplexAck i None choice o) = if_few (nat_eq choice ask.choice && has_complex_ack ask.choice)
@@ -121,28 +121,28 @@ module _ (c : Context) (readable : Readable) (W : ℕ) (some : 1 ≤ W) (own : c
       go true = omega arith
       go false = window_few W (client.request_piece c choice out.pieces) out h
 
-  segmented_request_few : (ask : Ask) (out : Outgoing) (all_sent : Bool) (a : Apdu) → Few (client.segmented_request_gets c readable ask out all_sent a)
+  segmented_request_few : (ask : Ask) (out : Outgoing) (all_sent : Bool) (a : Apdu) → Few (client.segmented_request_on_apdu c readable ask out all_sent a)
   segmented_request_few ask out all_sent (SegmentAck true i ack) = moves_request_window_few ask.choice all_sent
       (acknowledged c.settings.window out ack.number ack.window) (acknowledged_few W c.settings.window own out ack.number ack.window)
   segmented_request_few ask out true a = await_confirmation_few ask a
   segmented_request_few ask out false a = refusal_few a
 
-  segmented_conf_few : (ask : Ask) (inc : Incoming) (a : Apdu) → Few (client.segmented_conf_gets c readable ask inc a)
+  segmented_conf_few : (ask : Ask) (inc : Incoming) (a : Apdu) → Few (client.segmented_conf_on_apdu c readable ask inc a)
   segmented_conf_few ask inc (ComplexAck i (Some g) choice o) = if_few (nat_eq choice ask.choice)
       (client.conf_segment_taken c readable ask.choice g.number inc.window (takes inc g.number g.more o))
       (conf_segment_few ask.choice g.number inc.window (takes inc g.number g.more o))
   segmented_conf_few ask inc a = refusal_few a
 
-  open_few : (ask : Ask) (phase : Phase) (a : Apdu) → Few (client.open_gets c readable ask phase a)
+  open_few : (ask : Ask) (phase : Phase) (a : Apdu) → Few (client.open_on_apdu c readable ask phase a)
   open_few ask (Phase.SegmentedRequest out all_sent) a = segmented_request_few ask out all_sent a
   open_few ask AwaitConfirmation a = await_confirmation_few ask a
   open_few ask (SegmentedConf inc) a = segmented_conf_few ask inc a
   open_few ask Idle a = omega arith
 
-  pub client_gets_few : (t : ClientTransaction) (a : Apdu) → length (client.sends_of (client.client_gets c readable t a)) ≤ W + 1
+  pub client_gets_few : (t : ClientTransaction) (a : Apdu) → length (client.sends_of (client.client_on_apdu c readable t a)) ≤ W + 1
   client_gets_few t a = go (client.is_idle t.phase || not (is_from_server a)) (client.is_expired c.now t.ask)
     where
-      go : (b d : Bool) → Few (if b then Stays else if d then Ends [] Expired else client.open_gets c readable t.ask t.phase a)
+      go : (b d : Bool) → Few (if b then Stays else if d then Ends [] Expired else client.open_on_apdu c readable t.ask t.phase a)
       go true d = omega arith
       go false true = omega arith
       go false false = open_few t.ask t.phase a
@@ -202,12 +202,12 @@ module _ (c : Context) (service : Service) (W : ℕ) (some : 1 ≤ W) (own : c.s
   one_few o a h = record { sends = omega arith; entry = h }
 
   request_few : (o : Option ServerTransaction) → EntryFew W o → (free : Bool) (choice : ℕ) (limits : Limits) (octets : Octets)
-      → IsFew W (server.idle_gets_request c service o free choice limits octets)
+      → IsFew W (server.idle_on_request c service o free choice limits octets)
   request_few o h true choice limits octets = so_few (server.begins c choice limits (Some octets)) [] octets (service choice octets) (omega arith)
   request_few o h false choice limits octets = one_few o (server.server_abort c OTHER) h
 
   segment_few : (o : Option ServerTransaction) → EntryFew W o → (free : Bool) (choice : ℕ) (limits : Limits) (g : Segment) (octets : Octets)
-      → IsFew W (server.idle_gets_segment c service o free choice limits g octets)
+      → IsFew W (server.idle_on_segment c service o free choice limits g octets)
   segment_few o h free choice limits g octets = go (nat_eq g.number 0) free
     where
       go : (b d : Bool) → IsFew W (if not b then server.rests o [] else if d then server.request_segment_taken c service
@@ -218,13 +218,13 @@ module _ (c : Context) (service : Service) (W : ℕ) (some : 1 ≤ W) (own : c.s
       go true false = one_few o (server.server_abort c OTHER) h
       go false d = rests_few o h
 
-  idle_few : (o : Option ServerTransaction) → EntryFew W o → (free : Bool) (a : Apdu) → IsFew W (server.idle_gets c service o free a)
+  idle_few : (o : Option ServerTransaction) → EntryFew W o → (free : Bool) (a : Apdu) → IsFew W (server.idle_on_apdu c service o free a)
   idle_few o h free (ConfirmedRequest limits i None choice octets) = request_few o h free choice limits octets
   idle_few o h free (ConfirmedRequest limits i (Some g) choice octets) = segment_few o h free choice limits g octets
   idle_few o h free _ = rests_few o h
 
   request_in_segments_few : (e : ServerTransaction) → EntryFew W (Some e) → (inc : Incoming) (since : ℕ) (a : Apdu)
-      → IsFew W (server.segmented_request_gets c service e inc since a)
+      → IsFew W (server.segmented_request_on_apdu c service e inc since a)
   request_in_segments_few e h inc since (ConfirmedRequest limits i (Some g) choice octets) = go (nat_le T_WAIT_FOR_SEG (c.now - since))
     where
       go : (b : Bool) → IsFew W (if b then server.becomes e Dropped (server.server_abort c OTHER ∷ []) else server.request_segment_taken c service e
@@ -234,7 +234,7 @@ module _ (c : Context) (service : Service) (W : ℕ) (some : 1 ≤ W) (own : c.s
   request_in_segments_few e h inc since (Abort false i reason) = record { sends = omega arith; entry = tt }
   request_in_segments_few e h inc since _ = rests_few (Some e) h
 
-  done_few : (e : ServerTransaction) → EntryFew W (Some e) → (kept : Apdu) (a : Apdu) → IsFew W (server.done_gets c e kept a)
+  done_few : (e : ServerTransaction) → EntryFew W (Some e) → (kept : Apdu) (a : Apdu) → IsFew W (server.done_on_apdu c e kept a)
   done_few e h kept (ConfirmedRequest limits i None choice octets) =
       one_few (Some e) (if server.is_kept e e.request choice octets then kept else server.server_abort c OTHER) h
   done_few e h kept (ConfirmedRequest limits i (Some g) choice octets) = one_few (Some e) (if is_some e.request then server.server_abort c OTHER else kept) h
@@ -257,14 +257,14 @@ module _ (c : Context) (service : Service) (W : ℕ) (some : 1 ≤ W) (own : c.s
       go false = sends_reply_window_few e out k
 
   response_ack_few : (e : ServerTransaction) → EntryFew W (Some e) → (out : Outgoing) → out.window ≤ W → (transfer : Transfer) (number window : ℕ)
-      → IsFew W (server.segmented_response_gets_ack c e out transfer number window)
+      → IsFew W (server.segmented_response_on_ack c e out transfer number window)
   response_ack_few e h out k Running number window = moves_reply_window_few e h (acknowledged c.settings.window out number window)
       (acknowledged_few W c.settings.window own out number window)
   response_ack_few e h out k Stopped number window = rests_few (Some e) h
   response_ack_few e h out k Finished number window = rests_few (Some e) h
 
   response_few : (e : ServerTransaction) → EntryFew W (Some e) → (out : Outgoing) → out.window ≤ W → (transfer : Transfer) (since : ℕ) (a : Apdu)
-      → IsFew W (server.segmented_response_gets c e out transfer since a)
+      → IsFew W (server.segmented_response_on_apdu c e out transfer since a)
   response_few e h out k transfer since (ConfirmedRequest limits i None choice octets) = go (server.is_kept e e.request choice octets)
     where
       go : (b : Bool) → IsFew W (if b then server.resumes c e out transfer else server.rests (Some e) (server.server_abort c OTHER ∷ []))
@@ -279,21 +279,21 @@ module _ (c : Context) (service : Service) (W : ℕ) (some : 1 ≤ W) (own : c.s
   response_few e h out k transfer since (Abort false i reason) = record { sends = omega arith; entry = k }
   response_few e h out k transfer since _ = rests_few (Some e) h
 
-  dropped_few : (e : ServerTransaction) → EntryFew W (Some e) → (a : Apdu) → IsFew W (server.dropped_gets c e a)
+  dropped_few : (e : ServerTransaction) → EntryFew W (Some e) → (a : Apdu) → IsFew W (server.dropped_on_apdu c e a)
   dropped_few e h (ConfirmedRequest limits i g choice octets) = one_few (Some e) (server.server_abort c OTHER) h
   dropped_few e h _ = rests_few (Some e) h
 
-  live_few : (e : ServerTransaction) → EntryFew W (Some e) → (st : State) → StateFew W st → (a : Apdu) → IsFew W (server.live_gets c service e st a)
+  live_few : (e : ServerTransaction) → EntryFew W (Some e) → (st : State) → StateFew W st → (a : Apdu) → IsFew W (server.live_on_apdu c service e st a)
   live_few e h (State.SegmentedRequest inc since) k a = request_in_segments_few e h inc since a
   live_few e h (Done kept) k a = done_few e h kept a
   live_few e h (SegmentedResponse out transfer since) k a = response_few e h out k transfer since a
   live_few e h Dropped k a = dropped_few e h a
 
-  pub server_gets_few : (o : Option ServerTransaction) (free : Bool) (a : Apdu) → EntryFew W o → IsFew W (server.server_gets c service o free a)
+  pub server_gets_few : (o : Option ServerTransaction) (free : Bool) (a : Apdu) → EntryFew W o → IsFew W (server.server_on_apdu c service o free a)
   server_gets_few None free a h = idle_few None h free a
   server_gets_few (Some e) free a h = go (is_live c.now e)
     where
-      go : (b : Bool) → IsFew W (if b then server.live_gets c service e e.state a else server.idle_gets c service (Some e) free a)
+      go : (b : Bool) → IsFew W (if b then server.live_on_apdu c service e e.state a else server.idle_on_apdu c service (Some e) free a)
       go true = live_few e h e.state h a
       go false = idle_few (Some e) h free a
 
@@ -346,7 +346,7 @@ module _ (W : ℕ) (x : Rules) (bound : IsBounded W x) where
   served_small : (n : Net) → Small n → (p : Post) (free : Bool) (service : Service) → Small (taken_by_server x n p free service)
   served_small n s p free service =
       let c = server_context x p.key n.now in
-      small_set n s p.key (server.server_gets c service (n.entries p.key) (is_room n p.key free) p.copy.apdu).entry
+      small_set n s p.key (server.server_on_apdu c service (n.entries p.key) (is_room n p.key free) p.copy.apdu).entry
       (server_gets_few c service W bound.some (bound.windows p.key.server) (n.entries p.key) (is_room n p.key free) p.copy.apdu (s p.key)).entry
 
   heard_small : (n : Net) → Small n → (p : Post) (o : Option ClientTransaction) → Small (taken_by_client x n p o)

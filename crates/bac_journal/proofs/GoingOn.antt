@@ -17,7 +17,7 @@ use Rattle.bac_protocol.specs.World.{Net, Post, net_start}
 use Rattle.bac_protocol.specs.Claims.{IsBounded as IsBoundedNet}
 use Rattle.bac_slots.specs.Slots.{value_at}
 use Rattle.bac_transaction.specs.Keys.{PeerKey, same_key}
-use Rattle.bac_transaction.specs.Ends.{Client, ClientEnd, TransactionSlot, Accepted, client_hears_at, client_hears_held, key_of}
+use Rattle.bac_transaction.specs.Ends.{Client, ClientEnd, TransactionSlot, Accepted, requester_on_apdu_at, requester_on_apdu_in_slot, key_of}
 use Rattle.bac_transaction.specs.Ends.TransactionSlot.{Open, Closed}
 use Rattle.bac_transaction.specs.Services.{service_of}
 use Rattle.bac_world.specs.Node.{Node, Outcome, IsHeardBy, NodeOn, NodeTick, NodeAsks, with_change}
@@ -44,12 +44,12 @@ no_more : (k : ℕ) → k ≡ k + 0
 no_more k = omega arith
 
 held_asked : (c : Settings) (r : Readable) (now : ℕ) (p : Apdu) (e : ClientEnd) (q : PeerKey) (k : ℕ) (y : TransactionSlot)
-    → (client_hears_held c r now p e q k y).end.asked ≡ e.asked
+    → (requester_on_apdu_in_slot c r now p e q k y).end.asked ≡ e.asked
 held_asked c r now p e q k (Closed first) = refl
 held_asked c r now p e q k (Open t) = refl
 
 slot_asked : (c : Settings) (r : Readable) (now : ℕ) (p : Apdu) (e : ClientEnd) (q : PeerKey) (s : Option Client)
-    → (client_hears_at c r now p e q s).end.asked ≡ e.asked
+    → (requester_on_apdu_at c r now p e q s).end.asked ≡ e.asked
 slot_asked c r now p e q None = refl
 slot_asked c r now p e q (Some s) = held_asked c r now p e q s.number s.held
 

@@ -8,9 +8,9 @@ use Rattle.bac_protocol.specs.Service.{Octets}
 use Rattle.bac_protocol.specs.Wire.{is_from_client, Each}
 use Rattle.bac_protocol.specs.Own.{invoke_id_of}
 use Rattle.bac_protocol.specs.Client as client
-use Rattle.bac_protocol.specs.Client.{ClientTransaction, client_gets}
+use Rattle.bac_protocol.specs.Client.{ClientTransaction, client_on_apdu}
 use Rattle.bac_protocol.specs.Server as server
-use Rattle.bac_protocol.specs.Server.{ServerTransaction, Effect, Service, server_gets}
+use Rattle.bac_protocol.specs.Server.{ServerTransaction, Effect, Service, server_on_apdu}
 use Rattle.bac_protocol.specs.Transaction.{Key, Rules, server_context}
 use Rattle.bac_protocol.specs.World.{Net, Post}
 use Rattle.bac_protocol.specs.Claims.{IsBounded}
@@ -21,8 +21,8 @@ use Rattle.bac_slots.specs.Slots.{value_at}
 use Rattle.bac_transaction.specs.Keys.{PeerKey, same_key}
 use Rattle.bac_transaction.specs.Sends.{Datagram, Pairwise, IsSent, to_all}
 use Rattle.bac_transaction.specs.Meanings.{Finish, IsFinish}
-use Rattle.bac_transaction.specs.Ends.{Client, ClientTurn, TransactionSlot, act_at, is_free, context_of, client_goes, client_hears, client_hears_at, client_hears_held}
-use Rattle.bac_transaction.specs.Ends.{ServerTurn, server_hears, stays}
+use Rattle.bac_transaction.specs.Ends.{Client, ClientTurn, TransactionSlot, act_at, is_free, context_of, client_goes, requester_on_apdu, requester_on_apdu_at, requester_on_apdu_in_slot}
+use Rattle.bac_transaction.specs.Ends.{ServerTurn, responder_on_apdu, stays}
 use Rattle.bac_transaction.specs.Ends.TransactionSlot.{Open, Closed}
 use Rattle.bac_world.specs.Services.{Performed, ArePerformed}
 use Rattle.bac_world.specs.Node.{Node, Outcome, IsServerTurn, IsClientTurn}
@@ -60,7 +60,7 @@ module _ (links : ℕ → Option Octets) (apart : (i j : ℕ) (l : Octets) → l
   module _ (number : ℕ) (p : Post) (at : slice_get n.posts number ≡ Some p) (a b : Node) (o : Outcome)
       (node : slice_get w.nodes p.key.server ≡ Some a) (l : Octets)
       (client_at : links p.key.client ≡ Some l) (invoke : invoke_id_of p.copy.apdu ≡ p.key.invoke_id) (service : Service)
-      (turn : IsServerTurn (server_hears a.settings w.now service (peer_at l) p.copy.apdu a.servers) w.now a b o) where
+      (turn : IsServerTurn (responder_on_apdu a.settings w.now service (peer_at l) p.copy.apdu a.servers) w.now a b o) where
     abbrev key : Key
     key = p.key
 
@@ -80,7 +80,7 @@ module _ (links : ℕ → Option Octets) (apart : (i j : ℕ) (l : Octets) → l
     free = is_free n.now a.servers
 
     abbrev gets : Option ServerTransaction → server.Reaction
-    gets e = server_gets (server_context x p.key n.now) service e (is_free n.now a.servers) p.copy.apdu
+    gets e = server_on_apdu (server_context x p.key n.now) service e (is_free n.now a.servers) p.copy.apdu
 
     abbrev v : server.Reaction
     v = gets (value_at same_key (slot_key l p.key.invoke_id) a.servers.slots)
@@ -89,14 +89,14 @@ module _ (links : ℕ → Option Octets) (apart : (i j : ℕ) (l : Octets) → l
     u = gets (n.entries p.key)
 
     abbrev turns : Settings → (now id : ℕ) → ServerTurn
-    turns c now id = server_hears c now service (peer_at l) p.copy.apdu a.servers
+    turns c now id = responder_on_apdu c now service (peer_at l) p.copy.apdu a.servers
 
     sends_is : Pairwise IsSent (to_all (peer_at l) v.sends) o.sends
     sends_is = so (x.settings key.server) n.now key.invoke_id (sym fits.settings) h.now (sym invoke) turn.sends
       where
         sends_for : Settings → (now id : ℕ) → List Apdu
         sends_for c now id =
-            (server_gets (context_of c now (slot_key l id)) service (value_at same_key (slot_key l id) a.servers.slots) (is_free now a.servers) apdu).sends
+            (server_on_apdu (context_of c now (slot_key l id)) service (value_at same_key (slot_key l id) a.servers.slots) (is_free now a.servers) apdu).sends
 
         so : (c : Settings) (now id : ℕ) → c ≡ a.settings → now ≡ w.now → id ≡ invoke_id_of apdu
             → Pairwise IsSent (to_all (peer_at l) (sends_for a.settings w.now (invoke_id_of apdu))) o.sends
@@ -106,10 +106,10 @@ module _ (links : ℕ → Option Octets) (apart : (i j : ℕ) (l : Octets) → l
             (subst (λ (y : ℕ). Pairwise IsSent (to_all (peer_at l) (sends_for a.settings w.now y)) o.sends) (sym g) s))
 
     done : (d : Performed) → o.performed ≡ Some d → d.key ≡ q
-    done d is = so (server_gets (context_of a.settings w.now (slot_key l (invoke_id_of apdu))) service
+    done d is = so (server_on_apdu (context_of a.settings w.now (slot_key l (invoke_id_of apdu))) service
         (value_at same_key (slot_key l (invoke_id_of apdu)) a.servers.slots) (is_free w.now a.servers) apdu).effect
         (subst (λ (y : Option Performed). ArePerformed a.store (act_at (slot_key l (invoke_id_of apdu))
-        (server_gets (context_of a.settings w.now (slot_key l (invoke_id_of apdu))) service
+        (server_on_apdu (context_of a.settings w.now (slot_key l (invoke_id_of apdu))) service
         (value_at same_key (slot_key l (invoke_id_of apdu)) a.servers.slots) (is_free w.now a.servers) apdu).effect) y) is turn.performed)
       where
         so : (e : Option Effect) → ArePerformed a.store (act_at (slot_key l (invoke_id_of apdu)) e) (Some d) → d.key ≡ q
@@ -120,11 +120,11 @@ module _ (links : ℕ → Option Octets) (apart : (i j : ℕ) (l : Octets) → l
     same =
         let y : Option ServerTransaction = value_at same_key q a.servers.slots in
         let e : Option ServerTransaction = n.entries key in
-        let f : server.Reaction = server_gets context service y free apdu in
+        let f : server.Reaction = server_on_apdu context service y free apdu in
         same_then n.now v (gets (server.live_entry n.now y)) u (gets_same context service y free apdu)
         (same_then n.now (gets (server.live_entry n.now y)) (gets (server.live_entry n.now e)) u
         (same_of n.now (gets (server.live_entry n.now y)) (gets (server.live_entry n.now e))
-        (ap (λ (z : Option ServerTransaction). server_gets context service z free apdu) (fits.servers.found key.client l key.invoke_id client_at)))
+        (ap (λ (z : Option ServerTransaction). server_on_apdu context service z free apdu) (fits.servers.found key.client l key.invoke_id client_at)))
         (same_back n.now u (gets (server.live_entry n.now e)) (gets_same context service e free apdu)))
 
     sent : Pairwise IsSent (to_all (peer_at l) u.sends) o.sends
@@ -184,10 +184,10 @@ module _ (links : ℕ → Option Octets) (apart : (i j : ℕ) (l : Octets) → l
     goes : (k : ℕ) (t : ClientTransaction) → value_at same_key (slot_key l p.key.invoke_id) a.clients.slots ≡ Some (record { number = k; held = Open t })
         → (now : ℕ) (c : Settings) → c.window ≤ W
         → Turn (client_goes now a.clients (slot_key l p.key.invoke_id) k t
-        (client_gets (context_of c now (slot_key l p.key.invoke_id)) reads_reply t p.copy.apdu)) → Enters p.key.client o
+        (client_on_apdu (context_of c now (slot_key l p.key.invoke_id)) reads_reply t p.copy.apdu)) → Enters p.key.client o
     goes k t found now c small turn =
         let context : Context = context_of c now (slot_key l p.key.invoke_id) in
-        let r : client.Reaction = client_gets context reads_reply t p.copy.apdu in
+        let r : client.Reaction = client_on_apdu context reads_reply t p.copy.apdu in
         let fit : TicketFits (n.asks_from p.key.client) n.now w.notes p.key.client (n.numbers p.key) (Some (record { number = k; held = Open t })) (n.tickets p.key) =
         subst (λ (y : Option Client). TicketFits (n.asks_from p.key.client) n.now w.notes p.key.client (n.numbers p.key) y (n.tickets p.key)) found
         (at_client.clients.found p.key.server l p.key.invoke_id server_at) in
@@ -211,16 +211,16 @@ module _ (links : ℕ → Option Octets) (apart : (i j : ℕ) (l : Octets) → l
         }
 
     held : (k : ℕ) (y : TransactionSlot) → value_at same_key (slot_key l p.key.invoke_id) a.clients.slots ≡ Some (record { number = k; held = y })
-        → Turn (client_hears_held a.settings reads_reply w.now p.copy.apdu a.clients (slot_key l p.key.invoke_id) k y) → Enters p.key.client o
+        → Turn (requester_on_apdu_in_slot a.settings reads_reply w.now p.copy.apdu a.clients (slot_key l p.key.invoke_id) k y) → Enters p.key.client o
     held k (Closed first) is turn = still turn
     held k (Open t) is turn = goes k t is w.now a.settings (subst (λ (c : Settings). c.window ≤ W) (sym at_client.settings) (bound.windows p.key.client)) turn
 
     slot : (found : Option Client) → value_at same_key (slot_key l p.key.invoke_id) a.clients.slots ≡ found
-        → Turn (client_hears_at a.settings reads_reply w.now p.copy.apdu a.clients (slot_key l p.key.invoke_id) found) → Enters p.key.client o
+        → Turn (requester_on_apdu_at a.settings reads_reply w.now p.copy.apdu a.clients (slot_key l p.key.invoke_id) found) → Enters p.key.client o
     slot None is turn = still turn
     slot (Some v) is turn = held v.number v.held is turn
 
-    pub client_enters : Turn (client_hears a.settings reads_reply w.now (peer_at l) p.copy.apdu a.clients) → Enters p.key.client o
+    pub client_enters : Turn (requester_on_apdu a.settings reads_reply w.now (peer_at l) p.copy.apdu a.clients) → Enters p.key.client o
     client_enters turn = slot (value_at same_key (slot_key l p.key.invoke_id) a.clients.slots) refl
-        (subst (λ (id : ℕ). Turn (client_hears_at a.settings reads_reply w.now p.copy.apdu a.clients (slot_key l id)
+        (subst (λ (id : ℕ). Turn (requester_on_apdu_at a.settings reads_reply w.now p.copy.apdu a.clients (slot_key l id)
         (value_at same_key (slot_key l id) a.clients.slots))) invoke turn)

@@ -5,7 +5,7 @@ use Rattle.bac_npdu.specs.Peers.{PeerView}
 use Rattle.bac_service.specs.Requests.{SpellsRequest}
 use Rattle.bac_service.specs.Values.{Request, choice_of}
 use Rattle.bac_protocol.specs.Service.{Octets}
-use Rattle.bac_transaction.specs.Ends.{AskOutcome, ClientEnd, client_asks}
+use Rattle.bac_transaction.specs.Ends.{AskOutcome, ClientEnd, requester_ask}
 use Rattle.bac_requester.specs.Turns as requester
 use Rattle.bac_requester.specs.declared.asking.Asked.{Asked}
 use Rattle.bac_requester.specs.declared.ask_fault.AskFault.{AskFault}
@@ -16,7 +16,7 @@ use Rattle.bac_node.specs.Calls.{IsAsked, Refuses, WouldAsk}
 module _ (now : ℕ) (old : Node) (peer : PeerView) (limits : Limits) (q : Request) (octets : Octets)
     (foreign : peer.link ≢ old.link) (spelled : SpellsRequest (choice_of q) q octets) where
   abbrev outcome : AskOutcome
-  outcome = client_asks old.settings now peer limits (choice_of q) octets old.clients
+  outcome = requester_ask old.settings now peer limits (choice_of q) octets old.clients
 
   pub accepted_so : (e : ClientEnd) (x : Asked) → requester.Accepts outcome e x → IsAsked now peer limits q old (record old { latest = now; clients = e }) x
   accepted_so e x h = go outcome refl h

@@ -9,7 +9,7 @@ use Rattle.bac_protocol.specs.Service.{Octets}
 use Rattle.bac_protocol.specs.Wire.{is_from_client}
 use Rattle.bac_slots.specs.Slots.{value_at}
 use Rattle.bac_transaction.specs.Keys.{PeerKey, same_key}
-use Rattle.bac_transaction.specs.Ends.{Accepted, Client, ClientEnd, TransactionSlot, client_hears_at, client_hears_held, key_of}
+use Rattle.bac_transaction.specs.Ends.{Accepted, Client, ClientEnd, TransactionSlot, requester_on_apdu_at, requester_on_apdu_in_slot, key_of}
 use Rattle.bac_requester.specs.declared.asking.Asked.{Asked}
 use Rattle.bac_world.specs.Node.{Node, Outcome, IsHeardBy, NodeOn}
 use Rattle.bac_world.proofs.Asking.{accepted_is}
@@ -17,11 +17,11 @@ use Rattle.bac_node.specs.Calls.{IsAsked}
 use Rattle.bac_node.specs.Capacities.{CapacitiesStay, HasSameCapacities}
 
 module _ (c : Settings) (now : ℕ) (a : Apdu) (e : ClientEnd) (key : PeerKey) where
-  held_stays : (number : ℕ) (held : TransactionSlot) → (client_hears_held c reads_reply now a e key number held).end.capacity ≡ e.capacity
+  held_stays : (number : ℕ) (held : TransactionSlot) → (requester_on_apdu_in_slot c reads_reply now a e key number held).end.capacity ≡ e.capacity
   held_stays number (TransactionSlot.Closed first) = refl
   held_stays number (TransactionSlot.Open t) = refl
 
-  hears_stays : (o : Option Client) → (client_hears_at c reads_reply now a e key o).end.capacity ≡ e.capacity
+  hears_stays : (o : Option Client) → (requester_on_apdu_at c reads_reply now a e key o).end.capacity ≡ e.capacity
   hears_stays None = refl
   hears_stays (Some s) = held_stays s.number s.held
 

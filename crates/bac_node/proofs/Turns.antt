@@ -5,7 +5,7 @@ use Rattle.bac_apdu.specs.Apdu.{Apdu}
 use Rattle.bac_npdu.specs.Peers.{PeerView}
 use Rattle.bac_store.specs.Stores.{Store}
 use Rattle.bac_transaction.specs.Ends as ends
-use Rattle.bac_transaction.specs.Ends.{ServerEnd, ServerTurn, clients_tick, server_hears, servers_tick}
+use Rattle.bac_transaction.specs.Ends.{ServerEnd, ServerTurn, requester_tick, responder_on_apdu, responder_tick}
 use Rattle.bac_transaction.specs.Meanings.{Finish, IsFinish}
 use Rattle.bac_transaction.specs.Sends.{Datagram, IsSent, Pairwise}
 use Rattle.bac_transaction.specs.Services as server
@@ -35,11 +35,11 @@ store_so s None = refl
 store_so s (Some x) = refl
 
 pub server_turned : (now : ℕ) (old : Node) (v : ServerEnd) (t : Store) (peer : PeerView) (a : Apdu) (sent : List Datagram) (x : Option Act) (o : Outcome)
-    → IsServed (server_hears old.settings now (service_of old.store) peer a old.servers) old.store sent (acted_view x) v t
+    → IsServed (responder_on_apdu old.settings now (service_of old.store) peer a old.servers) old.store sent (acted_view x) v t
     → o.sends ≡ sent → o.ended ≡ [] → o.performed ≡ option_map performed_view x → o.dropped ≡ None
     → IsHeardBy true peer a now old (record old { latest = now; servers = v; store = t }) o
 server_turned now old v t peer a sent x o did sends ended performed dropped =
-    let turn : ServerTurn = server_hears old.settings now (service_of old.store) peer a old.servers in
+    let turn : ServerTurn = responder_on_apdu old.settings now (service_of old.store) peer a old.servers in
     let store : t ≡ store_after old.store o.performed = did.store ∙ store_so old.store x ∙ ap (store_after old.store) (sym performed) in
     record {
       node = ap (λ e. record old { latest = now; servers = e; store = t }) did.end
@@ -52,12 +52,12 @@ server_turned now old v t peer a sent x o did sends ended performed dropped =
 
 -- A tick.
 
-pub due_joined : (now : ℕ) (n : Node) (x y : Due) (more : List Datagram) → requester.IsDue (clients_tick n.settings now n.clients) x
-    → Pairwise IsSent (servers_tick n.settings now n.servers).sends more
+pub due_joined : (now : ℕ) (n : Node) (x y : Due) (more : List Datagram) → requester.IsDue (requester_tick n.settings now n.clients) x
+    → Pairwise IsSent (responder_tick n.settings now n.servers).sends more
     → y.sends.items ≡ x.sends.items ++ more → map finish_view y.ended.items ≡ map finish_view x.ended.items → IsDue now n y
 due_joined now n x y more told server sends ended =
     record {
-      sends = subst (λ (l : List Datagram). Pairwise IsSent ((clients_tick n.settings now n.clients).sends ++ (servers_tick n.settings now n.servers).sends) l)
+      sends = subst (λ (l : List Datagram). Pairwise IsSent ((requester_tick n.settings now n.clients).sends ++ (responder_tick n.settings now n.servers).sends) l)
           (sym sends) (pairwise_join IsSent _ _ _ _ told.sends server);
-      ended = subst (λ (l : List Finish). Pairwise IsFinish (clients_tick n.settings now n.clients).ended l) (sym ended) told.finishes;
+      ended = subst (λ (l : List Finish). Pairwise IsFinish (requester_tick n.settings now n.clients).ended l) (sym ended) told.finishes;
     }

@@ -8,7 +8,7 @@ use Rattle.bac_protocol.specs.Service.{Octets}
 use Rattle.bac_protocol.specs.Sizes.{RequestFault}
 use Rattle.bac_protocol.specs.Wire.{is_from_client}
 use Rattle.bac_value.specs.declared.memory.NoMemory.{NoMemory}
-use Rattle.bac_transaction.specs.Ends.{Accepted, AskOutcome, AskRefusal, CannotGo, client_asks, clients_tick, servers_tick}
+use Rattle.bac_transaction.specs.Ends.{Accepted, AskOutcome, AskRefusal, CannotGo, requester_ask, requester_tick, responder_tick}
 use Rattle.bac_transaction.specs.Meanings.{IsFinish}
 use Rattle.bac_transaction.specs.Sends.{IsSent, Pairwise}
 use Rattle.bac_requester.specs.Views.{finish_view}
@@ -35,14 +35,14 @@ abbrev pub ticked : (now : ℕ) → Node → Node
 ticked now n =
     record n {
       latest = now;
-      clients = (clients_tick n.settings now n.clients).end;
-      servers = (servers_tick n.settings now n.servers).end;
+      clients = (requester_tick n.settings now n.clients).end;
+      servers = (responder_tick n.settings now n.servers).end;
     }
 
 -- what a tick of both ends sends and ends
 pub record IsDue (now : ℕ) (n : Node) (x : Due) : Type 0 where
-  pub sends : Pairwise IsSent ((clients_tick n.settings now n.clients).sends ++ (servers_tick n.settings now n.servers).sends) x.sends.items
-  pub ended : Pairwise IsFinish (clients_tick n.settings now n.clients).ended (map finish_view x.ended.items)
+  pub sends : Pairwise IsSent ((requester_tick n.settings now n.clients).sends ++ (responder_tick n.settings now n.servers).sends) x.sends.items
+  pub ended : Pairwise IsFinish (requester_tick n.settings now n.clients).ended (map finish_view x.ended.items)
 
 -- An ask.
 
@@ -59,7 +59,7 @@ pub record WouldAsk (now : ℕ) (peer : PeerView) (limits : Limits) (r : Request
   pub spelled : SpellsRequest (choice_of r) r octets
   pub foreign : peer.link ≢ n.link
   pub accepted : Accepted
-  pub asks : client_asks n.settings now peer limits (choice_of r) octets n.clients ≡ AskOutcome.Asked accepted
+  pub asks : requester_ask n.settings now peer limits (choice_of r) octets n.clients ≡ AskOutcome.Asked accepted
 
 -- the fault says why it was refused
 abbrev pub Refuses : AskFault → (now : ℕ) → PeerView → Limits → Request → Node → Type 0

@@ -340,14 +340,14 @@ impl Node {
         ensures { Hears now (peer_view peer.now) (apdu_view apdu.now) self.old result self.new }
     {
         if is_from_client(apdu) {
-            self.server_hears(now, peer, apdu)
+            self.responder_on_apdu(now, peer, apdu)
         } else {
-            self.client_hears(now, peer, apdu)
+            self.requester_on_apdu(now, peer, apdu)
         }
     }
 
     /// The server's end takes its turn.
-    fn server_hears(&mut self, now: u64, peer: &Peer, apdu: &Apdu<'_>) -> Result<Outcome, NoMemory>
+    fn responder_on_apdu(&mut self, now: u64, peer: &Peer, apdu: &Apdu<'_>) -> Result<Outcome, NoMemory>
         ensures heard { IfOk result (λ o. IsHeardBy true (peer_view peer.now) (apdu_view apdu.now) now self.old self.new (outcome_view o)) }
         ensures err { OnErr result (self.new ≡ self.old) }
     {
@@ -369,7 +369,7 @@ impl Node {
     }
 
     /// The client's end takes its turn. The room for an ending is taken first.
-    fn client_hears(&mut self, now: u64, peer: &Peer, apdu: &Apdu<'_>) -> Result<Outcome, NoMemory>
+    fn requester_on_apdu(&mut self, now: u64, peer: &Peer, apdu: &Apdu<'_>) -> Result<Outcome, NoMemory>
         ensures heard { IfOk result (λ o. IsHeardBy false (peer_view peer.now) (apdu_view apdu.now) now self.old self.new (outcome_view o)) }
         ensures err { OnErr result (self.new ≡ self.old) }
     {
@@ -458,13 +458,13 @@ impl Node {
     /// From now on its invoke IDs begin at that one: an ask takes the least that is not held for the peer from it on, and where all up to 255 are held, the
     /// least of all. A program that ends after few asks begins at one that differs each time, as of its clock: where its link had another node before, an
     /// entry that a server still keeps for that one is then met seldom.
-    pub fn begin_ids_at(&mut self, first_id: u8)
+    pub fn set_first_invoke_id(&mut self, first_id: u8)
         ensures { self.new ≡ with_first_id first_id self.old }
     {
-        self.clients.begin_ids_at(first_id);
+        self.clients.set_first_invoke_id(first_id);
     }
 
-    /// Asks a peer, which takes so much, for a request, at a moment in milliseconds. It takes an invoke ID that is not held for the peer, as `begin_ids_at`
+    /// Asks a peer, which takes so much, for a request, at a moment in milliseconds. It takes an invoke ID that is not held for the peer, as `set_first_invoke_id`
     /// says, and a slot that is not held.
     ///
     /// It is refused for the first of these that holds: `ClockBack`, the moment is before the latest one; `SelfPeer`, the peer is at the node's own link;
@@ -538,7 +538,7 @@ impl Node {
         let client_slots = self.clients.capacity();
         let reply_slots = self.servers.capacity();
         let (mut clients, servers) = empty_ends(self.alloc, client_slots, reply_slots, Some(now))?;
-        clients.begin_ids_at(self.clients.first_id());
+        clients.set_first_invoke_id(self.clients.first_id());
         put_store(&mut self.store, store);
         self.clients = clients;
         self.servers = servers;

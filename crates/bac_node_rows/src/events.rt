@@ -160,7 +160,7 @@ fn changes(
 }
 
 fn begins(node: &mut Node, words: &str) -> Option<Came> {
-    node.begin_ids_at(words.parse::<u8>().ok()?);
+    node.set_first_invoke_id(words.parse::<u8>().ok()?);
     Some(Came::Timeless)
 }
 

@@ -70,7 +70,7 @@ after_awaits now t (Repeats phase sends) h k = k
 after_awaits now t (Ends sends how) h k = tt
 
 module _ (c : Context) (readable : Readable) where
-  refusal_awaits : (a : Apdu) → AwaitsAfter (client.gets_refusal a)
+  refusal_awaits : (a : Apdu) → AwaitsAfter (client.on_refusal a)
   refusal_awaits (Reject i r) = tt
   refusal_awaits (Abort true i r) = tt
   refusal_awaits _ = tt
@@ -79,7 +79,7 @@ module _ (c : Context) (readable : Readable) where
   answered_awaits choice acks octets = either_awaits (readable choice octets) (Ends acks (Answered (reply.Complex octets)))
       (Ends (acks ++ client.client_abort c OTHER ∷ []) (Aborted OTHER)) tt tt
 
-  await_awaits : (ask : Ask) (a : Apdu) → IsWhole a → AwaitsAfter (client.await_confirmation_gets c readable ask a)
+  await_awaits : (ask : Ask) (a : Apdu) → IsWhole a → AwaitsAfter (client.await_confirmation_on_apdu c readable ask a)
   await_awaits ask (SimpleAck i choice) w =
       either_awaits (nat_eq choice ask.choice && has_simple_ack ask.choice) (Ends [] (Answered reply.Simple)) Stays tt tt
   await_awaits ask (ComplexAck i None choice o) w = either_awaits (nat_eq choice ask.choice && has_complex_ack ask.choice)
@@ -95,21 +95,21 @@ module _ (c : Context) (readable : Readable) where
       either_awaits (is_finished out) (GoesOn AwaitConfirmation []) (client.sends_request_window c choice out true) tt refl
 
   request_awaits : (ask : Ask) (out : Outgoing) (all_sent : Bool) → all_sent ≡ true → (a : Apdu) → IsWhole a
-      → AwaitsAfter (client.segmented_request_gets c readable ask out all_sent a)
+      → AwaitsAfter (client.segmented_request_on_apdu c readable ask out all_sent a)
   request_awaits ask out false e a w = absurd cc
   request_awaits ask out true e (SegmentAck true i ack) w = moves_awaits ask.choice (acknowledged c.settings.window out ack.number ack.window)
   request_awaits ask out true e a w = await_awaits ask a w
 
-  open_awaits : (ask : Ask) (phase : Phase) → Awaits phase → (a : Apdu) → IsWhole a → AwaitsAfter (client.open_gets c readable ask phase a)
+  open_awaits : (ask : Ask) (phase : Phase) → Awaits phase → (a : Apdu) → IsWhole a → AwaitsAfter (client.open_on_apdu c readable ask phase a)
   open_awaits ask (SegmentedRequest out all_sent) h a w = request_awaits ask out all_sent h a w
   open_awaits ask AwaitConfirmation h a w = await_awaits ask a w
   open_awaits ask (SegmentedConf inc) h a w = absurd h
   open_awaits ask Idle h a w = tt
 
-  gets_awaits : (t : ClientTransaction) → Awaits t.phase → (a : Apdu) → IsWhole a → AwaitsAfter (client.client_gets c readable t a)
+  gets_awaits : (t : ClientTransaction) → Awaits t.phase → (a : Apdu) → IsWhole a → AwaitsAfter (client.client_on_apdu c readable t a)
   gets_awaits t h a w = either_awaits (is_idle t.phase || not (is_from_server a)) Stays
-      (if client.is_expired c.now t.ask then Ends [] Expired else client.open_gets c readable t.ask t.phase a) tt
-      (either_awaits (client.is_expired c.now t.ask) (Ends [] Expired) (client.open_gets c readable t.ask t.phase a) tt (open_awaits t.ask t.phase h a w))
+      (if client.is_expired c.now t.ask then Ends [] Expired else client.open_on_apdu c readable t.ask t.phase a) tt
+      (either_awaits (client.is_expired c.now t.ask) (Ends [] Expired) (client.open_on_apdu c readable t.ask t.phase a) tt (open_awaits t.ask t.phase h a w))
 
 module _ (c : Context) where
   again_awaits : (choice : ℕ) (o : Option Outgoing) → AwaitsAfter (client.sends_request_again c choice true o)
@@ -143,26 +143,26 @@ module _ (c : Context) (service : Service) where
   either_sends true o x y h k = (h, tt)
   either_sends false o x y h k = (k, tt)
 
-  done_sends : (e : ServerTransaction) (kept : Apdu) → IsWhole kept → (a : Apdu) → Each IsWhole (server.done_gets c e kept a).sends
+  done_sends : (e : ServerTransaction) (kept : Apdu) → IsWhole kept → (a : Apdu) → Each IsWhole (server.done_on_apdu c e kept a).sends
   done_sends e kept w (ConfirmedRequest limits i None choice o) =
       either_sends (server.is_kept e e.request choice o) (Some e) kept (server.server_abort c OTHER) w tt
   done_sends e kept w (ConfirmedRequest limits i (Some g) choice o) =
       either_sends (is_some e.request) (Some e) (server.server_abort c OTHER) kept tt w
   done_sends e kept w _ = tt
 
-  done_entry : (e : ServerTransaction) (kept a : Apdu) → (server.done_gets c e kept a).entry ≡ Some e
+  done_entry : (e : ServerTransaction) (kept a : Apdu) → (server.done_on_apdu c e kept a).entry ≡ Some e
   done_entry e kept (ConfirmedRequest limits i None choice o) = refl
   done_entry e kept (ConfirmedRequest limits i (Some g) choice o) = refl
   done_entry e kept _ = refl
 
   -- a live entry that keeps it, and none where none may begin
   kept_gets : (e : ServerTransaction) (kept : Apdu) → is_live c.now e ≡ true → e.state ≡ Done kept → (free : Bool) (a : Apdu)
-      → server.server_gets c service (Some e) free a ≡ server.done_gets c e kept a
+      → server.server_on_apdu c service (Some e) free a ≡ server.done_on_apdu c e kept a
   kept_gets e kept live state free a =
-      ap (λ b. if b then server.live_gets c service e e.state a else server.idle_gets c service (Some e) free a) live
-      ∙ ap (λ (st : State). server.live_gets c service e st a) state
+      ap (λ b. if b then server.live_on_apdu c service e e.state a else server.idle_on_apdu c service (Some e) free a) live
+      ∙ ap (λ (st : State). server.live_on_apdu c service e st a) state
 
-  closed_sends : (a : Apdu) → Each IsWhole (server.idle_gets c service None false a).sends × ((server.idle_gets c service None false a).entry ≡ None)
+  closed_sends : (a : Apdu) → Each IsWhole (server.idle_on_apdu c service None false a).sends × ((server.idle_on_apdu c service None false a).entry ≡ None)
   closed_sends (ConfirmedRequest limits i None choice o) = ((tt, tt), refl)
   closed_sends (ConfirmedRequest limits i (Some g) choice o) = go (nat_eq g.number 0)
     where
@@ -228,7 +228,7 @@ module _ (x : Rules) (Q : Net → ℕ → Bool → Service → Type 0) (key : Ke
     context = server_context x key n.now
 
     abbrev gets : Service → Bool → Apdu → server.Reaction
-    gets service free a = server.server_gets (server_context x key n.now) service (n.entries key) (is_room n key free) a
+    gets service free a = server.server_on_apdu (server_context x key n.now) service (n.entries key) (is_room n key free) a
 
     abbrev Goes : server.Reaction → Type 0
     Goes v = Each IsWhole v.sends × IsDoneOrLost (n.serves_from key.server) v.entry
@@ -240,7 +240,7 @@ module _ (x : Rules) (Q : Net → ℕ → Bool → Service → Type 0) (key : Ke
         c = server_context x key n.now
 
         go : IsDoneOrLost (n.serves_from key.server) (n.entries key) → Goes (gets service free a)
-        go (inl d) = subst Goes (sym (ap (λ (o : Option ServerTransaction). server.server_gets (server_context x key n.now) service o (is_room n key free) a) d.at
+        go (inl d) = subst Goes (sym (ap (λ (o : Option ServerTransaction). server.server_on_apdu (server_context x key n.now) service o (is_room n key free) a) d.at
             ∙ kept_gets (server_context x key n.now) service d.entry kept (live d.entry d.since) d.state (is_room n key free) a)) (
               done_sends (server_context x key n.now) service d.entry kept whole a,
               inl (record {
@@ -252,7 +252,7 @@ module _ (x : Rules) (Q : Net → ℕ → Bool → Service → Type 0) (key : Ke
             )
         go (inr lost) =
             let none = closed_sends (server_context x key n.now) service a in
-            subst Goes (λ i. server.server_gets (server_context x key n.now) service (sym lost.0 i) (sym (closed lost.1 free) i) a) (none.0, inr (none.1, lost.1))
+            subst Goes (λ i. server.server_on_apdu (server_context x key n.now) service (sym lost.0 i) (sym (closed lost.1 free) i) a) (none.0, inr (none.1, lost.1))
 
     ticked : Goes (server.server_ticks (server_context x key n.now) (n.entries key))
     ticked = go h.entry
@@ -362,11 +362,11 @@ module _ (x : Rules) (Q : Net → ℕ → Bool → Service → Type 0) (key : Ke
         go false = h.entry
 
     own_hears : (k : Key) → k ≡ key → (t : ClientTransaction) → n.tickets k ≡ Some t → (a : Apdu) → IsWhole a
-        → (let r = client.client_gets (client_context x k n.now) x.readable t a in AwaitsAfter r × Each IsWhole (client.sends_of r))
+        → (let r = client.client_on_apdu (client_context x k n.now) x.readable t a in AwaitsAfter r × Each IsWhole (client.sends_of r))
     own_hears k is t at a w =
         let c = client_context x k n.now in (
           gets_awaits c x.readable t (awaiting t (ap n.tickets (sym is) ∙ at)) a w,
-          client_whole c.invoke_id (client.sends_of (client.client_gets c x.readable t a)) (client_sends_own.gets c x.readable t a),
+          client_whole c.invoke_id (client.sends_of (client.client_on_apdu c x.readable t a)) (client_sends_own.gets c x.readable t a),
         )
 
     own_ticks : (k : Key) → k ≡ key → (t : ClientTransaction) → n.tickets k ≡ Some t
@@ -380,11 +380,11 @@ module _ (x : Rules) (Q : Net → ℕ → Bool → Service → Type 0) (key : Ke
     next : (m : Net) → Step x Q n m → Next m
     next _ (Asks k choice w front rest free) = ask_next k (ask_of n.now choice w front rest) free
     next _ (Serves i p free service comes up q) =
-        server_next p.key (server.server_gets (server_context x p.key n.now) service (n.entries p.key) (is_room n p.key free) p.copy.apdu) (λ is.
-        subst (λ (j : Key). Goes (server.server_gets (server_context x j n.now) service (n.entries j) (is_room n j free) p.copy.apdu)) (sym is)
+        server_next p.key (server.server_on_apdu (server_context x p.key n.now) service (n.entries p.key) (is_room n p.key free) p.copy.apdu) (λ is.
+        subst (λ (j : Key). Goes (server.server_on_apdu (server_context x j n.now) service (n.entries j) (is_room n j free) p.copy.apdu)) (sym is)
         (served service free p.copy.apdu))
     next _ (Hears i p t comes down at) =
-        client_next p.key t (client.client_gets (client_context x p.key n.now) x.readable t p.copy.apdu)
+        client_next p.key t (client.client_on_apdu (client_context x p.key n.now) x.readable t p.copy.apdu)
         (λ is. own_hears p.key is t at p.copy.apdu (whole_comes i p comes is)) at
     next _ (TicksTicket k t at) = client_next k t (client.client_ticks (client_context x k n.now) t) (λ is. own_ticks k is t at) at
     next _ (TicksEntry k) =

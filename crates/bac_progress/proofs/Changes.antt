@@ -88,7 +88,7 @@ module _ (x : Rules) (Q : Net → ℕ → Bool → Service → Type 0) where
   step_change n _ (Serves number p free service at up q) key = Change.Same refl refl
   step_change n _ (Hears number p t at down there) key =
       let c = client_context x p.key n.now in
-      acts_change n p.key t (client.client_gets c x.readable t p.copy.apdu) there (gets_opens c x.readable t p.copy.apdu) key
+      acts_change n p.key t (client.client_on_apdu c x.readable t p.copy.apdu) there (gets_opens c x.readable t p.copy.apdu) key
   step_change n _ (TicksTicket k t there) key =
       let c = client_context x k n.now in acts_change n k t (client.client_ticks c t) there (ticks_opens c t) key
   step_change n _ (TicksEntry k) key = Change.Same refl refl

@@ -187,12 +187,12 @@ module _ (x : Rules) (key : Key) (number : ℕ) (ask : Ask) where
     late_answer : (a : Apdu) → is_from_server a ≡ true → IsThere x Any key number ask w.net
         → HasEnded number (takes_at_client S x w key a (w.net.tickets key)).net.log
     late_answer a from h = subst (λ (o : Option ClientTransaction). HasEnded number (takes_at_client S x w key a o).net.log) (sym h.at)
-        (own_log h (ending_of (client.client_gets c x.readable h.ticket a))
+        (own_log h (ending_of (client.client_on_apdu c x.readable h.ticket a))
         (go (is_idle h.ticket.phase) refl (is_from_server a) from (is_expired w.net.now h.ticket.ask) (expired h.ticket h.is)))
       where
         go : (b : Bool) → is_idle h.ticket.phase ≡ b → (f : Bool) → f ≡ true → (d : Bool) → d ≡ true
             → HasEnded number (ended number (ending_of (if b || not f then Stays else if d then Ends [] Expired
-            else client.open_gets c x.readable h.ticket.ask h.ticket.phase a)) w.net.log)
+            else client.open_on_apdu c x.readable h.ticket.ask h.ticket.phase a)) w.net.log)
         go true e f g d i = idle_ended h e
         go false e true g true i = (Expired, inl refl)
         go false e true g false i = absurd cc

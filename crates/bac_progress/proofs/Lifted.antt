@@ -242,7 +242,7 @@ module _ (W : ℕ) (x : Rules) (bound : IsBounded W x) (key : Key) (some : 0 < l
         n = w.net
 
         v : Key → server.Reaction
-        v j = server.server_gets (server_context x j n.now) (service_of S shop w j) (n.entries j) (is_room n j free) p.copy.apdu
+        v j = server.server_on_apdu (server_context x j n.now) (service_of S shop w j) (n.entries j) (is_room n j free) p.copy.apdu
 
         mine : p.key ≡ key → (t : ClientTransaction) → n.tickets key ≡ Some t → FlowOf n.now t (v key).entry (sent n.now (v key).sends (copies_of key n.posts))
         mine is t there =
@@ -269,7 +269,7 @@ module _ (W : ℕ) (x : Rules) (bound : IsBounded W x) (key : Key) (some : 0 < l
         n = w.net
 
         r : Key → client.Reaction
-        r j = client.client_gets (client_context x j n.now) x.readable t p.copy.apdu
+        r j = client.client_on_apdu (client_context x j n.now) x.readable t p.copy.apdu
 
         mine : p.key ≡ key → FlowOf n.now (client.after n.now t (r key)) (n.entries key) (sent n.now (client.sends_of (r key)) (copies_of key n.posts))
         mine is =

@@ -87,9 +87,9 @@ module _ (x : Rules) (Q : Net → ℕ → Bool → Service → Type 0) where
   pub step_log : (n m : Net) → Step x Q n m → Grows n.log m.log
   step_log n _ (Asks key choice whole front rest free) = λ f h. inr h
   step_log n _ (Serves number p free service at up q) =
-      grows_performed (n.numbers p.key) (server.server_gets (server_context x p.key n.now) service (n.entries p.key) (is_room n p.key free) p.copy.apdu).effect n.log
+      grows_performed (n.numbers p.key) (server.server_on_apdu (server_context x p.key n.now) service (n.entries p.key) (is_room n p.key free) p.copy.apdu).effect n.log
   step_log n _ (Hears number p t at down there) =
-      grows_ended (n.numbers p.key) (client.ending_of (client.client_gets (client_context x p.key n.now) x.readable t p.copy.apdu)) n.log
+      grows_ended (n.numbers p.key) (client.ending_of (client.client_on_apdu (client_context x p.key n.now) x.readable t p.copy.apdu)) n.log
   step_log n _ (TicksTicket key t there) = grows_ended (n.numbers key) (client.ending_of (client.client_ticks (client_context x key n.now) t)) n.log
   step_log n _ (TicksEntry key) = grows_performed (n.numbers key) (server.server_ticks (server_context x key n.now) (n.entries key)).effect n.log
   step_log n _ (Passes by) = grows_same n.log
@@ -103,10 +103,10 @@ module _ (x : Rules) (Q : Net → ℕ → Bool → Service → Type 0) where
       front_stays n.posts (map (post_of key n.now) (client.sends_of (client.asks c (ask_of n.now choice whole front rest)))) i q e
   step_posts n _ (Serves number p free service at up y) i q e =
       front_stays n.posts (map (post_of p.key n.now)
-      (server.server_gets (server_context x p.key n.now) service (n.entries p.key) (is_room n p.key free) p.copy.apdu).sends) i q e
+      (server.server_on_apdu (server_context x p.key n.now) service (n.entries p.key) (is_room n p.key free) p.copy.apdu).sends) i q e
   step_posts n _ (Hears number p t at down there) i q e =
       front_stays n.posts (map (post_of p.key n.now)
-      (client.sends_of (client.client_gets (client_context x p.key n.now) x.readable t p.copy.apdu))) i q e
+      (client.sends_of (client.client_on_apdu (client_context x p.key n.now) x.readable t p.copy.apdu))) i q e
   step_posts n _ (TicksTicket key t there) i q e =
       front_stays n.posts (map (post_of key n.now) (client.sends_of (client.client_ticks (client_context x key n.now) t))) i q e
   step_posts n _ (TicksEntry key) i q e =

@@ -233,33 +233,33 @@ module _ (x : Rules) (key : Key) (ask : Ask) (number : ℕ) where
       (subst (λ (y : ClientTransaction). y.ask ≡ ask) same h.ticket.is, subst (λ (y : ClientTransaction). PatientOrOver (n.asks_from key.client) n.now y n.log) same h.ticket.state)
 
   hears_answer : (n : Net) → InPatience n → (p : Reply) → WasGiven p n.log → (t : ClientTransaction) → t.ask ≡ ask → PatientOrOver (n.asks_from key.client) n.now t n.log
-      → ClientGoal n t (client.client_gets (client_context x key n.now) x.readable t (answer_to x key ask p))
+      → ClientGoal n t (client.client_on_apdu (client_context x key n.now) x.readable t (answer_to x key ask p))
   hears_answer n young p given t is (inr o) =
       subst (ClientGoal n t) (sym (ended_is_silent.gets (client_context x key n.now) x.readable t (answer_to x key ask p) o.0)) (idle_stays n t is o.0 o.1)
   hears_answer n young p given t is (inl w) =
       let c = client_context x key n.now in
       let first : t.ask.first ≡ ask.first = ap (λ (a : Ask). a.first) is in
-      subst (ClientGoal n t) (sym (subst (λ (a : Ask). client.client_gets c x.readable t (answer_to x key a p) ≡ Ends [] (Answered p)) is
+      subst (ClientGoal n t) (sym (subst (λ (a : Ask). client.client_on_apdu c x.readable t (answer_to x key a p) ≡ Ends [] (Answered p)) is
       (answer_ends c (server_context x key t.ask.first) x.readable t p w.waits (grind (arith, nat_tests))
       (subst (λ (a : Ask). FitsInOne x key a p) (sym is) given.0).kind)))
       (record { ticket = record t { phase = Idle }; at = refl; is = is; state = inr (refl, inl (p, inr given.1, inl refl)) }, tt)
 
   -- an answer that comes to it leaves the ask answered, where its client has not restarted
   pub told_answered : (n : Net) → Waits n → InPatience n → n.asks_from key.client ≤ ask.first + REST → (t : ClientTransaction) → n.tickets key ≡ Some t → (p : Reply) → WasGiven p n.log
-      → IsAnswered number ask (ended number (ending_of (client.client_gets (client_context x key n.now) x.readable t (answer_to x key ask p))) n.log)
+      → IsAnswered number ask (ended number (ending_of (client.client_on_apdu (client_context x key n.now) x.readable t (answer_to x key ask p))) n.log)
   told_answered n h young stays t at p given = go (known n t at h).0 (known n t at h).1
     where
       go : t.ask ≡ ask → PatientOrOver (n.asks_from key.client) n.now t n.log
-          → IsAnswered number ask (ended number (ending_of (client.client_gets (client_context x key n.now) x.readable t (answer_to x key ask p))) n.log)
+          → IsAnswered number ask (ended number (ending_of (client.client_on_apdu (client_context x key n.now) x.readable t (answer_to x key ask p))) n.log)
       go is (inr (idle, inr lost)) = absurd (omega arith)
       go is (inr (idle, inl o)) = answered_grows n.log
-          (ended number (ending_of (client.client_gets (client_context x key n.now) x.readable t (answer_to x key ask p))) n.log)
-          (grows_ended number (ending_of (client.client_gets (client_context x key n.now) x.readable t (answer_to x key ask p))) n.log) o
+          (ended number (ending_of (client.client_on_apdu (client_context x key n.now) x.readable t (answer_to x key ask p))) n.log)
+          (grows_ended number (ending_of (client.client_on_apdu (client_context x key n.now) x.readable t (answer_to x key ask p))) n.log) o
       go is (inl w) =
           let c = client_context x key n.now in
           let first : t.ask.first ≡ ask.first = ap (λ (a : Ask). a.first) is in
           subst (λ (r : client.Reaction). IsAnswered number ask (ended number (ending_of r) n.log))
-          (sym (subst (λ (a : Ask). client.client_gets c x.readable t (answer_to x key a p) ≡ Ends [] (Answered p)) is
+          (sym (subst (λ (a : Ask). client.client_on_apdu c x.readable t (answer_to x key a p) ≡ Ends [] (Answered p)) is
           (answer_ends c (server_context x key t.ask.first) x.readable t p w.waits (grind (arith, nat_tests))
           (subst (λ (a : Ask). FitsInOne x key a p) (sym is) given.0).kind)))
           (p, inr given.1, inl refl)
@@ -335,8 +335,8 @@ module _ (x : Rules) (key : Key) (ask : Ask) (number : ℕ) where
   Finds n i free service = IsOnItsWay x n key (request_to x key ask) i → is_none_live n.now (n.entries key) ≡ true
       → (p : Reply) × (is_room n key free ≡ true) × (service ask.choice (join ask.pieces) ≡ Replies p) × FitsInOne x key ask p
 
-  abbrev gets_request : Net → Service → Option ServerTransaction → Bool → server.Reaction
-  gets_request n service o b = server.server_gets (server_context x key n.now) service o b (request_to x key ask)
+  abbrev on_request : Net → Service → Option ServerTransaction → Bool → server.Reaction
+  on_request n service o b = server.server_on_apdu (server_context x key n.now) service o b (request_to x key ask)
 
   kept_goal : (n : Net) (o : Option ServerTransaction) (d : IsDoneFor o n.log) (sends : List Apdu) → Each (IsFine n.log) sends
       → ServerGoal n (record { entry = Some d.entry; sends = sends; effect = None })
@@ -356,11 +356,11 @@ module _ (x : Rules) (key : Key) (ask : Ask) (number : ℕ) where
 
   serves_request : (n : Net) → Waits n → InPatience n → (service : Service) (free : Bool)
       → (is_none_live n.now (n.entries key) ≡ true → (p : Reply) × (free ≡ true) × (service ask.choice (join ask.pieces) ≡ Replies p) × FitsInOne x key ask p)
-      → EntryFits n.now (n.entries key) n.log → ServerGoal n (gets_request n service (n.entries key) free)
+      → EntryFits n.now (n.entries key) n.log → ServerGoal n (on_request n service (n.entries key) free)
   serves_request n h young service free finds (inl none) =
       let cl = client_context x key ask.first in
       let y = finds none in
-      subst (ServerGoal n) (sym (ap (gets_request n service (n.entries key)) y.1
+      subst (ServerGoal n) (sym (ap (on_request n service (n.entries key)) y.1
       ∙ serves_new (server_context x key n.now) cl service (n.entries key) ask y.0 none y.2 (y.3).way
       ∙ ap (λ (a : Apdu). answers_first (performed_entry n.now cl ask a) ask y.0 a) (answer_any_time x key n.now ask.first ask.choice y.0))) (
         inr (record {
@@ -376,7 +376,7 @@ module _ (x : Rules) (key : Key) (ask : Ask) (number : ℕ) where
         (inr (y.0, refl, (y.3, inl refl)), tt),
       )
   serves_request n h young service free finds (inr d) =
-      subst (ServerGoal n) (sym (ap (λ (o : Option ServerTransaction). gets_request n service o free) d.at
+      subst (ServerGoal n) (sym (ap (λ (o : Option ServerTransaction). on_request n service o free) d.at
       ∙ serves_again (server_context x key n.now) (client_context x key ask.first) service d.entry free ask (answer_to x key ask d.reply)
       (done_live n young d) d.state d.choice d.request))
       (kept_goal n (n.entries key) d (answer_to x key ask d.reply ∷ []) (inr (d.reply, refl, d.given), tt))
@@ -384,21 +384,21 @@ module _ (x : Rules) (key : Key) (ask : Ask) (number : ℕ) where
   -- it brings one answer
   pub brings_answer : (n : Net) → Waits n → InPatience n → (service : Service) (free : Bool)
       → (is_none_live n.now (n.entries key) ≡ true → (p : Reply) × (free ≡ true) × (service ask.choice (join ask.pieces) ≡ Replies p) × FitsInOne x key ask p)
-      → (p : Reply) × ((server.server_gets (server_context x key n.now) service (n.entries key) free (request_to x key ask)).sends ≡ answer_to x key ask p ∷ [])
+      → (p : Reply) × ((server.server_on_apdu (server_context x key n.now) service (n.entries key) free (request_to x key ask)).sends ≡ answer_to x key ask p ∷ [])
   brings_answer n h young service free finds = go h.entry
     where
-      go : EntryFits n.now (n.entries key) n.log → (p : Reply) × ((gets_request n service (n.entries key) free).sends ≡ answer_to x key ask p ∷ [])
+      go : EntryFits n.now (n.entries key) n.log → (p : Reply) × ((on_request n service (n.entries key) free).sends ≡ answer_to x key ask p ∷ [])
       go (inl none) =
           let cl = client_context x key ask.first in
           let y = finds none in (
             y.0,
-            ap (λ (v : server.Reaction). v.sends) (ap (gets_request n service (n.entries key)) y.1
+            ap (λ (v : server.Reaction). v.sends) (ap (on_request n service (n.entries key)) y.1
                 ∙ serves_new (server_context x key n.now) cl service (n.entries key) ask y.0 none y.2 (y.3).way)
                 ∙ ap (λ (a : Apdu). a ∷ []) (answer_any_time x key n.now ask.first ask.choice y.0),
           )
       go (inr d) = (
         d.reply,
-        ap (λ (v : server.Reaction). v.sends) (ap (λ (o : Option ServerTransaction). gets_request n service o free) d.at
+        ap (λ (v : server.Reaction). v.sends) (ap (λ (o : Option ServerTransaction). on_request n service o free) d.at
             ∙ serves_again (server_context x key n.now) (client_context x key ask.first) service d.entry free ask (answer_to x key ask d.reply)
             (done_live n young d) d.state d.choice d.request),
       )
@@ -539,18 +539,18 @@ module _ (x : Rules) (key : Key) (ask : Ask) (number : ℕ) where
   waits_step whole n _ (Asks k choice w front rest free) h young = asked_waits n k (ask_of n.now choice w front rest)
       (λ is. let held = ap (is_id_held n) is ∙ key_held n h young in absurd (let z = sym held ∙ free in cc)) h
   waits_step whole n _ (Serves i q free service comes up finds) h young =
-      server_waits n q.key (server.server_gets (server_context x q.key n.now) service (n.entries q.key) (is_room n q.key free) q.copy.apdu) h (λ is.
+      server_waits n q.key (server.server_on_apdu (server_context x q.key n.now) service (n.entries q.key) (is_room n q.key free) q.copy.apdu) h (λ is.
       let a = fine_up n.log q.copy.apdu up (fine_comes n h i q comes is) in
-      subst (λ (j : Key). ServerGoal n (server.server_gets (server_context x j n.now) service (n.entries j) (is_room n j free) q.copy.apdu)) (sym is)
-      (subst (λ (y : Apdu). ServerGoal n (server.server_gets (server_context x key n.now) service (n.entries key) (is_room n key free) y)) (sym a)
+      subst (λ (j : Key). ServerGoal n (server.server_on_apdu (server_context x j n.now) service (n.entries j) (is_room n j free) q.copy.apdu)) (sym is)
+      (subst (λ (y : Apdu). ServerGoal n (server.server_on_apdu (server_context x key n.now) service (n.entries key) (is_room n key free) y)) (sym a)
       (serves_request n h young service (is_room n key free)
       (finds (record { post = q; at = comes.at; key_is = is; apdu_is = a; arrives = comes.arrives })) h.entry)))
   waits_step whole n _ (Hears i q t comes down there) h young =
-      client_waits n q.key t (client.client_gets (client_context x q.key n.now) x.readable t q.copy.apdu) h (λ is.
+      client_waits n q.key t (client.client_on_apdu (client_context x q.key n.now) x.readable t q.copy.apdu) h (λ is.
       let r = fine_down n.log q.copy.apdu down (fine_comes n h i q comes is) in
       let k = known n t (ap n.tickets (sym is) ∙ there) h in
-      subst (λ (j : Key). ClientGoal n t (client.client_gets (client_context x j n.now) x.readable t q.copy.apdu)) (sym is)
-      (subst (λ (y : Apdu). ClientGoal n t (client.client_gets (client_context x key n.now) x.readable t y)) (sym r.1)
+      subst (λ (j : Key). ClientGoal n t (client.client_on_apdu (client_context x j n.now) x.readable t q.copy.apdu)) (sym is)
+      (subst (λ (y : Apdu). ClientGoal n t (client.client_on_apdu (client_context x key n.now) x.readable t y)) (sym r.1)
       (hears_answer n young r.0 r.2 t k.0 k.1)))
   waits_step whole n _ (TicksTicket k t there) h young =
       client_waits n k t (client.client_ticks (client_context x k n.now) t) h (λ is.

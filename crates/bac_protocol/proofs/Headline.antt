@@ -166,7 +166,7 @@ module _ (S : Type 0) (shop : StoreModel S) (opening : ℕ → S) (W : ℕ) (x :
     arrives_kept (Some t) at young few free true way =
         let f = sound_at W w.net p.key (Some t) at s.net in
         let says = ((f.2).arriving (later p.key number w.net.posts) p.copy (copy_at number w.net.posts p at_number) young).1 in
-        let v = server.server_gets (server_context x p.key w.net.now) (service_of S shop w p.key) (w.net.entries p.key) (is_room w.net p.key free) p.copy.apdu in
+        let v = server.server_on_apdu (server_context x p.key w.net.now) (service_of S shop w p.key) (w.net.entries p.key) (is_room w.net p.key free) p.copy.apdu in
         serves_kept w s p.key t at v (gets_served (server_context x p.key w.net.now) (service_of S shop w p.key)
         (w.net.entries p.key) (is_room w.net p.key free) p.copy.apdu)
         (net_server W w.net p.key t at s.net v
@@ -177,7 +177,7 @@ module _ (S : Type 0) (shop : StoreModel S) (opening : ℕ → S) (W : ℕ) (x :
     arrives_kept (Some t) at young few free false way =
         let f = sound_at W w.net p.key (Some t) at s.net in
         let says = ((f.2).arriving (later p.key number w.net.posts) p.copy (copy_at number w.net.posts p at_number) young).1 in
-        let r = client.client_gets (client_context x p.key w.net.now) x.readable t p.copy.apdu in
+        let r = client.client_on_apdu (client_context x p.key w.net.now) x.readable t p.copy.apdu in
         reacts_kept w s p.key t r
         (net_client W w.net p.key t at s.net r
         (client_gets_kept W x.overtake bound.some bound.room (x.settings p.key.client) (bound.windows p.key.client) x.readable p.key

@@ -154,14 +154,14 @@ module _ (x : Rules) where
     takes_owned w h key a down sent None k = h
     takes_owned w h key a down sent (Some t) k =
         let c = client_context x key w.net.now in
-        client_owned w.net h key t k (client.client_gets c x.readable t a)
+        client_owned w.net h key t k (client.client_on_apdu c x.readable t a)
         (gets_own c x.readable (IsSentByClient x key) (IsLesser x key) (client_has key w.net.now) t k a (begins_answer key a down sent))
 
     arrives_owned : (w : World S) → Owned w.net → (key : Key) (free : Bool) (a : Apdu) → IsSent key a → (up : Bool) → is_from_client a ≡ up
         → Owned (if up then takes_at_server S shop x w key free a else takes_at_client S x w key a (w.net.tickets key)).net
     arrives_owned w h key free a sent true up =
         let c = server_context x key w.net.now in
-        server_owned w.net h key (server.server_gets c (service_of S shop w key) (w.net.entries key) (is_room w.net key free) a)
+        server_owned w.net h key (server.server_on_apdu c (service_of S shop w key) (w.net.entries key) (is_room w.net key free) a)
         (server_gets_own c (service_of S shop w key) (IsSentByServer x key) (IsLesser x key) (server_has key w.net.now) (w.net.entries key) (is_room w.net key free) a
         (begins_request key a up sent) (h.entries key))
     arrives_owned w h key free a sent false down = takes_owned w h key a down sent (w.net.tickets key) (h.tickets key)

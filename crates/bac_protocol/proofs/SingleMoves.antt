@@ -52,7 +52,7 @@ module _ (W : ℕ) (x : Rules) (bound : IsBounded W x) where
   arrives_sound n s number p at young few free service (Some t) is true way =
       let f = sound_at W n p.key (Some t) is s.net in
       let says = ((f.2).arriving (later p.key number n.posts) p.copy (copy_at number n.posts p at) young).1 in
-      let v = server.server_gets (server_context x p.key n.now) service (n.entries p.key) (is_room n p.key free) p.copy.apdu in
+      let v = server.server_on_apdu (server_context x p.key n.now) service (n.entries p.key) (is_room n p.key free) p.copy.apdu in
       record {
         net = net_server W n p.key t is s.net v
             (server_gets_kept W x.overtake bound.some bound.room (x.settings p.key.server) (bound.windows p.key.server) service p.key
@@ -63,7 +63,7 @@ module _ (W : ℕ) (x : Rules) (bound : IsBounded W x) where
   arrives_sound n s number p at young few free service (Some t) is false way =
       let f = sound_at W n p.key (Some t) is s.net in
       let says = ((f.2).arriving (later p.key number n.posts) p.copy (copy_at number n.posts p at) young).1 in
-      let r = client.client_gets (client_context x p.key n.now) x.readable t p.copy.apdu in
+      let r = client.client_on_apdu (client_context x p.key n.now) x.readable t p.copy.apdu in
       record {
         net = net_client W n p.key t is s.net r
             (client_gets_kept W x.overtake bound.some bound.room (x.settings p.key.client) (bound.windows p.key.client) x.readable p.key

@@ -44,7 +44,7 @@ module _ (Q : List Fact → (asks serves : ℕ → ℕ) → Type 0) (left : IsLe
   takes_quiet : (w : World S) → Quiet w → (key : Key) (a : Apdu) (o : Option ClientTransaction) → Quiet (takes_at_client S x w key a o)
   takes_quiet w h key a None = h
   takes_quiet w h key a (Some t) =
-      ended_quiet (w.net.numbers key) (client.ending_of (client.client_gets (client_context x key w.net.now) x.readable t a)) w.net.log
+      ended_quiet (w.net.numbers key) (client.ending_of (client.client_on_apdu (client_context x key w.net.now) x.readable t a)) w.net.log
       w.net.asks_from w.net.serves_from h
 
   serves_quiet : (w : World S) → Quiet w → (key : Key) (v : server.Reaction) → Quiet (serves S shop w key v)
@@ -53,7 +53,7 @@ module _ (Q : List Fact → (asks serves : ℕ → ℕ) → Type 0) (left : IsLe
   arrives_quiet : (w : World S) → Quiet w → (key : Key) (free : Bool) (a : Apdu) (up : Bool)
       → Quiet (if up then takes_at_server S shop x w key free a else takes_at_client S x w key a (w.net.tickets key))
   arrives_quiet w h key free a true = serves_quiet w h key
-      (server.server_gets (server_context x key w.net.now) (shop.outcome (w.stores key.server)) (w.net.entries key) (is_room w.net key free) a)
+      (server.server_on_apdu (server_context x key w.net.now) (shop.outcome (w.stores key.server)) (w.net.entries key) (is_room w.net key free) a)
   arrives_quiet w h key free a false = takes_quiet w h key a (w.net.tickets key)
 
   delivered_quiet : (w : World S) → Quiet w → (number : ℕ) (free : Bool) (o : Option Post) → Quiet (delivered S shop x w number free o)

@@ -3,8 +3,8 @@
 use Rattle.std.specs.Prelude.{◌≡◌, ℕ, ◌+◌, Bool, true, false, ◌∷◌, Option, Some, None, List, slice_get, if◌then◌else◌}
 use Rattle.bac_protocol.specs.Service.{Octets}
 use Rattle.bac_protocol.specs.Wire.{is_from_client}
-use Rattle.bac_protocol.specs.Client.{ClientTransaction, request_of, client_gets, client_ticks}
-use Rattle.bac_protocol.specs.Server.{Service, is_none_live, server_gets, server_ticks}
+use Rattle.bac_protocol.specs.Client.{ClientTransaction, request_of, client_on_apdu, client_ticks}
+use Rattle.bac_protocol.specs.Server.{Service, is_none_live, server_on_apdu, server_ticks}
 use Rattle.bac_protocol.specs.Log.{Has, asks_in, IsOrderly}
 use Rattle.bac_protocol.specs.Log.Fact.{Asked}
 use Rattle.bac_protocol.specs.Transaction.{Key, Rules, client_context, server_context}
@@ -27,12 +27,12 @@ pub data Move : Type 0 where
 -- a copy reaches its client (clause 5.4.4); without a ticket it is dropped
 abbrev pub taken_by_client : Rules → Net → Post → Option ClientTransaction → Net
 taken_by_client x n p None = n
-taken_by_client x n p (Some t) = client_acts n p.key t (client_gets (client_context x p.key n.now) x.readable t p.copy.apdu)
+taken_by_client x n p (Some t) = client_acts n p.key t (client_on_apdu (client_context x p.key n.now) x.readable t p.copy.apdu)
 
 -- a copy reaches its server, whose service says so (clause 5.4.5)
 abbrev pub taken_by_server : Rules → Net → Post → (free : Bool) → Service → Net
 taken_by_server x n p free service =
-    server_acts n p.key (server_gets (server_context x p.key n.now) service (n.entries p.key) (is_room n p.key free) p.copy.apdu)
+    server_acts n p.key (server_on_apdu (server_context x p.key n.now) service (n.entries p.key) (is_room n p.key free) p.copy.apdu)
 
 -- the copy of that number arrives, if it is deliverable
 abbrev pub arrived : Rules → Net → (number : ℕ) → (free : Bool) → Service → Option Post → Net

@@ -5,10 +5,10 @@ use Rattle.bac_apdu.specs.Apdu.{Apdu}
 use Rattle.bac_protocol.specs.Times.{LIFE, KEEP, REST}
 use Rattle.bac_protocol.specs.Service.{Octets}
 use Rattle.bac_protocol.specs.Wire.{is_from_client}
-use Rattle.bac_protocol.specs.Client.{Ask, request_of, Phase, ClientTransaction, after, sends_of, ending_of, asked_ticket, asks, client_gets, client_ticks, is_held}
+use Rattle.bac_protocol.specs.Client.{Ask, request_of, Phase, ClientTransaction, after, sends_of, ending_of, asked_ticket, asks, client_on_apdu, client_ticks, is_held}
 use Rattle.bac_protocol.specs.Client as client
 use Rattle.bac_protocol.specs.Client.Phase.{Idle}
-use Rattle.bac_protocol.specs.Server.{ServerTransaction, Effect, Service, server_gets, server_ticks}
+use Rattle.bac_protocol.specs.Server.{ServerTransaction, Effect, Service, server_on_apdu, server_ticks}
 use Rattle.bac_protocol.specs.Server as server
 use Rattle.bac_protocol.specs.Log.{Fact, StoreModel, restarted}
 use Rattle.bac_protocol.specs.Log.Fact.{Asked, Changed, Restarted}
@@ -206,12 +206,12 @@ service_of S shop w key = shop.outcome (w.stores key.server)
 -- an APDU reaches the client (clause 5.4.4); without a ticket it is dropped
 abbrev pub takes_at_client : (S : Type 0) → Rules → World S → Key → Apdu → Option ClientTransaction → World S
 takes_at_client S x w key a None = w
-takes_at_client S x w key a (Some t) = reacts S w key t (client_gets (client_context x key w.net.now) x.readable t a)
+takes_at_client S x w key a (Some t) = reacts S w key t (client_on_apdu (client_context x key w.net.now) x.readable t a)
 
 -- an APDU reaches the server (clause 5.4.5)
 abbrev pub takes_at_server : (S : Type 0) → StoreModel S → Rules → World S → Key → (free : Bool) → Apdu → World S
 takes_at_server S shop x w key free a = serves S shop w key
-    (server_gets (server_context x key w.net.now) (service_of S shop w key) (w.net.entries key) (is_room w.net key free) a)
+    (server_on_apdu (server_context x key w.net.now) (service_of S shop w key) (w.net.entries key) (is_room w.net key free) a)
 
 -- a copy reaches the other end of its transaction
 abbrev pub arrives : (S : Type 0) → StoreModel S → Rules → World S → Key → (free : Bool) → Apdu → World S

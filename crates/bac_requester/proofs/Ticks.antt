@@ -3,7 +3,7 @@ use Rattle.std.proofs.Common.{◌≡◌, ℕ, ◌<◌, List, [], ◌∷◌, map,
 use Rattle.bac_slots.specs.declared.slot.Slot.{Slot}
 use Rattle.bac_slots.proofs.SlotAges.{each_more}
 use Rattle.bac_transaction.specs.declared.settings.Settings.{Settings}
-use Rattle.bac_transaction.specs.Ends.{Client, ClientEnd, ClientSlot, client_tick_ends, client_tick_sends, client_ticked, clients_tick, context_of}
+use Rattle.bac_transaction.specs.Ends.{Client, ClientEnd, ClientSlot, client_tick_ends, client_tick_sends, client_ticked, requester_tick, context_of}
 use Rattle.bac_transaction.specs.Meanings.{Finish, IsFinish}
 use Rattle.bac_transaction.specs.Sends.{Datagram, IsSent}
 use Rattle.bac_transaction.specs.Views.{peer_key_view, settings_view, slot_view, slots_view}
@@ -24,14 +24,14 @@ ticked_viewed c now [] = refl
 ticked_viewed c now (s ∷ slots) = ap (λ l. client_ticked (settings_view c) now (slot_view s) ∷ l) (ticked_viewed c now slots)
 
 pub committed : (c : Settings) (now : ℕ) (old new : Slots) (capacity room asked from first_id : ℕ) → new ≡ map (changed (ticked_in value_ticked c now)) old → room ≡ capacity
-    → end_of new room asked from first_id ≡ (clients_tick (settings_view c) now (end_of old capacity asked from first_id)).end
+    → end_of new room asked from first_id ≡ (requester_tick (settings_view c) now (end_of old capacity asked from first_id)).end
 committed c now old new capacity room asked from first_id e f =
     let with_slots : List ClientSlot → ℕ → ClientEnd = λ l k. record { slots = l; capacity = k; asked = asked; asks_from = from; first_id = first_id } in
     ap (λ l. with_slots (slots_view l) room) e ∙ ap (λ l. with_slots l room) (ticked_viewed c now old)
     ∙ ap (λ k. with_slots (map (client_ticked (settings_view c) now) (slots_view old)) k) f
 
 pub nothing_due : (c : Settings) (now begin due : ℕ) (before : now < due) (slots : Slots) (capacity asked from first_id : ℕ) (sent : List Datagram) (ended : List Finish)
-    → AreQuiet IsClientQuiet begin due slots → sent ≡ [] → ended ≡ [] → IsTold (clients_tick (settings_view c) now (end_of slots capacity asked from first_id)) sent ended
+    → AreQuiet IsClientQuiet begin due slots → sent ≡ [] → ended ≡ [] → IsTold (requester_tick (settings_view c) now (end_of slots capacity asked from first_id)) sent ended
 nothing_due c now begin due before slots capacity asked from first_id sent ended q no_sent no_ended =
     record {
       sends = told_none Client IsSent (client_tick_sends (settings_view c) now) slots sent

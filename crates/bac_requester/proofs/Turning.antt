@@ -8,8 +8,8 @@ use Rattle.bac_slots.specs.declared.slot.Slot.{Slot}
 use Rattle.bac_slots.specs.Slots.{value_at, with_value}
 use Rattle.bac_protocol.specs.Context.{Settings}
 use Rattle.bac_protocol.specs.Service as machine
-use Rattle.bac_protocol.specs.Client.{client_gets, ending_of, sends_of}
-use Rattle.bac_transaction.specs.Ends.{Client, ClientEnd, ClientTurn, TransactionSlot, client_hears, client_hears_at, key_of, client_after, ended_with}
+use Rattle.bac_protocol.specs.Client.{client_on_apdu, ending_of, sends_of}
+use Rattle.bac_transaction.specs.Ends.{Client, ClientEnd, ClientTurn, TransactionSlot, requester_on_apdu, requester_on_apdu_at, key_of, client_after, ended_with}
 use Rattle.bac_transaction.specs.Ends.TransactionSlot.{Open, Closed}
 use Rattle.bac_transaction.specs.Keys as keys
 use Rattle.bac_transaction.specs.Keys.{same_key}
@@ -49,9 +49,9 @@ finishes_are number choice (Some e) (Some f) m = (record { ticket = refl; how = 
 
 turn_at : (c : Context) (a : Apdu) (slots : Slots) (capacity asked from first_id : ℕ) (o : Option Client) → value_at code_same_key c.key slots ≡ o
     → turn_of c a (end_of slots capacity asked from first_id)
-    ≡ client_hears_at (settings_view c.settings) reads_reply c.moment a (end_of slots capacity asked from first_id) (peer_key_view c.key) o
+    ≡ requester_on_apdu_at (settings_view c.settings) reads_reply c.moment a (end_of slots capacity asked from first_id) (peer_key_view c.key) o
 turn_at c a slots capacity asked from first_id o is =
-    ap (λ p. client_hears_at (settings_view c.settings) reads_reply c.moment a (end_of slots capacity asked from first_id) (peer_key_view c.key) p)
+    ap (λ p. requester_on_apdu_at (settings_view c.settings) reads_reply c.moment a (end_of slots capacity asked from first_id) (peer_key_view c.key) p)
     (sym (value_viewed Client c.key slots) ∙ is)
 
 same_end : (old new : Slots) (capacity room asked from first_id : ℕ) → new ≡ old → room ≡ capacity → end_of new room asked from first_id ≡ end_of old capacity asked from first_id
@@ -103,7 +103,7 @@ heard_held c a old new w capacity room asked from first_id number (Closed first)
 -- its ticket goes on
 heard_held c a old new w capacity room asked from first_id number (Open t) r x is did same set kept sent ended =
     let e : ClientEnd = end_of old capacity asked from first_id in
-    let next : Client = client_after c.moment number t (client_gets (context_view c) reads_reply t a) in
+    let next : Client = client_after c.moment number t (client_on_apdu (context_view c) reads_reply t a) in
     let value : w ≡ next = same_client w number next.held same did.held in
     let slots : new ≡ with_value code_same_key c.key next old = set ∙ ap (λ y. with_value code_same_key c.key y old) value in
     let viewed : slots_view new ≡ with_value same_key (peer_key_view c.key) next (slots_view old) =
@@ -113,19 +113,19 @@ heard_held c a old new w capacity room asked from first_id number (Open t) r x i
     subst (λ (t : ClientTurn). Hears t e (Ok x) (end_of new room asked from first_id)) (sym (turn_at c a old capacity asked from first_id _ is)) (record {
       end = after;
       told = record {
-        sends = subst (λ (l : List Datagram). Pairwise IsSent (to_all (peer_key_view c.key).peer (sends_of (client_gets (context_view c) reads_reply t a))) l)
+        sends = subst (λ (l : List Datagram). Pairwise IsSent (to_all (peer_key_view c.key).peer (sends_of (client_on_apdu (context_view c) reads_reply t a))) l)
             (sym sent) did.sends;
-        finishes = subst (λ (l : List Finish). Pairwise IsFinish (ended_with number t.ask.choice (ending_of (client_gets (context_view c) reads_reply t a))) l)
+        finishes = subst (λ (l : List Finish). Pairwise IsFinish (ended_with number t.ask.choice (ending_of (client_on_apdu (context_view c) reads_reply t a))) l)
             (sym ended) (finishes_are number t.ask.choice _ _ did.ended);
       };
     })
 
 -- what is kept of its ticket keeps the moment of its first sending
 pub heard_first : (c : Context) (a : Apdu) (old new : TransactionSlot) (r : Reaction) → HearsSo c a old r new → first_of new ≡ first_of old
-heard_first c a (Open t) new r did = ap first_of did.held ∙ next_first c.moment t (client_gets (context_view c) reads_reply t a)
+heard_first c a (Open t) new r did = ap first_of did.held ∙ next_first c.moment t (client_on_apdu (context_view c) reads_reply t a)
 heard_first c a (Closed first) new r did = ap first_of did.1
 
 -- the turn at the key that the APDU has for its peer
 pub heard : (c : Settings) (now : ℕ) (peer : PeerView) (a : Apdu) (key : keys.PeerKey) (e : ClientEnd) (result : Result Turn NoMemory) (new : ClientEnd)
-    → key ≡ key_of peer a → Hears (hears_key c now key a e) e result new → Hears (client_hears c reads_reply now peer a e) e result new
+    → key ≡ key_of peer a → Hears (hears_key c now key a e) e result new → Hears (requester_on_apdu c reads_reply now peer a e) e result new
 heard c now peer a key e result new is did = subst (λ (k : keys.PeerKey). Hears (hears_key c now k a e) e result new) is did

@@ -10,7 +10,7 @@ use Rattle.bac_protocol.specs.Service.Ending.{Expired, TimedOut}
 use Rattle.bac_protocol.specs.Client.{ClientTransaction, Phase, Reaction, after, client_ticks, is_expired, is_idle, open_ticks, repeats_pieces, repeats_whole}
 use Rattle.bac_protocol.specs.Client.{request_apdu, request_window, sends_request_again}
 use Rattle.bac_protocol.specs.Client.Reaction.{Stays, GoesOn, Repeats, Ends}
-use Rattle.bac_transaction.specs.Ends.{Client, ClientEnd, ClientSlot, ClientTurn, Ended, TransactionSlot, client_tick_ends, client_tick_sends, client_ticked, clients_tick}
+use Rattle.bac_transaction.specs.Ends.{Client, ClientEnd, ClientSlot, ClientTurn, Ended, TransactionSlot, client_tick_ends, client_tick_sends, client_ticked, requester_tick}
 use Rattle.bac_transaction.specs.Ends.{context_of, held_ticked, kept, open_unless}
 use Rattle.bac_transaction.specs.Sends.{Send}
 use Rattle.bac_slots.specs.Ages.{first_due}
@@ -26,7 +26,7 @@ module _ (c : Settings) (now due : ℕ) (before : now < due) where
   slot_rests s q = ap (λ v. record s { value = v }) (held_stays (context_of c now s.key) due before s.value.number s.value.held q)
 
   pub clients_rest : (e : ClientEnd) → EachSlot (λ s. IsHeldQuiet due s.value.held) e.slots
-      → clients_tick c now e ≡ record { end = e; sends = []; ended = [] }
+      → requester_tick c now e ≡ record { end = e; sends = []; ended = [] }
   clients_rest e q =
       let turn : List ClientSlot → List Send → List Ended → ClientTurn = λ l x y. record { end = record e { slots = l }; sends = x; ended = y } in
       let quiet : (s : ClientSlot) → Type 0 = λ s. IsHeldQuiet due s.value.held in
@@ -35,7 +35,7 @@ module _ (c : Settings) (now due : ℕ) (before : now < due) where
       (λ s h. held_sends (context_of c now s.key) due before s.key.peer s.value.held h) q) in
       let ended = none_told Client (client_tick_ends c now) e.slots (each_more quiet (λ s. client_tick_ends c now s ≡ []) e.slots
       (λ s h. held_ends (context_of c now s.key) due before s.value.number s.value.held h) q) in
-      ap (λ l. turn l (clients_tick c now e).sends (clients_tick c now e).ended) slots ∙ ap (λ l. turn e.slots l (clients_tick c now e).ended) sends
+      ap (λ l. turn l (requester_tick c now e).sends (requester_tick c now e).ended) slots ∙ ap (λ l. turn e.slots l (requester_tick c now e).ended) sends
       ∙ ap (λ l. turn e.slots [] l) ended
 
 -- it is no rest
@@ -118,7 +118,7 @@ module _ (c : Context) where
   held_moves due number (TransactionSlot.Closed first) q is reached within e = absurd (omega (arith, is, within))
 
 pub clients_move : (c : Settings) (now due : ℕ) (e : ClientEnd) → due ≤ now → due < LAST_MOMENT → first_due (client_due 0) e.slots ≡ due
-    → EachSlot (λ s. IsHeldQuiet due s.value.held) e.slots → (clients_tick c now e).end ≡ e → ⊥
+    → EachSlot (λ s. IsHeldQuiet due s.value.held) e.slots → (requester_tick c now e).end ≡ e → ⊥
 clients_move c now due e reached within is q same =
     one_moves (client_due 0) (client_ticked c now) due e.slots within
     (each_more (λ s. IsHeldQuiet due s.value.held) (λ s. client_due 0 s.value ≡ due → client_ticked c now s ≡ s → ⊥) e.slots

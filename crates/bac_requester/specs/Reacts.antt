@@ -8,7 +8,7 @@ use Rattle.bac_service.specs.Services.{reads_reply}
 use Rattle.bac_service.specs.Values.{Complex}
 use Rattle.bac_segment.specs.Window.{Incoming}
 use Rattle.bac_protocol.specs.Service.{Octets, Ending}
-use Rattle.bac_protocol.specs.Client.{Ask, ClientTransaction, Phase, Reaction, after, sends_of, ending_of, asked_ticket, asks, client_gets}
+use Rattle.bac_protocol.specs.Client.{Ask, ClientTransaction, Phase, Reaction, after, sends_of, ending_of, asked_ticket, asks, client_on_apdu}
 use Rattle.bac_transaction.specs.Ends.{TransactionSlot, kept}
 use Rattle.bac_transaction.specs.Meanings as meanings
 use Rattle.bac_transaction.specs.Meanings.{MeansEnding}
@@ -57,7 +57,7 @@ pub record IsNothing (x : code.Reaction) : Type 0 where
 
 -- an APDU came for what is kept of a ticket
 abbrev pub HearsSo : Context → Apdu → (old : TransactionSlot) → code.Reaction → (new : TransactionSlot) → Type 0
-HearsSo c a (TransactionSlot.Open t) x new = IsReaction c t (client_gets (context_view c) reads_reply t a) x new
+HearsSo c a (TransactionSlot.Open t) x new = IsReaction c t (client_on_apdu (context_view c) reads_reply t a) x new
 HearsSo c a (TransactionSlot.Closed first) x new = IsNothing x × (new ≡ TransactionSlot.Closed first)
 
 -- or there was no memory, and all is as it was

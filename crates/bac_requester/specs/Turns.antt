@@ -5,7 +5,7 @@ use Rattle.bac_service.specs.Services.{reads_reply}
 use Rattle.bac_slots.specs.Slots.{value_at}
 use Rattle.bac_value.specs.declared.memory.NoMemory.{NoMemory}
 use Rattle.bac_protocol.specs.Context.{Settings}
-use Rattle.bac_transaction.specs.Ends.{ClientEnd, ClientSlot, ClientTurn, client_hears_at, client_tick_sends, client_tick_ends}
+use Rattle.bac_transaction.specs.Ends.{ClientEnd, ClientSlot, ClientTurn, requester_on_apdu_at, client_tick_sends, client_tick_ends}
 use Rattle.bac_transaction.specs.Keys as keys
 use Rattle.bac_transaction.specs.Keys.{same_key}
 use Rattle.bac_transaction.specs.Meanings as meanings
@@ -85,4 +85,4 @@ pub record IsSlotTold (c : Settings) (now : ℕ) (s : ClientSlot) (sent : List D
 
 -- an APDU comes for a key
 abbrev pub hears_key : Settings → (now : ℕ) → keys.PeerKey → Apdu → ClientEnd → ClientTurn
-hears_key c now key a e = client_hears_at c reads_reply now a e key (value_at same_key key e.slots)
+hears_key c now key a e = requester_on_apdu_at c reads_reply now a e key (value_at same_key key e.slots)

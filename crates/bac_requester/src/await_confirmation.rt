@@ -3,12 +3,12 @@ ghost use Rattle.std.specs.Prelude.{◌≡◌, ◌&&◌, [], IfOk, nat_eq};
 ghost use Rattle.bac_apdu.specs.Views.{apdu_view, segment_view};
 ghost use Rattle.bac_service.specs.Choices.{has_complex_ack, has_simple_ack};
 ghost use Rattle.bac_service.specs.Services.{reads_reply};
-ghost use Rattle.bac_protocol.specs.Client.{answered_with, await_confirmation_gets, gets_complex_ack, gets_error, gets_first_segment, gets_simple_ack};
+ghost use Rattle.bac_protocol.specs.Client.{answered_with, await_confirmation_on_apdu, on_complex_ack, on_error, on_first_segment, on_simple_ack};
 ghost use Rattle.bac_requester.specs.Reacts.{Does, IsClosing, Reacts};
 ghost use Rattle.bac_transaction.specs.Views.{context_view};
 
 use crate::ending::Ending;
-use crate::getting::gets_refusal;
+use crate::getting::on_refusal;
 use crate::reaction::{Closing, Reaction, closes, ends, stays};
 use crate::reading::read_one;
 use crate::segmented_conf::takes_segment;
@@ -42,13 +42,13 @@ fn has_simple_ack(choice: u8) -> bool
 }
 
 /// A SimpleACK comes.
-fn gets_simple_ack(
+fn on_simple_ack(
     alloc: Global,
     context: &Context,
     ticket: &ClientTransaction,
     choice: u8,
 ) -> Reaction
-    ensures { Does context.now ticket.now (gets_simple_ack ticket.now.ask choice) result ticket.now }
+    ensures { Does context.now ticket.now (on_simple_ack ticket.now.ask choice) result ticket.now }
 {
     if choice != ticket.choice() || !has_simple_ack(choice) {
         return stays(alloc, context, ticket);
@@ -57,7 +57,7 @@ fn gets_simple_ack(
 }
 
 /// An Error comes.
-fn gets_error(
+fn on_error(
     alloc: Global,
     context: &Context,
     ticket: &ClientTransaction,
@@ -65,7 +65,7 @@ fn gets_error(
     class: u32,
     code: u32,
 ) -> Reaction
-    ensures { Does context.now ticket.now (gets_error ticket.now.ask choice class code) result ticket.now }
+    ensures { Does context.now ticket.now (on_error ticket.now.ask choice class code) result ticket.now }
 {
     if choice != ticket.choice() {
         return stays(alloc, context, ticket);
@@ -96,14 +96,14 @@ fn close_with_one(
 }
 
 /// A ComplexACK in one APDU comes.
-fn gets_complex_ack(
+fn on_complex_ack(
     alloc: Global,
     context: &Context,
     ticket: &ClientTransaction,
     choice: u8,
     service: &[u8],
 ) -> Result<Reaction, NoMemory>
-    ensures { Reacts context.now ticket.now (gets_complex_ack (context_view context.now) reads_reply ticket.now.ask choice service.now) result ticket.now }
+    ensures { Reacts context.now ticket.now (on_complex_ack (context_view context.now) reads_reply ticket.now.ask choice service.now) result ticket.now }
 {
     if choice != ticket.choice() || !has_complex_ack(choice) {
         return Ok(stays(alloc, context, ticket));
@@ -123,7 +123,7 @@ fn is_first_segment(context: &Context, asked: u8, choice: u8, number: u8) -> boo
 }
 
 /// A segment of a ComplexACK comes, where none has come.
-fn gets_first_segment(
+fn on_first_segment(
     alloc: Global,
     context: &Context,
     ticket: &mut ClientTransaction,
@@ -132,7 +132,7 @@ fn gets_first_segment(
     service: &[u8],
 ) -> Result<Reaction, NoMemory>
     ensures { Reacts context.now ticket.old
-        (gets_first_segment (context_view context.now) reads_reply ticket.old.ask (segment_view segment) choice service.now) result ticket.new }
+        (on_first_segment (context_view context.now) reads_reply ticket.old.ask (segment_view segment) choice service.now) result ticket.new }
 {
     if !is_first_segment(context, ticket.choice(), choice, segment.number) {
         return Ok(stays(alloc, context, ticket));
@@ -153,18 +153,18 @@ fn gets_first_segment(
 }
 
 /// An APDU comes in AWAIT_CONFIRMATION, or in SEGMENTED_REQUEST once all segments were sent.
-pub(crate) fn await_confirmation_gets(
+pub(crate) fn await_confirmation_on_apdu(
     alloc: Global,
     context: &Context,
     ticket: &mut ClientTransaction,
     apdu: &Apdu<'_>,
 ) -> Result<Reaction, NoMemory>
     ensures { Reacts context.now ticket.old
-        (await_confirmation_gets (context_view context.now) reads_reply ticket.old.ask (apdu_view apdu.now)) result ticket.new }
+        (await_confirmation_on_apdu (context_view context.now) reads_reply ticket.old.ask (apdu_view apdu.now)) result ticket.new }
 {
     match *apdu {
         // SimpleACK_Received
-        Apdu::SimpleAck { choice, .. } => Ok(gets_simple_ack(alloc, context, ticket, choice)),
+        Apdu::SimpleAck { choice, .. } => Ok(on_simple_ack(alloc, context, ticket, choice)),
         Apdu::ComplexAck {
             segment,
             choice,
@@ -172,9 +172,9 @@ pub(crate) fn await_confirmation_gets(
             ..
         } => match segment {
             // UnsegmentedComplexACK_Received
-            None => gets_complex_ack(alloc, context, ticket, choice, service),
+            None => on_complex_ack(alloc, context, ticket, choice, service),
             // SegmentedComplexACK_Received
-            Some(segment) => gets_first_segment(alloc, context, ticket, segment, choice, service),
+            Some(segment) => on_first_segment(alloc, context, ticket, segment, choice, service),
         },
         // ErrorPDU_Received
         Apdu::Error {
@@ -182,7 +182,7 @@ pub(crate) fn await_confirmation_gets(
             class,
             code,
             ..
-        } => Ok(gets_error(alloc, context, ticket, choice, class, code)),
-        _ => Ok(gets_refusal(alloc, context, ticket, apdu)),
+        } => Ok(on_error(alloc, context, ticket, choice, class, code)),
+        _ => Ok(on_refusal(alloc, context, ticket, apdu)),
     }
 }

@@ -2,18 +2,18 @@
 ghost use Rattle.std.specs.Prelude.{◌≡◌};
 ghost use Rattle.bac_apdu.specs.Views.{apdu_view};
 ghost use Rattle.bac_service.specs.Services.{reads_reply};
-ghost use Rattle.bac_protocol.specs.Client.{client_gets, gets_refusal, open_gets};
+ghost use Rattle.bac_protocol.specs.Client.{client_on_apdu, on_refusal, open_on_apdu};
 ghost use Rattle.bac_protocol.specs.Wire.{is_from_server};
 ghost use Rattle.bac_requester.specs.Reacts.{Does, Hears, Reacts};
 ghost use Rattle.bac_requester.specs.TransactionViews.{held_view};
 ghost use Rattle.bac_transaction.specs.Views.{context_view};
 
-use crate::await_confirmation::await_confirmation_gets;
+use crate::await_confirmation::await_confirmation_on_apdu;
 use crate::ending::Ending;
 use crate::held::TransactionSlot;
 use crate::reaction::{Reaction, ends, nothing, stays};
-use crate::segmented_conf::gets_next_segment;
-use crate::segmented_request::gets_segment_ack;
+use crate::segmented_conf::on_next_segment;
+use crate::segmented_request::on_segment_ack;
 use crate::ticket::{ClientTransaction, Phase};
 use bac_apdu::Apdu;
 use bac_transaction::Context;
@@ -21,13 +21,13 @@ use bac_value::NoMemory;
 use std::alloc::Global;
 
 /// A Reject or an Abort of the server ends the ticket; nothing else is looked at.
-pub(crate) fn gets_refusal(
+pub(crate) fn on_refusal(
     alloc: Global,
     context: &Context,
     ticket: &ClientTransaction,
     apdu: &Apdu<'_>,
 ) -> Reaction
-    ensures { Does context.now ticket.now (gets_refusal (apdu_view apdu.now)) result ticket.now }
+    ensures { Does context.now ticket.now (on_refusal (apdu_view apdu.now)) result ticket.now }
 {
     match *apdu {
         // RejectPDU_Received
@@ -56,13 +56,13 @@ fn is_from_server(apdu: &Apdu<'_>) -> bool
 
 impl ClientTransaction {
     /// An APDU that a server sends comes, in the state that the ticket is in.
-    fn open_gets(
+    fn open_on_apdu(
         &mut self,
         alloc: Global,
         context: &Context,
         apdu: &Apdu<'_>,
     ) -> Result<Reaction, NoMemory>
-        ensures { Reacts context.now self.old (open_gets (context_view context.now) reads_reply self.old.ask self.old.phase (apdu_view apdu.now)) result self.new }
+        ensures { Reacts context.now self.old (open_on_apdu (context_view context.now) reads_reply self.old.ask self.old.phase (apdu_view apdu.now)) result self.new }
     {
         let ClientTransaction { core, phase } = self;
         match phase {
@@ -74,20 +74,20 @@ impl ClientTransaction {
                         number,
                         window,
                         ..
-                    } => gets_segment_ack(alloc, context, core, phase, all_sent, number, window),
-                    _ if all_sent => await_confirmation_gets(alloc, context, self, apdu),
-                    _ => Ok(gets_refusal(alloc, context, self, apdu)),
+                    } => on_segment_ack(alloc, context, core, phase, all_sent, number, window),
+                    _ if all_sent => await_confirmation_on_apdu(alloc, context, self, apdu),
+                    _ => Ok(on_refusal(alloc, context, self, apdu)),
                 }
             }
-            Phase::AwaitConfirmation => await_confirmation_gets(alloc, context, self, apdu),
+            Phase::AwaitConfirmation => await_confirmation_on_apdu(alloc, context, self, apdu),
             Phase::SegmentedConf { incoming } => match *apdu {
                 Apdu::ComplexAck {
                     segment: Some(segment),
                     choice,
                     service,
                     ..
-                } => gets_next_segment(alloc, context, core, incoming, segment, choice, service),
-                _ => Ok(gets_refusal(alloc, context, self, apdu)),
+                } => on_next_segment(alloc, context, core, incoming, segment, choice, service),
+                _ => Ok(on_refusal(alloc, context, self, apdu)),
             },
         }
     }
@@ -99,7 +99,7 @@ impl ClientTransaction {
         context: &Context,
         apdu: &Apdu<'_>,
     ) -> Result<Reaction, NoMemory>
-        ensures { Reacts context.now self.old (client_gets (context_view context.now) reads_reply self.old (apdu_view apdu.now)) result self.new }
+        ensures { Reacts context.now self.old (client_on_apdu (context_view context.now) reads_reply self.old (apdu_view apdu.now)) result self.new }
     {
         if !is_from_server(apdu) {
             return Ok(stays(alloc, context, self));
@@ -107,7 +107,7 @@ impl ClientTransaction {
         if self.is_expired(context.moment) {
             return Ok(ends(alloc, Ending::Expired));
         }
-        self.open_gets(alloc, context, apdu)
+        self.open_on_apdu(alloc, context, apdu)
     }
 }
 

@@ -9,7 +9,7 @@ ghost use Rattle.bac_service.specs.Values.{choice_of};
 ghost use Rattle.bac_service.specs.Views.{owned_request_view, request_view};
 ghost use Rattle.bac_protocol.specs.Context.{Settings as Set};
 ghost use Rattle.bac_protocol.specs.declared.times.TheConstants.{REST as REST_TIME};
-ghost use Rattle.bac_transaction.specs.Ends.{CannotGo, first_after, client_asks, client_hears, clients_tick, is_slot_held};
+ghost use Rattle.bac_transaction.specs.Ends.{CannotGo, first_after, requester_ask, requester_on_apdu, requester_tick, is_slot_held};
 ghost use Rattle.bac_transaction.specs.Tables.{IsOrderlyClient};
 ghost use Rattle.bac_transaction.specs.Ends.AskOutcome.{Refused};
 ghost use Rattle.bac_transaction.specs.Views.{settings_view};
@@ -92,7 +92,7 @@ impl<S: SlotTable<PeerKey, Client> + Drop> Requester<S> {
 
     /// From now on its invoke IDs begin at that one: an ask takes the least that is not held for the peer from it on, and where all up to 255 are held, the
     /// least of all.
-    pub fn begin_ids_at(&mut self, first_id: u8)
+    pub fn set_first_invoke_id(&mut self, first_id: u8)
         ensures { self.new ≡ record self.old { first_id = first_id } }
     {
         self.first_id = first_id;
@@ -106,7 +106,7 @@ impl<S: SlotTable<PeerKey, Client> + Drop> Requester<S> {
     }
 
     /// Asks a peer, of another link than the node's own, that takes so much for a request. It takes an invoke ID that is not held for the peer, as
-    /// `begin_ids_at` says, and a slot that is not held; while it waits after a restart, it is as if all invoke IDs were held. After a fault nothing has changed; `ClockBack` and `SelfPeer` are never answered, and memory is taken only where no other
+    /// `set_first_invoke_id` says, and a slot that is not held; while it waits after a restart, it is as if all invoke IDs were held. After a fault nothing has changed; `ClockBack` and `SelfPeer` are never answered, and memory is taken only where no other
     /// fault holds.
     pub fn ask(
         &mut self,
@@ -118,7 +118,7 @@ impl<S: SlotTable<PeerKey, Client> + Drop> Requester<S> {
         request: &OwnedRequest,
     ) -> Result<Asked, AskFault>
         ensures spelled { SpellsRequest (choice_of (owned_request_view request.now)) (owned_request_view request.now) (request_spelling (owned_request_view request.now)) }
-        ensures asks { Asks (client_asks (settings_view settings.now) now (peer_view peer.now) (limits_view limits.now)
+        ensures asks { Asks (requester_ask (settings_view settings.now) now (peer_view peer.now) (limits_view limits.now)
             (choice_of (owned_request_view request.now)) (request_spelling (owned_request_view request.now)) self.old) self.old result self.new }
     {
         self.ask_for(alloc, settings, now, peer, limits, request.as_request())
@@ -135,7 +135,7 @@ impl<S: SlotTable<PeerKey, Client> + Drop> Requester<S> {
         request: Request<'_>,
     ) -> Result<Asked, AskFault>
         ensures spelled { SpellsRequest (choice_of (request_view request.entry)) (request_view request.entry) (request_spelling (request_view request.entry)) }
-        ensures asks { Asks (client_asks (settings_view settings.now) now (peer_view peer.now) (limits_view limits.now)
+        ensures asks { Asks (requester_ask (settings_view settings.now) now (peer_view peer.now) (limits_view limits.now)
             (choice_of (request_view request.entry)) (request_spelling (request_view request.entry)) self.old) self.old result self.new }
     {
         let way = match RequestWay::of(settings, limits, request_len(request)) {
@@ -167,7 +167,7 @@ impl<S: SlotTable<PeerKey, Client> + Drop> Requester<S> {
         peer: &Peer,
         apdu: &Apdu<'_>,
     ) -> Result<Turn, NoMemory>
-        ensures { Hears (client_hears (settings_view settings.now) reads_reply now (peer_view peer.now) (apdu_view apdu.now) self.old) self.old result self.new }
+        ensures { Hears (requester_on_apdu (settings_view settings.now) reads_reply now (peer_view peer.now) (apdu_view apdu.now) self.old) self.old result self.new }
     {
         let key = PeerKey {
             peer: *peer,
@@ -189,7 +189,7 @@ impl<S: SlotTable<PeerKey, Client> + Drop> Requester<S> {
         settings: &Settings,
         now: u64,
     ) -> Result<Due, NoMemory>
-        ensures { IfOk result (IsDue (clients_tick (settings_view settings.now) now self.now)) }
+        ensures { IfOk result (IsDue (requester_tick (settings_view settings.now) now self.now)) }
     {
         if self.aged.ages.is_quiet(now) {
             return Ok(nothing_due(alloc));
@@ -200,7 +200,7 @@ impl<S: SlotTable<PeerKey, Client> + Drop> Requester<S> {
     /// The end after a tick, of which `prepare_tick` says what is sent and ended. It takes no memory. Before the first moment at which anything can be
     /// due no slot is looked at.
     pub fn commit_tick(&mut self, settings: &Settings, now: u64)
-        ensures { self.new ≡ (clients_tick (settings_view settings.now) now self.old).end }
+        ensures { self.new ≡ (requester_tick (settings_view settings.now) now self.old).end }
     {
         tick(&mut self.aged, settings, now);
     }
@@ -208,8 +208,8 @@ impl<S: SlotTable<PeerKey, Client> + Drop> Requester<S> {
     /// The first moment, in milliseconds, at which the timer of a ticket is due or a ticket is expired (clause 5.4.4); the last moment of all where no ticket
     /// is open. A tick before it does nothing; one from it on does something. It looks at each slot.
     pub fn next_due(&self) -> u64
-        ensures rests { (settings : Set) (now : ℕ) → now < result → clients_tick settings now self.now ≡ record { end = self.now; sends = []; ended = [] } }
-        ensures moves { (settings : Set) (now : ℕ) → result ≤ now → result < LAST_MOMENT → (clients_tick settings now self.now).end ≢ self.now }
+        ensures rests { (settings : Set) (now : ℕ) → now < result → requester_tick settings now self.now ≡ record { end = self.now; sends = []; ended = [] } }
+        ensures moves { (settings : Set) (now : ℕ) → result ≤ now → result < LAST_MOMENT → (requester_tick settings now self.now).end ≢ self.now }
     {
         first_due(&self.aged.table, 0)
     }

@@ -7,7 +7,7 @@ ghost use Rattle.bac_segment.specs.Window.{takes};
 ghost use Rattle.bac_segment.specs.Window.Taking.{TooLong};
 ghost use Rattle.bac_segment.specs.declared.incoming.Step.TheVariants.{Whole};
 ghost use Rattle.bac_service.specs.Services.{reads_reply};
-ghost use Rattle.bac_protocol.specs.Client.{answered_with, client_ack, conf_segment_taken, gets_next_segment};
+ghost use Rattle.bac_protocol.specs.Client.{answered_with, client_ack, conf_segment_taken, on_next_segment};
 ghost use Rattle.bac_requester.specs.Fits.{IsShort};
 ghost use Rattle.bac_requester.specs.Reacts.{IsClosing, Reacts, TakesSegment};
 ghost use Rattle.bac_transaction.specs.Views.{context_view};
@@ -124,7 +124,7 @@ pub(crate) fn takes_segment(
 }
 
 /// A further segment of a ComplexACK comes in SEGMENTED_CONF.
-pub(crate) fn gets_next_segment(
+pub(crate) fn on_next_segment(
     alloc: Global,
     context: &Context,
     core: &mut RequestState,
@@ -136,7 +136,7 @@ pub(crate) fn gets_next_segment(
     requires { IsShort core.old.whole core.old.outgoing }
     ensures short { IsShort core.new.whole core.new.outgoing }
     ensures reacts { Reacts context.now (ticket_view core.old (Conf incoming.old))
-        (gets_next_segment (context_view context.now) reads_reply (ask_view core.old) incoming.old (segment_view segment) choice octets.now) result
+        (on_next_segment (context_view context.now) reads_reply (ask_view core.old) incoming.old (segment_view segment) choice octets.now) result
         (ticket_view core.new (Conf incoming.new)) }
 {
     if choice != core.choice {

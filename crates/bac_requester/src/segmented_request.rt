@@ -17,7 +17,7 @@ use bac_value::NoMemory;
 use std::alloc::Global;
 
 /// A SegmentACK of the server comes in SEGMENTED_REQUEST.
-pub(crate) fn gets_segment_ack(
+pub(crate) fn on_segment_ack(
     alloc: Global,
     context: &Context,
     core: &mut RequestState,

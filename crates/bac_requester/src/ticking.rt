@@ -1,6 +1,6 @@
 //! What a tick of all tickets sends and ends.
 ghost use Rattle.std.specs.Prelude.{◌≡◌, ℕ, [], ◌++◌, IfOk, OnOk, map};
-ghost use Rattle.bac_transaction.specs.Ends.{clients_tick};
+ghost use Rattle.bac_transaction.specs.Ends.{requester_tick};
 ghost use Rattle.bac_transaction.specs.Views.{peer_key_view, settings_view};
 ghost use Rattle.bac_requester.specs.Turns.{IsDue, IsSlotTold};
 ghost use Rattle.bac_requester.specs.Views.{end_of, finish_view, finishes_of};
@@ -58,7 +58,7 @@ pub(crate) fn prepare<S: SlotTable<PeerKey, Client>>(
     table: &S,
     now: u64,
 ) -> Result<Due, NoMemory>
-    ensures { IfOk result (IsDue (clients_tick (settings_view settings.now) now (end_of (S.slots table.now) (S.capacity table.now) 0 0 0))) }
+    ensures { IfOk result (IsDue (requester_tick (settings_view settings.now) now (end_of (S.slots table.now) (S.capacity table.now) 0 0 0))) }
 {
     let mut due = Due {
         sends: Vec::new(alloc),

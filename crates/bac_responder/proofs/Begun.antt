@@ -43,12 +43,12 @@ module _ (c : Context) (service : Service) where
   taken_begun e h number window Taking.TooLong = h
 
   request_begun : (free : Bool) (choice : ℕ) (limits : Limits) (octets : Octets)
-      → HasBegun c.now (server.idle_gets_request c service None free choice limits octets).entry
+      → HasBegun c.now (server.idle_on_request c service None free choice limits octets).entry
   request_begun true choice limits octets = so_begun (server.begins c choice limits (Some octets)) refl [] octets (service choice octets)
   request_begun false choice limits octets = tt
 
   segment_begun : (free : Bool) (choice : ℕ) (limits : Limits) (g : Segment) (octets : Octets)
-      → HasBegun c.now (server.idle_gets_segment c service None free choice limits g octets).entry
+      → HasBegun c.now (server.idle_on_segment c service None free choice limits g octets).entry
   segment_begun free choice limits g octets = go (nat_eq g.number 0) free
     where
       go : (b d : Bool) → HasBegun c.now (if not b then server.rests None [] else if d then server.request_segment_taken c service
@@ -60,16 +60,16 @@ module _ (c : Context) (service : Service) where
       go true false = tt
       go false d = tt
 
-  idle_begun : (free : Bool) (a : Apdu) → HasBegun c.now (server.idle_gets c service None free a).entry
+  idle_begun : (free : Bool) (a : Apdu) → HasBegun c.now (server.idle_on_apdu c service None free a).entry
   idle_begun free (ConfirmedRequest limits i None choice octets) = request_begun free choice limits octets
   idle_begun free (ConfirmedRequest limits i (Some g) choice octets) = segment_begun free choice limits g octets
   idle_begun free _ = tt
 
-  begins_now : (free : Bool) (a : Apdu) (d : ServerTransaction) → (server.idle_gets c service None free a).entry ≡ Some d → d.begin ≡ c.now
+  begins_now : (free : Bool) (a : Apdu) (d : ServerTransaction) → (server.idle_on_apdu c service None free a).entry ≡ Some d → d.begin ≡ c.now
   begins_now free a d is = subst (λ (o : Option ServerTransaction). HasBegun c.now o) is (idle_begun free a)
 
   pub idle_begins_now : (peer : PeerView) (s t : Store) (free : Bool) (a : Apdu) (r : Result IdleReaction NoMemory)
-      → IdleReacts (λ dead. server.idle_gets c service dead free a) peer s r t → BeginsAt c.now r
+      → IdleReacts (λ dead. server.idle_on_apdu c service dead free a) peer s r t → BeginsAt c.now r
   idle_begins_now peer s t free a (Ok (Stays sends)) does = tt
   idle_begins_now peer s t free a (Ok (Begins x)) does = begins_now free a x.entry (does None).entry_is
   idle_begins_now peer s t free a (Err e) does = tt

@@ -5,7 +5,7 @@ use Rattle.bac_slots.proofs.SlotAges.{each_more}
 use Rattle.bac_transaction.specs.declared.settings.Settings.{Settings}
 use Rattle.bac_protocol.specs.declared.times.TheConstants.{KEEP}
 use Rattle.bac_protocol.specs.Server.{ServerTransaction}
-use Rattle.bac_transaction.specs.Ends.{ServerEnd, ServerSlot, first_after, context_of, server_tick_sends, server_ticked, servers_tick}
+use Rattle.bac_transaction.specs.Ends.{ServerEnd, ServerSlot, first_after, context_of, server_tick_sends, server_ticked, responder_tick}
 use Rattle.bac_transaction.specs.Sends.{Datagram, IsSent, Pairwise, to_all}
 use Rattle.bac_transaction.specs.Views.{peer_key_view, settings_view, slot_view, slots_view}
 use Rattle.bac_transaction.specs.declared.peer_key.PeerKey.{PeerKey}
@@ -25,14 +25,14 @@ ticked_viewed c now [] = refl
 ticked_viewed c now (s ∷ slots) = ap (λ l. server_ticked (settings_view c) now (slot_view s) ∷ l) (ticked_viewed c now slots)
 
 pub committed : (c : Settings) (now : ℕ) (old new : Slots) (capacity room : ℕ) (restart : Option ℕ) → new ≡ map (changed (ticked_in entry_ticked c now)) old → room ≡ capacity
-    → end_of new room restart ≡ (servers_tick (settings_view c) now (end_of old capacity restart)).end
+    → end_of new room restart ≡ (responder_tick (settings_view c) now (end_of old capacity restart)).end
 committed c now old new capacity room restart e f =
     let with_slots : List ServerSlot → ℕ → ServerEnd = λ l k. record { slots = l; capacity = k; serves_from = first_after KEEP restart } in
     ap (λ l. with_slots (slots_view l) room) e ∙ ap (λ l. with_slots l room) (ticked_viewed c now old)
     ∙ ap (λ k. with_slots (map (server_ticked (settings_view c) now) (slots_view old)) k) f
 
 pub nothing_due : (c : Settings) (now from due : ℕ) (started : from ≤ now) (before : now < due) (slots : Slots) (capacity : ℕ) (restart : Option ℕ) (sent : List Datagram)
-    → AreQuiet IsQuiet from due slots → sent ≡ [] → Pairwise IsSent (servers_tick (settings_view c) now (end_of slots capacity restart)).sends sent
+    → AreQuiet IsQuiet from due slots → sent ≡ [] → Pairwise IsSent (responder_tick (settings_view c) now (end_of slots capacity restart)).sends sent
 nothing_due c now from due started before slots capacity restart sent q no_sent =
     told_none ServerTransaction IsSent (server_tick_sends (settings_view c) now) slots sent
     (each_more (λ s. IsQuiet from due s.value) (λ s. server_tick_sends (settings_view c) now (slot_view s) ≡ []) slots

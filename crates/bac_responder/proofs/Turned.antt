@@ -9,7 +9,7 @@ use Rattle.bac_slots.specs.Slots.{value_at}
 use Rattle.bac_store.specs.Stores.{Store}
 use Rattle.bac_protocol.specs.declared.times.TheConstants.{KEEP}
 use Rattle.bac_protocol.specs.Context.{Context}
-use Rattle.bac_protocol.specs.Server.{ServerTransaction, Effect, Reaction, Service, is_live, is_none_live, live_gets, idle_gets, server_gets}
+use Rattle.bac_protocol.specs.Server.{ServerTransaction, Effect, Reaction, Service, is_live, is_none_live, live_on_apdu, idle_on_apdu, server_on_apdu}
 use Rattle.bac_protocol.specs.Server.{begins, request_segment_taken, rests, server_abort}
 use Rattle.bac_protocol.specs.Service.{OTHER}
 use Rattle.bac_responder.specs.Aging.{begins_request}
@@ -64,14 +64,14 @@ goes_still now e key v (Some d) is dead =
     (dead_of (is_live now d) dead)
 
 pub idle_is : (c : Context) (service : Service) (o : Option ServerTransaction) (free : Bool) (a : Apdu) → is_none_live c.now o ≡ true
-    → server_gets c service o free a ≡ idle_gets c service o free a
+    → server_on_apdu c service o free a ≡ idle_on_apdu c service o free a
 idle_is c service None free a dead = refl
 idle_is c service (Some d) free a dead =
-    ap (λ x. if x then live_gets c service d d.state a else idle_gets c service (Some d) free a) (dead_of (is_live c.now d) dead)
+    ap (λ x. if x then live_on_apdu c service d d.state a else idle_on_apdu c service (Some d) free a) (dead_of (is_live c.now d) dead)
 
 -- whether a slot is free is asked only where a request begins
 pub where_it_begins : (c : Context) (service : Service) (o : Option ServerTransaction) (free : Bool) (a : Apdu)
-    → idle_gets c service o free a ≡ idle_gets c service o (begins_request a && free) a
+    → idle_on_apdu c service o free a ≡ idle_on_apdu c service o (begins_request a && free) a
 where_it_begins c service o free (ConfirmedRequest limits id None choice octets) = refl
 where_it_begins c service o free (ConfirmedRequest limits id (Some segment) choice octets) =
     go (nat_eq segment.number 0)
@@ -93,23 +93,23 @@ its_place a false h = go (begins_request a) h
     go false h = h
 
 pub live_is : (c : Context) (service : Service) (o : Option ServerTransaction) (d : ServerTransaction) (free : Bool) (a : Apdu) → o ≡ Some d → is_none_live c.now o ≡ false
-    → server_gets c service o free a ≡ live_gets c service d d.state a
+    → server_on_apdu c service o free a ≡ live_on_apdu c service d d.state a
 live_is c service o d free a is live =
     let alive : is_live c.now d ≡ true = live_of (is_live c.now d) (ap (is_none_live c.now) (sym is) ∙ live) in
-    ap (λ x. server_gets c service x free a) is ∙ ap (λ x. if x then live_gets c service d d.state a else idle_gets c service (Some d) free a) alive
+    ap (λ x. server_on_apdu c service x free a) is ∙ ap (λ x. if x then live_on_apdu c service d d.state a else idle_on_apdu c service (Some d) free a) alive
 
 -- an entry that goes on is live
 same_begin : (e : ServerTransaction) (o : Option ServerTransaction) (d : ServerTransaction) → StaysIn e o → o ≡ Some d → d.begin ≡ e.begin
 same_begin e None d h is = absurd cc
 same_begin e (Some x) d h is = let same : x ≡ d = cc in ap (λ (y : ServerTransaction). y.begin) (sym same) ∙ h.0.begin
 
-pub live_begun : (c : Context) (service : Service) (e d : ServerTransaction) (a : Apdu) → is_live c.now e ≡ true → (live_gets c service e e.state a).entry ≡ Some d
+pub live_begun : (c : Context) (service : Service) (e d : ServerTransaction) (a : Apdu) → is_live c.now e ≡ true → (live_on_apdu c service e e.state a).entry ≡ Some d
     → d.begin ≡ e.begin
 live_begun c service e d a live is =
-    let gets = ap (λ (b : Bool). (if b then live_gets c service e e.state a else idle_gets c service (Some e) true a).entry) live ∙ is in
+    let gets = ap (λ (b : Bool). (if b then live_on_apdu c service e e.state a else idle_on_apdu c service (Some e) true a).entry) live ∙ is in
     same_begin e _ d (live_stays_law.gets c service e true a live) gets
 
-pub stays_live : (c : Context) (service : Service) (e d : ServerTransaction) (a : Apdu) → is_live c.now e ≡ true → (live_gets c service e e.state a).entry ≡ Some d
+pub stays_live : (c : Context) (service : Service) (e d : ServerTransaction) (a : Apdu) → is_live c.now e ≡ true → (live_on_apdu c service e e.state a).entry ≡ Some d
     → is_live c.now d ≡ true
 stays_live c service e d a live is = ap (λ k. nat_le (c.now - k) KEEP) (live_begun c service e d a live is) ∙ live
 

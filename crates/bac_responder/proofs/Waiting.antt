@@ -6,7 +6,7 @@ use Rattle.bac_slots.proofs.SlotAges.{each_more}
 use Rattle.bac_protocol.specs.declared.times.TheConstants.{KEEP}
 use Rattle.bac_protocol.specs.Context.{Settings}
 use Rattle.bac_protocol.specs.Server.{ServerTransaction, is_live}
-use Rattle.bac_transaction.specs.Ends.{ServerEnd, ServerSlot, ServerTurn, context_of, entry_or, server_tick_sends, server_ticked, servers_tick}
+use Rattle.bac_transaction.specs.Ends.{ServerEnd, ServerSlot, ServerTurn, context_of, entry_or, server_tick_sends, server_ticked, responder_tick}
 use Rattle.bac_transaction.specs.Sends.{Send, to_all}
 use Rattle.bac_slots.specs.Ages.{first_due}
 use Rattle.bac_slots.proofs.Fronts.{all_rest, one_moves}
@@ -22,13 +22,13 @@ module _ (c : Settings) (now from due : ℕ) (started : from ≤ now) (before : 
   slot_silent : (s : ServerSlot) → IsQuiet from due s.value → server_tick_sends c now s ≡ []
   slot_silent s q = ap (λ r. to_all s.key.peer r.sends) (stays (context_of c now s.key) from due started before s.value q)
 
-  pub servers_rest : (e : ServerEnd) → EachSlot (λ s. IsQuiet from due s.value) e.slots → servers_tick c now e ≡ record { end = e; sends = []; act = None }
+  pub servers_rest : (e : ServerEnd) → EachSlot (λ s. IsQuiet from due s.value) e.slots → responder_tick c now e ≡ record { end = e; sends = []; act = None }
   servers_rest e q =
       let turn : List ServerSlot → List Send → ServerTurn = λ l x. record { end = record e { slots = l }; sends = x; act = None } in
       let quiet : (s : ServerSlot) → Type 0 = λ s. IsQuiet from due s.value in
       let slots = all_rest (server_ticked c now) e.slots (each_more quiet (λ s. server_ticked c now s ≡ s) e.slots slot_rests q) in
       let sends = none_told ServerTransaction (server_tick_sends c now) e.slots (each_more quiet (λ s. server_tick_sends c now s ≡ []) e.slots slot_silent q) in
-      ap (λ l. turn l (servers_tick c now e).sends) slots ∙ ap (λ l. turn e.slots l) sends
+      ap (λ l. turn l (responder_tick c now e).sends) slots ∙ ap (λ l. turn e.slots l) sends
 
 -- When a timer is due.
 slot_moves : (c : Settings) (from due : ℕ) (s : ServerSlot) → due < LAST_MOMENT → due_of from s.value ≡ due → server_ticked c (max from due) s ≡ s → ⊥
@@ -46,7 +46,7 @@ slot_moves c from due s within is still =
     go false b dead any at = absurd (omega (arith, at, within))
 
 pub servers_move : (c : Settings) (from due : ℕ) (e : ServerEnd) → due < LAST_MOMENT → first_due (due_of from) e.slots ≡ due
-    → (servers_tick c (max from due) e).end ≡ e → ⊥
+    → (responder_tick c (max from due) e).end ≡ e → ⊥
 servers_move c from due e within is same =
     one_moves (due_of from) (server_ticked c (max from due)) due e.slots within (each e.slots) is (ap (λ (y : ServerEnd). y.slots) same)
   where

@@ -8,7 +8,7 @@ use Rattle.bac_transaction.specs.Services.{service_of}
 use Rattle.bac_transaction.specs.declared.context.Context as code
 use Rattle.bac_transaction.specs.Keys.{same_key}
 use Rattle.bac_store.specs.Stores.{Store}
-use Rattle.bac_protocol.specs.Server.{ServerTransaction, server_gets}
+use Rattle.bac_protocol.specs.Server.{ServerTransaction, server_on_apdu}
 use Rattle.bac_value.specs.declared.memory.NoMemory.{NoMemory}
 use Rattle.bac_protocol.specs.declared.times.TheConstants.{KEEP}
 use Rattle.bac_transaction.specs.Ends.{ServerEnd, ServerTurn, first_after, is_free, server_goes}
@@ -34,7 +34,7 @@ end_of slots capacity restart = record { slots = slots_view slots; capacity = ca
 abbrev pub turn_of : code.Context → Store → Apdu → ServerEnd → ServerTurn
 turn_of c s a e =
     server_goes c.moment e (peer_key_view c.key)
-    (server_gets (context_view c) (service_of s) (value_at same_key (peer_key_view c.key) e.slots) (is_free c.moment e) a)
+    (server_on_apdu (context_view c) (service_of s) (value_at same_key (peer_key_view c.key) e.slots) (is_free c.moment e) a)
 
 -- the turn is done, or memory ran out, and the end and the store are as they were
 abbrev pub Serves : ServerTurn → ServerEnd → Store → Result Served NoMemory → ServerEnd → Store → Type 0

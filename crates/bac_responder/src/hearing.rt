@@ -13,7 +13,7 @@ ghost use Rattle.bac_responder.specs.Views.{acted_view, end_of, turn_of, Serves}
 
 use crate::aging::ServerRules;
 use crate::served::{Act, Served};
-use crate::{Answered, Effect, IdleReaction, Reaction, ServerTransaction, idle_gets, live_gets};
+use crate::{Answered, Effect, IdleReaction, Reaction, ServerTransaction, idle_on_apdu, live_on_apdu};
 use bac_apdu::Apdu;
 use bac_protocol::times::KEEP;
 use bac_slots::{AgedTable, SlotTable, enter, has_room};
@@ -80,7 +80,7 @@ fn idle_hears<S: SlotTable<PeerKey, ServerTransaction>>(
     ensures known { IsKnownBy context.now.moment aged.old.ages.latest → IsKnownBy context.now.moment aged.new.ages.latest }
 {
     let free = has_place(aged, restart, context.moment, apdu);
-    match idle_gets(alloc, context, free, apdu, store)? {
+    match idle_on_apdu(alloc, context, free, apdu, store)? {
         IdleReaction::Stays(sends) => Ok(Served { sends, act: None }),
         IdleReaction::Begins(reaction) => {
             let Reaction {
@@ -116,7 +116,7 @@ pub(crate) fn hears<S: SlotTable<PeerKey, ServerTransaction>>(
     if !slot.is_live(context.moment) {
         return idle_hears(alloc, context, aged, restart, apdu, store);
     }
-    match live_gets(alloc, context, slot, apdu, store) {
+    match live_on_apdu(alloc, context, slot, apdu, store) {
         Ok(answered) => {
             let due = slot.due(from);
             aged.ages.comes_due(due);

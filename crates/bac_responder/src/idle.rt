@@ -29,7 +29,7 @@ fn request_comes(
     octets: &[u8],
     store: &mut Store,
 ) -> Result<IdleReaction, NoMemory>
-    ensures does { IdleReacts (λ dead. machine.idle_gets_request (context_view context.now) (service_of store.old) dead free terms.choice
+    ensures does { IdleReacts (λ dead. machine.idle_on_request (context_view context.now) (service_of store.old) dead free terms.choice
         (limits_view terms.limits) octets.now) (peer_of context.now) store.old result store.new }
     ensures free { BeginsWhereFree free result }
 {
@@ -69,7 +69,7 @@ fn segment_comes(
     octets: &[u8],
     store: &mut Store,
 ) -> Result<IdleReaction, NoMemory>
-    ensures does { IdleReacts (λ dead. machine.idle_gets_segment (context_view context.now) (service_of store.old) dead free terms.choice
+    ensures does { IdleReacts (λ dead. machine.idle_on_segment (context_view context.now) (service_of store.old) dead free terms.choice
         (limits_view terms.limits) (segment_view segment) octets.now) (peer_of context.now) store.old result store.new }
     ensures free { BeginsWhereFree free result }
 {
@@ -96,14 +96,14 @@ fn segment_comes(
 ///
 /// A request is performed, and segment 0 of one begins to be received, where a slot is free; otherwise an Abort with reason 0 is sent, and nothing is
 /// remembered. All else is ignored. An Err says that memory was refused; the store is then as before.
-pub fn idle_gets(
+pub fn idle_on_apdu(
     alloc: Global,
     context: &Context,
     free: bool,
     apdu: &Apdu<'_>,
     store: &mut Store,
 ) -> Result<IdleReaction, NoMemory>
-    ensures does { IdleReacts (λ dead. machine.idle_gets (context_view context.now) (service_of store.old) dead free (apdu_view apdu.now)) (peer_of context.now)
+    ensures does { IdleReacts (λ dead. machine.idle_on_apdu (context_view context.now) (service_of store.old) dead free (apdu_view apdu.now)) (peer_of context.now)
         store.old result store.new }
     ensures free { BeginsWhereFree free result }
     ensures begin { BeginsAt context.now.moment result }

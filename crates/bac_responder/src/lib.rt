@@ -33,8 +33,8 @@ mod timers;
 
 pub use effect::Effect;
 pub use entry::ServerTransaction;
-pub use idle::idle_gets;
-pub use live::live_gets;
+pub use idle::idle_on_apdu;
+pub use live::live_on_apdu;
 pub use reaction::{Answered, IdleReaction, Reaction};
 pub use responder::Responder;
 pub use served::{Act, Served};

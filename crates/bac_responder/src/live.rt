@@ -15,8 +15,8 @@ use crate::entry::{Origin, ServerTransaction, State};
 use crate::kept_reply::KeptReply;
 use crate::reaction::{Answered, Reaction};
 use crate::repeats::is_repeated;
-use crate::segmented_request::{segmented_request_gets, stays_receiving};
-use crate::segmented_response::segmented_response_gets;
+use crate::segmented_request::{segmented_request_on_apdu, stays_receiving};
+use crate::segmented_response::segmented_response_on_apdu;
 use bac_apdu::Apdu;
 use bac_protocol::reasons::OTHER;
 use bac_store::Store;
@@ -34,7 +34,7 @@ fn done_sends(
     apdu: &Apdu<'_>,
 ) -> Result<Vec<Datagram>, NoMemory>
     requires { IsShort (kept_reply_view invoke_id origin.now.terms.choice kept.now) }
-    ensures { IfOk result (λ v. Pairwise IsSent (to_all (peer_of context.now) (machine.done_gets (context_view context.now)
+    ensures { IfOk result (λ v. Pairwise IsSent (to_all (peer_of context.now) (machine.done_on_apdu (context_view context.now)
         (entry_of origin.now (Done (kept_reply_view invoke_id origin.now.terms.choice kept.now))) (kept_reply_view invoke_id origin.now.terms.choice kept.now)
         (apdu_view apdu.now)).sends) v.items) }
 {
@@ -59,13 +59,13 @@ fn done_sends(
 }
 
 /// After a reassembly that was given up, each request and each segment gets an Abort.
-fn dropped_gets(
+fn dropped_on_apdu(
     alloc: Global,
     context: &Context,
     origin: Origin,
     apdu: &Apdu<'_>,
 ) -> Result<Reaction, ServerTransaction>
-    ensures { (s : Objects) → Reacts (machine.dropped_gets (context_view context.now) (entry_of origin Dropped) (apdu_view apdu.now))
+    ensures { (s : Objects) → Reacts (machine.dropped_on_apdu (context_view context.now) (entry_of origin Dropped) (apdu_view apdu.now))
         (peer_of context.now) (entry_of origin Dropped) s result s }
 {
     let entry = ServerTransaction {
@@ -87,7 +87,7 @@ fn stands(
     entry: &mut ServerTransaction,
     apdu: &Apdu<'_>,
 ) -> Option<Result<Vec<Datagram>, NoMemory>>
-    ensures { (s : Objects) → Stands (machine.live_gets (context_view context.now) (service_of s) entry.old entry.old.state (apdu_view apdu.now))
+    ensures { (s : Objects) → Stands (machine.live_on_apdu (context_view context.now) (service_of s) entry.old entry.old.state (apdu_view apdu.now))
         (peer_of context.now) entry.old entry.new s result }
 {
     if let State::Done { invoke_id, kept } = &entry.state {
@@ -108,21 +108,21 @@ fn taken_gets(
     store: &mut Store,
 ) -> Result<Reaction, ServerTransaction>
     requires { is_done entry.state ≡ false }
-    ensures { Reacts (machine.live_gets (context_view context.now) (service_of store.old) entry entry.state (apdu_view apdu.now)) (peer_of context.now) entry
+    ensures { Reacts (machine.live_on_apdu (context_view context.now) (service_of store.old) entry entry.state (apdu_view apdu.now)) (peer_of context.now) entry
         store.old result store.new }
 {
     let ServerTransaction { origin, state } = entry;
     match state {
         State::SegmentedRequest { incoming, since } => {
-            segmented_request_gets(alloc, context, origin, incoming, since, apdu, store)
+            segmented_request_on_apdu(alloc, context, origin, incoming, since, apdu, store)
         }
         State::Done { .. } => unreachable!(),
         State::SegmentedResponse {
             outgoing,
             transfer,
             since,
-        } => segmented_response_gets(alloc, context, origin, outgoing, transfer, since, apdu),
-        State::Dropped => dropped_gets(alloc, context, origin, apdu),
+        } => segmented_response_on_apdu(alloc, context, origin, outgoing, transfer, since, apdu),
+        State::Dropped => dropped_on_apdu(alloc, context, origin, apdu),
     }
 }
 
@@ -135,7 +135,7 @@ fn moves(
     store: &mut Store,
 ) -> Result<Answered, NoMemory>
     requires { is_done entry.old.state ≡ false }
-    ensures { Answers (machine.live_gets (context_view context.now) (service_of store.old) entry.old entry.old.state (apdu_view apdu.now))
+    ensures { Answers (machine.live_on_apdu (context_view context.now) (service_of store.old) entry.old entry.old.state (apdu_view apdu.now))
         (peer_of context.now) entry.old entry.new store.old result store.new }
 {
     let before = std::mem::replace(entry, ServerTransaction::placeholder());
@@ -161,14 +161,14 @@ fn moves(
 /// A request that is being received goes on with its next segment, and is performed with its last one; a kept reply is sent again, or its transfer in
 /// segments goes on; another request with the invoke ID, and each request after a reassembly that was given up, gets an Abort with reason 0. What the
 /// state does not name is ignored. An Err says that memory was refused; the entry and the store are then as before.
-pub fn live_gets(
+pub fn live_on_apdu(
     alloc: Global,
     context: &Context,
     entry: &mut ServerTransaction,
     apdu: &Apdu<'_>,
     store: &mut Store,
 ) -> Result<Answered, NoMemory>
-    ensures { Answers (machine.live_gets (context_view context.now) (service_of store.old) entry.old entry.old.state (apdu_view apdu.now))
+    ensures { Answers (machine.live_on_apdu (context_view context.now) (service_of store.old) entry.old entry.old.state (apdu_view apdu.now))
         (peer_of context.now) entry.old entry.new store.old result store.new }
 {
     match stands(alloc, context, entry, apdu) {

@@ -4,7 +4,7 @@ ghost use Rattle.bac_apdu.specs.Views.{apdu_view};
 ghost use Rattle.bac_npdu.specs.Views.{peer_view};
 ghost use Rattle.bac_protocol.specs.Context.{Settings as Set};
 ghost use Rattle.bac_protocol.specs.declared.times.TheConstants.{KEEP as KEPT_FOR};
-ghost use Rattle.bac_transaction.specs.Ends.{first_after, is_slot_live, server_hears, servers_tick};
+ghost use Rattle.bac_transaction.specs.Ends.{first_after, is_slot_live, responder_on_apdu, responder_tick};
 ghost use Rattle.bac_transaction.specs.Tables.{IsOrderlyServer};
 ghost use Rattle.bac_transaction.specs.Sends.{Pairwise, IsSent};
 ghost use Rattle.bac_transaction.specs.Views.{settings_view};
@@ -76,8 +76,8 @@ impl<S: SlotTable<PeerKey, ServerTransaction> + Drop> Responder<S> {
     /// something. Where a timer may run it looks at each slot, otherwise at none.
     pub fn next_due(&self, from: u64) -> u64
         ensures rests { (settings : Set) (moment : ℕ) → from ≤ moment → moment < result
-            → servers_tick settings moment self.now ≡ record { end = self.now; sends = []; act = None } }
-        ensures moves { (settings : Set) → result < LAST_MOMENT → (servers_tick settings (max from result) self.now).end ≢ self.now }
+            → responder_tick settings moment self.now ≡ record { end = self.now; sends = []; act = None } }
+        ensures moves { (settings : Set) → result < LAST_MOMENT → (responder_tick settings (max from result) self.now).end ≢ self.now }
     {
         if self.aged.ages.is_quiet_from(from) {
             return u64::MAX;
@@ -120,7 +120,7 @@ impl<S: SlotTable<PeerKey, ServerTransaction> + Drop> Responder<S> {
         apdu: &Apdu<'_>,
         store: &mut Store,
     ) -> Result<Served, NoMemory>
-        ensures { Serves (server_hears (settings_view settings.now) now (service_of store.old) (peer_view peer.now) (apdu_view apdu.now) self.old) self.old
+        ensures { Serves (responder_on_apdu (settings_view settings.now) now (service_of store.old) (peer_view peer.now) (apdu_view apdu.now) self.old) self.old
             store.old result self.new store.new }
     {
         let key = PeerKey {
@@ -143,7 +143,7 @@ impl<S: SlotTable<PeerKey, ServerTransaction> + Drop> Responder<S> {
         settings: &Settings,
         now: u64,
     ) -> Result<Vec<Datagram>, NoMemory>
-        ensures { IfOk result (λ v. Pairwise IsSent (servers_tick (settings_view settings.now) now self.now).sends v.items) }
+        ensures { IfOk result (λ v. Pairwise IsSent (responder_tick (settings_view settings.now) now self.now).sends v.items) }
     {
         if self.aged.ages.is_quiet(now) {
             return Ok(nothing_due(alloc));
@@ -153,7 +153,7 @@ impl<S: SlotTable<PeerKey, ServerTransaction> + Drop> Responder<S> {
 
     /// The entries after a tick. It takes no memory. Before the first moment at which anything can be due no slot is looked at.
     pub fn commit_tick(&mut self, settings: &Settings, now: u64)
-        ensures { self.new ≡ (servers_tick (settings_view settings.now) now self.old).end }
+        ensures { self.new ≡ (responder_tick (settings_view settings.now) now self.old).end }
     {
         tick(&mut self.aged, settings, now);
     }

@@ -184,7 +184,7 @@ fn next_in_time(
     segment: Segment,
     octets: &[u8],
 ) -> Option<Result<Vec<Datagram>, NoMemory>>
-    ensures { (o : Origin) (s : Objects) → StaysReceiving (machine.segmented_request_gets_segment (context_view context.now) (service_of s)
+    ensures { (o : Origin) (s : Objects) → StaysReceiving (machine.segmented_request_on_segment (context_view context.now) (service_of s)
         (entry_of o (SegmentedRequest incoming.old since.old)) incoming.old since.old (segment_view segment) octets.now) (peer_of context.now) o incoming.old
         incoming.new since.old since.new s result }
 {
@@ -214,7 +214,7 @@ pub(crate) fn stays_receiving(
     since: &mut u64,
     apdu: &Apdu<'_>,
 ) -> Option<Result<Vec<Datagram>, NoMemory>>
-    ensures { (o : Origin) (s : Objects) → StaysReceiving (machine.segmented_request_gets (context_view context.now) (service_of s)
+    ensures { (o : Origin) (s : Objects) → StaysReceiving (machine.segmented_request_on_apdu (context_view context.now) (service_of s)
         (entry_of o (SegmentedRequest incoming.old since.old)) incoming.old since.old (apdu_view apdu.now)) (peer_of context.now) o incoming.old incoming.new
         since.old since.new s result }
 {
@@ -254,7 +254,7 @@ fn segment_comes(
     octets: &[u8],
     store: &mut Store,
 ) -> Result<Reaction, ServerTransaction>
-    ensures { Reacts (machine.segmented_request_gets_segment (context_view context.now) (service_of store.old)
+    ensures { Reacts (machine.segmented_request_on_segment (context_view context.now) (service_of store.old)
         (entry_of origin (SegmentedRequest incoming since)) incoming since (segment_view segment) octets.now) (peer_of context.now)
         (entry_of origin (SegmentedRequest incoming since)) store.old result store.new }
 {
@@ -271,7 +271,7 @@ fn segment_comes(
 }
 
 /// An APDU comes while a request is received in segments.
-pub(crate) fn segmented_request_gets(
+pub(crate) fn segmented_request_on_apdu(
     alloc: Global,
     context: &Context,
     origin: Origin,
@@ -280,7 +280,7 @@ pub(crate) fn segmented_request_gets(
     apdu: &Apdu<'_>,
     store: &mut Store,
 ) -> Result<Reaction, ServerTransaction>
-    ensures { Reacts (machine.segmented_request_gets (context_view context.now) (service_of store.old) (entry_of origin (SegmentedRequest incoming since))
+    ensures { Reacts (machine.segmented_request_on_apdu (context_view context.now) (service_of store.old) (entry_of origin (SegmentedRequest incoming since))
         incoming since (apdu_view apdu.now)) (peer_of context.now) (entry_of origin (SegmentedRequest incoming since)) store.old result store.new }
 {
     match *apdu {

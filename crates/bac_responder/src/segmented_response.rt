@@ -129,7 +129,7 @@ fn ack_comes(
     window: Window,
 ) -> Result<Reaction, ServerTransaction>
     requires { ArePiecesShort LONGEST_PIECE outgoing }
-    ensures { (s : Objects) → Reacts (machine.segmented_response_gets_ack (context_view context.now)
+    ensures { (s : Objects) → Reacts (machine.segmented_response_on_ack (context_view context.now)
         (entry_of origin (SegmentedResponse outgoing (transfer_view transfer) since)) outgoing (transfer_view transfer) number window.size)
         (peer_of context.now) (entry_of origin (SegmentedResponse outgoing (transfer_view transfer) since)) s result s }
 {
@@ -161,7 +161,7 @@ fn ack_comes(
 }
 
 /// An APDU comes for an entry whose reply goes in segments.
-pub(crate) fn segmented_response_gets(
+pub(crate) fn segmented_response_on_apdu(
     alloc: Global,
     context: &Context,
     origin: Origin,
@@ -171,7 +171,7 @@ pub(crate) fn segmented_response_gets(
     apdu: &Apdu<'_>,
 ) -> Result<Reaction, ServerTransaction>
     requires { ArePiecesShort LONGEST_PIECE outgoing }
-    ensures { (s : Objects) → Reacts (machine.segmented_response_gets (context_view context.now)
+    ensures { (s : Objects) → Reacts (machine.segmented_response_on_apdu (context_view context.now)
         (entry_of origin (SegmentedResponse outgoing (transfer_view transfer) since)) outgoing (transfer_view transfer) since (apdu_view apdu.now))
         (peer_of context.now) (entry_of origin (SegmentedResponse outgoing (transfer_view transfer) since)) s result s }
 {

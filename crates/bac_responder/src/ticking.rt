@@ -1,6 +1,6 @@
 //! What a tick of the table sends.
 ghost use Rattle.std.specs.Prelude.{◌≡◌, ℕ, [], IfOk, None};
-ghost use Rattle.bac_transaction.specs.Ends.{server_tick_sends, servers_tick};
+ghost use Rattle.bac_transaction.specs.Ends.{server_tick_sends, responder_tick};
 ghost use Rattle.bac_transaction.specs.Sends.{Pairwise, IsSent};
 ghost use Rattle.bac_transaction.specs.Views.{peer_key_view, settings_view};
 ghost use Rattle.bac_responder.specs.Views.{end_of};
@@ -38,7 +38,7 @@ pub(crate) fn prepare<S: SlotTable<PeerKey, ServerTransaction>>(
     now: u64,
 ) -> Result<Vec<Datagram>, NoMemory>
     ensures { IfOk result (λ v. Pairwise IsSent
-        (servers_tick (settings_view settings.now) now (end_of (S.slots table.now) (S.capacity table.now) None)).sends v.items) }
+        (responder_tick (settings_view settings.now) now (end_of (S.slots table.now) (S.capacity table.now) None)).sends v.items) }
 {
     let mut sends = Vec::new(alloc);
     // the n-th by key is the n-th in order

@@ -13,11 +13,11 @@ use Rattle.bac_protocol.specs.Context.{Settings}
 use Rattle.bac_protocol.specs.Sizes.{Way, RequestFault, request_way_of}
 use Rattle.bac_protocol.specs.Sizes.Way.{InOne, InSegments, Refused}
 use Rattle.bac_protocol.specs.Service.{Octets, Readable}
-use Rattle.bac_protocol.specs.Client.{Ask, client_gets}
+use Rattle.bac_protocol.specs.Client.{Ask, client_on_apdu}
 use Rattle.bac_transaction.specs.Keys.{PeerKey, same_key}
 use Rattle.bac_transaction.specs.Ends.{Client, ClientSlot, ClientEnd, TransactionSlot, Accepted, AskRefusal, AskOutcome, MOST_ASKS}
 use Rattle.bac_transaction.specs.Ends.{is_held, is_held_there, is_slot_held, is_id_held, is_id_taken, waits_to_ask, has_no_slot, least_not, least_around, free_id, context_of, key_of, held_ticked, client_after}
-use Rattle.bac_transaction.specs.Ends.{client_hears_at, client_hears_held, client_asks, asks_by_way, asks_for, asks_with_id, accepts}
+use Rattle.bac_transaction.specs.Ends.{requester_on_apdu_at, requester_on_apdu_in_slot, requester_ask, asks_by_way, asks_for, asks_with_id, accepts}
 use Rattle.bac_transaction.specs.Ends.TransactionSlot.{Open, Closed}
 use Rattle.bac_transaction.specs.Ends.AskOutcome.{Asked}
 use Rattle.bac_transaction.specs.Tables.{IsOrderlyClient, ClientStaysOrderly, ClientOthersStay, client_ticked_at}
@@ -175,7 +175,7 @@ module _ (c : Settings) (now : ℕ) (peer : PeerView) (limits : Limits) (choice 
   key id = record { peer = peer; invoke_id = id }
 
   abbrev outcome : AskOutcome
-  outcome = client_asks c now peer limits choice octets e
+  outcome = requester_ask c now peer limits choice octets e
 
   pub record IsAccepted (x : Accepted) : Type 0 where
     pub id : ℕ
@@ -324,27 +324,27 @@ one_longer now slots x capacity lt =
     omega (arith, whole, few, lt)
 
 module _ (c : Settings) (readable : Readable) (now : ℕ) (a : Apdu) (e : ClientEnd) (key : PeerKey) where
-  held_orderly : (number : ℕ) (held : TransactionSlot) → IsOrderlyClient e → IsOrderlyClient (client_hears_held c readable now a e key number held).end
+  held_orderly : (number : ℕ) (held : TransactionSlot) → IsOrderlyClient e → IsOrderlyClient (requester_on_apdu_in_slot c readable now a e key number held).end
   held_orderly number (Closed first) h = h
   held_orderly number (Open t) h =
-      let v : Client = client_after now number t (client_gets (context_of c now key) readable t a) in
+      let v : Client = client_after now number t (client_on_apdu (context_of c now key) readable t a) in
       record {
         distinct = with_distinct Client key v e.slots h.distinct;
         within = let same = set_length PeerKey Client same_key keys_equivalent key v e.slots in omega (arith, same, h.within);
       }
 
-  hears_orderly : (o : Option Client) → IsOrderlyClient e → IsOrderlyClient (client_hears_at c readable now a e key o).end
+  hears_orderly : (o : Option Client) → IsOrderlyClient e → IsOrderlyClient (requester_on_apdu_at c readable now a e key o).end
   hears_orderly None h = h
   hears_orderly (Some s) h = held_orderly s.number s.held h
 
   held_others : (q : PeerKey) → same_key key q ≡ false → (number : ℕ) (held : TransactionSlot)
-      → value_at same_key q (client_hears_held c readable now a e key number held).end.slots ≡ value_at same_key q e.slots
+      → value_at same_key q (requester_on_apdu_in_slot c readable now a e key number held).end.slots ≡ value_at same_key q e.slots
   held_others q ne number (Closed first) = refl
   held_others q ne number (Open t) =
-      set_others PeerKey Client same_key keys_equivalent key q (client_after now number t (client_gets (context_of c now key) readable t a)) e.slots ne
+      set_others PeerKey Client same_key keys_equivalent key q (client_after now number t (client_on_apdu (context_of c now key) readable t a)) e.slots ne
 
   hears_others : (q : PeerKey) → same_key key q ≡ false → (o : Option Client)
-      → value_at same_key q (client_hears_at c readable now a e key o).end.slots ≡ value_at same_key q e.slots
+      → value_at same_key q (requester_on_apdu_at c readable now a e key o).end.slots ≡ value_at same_key q e.slots
   hears_others q ne None = refl
   hears_others q ne (Some s) = held_others q ne s.number s.held
 

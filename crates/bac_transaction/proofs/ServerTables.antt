@@ -11,7 +11,7 @@ use Rattle.bac_slots.proofs.Values.{set_length, set_others, put_others}
 use Rattle.bac_protocol.specs.Context.{Settings, Context}
 use Rattle.bac_protocol.specs.Service.{OTHER}
 use Rattle.bac_protocol.specs.Server as server
-use Rattle.bac_protocol.specs.Server.{ServerTransaction, Reaction, Service, is_live, is_none_live, live_gets, idle_gets, server_gets, server_abort, server_ticks}
+use Rattle.bac_protocol.specs.Server.{ServerTransaction, Reaction, Service, is_live, is_none_live, live_on_apdu, idle_on_apdu, server_on_apdu, server_abort, server_ticks}
 use Rattle.bac_transaction.specs.Keys.{PeerKey, same_key}
 use Rattle.bac_transaction.specs.Ends.{ServerEnd, ServerSlot, is_slot_live, is_free, set_or_put, put_entry, waits_to_serve}
 use Rattle.bac_transaction.specs.Ends.{context_of, key_of, entry_or}
@@ -29,23 +29,23 @@ live_of false e = absurd cc
 
 -- where no entry is live, the APDU is one for an idle machine
 pub idle_is : (c : Context) (service : Service) (o : Option ServerTransaction) (free : Bool) (a : Apdu) → is_none_live c.now o ≡ true
-    → server_gets c service o free a ≡ idle_gets c service o free a
+    → server_on_apdu c service o free a ≡ idle_on_apdu c service o free a
 idle_is c service None free a dead = refl
 idle_is c service (Some d) free a dead =
-    ap (λ x. if x then live_gets c service d d.state a else idle_gets c service (Some d) free a) (dead_of (is_live c.now d) dead)
+    ap (λ x. if x then live_on_apdu c service d d.state a else idle_on_apdu c service (Some d) free a) (dead_of (is_live c.now d) dead)
 
 -- a live entry does not look for a free slot
 pub live_anyway : (c : Context) (service : Service) (o : Option ServerTransaction) (free other : Bool) (a : Apdu) → is_none_live c.now o ≡ false
-    → server_gets c service o free a ≡ server_gets c service o other a
+    → server_on_apdu c service o free a ≡ server_on_apdu c service o other a
 live_anyway c service None free other a live = absurd cc
 live_anyway c service (Some d) free other a live =
     let alive = live_of (is_live c.now d) live in
-    ap (λ x. if x then live_gets c service d d.state a else idle_gets c service (Some d) free a) alive
-    ∙ sym (ap (λ x. if x then live_gets c service d d.state a else idle_gets c service (Some d) other a) alive)
+    ap (λ x. if x then live_on_apdu c service d d.state a else idle_on_apdu c service (Some d) free a) alive
+    ∙ sym (ap (λ x. if x then live_on_apdu c service d d.state a else idle_on_apdu c service (Some d) other a) alive)
 
 -- Where no slot is free, no entry begins.
 
-still_idle : (c : Context) (service : Service) (o : Option ServerTransaction) (a : Apdu) → (idle_gets c service o false a).entry ≡ o
+still_idle : (c : Context) (service : Service) (o : Option ServerTransaction) (a : Apdu) → (idle_on_apdu c service o false a).entry ≡ o
 still_idle c service o (ConfirmedRequest limits i None choice octets) = refl
 still_idle c service o (ConfirmedRequest limits i (Some g) choice octets) = go (nat_eq g.number 0)
   where
@@ -55,7 +55,7 @@ still_idle c service o (ConfirmedRequest limits i (Some g) choice octets) = go (
 still_idle c service o _ = refl
 
 still_none : (c : Context) (service : Service) (o : Option ServerTransaction) (a : Apdu) → is_none_live c.now o ≡ true
-    → (server_gets c service o false a).entry ≡ o
+    → (server_on_apdu c service o false a).entry ≡ o
 still_none c service o a dead = ap (λ (r : Reaction). r.entry) (idle_is c service o false a dead) ∙ still_idle c service o a
 
 -- an entry that is not live stays where it is
@@ -126,7 +126,7 @@ module _ (now : ℕ) (key : PeerKey) (slots : List ServerSlot) (capacity : ℕ) 
       go true live = put (is_none_live now old) refl live
       go false live = none_comes (value_at same_key q slots)
 
-begins_free : (c : Context) (service : Service) (o : Option ServerTransaction) (free : Bool) (a : Apdu) (d : ServerTransaction) → (server_gets c service o free a).entry ≡ Some d
+begins_free : (c : Context) (service : Service) (o : Option ServerTransaction) (free : Bool) (a : Apdu) (d : ServerTransaction) → (server_on_apdu c service o free a).entry ≡ Some d
     → is_live c.now d ≡ true → is_none_live c.now o ≡ true → free ≡ true
 begins_free c service o true a d is live dead = refl
 begins_free c service o false a d is live dead =
@@ -156,7 +156,7 @@ server_stays_orderly = record {
       let key = key_of peer a in
       let context = context_of c now key in
       let o = value_at same_key key e.slots in
-      let v = server_gets context service o (is_free now e) a in
+      let v = server_on_apdu context service o (is_free now e) a in
       record {
         distinct = entry_distinct now key e.slots h.distinct v.entry;
         within = entry_within now key e.slots e.capacity h.within v.entry (λ d is live dead. has_space now e (begins_free context service o (is_free now e) a d is live dead));
@@ -171,6 +171,6 @@ pub server_others_stay : ServerOthersStay
 server_others_stay = record {
   hears = λ c now service peer a e q distinct ne.
       entry_others now (key_of peer a) e.slots e.capacity q distinct ne
-      (server_gets (context_of c now (key_of peer a)) service (value_at same_key (key_of peer a) e.slots) (is_free now e) a).entry;
+      (server_on_apdu (context_of c now (key_of peer a)) service (value_at same_key (key_of peer a) e.slots) (is_free now e) a).entry;
   ticks = λ c now e q. value_changed ServerTransaction (ticked c now) q e.slots ∙ ticked_is c now q (value_at same_key q e.slots);
 }

@@ -14,17 +14,17 @@ use Rattle.bac_protocol.specs.Sizes.Way.{InOne, InSegments, Refused}
 use Rattle.bac_protocol.specs.Service.{Octets, Reply, Outcome, OTHER}
 use Rattle.bac_protocol.specs.Service.Outcome.{Replies, Rejects}
 use Rattle.bac_protocol.specs.Server as server
-use Rattle.bac_protocol.specs.Server.{ServerTransaction, Reaction, Service, is_none_live, idle_gets, server_gets, server_abort}
+use Rattle.bac_protocol.specs.Server.{ServerTransaction, Reaction, Service, is_none_live, idle_on_apdu, server_on_apdu, server_abort}
 use Rattle.bac_transaction.specs.Keys.{same_key}
 use Rattle.bac_transaction.specs.Sends.{Send, to_all}
-use Rattle.bac_transaction.specs.Ends.{ServerEnd, ServerTurn, is_free, put_entry, act_at, server_goes, server_hears, context_of, key_of}
+use Rattle.bac_transaction.specs.Ends.{ServerEnd, ServerTurn, is_free, put_entry, act_at, server_goes, responder_on_apdu, context_of, key_of}
 use Rattle.bac_transaction.specs.Tables.{BeginsRequest, IsTurnedAway, IsWithoutCapacity, TurnsAway}
 use Rattle.bac_transaction.proofs.ServerTables.{idle_is, live_anyway, dead_stays}
 
 -- Where no slot is free.
 
 turned : (c : Context) (service : Service) (o : Option ServerTransaction) (a : Apdu) → BeginsRequest a
-    → idle_gets c service o false a ≡ server.rests o (Abort true c.invoke_id OTHER ∷ [])
+    → idle_on_apdu c service o false a ≡ server.rests o (Abort true c.invoke_id OTHER ∷ [])
 turned c service o (ConfirmedRequest limits i None choice octets) h = refl
 turned c service o (ConfirmedRequest limits i (Some g) choice octets) h =
     ap (λ n. if not (nat_eq n 0) then server.rests o [] else server.rests o (server_abort c OTHER ∷ [])) h
@@ -85,7 +85,7 @@ module _ (c : Context) (service : Service) where
   taken_other e number window (Taking.Nak inc) is = absurd cc
   taken_other e number window Taking.TooLong is = let r : ◌≡◌ {A = ℕ} 1 0 = cc in absurd (omega (arith, r))
 
-  begun_other : (o : Option ServerTransaction) (a : Apdu) → BeginsRequest a → (idle_gets c service o true a).sends ≡ refusal → ⊥
+  begun_other : (o : Option ServerTransaction) (a : Apdu) → BeginsRequest a → (idle_on_apdu c service o true a).sends ≡ refusal → ⊥
   begun_other o (ConfirmedRequest limits i None choice octets) h is =
       so_other (server.begins c choice limits (Some octets)) octets (service choice octets) is
   begun_other o (ConfirmedRequest limits i (Some g) choice octets) h is =
@@ -97,7 +97,7 @@ module _ (c : Context) (service : Service) where
       what : Taking
       what = takes (incoming c.settings.window g.window) g.number g.more octets
 
-      first : server.idle_gets_segment c service o true choice limits g octets
+      first : server.idle_on_segment c service o true choice limits g octets
           ≡ server.request_segment_taken c service begun g.number (incoming c.settings.window g.window).window what
       first = ap (λ n. if not (nat_eq n 0) then server.rests o []
           else server.request_segment_taken c service begun g.number (incoming c.settings.window g.window).window what) h
@@ -119,31 +119,31 @@ module _ (c : Settings) (now : ℕ) (service : Service) (peer : PeerView) (a : A
   abbrev turn_of : Reaction → ServerTurn
   turn_of v = server_goes now e (key_of peer a) v
 
-  turned_away : BeginsRequest a → is_none_live now old ≡ true → is_free now e ≡ false → IsTurnedAway peer a e (server_hears c now service peer a e)
+  turned_away : BeginsRequest a → is_none_live now old ≡ true → is_free now e ≡ false → IsTurnedAway peer a e (responder_on_apdu c now service peer a e)
   turned_away h dead full =
-      let is : server_gets context service old (is_free now e) a ≡ server.rests old (Abort true (invoke_id_of a) OTHER ∷ []) =
-      ap (λ b. server_gets context service old b a) full ∙ idle_is context service old false a dead ∙ turned context service old a h in
+      let is : server_on_apdu context service old (is_free now e) a ≡ server.rests old (Abort true (invoke_id_of a) OTHER ∷ []) =
+      ap (λ b. server_on_apdu context service old b a) full ∙ idle_is context service old false a dead ∙ turned context service old a h in
       subst (λ (v : Reaction). IsTurnedAway peer a e (turn_of v)) (sym is) (record {
         end = ap (λ l. record e { slots = l }) (dead_stays now (key_of peer a) old e.slots dead);
         sends = refl;
         act = refl;
       })
 
-  not_free : BeginsRequest a → is_none_live now old ≡ true → IsTurnedAway peer a e (server_hears c now service peer a e) → is_free now e ≡ false
+  not_free : BeginsRequest a → is_none_live now old ≡ true → IsTurnedAway peer a e (responder_on_apdu c now service peer a e) → is_free now e ≡ false
   not_free h dead away = go (is_free now e) refl
     where
       go : (b : Bool) → is_free now e ≡ b → b ≡ false
       go false free = refl
       go true free =
-          let is : server_gets context service old (is_free now e) a ≡ idle_gets context service old true a =
-          ap (λ b. server_gets context service old b a) free ∙ idle_is context service old true a dead in
-          let sent : (idle_gets context service old true a).sends ≡ Abort true (invoke_id_of a) OTHER ∷ [] =
-          sym (apdus_of peer (idle_gets context service old true a).sends)
+          let is : server_on_apdu context service old (is_free now e) a ≡ idle_on_apdu context service old true a =
+          ap (λ b. server_on_apdu context service old b a) free ∙ idle_is context service old true a dead in
+          let sent : (idle_on_apdu context service old true a).sends ≡ Abort true (invoke_id_of a) OTHER ∷ [] =
+          sym (apdus_of peer (idle_on_apdu context service old true a).sends)
           ∙ ap (λ (v : Reaction). map (λ (s : Send). s.apdu) (to_all peer v.sends)) (sym is) ∙ ap (λ l. map (λ (s : Send). s.apdu) l) away.sends in
           absurd (begun_other context service old a h sent)
 
   anyway : (capacity : ℕ) → is_none_live now old ≡ false
-      → IsWithoutCapacity (server_hears c now service peer a e) (server_hears c now service peer a (record e { capacity = capacity }))
+      → IsWithoutCapacity (responder_on_apdu c now service peer a e) (responder_on_apdu c now service peer a (record e { capacity = capacity }))
   anyway capacity live =
       let other : ServerEnd = record e { capacity = capacity } in
       let is = live_anyway context service old (is_free now other) (is_free now e) a live in

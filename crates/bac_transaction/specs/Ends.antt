@@ -12,9 +12,9 @@ use Rattle.bac_protocol.specs.Sizes.{Way, RequestFault, request_way_of}
 use Rattle.bac_protocol.specs.Service.{Octets, Ending, Readable}
 use Rattle.bac_protocol.specs.Own.{invoke_id_of}
 use Rattle.bac_protocol.specs.Client as client
-use Rattle.bac_protocol.specs.Client.{Ask, ClientTransaction, is_idle, client_gets, client_ticks, asked_ticket, asks}
+use Rattle.bac_protocol.specs.Client.{Ask, ClientTransaction, is_idle, client_on_apdu, client_ticks, asked_ticket, asks}
 use Rattle.bac_protocol.specs.Server as server
-use Rattle.bac_protocol.specs.Server.{ServerTransaction, Effect, Service, is_live, is_none_live, server_gets, server_ticks}
+use Rattle.bac_protocol.specs.Server.{ServerTransaction, Effect, Service, is_live, is_none_live, server_on_apdu, server_ticks}
 use Rattle.bac_transaction.specs.Keys.{PeerKey, peer_key_cmp, same_key}
 use Rattle.bac_transaction.specs.Sends.{Send, to_all}
 
@@ -104,22 +104,22 @@ client_goes now e key number t r =
     }
 
 -- an APDU for that slot: one that was closed drops it, an open ticket's machine gets it (clause 5.4.4)
-abbrev pub client_hears_held : Settings → Readable → (now : ℕ) → Apdu → ClientEnd → PeerKey → (number : ℕ) → TransactionSlot → ClientTurn
-client_hears_held c readable now a e key number (Closed first) = stays e
-client_hears_held c readable now a e key number (Open t) = client_goes now e key number t (client_gets (context_of c now key) readable t a)
+abbrev pub requester_on_apdu_in_slot : Settings → Readable → (now : ℕ) → Apdu → ClientEnd → PeerKey → (number : ℕ) → TransactionSlot → ClientTurn
+requester_on_apdu_in_slot c readable now a e key number (Closed first) = stays e
+requester_on_apdu_in_slot c readable now a e key number (Open t) = client_goes now e key number t (client_on_apdu (context_of c now key) readable t a)
 
 -- an APDU for the slot of its key, if any; without one it is dropped
-abbrev pub client_hears_at : Settings → Readable → (now : ℕ) → Apdu → ClientEnd → PeerKey → Option Client → ClientTurn
-client_hears_at c readable now a e key None = stays e
-client_hears_at c readable now a e key (Some s) = client_hears_held c readable now a e key s.number s.held
+abbrev pub requester_on_apdu_at : Settings → Readable → (now : ℕ) → Apdu → ClientEnd → PeerKey → Option Client → ClientTurn
+requester_on_apdu_at c readable now a e key None = stays e
+requester_on_apdu_at c readable now a e key (Some s) = requester_on_apdu_in_slot c readable now a e key s.number s.held
 
 -- the key of an APDU from that peer: its invoke ID is the transaction's (clause 20.1.2.6)
 abbrev pub key_of : PeerView → Apdu → PeerKey
 key_of peer a = record { peer = peer; invoke_id = invoke_id_of a }
 
 -- an APDU comes from a peer
-abbrev pub client_hears : Settings → Readable → (now : ℕ) → PeerView → Apdu → ClientEnd → ClientTurn
-client_hears c readable now peer a e = client_hears_at c readable now a e (key_of peer a) (value_at same_key (key_of peer a) e.slots)
+abbrev pub requester_on_apdu : Settings → Readable → (now : ℕ) → PeerView → Apdu → ClientEnd → ClientTurn
+requester_on_apdu c readable now peer a e = requester_on_apdu_at c readable now a e (key_of peer a) (value_at same_key (key_of peer a) e.slots)
 
 -- A tick of the client's end.
 
@@ -151,8 +151,8 @@ abbrev pub client_tick_ends : Settings → (now : ℕ) → ClientSlot → List E
 client_tick_ends c now s = held_tick_ends (context_of c now s.key) s.value.number s.value.held
 
 -- all slots go on; what they send and end stands in ascending order of keys
-abbrev pub clients_tick : Settings → (now : ℕ) → ClientEnd → ClientTurn
-clients_tick c now e =
+abbrev pub requester_tick : Settings → (now : ℕ) → ClientEnd → ClientTurn
+requester_tick c now e =
     record {
       end = record e { slots = map (client_ticked c now) e.slots };
       sends = from_each (client_tick_sends c now) (in_order peer_key_cmp e.slots);
@@ -255,8 +255,8 @@ asks_by_way c now peer choice octets e (Way.InSegments pieces) =
 asks_by_way c now peer choice octets e (Way.Refused why) = AskOutcome.Refused (CannotGo why)
 
 -- a request with these service data, to a peer that takes so much
-abbrev pub client_asks : Settings → (now : ℕ) → PeerView → Limits → (choice : ℕ) → Octets → ClientEnd → AskOutcome
-client_asks c now peer limits choice octets e = asks_by_way c now peer choice octets e (request_way_of c limits octets)
+abbrev pub requester_ask : Settings → (now : ℕ) → PeerView → Limits → (choice : ℕ) → Octets → ClientEnd → AskOutcome
+requester_ask c now peer limits choice octets e = asks_by_way c now peer choice octets e (request_way_of c limits octets)
 
 -- The server's end.
 
@@ -314,9 +314,9 @@ server_goes now e key v =
     record { end = record e { slots = put_entry now key v.entry e.slots }; sends = to_all key.peer v.sends; act = act_at key v.effect }
 
 -- an APDU comes from a peer
-abbrev pub server_hears : Settings → (now : ℕ) → Service → PeerView → Apdu → ServerEnd → ServerTurn
-server_hears c now service peer a e =
-    server_goes now e (key_of peer a) (server_gets (context_of c now (key_of peer a)) service (value_at same_key (key_of peer a) e.slots) (is_free now e) a)
+abbrev pub responder_on_apdu : Settings → (now : ℕ) → Service → PeerView → Apdu → ServerEnd → ServerTurn
+responder_on_apdu c now service peer a e =
+    server_goes now e (key_of peer a) (server_on_apdu (context_of c now (key_of peer a)) service (value_at same_key (key_of peer a) e.slots) (is_free now e) a)
 
 -- A tick of the server's end.
 
@@ -334,8 +334,8 @@ abbrev pub server_tick_sends : Settings → (now : ℕ) → ServerSlot → List 
 server_tick_sends c now s = to_all s.key.peer (server_ticks (context_of c now s.key) (Some s.value)).sends
 
 -- all slots go on; what they send stands in ascending order of keys
-abbrev pub servers_tick : Settings → (now : ℕ) → ServerEnd → ServerTurn
-servers_tick c now e =
+abbrev pub responder_tick : Settings → (now : ℕ) → ServerEnd → ServerTurn
+responder_tick c now e =
     record {
       end = record e { slots = map (server_ticked c now) e.slots };
       sends = from_each (server_tick_sends c now) (in_order peer_key_cmp e.slots);

@@ -10,8 +10,8 @@ use Rattle.bac_protocol.specs.Server as server
 use Rattle.bac_protocol.specs.Server.{Service}
 use Rattle.bac_transaction.specs.Keys.{PeerKey}
 use Rattle.bac_transaction.specs.Sends.{Send}
-use Rattle.bac_transaction.specs.Ends.{TransactionSlot, ClientSlot, ClientEnd, AskRefusal, AskOutcome, context_of, client_asks, clients_tick, client_restarted}
-use Rattle.bac_transaction.specs.Ends.{ServerSlot, ServerEnd, ServerTurn, server_hears, server_restarted}
+use Rattle.bac_transaction.specs.Ends.{TransactionSlot, ClientSlot, ClientEnd, AskRefusal, AskOutcome, context_of, requester_ask, requester_tick, client_restarted}
+use Rattle.bac_transaction.specs.Ends.{ServerSlot, ServerEnd, ServerTurn, responder_on_apdu, server_restarted}
 
 abbrev pub LIMITS : Limits
 LIMITS = record { takes_segments = true; max_segments = 0; max_apdu = 0 }
@@ -41,7 +41,7 @@ abbrev pub begin_at : (first : ℕ) → ClientEnd → ClientEnd
 begin_at first e = record e { first_id = first }
 
 abbrev pub asks_at : (now n : ℕ) → ClientEnd → AskOutcome
-asks_at now n e = client_asks SETTINGS now (peer n) LIMITS 12 SERVICE_DATA e
+asks_at now n e = requester_ask SETTINGS now (peer n) LIMITS 12 SERVICE_DATA e
 
 abbrev pub invoke_id_in : AskOutcome → Option ℕ
 invoke_id_in (AskOutcome.Refused why) = None
@@ -98,7 +98,7 @@ waiting n =
 
 -- what is sent again stands in ascending order of keys, not in the order of asking
 abbrev pub TickOrder : Type 0
-TickOrder = map (λ (s : Send). s.peer) (clients_tick SETTINGS 3000 (clients (waiting 3 ∷ waiting 2 ∷ []) 8)).sends ≡ peer 2 ∷ peer 3 ∷ []
+TickOrder = map (λ (s : Send). s.peer) (requester_tick SETTINGS 3000 (clients (waiting 3 ∷ waiting 2 ∷ []) 8)).sends ≡ peer 2 ∷ peer 3 ∷ []
 
 -- The reply table.
 
@@ -122,7 +122,7 @@ abbrev pub servers : ServerEnd
 servers = record { slots = KEPT ∷ []; capacity = 1; serves_from = 0 }
 
 abbrev pub hears_at : (now n : ℕ) → ServerTurn
-hears_at now n = server_hears SETTINGS now SERVICE (peer n) REQUEST servers
+hears_at now n = responder_on_apdu SETTINGS now SERVICE (peer n) REQUEST servers
 
 abbrev pub keys_of : ServerEnd → List PeerKey
 keys_of e = map (λ (s : ServerSlot). s.key) e.slots
@@ -139,6 +139,6 @@ pub record FullTable : Type 0 where
 
 -- a server's end that restarted at 0 turns all requests away while no more than 65,000 ms have passed, those that were answered before too
 pub record WaitsToServe : Type 0 where
-  pub last : server_hears SETTINGS 65000 SERVICE (peer 2) REQUEST (server_restarted 0 servers)
+  pub last : responder_on_apdu SETTINGS 65000 SERVICE (peer 2) REQUEST (server_restarted 0 servers)
       ≡ record { end = server_restarted 0 servers; sends = record { peer = peer 2; apdu = Abort true 7 0 } ∷ []; act = None }
-  pub after : (server_hears SETTINGS 65001 SERVICE (peer 2) REQUEST (server_restarted 0 servers)).sends ≡ record { peer = peer 2; apdu = SimpleAck 7 15 } ∷ []
+  pub after : (responder_on_apdu SETTINGS 65001 SERVICE (peer 2) REQUEST (server_restarted 0 servers)).sends ≡ record { peer = peer 2; apdu = SimpleAck 7 15 } ∷ []

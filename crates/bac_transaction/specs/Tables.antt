@@ -16,7 +16,7 @@ use Rattle.bac_transaction.specs.Keys.{PeerKey, same_key}
 use Rattle.bac_transaction.specs.Sends.{to_peer}
 use Rattle.bac_transaction.specs.Ends.{Client, ClientEnd, Accepted, AskRefusal, AskOutcome, ServerSlot, ServerEnd, ServerTurn}
 use Rattle.bac_transaction.specs.Ends.{is_held, is_id_taken, least_not, free_id, has_no_slot, context_of, key_of, held_ticked, entry_or, is_free}
-use Rattle.bac_transaction.specs.Ends.{client_hears, clients_tick, client_asks, server_hears, servers_tick}
+use Rattle.bac_transaction.specs.Ends.{requester_on_apdu, requester_tick, requester_ask, responder_on_apdu, responder_tick}
 
 -- a table in order: no two slots have one key, and there are no more than it can have
 pub record IsOrderly (T : Type 0) (slots : List (Slot PeerKey T)) (capacity : ℕ) : Type 0 where
@@ -31,10 +31,10 @@ IsOrderlyClient e = IsOrderly Client e.slots e.capacity
 -- a client's table stays in order, whatever comes, is due or is asked
 pub record ClientStaysOrderly : Type 0 where
   pub hears : (c : Settings) (readable : Readable) (now : ℕ) (peer : PeerView) (a : Apdu) (e : ClientEnd) → IsOrderlyClient e
-      → IsOrderlyClient (client_hears c readable now peer a e).end
-  pub ticks : (c : Settings) (now : ℕ) (e : ClientEnd) → IsOrderlyClient e → IsOrderlyClient (clients_tick c now e).end
+      → IsOrderlyClient (requester_on_apdu c readable now peer a e).end
+  pub ticks : (c : Settings) (now : ℕ) (e : ClientEnd) → IsOrderlyClient e → IsOrderlyClient (requester_tick c now e).end
   pub asks : (c : Settings) (now : ℕ) (peer : PeerView) (limits : Limits) (choice : ℕ) (octets : Octets) (e : ClientEnd) (x : Accepted)
-      → client_asks c now peer limits choice octets e ≡ AskOutcome.Asked x → IsOrderlyClient e → IsOrderlyClient x.end
+      → requester_ask c now peer limits choice octets e ≡ AskOutcome.Asked x → IsOrderlyClient e → IsOrderlyClient x.end
 
 -- a slot after a tick, where there is one
 abbrev pub client_ticked_at : Settings → (now : ℕ) → PeerKey → Option Client → Option Client
@@ -43,11 +43,11 @@ client_ticked_at c now q o = option_map (λ (s : Client). held_ticked (context_o
 -- an APDU touches the slot of its key alone; on a tick each slot goes on by itself; an ask lets all held slots as they are, and the others go
 pub record ClientOthersStay : Type 0 where
   pub hears : (c : Settings) (readable : Readable) (now : ℕ) (peer : PeerView) (a : Apdu) (e : ClientEnd) (q : PeerKey)
-      → same_key (key_of peer a) q ≡ false → value_at same_key q (client_hears c readable now peer a e).end.slots ≡ value_at same_key q e.slots
+      → same_key (key_of peer a) q ≡ false → value_at same_key q (requester_on_apdu c readable now peer a e).end.slots ≡ value_at same_key q e.slots
   pub ticks : (c : Settings) (now : ℕ) (e : ClientEnd) (q : PeerKey)
-      → value_at same_key q (clients_tick c now e).end.slots ≡ client_ticked_at c now q (value_at same_key q e.slots)
+      → value_at same_key q (requester_tick c now e).end.slots ≡ client_ticked_at c now q (value_at same_key q e.slots)
   pub asks : (c : Settings) (now : ℕ) (peer : PeerView) (limits : Limits) (choice : ℕ) (octets : Octets) (e : ClientEnd) (x : Accepted) (q : PeerKey)
-      → client_asks c now peer limits choice octets e ≡ AskOutcome.Asked x → IsDistinct same_key e.slots
+      → requester_ask c now peer limits choice octets e ≡ AskOutcome.Asked x → IsDistinct same_key e.slots
       → same_key (record { peer = peer; invoke_id = x.invoke_id }) q ≡ false
       → value_at same_key q x.end.slots ≡ keep (λ (s : Client). is_held now s.held) (value_at same_key q e.slots)
 
@@ -65,7 +65,7 @@ pub record IsLeastFree (now : ℕ) (e : ClientEnd) (peer : PeerView) (invoke_id 
 abbrev pub TakesLeastFree : Type 0
 TakesLeastFree =
     (c : Settings) (now : ℕ) (peer : PeerView) (limits : Limits) (choice : ℕ) (octets : Octets) (e : ClientEnd) (x : Accepted)
-    → client_asks c now peer limits choice octets e ≡ AskOutcome.Asked x → IsLeastFree now e peer x.invoke_id
+    → requester_ask c now peer limits choice octets e ≡ AskOutcome.Asked x → IsLeastFree now e peer x.invoke_id
 
 abbrev pub CanGo : Way RequestFault → Type 0
 CanGo InOne = Unit {0}
@@ -87,10 +87,10 @@ OneFree now e peer = (n : ℕ) × (n < 256) × (is_id_taken now e peer n ≡ fal
 -- when an ask is refused, and why: its request can't go; it can, but all invoke IDs of the peer are taken; or one is free, but no slot
 pub record RefusesAsks (c : Settings) (now : ℕ) (peer : PeerView) (limits : Limits) (choice : ℕ) (octets : Octets) (e : ClientEnd) : Type 0 where
   pub cannot_go : (why : RequestFault)
-      → (client_asks c now peer limits choice octets e ≡ AskOutcome.Refused (AskRefusal.CannotGo why)) ↔ (request_way_of c limits octets ≡ Refused why)
-  pub no_invoke_id : (client_asks c now peer limits choice octets e ≡ AskOutcome.Refused AskRefusal.NoInvokeId)
+      → (requester_ask c now peer limits choice octets e ≡ AskOutcome.Refused (AskRefusal.CannotGo why)) ↔ (request_way_of c limits octets ≡ Refused why)
+  pub no_invoke_id : (requester_ask c now peer limits choice octets e ≡ AskOutcome.Refused AskRefusal.NoInvokeId)
       ↔ (CanGo (request_way_of c limits octets) × AllTaken now e peer)
-  pub no_slot : (client_asks c now peer limits choice octets e ≡ AskOutcome.Refused AskRefusal.NoSlot)
+  pub no_slot : (requester_ask c now peer limits choice octets e ≡ AskOutcome.Refused AskRefusal.NoSlot)
       ↔ (CanGo (request_way_of c limits octets) × OneFree now e peer × (has_no_slot now e ≡ true))
 
 -- The server's end (clause 5.4.5).
@@ -101,8 +101,8 @@ IsOrderlyServer e = IsOrderly ServerTransaction e.slots e.capacity
 -- a reply table stays in order, whatever comes or is due
 pub record ServerStaysOrderly : Type 0 where
   pub hears : (c : Settings) (now : ℕ) (service : Service) (peer : PeerView) (a : Apdu) (e : ServerEnd) → IsOrderlyServer e
-      → IsOrderlyServer (server_hears c now service peer a e).end
-  pub ticks : (c : Settings) (now : ℕ) (e : ServerEnd) → IsOrderlyServer e → IsOrderlyServer (servers_tick c now e).end
+      → IsOrderlyServer (responder_on_apdu c now service peer a e).end
+  pub ticks : (c : Settings) (now : ℕ) (e : ServerEnd) → IsOrderlyServer e → IsOrderlyServer (responder_tick c now e).end
 
 -- a new entry comes at that key: none was live there, and now one is
 abbrev pub comes_new : (now : ℕ) → PeerKey → (before after : List ServerSlot) → Bool
@@ -116,11 +116,11 @@ server_ticked_at c now q o = option_map (λ (x : ServerTransaction). entry_or x 
 pub record ServerOthersStay : Type 0 where
   pub hears : (c : Settings) (now : ℕ) (service : Service) (peer : PeerView) (a : Apdu) (e : ServerEnd) (q : PeerKey)
       → IsDistinct same_key e.slots → same_key (key_of peer a) q ≡ false
-      → value_at same_key q (server_hears c now service peer a e).end.slots
-      ≡ (if comes_new now (key_of peer a) e.slots (server_hears c now service peer a e).end.slots then keep (is_live now) (value_at same_key q e.slots)
+      → value_at same_key q (responder_on_apdu c now service peer a e).end.slots
+      ≡ (if comes_new now (key_of peer a) e.slots (responder_on_apdu c now service peer a e).end.slots then keep (is_live now) (value_at same_key q e.slots)
       else value_at same_key q e.slots)
   pub ticks : (c : Settings) (now : ℕ) (e : ServerEnd) (q : PeerKey)
-      → value_at same_key q (servers_tick c now e).end.slots ≡ server_ticked_at c now q (value_at same_key q e.slots)
+      → value_at same_key q (responder_tick c now e).end.slots ≡ server_ticked_at c now q (value_at same_key q e.slots)
 
 -- an APDU that begins a request: one without SEG, or its segment 0
 abbrev pub BeginsRequest : Apdu → Type 0
@@ -144,7 +144,7 @@ pub record IsWithoutCapacity (one other : ServerTurn) : Type 0 where
 pub record TurnsAway : Type 0 where
   pub full : (c : Settings) (now : ℕ) (service : Service) (peer : PeerView) (a : Apdu) (e : ServerEnd) → BeginsRequest a
       → is_none_live now (value_at same_key (key_of peer a) e.slots) ≡ true
-      → (IsTurnedAway peer a e (server_hears c now service peer a e) ↔ (is_free now e ≡ false))
+      → (IsTurnedAway peer a e (responder_on_apdu c now service peer a e) ↔ (is_free now e ≡ false))
   pub live : (c : Settings) (now : ℕ) (service : Service) (peer : PeerView) (a : Apdu) (e : ServerEnd) (capacity : ℕ)
       → is_none_live now (value_at same_key (key_of peer a) e.slots) ≡ false
-      → IsWithoutCapacity (server_hears c now service peer a e) (server_hears c now service peer a (record e { capacity = capacity }))
+      → IsWithoutCapacity (responder_on_apdu c now service peer a e) (responder_on_apdu c now service peer a (record e { capacity = capacity }))

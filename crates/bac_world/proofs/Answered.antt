@@ -20,7 +20,7 @@ use Rattle.bac_protocol.specs.Server.{performs_so, begins}
 use Rattle.bac_transaction.specs.Keys.{PeerKey}
 use Rattle.bac_transaction.specs.Sends.{Datagram, IsSent, to_peer}
 use Rattle.bac_transaction.specs.Meanings.Ending.{Answered}
-use Rattle.bac_transaction.specs.Ends.{Accepted, accepts, context_of, server_goes, client_hears}
+use Rattle.bac_transaction.specs.Ends.{Accepted, accepts, context_of, server_goes, requester_on_apdu}
 use Rattle.bac_transaction.specs.Services.{service_of, outcome_by}
 use Rattle.bac_service.specs.Services.{reads_reply}
 use Rattle.bac_world.specs.Services.{Performed}
@@ -247,7 +247,7 @@ request_delivered = record { copy = copy 0 1 ASK; there = refl; goes = record { 
 -- The answer is delivered.
 
 abbrev ENDED_NODE : Node
-ENDED_NODE = record (node 0) { clients = (client_hears SETTINGS reads_reply 0 (peer_at (link 1)) ANSWER ACCEPTED.end).end }
+ENDED_NODE = record (node 0) { clients = (requester_on_apdu SETTINGS reads_reply 0 (peer_at (link 1)) ANSWER ACCEPTED.end).end }
 
 abbrev ENDED : Outcome
 ENDED = record { sends = []; performed = None; ended = record { ticket = 0; how = Answered REPLY } ∷ []; dropped = None }

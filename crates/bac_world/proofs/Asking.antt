@@ -26,7 +26,7 @@ use Rattle.bac_slots.specs.Slots.{value_at, keep}
 use Rattle.bac_transaction.specs.Keys.{PeerKey, same_key}
 use Rattle.bac_transaction.specs.Sends.{Pairwise, IsSent}
 use Rattle.bac_transaction.specs.Ends.{Client, ClientEnd, kept, is_held, is_held_there, is_id_held, is_id_taken, waits_to_ask, free_id, has_no_slot}
-use Rattle.bac_transaction.specs.Ends.{Accepted, AskRefusal, AskOutcome, accepts, asks_with_id, asks_for, asks_by_way, client_asks}
+use Rattle.bac_transaction.specs.Ends.{Accepted, AskRefusal, AskOutcome, accepts, asks_with_id, asks_for, asks_by_way, requester_ask}
 use Rattle.bac_transaction.specs.Ends.AskOutcome.{Asked}
 use Rattle.bac_transaction.proofs.ClientTables.{is_untaken, least_around_is, no_wait}
 use Rattle.bac_transaction.proofs.Holding.{held_is}
@@ -97,14 +97,14 @@ module _ (c : Settings) (now : ℕ) (peer : PeerView) (choice : ℕ) (octets : O
   by_way (InSegments (front ∷ rest)) joins is = (with_id false front rest (joins (front ∷ rest) refl).0 is).0
   by_way (Way.Refused why) joins is = absurd cc
 
-  pub accepted_is : (limits : Limits) → client_asks c now peer limits choice octets e ≡ Asked a → IsAccepted
+  pub accepted_is : (limits : Limits) → requester_ask c now peer limits choice octets e ≡ Asked a → IsAccepted
   accepted_is limits is =
       let context : Context = record { settings = c; invoke_id = 0; now = now } in
       by_way (request_way_of c limits octets)
       (λ pieces way. let cut = requests_are_short.cut context limits octets pieces way in (cut.are.joined, cut.some)) is
 
   -- one that goes in one APDU is whole
-  pub accepted_whole : (limits : Limits) → client_asks c now peer limits choice octets e ≡ Asked a → request_way_of c limits octets ≡ InOne
+  pub accepted_whole : (limits : Limits) → requester_ask c now peer limits choice octets e ≡ Asked a → request_way_of c limits octets ≡ InOne
       → (p : IsAccepted) × (p.whole ≡ true)
   accepted_whole limits is in_one = with_id true octets [] (append_none octets)
       (subst (λ (way : Way RequestFault). asks_by_way c now peer choice octets e way ≡ Asked a) in_one is)
@@ -401,7 +401,7 @@ module _ (links : ℕ → Option Octets) (apart : (i j : ℕ) (l : Octets) → l
   asks_over w w' n h i s limits r step =
       let fits : Fits links apart W x w n n i step.before = h.nodes i step.before step.at in
       let asked_of : Settings → ℕ → AskOutcome =
-      λ c now. client_asks c now (peer_at step.link) limits (choice_of r) step.asks.octets step.before.clients in
+      λ c now. requester_ask c now (peer_at step.link) limits (choice_of r) step.asks.octets step.before.clients in
       let parts = accepted_is (x.settings i) n.now (peer_at step.link) (choice_of r) step.asks.octets step.before.clients step.accepted limits
       (subst (λ (y : Settings). asked_of y n.now ≡ Asked step.accepted) fits.settings
       (subst (λ (y : ℕ). asked_of step.before.settings y ≡ Asked step.accepted) (sym h.now) step.asks.accepted)) in

@@ -10,7 +10,7 @@ use Rattle.bac_protocol.specs.Service.{Octets}
 use Rattle.bac_protocol.specs.Wire.{is_from_client}
 use Rattle.bac_protocol.specs.Own.{invoke_id_of}
 use Rattle.bac_protocol.specs.Client as client
-use Rattle.bac_protocol.specs.Client.{ClientTransaction, is_idle, client_gets}
+use Rattle.bac_protocol.specs.Client.{ClientTransaction, is_idle, client_on_apdu}
 use Rattle.bac_protocol.specs.Server.{live_entry}
 use Rattle.bac_protocol.specs.Transaction.{Key, Rules, client_context}
 use Rattle.bac_protocol.specs.World.{Net, Post, client_acts}
@@ -25,7 +25,7 @@ use Rattle.bac_slots.specs.Slots.{value_at, with_value, IsDistinct}
 use Rattle.bac_transaction.specs.Keys.{PeerKey, same_key}
 use Rattle.bac_transaction.specs.Sends.{Datagram, Pairwise, IsSent}
 use Rattle.bac_transaction.specs.Meanings.{Finish, IsFinish}
-use Rattle.bac_transaction.specs.Ends.{Client, ClientEnd, ClientTurn, TransactionSlot, client_after, client_goes, client_hears_at, client_hears_held, stays}
+use Rattle.bac_transaction.specs.Ends.{Client, ClientEnd, ClientTurn, TransactionSlot, client_after, client_goes, requester_on_apdu_at, requester_on_apdu_in_slot, stays}
 use Rattle.bac_transaction.specs.Ends.TransactionSlot.{Open, Closed}
 use Rattle.bac_world.specs.Node.{Node, Outcome, IsClientTurn}
 use Rattle.bac_world.specs.Once.{Fact, IsOnce}
@@ -114,7 +114,7 @@ module _ (links : ℕ → Option Octets) (apart : (i j : ℕ) (l : Octets) → l
       → IsCopyOf links apart p c → n.now - p.copy.moment ≤ LIFE → net.later p.key number n.posts ≤ x.overtake
       → is_from_client p.copy.apdu ≡ false → c.from ≡ p.key.server → c.to ≡ p.key.client
       → (a b : Node) (o : Outcome) → slice_get w.nodes c.to ≡ Some a → (l : Octets) → links c.from ≡ Some l
-      → IsClientTurn (client_hears_at a.settings reads_reply w.now p.copy.apdu a.clients (slot_key l (invoke_id_of p.copy.apdu))
+      → IsClientTurn (requester_on_apdu_at a.settings reads_reply w.now p.copy.apdu a.clients (slot_key l (invoke_id_of p.copy.apdu))
       (value_at same_key (slot_key l (invoke_id_of p.copy.apdu)) a.clients.slots)) w.now a b o
       → Acts w c.to b o w' → Goes links apart W x w w' (taken_by_client x n p (n.tickets p.key))
   hears bound readable w w' n h number p c at copied young few down from_is to_is a b o node l link turn acts =
@@ -148,7 +148,7 @@ module _ (links : ℕ → Option Octets) (apart : (i j : ℕ) (l : Octets) → l
       context = client_context x key n.now
 
       heard : Settings → machine.Readable → (id now : ℕ) → ClientTurn
-      heard c readable id now = client_hears_at c readable now apdu a.clients (slot_key l id) (value_at same_key (slot_key l id) a.clients.slots)
+      heard c readable id now = requester_on_apdu_at c readable now apdu a.clients (slot_key l id) (value_at same_key (slot_key l id) a.clients.slots)
 
       turn' : IsClientTurn (heard s x.readable key.invoke_id n.now) w.now a b o
       turn' = subst (λ (y : Settings). IsClientTurn (heard y x.readable key.invoke_id n.now) w.now a b o) fits.settings
@@ -168,7 +168,7 @@ module _ (links : ℕ → Option Octets) (apart : (i j : ℕ) (l : Octets) → l
           (quiet w w' n h key.client a b o node' acts' t.performed (pairwise_none IsSent o.sends t.sends) (pairwise_none IsFinish o.ended t.ended) t.node)
 
       goes : (k : ℕ) (t : ClientTransaction) → value_at same_key q a.clients.slots ≡ Some (record { number = k; held = Open t })
-          → IsClientTurn (client_goes n.now a.clients q k t (client_gets context x.readable t apdu)) w.now a b o
+          → IsClientTurn (client_goes n.now a.clients q k t (client_on_apdu context x.readable t apdu)) w.now a b o
           → Goes links apart W x w w' made_net
       goes k t found turn = subst (λ (m : Net). Goes links apart W x w w' m) (sym (ap (taken_by_client x n p) open_is))
           (arrived w w' n h key.client a b o node' acts' turn.performed made turn.node refl
@@ -198,13 +198,13 @@ module _ (links : ℕ → Option Octets) (apart : (i j : ℕ) (l : Octets) → l
               (subst (λ (y : Option Client). TicketFits (n.asks_from key.client) n.now w.notes key.client (n.numbers key) y (n.tickets key)) found fit)).0
 
           r : client.Reaction
-          r = client_gets context x.readable t apdu
+          r = client_on_apdu context x.readable t apdu
 
           made : ClientEnd
           made = record (a.clients) { slots = with_value same_key q (client_after n.now k t r) a.clients.slots }
 
       held : (k : ℕ) (y : TransactionSlot) → value_at same_key q a.clients.slots ≡ Some (record { number = k; held = y })
-          → IsClientTurn (client_hears_held s x.readable n.now apdu a.clients q k y) w.now a b o
+          → IsClientTurn (requester_on_apdu_in_slot s x.readable n.now apdu a.clients q k y) w.now a b o
           → Goes links apart W x w w' made_net
       held k (Closed first) is turn = unheard
           (λ u at. closed_idle (n.asks_from key.client) n.now w.notes key.client (n.numbers key) k first u (subst (λ (y : Option ClientTransaction).
@@ -213,7 +213,7 @@ module _ (links : ℕ → Option Octets) (apart : (i j : ℕ) (l : Octets) → l
       held k (Open t) is turn = goes k t is turn
 
       go : (found : Option Client) → value_at same_key q a.clients.slots ≡ found
-          → IsClientTurn (client_hears_at s x.readable n.now apdu a.clients q found) w.now a b o
+          → IsClientTurn (requester_on_apdu_at s x.readable n.now apdu a.clients q found) w.now a b o
           → Goes links apart W x w w' made_net
       go None is turn = unheard
           (λ u at. sym (ap is_ended at)

@@ -11,7 +11,7 @@ pub data Leads (x : Rules) (from : Net) : Net → Type 0 where
   Here : Leads x from from
   Hears : (n : Net) (number : ℕ) (p : Post) (t : ClientTransaction) → Leads x from n → slice_get n.posts number ≡ Some p
       → is_deliverable x n.now number n.posts p ≡ true → is_from_client p.copy.apdu ≡ false → n.tickets p.key ≡ Some t
-      → Leads x from (client_acts n p.key t (client.client_gets (client_context x p.key n.now) x.readable t p.copy.apdu))
+      → Leads x from (client_acts n p.key t (client.client_on_apdu (client_context x p.key n.now) x.readable t p.copy.apdu))
   TicksTicket : (n : Net) (key : Key) (t : ClientTransaction) → Leads x from n → n.tickets key ≡ Some t
       → Leads x from (client_acts n key t (client.client_ticks (client_context x key n.now) t))
   TicksEntry : (n : Net) (key : Key) → Leads x from n

@@ -11,7 +11,7 @@ use Rattle.bac_slots.specs.Slots.{value_at}
 use Rattle.bac_transaction.specs.Keys.{PeerKey, same_key}
 use Rattle.bac_transaction.specs.Sends.{Datagram}
 use Rattle.bac_transaction.specs.Meanings.{Finish}
-use Rattle.bac_transaction.specs.Ends.{Client, ClientEnd, TransactionSlot, Accepted, client_hears_at, client_hears_held, key_of}
+use Rattle.bac_transaction.specs.Ends.{Client, ClientEnd, TransactionSlot, Accepted, requester_on_apdu_at, requester_on_apdu_in_slot, key_of}
 use Rattle.bac_transaction.specs.Ends.TransactionSlot.{Open, Closed}
 use Rattle.bac_world.specs.Services.{Performed}
 use Rattle.bac_world.specs.Node.{Node, Outcome, IsHeardBy, NodeOn, NodeTick, NodeAsks}
@@ -29,12 +29,12 @@ record Stays (a b : Node) : Type 0 where
   serves : b.servers.serves_from ≡ a.servers.serves_from
 
 held_from : (c : Settings) (r : Readable) (now : ℕ) (p : Apdu) (e : ClientEnd) (q : PeerKey) (k : ℕ) (y : TransactionSlot)
-    → (client_hears_held c r now p e q k y).end.asks_from ≡ e.asks_from
+    → (requester_on_apdu_in_slot c r now p e q k y).end.asks_from ≡ e.asks_from
 held_from c r now p e q k (Closed first) = refl
 held_from c r now p e q k (Open t) = refl
 
 slot_from : (c : Settings) (r : Readable) (now : ℕ) (p : Apdu) (e : ClientEnd) (q : PeerKey) (s : Option Client)
-    → (client_hears_at c r now p e q s).end.asks_from ≡ e.asks_from
+    → (requester_on_apdu_at c r now p e q s).end.asks_from ≡ e.asks_from
 slot_from c r now p e q None = refl
 slot_from c r now p e q (Some s) = held_from c r now p e q s.number s.held
 

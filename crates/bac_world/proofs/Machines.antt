@@ -69,7 +69,7 @@ module _ (W : ℕ) (x : Rules) (bound : IsBounded W x) where
 
   by_room : (n : Net) → Sound x n → (number : ℕ) (p : Post) → slice_get n.posts number ≡ Some p → n.now - p.copy.moment ≤ LIFE
       → later p.key number n.posts ≤ x.overtake → is_from_client p.copy.apdu ≡ true → (service : Service) (free : Bool)
-      → Sound x (server_acts n p.key (server.server_gets (server_context x p.key n.now) service (n.entries p.key) (is_room n p.key free) p.copy.apdu))
+      → Sound x (server_acts n p.key (server.server_on_apdu (server_context x p.key n.now) service (n.entries p.key) (is_room n p.key free) p.copy.apdu))
   by_room n s number p at young few up service free =
       let way : Bool → Net = λ b. if b then taken_by_server x n p free service else taken_by_client x n p (n.tickets p.key) in
       subst (λ (m : Net). Sound x m)
@@ -79,14 +79,14 @@ module _ (W : ℕ) (x : Rules) (bound : IsBounded W x) where
   -- a slot is free for it only where its server does not wait
   pub gets_at_server : (n : Net) → Sound x n → (number : ℕ) (p : Post) → slice_get n.posts number ≡ Some p → n.now - p.copy.moment ≤ LIFE
       → later p.key number n.posts ≤ x.overtake → is_from_client p.copy.apdu ≡ true → (service : Service) (free : Bool) → is_room n p.key free ≡ free
-      → Sound x (server_acts n p.key (server.server_gets (server_context x p.key n.now) service (n.entries p.key) free p.copy.apdu))
+      → Sound x (server_acts n p.key (server.server_on_apdu (server_context x p.key n.now) service (n.entries p.key) free p.copy.apdu))
   gets_at_server n s number p at young few up service free room =
-      subst (λ (b : Bool). Sound x (server_acts n p.key (server.server_gets (server_context x p.key n.now) service (n.entries p.key) b p.copy.apdu)))
+      subst (λ (b : Bool). Sound x (server_acts n p.key (server.server_on_apdu (server_context x p.key n.now) service (n.entries p.key) b p.copy.apdu)))
       room (by_room n s number p at young few up service free)
 
   pub gets_at_client : (n : Net) → Sound x n → (number : ℕ) (p : Post) → slice_get n.posts number ≡ Some p → n.now - p.copy.moment ≤ LIFE
       → later p.key number n.posts ≤ x.overtake → is_from_client p.copy.apdu ≡ false → (service : Service) → (t : ClientTransaction) → n.tickets p.key ≡ Some t
-      → Sound x (client_acts n p.key t (client.client_gets (client_context x p.key n.now) x.readable t p.copy.apdu))
+      → Sound x (client_acts n p.key t (client.client_on_apdu (client_context x p.key n.now) x.readable t p.copy.apdu))
   gets_at_client n s number p at young few down service t is =
       let way : Bool → Net = λ b. if b then taken_by_server x n p false service else taken_by_client x n p (n.tickets p.key) in
       subst (λ (m : Net). Sound x m)

@@ -15,7 +15,7 @@ use Rattle.bac_protocol.specs.Wire.{is_from_client, is_from_server, Each}
 use Rattle.bac_protocol.specs.Own.{invoke_id_of, IsOfServer}
 use Rattle.bac_protocol.specs.Client.{ClientTransaction, request_of}
 use Rattle.bac_protocol.specs.Server as server
-use Rattle.bac_protocol.specs.Server.{ServerTransaction, Effect, Service, live_entry, server_gets}
+use Rattle.bac_protocol.specs.Server.{ServerTransaction, Effect, Service, live_entry, server_on_apdu}
 use Rattle.bac_protocol.specs.Log as octets
 use Rattle.bac_protocol.specs.Log.{IsOrderly}
 use Rattle.bac_protocol.specs.Transaction.{Key, Rules, performed, server_context}
@@ -209,10 +209,10 @@ module _ (links : ℕ → Option Octets) (apart : (i j : ℕ) (l : Octets) → l
   abbrev hears_as : Settings → (now : ℕ) → Service → Octets → (id : ℕ) → Apdu → ServerEnd → ServerTurn
   hears_as s now service l id a e =
       server_goes now e (slot_key l id)
-      (server_gets (context_of s now (slot_key l id)) service (value_at same_key (slot_key l id) e.slots) (is_free now e) a)
+      (server_on_apdu (context_of s now (slot_key l id)) service (value_at same_key (slot_key l id) e.slots) (is_free now e) a)
 
   abbrev pub served_so : Net → Post → Service → ServerEnd → server.Reaction
-  served_so n p service e = server_gets (server_context x p.key n.now) service (n.entries p.key) (is_free n.now e) p.copy.apdu
+  served_so n p service e = server_on_apdu (server_context x p.key n.now) service (n.entries p.key) (is_free n.now e) p.copy.apdu
 
   module _ (bound : IsBounded W x) where
     pub serves : (w w' : World) (n : Net) → Over links apart W x w n → (number : ℕ) (p : Post) (c : Copy) → slice_get n.posts number ≡ Some p
@@ -262,7 +262,7 @@ module _ (links : ℕ → Option Octets) (apart : (i j : ℕ) (l : Octets) → l
         free = is_free n.now a.servers
 
         gets : Option ServerTransaction → server.Reaction
-        gets e = server_gets context service e free apdu
+        gets e = server_on_apdu context service e free apdu
 
         v : server.Reaction
         v = gets (value_at same_key q a.servers.slots)

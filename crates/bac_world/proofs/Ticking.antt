@@ -12,7 +12,7 @@ use Rattle.bac_transaction.specs.Keys.{PeerKey, peer_key_cmp, same_key}
 use Rattle.bac_transaction.specs.Sends.{Send, Datagram, Pairwise, IsSent}
 use Rattle.bac_transaction.specs.Meanings.{IsFinish}
 use Rattle.bac_transaction.specs.Ends.{ClientSlot, ServerSlot, Client, TransactionSlot, held_ticked, client_tick_sends, client_tick_ends, server_tick_sends, from_each}
-use Rattle.bac_transaction.specs.Ends.{clients_tick, servers_tick}
+use Rattle.bac_transaction.specs.Ends.{requester_tick, responder_tick}
 use Rattle.bac_transaction.specs.Ends.TransactionSlot.{Open, Closed}
 use Rattle.bac_world.specs.Node.{Node, Outcome, NodeTick}
 use Rattle.bac_world.specs.Once.{Fact, IsOnce}
@@ -71,8 +71,8 @@ module _ (links : ℕ → Option Octets) (apart : (i j : ℕ) (l : Octets) → l
   }
   node_is = subst (λ (y : Settings). b ≡ record a {
     latest = n.now;
-    clients = (clients_tick y n.now a.clients).end;
-    servers = (servers_tick y n.now a.servers).end;
+    clients = (requester_tick y n.now a.clients).end;
+    servers = (responder_tick y n.now a.servers).end;
   }) fits.settings tick'.node
 
   abbrev client_sends : Settings → List Send

@@ -47,7 +47,7 @@ pub fn bound_house<L: Link>(
 {
     let store = house(alloc)?;
     let mut node = node_with(alloc, address, store)?;
-    node.begin_ids_at(first_id);
+    node.set_first_invoke_id(first_id);
     BoundNode::new(alloc, node, link)
 }
 
@@ -67,6 +67,6 @@ pub fn bound_client<L: Link>(
 {
     let store = house(alloc)?;
     let mut node = node_of(alloc, IDS, address, store)?;
-    node.begin_ids_at(first_id);
+    node.set_first_invoke_id(first_id);
     BoundNode::new(alloc, node, link)
 }

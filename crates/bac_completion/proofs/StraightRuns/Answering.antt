@@ -37,7 +37,7 @@ use Rattle.bac_transaction.specs.Keys.{PeerKey, same_key}
 use Rattle.bac_transaction.specs.Sends.{Pairwise}
 use Rattle.bac_transaction.specs.Meanings.{Ending, MeansReply}
 use Rattle.bac_transaction.specs.Meanings.Ending.{Answered}
-use Rattle.bac_transaction.specs.Ends.{Accepted, AskOutcome, client_asks, is_free}
+use Rattle.bac_transaction.specs.Ends.{Accepted, AskOutcome, requester_ask, is_free}
 use Rattle.bac_transaction.specs.Ends.AskOutcome.{Asked}
 use Rattle.bac_transaction.specs.Services.{outcome_of, outcome_by}
 use Rattle.bac_world.specs.Node.{Node}
@@ -95,9 +95,9 @@ module _ (links : ℕ → Option Octets) (apart : (i j : ℕ) (l : Octets) → l
   server_at : links s ≡ Some run.asks.link
   server_at = sym (h.linked s) ∙ run.asks.peer
 
-  asks_so : client_asks (x.settings i) n.now (peer_at run.asks.link) limits (choice_of r) run.asks.asks.octets a.clients ≡ Asked run.asks.accepted
+  asks_so : requester_ask (x.settings i) n.now (peer_at run.asks.link) limits (choice_of r) run.asks.asks.octets a.clients ≡ Asked run.asks.accepted
   asks_so =
-      let by : Settings → ℕ → AskOutcome = λ c now. client_asks c now (peer_at run.asks.link) limits (choice_of r) run.asks.asks.octets a.clients in
+      let by : Settings → ℕ → AskOutcome = λ c now. requester_ask c now (peer_at run.asks.link) limits (choice_of r) run.asks.asks.octets a.clients in
       (λ d. by (sym client_set d) (h.now d)) ∙ run.asks.asks.accepted
 
   parts : IsAccepted (x.settings i) n.now (peer_at run.asks.link) (choice_of r) run.asks.asks.octets a.clients run.asks.accepted

@@ -16,7 +16,7 @@ use Rattle.bac_protocol.specs.Wire.{is_from_client}
 use Rattle.bac_protocol.specs.Client as client
 use Rattle.bac_protocol.specs.Client.{ClientTransaction}
 use Rattle.bac_protocol.specs.Server as server
-use Rattle.bac_protocol.specs.Server.{Service, server_gets}
+use Rattle.bac_protocol.specs.Server.{Service, server_on_apdu}
 use Rattle.bac_protocol.specs.Transaction.{Key, Rules, client_context, server_context}
 use Rattle.bac_protocol.specs.World.{Net, Post, happens, delivered, takes_at_client, takes_at_server}
 use Rattle.bac_protocol.specs.World as net
@@ -84,7 +84,7 @@ module _ (links : ℕ → Option Octets) (apart : (i j : ℕ) (l : Octets) → l
   at_client_own : (old : List Post) (n : Net) (p : Post) → AreOwn old p.key n.posts → (o : Option ClientTransaction) → AreOwn old p.key (taken_by_client x n p o).posts
   at_client_own old n p h None = h
   at_client_own old n p h (Some t) =
-      own_more old p.key n.posts h n.now (client.sends_of (client.client_gets (client_context x p.key n.now) x.readable t p.copy.apdu))
+      own_more old p.key n.posts h n.now (client.sends_of (client.client_on_apdu (client_context x p.key n.now) x.readable t p.copy.apdu))
 
   module _ (w w' : World) (v : Machines) (f : Fit w v) (number : ℕ) (c : Copy) (there : slice_get w.copies number ≡ Some c) (old : List Post) (key : Key)
       (ne : key.client ≡ key.server → ⊥) (own : AreOwn old key v.net.posts) (le : length old ≤ number) where
@@ -173,11 +173,11 @@ module _ (links : ℕ → Option Octets) (apart : (i j : ℕ) (l : Octets) → l
           s = serves links apart W x bound w w' n h number p c post.there post.goes young few up from_is to_is a b o node l link (service_of a.store) turn acts
 
           reacts : Service → Machines
-          reacts y = net.serves (Option Store) shop v p.key (server_gets (server_context x p.key n.now) y (n.entries p.key) free p.copy.apdu)
+          reacts y = net.serves (Option Store) shop v p.key (server_on_apdu (server_context x p.key n.now) y (n.entries p.key) free p.copy.apdu)
 
           becomes : with_free v number free ≡ reacts (service_of a.store)
           becomes = reaches free is true up
-              ∙ ap (λ b. net.serves (Option Store) shop v p.key (server_gets (server_context x p.key n.now) (net.service_of (Option Store) shop v p.key)
+              ∙ ap (λ b. net.serves (Option Store) shop v p.key (server_on_apdu (server_context x p.key n.now) (net.service_of (Option Store) shop v p.key)
               (n.entries p.key) b p.copy.apdu)) (room_is n p.key a.servers (h.nodes p.key.server a node').serves)
               ∙ ap (λ y. reacts (outcome_at y)) (f.stores p.key.server ∙ ap (λ (y : Option Node). option_map (λ (m : Node). m.store) y) node')
 

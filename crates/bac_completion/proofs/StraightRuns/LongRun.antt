@@ -18,7 +18,7 @@ use Rattle.bac_protocol.specs.Server as server
 use Rattle.bac_protocol.specs.Server.{ServerTransaction, begins, performs_so}
 use Rattle.bac_transaction.specs.Keys.{PeerKey}
 use Rattle.bac_transaction.specs.Meanings.Ending.{Answered}
-use Rattle.bac_transaction.specs.Ends.{Accepted, ClientEnd, ServerEnd, accepts, context_of, client_hears, server_hears, server_goes}
+use Rattle.bac_transaction.specs.Ends.{Accepted, ClientEnd, ServerEnd, accepts, context_of, requester_on_apdu, responder_on_apdu, server_goes}
 use Rattle.bac_transaction.specs.Services.{service_of, outcome_by}
 use Rattle.bac_world.specs.Services.{Performed}
 use Rattle.bac_world.specs.Node.{Node, Outcome, IsServerTurn, NodeAsks}
@@ -90,7 +90,7 @@ ACCEPTED = accepts SETTINGS 0 (slot 1) (record { first = 0; choice = 7; whole = 
     (record { slots = []; capacity = 1; asked = 0; asks_from = 0; first_id = 0 })
 
 abbrev hears : Apdu → ClientEnd → ClientEnd
-hears a e = (client_hears SETTINGS reads_reply 0 (peer_at (link 1)) a e).end
+hears a e = (requester_on_apdu SETTINGS reads_reply 0 (peer_at (link 1)) a e).end
 
 abbrev client : ClientEnd → Node
 client e = record (node 0) { clients = e }
@@ -105,7 +105,7 @@ abbrev CLOSED : ClientEnd
 CLOSED = hears ANSWER WAITS
 
 abbrev TAKEN : ServerEnd
-TAKEN = (server_hears SETTINGS 0 (service_of STORE) (peer_at (link 0)) FIRST (record { slots = []; capacity = 1; serves_from = 0 })).end
+TAKEN = (responder_on_apdu SETTINGS 0 (service_of STORE) (peer_at (link 0)) FIRST (record { slots = []; capacity = 1; serves_from = 0 })).end
 
 abbrev CONTEXT : Context
 CONTEXT = context_of SETTINGS 0 (slot 0)

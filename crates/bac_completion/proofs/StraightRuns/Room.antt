@@ -12,14 +12,14 @@ use Rattle.bac_protocol.specs.Sizes.{Way, RequestFault, request_way_of}
 use Rattle.bac_protocol.specs.Sizes.Way.{InOne, InSegments, Refused}
 use Rattle.bac_protocol.specs.Service.{Octets, OTHER}
 use Rattle.bac_protocol.specs.Wire.{is_from_client}
-use Rattle.bac_protocol.specs.Client.{Ask, client_gets}
+use Rattle.bac_protocol.specs.Client.{Ask, client_on_apdu}
 use Rattle.bac_protocol.specs.Server as server
-use Rattle.bac_protocol.specs.Server.{ServerTransaction, Service, is_live, is_none_live, server_gets, server_ticks, live_ticks, idle_gets, rests}
+use Rattle.bac_protocol.specs.Server.{ServerTransaction, Service, is_live, is_none_live, server_on_apdu, server_ticks, live_ticks, idle_on_apdu, rests}
 use Rattle.bac_slots.specs.Slots.{value_at}
 use Rattle.bac_transaction.specs.Keys.{PeerKey, same_key}
 use Rattle.bac_transaction.specs.Sends.{Datagram}
 use Rattle.bac_transaction.specs.Ends.{Client, ClientEnd, ServerEnd, TransactionSlot, Accepted, AskOutcome, AskRefusal, is_held, is_slot_held, is_slot_live, is_free}
-use Rattle.bac_transaction.specs.Ends.{client_hears_at, client_hears_held, client_after, client_ticked, held_ticked, server_ticked, entry_or, set_or_put, put_entry}
+use Rattle.bac_transaction.specs.Ends.{requester_on_apdu_at, requester_on_apdu_in_slot, client_after, client_ticked, held_ticked, server_ticked, entry_or, set_or_put, put_entry}
 use Rattle.bac_transaction.specs.Ends.{key_of, context_of, has_no_slot, asks_with_id, asks_for, asks_by_way, accepts, free_id, MOST_ASKS, new_client}
 use Rattle.bac_transaction.proofs.ServerTables.{has_space}
 use Rattle.bac_transaction.specs.Ends.TransactionSlot.{Open, Closed}
@@ -37,7 +37,7 @@ use Rattle.bac_completion.proofs.StraightRuns.Counts.{count, count_changed, coun
 
 -- where none is live and no slot is free, what comes leaves the entry as it was
 module _ (c : Context) (s : Service) where
-  unfree_idle : (o : Option ServerTransaction) (a : Apdu) → (idle_gets c s o false a).entry ≡ o
+  unfree_idle : (o : Option ServerTransaction) (a : Apdu) → (idle_on_apdu c s o false a).entry ≡ o
   unfree_idle o (ConfirmedRequest limits i None choice octets) = refl
   unfree_idle o (ConfirmedRequest limits i (Some g) choice octets) = go (not (nat_eq g.number 0))
     where
@@ -52,12 +52,12 @@ module _ (c : Context) (s : Service) where
   unfree_idle o (Reject i r) = refl
   unfree_idle o (Abort up i r) = refl
 
-  unfree : (o : Option ServerTransaction) (a : Apdu) → is_none_live c.now o ≡ true → (server_gets c s o false a).entry ≡ o
+  unfree : (o : Option ServerTransaction) (a : Apdu) → is_none_live c.now o ≡ true → (server_on_apdu c s o false a).entry ≡ o
   unfree None a dead = unfree_idle None a
   unfree (Some e) a dead = go (is_live c.now e) dead
     where
       go : (b : Bool) → (if b then false else true) ≡ true
-          → (if b then server.live_gets c s e e.state a else idle_gets c s (Some e) false a).entry ≡ Some e
+          → (if b then server.live_on_apdu c s e e.state a else idle_on_apdu c s (Some e) false a).entry ≡ Some e
       go true dead = absurd cc
       go false dead = unfree_idle (Some e) a
 
@@ -116,16 +116,16 @@ holds now v = is_held now v.held
 module _ (c : Settings) (now : ℕ) (a : Apdu) (e : ClientEnd) (key : PeerKey) where
   held_room : (number : ℕ) (y : TransactionSlot) → value_at same_key key e.slots ≡ Some (record { number = number; held = y })
       → count Client (holds now) e.slots ≤ e.capacity
-      → count Client (holds now) (client_hears_held c reads_reply now a e key number y).end.slots ≤ (client_hears_held c reads_reply now a e key number
+      → count Client (holds now) (requester_on_apdu_in_slot c reads_reply now a e key number y).end.slots ≤ (requester_on_apdu_in_slot c reads_reply now a e key number
       y).end.capacity
   held_room number (Closed first) at room = room
   held_room number (Open t) at room =
-      let k = count_with Client (holds now) key (client_after now number t (client_gets (context_of c now key) reads_reply t a))
+      let k = count_with Client (holds now) key (client_after now number t (client_on_apdu (context_of c now key) reads_reply t a))
       (record { number = number; held = Open t }) e.slots at refl in
       omega arith
 
   hears_room : (o : Option Client) → value_at same_key key e.slots ≡ o → count Client (holds now) e.slots ≤ e.capacity
-      → count Client (holds now) (client_hears_at c reads_reply now a e key o).end.slots ≤ (client_hears_at c reads_reply now a e key o).end.capacity
+      → count Client (holds now) (requester_on_apdu_at c reads_reply now a e key o).end.slots ≤ (requester_on_apdu_at c reads_reply now a e key o).end.capacity
   hears_room None at room = room
   hears_room (Some s) at room = held_room s.number s.held at room
 
@@ -135,7 +135,7 @@ heard_room now peer a old new o true turn h = subst (HasRoom now) (sym turn.node
   held = h.held;
   live =
       let key = key_of peer a in
-      let gets = λ (free : Bool). server_gets (context_of old.settings now key) (service_of old.store) (value_at same_key key old.servers.slots) free a in
+      let gets = λ (free : Bool). server_on_apdu (context_of old.settings now key) (service_of old.store) (value_at same_key key old.servers.slots) free a in
       put_room now key old.servers h.live (gets (is_free now old.servers)).entry
       (λ dead none. ap (λ (b : Bool). (gets b).entry) none
       ∙ unfree (context_of old.settings now key) (service_of old.store) (value_at same_key key old.servers.slots) a dead);

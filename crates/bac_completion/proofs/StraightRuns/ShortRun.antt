@@ -16,7 +16,7 @@ use Rattle.bac_protocol.specs.Server as server
 use Rattle.bac_protocol.specs.Server.{ServerTransaction, begins, performs_so}
 use Rattle.bac_transaction.specs.Keys.{PeerKey}
 use Rattle.bac_transaction.specs.Meanings.Ending.{Answered}
-use Rattle.bac_transaction.specs.Ends.{Accepted, ClientEnd, ServerEnd, accepts, context_of, client_hears, server_goes}
+use Rattle.bac_transaction.specs.Ends.{Accepted, ClientEnd, ServerEnd, accepts, context_of, requester_on_apdu, server_goes}
 use Rattle.bac_transaction.specs.Services.{service_of, outcome_by}
 use Rattle.bac_world.specs.Services.{Performed}
 use Rattle.bac_world.specs.Node.{Node, Outcome, IsServerTurn, NodeAsks}
@@ -62,7 +62,7 @@ abbrev client : ClientEnd → Node
 client e = record (node 0) { clients = e }
 
 abbrev CLOSED : ClientEnd
-CLOSED = (client_hears SETTINGS reads_reply 0 (peer_at (link 1)) ANSWER ACCEPTED.end).end
+CLOSED = (requester_on_apdu SETTINGS reads_reply 0 (peer_at (link 1)) ANSWER ACCEPTED.end).end
 
 abbrev CONTEXT : Context
 CONTEXT = context_of SETTINGS 0 (slot 0)

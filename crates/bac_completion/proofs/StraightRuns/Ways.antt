@@ -24,7 +24,7 @@ use Rattle.bac_protocol.specs.Client.{Ask}
 use Rattle.bac_protocol.specs.Short.{IsCutInto}
 use Rattle.bac_protocol.specs.Straight.{FitsData, RequestFits, KindFits, WayFits, request_count, way_count}
 use Rattle.bac_protocol.proofs.Short.{requests_are_short, replies_are_short}
-use Rattle.bac_transaction.specs.Ends.{ClientEnd, Accepted, AskOutcome, AskRefusal, accepts, asks_with_id, asks_for, asks_by_way, client_asks, free_id}
+use Rattle.bac_transaction.specs.Ends.{ClientEnd, Accepted, AskOutcome, AskRefusal, accepts, asks_with_id, asks_for, asks_by_way, requester_ask, free_id}
 use Rattle.bac_transaction.specs.Ends.{has_no_slot}
 use Rattle.bac_transaction.specs.Ends.AskOutcome.{Asked}
 use Rattle.bac_transaction.specs.Services.{outcome_of}
@@ -85,7 +85,7 @@ module _ (c : Settings) (now : ℕ) (peer : PeerView) (e : ClientEnd) (a : Accep
       goes_so (InSegments pieces) ask (ask_is ask is) refl (fits pieces refl)
   by_way choice octets (Refused why) fits is = absurd cc
 
-  pub asked_goes : (limits : Limits) (choice : ℕ) (octets : Octets) → client_asks c now peer limits choice octets e ≡ Asked a
+  pub asked_goes : (limits : Limits) (choice : ℕ) (octets : Octets) → requester_ask c now peer limits choice octets e ≡ Asked a
       → Goes (request_way_of c limits octets)
   asked_goes limits choice octets is =
       let context : Context = record { settings = c; invoke_id = 0; now = now } in

@@ -7,7 +7,7 @@ use bac_requester::{
     AskFault, Begun, Client, ClientTransaction, OutgoingRequest, RequestWay, Requester,
     TransactionSlot,
 };
-use bac_responder::{IdleReaction, Reaction, Responder, ServerTransaction, idle_gets};
+use bac_responder::{IdleReaction, Reaction, Responder, ServerTransaction, idle_on_apdu};
 use bac_service::OwnedRequest;
 use bac_slots::{IndexSlots, Same};
 use bac_store::{Store, house};
@@ -172,7 +172,7 @@ fn begun(alloc: Global) -> Option<Reaction> {
     let Ok(mut store) = house(alloc) else {
         return None;
     };
-    match idle_gets(alloc, &context(5), true, &apdu, &mut store) {
+    match idle_on_apdu(alloc, &context(5), true, &apdu, &mut store) {
         Ok(IdleReaction::Begins(reaction)) => Some(reaction),
         _ => None,
     }

@@ -4,7 +4,7 @@ use Rattle.bac_apdu.specs.Views.{apdu_view}
 use Rattle.bac_slots.specs.declared.slot.Slot.{Slot}
 use Rattle.bac_slots.specs.Slots.{value_at}
 use Rattle.bac_protocol.specs.Context.{Context}
-use Rattle.bac_protocol.specs.Server.{ServerTransaction, is_none_live, idle_gets}
+use Rattle.bac_protocol.specs.Server.{ServerTransaction, is_none_live, idle_on_apdu}
 use Rattle.bac_transaction.specs.Ends.{ServerEnd, is_free}
 use Rattle.bac_transaction.specs.Keys.{PeerKey, same_key}
 use Rattle.bac_transaction.specs.Views.{peer_key_view}
@@ -32,7 +32,7 @@ returns-in-Stays-clause-turn g c =
     let same =
     idle_is set (service_of c.args.store.now) o (is_free now e) (apdu_view c.args.apdu.now) dead
     ∙ where_it_begins set (service_of c.args.store.now) o (is_free now e) (apdu_view c.args.apdu.now)
-    ∙ ap (λ (b : Bool). idle_gets set (service_of c.args.store.now) o b (apdu_view c.args.apdu.now)) (sym c.has_place-free.ensures) in
+    ∙ ap (λ (b : Bool). idle_on_apdu set (service_of c.args.store.now) o b (apdu_view c.args.apdu.now)) (sym c.has_place-free.ensures) in
     let did = rw c.in-Stays.is at c.in_ok-sends.ensures.does in
     served_still now e k _ _ c.args.store.now _ o _ same (did o) dead
 
@@ -51,7 +51,7 @@ returns-in-Begins-clause-turn g c =
     let same =
     idle_is set (service_of c.args.store.now) o (is_free now e) (apdu_view c.args.apdu.now) dead
     ∙ where_it_begins set (service_of c.args.store.now) o (is_free now e) (apdu_view c.args.apdu.now)
-    ∙ ap (λ (b : Bool). idle_gets set (service_of c.args.store.now) o b (apdu_view c.args.apdu.now)) (sym c.has_place-free.ensures) in
+    ∙ ap (λ (b : Bool). idle_on_apdu set (service_of c.args.store.now) o b (apdu_view c.args.apdu.now)) (sym c.has_place-free.ensures) in
     let did = rw c.in-Begins.is at c.in_ok-sends.ensures.does in
     let begin = rw c.in-Begins.is at c.in_ok-sends.ensures.begin in
     let r = served_so now e k _ _ c.args.store.now _ x true _ _ _ same (did o) (begun_live now x begin) dead

@@ -2,7 +2,7 @@
 use Rattle.std.proofs.Common.{◌≡◌, ◌&&◌, ◌∙◌, true, nat_eq, ap, sym}
 use Rattle.bac_service.specs.Choices.{has_complex_ack}
 use Rattle.bac_protocol.specs.Client.{ClientTransaction}
-use Rattle.bac_requester.proofs.await_confirmation.gets_first_segment.Goals as goal
+use Rattle.bac_requester.proofs.await_confirmation.on_first_segment.Goals as goal
 
 pub returns : goal.returns
 returns c =

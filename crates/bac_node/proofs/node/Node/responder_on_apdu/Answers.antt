@@ -4,7 +4,7 @@ use Rattle.bac_apdu.specs.Views.{apdu_view}
 use Rattle.bac_npdu.specs.Views.{peer_view}
 use Rattle.bac_requester.specs.Views.{finish_view}
 use Rattle.bac_node.proofs.Turns.{server_turned}
-use Rattle.bac_node.proofs.node.Node.server_hears.Goals as goal
+use Rattle.bac_node.proofs.node.Node.responder_on_apdu.Goals as goal
 
 pub returns-clause-heard : goal.returns-clause-heard
 returns-clause-heard c =

@@ -2,7 +2,7 @@
 use Rattle.std.proofs.Common.{◌≡◌, true, nat_eq, arith}
 use Rattle.std.proofs.lemmas.Bool.Decides.{nat_tests}
 use Rattle.bac_requester.specs.declared.ticket.Phase.TheVariants.{SegmentedConf}
-use Rattle.bac_requester.proofs.segmented_conf.gets_next_segment.Goals as goal
+use Rattle.bac_requester.proofs.segmented_conf.on_next_segment.Goals as goal
 
 pub returns-clause-reacts : goal.returns-clause-reacts
 returns-clause-reacts c =

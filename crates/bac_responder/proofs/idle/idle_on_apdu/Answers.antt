@@ -3,7 +3,7 @@ use Rattle.bac_apdu.specs.Views.{apdu_view}
 use Rattle.bac_transaction.specs.Services.{service_of}
 use Rattle.bac_transaction.specs.Views.{context_view, peer_of}
 use Rattle.bac_responder.proofs.Begun.{idle_begins_now}
-use Rattle.bac_responder.proofs.idle.idle_gets.Goals as goal
+use Rattle.bac_responder.proofs.idle.idle_on_apdu.Goals as goal
 
 pub returns-in-None-clause-does : goal.returns-in-None-clause-does
 returns-in-None-clause-does c = rw (c.in-ConfirmedRequest.is, c.in-None.is) c.request_comes.ensures.does
