@@ -9,12 +9,15 @@ use Rattle.bac_value.specs.declared.tag.Class.TheVariants.{Application, Context}
 use Rattle.bac_value.specs.declared.tag.Form.{Form}
 use Rattle.bac_value.specs.declared.tag.Form.TheVariants.{Length, Boolean, Opening, Closing}
 use Rattle.bac_value.specs.Octets.{IsBytes}
-use Rattle.bac_value.specs.Number.{number_in}
 use Rattle.bac_value.specs.Spelling.{Mark, tag_spelling, SpellsTag}
 use Rattle.bac_value.specs.Value.{IsNumber, SpellsValue, null, boolean, unsigned, signed, real, double, octets, characters, bits, enumerated, date, time}
 use Rattle.bac_value.specs.Value.{object}
 use Rattle.bac_value.specs.Element.{IsOfKind}
 use Rattle.bac_value.specs.Reading.{tag_at, kind_at, number_at, element_at}
+use Rattle.bac_value.specs.Number.{number_in, unsigned_octets}
+use Rattle.bac_value.specs.Writing.{primitive, value_spelling}
+use Rattle.bac_value.proofs.OneSpelling.{value_only, contents_only}
+use Rattle.bac_value.proofs.Values.{IsContents-of, value_spelled}
 use Rattle.bac_value.proofs.Steps.{Takes, Takes-then, bind_ok, chosen, ok_is}
 use Rattle.bac_value.proofs.Tags.{tag_takes, tag_again}
 use Rattle.bac_value.proofs.RightContents.{kind_again}
@@ -211,3 +214,14 @@ enumerated_value n lt =
       fits = omega (arith, h.few);
       is = tag_octet n ∙ ap (λ (t : List ℕ). t ++ number_octets n) (sym (few_bits (length (number_octets n)) h.spelled.some h.few));
     }
+
+-- it is what the writer of application values appends
+pub enumerated_is : (n : ℕ) → n < 2 ^ 32 → enumerated_spelling n ≡ primitive Application 9 (unsigned_octets n)
+enumerated_is n lt = value_only (enumerated n) (enumerated_spelling n) (value_spelling (enumerated n)) (enumerated_value n lt) (value_spelled (enumerated n) lt)
+
+pub enumerated_few : (n : ℕ) → n < 2 ^ 32 → (length (enumerated_spelling n) ≡ 1 + length (unsigned_octets n)) × (length (enumerated_spelling n) ≤ 5)
+enumerated_few n lt =
+    let h = number_is n lt in
+    let few : length (enumerated_spelling n) ≤ 5 = rw (tag_octet n) (omega (arith, h.few)) in
+    let contents : number_octets n ≡ unsigned_octets n = contents_only (enumerated n) (number_octets n) (unsigned_octets n) h (IsContents-of (enumerated n) lt) in
+    (ap length (tag_octet n) ∙ ap (λ (xs : List ℕ). 1 + length xs) contents, few)

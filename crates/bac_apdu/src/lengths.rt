@@ -6,21 +6,15 @@ ghost use Rattle.bac_apdu.specs.Views.{segment_view, apdu_view};
 
 use crate::apdu::Apdu;
 use crate::limits::Segment;
+use bac_value::unsigned_len;
 
 /// An application Enumerated (clause 20.2.11).
+#[tactic(auto, using(crate::proofs::Enumerated::enumerated_few))]
 fn enumerated_len(number: u32) -> usize
     ensures is { result ≡ length (enumerated_spelling number) }
     ensures few { result ≤ 5 }
 {
-    if number < 0x100 {
-        2
-    } else if number < 0x1_0000 {
-        3
-    } else if number < 0x100_0000 {
-        4
-    } else {
-        5
-    }
+    1 + unsigned_len(u64::from(number))
 }
 
 /// The octets that speak of a segment: its number, and the proposed window.

@@ -10,7 +10,7 @@ ghost use Rattle.bac_apdu.specs.Views.{segment_view, apdu_view};
 use crate::apdu::Apdu;
 use crate::bits::{MOR, NAK, SA, SEG, SRV};
 use crate::limits::Segment;
-use bac_value::NoMemory;
+use bac_value::{Class, NoMemory, kinds, write_unsigned};
 
 /// The bits of the first octet that speak of a segment.
 fn bits_of(segment: Option<Segment>) -> u8
@@ -43,6 +43,7 @@ fn append(head: &[u8], service: &[u8], out: &mut Vec<u8>) -> Result<(), NoMemory
 }
 
 /// Appends an application Enumerated, or changes nothing.
+#[tactic(auto, using(crate::proofs::Enumerated::enumerated_is))]
 fn put_enumerated(number: u32, out: &mut Vec<u8>) -> Result<(), NoMemory>
     ensures ok { Appends result out.old out.new (enumerated_spelling number) }
     ensures len { Lengthens result out.old out.new (enumerated_spelling number) }
@@ -50,19 +51,7 @@ fn put_enumerated(number: u32, out: &mut Vec<u8>) -> Result<(), NoMemory>
     ensures full { NeedsRoom result out.old (enumerated_spelling number) }
     ensures grows { vec_capacity out.old ≤ vec_capacity out.new }
 {
-    if number < 0x100 {
-        out.extend_from_slice(&[0x91, number as u8])?;
-    } else if number < 0x1_0000 {
-        let [high, low] = (number as u16).to_be_bytes();
-        out.extend_from_slice(&[0x92, high, low])?;
-    } else if number < 0x100_0000 {
-        let [high, low] = ((number % 0x1_0000) as u16).to_be_bytes();
-        out.extend_from_slice(&[0x93, (number / 0x1_0000) as u8, high, low])?;
-    } else {
-        let [a, b, c, d] = number.to_be_bytes();
-        out.extend_from_slice(&[0x94, a, b, c, d])?;
-    }
-    Ok(())
+    write_unsigned(Class::Application, kinds::ENUMERATED, u64::from(number), out)
 }
 
 /// Appends a Confirmed-Request: four or six octets, then its service data; or changes nothing.

@@ -12,6 +12,7 @@ use bac_apdu::Window;
 use bac_value::{Octets, Parts};
 use std::alloc::Global;
 use std::marker::Model;
+use thiserror::Error;
 
 /// What a segment did to the receiver.
 #[derive(Clone, Copy, Debug, PartialEq, Eq)]
@@ -25,11 +26,13 @@ pub enum Step {
 }
 
 /// Why a segment was refused. The receiver is as before.
-#[derive(Clone, Copy, Debug, PartialEq, Eq)]
+#[derive(Clone, Copy, Debug, PartialEq, Eq, Error)]
 pub enum SegmentFault {
     /// With it the octets or the segments would be more than 65,535.
+    #[error("transfer too long")]
     TooLong,
     /// The memory for it was refused. This is tested last.
+    #[error("no memory")]
     NoMemory,
 }
 

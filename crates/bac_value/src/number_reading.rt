@@ -9,17 +9,8 @@ use crate::contents::take_contents;
 use crate::fault::FaultKind;
 use crate::kinds;
 use crate::number_width::greatest_in;
-use crate::octets::Octets;
+use crate::octets::{Octets, copy_to};
 use crate::value::ObjectIdentifier;
-
-/// A number with one octet more after it.
-fn with_octet(number: u64, octet: u8) -> u64
-    requires { number < 2 ^ 56 }
-    ensures is { result ≡ number * 256 + octet }
-    ensures octet { octet < 256 }
-{
-    number * 256 + u64::from(octet)
-}
 
 /// The number in at most 8 octets, the highest first.
 pub(crate) fn number_of<O: Octets>(octets: O) -> u64
@@ -27,13 +18,9 @@ pub(crate) fn number_of<O: Octets>(octets: O) -> u64
     ensures is { result ≡ number_in (O.octets octets) }
     ensures small { result < 256 ^ length (O.octets octets) }
 {
-    let mut number: u64 = 0;
-    let mut rest = octets;
-    while let Some(read) = rest.first() {
-        number = with_octet(number, read.0);
-        rest = read.1;
-    }
-    number
+    let mut eight = [0u8; 8];
+    copy_to(octets, &mut eight[8 - octets.len()..]);
+    u64::from_be_bytes(eight)
 }
 
 /// The number in 1 to 8 octets in two's complement.

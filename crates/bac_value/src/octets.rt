@@ -86,6 +86,20 @@ pub fn copy_of<O: Octets>(alloc: Global, octets: O) -> Result<Vec<u8>, NoMemory>
     Ok(copy)
 }
 
+/// Copies all octets to a slice of the same length.
+pub(crate) fn copy_to<O: Octets>(octets: O, out: &mut [u8])
+    requires { length (O.octets octets) ≡ length out.old }
+    ensures { out.new ≡ O.octets octets }
+{
+    let mut at = 0;
+    let mut rest = octets;
+    while let Some(read) = rest.first() {
+        out[at] = read.0;
+        at += 1;
+        rest = read.1;
+    }
+}
+
 pub(crate) fn slice_len(octets: &[u8]) -> usize
     ensures count { result ≡ length octets.now }
     ensures each { IsBytes octets.now }

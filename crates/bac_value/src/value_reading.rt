@@ -11,7 +11,7 @@ use crate::element::Element;
 use crate::kinds;
 use crate::memory::NoMemory;
 use crate::number_reading::{number_of, object_of, signed_of};
-use crate::octets::{Octets, copy_of};
+use crate::octets::{Octets, copy_of, copy_to};
 use crate::tag::{Class, Form};
 use crate::value::{BitString, CharacterString, OctetString, Value};
 use std::alloc::Global;
@@ -22,13 +22,7 @@ fn array_of<O: Octets, const N: usize>(octets: O) -> [u8; N]
     ensures { result ≡ O.octets octets }
 {
     let mut array = [0u8; N];
-    let mut at = 0;
-    let mut rest = octets;
-    while let Some(read) = rest.first() {
-        array[at] = read.0;
-        at += 1;
-        rest = read.1;
-    }
+    copy_to(octets, &mut array);
     array
 }
 

@@ -2,7 +2,6 @@ use Rattle.std.specs.Prelude.{◌≡◌, ◌++◌, ℕ, OnOk}
 use Rattle.std.specs.Global.{Vec}
 use Rattle.std.specs.declared.result.Result.TheVariants.{the_data, Ok, Err}
 use Rattle.bac_value.specs.Value.{Datum, IsValue}
-use Rattle.bac_value.specs.Views.{value_view}
 use Rattle.bac_value.specs.Writing.{AppendsValue, value_spelling}
 use Rattle.bac_value.proofs.Values.{value_spelled}
 use Rattle.bac_value.proofs.value_writing.write_value.Goals as goal
