@@ -44,7 +44,7 @@ ack_of_a_server : apdu_spelling (SegmentAck true 0 (record { nak = false; number
 unfolding apdu_spelling
 ack_of_a_server = refl
 
--- Write access is denied: class 2, code 40.
+-- Write access denied: class 2, code 40.
 error_spelled : apdu_spelling (Error 2 15 2 40) ≡ 0x50 ∷ 0x02 ∷ 0x0F ∷ 0x91 ∷ 0x02 ∷ 0x91 ∷ 0x28 ∷ []
 unfolding apdu_spelling
 error_spelled = refl

@@ -1,4 +1,4 @@
-//! Reading of Errors.
+//! Reading Error APDUs.
 
 ghost use Rattle.std.specs.Prelude.{◌≡◌, IfOk};
 ghost use Rattle.bac_value.specs.Views.{tag_view};
@@ -27,7 +27,7 @@ fn is_enumerated(tag: Tag) -> bool
     tag.class == Class::Application && tag.number == kinds::ENUMERATED
 }
 
-/// What is wrong where no application Enumerated stands in front.
+/// The fault of octets that do not begin with an application Enumerated.
 #[tactic(auto, unfolding(crate::specs::Reading::no_enumerated))]
 fn other_element(octets: &[u8]) -> Result<(u32, &[u8]), ApduFault>
     ensures { Reads (λ x. x) (λ r. r.now) octets.now result no_enumerated }

@@ -6,7 +6,7 @@ use Rattle.bac_value.specs.Writing.{AppendsValue, value_spelling}
 use Rattle.bac_value.proofs.Values.{value_spelled}
 use Rattle.bac_value.proofs.value_writing.write_value.Goals as goal
 
--- what was written stays where it was not refused
+-- what was appended stays unless the write failed
 kept : {E : Type 0} (r : the_data Unit E) (d : Datum) (old written new : Vec ℕ) →
     OnOk r (new ≡ written) → OnOk r (written.items ≡ old.items ++ value_spelling d) → IsValue d → OnOk r (AppendsValue d old.items new.items)
 kept (Ok _) d old written new same is value = record { spelled = value_spelled d value; is = rw same is }
