@@ -1,4 +1,4 @@
-use Rattle.std.proofs.Common.{arith, ap, sym, ◌≡◌, ◌+◌, ◌≤◌, ◌∙◌, ℕ, length}
+use Rattle.std.proofs.Common.{arith, ap, sym, ◌+◌, ◌∙◌, length}
 use Rattle.bac_value.specs.Number.{unsigned_octets}
 use Rattle.bac_apdu.proofs.Enumerated.{enumerated_few}
 use Rattle.bac_apdu.proofs.lengths.enumerated_len.Goals as goal
