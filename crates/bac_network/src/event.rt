@@ -23,7 +23,7 @@ pub enum Event {
         /// The copy.
         number: usize,
     },
-    /// Octets come to a node that no node sent: they are lost unless they come from a link of no node and mean no APDU of a peer.
+    /// Octets come to a node that no node sent, from any link: they are lost unless they mean no APDU of a peer.
     Noise {
         /// The node to which they come.
         node: usize,

@@ -6,13 +6,15 @@ ghost use Rattle.bac_requester.specs.TransactionViews.{ending_view};
 ghost use Rattle.bac_world.specs.Node.{Node};
 ghost use Rattle.bac_world.specs.World.{WorldStep};
 ghost use Rattle.bac_world.specs.World.Event.{Ask, Deliver};
-ghost use Rattle.bac_network.specs.Histories.{AreEndedOnceNow, ArePerformedOnceNow, AreReplayedNow, HasHistory, IsOnceNow};
+ghost use Rattle.bac_network.specs.Histories.{AreChangesPermittedNow, AreEndedOnceNow, ArePerformedOnceNow, AreReplayedNow, HasHistory};
+ghost use Rattle.bac_network.specs.Histories.{HasRequestsAloneNow, IsOnceByRequestsAloneNow, IsOnceNow};
 ghost use Rattle.bac_network.specs.Steps.{IsFault};
 ghost use Rattle.bac_completion.specs.StraightRuns.{ending_in};
 ghost use Rattle.bac_network.specs.StraightFaults.{Fails, StopsShort};
 ghost use Rattle.bac_network.specs.Going.{HasStopped, IsStuck};
 ghost use Rattle.bac_network.specs.Logs.{IsSince, Stops, ending_by};
 ghost use Rattle.bac_network.specs.StraightRuns.{AsksIf, CanBeAnswered, Goes, GoesAt, IsAnsweredSoon, IsWellMadeAt, WentSoFar};
+ghost use Rattle.bac_network.specs.StraightRuns.{limits_of_server};
 
 use crate::ended::ending_of;
 use crate::{Event, World, WorldFault};
@@ -42,13 +44,16 @@ impl StraightRun {
     }
 }
 
-/// What a node takes of APDUs; None where there is no such node.
-fn limits_of(world: &World, node: usize) -> Option<Limits>
+/// What a client is told that a node takes of APDUs as a server: requests in segments whatever its SA bit says. None where there is no such node.
+fn limits_of_server(world: &World, node: usize) -> Option<Limits>
     ensures { MatchOption result (slice_get world.now.world.nodes node ≡ None)
-        (λ l. (n : Node) × (slice_get world.now.world.nodes node ≡ Some n) × (limits_view l ≡ n.settings.limits)) }
+        (λ l. (n : Node) × (slice_get world.now.world.nodes node ≡ Some n) × (limits_view l ≡ limits_of_server n)) }
 {
     match world.nodes().get(node) {
-        Some(node) => Some(node.settings().limits),
+        Some(node) => Some(Limits {
+            takes_segments: true,
+            ..node.settings().limits
+        }),
         None => None,
     }
 }
@@ -179,8 +184,8 @@ fn ask_and_deliver(
     }
 }
 
-/// A straight run: asks with what the server takes of APDUs, and delivers each copy that arises from it once, in order of sending, at one moment, until the
-/// ask has ended or no copy is left. A refused ask changes nothing.
+/// A straight run: asks with what the server takes of APDUs (requests in segments whatever its SA bit says), and delivers each copy that arises from it once,
+/// in order of sending, at one moment, until the ask has ended or no copy is left. A refused ask changes nothing.
 ///
 /// It stops at the first fault of an event, and tells it; what was done before stands. `NoSuchNode` where either node is not there, and then nothing changed;
 /// `NoMemory` where there is none for an event. It tells no other fault: each copy that it delivers is there. It takes no memory of its own.
@@ -202,12 +207,14 @@ pub fn straight(
     ensures once { IsOnceNow world.new }
     ensures performed { ArePerformedOnceNow world.new }
     ensures ended { AreEndedOnceNow world.new }
+    ensures permitted { AreChangesPermittedNow world.new }
     ensures stores { AreReplayedNow world.new }
+    ensures requests_alone { HasRequestsAloneNow world.old → IsOnceByRequestsAloneNow world.new }
 {
     world.is_once();
     is_well_made(world, client);
     is_well_made(world, server);
-    let Some(limits) = limits_of(world, server) else {
+    let Some(limits) = limits_of_server(world, server) else {
         return Err(WorldFault::NoSuchNode);
     };
     let run = ask_and_deliver(world, client, server, limits, request);

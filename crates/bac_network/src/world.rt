@@ -1,12 +1,13 @@
 //! A world.
-ghost use Rattle.std.specs.Prelude.{◌≡◌, ◌↔◌, ℕ, IsErrOf, IsTrue, IfErr, IfOk, OnErr, OnOk, MatchOption, MatchResult, None, Some, length, map, slice_get, take};
+ghost use Rattle.std.specs.Prelude.{◌≡◌, ◌↔◌, ◌∷◌, [], ℕ, IsErrOf, IsTrue, IfErr, IfOk, OnErr, OnOk, MatchOption, MatchResult, None, Some, length, map, slice_get, take};
 ghost use Rattle.bac_store.specs.declared.change_fault.ChangeFault.{ChangeFault};
 ghost use Rattle.bac_world.specs.World.{WorldRun, WorldStep, stores_of};
 ghost use Rattle.bac_journal.specs.Notes.{notes_view};
 ghost use Rattle.bac_journal.specs.Views.{copy_view};
-ghost use Rattle.bac_network.specs.Histories.{AreEndedOnceNow, ArePerformedOnceNow, AreReplayedNow, HasHistory, IsOnceNow};
+ghost use Rattle.bac_network.specs.Histories.{AreChangesPermittedNow, AreEndedOnceNow, ArePerformedOnceNow, AreReplayedNow, HasHistory};
+ghost use Rattle.bac_network.specs.Histories.{HasRequestsAloneNow, IsOnceByRequestsAloneNow, IsOnceNow};
 ghost use Rattle.bac_network.specs.Steps.{NamesNoCopy, NamesNoNode, PassesClock, RefusesChange, TakesMemory, Tells};
-ghost use Rattle.bac_network.specs.Runs.{StopsAt};
+ghost use Rattle.bac_network.specs.Runs.{RequestsTakeEffectOnce, StopsAt};
 ghost use Rattle.bac_network.specs.Views.{event_view, log_view};
 
 use crate::are_alike;
@@ -107,13 +108,17 @@ impl World {
 
     /// A run of a fresh world with the opening stores led to it, and its log is right with the stores: every accepted ask was performed at most once, as it
     /// was asked, with the reply of its server's store as it then was (`performed`); it ended at most once, and was answered with that reply alone (`ended`);
-    /// and stores were changed by performed requests, and by changes and restarts of their nodes alone (`stores`).
+    /// each change that a node made in its own store had no fault for it as it then was (`permitted`); and stores were changed by performed requests, and by
+    /// changes and restarts of their nodes alone (`stores`). Where no node changed its own store or restarted, performed requests alone changed stores
+    /// (`requests_alone`).
     pub fn is_once(&self)
         ensures history { HasHistory self.now }
         ensures once { IsOnceNow self.now }
         ensures performed { ArePerformedOnceNow self.now }
         ensures ended { AreEndedOnceNow self.now }
+        ensures permitted { AreChangesPermittedNow self.now }
         ensures stores { AreReplayedNow self.now }
+        ensures requests_alone { HasRequestsAloneNow self.now → IsOnceByRequestsAloneNow self.now }
     {
         let _network = &self.network;
     }
@@ -136,13 +141,19 @@ impl World {
         ensures once { IsOnceNow self.new }
         ensures performed { ArePerformedOnceNow self.new }
         ensures ended { AreEndedOnceNow self.new }
+        ensures permitted { AreChangesPermittedNow self.new }
         ensures stores { AreReplayedNow self.new }
+        ensures requests_alone { RequestsTakeEffectOnce self.old (event_view event.now ∷ []) self.new }
     {
         self.network
             .step(self.alloc, self.overtake, self.window, event)
     }
 
     /// Events happen in their order, up to the first that meets a fault: the events before it stand.
+    ///
+    /// For every list of asks, deliveries, losses, repeats, reorderings, noise, ticks and clock steps (`requests_alone`), every accepted ask takes effect at
+    /// most once, and exactly once where a service answer reached its client; the request performed and the answer are its own, whole; and each server's store
+    /// is its opening store after the performed requests in their order. With changes and restarts of nodes too, the log is right with the stores (`once`).
     pub fn run(&mut self, events: &[Event]) -> Result<(), RunFault>
         ensures went { OnOk result (WorldRun self.old.overtake self.old.world (map event_view events.now) self.new.world) }
         ensures stopped { IfErr result (λ f. StopsAt f self.old (map event_view events.now) self.new) }
@@ -150,7 +161,9 @@ impl World {
         ensures once { IsOnceNow self.new }
         ensures performed { ArePerformedOnceNow self.new }
         ensures ended { AreEndedOnceNow self.new }
+        ensures permitted { AreChangesPermittedNow self.new }
         ensures stores { AreReplayedNow self.new }
+        ensures requests_alone { RequestsTakeEffectOnce self.old (map event_view events.now) self.new }
     {
         for (place, event) in events.iter().enumerate() {
             if let Err(fault) = self.step(event) {
