@@ -4,7 +4,7 @@ use Rattle.std.proofs.lemmas.Option.{slice_get_read}
 use Rattle.bac_network.specs.Views.{event_view}
 use Rattle.bac_network.specs.Histories.{HasRequestsAloneNow}
 use Rattle.bac_network.proofs.Histories.{requests_now}
-use Rattle.bac_network.proofs.Running.{alone_so_far, fault_is, goes_on, stops}
+use Rattle.bac_network.proofs.WorldRunning.{alone_so_far, fault_is, goes_on, stops}
 use Rattle.bac_network.proofs.world.World.run.Goals as goal
 
 pub returns-in-Err-clause-stopped : goal.returns-in-Err-clause-stopped
