@@ -9,4 +9,3 @@ pub mod Takings
 pub mod Copies
 pub mod Same
 pub mod Begun
-pub mod Standing

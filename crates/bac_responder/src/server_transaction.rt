@@ -1,4 +1,5 @@
-//! One entry of the reply table.
+//! One entry of the reply table: what it keeps, in each state of clause 5.4.5. Used by every file of this crate that handles an APDU or a tick. A new
+//! state needs an arm in transaction_apdu, transaction_tick, timers and comparing, and a case in the machine's definitions.
 ghost use Rattle.std.specs.Prelude.{◌≡◌, ◌≤◌, length};
 ghost use Rattle.bac_segment.specs.Limits.{DATA};
 ghost use Rattle.bac_segment.specs.Pieces.{join};
@@ -26,7 +27,15 @@ pub(crate) struct Origin {
     pub(crate) request: Option<Vec<u8>>,
 }
 
-/// The transfer of a reply in segments.
+/// A request that is received in segments (SEGMENTED_REQUEST, clause 5.4.5.2).
+#[derive(Drop)]
+pub(crate) struct Reassembly {
+    pub(crate) incoming: Incoming,
+    /// The moment of the last segment that arrived.
+    pub(crate) since: u64,
+}
+
+/// How far the transfer of a reply in segments is.
 #[derive(Clone, Copy)]
 pub(crate) enum Transfer {
     Running,
@@ -34,25 +43,22 @@ pub(crate) enum Transfer {
     Finished,
 }
 
+/// A reply that is sent in segments, and kept (SEGMENTED_RESPONSE, clause 5.4.5.4).
+#[derive(Drop)]
+pub(crate) struct ReplyTransfer {
+    pub(crate) outgoing: Outgoing,
+    pub(crate) transfer: Transfer,
+    /// The moment from which its timer runs.
+    pub(crate) since: u64,
+}
+
 /// The states of an entry (clause 5.4.5); Done and Dropped are the reply table's own. Moments are in milliseconds.
 #[derive(Drop)]
 pub(crate) enum State {
-    /// A request in segments is received; `since` is the moment of the last one that arrived.
-    SegmentedRequest {
-        incoming: Incoming,
-        since: u64,
-    },
+    SegmentedRequest(Reassembly),
     /// A reply of one APDU is kept, with its invoke ID.
-    Done {
-        invoke_id: u8,
-        kept: KeptReply,
-    },
-    /// A reply in segments is kept; `since` is the moment from which its timer runs.
-    SegmentedResponse {
-        outgoing: Outgoing,
-        transfer: Transfer,
-        since: u64,
-    },
+    Done { invoke_id: u8, kept: KeptReply },
+    SegmentedResponse(ReplyTransfer),
     /// A reassembly was given up.
     Dropped,
 }
@@ -77,28 +83,6 @@ impl Model for ServerTransaction {
 }
 
 impl ServerTransaction {
-    ghost use Rattle.bac_responder.specs.TransactionViews.{no_entry};
-
-    /// An entry of no request, without memory: it holds the place of one that is taken out of its slot.
-    pub fn placeholder() -> ServerTransaction
-        ensures { result ≡ no_entry }
-    {
-        let limits = Limits {
-            max_apdu: 0,
-            takes_segments: false,
-            max_segments: 0,
-        };
-        let origin = Origin {
-            begin: 0,
-            terms: Terms { choice: 0, limits },
-            request: None,
-        };
-        ServerTransaction {
-            origin,
-            state: State::Dropped,
-        }
-    }
-
     /// The moment at which the first copy of its request came, or its first segment.
     pub fn begin(&self) -> u64
         ensures { result ≡ self.now.begin }
@@ -113,13 +97,13 @@ impl ServerTransaction {
         ensures few { length (parts_taken self.now.state) ≤ DATA }
     {
         match &self.state {
-            State::SegmentedRequest { incoming, .. } => {
+            State::SegmentedRequest(reassembly) => {
                 // that the segments are few
-                let _segments = incoming.taken();
-                incoming.len()
+                let _segments = reassembly.incoming.taken();
+                reassembly.incoming.len()
             }
             State::Done { .. } => 0,
-            State::SegmentedResponse { .. } => 0,
+            State::SegmentedResponse(_) => 0,
             State::Dropped => 0,
         }
     }
