@@ -1,6 +1,8 @@
 -- A performance that was prepared and committed is what the machine says.
 use Rattle.std.proofs.Common.{◌≡◌, ℕ, Bool, true, false, List, [], ◌∷◌, ◌++◌, Option, Some, None, Result, Ok, Err, refl, ap, sym, subst, ◌∙◌, if◌then◌else◌}
 use Rattle.std.specs.Global.{Vec}
+use Rattle.std.specs.Prelude.{IfOk}
+use Rattle.bac_value.specs.declared.memory.NoMemory.{NoMemory}
 use Rattle.bac_apdu.specs.Apdu.{Apdu, Limits}
 use Rattle.bac_npdu.specs.Peers.{PeerView}
 use Rattle.bac_service.specs.Replies as plain
@@ -25,9 +27,9 @@ use Rattle.bac_transaction.specs.Sends.{Datagram, Pairwise, IsSent, to_all}
 use Rattle.bac_transaction.specs.Services.{Performed, ArePerformed, outcome_of, outcome_by, service_of, store_after}
 use Rattle.bac_responder.specs.Reactions.{IsReaction}
 use Rattle.bac_responder.specs.Reading.{IsRead}
-use Rattle.bac_responder.specs.TransactionViews.{state_view}
+use Rattle.bac_responder.specs.TransactionViews.{IsSendable, state_view}
 use Rattle.bac_responder.specs.Preparing.{sent_by, state_by, is_performed, Waits, IsPlacedAt, IsPrepared, IsCommitted, CanCommit}
-use Rattle.bac_responder.specs.Preparing.{IsNoReject, IsSpelledReply}
+use Rattle.bac_responder.specs.Preparing.{IsInOneApdu, IsNoReject, IsPending, IsPlaced, IsReady, IsRejected, IsSpelledReply}
 use Rattle.bac_responder.specs.declared.replying.Commit.{Commit}
 use Rattle.bac_responder.specs.declared.replying.PreparedReply.{PreparedReply}
 use Rattle.bac_transaction.proofs.Pieces.{one_more_sent}
@@ -154,3 +156,32 @@ prepared_after c peer choice limits s (Ok r) before x front all p is ready =
     }
 prepared_after c peer choice limits s (Err reason) before x front all p is ready =
     record { placed = placed_after peer choice before _ _ x front all p is ready.placed; pending = ready.pending }
+
+-- What is prepared of a request that was read, and of a Reject.
+
+waits : (performs : Bool) (s : Store) (r : Request) (reply : Reply) (p : Commit) (o : Option Commit) → o ≡ (if performs then Some p else None)
+    → IsPending s r reply p → Waits performs s r reply o
+waits true s r reply p o is pending = subst (λ (x : Option Commit). Waits true s r reply x) (sym is) pending
+waits false s r reply p o is pending = subst (λ (x : Option Commit). Waits false s r reply x) (sym is) tt
+
+pub reply_ready : (c : Context) (peer : PeerView) (choice : ℕ) (limits : Limits) (s : Store) (r : Request) (reply : Reply) (p : Commit)
+    → outcome_of (reply_to s r) ≡ Replies reply → IsPending s r reply p → (x : Result PreparedReply NoMemory)
+    → IfOk x (IsPlaced c peer choice reply (reply_way_of c.settings limits reply) p) → IfOk x (IsReady c peer choice limits s r [])
+reply_ready c peer choice limits s r reply p outcome pending (Ok x) h =
+    record {
+      reply = reply;
+      outcome = outcome;
+      placed = h.placed;
+      pending = waits (is_performed (reply_way_of c.settings limits reply)) s r reply p x.commit h.commit pending;
+    }
+reply_ready c peer choice limits s r reply p outcome pending (Err e) h = tt
+
+pub reject_ready : (c : Context) (peer : PeerView) (choice reason : ℕ) (x : Result PreparedReply NoMemory)
+    → IfOk x (IsInOneApdu peer choice (Apdu.Reject c.invoke_id reason) None) → IfOk x (IsRejected c peer choice reason [])
+reject_ready c peer choice reason (Ok x) h = record { placed = h.placed; pending = h.commit }
+reject_ready c peer choice reason (Err e) h = tt
+
+pub prepared_sendable : (c : Context) (peer : PeerView) (choice : ℕ) (limits : Limits) (s : Store) (found : Result Request ℕ) (before : List Apdu) (x : PreparedReply)
+    → IsPrepared c peer choice limits s found before x → IsSendable choice x.state
+prepared_sendable c peer choice limits s (Ok r) before x p = p.placed.sendable
+prepared_sendable c peer choice limits s (Err reason) before x p = p.placed.sendable

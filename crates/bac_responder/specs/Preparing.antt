@@ -41,20 +41,20 @@ is_performed (InSegments pieces) = true
 is_performed (Refused reason) = false
 
 -- a state as the machine has it, which keeps only what can be sent, and the datagrams of these APDUs
-pub record IsPlacedAt (peer : PeerView) (choice : ℕ) (sent : List Apdu) (z : State) (x : PreparedReply) : Type 0 where
+pub record IsPlacedAt (peer : PeerView) (choice : ℕ) (apdus : List Apdu) (z : State) (x : PreparedReply) : Type 0 where
   pub viewed : state_view choice x.state ≡ z
   pub sendable : IsSendable choice x.state
-  pub sent : Pairwise IsSent (to_all peer sent) x.sends.items
+  pub sent : Pairwise IsSent (to_all peer apdus) x.sends.items
 
 -- a reply by its way; where it can't be sent, nothing is performed
-pub record IsPlaced (c : Context) (peer : PeerView) (choice : ℕ) (reply : Reply) (way : Way ℕ) (commit : Commit) (x : PreparedReply) : Type 0 where
+pub record IsPlaced (c : Context) (peer : PeerView) (choice : ℕ) (reply : Reply) (way : Way ℕ) (p : Commit) (x : PreparedReply) : Type 0 where
   pub placed : IsPlacedAt peer choice (sent_by c choice reply way ∷ []) (state_by c choice reply way) x
-  pub commit : x.commit ≡ (if is_performed way then Some commit else None)
+  pub commit : x.commit ≡ (if is_performed way then Some p else None)
 
 -- an APDU that is kept
-pub record IsInOneApdu (peer : PeerView) (choice : ℕ) (a : Apdu) (commit : Option Commit) (x : PreparedReply) : Type 0 where
+pub record IsInOneApdu (peer : PeerView) (choice : ℕ) (a : Apdu) (p : Option Commit) (x : PreparedReply) : Type 0 where
   pub placed : IsPlacedAt peer choice (a ∷ []) (State.Done a) x
-  pub commit : x.commit ≡ commit
+  pub commit : x.commit ≡ p
 
 -- what waits for its commit is the plan for that request on this store
 pub record IsPending (s : Store) (r : Request) (reply : Reply) (p : Commit) : Type 0 where

@@ -3,8 +3,8 @@ ghost use Rattle.std.specs.Prelude.{◌≡◌, ◌↔◌, ℕ, IsTrue, MatchBool
 ghost use Rattle.bac_protocol.specs.Server as machine;
 ghost use Rattle.bac_responder.specs.TransactionViews.{spelled_view, kept_reply_view, state_view, transfer_view, entry_of};
 
-use crate::server_transaction::{Origin, ServerTransaction, State, Transfer};
 use crate::kept_reply::{KeptReply, SpelledReply};
+use crate::server_transaction::{Origin, ServerTransaction, State, Transfer};
 use bac_slots::Same;
 
 fn is_same_spelled(reply: &SpelledReply, other: &SpelledReply) -> bool

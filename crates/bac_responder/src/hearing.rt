@@ -82,10 +82,13 @@ fn idle_hears<S: SlotTable<PeerKey, ServerTransaction>>(
 {
     let free = has_place(aged, restart, context.moment, apdu);
     let (performed, begun) = idle_on_apdu(alloc, context, free, apdu, store)?;
-    if let Some(transaction) = begun {
-        enter(aged, context.key, context.moment, transaction);
+    match begun {
+        None => Ok(served(context.key, performed)),
+        Some(transaction) => {
+            enter(aged, context.key, context.moment, transaction);
+            Ok(served(context.key, performed))
+        }
     }
-    Ok(served(context.key, performed))
 }
 
 /// An APDU comes for the context's transaction. Its key is looked up once; a live entry goes on in its slot.
@@ -110,8 +113,12 @@ pub(crate) fn hears<S: SlotTable<PeerKey, ServerTransaction>>(
     if !slot.is_live(context.moment) {
         return idle_hears(alloc, context, aged, restart, apdu, store);
     }
-    let performed = slot.on_apdu(alloc, context, apdu, store)?;
-    let due = slot.due(from);
-    aged.ages.comes_due(due);
-    Ok(served(context.key, performed))
+    match slot.on_apdu(alloc, context, apdu, store) {
+        Ok(performed) => {
+            let due = slot.due(from);
+            aged.ages.comes_due(due);
+            Ok(served(context.key, performed))
+        }
+        Err(_) => Err(NoMemory),
+    }
 }

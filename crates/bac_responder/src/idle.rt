@@ -1,5 +1,5 @@
 //! IDLE (clause 5.4.5.1): an APDU where no entry of its key is live. hearing calls it once for such an APDU.
-ghost use Rattle.std.specs.Prelude.{◌≡◌};
+ghost use Rattle.std.specs.Prelude.{◌≡◌, true};
 ghost use Rattle.bac_apdu.specs.Views.{apdu_view, limits_view, segment_view};
 ghost use Rattle.bac_protocol.specs.Server as machine;
 ghost use Rattle.bac_responder.specs.Reactions.{IdleReacts, BeginsAt, BeginsWhereFree};
@@ -69,14 +69,16 @@ fn on_first_segment(
         incoming: Incoming::new(alloc, segment.window, context.settings.window),
         since: context.moment,
     };
-    let (performed, next) =
-        reassembly.take_segment(alloc, context, &origin, segment, octets, store)?;
-    let state = match next {
-        Some(state) => state,
-        None => State::SegmentedRequest(reassembly),
-    };
-    let transaction = ServerTransaction { origin, state };
-    Ok((performed, Some(transaction)))
+    let (performed, next) = reassembly.take_segment(
+        alloc, context, &origin, segment, octets, store,
+    )?;
+    match next {
+        None => {
+            let state = State::SegmentedRequest(reassembly);
+            Ok((performed, Some(ServerTransaction { origin, state })))
+        }
+        Some(state) => Ok((performed, Some(ServerTransaction { origin, state }))),
+    }
 }
 
 /// An APDU comes where no entry of its key is live; `free` says whether a slot of the reply table has no live entry. What is sent, what is performed, and the

@@ -55,11 +55,7 @@ fn done_on_apdu(
 }
 
 /// After a reassembly that was given up, each request and each segment gets an Abort.
-fn dropped_on_apdu(
-    alloc: Global,
-    context: &Context,
-    apdu: &Apdu<'_>,
-) -> Result<Performed, NoMemory>
+fn dropped_on_apdu(alloc: Global, context: &Context, apdu: &Apdu<'_>) -> Result<Performed, NoMemory>
     ensures { (e : machine.ServerTransaction) (s : Objects) → Answers (machine.dropped_on_apdu (context_view context.now) e (apdu_view apdu.now))
         (peer_of context.now) e e s result s }
 {
@@ -91,12 +87,14 @@ impl ServerTransaction {
         let ServerTransaction { origin, state } = self;
         match state {
             State::SegmentedRequest(reassembly) => {
-                let (performed, next) =
-                    reassembly.on_apdu(alloc, context, origin, apdu, store)?;
-                if let Some(next) = next {
-                    *state = next;
+                let (performed, next) = reassembly.on_apdu(alloc, context, origin, apdu, store)?;
+                match next {
+                    None => Ok(performed),
+                    Some(next) => {
+                        *state = next;
+                        Ok(performed)
+                    }
                 }
-                Ok(performed)
             }
             State::Done { invoke_id, kept } => {
                 done_on_apdu(alloc, context, origin, *invoke_id, kept, apdu)

@@ -1,6 +1,6 @@
 //! A reply, before anything changes: the store's plan, the reply in octets, and how it is sent (clauses 5.2 and 5.4.5.3). idle and segmented_request prepare
 //! a reply, and then perform it (performing). Another way to send a reply needs a case of `reply_way_of` in bac_protocol.
-ghost use Rattle.std.specs.Prelude.{◌≡◌, ◌≤◌, ◌+◌, ◌<◌, length, [], IfOk, Some};
+ghost use Rattle.std.specs.Prelude.{◌≡◌, ◌≤◌, ◌+◌, ◌-◌, ◌<◌, length, [], IfOk};
 ghost use Rattle.bac_apdu.specs.Views.{apdu_view, limits_view};
 ghost use Rattle.bac_service.specs.Views.{reply_view};
 ghost use Rattle.bac_segment.specs.Pieces.{pieces_of};

@@ -68,7 +68,10 @@ impl Reassembly {
             (takes self.old.incoming segment.number segment.more octets.now) self.old self.new result }
     {
         let unacknowledged = self.incoming.unacknowledged();
-        let Ok(_) = self.incoming.on_segment(segment.number, segment.more, octets) else {
+        let Ok(_) = self
+            .incoming
+            .on_segment(segment.number, segment.more, octets)
+        else {
             return Err(NoMemory);
         };
         let incoming = &self.incoming;
@@ -110,7 +113,10 @@ impl Reassembly {
         }
         let (window, taken) = (self.incoming.window(), self.incoming.taken());
         let sends = step_acks(alloc, context, true, segment.number, window, taken, step)?;
-        let Ok(_) = self.incoming.on_segment(segment.number, segment.more, octets) else {
+        let Ok(_) = self
+            .incoming
+            .on_segment(segment.number, segment.more, octets)
+        else {
             return Err(NoMemory);
         };
         self.since = context.moment;

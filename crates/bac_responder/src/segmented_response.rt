@@ -88,7 +88,10 @@ impl ReplyTransfer {
             return Ok(Performed::nothing(alloc));
         };
         let before = self.outgoing.position();
-        match self.outgoing.on_ack(number, window, context.settings.window) {
+        match self
+            .outgoing
+            .on_ack(number, window, context.settings.window)
+        {
             // DuplicateACK_Received; own: the timer runs on
             Progress::Ignored => Ok(Performed::nothing(alloc)),
             // FinalACK_Received
