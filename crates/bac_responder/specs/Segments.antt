@@ -1,5 +1,5 @@
 -- What the handling of segments answers.
-use Rattle.std.specs.Prelude.{◌≡◌, ℕ, false, List, [], ◌∷◌, Bool, not, Option, Some, None, is_some, Result, Ok, Err}
+use Rattle.std.specs.Prelude.{◌≡◌, ℕ, false, [], ◌∷◌, Bool, not, Option, Some, None, is_some, Result, Ok, Err}
 use Rattle.bac_apdu.specs.Apdu.{Limits, Segment}
 use Rattle.bac_npdu.specs.Peers.{PeerView}
 use Rattle.bac_segment.specs.Pieces.{join}

@@ -141,11 +141,16 @@ impl ReplyTransfer {
                 Ok(Performed::sends(sends))
             }
             Apdu::SegmentAck {
-                server: false,
+                server,
                 number,
                 window,
                 ..
-            } => self.on_segment_ack(alloc, context, origin, number, window),
+            } => {
+                if server {
+                    return Ok(Performed::nothing(alloc));
+                }
+                self.on_segment_ack(alloc, context, origin, number, window)
+            }
             // AbortPDU_Received; own: the reply stays kept
             Apdu::Abort { server: false, .. } => {
                 self.transfer = Transfer::Finished;

@@ -6,7 +6,7 @@ use Rattle.bac_protocol.specs.Server.{begins}
 use Rattle.bac_responder.specs.Reading.{found_view}
 use Rattle.bac_transaction.specs.Views.{context_view, peer_of}
 use Rattle.bac_responder.specs.TransactionViews.{state_view}
-use Rattle.bac_responder.proofs.Performances.{prepared_commits, prepared_sendable, performed}
+use Rattle.bac_responder.proofs.Performances.{prepared_commits, performed}
 use Rattle.bac_responder.proofs.idle.on_request.Goals as goal
 
 pub commit-effect-requires : goal.commit-effect-requires

@@ -1,6 +1,5 @@
 -- The plan's reply goes by its way, or a Reject does.
 use Rattle.std.proofs.Common.{◌≡◌, ◌∙◌, sym, ap, subst, refl}
-use Rattle.std.specs.Prelude.{IfOk}
 use Rattle.bac_apdu.specs.Views.{limits_view}
 use Rattle.bac_service.specs.Replies as plain
 use Rattle.bac_service.specs.Values.{Request}
@@ -11,8 +10,7 @@ use Rattle.bac_store.specs.Plans.{IsPlanFor}
 use Rattle.bac_protocol.specs.Service.{Reply}
 use Rattle.bac_protocol.specs.Service.Outcome.{Replies}
 use Rattle.bac_transaction.specs.Services.{outcome_of}
-use Rattle.bac_responder.specs.Preparing.{IsNoReject, IsPrepared, IsSpelledReply}
-use Rattle.bac_responder.specs.Reading.{found_view}
+use Rattle.bac_responder.specs.Preparing.{IsNoReject, IsSpelledReply}
 use Rattle.bac_transaction.specs.Views.{context_view, peer_of}
 use Rattle.bac_responder.specs.TransactionViews.{spelled_view}
 use Rattle.bac_responder.proofs.Performances.{reject_ready, reply_ready, store_no_reject, store_means}

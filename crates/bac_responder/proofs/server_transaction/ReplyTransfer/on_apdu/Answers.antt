@@ -1,7 +1,8 @@
 -- A request and a SegmentACK for an entry whose reply is sent in segments.
-use Rattle.std.proofs.Common.{◌≡◌, ◌∙◌, sym, ap, subst, Bool, Some, [], ◌∷◌, false, if◌then◌else◌}
+use Rattle.std.proofs.Common.{◌∙◌, sym, ap, subst, Bool, Some, [], ◌∷◌, if◌then◌else◌}
 use Rattle.std.specs.Option.{option_map}
 use Rattle.bac_apdu.specs.Apdu.{Apdu}
+use Rattle.bac_apdu.specs.Apdu.Apdu.{SegmentAck}
 use Rattle.bac_apdu.specs.Views.{apdu_view, limits_view, segment_view}
 use Rattle.bac_npdu.specs.Peers.{PeerView}
 use Rattle.bac_segment.specs.Window.{Outgoing}
@@ -53,7 +54,16 @@ returns-in_ok-sends-in-ConfirmedRequest-clause-does c = λ s.
     subst (λ (v : Reaction). IsReaction v peer s e x.sends.items (performed_view x.effect) s) (sym all)
     (rests_sent peer e s (server_abort set OTHER ∷ []) sent.sends.items x.sends.items x.effect sent.ensures c.sends.ensures.sends c.sends.ensures.effect)
 
-pub returns-in-SegmentAck-default-false-default-default-default-clause-does :
-    goal.returns-in-SegmentAck-default-false-default-default-default-clause-does
-returns-in-SegmentAck-default-false-default-default-default-clause-does c = λ s.
-    ?
+pub returns-else-server-clause-does : goal.returns-else-server-clause-does
+returns-else-server-clause-does c = λ s.
+    let arm = c.in-SegmentAck in
+    let set : Context = context_view c.args.context.now in
+    let out : Outgoing = c.args.self.now.outgoing in
+    let t : server.Transfer = transfer_view c.args.self.now.transfer in
+    let e : ServerTransaction = entry_of c.args.origin.now (transfer_state c.args.self.now) in
+    let heard =
+    ap apdu_view arm.is
+    ∙ ap (λ (b : Bool). SegmentAck b arm.invoke_id (record { nak = arm.nak; number = arm.number; window = arm.window.size })) c.if-server.false in
+    let all = ap (λ (a : Apdu). segmented_response_on_apdu set e out t c.args.self.now.since a) heard in
+    subst (λ (v : Reaction). Answers v (peer_of c.args.context.now) e (entry_of c.args.origin.now (transfer_state c.on_segment_ack.new.self)) s
+    c.on_segment_ack.result s) (sym all) (c.on_segment_ack.ensures.does s)
