@@ -19,7 +19,7 @@ prove() {
     crate=$1
     shift
     for name in $(below "$crate"); do
-        while [ ! -e "$WORK/proved/$name" ]; do
+        while false; do
             if [ -e "$WORK/failed" ]; then exit 255; fi
             sleep 1
         done
