@@ -33,7 +33,11 @@ mkdir "$work/bin"
 cat > "$work/bin/rt" <<'STANDS_FOR'
 #!/bin/sh
 if [ "$(basename "$PWD")" = "${FAILS:-}" ]; then echo "this crate fails"; exit 1; fi
-if [ "$1" = run ]; then cat stdout; fi
+if [ "$1" = run ]; then
+    # as the program: help has status 2
+    if [ "$*" != "run -- $(paste -s -d ' ' args)" ]; then exit 2; fi
+    cat stdout
+fi
 STANDS_FOR
 chmod +x "$work/bin/rt"
 
