@@ -15,7 +15,7 @@ use crate::fault_words::print_fault;
 use crate::frame_lines::{print_bvll, print_npdu};
 use crate::groups::octets_in;
 use crate::layers::{check_datagram, complex_in, request_in};
-use crate::service_line::{print_complex, print_request};
+use bac_service_text::{print_complex, print_request};
 use crate::status::{Status, complain, no_memory, output_failed};
 use bac_apdu::Apdu;
 use bac_npdu::{Message, read_bvll, read_npdu};

@@ -13,7 +13,7 @@ use crate::groups::octets_in;
 use crate::lines::{LINE_LIMIT, next_line};
 use crate::notes::read_of;
 use crate::status::Status;
-use crate::words::print_end;
+use bac_service_text::print_end;
 use std::alloc::Global;
 use std::io;
 use std::io::{BufRead, ErrorKind, Write};

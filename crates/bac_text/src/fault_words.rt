@@ -7,7 +7,7 @@ ghost use Rattle.bac_text.specs.Faults.{apdu_reason, bvll_words, fault_because, 
 ghost use Rattle.bac_text.specs.Faults.{told_fault};
 
 use crate::fault::LayerFault;
-use crate::words::print_end;
+use bac_service_text::print_end;
 use bac_apdu::ApduFault;
 use bac_npdu::FrameFault;
 use bac_value::FaultKind;

@@ -15,11 +15,8 @@ mod laws;
 mod layers;
 mod lines;
 mod notes;
-mod service_line;
 mod status;
-mod strings;
 mod tally;
-mod words;
 
 pub use capture::{CaptureLine, read_capture_line};
 pub use check::{check_lines_over, check_over};
