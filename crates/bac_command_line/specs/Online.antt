@@ -10,9 +10,9 @@ use Rattle.bac_node.specs.Fresh.{slots_fit}
 use Rattle.bac_npdu.specs.Peers.{PeerView}
 use Rattle.bac_npdu.specs.Views.{peer_view}
 use Rattle.bac_service.specs.Values.{Request}
-use Rattle.bac_script.specs.Requests.{request_of}
-use Rattle.bac_script.specs.declared.form_fault.FormFault.{FormFault}
-use Rattle.bac_script.specs.declared.form_fault.FormFault.TheVariants.{NoForm, NoMemory}
+use Rattle.bac_service_text.specs.Dispatch.{request_of}
+use Rattle.bac_service_text.specs.declared.form_fault.FormFault.{FormFault}
+use Rattle.bac_service_text.specs.declared.form_fault.FormFault.TheVariants.{NoForm, NoMemory}
 use Rattle.bac_store.specs.Stores.{Store}
 use Rattle.bac_text.specs.declared.status.Status.{Status}
 use Rattle.bac_driver.specs.Asking.{Question}
@@ -22,7 +22,7 @@ use Rattle.bac_driver.specs.BoundNodes.{BoundNode}
 use Rattle.bac_driver.specs.Views.{question_view}
 use Rattle.bac_driver.specs.declared.question.Question as code
 use Rattle.bac_world.specs.Node.{Node}
-use Rattle.bac_commands.specs.FileOctets.{reads_file}
+use Rattle.bac_service_text.specs.Dispatch.{reads_file}
 use Rattle.bac_commands.specs.Houses.{client_node, house_node, server_node}
 use Rattle.bac_commands.specs.Pairs.{TwoTexts}
 use Rattle.bac_commands.specs.Questions.{IsQuestion}

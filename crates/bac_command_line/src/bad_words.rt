@@ -1,7 +1,7 @@
 //! What is told of words that are no request.
 ghost use Rattle.bac_text.specs.Statuses.{IsStop};
 
-use bac_script::bad_word;
+use bac_service_text::bad_word;
 use bac_text::{Status, no_memory};
 use std::alloc::{AllocError, Global};
 use std::io::Write;

@@ -14,12 +14,12 @@ use crate::bad_words::tell_bad_words;
 use crate::rounds::{Asked, ask_by_client};
 use crate::serving::{Serving, serve_from, tell_listening, tell_not_bound};
 use bac_commands::{
-    Style, asks_for_file, bound_house, bound_server, clock_fault, link_fault, read_question,
+    Style, bound_house, bound_server, clock_fault, link_fault, read_question,
 };
 use bac_driver::{BoundNode, Clock, Link, Question};
 use bac_node::NewNodeFault;
 use bac_npdu::{LinkAddress, Peer};
-use bac_script::FormFault;
+use bac_service_text::{FormFault, reads_file};
 use bac_store::Store;
 use bac_text::{Status, complain, no_memory};
 use std::alloc::Global;
@@ -111,7 +111,7 @@ fn is_told_by(style: Style, question: &Question) -> bool
     match style {
         Style::Numbers => true,
         Style::Words => true,
-        Style::Octets => asks_for_file(question),
+        Style::Octets => reads_file(question.request.as_request()),
     }
 }
 

@@ -3,7 +3,7 @@ ghost use Rattle.std.specs.Prelude.{◌≡◌, map, true, IfErr, IfOk, IsErrOf, 
 ghost use Rattle.bac_npdu.specs.Views.{peer_view};
 ghost use Rattle.bac_driver.specs.Views.{question_view};
 ghost use Rattle.bac_commands.specs.Questions.{IsQuestion, question_of};
-ghost use Rattle.bac_script.specs.Requests.{request_of};
+ghost use Rattle.bac_service_text.specs.Dispatch.{request_of};
 ghost use Rattle.bac_text.specs.Statuses.{IsStop};
 ghost use Rattle.bac_text.specs.Notes.{read_of as read_in};
 ghost use Rattle.bac_command_line.specs.AskedLines.{AddsLine, asked_by, line_view, questions_from, questions_of, words_of};
@@ -13,7 +13,7 @@ use crate::parts::parts_of;
 use bac_commands::read_question;
 use bac_driver::Question;
 use bac_npdu::Peer;
-use bac_script::FormFault;
+use bac_service_text::FormFault;
 use bac_text::{Status, no_memory, read_of};
 use std::alloc::Global;
 use std::io::Write;

@@ -5,7 +5,6 @@ pub mod Answers
 pub mod AnswerTexts
 pub mod Facts
 pub mod Questions
-pub mod Others
 pub mod Reports
 pub mod Pairs
 pub mod CommandErrors

@@ -2,11 +2,10 @@
 mod ending;
 mod in_words;
 mod lines;
-mod reply;
 
 pub use ending::{print_ending, print_ending_line};
 pub(crate) use in_words::ticket_words;
-pub use in_words::{ending_words, reply_words};
+pub use in_words::ending_words;
 pub use lines::{
     print_asked, print_changed, print_ended, print_fault, print_nothing, print_performed,
     print_refused, print_sent,

@@ -14,16 +14,15 @@ mod fresh_node;
 mod lines;
 mod log;
 mod online;
-mod others;
 mod serving;
 
 pub use answering::{CLIENT, answer_datagram, answer_over};
 pub use facts::{
     ending_words, print_asked, print_changed, print_ended, print_ending, print_ending_line,
-    print_fault, print_nothing, print_performed, print_refused, print_sent, reply_words,
+    print_fault, print_nothing, print_performed, print_refused, print_sent,
 };
 pub use online::{
-    CommandError, OutputFormat, Style, TURNS, ask, asks_for_file, bound_client, bound_house,
+    CommandError, OutputFormat, Style, TURNS, ask, bound_client, bound_house,
     bound_server, clock_fault, link_fault, pair, read_question, serve, tell_end,
 };
 pub use serving::{Logged, serve_logged};

@@ -14,7 +14,6 @@ mod telling;
 pub use asking::{TURNS, ask};
 pub use bound_node::{bound_client, bound_house, bound_server};
 pub use command_error::{CommandError, clock_fault, link_fault};
-pub use file_octets::asks_for_file;
 pub use output_format::{OutputFormat, Style};
 pub use pairing::pair;
 pub use question::read_question;

@@ -1,7 +1,6 @@
-pub mod Peers
-pub mod Words
-pub mod Requests
-pub mod Answers
+pub mod Keys
+pub mod RequestWords
+pub mod AnswerWords
 pub mod Endings
 pub mod Blocks
 pub mod Tallies

@@ -7,7 +7,7 @@ use Rattle.bac_explain.specs.declared.finding.Finding.{Finding}
 use Rattle.bac_explain_report.specs.Accounts.{HearingView, ToldView}
 use Rattle.bac_explain_report.specs.Accounts.ToldView.{NothingTold, UnreadTold, HeardTold}
 use Rattle.bac_explain_report.specs.Blocks.{IsBlock}
-use Rattle.bac_explain_report.specs.Peers.{key_text}
+use Rattle.bac_explain_report.specs.Keys.{key_text}
 use Rattle.bac_explain_report.specs.Unread.{unread_text}
 use Rattle.bac_explain_report.specs.declared.unread.Unread.{Unread}
 

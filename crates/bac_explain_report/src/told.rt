@@ -7,7 +7,7 @@ ghost use Rattle.bac_explain_report.specs.AccountViews.{hearing_view, told_view}
 ghost use Rattle.bac_explain_report.specs.Told.{finding_line, unread_line, IsHearing, IsOptionalBlock, IsTold};
 
 use crate::block::block;
-use crate::peers::key_text;
+use crate::keys::key_text;
 use crate::unread::Unread;
 use bac_explain::{Closed, Finding, TransactionKey};
 use bac_value::NoMemory;

@@ -1,5 +1,5 @@
 //! The words of a line.
-use bac_script::read_request_words;
+use bac_service_text::read_request_words;
 use bac_service::OwnedRequest;
 use std::alloc::Global;
 

@@ -28,4 +28,5 @@ pub use dispatch::{
 pub use form_fault::FormFault;
 pub use members::{print_end, print_octets};
 pub use reasons::{abort_words, aborted_words, error_words, rejected_words};
+pub use reference::{object_or_fault, octets_or_fault};
 pub use service_data::{reply_data_words, request_data_label, request_data_words, segments_text};

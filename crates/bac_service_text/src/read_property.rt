@@ -37,8 +37,11 @@ pub(crate) fn print_read_property<W: Write>(
 }
 
 /// The request that `read OBJECT PROPERTY` means.
-pub(crate) #[tactic(auto, unfolding(crate::specs::ReadProperty::read_of))]
-pub(crate) fn read_property_in(object: ObjectIdentifier, property: &[u8]) -> Result<OwnedRequest, FormFault>
+#[tactic(auto, unfolding(crate::specs::ReadProperty::read_of))]
+pub(crate) fn read_property_in(
+    object: ObjectIdentifier,
+    property: &[u8],
+) -> Result<OwnedRequest, FormFault>
     ensures { Reads owned_request_view result (read_of (object_identifier_view object) property.now) }
 {
     let reference = reference_in(object, property)?;

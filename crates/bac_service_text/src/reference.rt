@@ -63,7 +63,8 @@ pub(crate) fn reference_words(
 
 // ---- read
 
-pub(crate) fn object_or_fault(word: &[u8]) -> Result<ObjectIdentifier, FormFault>
+/// The object that a word names, by its type and instance; `NoForm` where it names none.
+pub fn object_or_fault(word: &[u8]) -> Result<ObjectIdentifier, FormFault>
     ensures { Reads object_identifier_view result (object_of word.now) }
 {
     match object_in(word) {
@@ -72,8 +73,8 @@ pub(crate) fn object_or_fault(word: &[u8]) -> Result<ObjectIdentifier, FormFault
     }
 }
 
-/// Octets in hexadecimal, in either case.
-pub(crate) fn octets_or_fault(alloc: Global, word: &[u8]) -> Result<Vec<u8>, FormFault>
+/// The octets that a word is, in hexadecimal of either case; `NoForm` where it is none.
+pub fn octets_or_fault(alloc: Global, word: &[u8]) -> Result<Vec<u8>, FormFault>
     ensures { Reads (λ v. v.items) result (octets_of word.now) }
 {
     match octets_in(alloc, word) {

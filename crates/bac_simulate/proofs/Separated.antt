@@ -2,7 +2,7 @@
 use Rattle.std.proofs.Common.{◌≡◌, ℕ, ◌+◌, ◌<◌, List, [], ◌∷◌, length, Some, None, take, drop}
 use Rattle.std.specs.List.{position}
 use Rattle.bac_value_text.proofs.Splits.{no_separator, at_separator}
-use Rattle.bac_script.specs.Words.{is_space, words_of}
+use Rattle.bac_simulate.specs.LineWords.{is_space, words_of}
 
 pub no_space : (line : List ℕ) → position is_space line ≡ None → words_of line ≡ line ∷ []
 no_space = no_separator is_space

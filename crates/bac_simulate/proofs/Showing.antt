@@ -4,8 +4,8 @@ use Rattle.std.specs.Io.KnownBytes.{Appends, Keeps}
 use Rattle.bac_chart.specs.Views.{mark_view}
 use Rattle.bac_chart.specs.declared.mark.Mark as code
 use Rattle.bac_network.specs.Histories.{WorldView}
-use Rattle.bac_script.specs.Lines.{Setting}
-use Rattle.bac_script.specs.Views.{setting_view}
+use Rattle.bac_simulate.specs.Lines.{Setting}
+use Rattle.bac_simulate.specs.Views.{setting_view}
 use Rattle.bac_text.specs.Lines.{lines_of}
 use Rattle.bac_text.specs.Statuses.{IsFailure}
 use Rattle.bac_text.specs.Texts.{AppendsText}

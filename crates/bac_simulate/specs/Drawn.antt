@@ -5,7 +5,7 @@ use Rattle.bac_chart.specs.Drawings.{drawing_text}
 use Rattle.bac_chart.specs.Marks.{Mark}
 use Rattle.bac_chart.specs.declared.drawing.Form.TheVariants as form
 use Rattle.bac_network.specs.Histories.{WorldView}
-use Rattle.bac_script.specs.Views.{setting_view}
+use Rattle.bac_simulate.specs.Views.{setting_view}
 use Rattle.bac_text.specs.Lines.{lines_of}
 use Rattle.bac_text.specs.Texts.{AppendsText}
 use Rattle.bac_text.specs.declared.status.Status.{Status}

@@ -1,6 +1,8 @@
 pub mod Captures
 pub mod Houses
 pub mod Runs
+pub mod LineWords
+pub mod Lines
 pub mod Scripts
 pub mod Told
 pub mod Traces

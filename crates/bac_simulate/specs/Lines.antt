@@ -5,8 +5,8 @@ use Rattle.bac_value.specs.Value.{ObjectId}
 use Rattle.bac_service.specs.Values.{Request}
 use Rattle.bac_value_text.specs.Numbers.{◌>>=◌, number_of, number_up_to, octets_of}
 use Rattle.bac_value_text.specs.Reading.{object_of, property_of}
-use Rattle.bac_script.specs.Words.{words_of}
-use Rattle.bac_script.specs.Requests.{request_of}
+use Rattle.bac_simulate.specs.LineWords.{words_of}
+use Rattle.bac_service_text.specs.Dispatch.{request_of}
 
 -- ---- the first line: nodes N, or nodes N window W overtake V
 

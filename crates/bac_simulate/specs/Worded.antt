@@ -2,9 +2,10 @@
 use Rattle.std.specs.Prelude.{◌≡◌, ℕ, codes, decimal, ◌+◌, ◌-◌, nat_le, Bool, true, false, List, [], ◌∷◌, ◌++◌, length, drop, reverse, Option, Some, None, slice_get}
 use Rattle.bac_chart.specs.Labels.{datagram_words}
 use Rattle.bac_commands.specs.Facts.{fault_line}
-use Rattle.bac_commands.specs.Words.{AreEndingWords, AreReplyWords}
+use Rattle.bac_commands.specs.Words.{AreEndingWords}
 use Rattle.bac_transaction.specs.Meanings.{Ending}
-use Rattle.bac_explain_report.specs.Requests.{AreRequestWords}
+use Rattle.bac_service_text.specs.Answers.{AreReplyWords}
+use Rattle.bac_service_text.specs.Dispatch.{AreRequestWords}
 use Rattle.bac_network.specs.Histories.{WorldView}
 use Rattle.bac_protocol.specs.declared.times.TheConstants.{LIFE}
 use Rattle.bac_requester.specs.Faults.{ask_fault_number}

@@ -1,6 +1,6 @@
 //! What is told in words of a line that is none of a script.
 use crate::script::next_line;
-use bac_script::bad_word;
+use bac_service_text::bad_word;
 use bac_text::read_of;
 use bac_value_text::parts_at;
 use std::alloc::{AllocError, Global};

@@ -2,17 +2,16 @@
 ghost use Rattle.std.specs.Prelude.{◌≡◌, ◌&&◌, codes, map};
 ghost use Rattle.std.specs.Str.{bytes_eq};
 ghost use Rattle.std.specs.Option.{option_map};
-ghost use Rattle.bac_script.specs.Reading.{Reads};
+ghost use Rattle.bac_service_text.specs.Reading.{Reads};
 ghost use Rattle.bac_value_text.specs.Numbers.{number_of};
 ghost use Rattle.bac_value_text.specs.Reading.{property_of};
-ghost use Rattle.bac_script.specs.Lines.{number_from_one, bounded, setting_with, usual_setting, setting_of};
-ghost use Rattle.bac_script.specs.Lines.{setting_at, ask_of, noise_of, numbered, set_property_of, set_file_of, change_of, step_of, step_at};
-ghost use Rattle.bac_script.specs.Views.{setting_view, step_view};
+ghost use Rattle.bac_simulate.specs.Lines.{number_from_one, bounded, setting_with, usual_setting, setting_of};
+ghost use Rattle.bac_simulate.specs.Lines.{setting_at, ask_of, noise_of, numbered, set_property_of, set_file_of, change_of, step_of, step_at};
+ghost use Rattle.bac_simulate.specs.Views.{setting_view, step_view};
 
-use crate::form_fault::FormFault;
 use crate::line::{Ask, Noise, SetFile, SetProperty, Setting, Step};
-use crate::request_reading::{object_or_fault, read_request_words};
-use crate::words::{octets_or_fault, words_in};
+use crate::line_words::words_in;
+use bac_service_text::{FormFault, object_or_fault, octets_or_fault, read_request_words};
 use bac_value_text::{number_in, number_up_to, property_in};
 use std::alloc::Global;
 

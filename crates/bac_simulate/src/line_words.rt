@@ -1,12 +1,8 @@
-//! The words of a line, and what they are.
+//! The words of a line.
 ghost use Rattle.std.specs.Prelude.{◌≡◌, ◌<◌, [], ◌∷◌, length, map, IfOk, MatchOption};
 ghost use Rattle.std.specs.List.{position};
-ghost use Rattle.bac_value_text.specs.Numbers.{octets_of};
-ghost use Rattle.bac_script.specs.Reading.{Reads};
-ghost use Rattle.bac_script.specs.Words.{is_space, words_of, ends_with, index_of};
+ghost use Rattle.bac_simulate.specs.LineWords.{is_space, words_of};
 
-use crate::form_fault::FormFault;
-use bac_value_text::{ValueFault, number_up_to, octets_in, parts_at};
 use std::alloc::{AllocError, Global};
 
 /// The place of the first space.
@@ -40,29 +36,4 @@ pub(crate) fn words_in(alloc: Global, line: &[u8]) -> Result<Vec<&[u8]>, AllocEr
     }
     words.push(rest)?;
     Ok(words)
-}
-
-/// Octets in hexadecimal, in either case.
-pub(crate) fn octets_or_fault(alloc: Global, word: &[u8]) -> Result<Vec<u8>, FormFault>
-    ensures { Reads (λ v. v.items) result (octets_of word.now) }
-{
-    match octets_in(alloc, word) {
-        Ok(octets) => Ok(octets),
-        Err(ValueFault::NoMemory) => Err(FormFault::NoMemory),
-        Err(ValueFault::NoValue) => Err(FormFault::NoForm),
-    }
-}
-
-/// The index in brackets, from behind the opening one on.
-#[tactic(auto, unfolding(crate::specs::Words::index_of))]
-pub(crate) fn index_in(word: &[u8]) -> Option<u32>
-    ensures { result ≡ index_of word.now }
-{
-    let (digits, behind) = parts_at(b']', word)?;
-    let index = number_up_to(u64::from(u32::MAX), digits)?;
-    if behind.is_empty() {
-        Some(index as u32)
-    } else {
-        None
-    }
 }

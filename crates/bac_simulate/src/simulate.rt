@@ -1,7 +1,7 @@
 //! `bac simulate`, over any reader and writers.
 ghost use Rattle.std.specs.Prelude.{◌≡◌, ◌+◌, ◌<◌, ◌^◌, length, map, IfOk, IfSome, Ok, Some};
 ghost use Rattle.bac_network.specs.Views.{event_view};
-ghost use Rattle.bac_script.specs.Views.{setting_view};
+ghost use Rattle.bac_simulate.specs.Views.{setting_view};
 ghost use Rattle.bac_text.specs.Lines.{lines_of};
 ghost use Rattle.bac_text.specs.Texts.{AppendsText};
 ghost use Rattle.bac_simulate.specs.Runs.{Goes, IsEnd, IsRun, IsStep, IsUnread, Reports, Simulates, SimulatesAs, SimulatesIn, change_fault_in, status_for, status_of};
@@ -13,7 +13,7 @@ use crate::telling::{Seen, print_lost, print_outcome};
 use crate::world_of::world_of;
 use bac_commands::{print_fault, print_refused};
 use bac_network::{Event, World, WorldFault};
-use bac_script::Setting;
+use crate::line::Setting;
 use bac_store::ChangeFault;
 use bac_text::{Status, complain, no_memory, output_failed};
 use bac_value::NoMemory;

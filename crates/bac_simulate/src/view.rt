@@ -2,7 +2,7 @@
 ghost use Rattle.std.specs.Prelude.{◌≡◌, ◌<◌, ◌+◌, ◌^◌, length, map, IfOk, MatchResult, OnOk};
 ghost use Rattle.std.specs.Io.KnownBytes.{Appends};
 ghost use Rattle.bac_chart.specs.Views.{mark_view};
-ghost use Rattle.bac_script.specs.Views.{setting_view};
+ghost use Rattle.bac_simulate.specs.Views.{setting_view};
 ghost use Rattle.bac_simulate.specs.Drawn.{rest_of, shown_text, IsDrawn, IsRead, IsShown, IsWorded, Shows, ShowsAs};
 ghost use Rattle.bac_simulate.specs.Runs.{status_for};
 ghost use Rattle.bac_simulate.specs.Scripts.{IsModest, IsNotRead, script_of};

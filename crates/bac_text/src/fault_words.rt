@@ -16,7 +16,8 @@ use std::alloc::{AllocError, Global};
 use std::io;
 use std::io::Write;
 
-fn frame_reason(fault: FrameFault) -> &'static str
+/// Why a BVLL or an NPDU cannot be read, in words.
+pub fn frame_reason(fault: FrameFault) -> &'static str
     ensures { result.now ≡ frame_reason fault }
 {
     match fault {

@@ -15,6 +15,7 @@ mod laws;
 mod layers;
 mod lines;
 mod notes;
+mod peers;
 mod status;
 mod tally;
 
@@ -23,8 +24,10 @@ pub use check::{check_lines_over, check_over};
 pub use decode::{decode_over, decode_text_over, print_apdu_octets};
 pub use decode_lines::decode_lines_over;
 pub use fault::LayerFault;
+pub use fault_words::frame_reason;
 pub use groups::octets_in;
 pub use laws::fine_or_at_fault;
 pub use layers::check_datagram;
 pub use notes::read_of;
+pub use peers::{link_text, peer_text};
 pub use status::{Status, complain, no_memory, output_failed};

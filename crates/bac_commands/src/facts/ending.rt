@@ -4,8 +4,8 @@ ghost use Rattle.std.specs.Io.KnownBytes.{Appends};
 ghost use Rattle.bac_requester.specs.TransactionViews.{ending_view};
 ghost use Rattle.bac_commands.specs.Facts.{ending_line, ending_text};
 
-use super::reply::print_reply;
 use bac_requester::Ending;
+use bac_service_text::print_reply;
 use std::alloc::Global;
 use std::io;
 use std::io::Write;

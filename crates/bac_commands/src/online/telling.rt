@@ -11,12 +11,13 @@ use super::file_octets::tell_octets;
 use super::output_format::{OutputFormat, Style};
 use super::success::is_success;
 use crate::facts::{print_ending_line, print_refused, ticket_words};
-use crate::others::property_read;
 use bac_driver::AskEnd;
 use bac_service::OwnedRequest;
+use bac_service_text::property_read;
+use bac_value::NoMemory;
 use std::alloc::Global;
 use std::io;
-use std::io::Write;
+use std::io::{ErrorKind, Write};
 
 /// Prints how asking ended.
 pub(crate) fn print_end<W: Write>(alloc: Global, end: &AskEnd, out: &mut W) -> io::Result<()>
@@ -43,7 +44,7 @@ fn tell_numbers<W: Write>(
     Ok(is_success(strict, request, end))
 }
 
-fn refused_words(alloc: Global, fault: u8) -> io::Result<Vec<u8>>
+fn refused_words(alloc: Global, fault: u8) -> Result<Vec<u8>, NoMemory>
     ensures { IfOk result (λ t. t.items ≡ codes "refused " ++ decimal fault) }
 {
     let words = format!(in alloc; "refused {fault}")?;
@@ -51,11 +52,11 @@ fn refused_words(alloc: Global, fault: u8) -> io::Result<Vec<u8>>
 }
 
 /// How the ask of a request ended, in words.
-fn end_words(alloc: Global, request: &OwnedRequest, end: &AskEnd) -> io::Result<Vec<u8>>
+fn end_words(alloc: Global, request: &OwnedRequest, end: &AskEnd) -> Result<Vec<u8>, NoMemory>
     ensures { IfOk result (λ t. AreEndWords (owned_request_view request.now) end.now t.items) }
 {
     match end {
-        AskEnd::Ended(ending) => ticket_words(alloc, property_read(request), ending),
+        AskEnd::Ended(ending) => ticket_words(alloc, property_read(request.as_request()), ending),
         AskEnd::Refused(fault) => refused_words(alloc, fault.number()),
         AskEnd::NoEnding => Ok(Vec::from_slice(alloc, b"no ending")?),
     }
@@ -77,7 +78,9 @@ fn tell_words<W: Write>(
 ) -> io::Result<bool>
     ensures { IfOk result (λ succeeded. TellsWords strict (owned_request_view request.now) end.now succeeded (W.contents out.old) (W.contents out.new)) }
 {
-    let words = end_words(alloc, request, end)?;
+    let Ok(words) = end_words(alloc, request, end) else {
+        return Err(io::Error::from(ErrorKind::OutOfMemory));
+    };
     print_line(words.as_slice(), out)?;
     out.flush()?;
     Ok(is_success(strict, request, end))

@@ -1,8 +1,8 @@
 use Rattle.std.proofs.Common.{◌≡◌, ◌∙◌, sym, ◌<◌, ◌∷◌, length, ◌+◌, take, drop, arith}
 use Rattle.std.proofs.lemmas.List.{take_rest, length-drop}
-use Rattle.bac_script.specs.Words.{words_of}
-use Rattle.bac_script.proofs.Separated.{at_space}
-use Rattle.bac_script.proofs.words.first_word.Goals as goal
+use Rattle.bac_simulate.specs.LineWords.{words_of}
+use Rattle.bac_simulate.proofs.Separated.{at_space}
+use Rattle.bac_simulate.proofs.line_words.first_word.Goals as goal
 
 pub returns-in-Some : goal.returns-in-Some
 returns-in-Some c =

@@ -1,8 +1,7 @@
--- The texts of peers and of transactions.
+-- The texts of peers.
 use Rattle.std.specs.Prelude.{ℕ, ◌+◌, ◌*◌, List, ◌++◌, slice_index, codes, decimal, Option, Some, None}
 use Rattle.hex.specs.Hex.{encode_upper}
 use Rattle.bac_npdu.specs.Peers.{PeerView, RouteView}
-use Rattle.bac_explain.specs.Keys.{Key}
 
 -- four octets of an address of IPv4, and a UDP port
 abbrev pub link_text : List ℕ → List ℕ
@@ -20,7 +19,3 @@ routed_text link (Some r) = link ++ (codes "/" ++ route_text r)
 
 abbrev pub peer_text : PeerView → List ℕ
 peer_text p = routed_text (link_text p.link) p.route
-
--- the client, the server and the invoke ID
-abbrev pub key_text : Key → List ℕ
-key_text k = peer_text k.client ++ (codes " > " ++ (peer_text k.server ++ (codes " id " ++ decimal k.invoke_id)))

@@ -1,10 +1,8 @@
-//! Peers and transactions, as they are printed.
+//! Peers, as they are printed.
 ghost use Rattle.std.specs.Prelude.{◌≡◌, IfOk, string_bytes};
 ghost use Rattle.bac_npdu.specs.Views.{peer_view, route_view};
-ghost use Rattle.bac_explain.specs.KeyViews.{key_view};
-ghost use Rattle.bac_explain_report.specs.Peers.{key_text, link_text, peer_text, route_text};
+ghost use Rattle.bac_text.specs.Peers.{link_text, peer_text, route_text};
 
-use bac_explain::TransactionKey;
 use bac_npdu::{LinkAddress, Peer, Route};
 use std::alloc::{AllocError, Global};
 
@@ -36,14 +34,4 @@ pub fn peer_text(alloc: Global, peer: Peer) -> Result<String, AllocError>
     };
     let route = route_text(alloc, route)?;
     format!(in alloc; "{link}/{route}")
-}
-
-/// A transaction: the client, the server and the invoke ID, as `192.168.1.5:47808 > 192.168.1.9:47808 id 1`.
-pub(crate) fn key_text(alloc: Global, key: TransactionKey) -> Result<String, AllocError>
-    ensures { IfOk result (λ t. string_bytes t ≡ key_text (key_view key)) }
-{
-    let client = peer_text(alloc, key.client)?;
-    let server = peer_text(alloc, key.server)?;
-    let invoke_id = key.invoke_id;
-    format!(in alloc; "{client} > {server} id {invoke_id}")
 }
