@@ -16,15 +16,15 @@ none_left (suc count) order options short = go (nat_lt (length options) 5) refl 
     go true e other = refl
     go false e other = absurd (grind (arith, nat_tests, e, short))
 
--- what is told where one is left that does not end them, and so many after it are looked at
-abbrev pub told_on : ℕ → Order → List ℕ → ℕ
-told_on count order options =
+-- what is printed where one is left that does not end them, and so many after it are looked at
+abbrev pub printed_on : ℕ → Order → List ℕ → ℕ
+printed_on count order options =
     if number_of order 2 options == 9 then slice_index options 4 else
     resolution_in count order (drop (option_len (number_of order 2 (drop 2 options))) options)
 
--- what is told where one is left
+-- what is printed where one is left
 abbrev pub told : ℕ → Order → List ℕ → ℕ
-told count order options = if number_of order 2 options == 0 then 6 else told_on count order options
+told count order options = if number_of order 2 options == 0 then 6 else printed_on count order options
 
 pub one_left : (count less : ℕ) (order : Order) (options : List ℕ) → count ≡ less + 1 → 5 ≤ length options
     → resolution_in count order options ≡ told less order options

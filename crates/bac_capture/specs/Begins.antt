@@ -17,7 +17,7 @@ use Rattle.bac_capture.specs.Orders.{number_of}
 abbrev pub header_link : Order → List ℕ → ℕ
 header_link order header = number_of order 4 (drop 20 header) % 65536
 
--- its first number tells the unit of moments
+-- its first number says the unit of moments
 abbrev pub header_resolution : Order → List ℕ → Resolution
 header_resolution order header = if number_of order 4 header == 0xA1B23C4D then Nanoseconds else Microseconds
 

@@ -56,7 +56,7 @@ function_name function.OriginalUnicastNpdu = codes "Original-Unicast-NPDU"
 function_name function.OriginalBroadcastNpdu = codes "Original-Broadcast-NPDU"
 function_name function.SecureBvll = codes "Secure-BVLL"
 
--- the length that a BVLL tells is that of the datagram
+-- the length that a BVLL says is that of the datagram
 abbrev pub is_framed : List ℕ → Bool
 is_framed datagram = nat_le 4 (length datagram) && big_number 2 (drop 2 datagram) == length datagram
 

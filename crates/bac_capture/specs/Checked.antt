@@ -19,7 +19,7 @@ use Rattle.bac_capture.specs.declared.check_fault.CapturedFault.TheVariants.{Fil
 use Rattle.bac_capture.specs.Counts.{Counts, OTHERS, no_frames, counted, IsTallied}
 use Rattle.bac_capture.specs.Judged.{IsVerdict}
 use Rattle.bac_capture.specs.CheckTexts.{frame_fault_text}
-use Rattle.bac_capture.specs.Walks.{Tells, IsFileIn}
+use Rattle.bac_capture.specs.Walks.{Prints, IsFileIn}
 
 -- of the frame with that number, from 1: nothing where it is not bad
 abbrev pub verdict_text : ℕ → Verdict → List ℕ
@@ -58,7 +58,7 @@ tally_text named c =
 
 -- ---- a file
 
--- a frame that was judged so is told where it is bad, and counted
+-- a frame that was judged so is printed where it is bad, and counted
 abbrev pub IsCounted : Verdict → Counts → (text : List ℕ) → (next : Counts) → Type 0
 IsCounted verdict counts text next = (text ≡ verdict_text (counts.frames + 1) verdict) × (next ≡ counted counts verdict)
 
@@ -68,8 +68,8 @@ pub record SeesFrame (also : Option ℕ) (frame : FrameView) (counts : Counts) (
   pub judged : IsVerdict also frame verdict
   pub counted : IsCounted verdict counts text next
 
--- the file cannot be read on: that is told of the frame that would come
-abbrev pub BreaksFile : Tells FileFault Counts
+-- the file cannot be read on: that is printed of the frame that would come
+abbrev pub BreaksFile : Prints FileFault Counts
 BreaksFile fault counts text next = IsCounted (Bad (File fault)) counts text next
 
 -- what is printed of a file, and the status: what is wrong with its frames, and then the counts
@@ -98,7 +98,7 @@ abbrev pub IsReportIn : Option ℕ → (named : Bool) → Option (Form × Order)
 IsReportIn also named None octets old new status = lines.IsReportOf (Some octets) old new status
 IsReportIn also named (Some form) octets old new status = IsFileReport also named form.0 form.1 (Some octets) old new status
 
--- the first four octets tell whether it is a capture file; if not, it is read as lines
+-- the first four octets say whether it is a capture file; if not, it is read as lines
 abbrev pub IsReportOf : Option ℕ → (named : Bool) → Option (List ℕ) → Option (List ℕ) → Option (List ℕ) → Status → Type 0
 IsReportOf also named None old new status = ⊤
 IsReportOf also named (Some octets) old new status = IsReportIn also named (form_of (take 4 octets)) octets old new status

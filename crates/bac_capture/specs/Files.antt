@@ -19,7 +19,7 @@ abbrev pub head_len_of : Form → ℕ
 head_len_of Records = 16
 head_len_of Blocks = 12
 
--- a section tells its own byte order by this number
+-- a section says its own byte order by this number
 abbrev pub section_order_of : List ℕ → Option Order
 section_order_of octets =
     if are_octets 0x1A 0x2B 0x3C 0x4D octets then Some Big else

@@ -35,7 +35,7 @@ ipv4_contents_at header total bytes =
       options ← cut_at (header - 20) bytes
       Ok (take (total - header) options.1))
 
--- the addresses of sender and receiver, the options and the contents; the header's length is told in fours of octets
+-- the addresses of sender and receiver, the options and the contents; the header's length is printed in fours of octets
 unfoldable pub ipv4_udp_at : Ipv4HeadView → List ℕ → Result PacketView PacketFault
 ipv4_udp_at head bytes = do
   from ← cut_at 4 bytes

@@ -32,7 +32,7 @@ resolution_of exponent =
 abbrev pub option_len : ℕ → ℕ
 option_len size = 4 + (size + 3) / 4 * 4
 
--- the exponent that the options of an interface tell, by the one of code 9; 6 where there is none among so many, up to the one of
+-- the exponent that the options of an interface say, by the one of code 9; 6 where there is none among so many, up to the one of
 -- code 0, which ends them
 unfoldable pub resolution_in : (count : ℕ) → Order → List ℕ → ℕ
 resolution_in zero order options = 6

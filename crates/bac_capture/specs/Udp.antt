@@ -16,7 +16,7 @@ udp_body_at bytes = do
   checksum ← word_at size.1
   if nat_lt size.0 8 then Err fault.UdpLength else cut_at (size.0 - 8) checksum.1
 
--- of the first fragment of several the ports alone can be told
+-- of the first fragment of several only the ports are known
 abbrev pub udp_part_at : Part → List ℕ → Result (List ℕ × List ℕ) PacketFault
 udp_part_at First bytes = Err fault.Fragment
 udp_part_at Whole bytes = udp_body_at bytes
@@ -35,7 +35,7 @@ udp_at also packet = do
       octets = body.0;
     }))) else Ok None
 
--- of a later fragment nothing can be told
+-- of a later fragment nothing can be printed
 abbrev pub udp_of_part : Part → Option ℕ → PacketView → Result (Option DatagramView) PacketFault
 udp_of_part Whole also packet = udp_at also packet
 udp_of_part First also packet = udp_at also packet

@@ -32,7 +32,7 @@ fn header_resolution(order: Order, header: &[u8]) -> Resolution
     }
 }
 
-/// What the header of pcap says: all frames have the link layer that it tells.
+/// What the header of pcap says: all frames have the link layer that it says.
 fn header_layout(alloc: Global, order: Order, header: &[u8]) -> Result<Layout, AllocError>
     requires { length header.now ≡ 24 }
     ensures { IfOk result (λ layout. layout_view layout ≡ header_layout order header.now) }
@@ -69,7 +69,7 @@ fn read_header<R: BufRead>(
 }
 
 impl Layout {
-    /// Reads the header of a capture file of that form and byte order, as its first four octets tell them: how the rest is to be
+    /// Reads the header of a capture file of that form and byte order, by its first four octets: how the rest is to be
     /// read. `Cut` where the file ends within the header.
     pub fn begin<R: BufRead>(
         alloc: Global,

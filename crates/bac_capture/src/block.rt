@@ -20,7 +20,7 @@ const INTERFACE_LIMIT: usize = 1_024;
 pub struct Frame<'a> {
     /// The number of its link layer, as capture files have it.
     pub link: u16,
-    /// When it was seen, in milliseconds; None where the file does not tell it, or in another unit than milli-, micro- or nanoseconds.
+    /// When it was seen, in milliseconds; None where the file does not say it, or in another unit than milli-, micro- or nanoseconds.
     pub moment: Option<u64>,
     /// What was captured of it; of a long frame the front.
     pub octets: &'a [u8],
@@ -142,7 +142,7 @@ impl Layout {
     /// What a record or a block has, of that head and that front of its body, as `read` reads them.
     ///
     /// A record has a frame; so have the blocks of types 2, 3 and 6, and 1 describes an interface. Of a longer frame the front is
-    /// told. What a block has beside that, as most of its options, is not looked at, nor is the length at its end.
+    /// printed. What a block has beside that, as most of its options, is not looked at, nor is the length at its end.
     pub fn block<'a>(&self, head: &[u8], body: &'a [u8]) -> Result<Block<'a>, FileFault>
         requires { length head.now ≡ head_len_of self.now.form }
         ensures { ReadsAll block_view result (block_at (layout_view self.now) head.now body.now) }

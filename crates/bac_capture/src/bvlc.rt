@@ -76,7 +76,7 @@ impl BvlcFunction {
     }
 }
 
-/// Whether the length that a BVLL tells is that of its datagram.
+/// Whether the length that a BVLL says is that of its datagram.
 fn is_framed(datagram: &[u8]) -> bool
     ensures { result ≡ is_framed datagram.now }
 {
@@ -106,7 +106,7 @@ fn other_function(number: u8) -> Option<OtherBvll>
 }
 
 impl OtherBvll {
-    /// What a datagram is where it is such a BVLL, of the length that it tells: over IPv4 of a function that Annex J has.
+    /// What a datagram is where it is such a BVLL, of the length that it says: over IPv4 of a function that Annex J has.
     pub fn of(datagram: &[u8]) -> Option<OtherBvll>
         ensures { result ≡ other_bvll_of datagram.now }
     {

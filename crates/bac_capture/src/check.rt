@@ -3,7 +3,7 @@ ghost use Rattle.std.specs.Prelude.{IfOk, OnOk};
 ghost use Rattle.std.specs.Io.KnownBytes.{Appends};
 ghost use Rattle.bac_capture.specs.Checked.{verdict_text, tally_text, IsCounted, IsFileReport, IsFrontReport, IsReportOf};
 ghost use Rattle.bac_capture.specs.Counted.{counts_of};
-ghost use Rattle.bac_capture.specs.Reports.{IsTold};
+ghost use Rattle.bac_capture.specs.Reports.{IsPrinted};
 ghost use Rattle.bac_text.specs.Statuses.{IsStop};
 
 use crate::broken::Broken;
@@ -12,7 +12,7 @@ use crate::error::{CheckError, stopped};
 use crate::judging::judge;
 use crate::others::print_named;
 use crate::tally::Tally;
-use crate::walk::{Watch, walk_file};
+use crate::walk::{FrameVisitor, walk_file};
 use crate::{FileFault, Form, Frame, Order, Ports, form_of, read_run};
 use bac_text::{Status, check_over};
 use std::alloc::Global;
@@ -31,7 +31,7 @@ fn print_verdict<W: Write>(number: u64, verdict: Verdict, out: &mut W) -> io::Re
 
 /// Counts a frame, and prints what is wrong with it.
 fn count<W: Write>(verdict: Verdict, tally: Tally, out: &mut W) -> Result<Tally, CheckError>
-    ensures { IfOk result (λ t. IsTold IsCounted verdict (W.contents out.old) (W.contents out.new) (counts_of tally) (counts_of t)) }
+    ensures { IfOk result (λ t. IsPrinted IsCounted verdict (W.contents out.old) (W.contents out.new) (counts_of tally) (counts_of t)) }
 {
     let Some(counted) = tally.with(verdict) else {
         return Err(CheckError::Input(io::Error::from(ErrorKind::FileTooLarge)));
@@ -42,7 +42,7 @@ fn count<W: Write>(verdict: Verdict, tally: Tally, out: &mut W) -> Result<Tally,
     }
 }
 
-impl<W: Write> Watch<W> for Tally {
+impl<W: Write> FrameVisitor<W> for Tally {
     ghost use Rattle.bac_capture.specs.Checked.{BreaksFile, SeesFrame};
     ghost use Rattle.bac_capture.specs.Counts.{Counts};
     ghost use Rattle.bac_capture.specs.Counted.{counts_of};
@@ -51,11 +51,16 @@ impl<W: Write> Watch<W> for Tally {
 
     ghost state = { counts_of };
 
-    ghost Sees = { SeesFrame };
+    ghost Visits = { SeesFrame };
 
     ghost Breaks = { BreaksFile };
 
-    fn see(&mut self, frame: Frame<'_>, ports: Ports, out: &mut W) -> Result<(), CheckError> {
+    fn visit_frame(
+        &mut self,
+        frame: Frame<'_>,
+        ports: Ports,
+        out: &mut W,
+    ) -> Result<(), CheckError> {
         *self = count(judge(frame, ports), *self, out)?;
         Ok(())
     }
@@ -136,7 +141,7 @@ fn check_after<R: BufRead, O: Write, E: Write>(
     }
 }
 
-/// Tells of an input that failed within its first octets: the lines that ended before that are told, and then how it failed.
+/// Reports an input that failed within its first octets: the lines that ended before that are printed, and then how it failed.
 fn failed_early<O: Write, E: Write>(
     alloc: Global,
     front: &[u8],
@@ -154,11 +159,11 @@ fn failed_early<O: Write, E: Write>(
     }
 }
 
-/// Checks a capture: a file of pcap or pcapng, as its first four octets tell, or else lines, as `check_over` of bac_text does.
+/// Checks a capture: a file of pcap or pcapng, by its first four octets, or else lines, as `check_over` of bac_text does.
 ///
-/// Of a file each bad frame is told, by its number from 1, and at the end how many frames there are, and how many of them carry a
+/// Of a file each bad frame is printed, by its number from 1, and at the end how many frames there are, and how many of them carry a
 /// good datagram, a bad one, and a BVLL of another function than Original-Unicast-NPDU; the others carry no datagram of
-/// BACnet/IP. Those of another function are also told one by one before that, in order of their numbers, where they are to be
+/// BACnet/IP. Those of another function are also printed one by one before that, in order of their numbers, where they are to be
 /// `named`, by the standard's names: `other BVLC-Result=3`; those over IPv6 last and together, as `other BACnet/IPv6=2`. That changes
 /// nothing for lines. A frame is bad where its link layer is not read, its packet is a fragment or no whole one, its datagram has a
 /// fault, or the file cannot be read on from there. Ends with `Faulty` where a frame is bad. An input that cannot be read, or of

@@ -20,7 +20,7 @@ pub enum CheckError {
     Memory,
 }
 
-/// The status of an input that cannot be read: out of memory is told apart.
+/// The status of an input that cannot be read: out of memory has a status of its own.
 fn input_failed<E: Write>(err: &mut E, error: &io::Error) -> Status
     ensures memory { error_kind error.now ≡ ErrorKind.OutOfMemory → result ≡ Memory }
     ensures input { error_kind error.now ≢ ErrorKind.OutOfMemory → result ≡ CommandLine }

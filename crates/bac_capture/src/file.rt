@@ -61,7 +61,7 @@ impl Layout {
         }
     }
 
-    /// The byte order of a block: a section tells its own.
+    /// The byte order of a block: a section says its own.
     fn block_order(&self, head: &[u8]) -> Option<Order>
         requires { length head.now ≡ 12 }
         ensures { result ≡ block_order_of self.now.order head.now }

@@ -1,4 +1,4 @@
-//! The two forms of capture files, told by their first octets.
+//! The two forms of capture files, known by their first octets.
 ghost use Rattle.std.specs.Prelude.{◌≡◌};
 ghost use Rattle.bac_capture.specs.Forms.{form_of};
 
@@ -13,7 +13,7 @@ pub enum Form {
     Blocks,
 }
 
-/// The form and the byte order that the first octets of a file tell; None where it is no capture file. The blocks of pcapng have
+/// The form and the byte order that the first octets of a file say; None where it is no capture file. The blocks of pcapng have
 /// their own order in each section, the first of which these octets begin.
 pub fn form_of(front: &[u8]) -> Option<(Form, Order)>
     ensures { result ≡ form_of front.now }

@@ -52,4 +52,4 @@ pub use packet::{Datagram, Endpoint};
 pub use ports::Ports;
 pub use reading::read_frame;
 pub use run::read_run;
-pub use walk::{Watch, walk_file};
+pub use walk::{FrameVisitor, walk_file};

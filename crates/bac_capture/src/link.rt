@@ -133,7 +133,7 @@ fn version_network(first: u8) -> Option<Network>
     }
 }
 
-/// A packet, whose first octet tells its version.
+/// A packet, whose first octet says its version.
 #[tactic(auto, unfolding(crate::specs::Links::raw_at))]
 fn raw(octets: &[u8]) -> Result<(Option<Network>, &[u8]), PacketFault>
     ensures { Reads (λ x. x) (λ r. r.now) octets.now result raw_at }

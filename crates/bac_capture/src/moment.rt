@@ -8,13 +8,13 @@ use crate::order::Order;
 /// The code of the option that ends them.
 const END: u16 = 0;
 
-/// The code of an option that tells the unit of moments.
+/// The code of an option that says the unit of moments.
 const RESOLUTION: u16 = 9;
 
 /// Most options of an interface that are looked at.
 pub(crate) const OPTION_LIMIT: usize = 64;
 
-/// The exponent where no option tells one: microseconds.
+/// The exponent where no option says one: microseconds.
 const MICROSECONDS: u8 = 6;
 
 /// The unit of moments.
@@ -86,7 +86,7 @@ fn after_option(order: Order, options: &[u8]) -> &[u8]
     &options[len.min(options.len())..]
 }
 
-/// The exponent that the options of an interface tell, by the first so many of them.
+/// The exponent that the options of an interface say, by the first so many of them.
 pub(crate) fn resolution_in(limit: usize, order: Order, options: &[u8]) -> u8
     ensures { result ≡ resolution_in limit order options.now }
 {

@@ -1,4 +1,4 @@
-//! BVLLs of other functions than Original-Unicast-NPDU: how many of each are told, by name.
+//! BVLLs of other functions than Original-Unicast-NPDU: how many of each are printed, by name.
 ghost use Rattle.std.specs.Prelude.{◌≡◌, ◌<◌, OnOk};
 ghost use Rattle.std.specs.Io.KnownBytes.{Appends};
 ghost use Rattle.bac_capture.specs.Bvlc.{function_of};

@@ -37,10 +37,10 @@ fn packet(link: LinkKind, octets: &[u8]) -> Result<Option<Packet<'_>>, PacketFau
 
 /// The datagram of BACnet/IP in a frame of that link layer: one of UDP over IPv4 or IPv6, with one of those ports at one end.
 ///
-/// None where the frame carries something else. Of the first fragment of a packet the ports tell whether it is one: then, and of
+/// None where the frame carries something else. Of the first fragment of a packet the ports say whether it is one: then, and of
 /// every later fragment of UDP, `Fragment` is answered, since its octets stand in several frames. `Truncated` where the frame
 /// ends before what its headers announce, so too where it was not captured whole; `IpHeader` and `UdpLength` where a header
-/// tells no packet. Checksums are not looked at, and octets after the packet are padding.
+/// says no packet. Checksums are not looked at, and octets after the packet are padding.
 #[tactic(auto, unfolding(crate::specs::Frames::datagram_at))]
 pub fn read_frame(
     link: LinkKind,

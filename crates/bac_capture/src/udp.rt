@@ -25,7 +25,7 @@ fn body(octets: &[u8]) -> Result<(&[u8], &[u8]), PacketFault>
     cut(rest, usize::from(length - HEADER))
 }
 
-/// The same where the packet is whole; of the first fragment of several the ports alone can be told.
+/// The same where the packet is whole; of the first fragment of several only the ports are known.
 fn part_body(octets: &[u8], part: Part) -> Result<(&[u8], &[u8]), PacketFault>
     ensures { Reads (λ x. x.now) (λ r. r.now) octets.now result (udp_part_at part) }
 {

@@ -1,4 +1,4 @@
--- The lines by which asks, what is performed and sent, and endings are told.
+-- The lines by which asks, what is performed and sent, and endings are printed.
 use Rattle.std.specs.Prelude.{ℕ, List, ◌++◌, codes, decimal}
 use Rattle.hex.specs.Hex.{encode_upper}
 use Rattle.bac_service_text.specs.Answers.{reply_text}

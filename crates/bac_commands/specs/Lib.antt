@@ -10,7 +10,7 @@ pub mod Pairs
 pub mod CommandErrors
 pub mod Words
 pub mod FileOctets
-pub mod Told
+pub mod AskEnds
 pub mod Frames
 pub mod LogWords
 pub mod Lines

@@ -57,7 +57,7 @@ AreCameWords (Error invoke_id choice class code) words = words ≡ codes "error"
 AreCameWords (Reject invoke_id reason) words = words ≡ codes "reject"
 AreCameWords (Abort server invoke_id reason) words = words ≡ reasons.abort_words reason
 
--- a request that was performed is told whole, also where it came in segments
+-- a request that was performed is printed whole, also where it came in segments
 abbrev pub AreAskingWords : Option Performed → Apdu → List ℕ → Type 0
 AreAskingWords None a words = AreCameWords a words
 AreAskingWords (Some p) a words = AreRequestWords p.request words
@@ -105,7 +105,7 @@ abbrev pub AreSentWords : (away : List ℕ) → Option Apdu → List ℕ → Typ
 AreSentWords away None words = words ≡ codes "sent"
 AreSentWords away (Some a) words = AreReplyOrWords (kept_reply a) (other_words away a) words
 
--- what was performed is told by its reply
+-- what was performed is printed by its reply
 abbrev pub AreDoneWords : (away : List ℕ) → Option Performed → (sends : List Datagram) → List ℕ → Type 0
 AreDoneWords away (Some p) sends words = AreReplyWords p.reply words
 AreDoneWords away None [] words = words ≡ codes "nothing"

@@ -89,7 +89,7 @@ fn sent_words(alloc: Global, away: &str, datagram: &Datagram) -> Result<Vec<u8>,
     }
 }
 
-/// What was done: what was performed is told by its reply, all else by the first datagram that was sent.
+/// What was done: what was performed is printed by its reply, all else by the first datagram that was sent.
 pub(crate) fn done_words(
     alloc: Global,
     away: &str,

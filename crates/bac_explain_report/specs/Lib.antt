@@ -8,7 +8,7 @@ pub mod Unread
 pub mod Seen
 pub mod Accounts
 pub mod AccountViews
-pub mod Told
+pub mod FrameReports
 pub mod Rest
 pub mod Explained
 pub mod Columns

@@ -11,13 +11,13 @@ mod column;
 mod copies;
 mod ending;
 mod explain;
+mod frame_report;
 mod keys;
 mod request_words;
 mod seeing;
 mod sketch;
 mod summary;
 mod tally;
-mod told;
 mod unread;
 
 pub use bac_chart::Form;

@@ -153,7 +153,7 @@ run_shown v nodes first lines all world last marks a b traced printed = (
   ),
 )
 
--- ---- a run that is told in words
+-- ---- a run that is printed in words
 
 pub run_told : {E : Type 0} (run : Result Bool E) (first : ℕ) (held lines : List ScriptLine) (world last : WorldView) (a b : Option (List ℕ)) → held ≡ lines
     → IfOk run (λ all. AppendsText a b (Runs in_words first held all world last)) → IfOk run (λ all. AppendsText a b (IsWorded first lines all world))

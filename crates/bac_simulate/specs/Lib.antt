@@ -4,7 +4,7 @@ pub mod Runs
 pub mod LineWords
 pub mod Lines
 pub mod Scripts
-pub mod Told
+pub mod Printed
 pub mod Traces
 pub mod Worded
 pub mod Drawn

@@ -8,10 +8,10 @@ ghost use Rattle.bac_simulate.specs.Scripts.{IsModest, IsNotRead, Reads, ReadsAt
 ghost use Rattle.bac_simulate.specs.Scripts.{with_setting};
 ghost use Rattle.bac_simulate.specs.Views.{line_view};
 
-use crate::world_of::said_by;
-use bac_network::{Event, World};
 use crate::line::Setting;
 use crate::line_reading::{read_setting, read_step};
+use crate::world_of::said_by;
+use bac_network::{Event, World};
 use bac_service_text::FormFault;
 use bac_text::read_of;
 use bac_value::NoMemory;

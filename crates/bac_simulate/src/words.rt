@@ -9,7 +9,7 @@ ghost use Rattle.bac_simulate.specs.Worded.{AreAskWords, AreEndedWords, AreEvent
 ghost use Rattle.bac_simulate.specs.Worded.{Adds, change_words, news_line, refused_news, sent_lines, sent_words};
 
 use crate::nothing::{Why, why_words};
-use crate::telling::{Seen, is_as_before};
+use crate::printing::{Seen, is_as_before};
 use bac_chart::datagram_words;
 use bac_commands::ending_words;
 use bac_journal::Copy;

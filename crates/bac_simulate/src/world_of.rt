@@ -10,12 +10,12 @@ ghost use Rattle.bac_simulate.specs.Houses.{link_at, makers_from, world_set};
 ghost use Rattle.bac_simulate.specs.Scripts.{IsModest, limits_in, said_by};
 ghost use Rattle.bac_simulate.specs.Views.{line_view};
 
+use crate::line::{SetFile, SetProperty, Setting, Step};
 use crate::script::ScriptLine;
 use bac_apdu::Limits;
 use bac_network::{Event, NewWorldFault, World};
 use bac_node::Config;
 use bac_npdu::LinkAddress;
-use crate::line::{SetFile, SetProperty, Setting, Step};
 use bac_store::{Change, Store, house};
 use bac_value::NoMemory;
 use std::alloc::Global;

@@ -7,7 +7,7 @@ use Rattle.std.proofs.KnownBytes.{Appends-kept}
 use Rattle.bac_text.specs.Decoded.{IsLayer, AreRequestLines, AreComplexLines, AreLayerLines, fault_line, AreLines}
 use Rattle.bac_text.specs.declared.fault.LayerFault.{LayerFault}
 use Rattle.bac_text.specs.Layers.{Service, IsRequestIn, IsComplexIn, HasNoRequest, HasNoComplex, IsFine, IsAtFault}
-use Rattle.bac_text.specs.Outcome.{IsTold, IsShown, shown_status}
+use Rattle.bac_text.specs.Outcome.{IsPrinted, IsShown, shown_status}
 use Rattle.bac_text.specs.Texts.{Is, line_end, IsRequestText, IsComplexText, AppendsText, AppendsLine}
 use Rattle.bac_service_text.proofs.Appending.{both, line_is, no_line, nothing}
 
@@ -66,14 +66,14 @@ complex_refused in_words None a none = absurd none
 complex_refused in_words (Some s) a none = ([], (record { layer = None; is = (none, refl) }, nothing a))
 
 -- the layers were printed
-pub told_fine : (in_words : Bool) (datagram : List ℕ) (a b : Option (List ℕ)) → AppendsText a b (AreLayerLines in_words datagram) → IsFine datagram
-    → IsTold in_words true datagram a b
-told_fine in_words datagram a b p fine = (fine, both a b b (AreLayerLines in_words datagram) (Is []) p (no_line b))
+pub printed_fine : (in_words : Bool) (datagram : List ℕ) (a b : Option (List ℕ)) → AppendsText a b (AreLayerLines in_words datagram) → IsFine datagram
+    → IsPrinted in_words true datagram a b
+printed_fine in_words datagram a b p fine = (fine, both a b b (AreLayerLines in_words datagram) (Is []) p (no_line b))
 
 -- the layers were printed, and then the fault
-pub told_faulty : (in_words : Bool) (datagram : List ℕ) (fault : LayerFault) (a b c : Option (List ℕ)) → AppendsText a b (AreLayerLines in_words datagram)
-    → IsAtFault datagram fault → Appends b c (fault_line in_words datagram fault) → IsTold in_words false datagram a c
-told_faulty in_words datagram fault a b c p at q = record {
+pub printed_faulty : (in_words : Bool) (datagram : List ℕ) (fault : LayerFault) (a b c : Option (List ℕ)) → AppendsText a b (AreLayerLines in_words datagram)
+    → IsAtFault datagram fault → Appends b c (fault_line in_words datagram fault) → IsPrinted in_words false datagram a c
+printed_faulty in_words datagram fault a b c p at q = record {
   fault = fault;
   at_fault = at;
   printed = both a b c (AreLayerLines in_words datagram) (Is (fault_line in_words datagram fault)) p (line_is b c (fault_line in_words datagram fault) q);
@@ -83,7 +83,7 @@ told_faulty in_words datagram fault a b c p at q = record {
 kept : (a b c : Option (List ℕ)) (P : List ℕ → Type 0) → AppendsText a b P → Keeps b c → AppendsText a c P
 kept a b c P p keeps = (p.0, (p.1.0, Appends-kept a b c p.0 p.1.1 keeps))
 
-pub flushed : (in_words fine : Bool) (datagram : List ℕ) (a b c : Option (List ℕ)) → IsTold in_words fine datagram a b → Keeps b c
+pub flushed : (in_words fine : Bool) (datagram : List ℕ) (a b c : Option (List ℕ)) → IsPrinted in_words fine datagram a b → Keeps b c
     → IsShown in_words datagram a c (shown_status fine)
 flushed in_words true datagram a b c told keeps = (told.0, kept a b c (AreLines in_words datagram None) told.1 keeps)
 flushed in_words false datagram a b c told keeps = record {

@@ -1,4 +1,4 @@
-//! How the end of a ticket is told.
+//! How the end of a ticket is printed.
 ghost use Rattle.std.specs.Prelude.{OnOk};
 ghost use Rattle.std.specs.Io.KnownBytes.{Appends};
 ghost use Rattle.bac_requester.specs.TransactionViews.{ending_view};

@@ -4,8 +4,8 @@ ghost use Rattle.std.specs.Option.{option_map};
 ghost use Rattle.bac_commands.specs.FileOctets.{AreWritten, octets_of};
 ghost use Rattle.bac_commands.specs.Reports.{reply_of};
 
+use super::ask_end::print_end;
 use super::success::reply_of;
-use super::telling::print_end;
 use bac_driver::AskEnd;
 use bac_service_text::octets_of_reply;
 use std::alloc::Global;
@@ -22,8 +22,8 @@ fn octets_of(end: &AskEnd) -> Option<&[u8]>
     }
 }
 
-/// Writes the octets of a file with which an ask was answered; where it was not, `err` tells how it ended. Answers whether it was.
-pub(crate) fn tell_octets<O: Write, E: Write>(
+/// Writes the octets of a file with which an ask was answered; where it was not, `err` says how it ended. Answers whether it was.
+pub(crate) fn print_file_octets<O: Write, E: Write>(
     alloc: Global,
     end: &AskEnd,
     out: &mut O,
@@ -32,7 +32,7 @@ pub(crate) fn tell_octets<O: Write, E: Write>(
     ensures { IfOk result (λ succeeded. AreWritten (octets_of (reply_of end.now)) succeeded (O.contents out.old) (O.contents out.new)) }
 {
     let Some(octets) = octets_of(end) else {
-        // where even that fails, the status alone tells
+        // if that fails too, only the status is left
         let _ = print_end(alloc, end, err);
         return Ok(false);
     };

@@ -55,7 +55,8 @@ pub(crate) fn is_success(strict: bool, request: &OwnedRequest, end: &AskEnd) -> 
     ensures { result ≡ is_success strict (owned_request_view request.now) end.now }
 {
     match reply_of(end) {
-        Some(reply) => !(strict && (is_error(reply) || names_other(request.as_request(), reply.as_reply()))),
+        Some(reply) => !(strict
+            && (is_error(reply) || names_other(request.as_request(), reply.as_reply()))),
         None => false,
     }
 }
