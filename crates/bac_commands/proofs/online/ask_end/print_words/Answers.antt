@@ -3,4 +3,4 @@ use Rattle.bac_commands.proofs.online.ask_end.print_words.Goals as goal
 
 pub returns : goal.returns
 returns g c =
-    record { words = c.in_ok-words.words.items; are = c.in_ok-words.ensures; printed = search rules; is = sym c.is_success.ensures }
+    record { words = c.in-Ok.words.items; are = c.in-Ok.ensures; printed = search rules; is = sym c.is_success.ensures }
