@@ -95,11 +95,27 @@ const WINDOW_OF_16: Scene = Scene {
     overtake: 100,
 };
 
+/// A server that takes no replies in segments takes requests in segments all the same.
+const TO_NO_SEGMENTS: Scene = Scene {
+    members: &[
+        LARGE,
+        Member {
+            takes: "0070",
+            ..SMALL
+        },
+    ],
+    overtake: 128,
+};
+
 /// Scenes and their runs; those of the write alone have 44 SegmentACKs, 23 and 87.
 const TABLES: &[(Scene, &[Run])] = &[
     (TWO, RUNS),
     (
         TO_SMALL,
+        &[(0, 1, "put 10:1 0 {60000*AB}", Ok(Some(1_409)), 3)],
+    ),
+    (
+        TO_NO_SEGMENTS,
         &[(0, 1, "put 10:1 0 {60000*AB}", Ok(Some(1_409)), 3)],
     ),
     (
