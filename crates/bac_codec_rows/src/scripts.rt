@@ -1,9 +1,8 @@
 //! Lines of words: `words bac WORD..` tells the request of words or which is bad, `step` what a line of a script says, and `setting` what a first one sets.
 use crate::words::print_octets;
-use bac_script::{
-    Ask, FormFault, Noise, Setting, Step, bad_word, read_request_words, read_setting, read_step,
-};
 use bac_service::{OwnedRequest, write_request};
+use bac_service_text::{FormFault, bad_word, read_request_words};
+use bac_simulate::{Ask, Noise, Setting, Step, read_setting, read_step};
 use std::alloc::Global;
 use std::io::Write;
 

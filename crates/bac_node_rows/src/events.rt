@@ -11,7 +11,7 @@ use bac_commands::{print_asked, print_refused};
 use bac_node::{Node, NodeFault, Outcome};
 use bac_npdu::Peer;
 use bac_requester::{AskFault, Asked};
-use bac_script::{SetFile, SetProperty, Step, read_step};
+use bac_simulate::{SetFile, SetProperty, Step, read_step};
 use bac_store::{Change, ChangeFault};
 use std::alloc::Global;
 use std::io::Write;

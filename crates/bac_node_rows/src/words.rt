@@ -1,6 +1,6 @@
 //! The words of a line.
-use bac_script::read_request_words;
 use bac_service::OwnedRequest;
+use bac_service_text::read_request_words;
 use std::alloc::Global;
 
 /// The first word of a text, and what stands behind it.

@@ -6,8 +6,8 @@ use bac_apdu::{Apdu, Limits, read};
 use bac_network::{Event, World, WorldFault};
 use bac_node::Config;
 use bac_npdu::LinkAddress;
-use bac_script::read_request_words;
 use bac_service::OwnedRequest;
+use bac_service_text::read_request_words;
 use bac_store::{Store, house};
 use std::alloc::Global;
 

@@ -1,6 +1,6 @@
 //! Why a world does not go, or is not explained.
 use bac_network::{NewWorldFault, WorldFault};
-use bac_script::FormFault;
+use bac_service_text::FormFault;
 use bac_value::NoMemory;
 use std::alloc::{AllocError, AllocFailed};
 

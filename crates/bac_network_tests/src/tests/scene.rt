@@ -5,8 +5,8 @@ use bac_network::World;
 use bac_node::Config;
 use bac_rows::octets_of;
 use bac_rows::script::plain;
-use bac_script::read_request_words;
 use bac_service::OwnedRequest;
+use bac_service_text::read_request_words;
 use bac_store::{Store, house};
 use std::alloc::Global;
 
