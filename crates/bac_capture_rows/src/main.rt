@@ -12,6 +12,7 @@ mod rows;
 mod seen;
 mod transactions;
 mod words;
+mod worlds;
 
 use std::io;
 use std::io::{Read, Write};

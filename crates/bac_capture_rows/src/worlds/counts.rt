@@ -1,5 +1,5 @@
 //! How often each thing passed of an ask, by the world's own copies.
-use crate::going::{Asked, Sight};
+use crate::worlds::schedule::{Asked, Sight};
 use bac_explain::{Sent, Transaction};
 use bac_network::{Note, World};
 

@@ -1,6 +1,6 @@
 //! What `explain` says of what passed.
-use crate::going::{Sight, link_of};
-use crate::wrong::Wrong;
+use crate::worlds::schedule::{Sight, link_of};
+use crate::worlds::wrong::Wrong;
 use bac_explain::{Closed, Explainer, Finding, OPEN_LIMIT, read_sighting};
 use bac_network::{Copy, World};
 use std::alloc::Global;

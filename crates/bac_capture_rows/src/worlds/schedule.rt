@@ -1,7 +1,7 @@
 //! Worlds that go by schedules which are made up from a number, and what passes on the wire. No node restarts: a server that did
 //! answers a copy of what it had answered by an Abort.
-use crate::chance::Chance;
-use crate::wrong::Wrong;
+use crate::worlds::chance::Chance;
+use crate::worlds::wrong::Wrong;
 use bac_apdu::{Apdu, Limits, read};
 use bac_network::{Event, World, WorldFault};
 use bac_node::Config;
