@@ -5,14 +5,13 @@
 //! how many slots are held and entries live, and by `compare` whether the node and its store are those of a new one.
 use crate::scene::{limits_of, link, nodes_of};
 use crate::telling::{framed, print_outcome, print_sends};
-use crate::words::{first, octets_of, request_of};
+use crate::words::{change_of, first, octets_of, request_of};
 use bac_apdu::read;
 use bac_commands::{print_asked, print_refused};
 use bac_node::{Node, NodeFault, Outcome};
 use bac_npdu::Peer;
 use bac_requester::{AskFault, Asked};
-use bac_script::{SetFile, SetProperty, Step, read_step};
-use bac_store::{Change, ChangeFault};
+use bac_store::ChangeFault;
 use std::alloc::Global;
 use std::io::Write;
 
@@ -113,29 +112,6 @@ fn asks(alloc: Global, node: &mut Node, now: u64, words: &str, out: &mut Vec<u8>
     let limits = limits_of(alloc, limits)?;
     let request = request_of(alloc, words)?;
     told_of_ask(alloc, node.ask(now, &peer, &limits, &request), out)
-}
-
-/// The change of a line, which is spelled as in a script of a network.
-fn change_of(alloc: Global, verb: &str, words: &str) -> Option<Change> {
-    let line = format!(in alloc; "{verb} 0 {words}").ok()?;
-    match read_step(alloc, line.as_bytes()) {
-        Ok(
-            Step::SetProperty(
-                SetProperty {
-                    object,
-                    property,
-                    octets,
-                    ..
-                },
-            ),
-        ) => Some(Change::Value {
-            object,
-            property,
-            octets,
-        }),
-        Ok(Step::SetFile(SetFile { object, octets, .. })) => Some(Change::File { object, octets }),
-        _ => None,
-    }
 }
 
 fn changes(

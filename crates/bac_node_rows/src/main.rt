@@ -20,6 +20,7 @@ mod side;
 mod sockets;
 mod telling;
 mod turns;
+mod wires;
 mod words;
 mod worlds;
 

@@ -1,6 +1,7 @@
 //! Rows one after the other.
 use crate::node_rows::play_node;
 use crate::scripts::Way;
+use crate::wires::play_wire;
 use crate::worlds::play_world;
 use crate::{nodes, scripts, sockets, words};
 use bac_simulate::View;
@@ -17,6 +18,7 @@ enum Kind {
     Scene,
     Node,
     World,
+    Wire,
     Nodes,
     Socket,
     /// One script, or one in each line.
@@ -28,6 +30,7 @@ const KINDS: &[(&str, Kind)] = &[
     ("scene", Kind::Scene),
     ("node", Kind::Node),
     ("world", Kind::World),
+    ("wire", Kind::Wire),
     ("nodes", Kind::Nodes),
     ("socket", Kind::Socket),
     ("script", Kind::Script(Way::Plain)),
@@ -63,6 +66,7 @@ impl<'a, R: Net + Clock> Rows<'a, R> {
             Kind::Scene => Some(()),
             Kind::Node => play_node(self.alloc, self.scene, lines, out),
             Kind::World => play_world(self.alloc, self.scene, lines, out),
+            Kind::Wire => play_wire(self.alloc, self.scene, lines, out),
             Kind::Nodes => nodes::play(self.alloc, lines, out),
             Kind::Socket => sockets::play(self.rt, self.alloc, lines, out),
             Kind::Script(way) => scripts::play(self.alloc, way, lines, out),

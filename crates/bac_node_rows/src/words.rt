@@ -1,6 +1,7 @@
 //! The words of a line.
-use bac_script::read_request_words;
+use bac_script::{SetFile, SetProperty, Step, read_request_words, read_step};
 use bac_service::OwnedRequest;
+use bac_store::Change;
 use std::alloc::Global;
 
 /// The first word of a text, and what stands behind it.
@@ -43,5 +44,28 @@ pub(crate) fn request_of(alloc: Global, text: &str) -> Option<OwnedRequest> {
     match read_request_words(alloc, &words) {
         Ok(request) => Some(request),
         Err(_) => None,
+    }
+}
+
+/// The change that `set` or `file` makes with these words, as in a script but without the node.
+pub(crate) fn change_of(alloc: Global, verb: &str, words: &str) -> Option<Change> {
+    let line = format!(in alloc; "{verb} 0 {words}").ok()?;
+    match read_step(alloc, line.as_bytes()) {
+        Ok(
+            Step::SetProperty(
+                SetProperty {
+                    object,
+                    property,
+                    octets,
+                    ..
+                },
+            ),
+        ) => Some(Change::Value {
+            object,
+            property,
+            octets,
+        }),
+        Ok(Step::SetFile(SetFile { object, octets, .. })) => Some(Change::File { object, octets }),
+        _ => None,
     }
 }

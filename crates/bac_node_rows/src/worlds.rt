@@ -2,14 +2,16 @@
 //!
 //! Lines are those of scripts, and a few more: `anew NODE WORDS` (the node restarts with the house store as it is after a request), `octets NODE LINK HEX` (a
 //! millisecond later they come from a link of that number; whether the node looks at them), `flow COUNT` (the first copies come in their order, each once),
-//! `stores` (of each node whether its store was the house's and is) and `log`. Where memory is refused to an event the world is as its twin, and the event is
-//! told again.
+//! `run LINE|LINE..` (the events of these lines, by one call), `straight CLIENT SERVER REQUEST` (a straight run: how many copies it delivers, and how its ask
+//! ends), `stores` (of each node whether its store was the house's and is), `counts` and `log`. Where memory is refused to an event the world is as its twin,
+//! and the event happens again.
 use crate::playing::{Stage, play};
 use crate::printing::{print_asked, print_performed};
 use crate::scene::{house_after, link, nodes_of, overtake_of};
-use crate::words::{first, octets_of};
+use crate::words::{first, octets_of, put, request_of};
 use bac_commands::print_ended;
-use bac_network::{Event, Fact, World, WorldFault};
+use bac_network::{Event, Fact, StraightRun, World, WorldFault, straight};
+use bac_script::{Step, read_step};
 use bac_simulate::simulate_in;
 use bac_store::{Store, house};
 use std::alloc::Global;
@@ -126,6 +128,70 @@ fn flow(world: &mut World, words: &str, out: &mut Vec<u8>) -> Option<()> {
     print_counts(world, out)
 }
 
+/// The event of a script's line; an ask goes by what the asked node takes.
+fn event_of(alloc: Global, world: &World, line: &str) -> Option<Event> {
+    let Ok(step) = read_step(alloc, line.as_bytes()) else {
+        return None;
+    };
+    match step {
+        Step::Ask(ask) => Some(Event::Ask {
+            client: ask.client as usize,
+            server: ask.server as usize,
+            limits: world.nodes().get(ask.server as usize)?.settings().limits,
+            request: ask.request,
+        }),
+        Step::Deliver(number) => Some(Event::Deliver {
+            number: number as usize,
+        }),
+        Step::Tick(node) => Some(Event::Tick {
+            node: node as usize,
+        }),
+        Step::Advance(by) => Some(Event::Advance { by }),
+        _ => None,
+    }
+}
+
+/// The events of these lines happen by one call.
+fn run(alloc: Global, world: &mut World, lines: &str, out: &mut Vec<u8>) -> Option<()> {
+    let mut events = Vec::new(alloc);
+    for line in lines.lines() {
+        put(&mut events, event_of(alloc, world, line)?)?;
+    }
+    match world.run(&events) {
+        Ok(()) => writeln!(out, "{} events ran", events.len()).ok(),
+        Err(stopped) => {
+            let (fault, place) = (stopped.fault.number(), stopped.place);
+            writeln!(out, "fault {fault} at event {place}").ok()
+        }
+    }
+}
+
+fn print_straight(
+    alloc: Global,
+    world: &World,
+    run: &StraightRun,
+    out: &mut Vec<u8>,
+) -> Option<()> {
+    writeln!(out, "{} deliveries", run.deliveries).ok()?;
+    match (run.ask, run.ending(world)) {
+        (Some(ask), Some(how)) => print_ended(alloc, ask as u64, how, out).ok(),
+        (Some(ask), None) => writeln!(out, "{ask} is open").ok(),
+        (None, _) => out.write_all(b"refused\n").ok(),
+    }
+}
+
+/// A node asks another one, and each copy comes once, in order of sending, until the ask has ended.
+fn goes_straight(alloc: Global, world: &mut World, words: &str, out: &mut Vec<u8>) -> Option<()> {
+    let (client, words) = first(words);
+    let (server, words) = first(words);
+    let (client, server) = (client.parse::<usize>().ok()?, server.parse::<usize>().ok()?);
+    let request = request_of(alloc, words)?;
+    match straight(world, client, server, request) {
+        Ok(run) => print_straight(alloc, world, &run, out),
+        Err(fault) => writeln!(out, "fault {}", fault.number()).ok(),
+    }
+}
+
 /// What is told of an event that its memory was refused to.
 const NO_MEMORY: &[u8] = b"line 1: fault 4\n";
 
@@ -148,6 +214,9 @@ fn happens(alloc: Global, world: &mut World, line: &str, out: &mut Vec<u8>) -> O
         b"anew" => restart_anew(alloc, world, words, out),
         b"octets" => octets_come(alloc, world, words, out),
         b"flow" => flow(world, words, out),
+        b"run" => run(alloc, world, words, out),
+        b"straight" => goes_straight(alloc, world, words, out),
+        b"counts" => print_counts(world, out),
         b"stores" => print_stores(alloc, world, out),
         b"log" => print_log(alloc, world, out),
         _ => simulates(alloc, world, line, out),
