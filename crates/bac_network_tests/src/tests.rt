@@ -20,7 +20,6 @@ mod limits;
 mod memory;
 mod scene;
 mod sleeping;
-mod straight_runs;
 mod turns;
 mod twins;
 
@@ -39,12 +38,6 @@ const LARGE: Member = Member {
 const SMALL: Member = Member {
     takes: "0270",
     ..LARGE
-};
-
-/// Three nodes that take large APDUs.
-const LARGE_ONES: Scene = Scene {
-    members: &[LARGE, LARGE, LARGE],
-    overtake: 128,
 };
 
 /// Three nodes that take small ones.
