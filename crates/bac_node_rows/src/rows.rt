@@ -14,7 +14,7 @@ use std::time::Clock;
 /// What plays a row.
 #[derive(Clone, Copy)]
 enum Kind {
-    /// What rows of nodes and of worlds behind it are played on.
+    /// What the following rows of nodes, worlds and wires are played on.
     Scene,
     Node,
     World,
@@ -51,7 +51,7 @@ fn kind_of(word: &str) -> Option<Kind> {
     None
 }
 
-/// Rows that are played one after the other, on the scene of the last one of that kind.
+/// Plays rows one after the other, each on the last scene before it.
 #[derive(Drop)]
 struct Rows<'a, R> {
     rt: &'a R,
@@ -74,7 +74,7 @@ impl<'a, R: Net + Clock> Rows<'a, R> {
         }
     }
 
-    /// Plays a row, once more where it can't be: memory may have been refused to it.
+    /// Plays a row, and once more where that fails: memory may have been refused to it.
     fn play(&self, kind: Kind, lines: &str, out: &mut Vec<u8>) -> io::Result<()> {
         let begin = out.len();
         if self.play_lines(kind, lines, out).is_some() {
@@ -104,7 +104,7 @@ impl<'a, R: Net + Clock> Rows<'a, R> {
     }
 }
 
-/// Each row of a text, behind a `=`.
+/// Plays each row of a text; a row begins with `=`.
 pub(crate) fn play_all<R: Net + Clock>(
     rt: &R,
     alloc: Global,

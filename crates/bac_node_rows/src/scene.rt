@@ -28,7 +28,7 @@ pub(crate) fn limits_of(alloc: Global, digits: &str) -> Option<Limits> {
     }
 }
 
-/// A store performs the request of some words.
+/// Performs the request of some words.
 fn performs(alloc: Global, store: &mut Store, words: &str) -> Option<()> {
     let words = plain(alloc, words).ok()?;
     let request = request_of(alloc, &words)?;
@@ -71,7 +71,7 @@ fn store_of(alloc: Global, id: ObjectIdentifier, number: u32, octets: &[u8]) -> 
     Store::new(alloc, objects).ok()
 }
 
-/// The store of the object alone that `T:I PROPERTY HEX` says.
+/// The store of one object: `T:I PROPERTY HEX`.
 fn store_with(alloc: Global, words: &str) -> Option<Store> {
     let words = plain(alloc, words).ok()?;
     match change_of(alloc, "set", &words)? {
@@ -84,7 +84,7 @@ fn store_with(alloc: Global, words: &str) -> Option<Store> {
     }
 }
 
-/// The store that the last words of a node's line say.
+/// The store of a node by the last words of its line.
 fn store_by(alloc: Global, words: &str) -> Option<Store> {
     match words.strip_prefix("only ") {
         Some(words) => store_with(alloc, words),

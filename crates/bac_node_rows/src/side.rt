@@ -75,7 +75,7 @@ impl<'a> Side<'a> {
         })
     }
 
-    /// The bound_node of that name.
+    /// The node of that name, on its link.
     pub(crate) fn named(&mut self, name: &str) -> Option<&mut MemoryStation<'a>> {
         match name.as_bytes() {
             b"client" => Some(&mut self.client),

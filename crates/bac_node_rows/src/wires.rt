@@ -1,8 +1,8 @@
-//! Rows of nodes that hand each other datagrams, with no world between them: each one that was sent comes whenever a line says so, also late, and again.
+//! Rows of nodes on a wire that loses nothing: each datagram that was sent is delivered whenever a line says so, also late, and again.
 //!
-//! A line begins with its moment. `ask CLIENT SERVER REQUEST`: a node asks another one, by what that one takes. `deliver NUMBER`: that datagram comes to the
-//! node that it was sent to. `tick NODE`: the node does what is due. `file NODE` prints the octets of the node's file 1. Datagrams are counted from 0, in the
-//! order of sending.
+//! A line begins with its moment. `ask CLIENT SERVER REQUEST`: a node asks another one, with what that one takes of APDUs. `deliver NUMBER`: that datagram is
+//! delivered to the node that it was sent to. `tick NODE`: the node does what is due. `file NODE` prints the octets of the node's file 1. Datagrams are numbered
+//! from 0, in the order of sending.
 use crate::playing::{Stage, play};
 use crate::scene::{link, nodes_of};
 use crate::turns::print_octets;
@@ -76,7 +76,7 @@ impl Wire {
         Some(())
     }
 
-    /// What comes of an event at the node of that link.
+    /// Prints the result of an event at the node of that link, and keeps what it sends.
     fn go_on(
         &mut self,
         alloc: Global,
@@ -164,7 +164,7 @@ impl Stage for Wire {
     }
 }
 
-/// The nodes of a scene, of which none has sent anything.
+/// The nodes of a scene, all new.
 fn wire_of(alloc: Global, scene: &str) -> Option<Wire> {
     let mut nodes = Vec::new(alloc);
     for (config, store) in nodes_of(alloc, scene, 0)? {

@@ -4,7 +4,7 @@ use bac_service::OwnedRequest;
 use bac_store::Change;
 use std::alloc::Global;
 
-/// The first word of a text, and what stands behind it.
+/// The first word of a text, and what follows it.
 pub(crate) fn first(text: &str) -> (&str, &str) {
     text.split_once(' ').unwrap_or((text, ""))
 }
@@ -14,7 +14,7 @@ pub(crate) fn number(text: &str) -> Option<u64> {
     text.parse::<u64>().ok()
 }
 
-/// Puts an item behind the others; None where memory is refused.
+/// Appends an item; None where memory is refused.
 pub(crate) fn put<T: Drop>(items: &mut Vec<T>, item: T) -> Option<()> {
     match items.push(item) {
         Ok(()) => Some(()),
