@@ -1,4 +1,4 @@
--- What writers of members append spells what it is to.
+-- Writers of members append spellings of the members.
 use Rattle.std.proofs.Common.{◌≡◌, ℕ, ℤ, ◌<◌, ◌^◌, OnOk, [], ◌++◌, Result, Ok, Err, refl, sym, ap, subst, ◌∙◌, append_assoc, arith}
 use Rattle.std.proofs.lemmas.List.{append-nil}
 use Rattle.std.proofs.Math.Logic.{∥∥₁_elim}

@@ -1,5 +1,5 @@
--- The laws of whole requests and of the service data of whole ComplexACKs: what is read is exactly what they spell, what is written spells them,
--- and none has two spellings.
+-- The laws of whole requests and of the service data of whole ComplexACKs: readers accept exactly the spellings, writers append a
+-- spelling, and each has only one.
 use Rattle.std.proofs.Common.{◌≡◌, ℕ, ◌<◌, Bool, true, false, cond, nat_eq, [], Option, Some, None, ◌⊎◌, inl, inr, refl, sym, ap, subst, ◌∙◌}
 use Rattle.std.proofs.Common.{lit<, length, ◌^◌, Result, Ok, Err, IfOk, IfErr, ◌↔◌}
 use Rattle.std.proofs.Math.Logic.{∥∥₁_elim}

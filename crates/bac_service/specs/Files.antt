@@ -1,4 +1,4 @@
--- What both services of files say: the file, an extent of it, and octets at a position.
+-- What both file services share: the file, a part of it, and octets at a position.
 use Rattle.std.specs.Prelude.{ℕ, ℤ, ◌+◌, ◌^◌, ◌<◌, ◌++◌}
 use Rattle.bac_value.specs.declared.tag.Class.TheVariants.{Application}
 use Rattle.bac_value.specs.Number.{unsigned_octets, signed_octets, distance}
@@ -17,7 +17,7 @@ file_at make access = made_at (λ t. make t.0 t.1) (both_at application_object a
 abbrev pub file_spelling : ObjectId → Octets → Octets
 file_spelling file access = primitive Application 12 (object_octets file) ++ access
 
--- what the type in code says of it
+-- the abstract value of the type in code
 pub record IsFile (file : ObjectId) : Type 0 where
   pub kind_fits : file.kind < 1024
   pub instance_fits : file.instance < 2 ^ 22

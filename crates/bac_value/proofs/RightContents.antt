@@ -1,4 +1,4 @@
--- What reading finds right in contents is what values of that kind have as contents.
+-- Contents that the reader accepts are exactly the contents of values of that kind.
 use Rattle.std.proofs.Common.{◌≡◌, ℕ, zero, suc, ◌+◌, ◌*◌, ◌/◌, ◌%◌, ◌^◌, ◌<◌, ◌≤◌, Bool, true, false, cond, ltb, eqb, List, [], ◌∷◌}
 use Rattle.std.proofs.Common.{length, get_or, Some, None, refl, sym, ap, ◌∙◌, arith, IsTrue, ◌&&◌}
 use Rattle.std.specs.Int.{w32, to_be_bytes, from_be_bytes}
@@ -22,7 +22,7 @@ empty : (xs : List ℕ) → length xs ≡ 0 → xs ≡ []
 empty [] e = refl
 empty (x ∷ xs) e = absurd (omega arith)
 
--- a test that gives a fault where it holds
+-- a test that returns a fault if it holds
 pub no_fault : (b : Bool) (e : FaultKind) → cond b (Some e) None ≡ None → b ≡ false
 no_fault true e h = absurd cc
 no_fault false e h = refl
@@ -84,7 +84,7 @@ object_in xs = record { kind = number_in xs / 2 ^ 22; instance = number_in xs % 
 pub object_meant : (xs : List ℕ) → IsBytes xs → length xs ≡ 4 → IsObject (object_in xs) xs
 object_meant xs fits len = rw (four xs len) (object_of xs fits len)
 
--- the value that right contents mean
+-- the value of correct contents
 abbrev pub IsMeant : ℕ → List ℕ → Type 0
 IsMeant n xs = (kind_number (datum_in n xs) ≡ n) × IsContents (datum_in n xs) xs
 
