@@ -34,7 +34,7 @@ fn spelling_of(alloc: Global, value: &Value) -> Option<Vec<u8>> {
     Some(out)
 }
 
-/// Writes a value again; nothing where an element is none.
+/// Writes the value of an element again, where it is one.
 fn write_again(
     alloc: Global,
     value: Option<Value>,
@@ -133,7 +133,7 @@ fn piece(alloc: Global, words: &str, out: &mut Vec<u8>) -> Option<()> {
     )
 }
 
-/// Reads a text and tells the octets of its value.
+/// Reads a text and prints the octets of its value.
 fn read_text(alloc: Global, separator: Separator, text: &[u8], out: &mut Vec<u8>) -> Option<()> {
     match read_value(alloc, separator, text) {
         Ok(value) => print_octets(&spelling_of(alloc, &value)?, out),
@@ -142,7 +142,7 @@ fn read_text(alloc: Global, separator: Separator, text: &[u8], out: &mut Vec<u8>
     }
 }
 
-/// Prints a value, and tells the octets of what is read from that text.
+/// Prints a value, and the octets of the value that is read from that text.
 fn print_and_read(
     alloc: Global,
     separator: Separator,

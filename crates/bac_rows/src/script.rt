@@ -1,6 +1,6 @@
 //! Scripts in rows: how lines of tests are written.
 //!
-//! After a line that says what happens, each line that is printed stands behind two spaces. Lines that begin with `--` are comments.
+//! After a line that says what happens come the lines that are printed, each indented by two spaces. Lines that begin with `--` are comments.
 //! `FIRST,NEXT..LAST: ` before a line stands for that line once for each of these numbers.
 //! In a line `<name>` stands for the text that a line `name: text` of the names has, `{41*00}` for 41 times the text `00`, `#` for the number in decimal,
 //! `{+6}` for the number plus 6, `@` for the number modulo 256 in hexadecimal, `|` for the end of a line, and `_` for nothing.
@@ -11,10 +11,10 @@ use crate::RowFault;
 use std::alloc::Global;
 use std::fmt::Write;
 
-/// For which numbers a line stands: so many from the first on, each so much more than the one before it.
+/// The numbers that a line stands for: so many from the first on, each greater by one step than the one before.
 #[derive(Clone, Copy)]
 pub struct Numbers {
-    /// How many.
+    /// How many numbers there are.
     pub count: u64,
     first: u64,
     step: u64,
@@ -41,7 +41,7 @@ pub fn number(text: &str) -> Result<u64, RowFault> {
     }
 }
 
-/// What stands before the first separator and after it.
+/// The text before the first separator, and the text after it.
 pub fn parted(text: &str, separator: char) -> Result<(&str, &str), RowFault> {
     match text.split_once(separator) {
         Some(parts) => Ok(parts),
@@ -72,7 +72,7 @@ fn numbers_of(text: &str) -> Result<Numbers, RowFault> {
     numbers_to(number(first)?, number(next)?, number(last)?)
 }
 
-/// For which numbers a line stands, and the line. Only a range has two dots.
+/// The numbers that a line stands for, and the line. Only a range has two dots.
 pub fn ranged(line: &str) -> Result<(Numbers, &str), RowFault> {
     match line.split_once("..") {
         Some(_) => {

@@ -1,4 +1,4 @@
-//! What is explained of a world is what its log says.
+//! Compares what `explain` finds in a world's datagrams with the world's log.
 use crate::worlds::capture::Capture;
 use crate::worlds::counts::Counts;
 use crate::worlds::schedule::{Asked, Run, Sight, link_of};
