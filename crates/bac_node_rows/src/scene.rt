@@ -9,8 +9,8 @@ use bac_apdu::{Apdu, Limits, read};
 use bac_node::Config;
 use bac_npdu::LinkAddress;
 use bac_rows::script::plain;
-use bac_store::{Change, Object, Property, Store, house};
-use bac_value::{ObjectIdentifier, read_data};
+use bac_rows::stores::store_of;
+use bac_store::{Change, Store, house};
 use std::alloc::Global;
 
 /// The link of the node with that number.
@@ -48,27 +48,6 @@ pub(crate) fn house_after(alloc: Global, words: &str) -> Option<Store> {
     } else {
         None
     }
-}
-
-/// The store of one object with one property, which the network may not write.
-fn store_of(alloc: Global, id: ObjectIdentifier, number: u32, octets: &[u8]) -> Option<Store> {
-    let values = read_data(octets).ok()?.0.to_owned(alloc).ok()?;
-    let mut properties = Vec::new(alloc);
-    let property = Property {
-        number,
-        values,
-        writable: false,
-    };
-    put(&mut properties, property)?;
-    let object = Object {
-        id,
-        name: String::new(alloc),
-        properties,
-        file: None,
-    };
-    let mut objects = Vec::new(alloc);
-    put(&mut objects, object)?;
-    Store::new(alloc, objects).ok()
 }
 
 /// The store of one object: `T:I PROPERTY HEX`.
