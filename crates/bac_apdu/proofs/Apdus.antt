@@ -66,7 +66,7 @@ low_bit_is b lt clear =
     let sum : eqb b (bit (has_bit b 1) 1) ≡ true = rw clear at all in
     eqb-true _ _ sum
 
--- ---- what is read is spelled so
+-- ---- what is read is a spelling of the APDU
 
 abbrev Spelled : ℕ → List ℕ → Apdu → Type 0
 Spelled first rest apdu = SpellsApdu apdu (first ∷ rest)
@@ -253,7 +253,7 @@ apdu_takes (first ∷ rest) a fits e =
     let s = kind_takes (first / 16) (first % 16) rest a (omega arith) (IsBytes-rest first rest fits) e in
     subst (λ (n : ℕ). Spelled n rest a) (omega arith) s
 
--- ---- what is spelled so is read
+-- ---- each spelling is read
 
 abbrev segment : Bool → ℕ → ℕ → Segment
 segment more number window = record { more = more; number = number; window = window }

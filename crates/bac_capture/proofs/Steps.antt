@@ -1,4 +1,4 @@
--- Records and blocks that were taken, one after the other: what was told of each stands in front of what is told of the rest.
+-- Handling records and blocks, one after the other: the text for each precedes the text for the rest.
 use Rattle.std.proofs.Common.{◌≡◌, ℕ, zero, suc, List, [], ◌++◌, Option, Some, None, Result, Ok, Err, refl, sym, subst, ◌∙◌, append_assoc, append-nil}
 use Rattle.std.specs.Io.KnownBytes.{Appends, Keeps}
 use Rattle.std.proofs.KnownBytes.{Appends-nil, Appends-trans, Appends-kept}
@@ -17,7 +17,7 @@ kept_text (Some xs) None k = absurd k
 kept_text (Some xs) (Some ys) k = k ∙ sym (append-nil xs)
 
 module _ (S : Type 0) (Sees : Tells FrameView S) (Breaks : Tells FileFault S) where
-  -- what a step that goes on gives: the text that it printed, and what it makes of the rest
+  -- the effect of a step after which reading continues: the text that it printed, and the result for the rest
   pub record GoesOn (layout next : LayoutView) (here : Record) (left old new : Option (List ℕ)) (before now : S) : Type 1 where
     pub rest : List ℕ
     pub is : left ≡ Some rest
@@ -26,7 +26,7 @@ module _ (S : Type 0) (Sees : Tells FrameView S) (Breaks : Tells FileFault S) wh
     pub then : (Then : Rest S) (more : List ℕ) (final : S) → Then next now rest more final
         → IsNext S Sees Breaks layout before here (text ++ more) final Then
 
-  -- the text of a block, and what it makes of the rest
+  -- the text for a block, and the result for the rest
   pub record BlockGoesOn (layout next : LayoutView) (block : BlockView) (old new : Option (List ℕ)) (before now : S) : Type 1 where
     pub text : List ℕ
     pub printed : Appends old new text
@@ -64,7 +64,7 @@ module _ (S : Type 0) (Sees : Tells FrameView S) (Breaks : Tells FileFault S) wh
       passed layout next (InterfaceBlock interface) old new before now t.0 t.1 (λ Then text h. h)
   block_goes_on layout next OtherBlock old new before now t = passed layout next OtherBlock old new before now t.0 t.1 (λ Then text h. h)
 
-  -- a whole record with this block goes on
+  -- after a whole record with this block reading continues
   pub record WholeGoesOn (layout next : LayoutView) (block : Result BlockView FileFault) (rest : List ℕ) (old new : Option (List ℕ)) (before now : S) : Type 1 where
     pub text : List ℕ
     pub printed : Appends old new text
@@ -92,7 +92,7 @@ module _ (S : Type 0) (Sees : Tells FrameView S) (Breaks : Tells FileFault S) wh
 
   -- ---- the file cannot be read on
 
-  -- the text of what was told last
+  -- the text that was printed last
   pub record IsOver (layout : LayoutView) (here : Record) (old new : Option (List ℕ)) (before now : S) : Type 1 where
     pub text : List ℕ
     pub printed : Appends old new text
@@ -126,7 +126,7 @@ module _ (S : Type 0) (Sees : Tells FrameView S) (Breaks : Tells FileFault S) wh
 
   -- ---- one after the other
 
-  -- some records and blocks were taken, and the others stand before
+  -- some records and blocks were handled, and the others follow
   pub record IsSoFar (begun now : LayoutView) (octets : List ℕ) (left old new : Option (List ℕ)) (start state : S) : Type 0 where
     pub rest : List ℕ
     pub is : left ≡ Some rest

@@ -1,4 +1,4 @@
--- Kinds of other functions that are told one after the other.
+-- Printing the kinds of other functions one after the other.
 use Rattle.std.proofs.Common.{◌≡◌, ◌+◌, ℕ, List, get_or, Option, sym, subst, add-one}
 use Rattle.std.specs.Io.KnownBytes.{Appends}
 use Rattle.std.proofs.KnownBytes.{Appends-trans}

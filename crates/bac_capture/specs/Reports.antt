@@ -1,4 +1,4 @@
--- What the steps of reading a capture file tell, where its octets are known.
+-- The effects of the steps of reading a capture file, if its octets are known.
 use Rattle.std.specs.Prelude.{◌≡◌, ℕ, List, ⊤, Result, Ok, Err, Option, Some, None}
 use Rattle.std.specs.Io.KnownBytes.{Appends, Keeps}
 use Rattle.bac_capture.specs.declared.fault.FileFault.{FileFault}
@@ -11,7 +11,7 @@ use Rattle.bac_capture.specs.declared.walk.Step.{Step}
 use Rattle.bac_capture.specs.declared.walk.Step.TheVariants as step
 use Rattle.bac_capture.specs.Walks.{Tells, AreRead, IsFileIn}
 
--- something was told: the output goes from the first to the second, the state from the third to the fourth
+-- something was printed: the output changes from the first to the second, the state from the third to the fourth
 pub record IsTold {X S : Type 0} (Says : Tells X S) (x : X) (old new : Option (List ℕ)) (before now : S) : Type 0 where
   pub text : List ℕ
   pub printed : Appends old new text
@@ -26,11 +26,11 @@ IsBlockTaken S Sees (SectionBlock order) old new before now = IsPassed S old new
 IsBlockTaken S Sees (InterfaceBlock interface) old new before now = IsPassed S old new before now
 IsBlockTaken S Sees OtherBlock old new before now = IsPassed S old new before now
 
--- a block was taken in: the layout is the next one, and where it has a frame, that was told
+-- a block was handled: the layout is the next one, and a frame, if any, was seen
 abbrev pub IsTaken : (S : Type 0) → Tells FrameView S → (layout next : LayoutView) → BlockView → (old new : Option (List ℕ)) → (before now : S) → Type 0
 IsTaken S Sees layout next block old new before now = (next ≡ after layout block) × IsBlockTaken S Sees block old new before now
 
--- the file cannot be read on, and that was told
+-- the file cannot be read further, and this was reported
 abbrev pub IsBroken : (S : Type 0) → Tells FileFault S → FileFault → (old new : Option (List ℕ)) → (before now : S) → Step → Type 0
 IsBroken S Breaks fault old new before now step.Ended = ⊥
 IsBroken S Breaks fault old new before now step.Broken = IsTold Breaks fault old new before now
@@ -58,14 +58,14 @@ IsRecordTaken S Sees Breaks layout next (Broken fault) left old new before now s
 IsRecordTaken S Sees Breaks layout next (Whole head body rest) left old new before now s =
     (left ≡ Some rest) × IsWholeTaken S Sees Breaks layout next (block_at layout head body) old new before now s
 
--- the input goes from the first to the second, the output from the third to the fourth
+-- the input changes from the first to the second, the output from the third to the fourth
 abbrev pub IsStep : (S : Type 0) → Tells FrameView S → Tells FileFault S → (layout next : LayoutView) → (input left old new : Option (List ℕ))
     → (before now : S) → Step → Type 0
 IsStep S Sees Breaks layout next None left old new before now s = ⊤
 IsStep S Sees Breaks layout next (Some octets) left old new before now s =
     IsRecordTaken S Sees Breaks layout next (record_at layout.form layout.order octets) left old new before now s
 
--- all that was left was read, and told
+-- the rest of the file was read and reported
 pub record IsWalkOf (S : Type 0) (Sees : Tells FrameView S) (Breaks : Tells FileFault S) (layout : LayoutView) (octets : List ℕ)
     (old new : Option (List ℕ)) (before final : S) : Type 0 where
   pub records : ℕ
@@ -77,7 +77,7 @@ abbrev pub AreWalked : (S : Type 0) → Tells FrameView S → Tells FileFault S 
 AreWalked S Sees Breaks layout None old new before final = ⊤
 AreWalked S Sees Breaks layout (Some octets) old new before final = IsWalkOf S Sees Breaks layout octets old new before final
 
--- the same of a whole file
+-- the same for a whole file
 pub record IsFileWalkOf (S : Type 0) (Sees : Tells FrameView S) (Breaks : Tells FileFault S) (form : Form) (order : Order) (file : List ℕ)
     (old new : Option (List ℕ)) (before final : S) : Type 0 where
   pub text : List ℕ

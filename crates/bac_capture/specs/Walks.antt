@@ -1,19 +1,19 @@
--- A capture file, record by record and block by block, and what is told of it by whoever watches: of a frame, and where the file cannot be read on. What is
--- told is a text, and the watcher's state goes on with it.
+-- Passing over a capture file, record by record and block by block, and what a watcher prints of it: for a frame, and where the file cannot be
+-- read further. What is printed is a text, and the watcher has a state that changes.
 use Rattle.std.specs.Prelude.{◌≡◌, ℕ, zero, suc, ◌++◌, List, [], Result, Ok, Err}
 use Rattle.bac_capture.specs.declared.fault.FileFault.{FileFault}
 use Rattle.bac_capture.specs.Blocks.{LayoutView, FrameView, BlockView, FrameBlock, SectionBlock, InterfaceBlock, OtherBlock, block_at, after}
 use Rattle.bac_capture.specs.Files.{Record, Ended, Broken, Whole, record_at}
 
--- what is told of X, where the state goes from the first to the second
+-- what is printed for X, where the state changes from the first to the second
 abbrev pub Tells : (X S : Type 0) → Type 1
 Tells X S = X → S → (text : List ℕ) → S → Type 0
 
--- what is told of the rest of a file: how it is to be read, the state, the octets that are left, the text, and the state in the end
+-- what is printed for the rest of a file: how to read it, the state, the octets that are left, the text, and the state at the end
 abbrev pub Rest : Type 0 → Type 1
 Rest S = LayoutView → S → List ℕ → List ℕ → S → Type 0
 
--- a frame is told, and then the rest
+-- a frame is seen, and then the rest
 pub record IsFrame (S : Type 0) (Sees : Tells FrameView S) (frame : FrameView) (state : S) (text : List ℕ) (Then : S → List ℕ → Type 0) : Type 0 where
   pub next : S
   pub first : List ℕ
@@ -38,13 +38,13 @@ IsNext S Sees Breaks layout state Ended text final Then = ⊥
 IsNext S Sees Breaks layout state (Broken fault) text final Then = Breaks fault state text final
 IsNext S Sees Breaks layout state (Whole head body rest) text final Then = IsWhole S Sees Breaks layout state (block_at layout head body) rest text final Then
 
--- so many records and blocks are read one after the other, and then the file ends, or cannot be read on
+-- this many records and blocks are read one after the other, and then the file ends, or cannot be read further
 abbrev pub AreRead : ℕ → (S : Type 0) → Tells FrameView S → Tells FileFault S → Rest S
 AreRead zero S Sees Breaks layout state octets text final = (record_at layout.form layout.order octets ≡ Ended) × (text ≡ []) × (final ≡ state)
 AreRead (suc n) S Sees Breaks layout state octets text final =
     IsNext S Sees Breaks layout state (record_at layout.form layout.order octets) text final (AreRead n S Sees Breaks)
 
--- a file whose header was read, or is broken
+-- a file whose header was read, or is invalid
 abbrev pub IsFileIn : (S : Type 0) → Tells FrameView S → Tells FileFault S → S → Result (LayoutView × List ℕ) FileFault → (text : List ℕ) → (final : S) → Type 0
 IsFileIn S Sees Breaks state (Err fault) text final = Breaks fault state text final
 IsFileIn S Sees Breaks state (Ok begun) text final = (n : ℕ) × AreRead n S Sees Breaks begun.0 state begun.1 text final

@@ -1,4 +1,4 @@
-//! `bac check` of a capture file: which frames are good.
+//! `bac check` for capture files: which frames carry good datagrams.
 ghost use Rattle.std.specs.Prelude.{IfOk, OnOk};
 ghost use Rattle.std.specs.Io.KnownBytes.{Appends};
 ghost use Rattle.bac_capture.specs.Checked.{verdict_text, tally_text, IsCounted, IsFileReport, IsFrontReport, IsReportOf};
@@ -19,7 +19,7 @@ use std::alloc::Global;
 use std::io;
 use std::io::{BufRead, ErrorKind, Read, Write};
 
-/// Prints what is wrong with the frame of that number, if something is.
+/// Prints what is wrong with the frame with this number, if anything.
 fn print_verdict<W: Write>(number: u64, verdict: Verdict, out: &mut W) -> io::Result<()>
     ensures { OnOk result (Appends (W.contents out.old) (W.contents out.new) (verdict_text number verdict)) }
 {
@@ -66,7 +66,7 @@ impl<W: Write> Watch<W> for Tally {
     }
 }
 
-/// Prints the counts, of other functions by name too where that is asked for.
+/// Prints the counts, with those of other functions by name if requested.
 fn print_tally<W: Write>(named: bool, tally: Tally, out: &mut W) -> io::Result<()>
     ensures { OnOk result (Appends (W.contents out.old) (W.contents out.new) (tally_text named (counts_of tally))) }
 {
@@ -98,7 +98,7 @@ fn check_all<R: BufRead, W: Write>(
     }
 }
 
-/// Checks a capture file of that form and byte order.
+/// Checks a capture file of this form and byte order.
 fn check_file<R: BufRead, O: Write, E: Write>(
     alloc: Global,
     form: Form,
@@ -117,7 +117,7 @@ fn check_file<R: BufRead, O: Write, E: Write>(
     }
 }
 
-/// Checks a capture whose first octets are `front`, and the others those of the input.
+/// Checks a capture that begins with the octets `front` and continues with the input.
 fn check_after<R: BufRead, O: Write, E: Write>(
     alloc: Global,
     front: &[u8],
@@ -136,7 +136,7 @@ fn check_after<R: BufRead, O: Write, E: Write>(
     }
 }
 
-/// Tells of an input that failed within its first octets: the lines that ended before that are told, and then how it failed.
+/// Reports an input that failed within its first octets: first the lines that ended before that, and then the failure.
 fn failed_early<O: Write, E: Write>(
     alloc: Global,
     front: &[u8],
@@ -154,16 +154,16 @@ fn failed_early<O: Write, E: Write>(
     }
 }
 
-/// Checks a capture: a file of pcap or pcapng, as its first four octets tell, or else lines, as `check_over` of bac_text does.
+/// Checks a capture: a file of pcap or pcapng, as its first four octets determine, or otherwise lines, as `check_over` of bac_text does.
 ///
-/// Of a file each bad frame is told, by its number from 1, and at the end how many frames there are, and how many of them carry a
-/// good datagram, a bad one, and a BVLL of another function than Original-Unicast-NPDU; the others carry no datagram of
-/// BACnet/IP. Those of another function are also told one by one before that, in order of their numbers, where they are to be
-/// `named`, by the standard's names: `other BVLC-Result=3`; those over IPv6 last and together, as `other BACnet/IPv6=2`. That changes
-/// nothing for lines. A frame is bad where its link layer is not read, its packet is a fragment or no whole one, its datagram has a
-/// fault, or the file cannot be read on from there. Ends with `Faulty` where a frame is bad. An input that cannot be read, or of
-/// 2^64 frames: `cannot read` on `err`. Out of memory: `no memory` on `err`. `Output` where `out` cannot be written, then too
-/// where the input fails. Memory does not grow with the input.
+/// For a file, prints each bad frame with its number from 1, and at the end how many frames there are, and how many of them carry a
+/// good datagram, a bad one, and a BVLL with a function other than Original-Unicast-NPDU; all other frames carry no datagram of
+/// BACnet/IP. If `named` is set, the other functions are listed before that in order of their numbers, by their names in the
+/// standard: `other BVLC-Result=3`; those over IPv6 come last, together: `other BACnet/IPv6=2`. `named` does not matter for
+/// lines. A frame is bad if its link layer is unknown, its packet is a fragment or not complete, its datagram has a fault, or the
+/// file cannot be read beyond it. Returns `Faulty` if a frame is bad. Prints `cannot read` on `err` if the input cannot be read or
+/// has 2^64 frames, and `no memory` if an allocation fails. Returns `Output` if `out` cannot be written, even if the input fails
+/// too. Memory does not grow with the input.
 pub fn check_capture_over<R: BufRead, O: Write, E: Write>(
     alloc: Global,
     input: &mut R,

@@ -1,8 +1,8 @@
-//! Capture files: which UDP datagrams of BACnet/IP the frames of a capture carry.
+//! Reads and writes capture files: which UDP datagrams of BACnet/IP the frames of a capture carry.
 //!
-//! Capture files, frame by frame for whoever watches, and what `bac check` prints of them: which frames carry good datagrams.
+//! It passes the frames of a capture file to a watcher, and checks for `bac check` which frames carry good datagrams.
 //!
-//! Capture files of pcap, written: datagrams of BACnet/IP between numbered nodes, in packets of IPv4 and UDP.
+//! It writes pcap files with datagrams of BACnet/IP between numbered nodes, in packets of IPv4 and UDP.
 #![tactic(auto)]
 
 mod begin;

@@ -1,4 +1,4 @@
-//! A capture file, record by record and block by block.
+//! Passing over a capture file, record by record and block by block.
 ghost use Rattle.std.specs.Prelude.{◌≡◌, ℕ, List, Option, OnOk, IfOk, length};
 ghost use Rattle.bac_capture.specs.declared.fault.FileFault.{FileFault as File};
 ghost use Rattle.bac_capture.specs.BlockViews.{frame_view, layout_view, block_view};
@@ -34,18 +34,18 @@ pub trait Watch<W: Write> {
         ensures { OnOk result (IsTold Breaks fault (W.contents out.old) (W.contents out.new) (state self.old) (state self.new)) };
 }
 
-/// What became of the next record or block.
+/// The result of reading the next record or block.
 #[derive(Clone, Copy)]
 enum Step {
-    /// There is none: the file ends.
+    /// The file ends.
     Ended,
-    /// The file cannot be read on.
+    /// The file cannot be read further.
     Broken,
-    /// It was taken in.
+    /// A record or block was handled.
     Taken,
 }
 
-/// Takes in what a record or a block has: a frame is seen.
+/// Handles the content of a record or block: the watcher sees a frame.
 fn take<W: Write, V: Watch<W>>(
     layout: &mut Layout,
     block: Block<'_>,
@@ -65,7 +65,7 @@ fn take<W: Write, V: Watch<W>>(
     }
 }
 
-/// Tells that the file cannot be read on.
+/// Reports that the file cannot be read further.
 fn break_off<W: Write, V: Watch<W>>(
     fault: FileFault,
     watch: &mut V,
@@ -79,7 +79,7 @@ fn break_off<W: Write, V: Watch<W>>(
     }
 }
 
-/// Takes in a record or a block of that head and that body.
+/// Handles a record or a block with this head and this body.
 fn take_whole<W: Write, V: Watch<W>>(
     layout: &mut Layout,
     head: &[u8],
@@ -102,14 +102,14 @@ fn take_whole<W: Write, V: Watch<W>>(
     }
 }
 
-/// The memory for a record or a block, which serves each.
+/// The buffers for records and blocks, which are reused.
 #[derive(Drop)]
 struct Buffers {
     head: Vec<u8>,
     body: Vec<u8>,
 }
 
-/// Takes the next record or block.
+/// Reads and handles the next record or block.
 fn take_next<R: BufRead, W: Write, V: Watch<W>>(
     layout: &mut Layout,
     input: &mut R,
@@ -129,7 +129,7 @@ fn take_next<R: BufRead, W: Write, V: Watch<W>>(
     }
 }
 
-/// Takes the records or blocks that are left.
+/// Reads and handles the remaining records or blocks.
 fn walk_records<R: BufRead, W: Write, V: Watch<W>>(
     alloc: Global,
     layout: &mut Layout,
@@ -155,8 +155,8 @@ fn walk_records<R: BufRead, W: Write, V: Watch<W>>(
     Err(CheckError::Input(io::Error::from(ErrorKind::TimedOut)))
 }
 
-/// Takes a file of that form and byte order, as its first four octets tell them, record by record and block by block: each frame is
-/// seen, in the order of the file, up to its end or to where it cannot be read on. Memory does not grow with the file.
+/// Passes over a capture file of this form and byte order, as its first four octets determine: the watcher sees each frame in the order
+/// of the file, up to its end or to where it cannot be read further. Memory does not grow with the file.
 pub fn walk_file<R: BufRead, W: Write, V: Watch<W>>(
     alloc: Global,
     form: Form,

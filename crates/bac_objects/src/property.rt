@@ -22,7 +22,6 @@ use crate::scalars::text;
 use crate::values::{hex_octets, value_in};
 use bac_store::{FILE_LIMIT, File, Property, VALUE_LIMIT};
 use bac_value::{Class, DataBuf, NoMemory, kinds, take_data, take_element, write_value};
-use bac_value_text::property_in;
 use std::alloc::Global;
 use toml::Value;
 
@@ -54,7 +53,7 @@ fn listed_number(key: &str) -> Result<u32, Problem>
     ensures is { result ≡ number_of key.now }
     ensures right { IfOk result (λ n. IsTrue (is_right_number n)) }
 {
-    match property_in(key.as_bytes()) {
+    match bac_value_text::property_in(key.as_bytes()) {
         Some(number @ (DESCRIPTION | PRESENT_VALUE | FIRST_VENDOR_PROPERTY..=LAST_PROPERTY)) => {
             Ok(number)
         }

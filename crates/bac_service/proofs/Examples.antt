@@ -43,7 +43,7 @@ record Refuses (choice : ℕ) (bytes : Octets) (reason : ℕ) : Type 0 where
 refused : (choice : ℕ) (bytes : Octets) (reason : ℕ) → request_at choice bytes ≡ Err reason → Refuses choice bytes reason
 refused choice bytes reason e = record { reads = e; none = λ r s. let read = request_again choice bytes r s in absurd cc }
 
--- ---- what the requests and the service data below are of
+-- ---- parts of the requests and the service data below
 
 abbrev object : ℕ → ℕ → ObjectId
 object kind instance = record { kind = kind; instance = instance }

@@ -15,7 +15,7 @@ use Rattle.bac_value.proofs.Values.{IsContents-of}
 use Rattle.bac_value.proofs.Forests.{data_text, data_found}
 use Rattle.bac_service.specs.Members.{Octets, Enclosed, Tagged, AreData, enclosed_spelling}
 
--- ---- that octets are data is known whole where it is known at all
+-- ---- either all of the octets are known to be data or none
 
 read_prop : (bytes : Octets) → IsProp (data_of bytes ≡ Ok [])
 read_prop bytes = hlevel props

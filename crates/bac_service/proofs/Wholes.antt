@@ -233,7 +233,7 @@ one_complex_spelling choice c a b s t = complex_only c a b s.members t.members
 pub one_complex : (choice : ℕ) (c d : Complex) (bytes : Octets) → SpellsComplex choice c bytes → SpellsComplex choice d bytes → c ≡ d
 one_complex choice c d bytes s t = ok_is c d (sym (complex_again choice bytes c s) ∙ complex_again choice bytes d t)
 
--- ---- what a reader in code promises
+-- ---- the guarantees of readers in code
 
 abbrev ReadAs : {X E : Type 0} → (X → Request) → (E → ℕ) → ℕ → Octets → Result X E → Type 0
 ReadAs view number choice bytes result = Gives view number result (request_at choice bytes)

@@ -9,7 +9,7 @@ use Rattle.bac_service.specs.Members.{Octets, ◌⨾◌, Enclosed, ApplicationSi
 use Rattle.bac_service.specs.Reading.{Read, both_at, made_at, enclosed_at, application_object, application_signed, application_unsigned, application_string}
 use Rattle.bac_service.specs.Lengths.{member_length, signed_length, unsigned_length, enclosed_length}
 
--- ---- the file, and what is done with it
+-- ---- the file and the access to it
 
 abbrev pub file_at : {A : Type 0} → (ObjectId → A → Request) → (Octets → Read A) → Octets → Read Request
 file_at make access = made_at (λ t. make t.0 t.1) (both_at application_object access)
@@ -22,7 +22,7 @@ pub record IsFile (file : ObjectId) : Type 0 where
   pub kind_fits : file.kind < 1024
   pub instance_fits : file.instance < 2 ^ 22
 
--- ---- an extent: where it begins, and how many octets or records it has
+-- ---- a part of a file: its start, and its number of octets or records
 
 abbrev pub SpellsExtent : ℤ → ℕ → Octets → Type 0
 SpellsExtent start count = ApplicationSigned start ⨾ ApplicationUnsigned count

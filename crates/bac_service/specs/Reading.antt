@@ -137,7 +137,7 @@ enclosed_at number read bytes = do
   after ← closing_at number x.1
   Ok (x.0, after)
 
--- ---- what stands between them
+-- ---- the octets between a pair of tags
 
 -- the octets before the rest; a fault in data is at its own place
 abbrev pub front_or_stop : Octets → Result Octets FaultKind → Read Octets

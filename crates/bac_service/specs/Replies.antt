@@ -44,7 +44,7 @@ held_by (Complex c) = held_in c
 held_by (Error class code) = []
 held_by (Reject reason) = []
 
--- ---- what spells service data
+-- ---- spellings of service data
 
 abbrev pub SpellsComplexMembers : plain.Complex → Octets → Type 0
 SpellsComplexMembers (FileRead end_of_file start octets) = SpellsFileRead end_of_file start octets

@@ -29,7 +29,7 @@ use Rattle.bac_service.specs.ReadProperty.{read_property_at}
 use Rattle.bac_service.specs.WriteProperty.{SpellsWriteProperty, write_property_at, write_property_spelling, write_property_length, IsWriteProperty}
 use Rattle.bac_service.specs.WriteProperty.{write_property_view}
 
--- ---- what spells them
+-- ---- spellings
 
 abbrev pub SpellsMembers : Request → Octets → Type 0
 SpellsMembers (ReadFile file access) = SpellsReadFile file access

@@ -38,7 +38,7 @@ same_id a b e =
     let p = same_parts a.kind a.instance b.kind b.instance a.instance_fits b.instance_fits e in
     λ i. record { kind = p.kind i; instance = p.instance i }
 
--- ---- what is right is kept
+-- ---- valid objects satisfy the invariant
 
 right_is_short : (k : ℕ) (p : Property) → IsTrue (is_right_property k p) → IsShort p
 right_is_short k p h = grind (arith, nat_tests)

@@ -51,7 +51,7 @@ pub record IsRight (o : Object) : Type 0 where
   pub distinct : AllPairs (λ a b. a.number ≢ b.number) o.properties
   pub file : IsTrue (is_right_file o.id.kind o.file)
 
--- ---- the store of some objects: whatever is looked up is what the objects say
+-- ---- the store of some objects: look-ups find what the objects state
 
 pub record IsLike (a b : Object) : Type 0 where
   pub id : a.id ≡ b.id

@@ -27,7 +27,7 @@ signed_right_of xs fits h = let k = between 0 9 (length xs) h.len in signed_of x
 object_right_of : (xs : List ℕ) → IsBytes xs → IsRight 12 xs → IsContents (object (object_in xs)) xs
 object_right_of xs fits h = object_meant xs fits (eqb-true _ _ h.len)
 
--- ---- what a value's contents give
+-- ---- reading the contents of a value
 
 pub object_again : (i : ObjectId) (xs : List ℕ) → IsObject i xs → object_in xs ≡ i
 object_again i xs h =

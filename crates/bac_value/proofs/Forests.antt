@@ -23,7 +23,7 @@ use Rattle.bac_value.proofs.Turns.{at_more, at_stop}
 abbrev made : ℕ → Class → Form → List ℕ → Part
 made n c f xs = record { mark = record { number = n; class = c; form = f }; contents = xs }
 
--- ---- what closes the tags that are open
+-- ---- octets that close the open tags
 
 -- the closing tag of the innermost open tag, the trees after it, and so on outwards
 Tail : List ℕ → List ℕ → Type 0
@@ -156,7 +156,7 @@ data_takes (suc m) (n ∷ o) [] rest fits e = absurd cc
 data_takes (suc m) [] (b ∷ bytes) rest fits e = bound_more m [] (b ∷ bytes) rest (λ p x. data_takes m p x rest) fits e
 data_takes (suc m) (n ∷ o) (b ∷ bytes) rest fits e = bound_more m (n ∷ o) (b ∷ bytes) rest (λ p x. data_takes m p x rest) fits e
 
--- ---- what is spelled so is read
+-- ---- each spelling is read
 
 tag_some : (t : Mark) → 0 < length (tag_spelling t)
 unfolding tag_spelling

@@ -81,7 +81,7 @@ width_is n lt = elim (cases_lt n 0x100) [
   ])
 ]
 
--- the same of a number that stands in the lower half of its range
+-- the same for a number in the lower half of its range
 pub record IsHalfWidth (n w : ℕ) : Type 0 where
   pub some : 0 < w
   pub most : w ≤ 8

@@ -37,7 +37,7 @@ between low high k h = let p = and_parts (ltb low k) (ltb k high) h in (ltb-true
 pub between_from : (low high k : ℕ) → low < k → k < high → ltb low k && ltb k high ≡ true
 between_from low high k p q = and_from (ltb low k) (ltb k high) (lt-ltb low k p) (lt-ltb k high q)
 
--- ---- what is found right is a value's
+-- ---- accepted contents are those of a value
 
 not_longer : (xs : List ℕ) → is_longer_unsigned xs ≡ false → 1 < length xs → 0 < get_or xs 0 0
 not_longer xs e more = grind (arith, nat_tests)
@@ -116,7 +116,7 @@ kind_meant (suc (suc (suc (suc (suc (suc (suc (suc (suc (suc (suc (suc (suc n)))
 pub kind_takes : (n : ℕ) (xs : List ℕ) → n < 13 → IsBytes xs → IsTrue (length_in n (length xs)) → flaw n xs ≡ None → IsOfKind n xs
 kind_takes n xs lt fits len e = let h = kind_meant n xs lt fits len e in (datum_in n xs, h.0, h.1)
 
--- ---- what a value has is found right
+-- ---- the contents of a value are accepted
 
 unsigned_right : (most n : ℕ) (xs : List ℕ) → IsNumber most n xs → is_longer_unsigned xs ≡ false
 unsigned_right most n xs h = let s = h.spelled.shortest in grind (arith, nat_tests)

@@ -17,7 +17,7 @@ octet_at e (x ∷ xs) = Ok (x, xs)
 abbrev pub has_bit : ℕ → ℕ → Bool
 has_bit octet weight = octet / weight % 2 == 1
 
--- ---- what a reader in code answered
+-- ---- the results of readers in code
 
 -- seen through view and rest, the result is that of the reading on lists
 abbrev pub Reads : {X Y R E : Type 0} → (X → Y) → (R → List ℕ) → List ℕ → Result (X × R) E → (List ℕ → Result (Y × List ℕ) E) → Type 0

@@ -27,7 +27,7 @@ use Rattle.bac_value_text.proofs.Floats.{real_read, double_read}
 use Rattle.bac_value_text.proofs.Objects.{object_read}
 use Rattle.bac_value_text.proofs.Parts.{both, lacks, parted, digits_lack}
 
--- ---- what stands between name and separator
+-- ---- the part before the separator
 
 abbrev is_word : List ℕ → Bool
 is_word name = lacks 58 name && lacks 32 name

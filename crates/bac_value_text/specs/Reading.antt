@@ -158,7 +158,7 @@ parted_value text (Some parts) = named_value parts.0 parts.1
 abbrev pub value_in : (separator : ℕ) → List ℕ → Option Datum
 value_in separator text = parted_value text (parts_at separator text)
 
--- ---- what a call answers that reads a text: the value that is wanted; or a fault: there is none, or memory ran out
+-- ---- the result of reading a text: the value, or a fault: the text is not a value, or an allocation failed
 abbrev pub Reads : {A B : Type 0} → (A → B) → Result A ValueFault → (wanted : Option B) → Type 0
 Reads view (Ok x) wanted = wanted ≡ Some (view x)
 Reads view (Err NoValue) wanted = wanted ≡ None

@@ -32,7 +32,7 @@ abbrev pub IsDoubleText : (is_number : Bool) → List ℕ → List ℕ → Type 
 IsDoubleText true a text = parse_float binary64 text ≡ Some (from_bits binary64 (from_be_bytes w64 a))
 IsDoubleText false a text = text ≡ encode_upper a
 
--- ---- character strings (clause 20.2.9): text of set 0, which is UTF-8, as it stands, all else as its set and its octets
+-- ---- character strings (clause 20.2.9): text in set 0, which is UTF-8, unchanged; all others as their set and their octets
 
 abbrev pub is_text : ℕ → List ℕ → Bool
 is_text set text = set == 0 && is_utf8 text
@@ -62,7 +62,7 @@ all_bits a = flat_map bit_digits a
 abbrev pub bits_text : (unused : ℕ) → List ℕ → List ℕ
 bits_text unused a = take (length (all_bits a) - unused) (all_bits a)
 
--- ---- dates and times (clauses 20.2.12 and 20.2.13): four fields, * where one is not specified
+-- ---- dates and times (clauses 20.2.12 and 20.2.13): four fields, * for one that is not specified
 
 -- a field, which counts from a number on
 abbrev pub field_text : (base : ℕ) → ℕ → List ℕ

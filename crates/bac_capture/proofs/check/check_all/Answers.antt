@@ -1,4 +1,4 @@
--- What was told of the file, and then the counts.
+-- The text for the file, and then the counts.
 use Rattle.bac_capture.specs.Counted.{counts_of}
 use Rattle.bac_capture.proofs.Report.{walked_reported}
 use Rattle.bac_capture.proofs.check.check_all.Goals as goal
