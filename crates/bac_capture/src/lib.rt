@@ -36,7 +36,6 @@ mod tally;
 mod udp;
 mod walk;
 
-pub use crate::Ports;
 pub use block::{Block, Frame};
 pub use bvlc::{BvlcFunction, OtherBvll};
 pub use capture::{NodeDatagram, print_head, print_record};
