@@ -1,8 +1,8 @@
-//! What is explained of a world is what its log says.
-use crate::capture::Capture;
-use crate::counts::Counts;
-use crate::going::{Asked, Run, Sight, link_of};
-use crate::wrong::Wrong;
+//! Compares what `explain` finds in a world's datagrams with the world's log.
+use crate::worlds::capture::Capture;
+use crate::worlds::counts::Counts;
+use crate::worlds::schedule::{Asked, Run, Sight, link_of};
+use crate::worlds::wrong::Wrong;
 use bac_apdu::{Apdu, Segment, read};
 use bac_explain::{Closed, Sent};
 use bac_network::{Copy, Fact, Note};

@@ -1,9 +1,9 @@
-//! How often each thing passed of an ask, by the world's own copies.
-use crate::going::{Asked, Sight};
+//! How often each datagram of an ask passed, by the world's own copies.
+use crate::worlds::schedule::{Asked, Sight};
 use bac_explain::{Sent, Transaction};
 use bac_network::{Note, World};
 
-/// So long a request is looked at after its ask, and answers after the request, in milliseconds.
+/// How long `explain` counts a request after its ask, and answers after the request, in milliseconds.
 const KEEP: u64 = 65_000;
 
 /// What passed of an ask: its first APDU, others of the request, answers, and negative SegmentACKs.

@@ -1,17 +1,17 @@
-//! Why a world does not go, or is not explained.
+//! Why a world can't run, or is explained otherwise than its log says.
 use bac_network::{NewWorldFault, WorldFault};
 use bac_service_text::FormFault;
 use bac_value::NoMemory;
 use std::alloc::{AllocError, AllocFailed};
 
-/// Why a world does not go, or is not explained.
+/// Why a world can't run, or is explained otherwise than its log says.
 #[derive(Clone, Copy)]
 pub(crate) enum Wrong {
     /// Memory was refused.
     NoMemory,
-    /// Something cannot happen that is to.
+    /// An event can't happen.
     Event,
-    /// A datagram is no APDU of a transaction.
+    /// A datagram is not an APDU of a transaction.
     Datagram,
     /// There is another number of transactions than of asks.
     Number,

@@ -1,4 +1,4 @@
-//! Numbers that follow one from the other, without an order that can be seen.
+//! Numbers without a visible order, each made from the one before.
 
 /// The next number of them.
 #[derive(Clone, Copy)]

@@ -1,7 +1,7 @@
-//! Worlds that go by schedules which are made up from a number, and what passes on the wire. No node restarts: a server that did
-//! answers a copy of what it had answered by an Abort.
-use crate::chance::Chance;
-use crate::wrong::Wrong;
+//! Worlds whose events are made up from a number, and what passes on their wire. No node restarts: a server that did would answer a copy of a request that it
+//! had answered with an Abort.
+use crate::worlds::chance::Chance;
+use crate::worlds::wrong::Wrong;
 use bac_apdu::{Apdu, Limits, read};
 use bac_network::{Event, World, WorldFault};
 use bac_node::Config;
@@ -14,7 +14,7 @@ use std::alloc::Global;
 /// How many nodes there are.
 const NODES: usize = 3;
 
-/// Of how many events a schedule is.
+/// How many events a world has.
 const EVENTS: usize = 400;
 
 /// So long a copy is on its way at most, in milliseconds.
@@ -39,7 +39,7 @@ pub(crate) struct Sight {
     pub(crate) copy: usize,
 }
 
-/// A world, its asks, and what passed: each copy where it was sent, and again each time that it came.
+/// A world, its asks, and what passed: each copy when it was sent, and again each time that it was delivered.
 #[derive(Drop)]
 pub(crate) struct Run {
     pub(crate) world: World,
@@ -47,7 +47,7 @@ pub(crate) struct Run {
     pub(crate) passed: Vec<Sight>,
 }
 
-/// Takes APDUs of 50 octets, and any number of segments.
+/// What nodes take: APDUs of 50 octets, and any number of segments.
 fn limits() -> Result<Limits, Wrong> {
     match read(&[0x02, 0x70, 0, 12]) {
         Ok(Apdu::ConfirmedRequest { limits, .. }) => Ok(limits),
@@ -90,7 +90,7 @@ fn question(alloc: Global, requests: &[&str], chance: &mut Chance) -> Result<Eve
     })
 }
 
-/// One of the last copies comes.
+/// One of the last copies is delivered.
 fn delivery(world: &World, chance: &mut Chance) -> Event {
     let back = chance.below(6).saturating_add(1);
     Event::Deliver {
@@ -109,7 +109,7 @@ fn pause(chance: &mut Chance) -> u64 {
 }
 
 impl Run {
-    /// A copy comes that is not too old.
+    /// Notes a copy that is delivered, where it is not too old.
     fn comes(&mut self, number: usize) -> Result<(), Wrong> {
         let moment = self.world.now();
         let Some(copy) = self.world.copies().get(number) else {
@@ -173,7 +173,7 @@ impl Run {
         self.step(&event)
     }
 
-    /// A world goes by the schedule of a number, in which nodes ask some of these requests.
+    /// The world that is made up from a number, in which nodes ask some of these requests.
     pub(crate) fn of(alloc: Global, requests: &[&str], seed: u64) -> Result<Run, Wrong> {
         let mut run = Run {
             world: World::new(alloc, nodes(alloc)?, 128)?,

@@ -1,6 +1,6 @@
-//! What `explain` says of what passed.
-use crate::going::{Sight, link_of};
-use crate::wrong::Wrong;
+//! What `explain` finds in the datagrams that passed.
+use crate::worlds::schedule::{Sight, link_of};
+use crate::worlds::wrong::Wrong;
 use bac_explain::{Closed, Explainer, Finding, OPEN_LIMIT, read_sighting};
 use bac_network::{Copy, World};
 use std::alloc::Global;
@@ -49,7 +49,7 @@ impl Capture {
         Ok(())
     }
 
-    /// What passed of a world is explained.
+    /// Explains what passed in a world.
     pub(crate) fn of(alloc: Global, world: &World, passed: &[Sight]) -> Result<Capture, Wrong> {
         let mut capture = Capture {
             explainer: Explainer::new(alloc)?,
