@@ -1,4 +1,4 @@
--- Objects and items from one to the next.
+-- Reading objects one after the other.
 use Rattle.std.proofs.Common.{◌≡◌, ℕ, ◌+◌, ◌<◌, true, if◌then◌else◌, List, [], ◌∷◌, length, map, drop, get_or, arith}
 use Rattle.std.proofs.lemmas.List.{drop_more}
 use Rattle.bac_value.specs.Value.{ObjectId}

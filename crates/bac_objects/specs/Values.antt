@@ -1,4 +1,4 @@
--- The value that a document gives under the word of its kind (clause 20.2).
+-- The value in a document under the word of its kind (clause 20.2).
 use Rattle.std.specs.Prelude.{ℕ, ◌+◌, ◌-◌, ◌*◌, ◌/◌, ◌%◌, ◌^◌, nat_le, nat_lt, ◌==◌, ◌&&◌, ◌||◌, not, List, [], ◌∷◌, ◌++◌, length, map, Bool, true, false, to_bits, if◌then◌else◌, Option, Some, None, Result, Ok, Err}
 use Rattle.std.specs.Float.{Float, binary32, binary64, float_is_finite, round_to_format}
 use Rattle.std.specs.Int.{w32, w64, to_be_bytes}
@@ -42,11 +42,11 @@ signed_of d = integer_of wanted.Integer d >>= (λ z. Ok (signed z))
 abbrev pub enumerated_of : Data → Result Datum Problem
 enumerated_of d = number_up_to (2 ^ 32 - 1) wanted.Enumerated d >>= (λ n. Ok (enumerated n))
 
--- clause 20.2.6: the float of 32 bits that is nearest to TOML's, which has 64 bits and is itself the nearest to what is written
+-- clause 20.2.6: the float of 32 bits that is nearest to TOML's of 64 bits, which itself is nearest to the number in the text
 abbrev pub single : Float → Float
 single x = round_to_format binary32 x
 
--- a number for which 32 bits have only an infinity
+-- a number that becomes infinite in 32 bits
 abbrev pub is_beyond : Float → Bool
 is_beyond x = float_is_finite x && not (float_is_finite (single x))
 
