@@ -28,8 +28,8 @@ use Rattle.bac_transaction.specs.Services.{Performed, ArePerformed, outcome_of, 
 use Rattle.bac_responder.specs.Reactions.{IsReaction}
 use Rattle.bac_responder.specs.Reading.{IsRead}
 use Rattle.bac_responder.specs.TransactionViews.{IsSendable, state_view}
-use Rattle.bac_responder.specs.Preparing.{sent_by, state_by, is_performed, Waits, IsPlacedAt, IsPrepared, IsCommitted, CanCommit}
-use Rattle.bac_responder.specs.Preparing.{IsInOneApdu, IsNoReject, IsPending, IsPlaced, IsReady, IsRejected, IsSpelledReply}
+use Rattle.bac_responder.specs.Preparing.{sent_by, state_by, is_performed, Waits, IsReplyPrepared, IsPrepared, IsCommitted, CanCommit}
+use Rattle.bac_responder.specs.Preparing.{IsKeptApdu, IsNoReject, IsPending, IsSentByWay, IsReady, IsRejected, IsSpelledReply}
 use Rattle.bac_responder.specs.declared.replying.Commit.{Commit}
 use Rattle.bac_responder.specs.declared.replying.PreparedReply.{PreparedReply}
 use Rattle.bac_transaction.proofs.Pieces.{one_more_sent}
@@ -108,8 +108,8 @@ performed c peer e before octets s (Ok r) x entry q t read ready same committed 
     let outcome : service_of s e.choice octets ≡ Replies ready.reply = ap (outcome_by s) read.read ∙ ready.outcome in
     let all = ap (performs_so c e before octets) outcome ∙ sends_reply_is c e before octets ready.reply way in
     subst (λ (v : server.Reaction). IsReaction v peer s entry x.sends.items q t) (sym all) (record {
-      entry_is = ap (λ (z : State). Some (record e { state = z })) (sym ready.placed.viewed) ∙ ap (λ (z : ServerTransaction). Some z) (sym same);
-      sends = ready.placed.sent;
+      entry_is = ap (λ (z : State). Some (record e { state = z })) (sym ready.prepared.viewed) ∙ ap (λ (z : ServerTransaction). Some z) (sym same);
+      sends = ready.prepared.sent;
       effect = effect_is (is_performed way) s r e octets ready.reply x.commit q read.spelled ready.pending committed;
       store = after;
     })
@@ -117,8 +117,8 @@ performed c peer e before octets s (Err reason) x entry q t read ready same comm
     let outcome : service_of s e.choice octets ≡ Rejects reason = ap (outcome_by s) read.read in
     let all = ap (performs_so c e before octets) outcome in
     subst (λ (v : server.Reaction). IsReaction v peer s entry x.sends.items q t) (sym all) (record {
-      entry_is = ap (λ (z : State). Some (record e { state = z })) (sym ready.placed.viewed) ∙ ap (λ (z : ServerTransaction). Some z) (sym same);
-      sends = ready.placed.sent;
+      entry_is = ap (λ (z : State). Some (record e { state = z })) (sym ready.prepared.viewed) ∙ ap (λ (z : ServerTransaction). Some z) (sym same);
+      sends = ready.prepared.sent;
       effect =
           (let none : q ≡ None = subst (λ (o : Option Commit). IsCommitted s o q) ready.pending committed in
           subst (λ (o : Option Performed). ArePerformed s None o) (sym none) tt);
@@ -134,14 +134,14 @@ sent_after peer before a front (d ∷ []) all p r is =
     subst (λ (l : List Datagram). Pairwise IsSent (to_all peer (before ++ a ∷ [])) l) (sym is) (one_more_sent peer before front a d p r.0)
 sent_after peer before a front (d ∷ d' ∷ last) all p r is = absurd r.1
 
-placed_after : (peer : PeerView) (choice : ℕ) (before : List Apdu) (a : Apdu) (z : State) (x : PreparedReply) (front : List Datagram) (all : Vec Datagram)
-    → Pairwise IsSent (to_all peer before) front → all.items ≡ front ++ x.sends.items → IsPlacedAt peer choice (a ∷ []) z x
-    → IsPlacedAt peer choice (before ++ a ∷ []) z (record { state = x.state; sends = all; commit = x.commit })
-placed_after peer choice before a z x front all p is placed =
+reply_after : (peer : PeerView) (choice : ℕ) (before : List Apdu) (a : Apdu) (z : State) (x : PreparedReply) (front : List Datagram) (all : Vec Datagram)
+    → Pairwise IsSent (to_all peer before) front → all.items ≡ front ++ x.sends.items → IsReplyPrepared peer choice (a ∷ []) z x
+    → IsReplyPrepared peer choice (before ++ a ∷ []) z (record { state = x.state; sends = all; commit = x.commit })
+reply_after peer choice before a z x front all p is prepared =
     record {
-      viewed = placed.viewed;
-      sendable = placed.sendable;
-      sent = sent_after peer before a front x.sends.items all.items p placed.sent is;
+      viewed = prepared.viewed;
+      sendable = prepared.sendable;
+      sent = sent_after peer before a front x.sends.items all.items p prepared.sent is;
     }
 
 pub prepared_after : (c : Context) (peer : PeerView) (choice : ℕ) (limits : Limits) (s : Store) (found : Result Request ℕ) (before : List Apdu)
@@ -151,11 +151,11 @@ prepared_after c peer choice limits s (Ok r) before x front all p is ready =
     record {
       reply = ready.reply;
       outcome = ready.outcome;
-      placed = placed_after peer choice before _ _ x front all p is ready.placed;
+      prepared = reply_after peer choice before _ _ x front all p is ready.prepared;
       pending = ready.pending;
     }
 prepared_after c peer choice limits s (Err reason) before x front all p is ready =
-    record { placed = placed_after peer choice before _ _ x front all p is ready.placed; pending = ready.pending }
+    record { prepared = reply_after peer choice before _ _ x front all p is ready.prepared; pending = ready.pending }
 
 -- What is prepared of a request that was read, and of a Reject.
 
@@ -166,22 +166,22 @@ waits false s r reply p o is pending = subst (λ (x : Option Commit). Waits fals
 
 pub reply_ready : (c : Context) (peer : PeerView) (choice : ℕ) (limits : Limits) (s : Store) (r : Request) (reply : Reply) (p : Commit)
     → outcome_of (reply_to s r) ≡ Replies reply → IsPending s r reply p → (x : Result PreparedReply NoMemory)
-    → IfOk x (IsPlaced c peer choice reply (reply_way_of c.settings limits reply) p) → IfOk x (IsReady c peer choice limits s r [])
+    → IfOk x (IsSentByWay c peer choice reply (reply_way_of c.settings limits reply) p) → IfOk x (IsReady c peer choice limits s r [])
 reply_ready c peer choice limits s r reply p outcome pending (Ok x) h =
     record {
       reply = reply;
       outcome = outcome;
-      placed = h.placed;
+      prepared = h.prepared;
       pending = waits (is_performed (reply_way_of c.settings limits reply)) s r reply p x.commit h.commit pending;
     }
 reply_ready c peer choice limits s r reply p outcome pending (Err e) h = tt
 
 pub reject_ready : (c : Context) (peer : PeerView) (choice reason : ℕ) (x : Result PreparedReply NoMemory)
-    → IfOk x (IsInOneApdu peer choice (Apdu.Reject c.invoke_id reason) None) → IfOk x (IsRejected c peer choice reason [])
-reject_ready c peer choice reason (Ok x) h = record { placed = h.placed; pending = h.commit }
+    → IfOk x (IsKeptApdu peer choice (Apdu.Reject c.invoke_id reason) None) → IfOk x (IsRejected c peer choice reason [])
+reject_ready c peer choice reason (Ok x) h = record { prepared = h.prepared; pending = h.commit }
 reject_ready c peer choice reason (Err e) h = tt
 
 pub prepared_sendable : (c : Context) (peer : PeerView) (choice : ℕ) (limits : Limits) (s : Store) (found : Result Request ℕ) (before : List Apdu) (x : PreparedReply)
     → IsPrepared c peer choice limits s found before x → IsSendable choice x.state
-prepared_sendable c peer choice limits s (Ok r) before x p = p.placed.sendable
-prepared_sendable c peer choice limits s (Err reason) before x p = p.placed.sendable
+prepared_sendable c peer choice limits s (Ok r) before x p = p.prepared.sendable
+prepared_sendable c peer choice limits s (Err reason) before x p = p.prepared.sendable

@@ -41,19 +41,19 @@ is_performed (InSegments pieces) = true
 is_performed (Refused reason) = false
 
 -- a state as the machine has it, which keeps only what can be sent, and the datagrams of these APDUs
-pub record IsPlacedAt (peer : PeerView) (choice : ℕ) (apdus : List Apdu) (z : State) (x : PreparedReply) : Type 0 where
+pub record IsReplyPrepared (peer : PeerView) (choice : ℕ) (apdus : List Apdu) (z : State) (x : PreparedReply) : Type 0 where
   pub viewed : state_view choice x.state ≡ z
   pub sendable : IsSendable choice x.state
   pub sent : Pairwise IsSent (to_all peer apdus) x.sends.items
 
 -- a reply by its way; where it can't be sent, nothing is performed
-pub record IsPlaced (c : Context) (peer : PeerView) (choice : ℕ) (reply : Reply) (way : Way ℕ) (p : Commit) (x : PreparedReply) : Type 0 where
-  pub placed : IsPlacedAt peer choice (sent_by c choice reply way ∷ []) (state_by c choice reply way) x
+pub record IsSentByWay (c : Context) (peer : PeerView) (choice : ℕ) (reply : Reply) (way : Way ℕ) (p : Commit) (x : PreparedReply) : Type 0 where
+  pub prepared : IsReplyPrepared peer choice (sent_by c choice reply way ∷ []) (state_by c choice reply way) x
   pub commit : x.commit ≡ (if is_performed way then Some p else None)
 
 -- an APDU that is kept
-pub record IsInOneApdu (peer : PeerView) (choice : ℕ) (a : Apdu) (p : Option Commit) (x : PreparedReply) : Type 0 where
-  pub placed : IsPlacedAt peer choice (a ∷ []) (State.Done a) x
+pub record IsKeptApdu (peer : PeerView) (choice : ℕ) (a : Apdu) (p : Option Commit) (x : PreparedReply) : Type 0 where
+  pub prepared : IsReplyPrepared peer choice (a ∷ []) (State.Done a) x
   pub commit : x.commit ≡ p
 
 -- what waits for its commit is the plan for that request on this store
@@ -72,12 +72,12 @@ Waits false s r reply None = Unit {0}
 pub record IsReady (c : Context) (peer : PeerView) (choice : ℕ) (limits : Limits) (s : Store) (r : Request) (before : List Apdu) (x : PreparedReply) : Type 0 where
   pub reply : Reply
   pub outcome : outcome_of (reply_to s r) ≡ Replies reply
-  pub placed : IsPlacedAt peer choice (before ++ sent_by c choice reply (reply_way_of c.settings limits reply) ∷ [])
+  pub prepared : IsReplyPrepared peer choice (before ++ sent_by c choice reply (reply_way_of c.settings limits reply) ∷ [])
       (state_by c choice reply (reply_way_of c.settings limits reply)) x
   pub pending : Waits (is_performed (reply_way_of c.settings limits reply)) s r reply x.commit
 
 pub record IsRejected (c : Context) (peer : PeerView) (choice reason : ℕ) (before : List Apdu) (x : PreparedReply) : Type 0 where
-  pub placed : IsPlacedAt peer choice (before ++ Apdu.Reject c.invoke_id reason ∷ []) (State.Done (Apdu.Reject c.invoke_id reason)) x
+  pub prepared : IsReplyPrepared peer choice (before ++ Apdu.Reject c.invoke_id reason ∷ []) (State.Done (Apdu.Reject c.invoke_id reason)) x
   pub pending : x.commit ≡ None
 
 abbrev pub IsPrepared : Context → PeerView → (choice : ℕ) → Limits → Store → Result Request ℕ → (before : List Apdu) → PreparedReply → Type 0

@@ -1,4 +1,4 @@
-//! IDLE (clause 5.4.5.1): an APDU where no entry of its key is live. hearing calls it once for such an APDU.
+//! IDLE (clause 5.4.5.1): an APDU where no entry of its key is live. lookup calls it once for such an APDU.
 ghost use Rattle.std.specs.Prelude.{◌≡◌, true};
 ghost use Rattle.bac_apdu.specs.Views.{apdu_view, limits_view, segment_view};
 ghost use Rattle.bac_protocol.specs.Server as machine;

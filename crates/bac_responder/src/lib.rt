@@ -1,7 +1,7 @@
 //! The server's end of a node: the reply table, over any table of slots (clause 5.4.5, with this profile's own rules). A live entry is never evicted.
 //!
 //! `Responder` is the table: bac_node calls `on` for each APDU, and `prepare_tick` and `commit_tick` for each tick. `ServerTransaction` is one entry of it: a
-//! request that came, and what became of it. An APDU goes from `Responder::on` over hearing to live or idle, by whether its key has a live entry; live goes by
+//! request that came, and what became of it. An APDU goes from `Responder::on` over lookup to live or idle, by whether its key has a live entry; live goes by
 //! the entry's state.
 //!
 //! Each call gives exactly what bac_transaction's definitions of the server's end say, and below it what bac_protocol's machine says of one entry. An entry
@@ -11,10 +11,10 @@
 mod aging;
 mod comparing;
 mod effect;
-mod hearing;
 mod idle;
 mod kept_reply;
 mod live;
+mod lookup;
 mod performed;
 mod performing;
 mod reading;

@@ -1,4 +1,4 @@
-//! An APDU for a live entry, in each of its states. hearing calls it once for such an APDU.
+//! An APDU for a live entry, in each of its states. lookup calls it once for such an APDU.
 ghost use Rattle.std.specs.Prelude.{◌≡◌};
 ghost use Rattle.bac_apdu.specs.Views.{apdu_view};
 ghost use Rattle.bac_protocol.specs.Server as machine;

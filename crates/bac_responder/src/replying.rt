@@ -11,7 +11,7 @@ ghost use Rattle.bac_protocol.specs.Service.Reply.{Complex};
 ghost use Rattle.bac_protocol.specs.Sizes.{reply_way_of, reply_way_in_segments};
 ghost use Rattle.bac_protocol.specs.Sizes.Way.{InSegments};
 ghost use Rattle.bac_protocol.specs.Short.{IsShort};
-ghost use Rattle.bac_responder.specs.Preparing.{IsInOneApdu, IsNoReject, IsPlaced, IsPrepared, IsSpelledReply};
+ghost use Rattle.bac_responder.specs.Preparing.{IsKeptApdu, IsNoReject, IsSentByWay, IsPrepared, IsSpelledReply};
 ghost use Rattle.bac_responder.specs.Reading.{HasChoice, found_view};
 ghost use Rattle.bac_transaction.specs.Services.{outcome_of};
 ghost use Rattle.bac_transaction.specs.Views.{context_view, peer_of};
@@ -85,7 +85,7 @@ fn keep_apdu(
     commit: Option<Commit>,
 ) -> Result<PreparedReply, NoMemory>
     requires { IsShort (kept_reply_view context.now.key.invoke_id choice kept) }
-    ensures { IfOk result (IsInOneApdu (peer_of context.now) choice (kept_reply_view context.now.key.invoke_id choice kept) commit) }
+    ensures { IfOk result (IsKeptApdu (peer_of context.now) choice (kept_reply_view context.now.key.invoke_id choice kept) commit) }
 {
     let invoke_id = context.key.invoke_id;
     let sends = only_apdu(alloc, context, &kept.as_apdu(invoke_id, choice))?;
@@ -108,7 +108,7 @@ fn start_transfer(
     requires some { 0 < length outgoing.pieces }
     requires start { outgoing ≡ outgoing_at outgoing.pieces }
     requires short { ArePiecesShort LONGEST_PIECE outgoing }
-    ensures { IfOk result (IsPlaced (context_view context.now) (peer_of context.now) choice (Complex []) (InSegments outgoing.pieces) commit) }
+    ensures { IfOk result (IsSentByWay (context_view context.now) (peer_of context.now) choice (Complex []) (InSegments outgoing.pieces) commit) }
 {
     let first = piece_apdu(context, choice, &outgoing, 0);
     let sends = only_apdu(alloc, context, &first)?;
@@ -138,7 +138,7 @@ fn send_in_segments(
     requires least { 50 ≤ size }
     requires most { size ≤ 1476 }
     requires long { size < length octets.items + 3 }
-    ensures { IfOk result (IsPlaced (context_view context.now) (peer_of context.now) terms.choice (Complex octets.items)
+    ensures { IfOk result (IsSentByWay (context_view context.now) (peer_of context.now) terms.choice (Complex octets.items)
         (reply_way_in_segments (limits_view terms.limits) (pieces_of (size - 5) octets.items)) commit) }
 {
     let choice = terms.choice;
@@ -164,7 +164,7 @@ fn send_reply(
     reply: SpelledReply,
     commit: Commit,
 ) -> Result<PreparedReply, NoMemory>
-    ensures { IfOk result (IsPlaced (context_view context.now) (peer_of context.now) terms.choice (spelled_view reply)
+    ensures { IfOk result (IsSentByWay (context_view context.now) (peer_of context.now) terms.choice (spelled_view reply)
         (reply_way_of (context_view context.now).settings (limits_view terms.limits) (spelled_view reply)) commit) }
 {
     let size = transfer_size(&context.settings.limits, &terms.limits);

@@ -15,7 +15,7 @@ ghost use Rattle.bac_responder.specs.Views.{end_of, Serves};
 
 use crate::ServerTransaction;
 use crate::aging::{ServerRules, ShortRequests};
-use crate::hearing::hears;
+use crate::lookup::on_apdu;
 use crate::served::Served;
 use crate::ticking::{nothing_due, prepare};
 use bac_apdu::Apdu;
@@ -134,7 +134,7 @@ impl<S: SlotTable<PeerKey, ServerTransaction> + Drop> Responder<S> {
             key,
             moment: now,
         };
-        hears(alloc, &context, &mut self.aged, self.restart, apdu, store)
+        on_apdu(alloc, &context, &mut self.aged, self.restart, apdu, store)
     }
 
     /// What a tick sends, in ascending order of peer and invoke ID: the windows of replies that no SegmentACK came for in 2,000 ms, while a retry is left.

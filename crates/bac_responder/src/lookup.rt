@@ -1,4 +1,4 @@
-//! An APDU comes for one transaction.
+//! An APDU comes for one transaction: its entry is looked up once, by its key. `Responder::on` calls it.
 ghost use Rattle.std.specs.Prelude.{◌≡◌, ◌&&◌, true};
 ghost use Rattle.bac_apdu.specs.Views.{apdu_view};
 ghost use Rattle.bac_slots.specs.Slots.{value_at};
@@ -65,7 +65,7 @@ fn has_place<S: SlotTable<PeerKey, ServerTransaction>>(
 }
 
 /// No entry of the context's key is live. Whether a slot is free is asked where the APDU begins a request.
-fn idle_hears<S: SlotTable<PeerKey, ServerTransaction>>(
+fn on_apdu_without_entry<S: SlotTable<PeerKey, ServerTransaction>>(
     alloc: Global,
     context: &Context,
     aged: &mut AgedTable<ServerRules, S>,
@@ -92,7 +92,7 @@ fn idle_hears<S: SlotTable<PeerKey, ServerTransaction>>(
 }
 
 /// An APDU comes for the context's transaction. Its key is looked up once; a live entry goes on in its slot.
-pub(crate) fn hears<S: SlotTable<PeerKey, ServerTransaction>>(
+pub(crate) fn on_apdu<S: SlotTable<PeerKey, ServerTransaction>>(
     alloc: Global,
     context: &Context,
     aged: &mut AgedTable<ServerRules, S>,
@@ -108,10 +108,10 @@ pub(crate) fn hears<S: SlotTable<PeerKey, ServerTransaction>>(
 {
     let from = aged.ages.from;
     let Some(slot) = aged.table.get_mut(&context.key) else {
-        return idle_hears(alloc, context, aged, restart, apdu, store);
+        return on_apdu_without_entry(alloc, context, aged, restart, apdu, store);
     };
     if !slot.is_live(context.moment) {
-        return idle_hears(alloc, context, aged, restart, apdu, store);
+        return on_apdu_without_entry(alloc, context, aged, restart, apdu, store);
     }
     match slot.on_apdu(alloc, context, apdu, store) {
         Ok(performed) => {

@@ -20,27 +20,27 @@ use Rattle.bac_responder.specs.Views.{end_of}
 use Rattle.bac_responder.proofs.TimerLaws.{quiet_earlier}
 use Rattle.bac_responder.proofs.Turned.{served_so, served_with, live_begun, live_is, stays_live, serves_as}
 use Rattle.bac_responder.proofs.Sweeps.{none_live, same_end, set_there}
-use Rattle.bac_responder.proofs.hearing.hears.Goals as goal
+use Rattle.bac_responder.proofs.lookup.on_apdu.Goals as goal
 
 -- No slot has the key.
 
 pub returns-in_default-clause-turn : goal.returns-in_default-clause-turn
 returns-in_default-clause-turn g c =
     let same = same_end _ _ _ _ c.args.restart c.get_mut.follows.holds-at-none.0 c.get_mut.follows.holds-at-none.1 in
-    serves_as c.args.context.now c.args.store.now (apdu_view c.args.apdu.now) _ _ _ _ _ same c.idle_hears.ensures.turn
+    serves_as c.args.context.now c.args.store.now (apdu_view c.args.apdu.now) _ _ _ _ _ same c.on_apdu_without_entry.ensures.turn
 
 -- Its entry is not live.
 
-pub idle_hears-requires-then-not-is_live-clause-dead : goal.idle_hears-requires-then-not-is_live-clause-dead
-idle_hears-requires-then-not-is_live-clause-dead g c =
+pub on_apdu_without_entry-requires-then-not-is_live-clause-dead : goal.on_apdu_without_entry-requires-then-not-is_live-clause-dead
+on_apdu_without_entry-requires-then-not-is_live-clause-dead g c =
     let d : ServerTransaction = c.in-Some.slot.now in
     let now : ℕ = c.args.context.now.moment in
     let unchanged = put_back ServerTransaction c.args.context.now.key d d (g.S.SlotTable.slots c.args.aged.now.table) _ (sym c.in-Some.ensures.value) refl (c.get_mut.follows.holds d).0 in
     ap (λ (l : List (Slot CodeKey ServerTransaction)). is_none_live now (value_at code_same_key c.args.context.now.key l)) unchanged
     ∙ ap (is_none_live now) (sym c.in-Some.ensures.value) ∙ none_live now d ∙ ap not (sym c.is_live.ensures ∙ c.if-not-is_live.true)
 
-pub idle_hears-requires-then-not-is_live-clause-aged : goal.idle_hears-requires-then-not-is_live-clause-aged
-idle_hears-requires-then-not-is_live-clause-aged g c =
+pub on_apdu_without_entry-requires-then-not-is_live-clause-aged : goal.on_apdu_without_entry-requires-then-not-is_live-clause-aged
+on_apdu_without_entry-requires-then-not-is_live-clause-aged g c =
     let d : ServerTransaction = c.in-Some.slot.now in
     let unchanged = put_back ServerTransaction c.args.context.now.key d d (g.S.SlotTable.slots c.args.aged.now.table) _ (sym c.in-Some.ensures.value) refl (c.get_mut.follows.holds d).0 in
     subst (λ (l : List (Slot CodeKey ServerTransaction)). AreAged c.args.aged.now.ages l) (sym unchanged) c.requires.aged
@@ -50,7 +50,7 @@ returns-then-not-is_live-clause-turn g c =
     let d : ServerTransaction = c.in-Some.slot.now in
     let unchanged = put_back ServerTransaction c.args.context.now.key d d (g.S.SlotTable.slots c.args.aged.now.table) _ (sym c.in-Some.ensures.value) refl (c.get_mut.follows.holds d).0 in
     let same = same_end _ _ _ _ c.args.restart unchanged (c.get_mut.follows.holds d).1 in
-    serves_as c.args.context.now c.args.store.now (apdu_view c.args.apdu.now) _ _ _ _ _ same c.idle_hears-then-not-is_live.ensures.turn
+    serves_as c.args.context.now c.args.store.now (apdu_view c.args.apdu.now) _ _ _ _ _ same c.on_apdu_without_entry-then-not-is_live.ensures.turn
 
 -- It is live and goes on.
 

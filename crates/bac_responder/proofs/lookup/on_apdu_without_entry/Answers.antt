@@ -19,7 +19,7 @@ use Rattle.bac_responder.specs.Views.{end_of}
 use Rattle.bac_responder.specs.declared.effect.Effect.{Effect}
 use Rattle.bac_responder.proofs.Turned.{served_so, served_still, served_with, idle_is, begun_live, where_it_begins, its_place}
 use Rattle.bac_responder.proofs.Sweeps.{entered, keep_none, room}
-use Rattle.bac_responder.proofs.hearing.idle_hears.Goals as goal
+use Rattle.bac_responder.proofs.lookup.on_apdu_without_entry.Goals as goal
 
 pub returns-in-None-clause-turn : goal.returns-in-None-clause-turn
 returns-in-None-clause-turn g c =
