@@ -1,6 +1,5 @@
 -- Of words that are no request: the first bad one from the left, and what was wanted in its place.
 use Rattle.std.specs.Prelude.{ℕ, Bool, true, false, is_some, List, [], ◌∷◌, ◌++◌, codes, if◌then◌else◌, Option, Some, None}
-use Rattle.std.specs.Option.{option_map}
 use Rattle.bac_value.specs.Value.{ObjectId}
 use Rattle.bac_value_text.specs.Numbers.{number_of, signed_of, octets_of}
 use Rattle.bac_value_text.specs.Reading.{object_of}

@@ -1,5 +1,5 @@
 -- ReadProperty as text (clause 15.5).
-use Rattle.std.specs.Prelude.{ℕ, Bool, List, ◌++◌, codes, Option, Some, None}
+use Rattle.std.specs.Prelude.{ℕ, Bool, List, ◌++◌, codes, Option, Some}
 use Rattle.hex.specs.Hex.{encode_upper}
 use Rattle.bac_service.specs.Members.{◌⨾◌}
 use Rattle.bac_service.specs.Values.{Reference, Request}

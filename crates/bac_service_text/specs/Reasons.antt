@@ -1,5 +1,5 @@
 -- Errors, Rejects and Aborts in words.
-use Rattle.std.specs.Prelude.{ℕ, List, ◌++◌, codes, decimal}
+use Rattle.std.specs.Prelude.{ℕ, List, ◌++◌, codes}
 use Rattle.bac_value_text.specs.Reasons.{abort_text, error_text, reject_text}
 
 abbrev pub error_words : (class code : ℕ) → List ℕ

@@ -1,5 +1,5 @@
 -- The lines of a layer, and of what is in it.
-use Rattle.std.proofs.Common.{◌≡◌, ℕ, Bool, true, false, List, [], ◌++◌, Option, Some, None, Result, Ok, Err, OnOk, refl}
+use Rattle.std.proofs.Common.{ℕ, Bool, true, false, List, [], ◌++◌, Option, Some, None, Result, Ok, Err, OnOk, refl}
 use Rattle.std.specs.Io.KnownBytes.{Appends, Keeps}
 use Rattle.bac_service.specs.Members.{◌⨾◌}
 use Rattle.bac_service.specs.Values.{Request, Complex}

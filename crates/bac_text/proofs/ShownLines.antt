@@ -1,13 +1,12 @@
 -- Lines of datagrams that were printed, one after the other.
-use Rattle.std.proofs.Common.{◌≡◌, ◌+◌, ℕ, Bool, true, false, ◌&&◌, List, [], ◌∷◌, ◌++◌, Option, Some, None, Result, Ok, Err, OnOk, refl, sym, ap, subst, ◌∙◌}
+use Rattle.std.proofs.Common.{◌≡◌, ◌+◌, ℕ, Bool, true, false, ◌&&◌, List, [], ◌∷◌, ◌++◌, Option, Some, None, refl, sym, ap, subst, ◌∙◌}
 use Rattle.std.proofs.Common.{append_assoc, append-nil}
 use Rattle.std.proofs.KnownBytes.{Appends-nil, Appends-trans, Appends-kept}
 use Rattle.std.specs.Option.{option_map}
-use Rattle.std.specs.Io.KnownBytes.{Appends, Keeps}
+use Rattle.std.specs.Io.KnownBytes.{Keeps}
 use Rattle.std.specs.Io.BufRead.{drop_through}
 use Rattle.bac_text.specs.declared.decode_lines.Shown.{Shown}
-use Rattle.bac_text.specs.declared.status.Status.{Status}
-use Rattle.bac_text.specs.DecodedLines.{DatagramLine, AreDecoded, AreFrontPrinted, AreLineTexts, ArePrinted, IsDatagramText, IsFirstText, IsFrontPrinted, IsLineText, IsLinePrinted, IsNextPrinted, IsTaken}
+use Rattle.bac_text.specs.DecodedLines.{DatagramLine, AreDecoded, AreFrontPrinted, AreLineTexts, ArePrinted, IsDatagramText, IsLineText, IsLinePrinted, IsNextPrinted, IsTaken}
 use Rattle.bac_text.specs.DecodedLines.{datagram_line_at}
 use Rattle.bac_text.specs.Groups.{octets_in}
 use Rattle.bac_text.specs.Lines.{lines_of, line_in, LINE_END}
