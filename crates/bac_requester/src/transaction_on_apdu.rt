@@ -1,33 +1,33 @@
-//! An APDU comes for a ticket.
+//! An APDU comes for one transaction (clause 5.4.4): which state handles it, and what any state does with a Reject or an Abort.
+//!
+//! `client` calls [`ClientTransaction::on_apdu`]. All here is private to the crate.
 ghost use Rattle.std.specs.Prelude.{◌≡◌};
 ghost use Rattle.bac_apdu.specs.Views.{apdu_view};
 ghost use Rattle.bac_service.specs.Services.{reads_reply};
 ghost use Rattle.bac_protocol.specs.Client.{client_on_apdu, on_refusal, open_on_apdu};
 ghost use Rattle.bac_protocol.specs.Wire.{is_from_server};
-ghost use Rattle.bac_requester.specs.Reacts.{Does, Hears, Reacts};
-ghost use Rattle.bac_requester.specs.TransactionViews.{held_view};
+ghost use Rattle.bac_requester.specs.Transitions.{MakesTransition, TriesTransition};
 ghost use Rattle.bac_transaction.specs.Views.{context_view};
 
 use crate::await_confirmation::await_confirmation_on_apdu;
 use crate::ending::Ending;
-use crate::held::TransactionSlot;
-use crate::reaction::{Reaction, ends, nothing, stays};
 use crate::segmented_conf::on_next_segment;
 use crate::segmented_request::on_segment_ack;
-use crate::ticket::{ClientTransaction, Phase};
+use crate::transaction::{ClientTransaction, Phase};
+use crate::transition::{Transition, ends, stays};
 use bac_apdu::Apdu;
 use bac_transaction::Context;
 use bac_value::NoMemory;
 use std::alloc::Global;
 
-/// A Reject or an Abort of the server ends the ticket; nothing else is looked at.
+/// A Reject or an Abort of the server ends the transaction. It ignores any other APDU.
 pub(crate) fn on_refusal(
     alloc: Global,
     context: &Context,
-    ticket: &ClientTransaction,
+    transaction: &ClientTransaction,
     apdu: &Apdu<'_>,
-) -> Reaction
-    ensures { Does context.now ticket.now (on_refusal (apdu_view apdu.now)) result ticket.now }
+) -> Transition
+    ensures { MakesTransition context.now transaction.now (on_refusal (apdu_view apdu.now)) result transaction.now }
 {
     match *apdu {
         // RejectPDU_Received
@@ -39,7 +39,7 @@ pub(crate) fn on_refusal(
             ..
         } => ends(alloc, Ending::Aborted(reason)),
         // own: UnexpectedPDU_Received is ignored
-        _ => stays(alloc, context, ticket),
+        _ => stays(alloc, context, transaction),
     }
 }
 
@@ -55,14 +55,14 @@ fn is_from_server(apdu: &Apdu<'_>) -> bool
 }
 
 impl ClientTransaction {
-    /// An APDU that a server sends comes, in the state that the ticket is in.
+    /// An APDU that a server sends comes, in the state of the transaction.
     fn open_on_apdu(
         &mut self,
         alloc: Global,
         context: &Context,
         apdu: &Apdu<'_>,
-    ) -> Result<Reaction, NoMemory>
-        ensures { Reacts context.now self.old (open_on_apdu (context_view context.now) reads_reply self.old.ask self.old.phase (apdu_view apdu.now)) result self.new }
+    ) -> Result<Transition, NoMemory>
+        ensures { TriesTransition context.now self.old (open_on_apdu (context_view context.now) reads_reply self.old.ask self.old.phase (apdu_view apdu.now)) result self.new }
     {
         let ClientTransaction { core, phase } = self;
         match phase {
@@ -92,14 +92,15 @@ impl ClientTransaction {
         }
     }
 
-    /// An APDU comes from the ticket's peer, with its invoke ID (clause 5.4.4).
-    fn gets(
+    /// An APDU comes from the transaction's peer, with its invoke ID (clause 5.4.4). It ignores one that no server sends. More than 60,000 milliseconds after
+    /// the first sending the transaction ends as Expired, whatever came (own rule of this profile). After `NoMemory` it is as before.
+    pub(crate) fn on_apdu(
         &mut self,
         alloc: Global,
         context: &Context,
         apdu: &Apdu<'_>,
-    ) -> Result<Reaction, NoMemory>
-        ensures { Reacts context.now self.old (client_on_apdu (context_view context.now) reads_reply self.old (apdu_view apdu.now)) result self.new }
+    ) -> Result<Transition, NoMemory>
+        ensures { TriesTransition context.now self.old (client_on_apdu (context_view context.now) reads_reply self.old (apdu_view apdu.now)) result self.new }
     {
         if !is_from_server(apdu) {
             return Ok(stays(alloc, context, self));
@@ -108,29 +109,5 @@ impl ClientTransaction {
             return Ok(ends(alloc, Ending::Expired));
         }
         self.open_on_apdu(alloc, context, apdu)
-    }
-}
-
-impl TransactionSlot {
-    /// An APDU comes from the ticket's peer, with its invoke ID (clause 5.4.4), and an open ticket goes on where it stands. What no server sends is ignored,
-    /// and so is all after the ticket's end. More than 60,000 milliseconds after the first sending the ticket ends as Expired, whatever came. Where memory
-    /// is refused, all is as it was.
-    pub fn gets(
-        &mut self,
-        alloc: Global,
-        context: &Context,
-        apdu: &Apdu<'_>,
-    ) -> Result<Reaction, NoMemory>
-        ensures { Hears context.now (apdu_view apdu.now) (held_view self.old) result (held_view self.new) }
-    {
-        let TransactionSlot::Open(ticket) = self else {
-            return Ok(nothing(alloc));
-        };
-        let reaction = ticket.gets(alloc, context, apdu)?;
-        if reaction.ended.is_some() {
-            let first = ticket.first();
-            *self = TransactionSlot::Closed { first };
-        }
-        Ok(reaction)
     }
 }

@@ -1,15 +1,15 @@
-//! An open ticket.
+//! An open transaction of the client: its request, its state and its timer (clause 5.4.4). All here is private to the crate.
 ghost use Rattle.std.specs.Prelude.{◌≡◌, ◌-◌, ◌<◌, ◌≤◌, false, length, nat_lt};
 ghost use Rattle.bac_segment.specs.Pieces.{join};
 ghost use Rattle.bac_segment.specs.Limits.{DATA};
-ghost use Rattle.bac_requester.specs.Reacts.{parts_taken};
+ghost use Rattle.bac_requester.specs.Transitions.{parts_taken};
 ghost use Rattle.bac_protocol.specs.Client as client;
 
 use bac_protocol::times::DEADLINE;
 use bac_segment::{Incoming, Outgoing};
 use std::marker::Model;
 
-/// What a ticket keeps in each state.
+/// What a transaction keeps in each state.
 #[derive(Drop)]
 pub(crate) struct RequestState {
     /// The moment of the first sending.
@@ -22,11 +22,11 @@ pub(crate) struct RequestState {
     pub(crate) outgoing: Outgoing,
     /// The repeats of the request that are left.
     pub(crate) repeats: u8,
-    /// The moment from which the timer runs.
+    /// The moment at which the timer was started.
     pub(crate) since: u64,
 }
 
-/// The states of an open ticket (clauses 5.4.4.2 to 5.4.4.4).
+/// The states of an open transaction (clauses 5.4.4.2 to 5.4.4.4).
 #[derive(Drop)]
 pub(crate) enum Phase {
     /// SEGMENTED_REQUEST; `all_sent` is SentAllSegments.
@@ -37,9 +37,9 @@ pub(crate) enum Phase {
     SegmentedConf { incoming: Incoming },
 }
 
-/// A transaction of a client that has not ended: its request, its state and its timer.
+/// A transaction of the client that has not ended.
 #[derive(Drop)]
-pub struct ClientTransaction {
+pub(crate) struct ClientTransaction {
     pub(crate) core: RequestState,
     pub(crate) phase: Phase,
 }
@@ -59,21 +59,21 @@ impl Model for ClientTransaction {
 
 impl ClientTransaction {
     /// The moment of the first sending, in milliseconds.
-    pub fn first(&self) -> u64
+    pub(crate) fn first(&self) -> u64
         ensures { result ≡ self.now.ask.first }
     {
         self.core.first
     }
 
     /// The service choice of the request.
-    pub fn choice(&self) -> u8
+    pub(crate) fn choice(&self) -> u8
         ensures { result ≡ self.now.ask.choice }
     {
         self.core.choice
     }
 
     /// How many octets of a reply in segments it keeps (SEGMENTED_CONF, clause 5.4.4.4): at most 65,535, in at most 65,535 segments; 0 in other states.
-    pub fn reassembled(&self) -> usize
+    pub(crate) fn reassembled(&self) -> usize
         ensures number { result ≡ length (join (parts_taken self.now.phase)) }
         ensures short { result ≤ DATA }
         ensures few { length (parts_taken self.now.phase) ≤ DATA }
@@ -90,7 +90,7 @@ impl ClientTransaction {
     }
 
     /// Whether more than 60,000 milliseconds have passed since the first sending: nothing is sent from then on (own rule of this profile).
-    pub fn is_expired(&self, now: u64) -> bool
+    pub(crate) fn is_expired(&self, now: u64) -> bool
         ensures expired { result ≡ client.is_expired now self.now.ask }
         ensures open { client.is_idle self.now.phase ≡ false }
     {

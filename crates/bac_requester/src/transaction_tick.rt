@@ -1,67 +1,40 @@
-//! A tick of a ticket.
-ghost use Rattle.std.specs.Prelude.{◌≡◌, ◌-◌, ◌≤◌, [], Some, None, IfOk, nat_le};
-ghost use Rattle.std.specs.Option.{option_map};
+//! A tick of one transaction (clause 5.4.4): what its timers send and end, and what is kept of it after that.
+//!
+//! `requester_tick` calls [`ClientTransaction::prepare_tick`], and `client` then [`ClientTransaction::commit_tick`]. All here is private to the crate.
+ghost use Rattle.std.specs.Prelude.{◌≡◌, ◌-◌, ◌≤◌, IfOk, nat_le};
 ghost use Rattle.bac_segment.specs.Window.{again};
 ghost use Rattle.bac_protocol.specs.Client.{after, client_ticks, repeats, sends_request_again};
 ghost use Rattle.bac_transaction.specs.Ends.{kept};
 ghost use Rattle.bac_requester.specs.Fits.{IsShort};
-ghost use Rattle.bac_requester.specs.Reacts.{IsDue};
+ghost use Rattle.bac_requester.specs.Transitions.{IsTransition};
 ghost use Rattle.bac_transaction.specs.Views.{context_view};
-ghost use Rattle.bac_requester.specs.TransactionViews.{ending_view, held_view, ticket_view};
-ghost use Rattle.bac_requester.specs.declared.ticket.Phase.{Phase};
-ghost use Rattle.bac_requester.specs.declared.ticket.Phase.TheVariants.{SegmentedRequest};
+ghost use Rattle.bac_requester.specs.TransactionViews.{held_view, ticket_view};
+ghost use Rattle.bac_requester.specs.declared.transaction.Phase.{Phase};
+ghost use Rattle.bac_requester.specs.declared.transaction.Phase.TheVariants.{SegmentedRequest};
 
+use crate::begin::ends_all;
 use crate::ending::Ending;
-use crate::held::TransactionSlot;
-use crate::request_way::ends_all;
 use crate::sending::{pieces, whole_request, window};
-use crate::ticket::{ClientTransaction, Phase, RequestState};
+use crate::transaction::{ClientTransaction, Phase, RequestState};
+use crate::transaction_slot::TransactionSlot;
+use crate::transition::{Transition, ends, nothing};
 use bac_protocol::times::{T_OUT, T_SEG, T_WAIT_FOR_SEG};
 use bac_segment::Timeout;
-use bac_transaction::{Context, Datagram};
+use bac_transaction::Context;
 use bac_value::NoMemory;
 use std::alloc::Global;
-
-/// What a tick sends for a ticket, and how it ends it.
-#[derive(Drop)]
-pub struct DueTransaction {
-    /// What is sent, in order of sending.
-    pub sends: Vec<Datagram>,
-    /// How the ticket ends, if it does.
-    pub ended: Option<Ending>,
-}
-
-fn nothing(alloc: Global) -> DueTransaction
-    ensures sends { result.sends.items ≡ [] }
-    ensures ended { option_map ending_view result.ended ≡ None }
-{
-    DueTransaction {
-        sends: Vec::new(alloc),
-        ended: None,
-    }
-}
-
-fn ended(alloc: Global, how: Ending) -> DueTransaction
-    ensures sends { result.sends.items ≡ [] }
-    ensures ended { option_map ending_view result.ended ≡ Some (ending_view how) }
-{
-    DueTransaction {
-        sends: Vec::new(alloc),
-        ended: Some(how),
-    }
-}
 
 /// The request is sent again, from its beginning (TimeoutUnsegmented, TimeoutSegmented, FinalTimeout).
 fn repeat_sends(
     alloc: Global,
     context: &Context,
     core: &RequestState,
-) -> Result<DueTransaction, NoMemory>
+) -> Result<Transition, NoMemory>
     requires { IsShort core.now.whole core.now.outgoing }
-    ensures { (p : Phase) → IfOk result (IsDue context.now (ticket_view core.now p) (repeats (context_view context.now) (ticket_view core.now p))) }
+    ensures { (p : Phase) → IfOk result (IsTransition context.now (ticket_view core.now p) (repeats (context_view context.now) (ticket_view core.now p))) }
 {
     if core.repeats == 0 {
-        return Ok(ended(alloc, Ending::TimedOut));
+        return Ok(ends(alloc, Ending::TimedOut));
     }
     let sends = if core.whole {
         whole_request(alloc, context, core.choice, core.outgoing.octets())?
@@ -69,7 +42,10 @@ fn repeat_sends(
         let end = core.outgoing.count().min(1);
         pieces(alloc, context, core.choice, &core.outgoing, 0, end)?
     };
-    Ok(DueTransaction { sends, ended: None })
+    Ok(Transition {
+        sends,
+        ending: None,
+    })
 }
 
 /// The window of the request is sent again, where a retry is left (Timeout, FinalTimeout).
@@ -78,16 +54,19 @@ fn window_sends(
     context: &Context,
     core: &RequestState,
     all_sent: bool,
-) -> Result<DueTransaction, NoMemory>
+) -> Result<Transition, NoMemory>
     requires { IsShort core.now.whole core.now.outgoing }
-    ensures { (p : Phase) → IfOk result (IsDue context.now (ticket_view core.now p)
+    ensures { (p : Phase) → IfOk result (IsTransition context.now (ticket_view core.now p)
         (sends_request_again (context_view context.now) core.now.choice all_sent (again core.now.outgoing))) }
 {
     if !core.outgoing.has_retry() {
-        return Ok(ended(alloc, Ending::TimedOut));
+        return Ok(ends(alloc, Ending::TimedOut));
     }
     let sends = window(alloc, context, core.choice, &core.outgoing)?;
-    Ok(DueTransaction { sends, ended: None })
+    Ok(Transition {
+        sends,
+        ending: None,
+    })
 }
 
 /// The request was sent again.
@@ -126,14 +105,18 @@ fn window_repeated(context: &Context, mut core: RequestState, all_sent: bool) ->
 }
 
 impl ClientTransaction {
-    /// What a tick sends for the ticket, and how it ends it (clause 5.4.4): where more than 60,000 milliseconds have passed since the first sending, it
-    /// ends as Expired; otherwise, where the timer of its state is due, the window of its request is sent again (3 times), or the request (3 times),
-    /// and after the last of these it ends as TimedOut. Nothing changes. `NoMemory` where the memory for what is sent is refused.
-    pub fn prepare_tick(&self, alloc: Global, context: &Context) -> Result<DueTransaction, NoMemory>
-        ensures { IfOk result (IsDue context.now self.now (client_ticks (context_view context.now) self.now)) }
+    /// What a tick sends for the transaction, and how it ends it (clause 5.4.4). More than 60,000 milliseconds after the first sending it ends as Expired.
+    /// Otherwise, once the timer of its state has run out, it sends the window of its request again (3 times), or the whole request (3 times); after the last
+    /// of these it ends as TimedOut. Nothing changes. `NoMemory` where the datagrams can't be allocated.
+    pub(crate) fn prepare_tick(
+        &self,
+        alloc: Global,
+        context: &Context,
+    ) -> Result<Transition, NoMemory>
+        ensures { IfOk result (IsTransition context.now self.now (client_ticks (context_view context.now) self.now)) }
     {
         if self.is_expired(context.moment) {
-            return Ok(ended(alloc, Ending::Expired));
+            return Ok(ends(alloc, Ending::Expired));
         }
         let core = &self.core;
         let waited = context.moment.saturating_sub(core.since);
@@ -146,15 +129,15 @@ impl ClientTransaction {
                 if core.whole {
                     repeat_sends(alloc, context, core)
                 } else {
-                    Ok(ended(alloc, Ending::TimedOut))
+                    Ok(ends(alloc, Ending::TimedOut))
                 }
             }
             _ => Ok(nothing(alloc)),
         }
     }
 
-    /// The ticket after a tick, of which `prepare_tick` says what is sent. It takes no memory.
-    pub fn commit_tick(self, context: &Context) -> TransactionSlot
+    /// What is kept of the transaction after a tick, of which `prepare_tick` says what it sends. It allocates nothing.
+    pub(crate) fn commit_tick(self, context: &Context) -> TransactionSlot
         ensures { held_view result ≡ kept (after context.now.moment self (client_ticks (context_view context.now) self)) }
     {
         if self.is_expired(context.moment) {

@@ -1,4 +1,6 @@
-//! What a datagram means to a node.
+//! What a datagram means to a node: an APDU of a peer, or why it is dropped.
+//!
+//! `Node::on` calls [`read_from`], and `Node::dispatch` calls [`is_from_client`]. All here is private to the crate.
 ghost use Rattle.std.specs.Prelude.{◌≡◌, ◌≢◌, IfOk, IfErr};
 ghost use Rattle.bac_apdu.specs.Spelling.{SpellsApdu};
 ghost use Rattle.bac_apdu.specs.Views.{apdu_view};
@@ -13,7 +15,7 @@ use crate::cause::Cause;
 use bac_apdu::Apdu;
 use bac_npdu::{Dropped, LinkAddress, Peer, read_datagram};
 
-/// Whether an APDU is one that the client of a transaction sends, and its server hears (clause 20.1).
+/// Whether the client of a transaction sends such an APDU, so that it is for the server's end (clause 20.1).
 pub(crate) fn is_from_client(apdu: &Apdu<'_>) -> bool
     ensures { result ≡ is_from_client (apdu_view apdu.now) }
 {
@@ -29,7 +31,7 @@ pub(crate) fn is_from_client(apdu: &Apdu<'_>) -> bool
     }
 }
 
-/// Why a datagram that is no frame for this node is dropped.
+/// Why a datagram without an APDU for this node is dropped.
 fn cause_of(dropped: Dropped) -> Cause
     ensures { cause_view result ≡ NoFrame dropped }
 {
@@ -41,8 +43,8 @@ fn cause_of(dropped: Dropped) -> Cause
     }
 }
 
-/// The peer and the APDU that a datagram from another link means, or why it is dropped. It takes no memory.
-pub(crate) fn heard<'a>(
+/// The peer and the APDU that a datagram from another link means, or why it is dropped. It allocates nothing.
+pub(crate) fn read_from<'a>(
     link: LinkAddress,
     from: LinkAddress,
     octets: &'a [u8],

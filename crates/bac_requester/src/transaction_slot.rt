@@ -1,15 +1,15 @@
-//! What is kept of a ticket.
+//! What a slot keeps of a transaction, and how long it holds the invoke ID. All here is private to the crate.
 ghost use Rattle.std.specs.Prelude.{◌≡◌, ◌-◌, ◌≤◌, nat_le};
 ghost use Rattle.bac_transaction.specs.Ends.{is_held};
 ghost use Rattle.bac_requester.specs.TransactionViews.{held_view};
 
-use crate::ticket::ClientTransaction;
+use crate::transaction::ClientTransaction;
 use bac_protocol::times::HOLD;
 
-/// What is kept of a ticket: all of an open one; of one that has ended, the moment of its first sending in milliseconds.
+/// What a slot keeps of a transaction: all of an open one; of one that has ended, the moment of its first sending.
 #[derive(Drop)]
-pub enum TransactionSlot {
-    /// A ticket that has not ended.
+pub(crate) enum TransactionSlot {
+    /// A transaction that has not ended.
     Open(ClientTransaction),
     /// One that has: its machine is in IDLE (clause 5.4.4.1).
     Closed {
@@ -19,9 +19,9 @@ pub enum TransactionSlot {
 }
 
 impl TransactionSlot {
-    /// Whether its invoke ID is held: the ticket is open, or no more than 135,000 milliseconds have passed since its first sending
+    /// Whether its invoke ID is held: the transaction is open, or no more than 135,000 milliseconds have passed since its first sending
     /// (own rule of this profile).
-    pub fn is_held(&self, now: u64) -> bool
+    pub(crate) fn is_held(&self, now: u64) -> bool
         ensures { result ≡ is_held now (held_view self.now) }
     {
         match self {

@@ -1,26 +1,19 @@
-//! An ask: the first sending of a request (clause 5.4.4.1).
+//! The first sending of a request (clause 5.4.4.1).
+//!
+//! `asking` calls [`ClientTransaction::begin`]. All here is private to the crate.
 ghost use Rattle.std.specs.Prelude.{◌≡◌, ◌+◌, IfOk, nat_le, length};
 ghost use Rattle.bac_segment.specs.Window.{Outgoing as Sender, in_window};
 ghost use Rattle.bac_requester.specs.Fits.{IsShort};
-ghost use Rattle.bac_requester.specs.Reacts.{IsBegun};
+ghost use Rattle.bac_requester.specs.Transitions.{IsBegun};
 ghost use Rattle.bac_requester.specs.Requests.{ask_at};
 
 use crate::outgoing_request::OutgoingRequest;
 use crate::sending::{whole_request, window};
-use crate::ticket::{ClientTransaction, Phase, RequestState};
+use crate::transaction::{ClientTransaction, Phase, RequestState};
 use bac_segment::{N_RETRY, Outgoing};
 use bac_transaction::{Context, Datagram};
 use bac_value::NoMemory;
 use std::alloc::Global;
-
-/// A request that was asked.
-#[derive(Drop)]
-pub struct Begun {
-    /// Its ticket, after the first sending.
-    pub ticket: ClientTransaction,
-    /// The whole request, or its segment 0.
-    pub sends: Vec<Datagram>,
-}
 
 /// Whether the window ends with the last piece.
 pub(crate) fn ends_all(outgoing: &Outgoing) -> bool
@@ -30,14 +23,13 @@ pub(crate) fn ends_all(outgoing: &Outgoing) -> bool
 }
 
 impl ClientTransaction {
-    /// A request is asked (clause 5.4.4.1): its ticket after the first sending, and the whole request or its segment 0. Where memory is refused,
-    /// nothing is sent and there is no ticket.
-    pub fn begin(
+    /// Sends a request for the first time: the transaction after that, and the whole request or its first window. After `NoMemory` there is no transaction.
+    pub(crate) fn begin(
         alloc: Global,
         context: &Context,
         request: OutgoingRequest,
-    ) -> Result<Begun, NoMemory>
-        ensures { IfOk result (IsBegun context.now (ask_at context.now.moment request)) }
+    ) -> Result<(ClientTransaction, Vec<Datagram>), NoMemory>
+        ensures { IfOk result (λ begun. IsBegun context.now (ask_at context.now.moment request) begun.0 begun.1.items) }
     {
         let OutgoingRequest {
             choice,
@@ -60,7 +52,6 @@ impl ClientTransaction {
             repeats: N_RETRY,
             since: context.moment,
         };
-        let ticket = ClientTransaction { core, phase };
-        Ok(Begun { ticket, sends })
+        Ok((ClientTransaction { core, phase }, sends))
     }
 }

@@ -6,7 +6,7 @@ use Rattle.bac_service.specs.Spellings.{request_spelling}
 use Rattle.bac_service.specs.Views.{owned_request_view}
 use Rattle.bac_world.specs.Node.{Node}
 use Rattle.bac_node.proofs.Asks.{accepted_so, refused_so}
-use Rattle.bac_node.proofs.node.Node.ask_other.Goals as goal
+use Rattle.bac_node.proofs.node.Node.ask.Goals as goal
 
 pub returns-in-Ok-clause-asked : goal.returns-in-Ok-clause-asked
 returns-in-Ok-clause-asked c =
