@@ -202,8 +202,8 @@ bac_status bac_ask_get(bac_node *node, uint64_t now, const bac_target *target, u
 size_t bac_sends(bac_node *node);
 size_t bac_send(bac_node *node, size_t index, uint8_t to[6], uint8_t *out, size_t room);
 
-/* How many asks have ended, and how each did, with the octets that came. At an index that is not below bac_transaction 0, and nothing is put out. */
-size_t bac_transaction(bac_node *node);
+/* How many asks have ended, and how each did, with the octets that came. At an index that is not below bac_ends 0, and nothing is put out. */
+size_t bac_ends(bac_node *node);
 size_t bac_end(bac_node *node, size_t index, bac_ending *ending, uint8_t *out, size_t room);
 
 /* The request that was performed, with the octets that it asks to write: where act->service is 7 or 15 and act->done holds, they were written: act on it. */

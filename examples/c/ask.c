@@ -121,7 +121,7 @@ int main(int argc, char **argv)
             continue;
         }
         send_all(&node, s);
-        if (bac_transaction(&node) > 0) {
+        if (bac_ends(&node) > 0) {
             exit_status = print_end(&node);
             break;
         }

@@ -76,7 +76,7 @@ static int closed_rows(bac_node *node)
     CALL(BAC_NOT_OPEN, bac_set_file(node, 1, out, 1));
     CALL(BAC_NOT_OPEN, bac_get_value(node, &r, out, sizeof out, &n));
     CALL(BAC_NOT_OPEN, bac_get_file(node, 1, out, sizeof out, &n));
-    HOLDS(bac_next_due(node) == UINT64_MAX && bac_sends(node) == 0 && bac_transaction(node) == 0 && bac_cause(node) == 0);
+    HOLDS(bac_next_due(node) == UINT64_MAX && bac_sends(node) == 0 && bac_ends(node) == 0 && bac_cause(node) == 0);
     HOLDS(bac_send(node, 0, to, out, sizeof out) == 0 && bac_end(node, 0, &e, out, sizeof out) == 0);
     HOLDS(bac_performed(node, &a, out, sizeof out) == 0 && a.service == 0);
     HOLDS(bac_held(node, 0) == 0 && bac_live(node, 0) == 0);
@@ -301,8 +301,8 @@ static int carry(bac_node *client, bac_node *server, uint64_t now)
             CALL(BAC_OK, bac_on(at, now, at == server ? HERE : THERE, out, n));
             HOLDS(i + 1 == count || bac_sends(at) == 0);
         }
-        if (at == client && bac_transaction(client) > 0) {
-            HOLDS(bac_transaction(client) == 1);
+        if (at == client && bac_ends(client) > 0) {
+            HOLDS(bac_ends(client) == 1);
             return 0;
         }
         bac_node *next = from;
@@ -386,10 +386,10 @@ static int ask_rows(bac_node *client, bac_node *server)
     CALL(BAC_OK, bac_ask_read(client, 200, &t, &r, &ticket));
     for (unsigned repeats = 0; repeats < 3; repeats++) {
         CALL(BAC_OK, bac_tick(client, bac_next_due(client)));
-        HOLDS(bac_sends(client) == 1 && bac_transaction(client) == 0);
+        HOLDS(bac_sends(client) == 1 && bac_ends(client) == 0);
     }
     CALL(BAC_OK, bac_tick(client, bac_next_due(client)));
-    HOLDS(bac_transaction(client) == 1 && bac_end(client, 0, &e, out, sizeof out) == 0 && e.how == BAC_TIMED_OUT && e.ticket == ticket);
+    HOLDS(bac_ends(client) == 1 && bac_end(client, 0, &e, out, sizeof out) == 0 && e.how == BAC_TIMED_OUT && e.ticket == ticket);
     return 0;
 }
 

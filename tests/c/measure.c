@@ -106,7 +106,7 @@ static void carry(uint32_t how)
     for (;;) {
         if (status != BAC_OK) { return; }
         send_all(node);
-        if (node == &client && bac_transaction(&client) > 0) { break; }
+        if (node == &client && bac_ends(&client) > 0) { break; }
         node = step();
     }
     bac_end(&client, 0, &e, many, sizeof many);

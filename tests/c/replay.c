@@ -85,7 +85,7 @@ static int tell(int node)
         printf("performed\n");
         told = 1;
     }
-    for (size_t i = 0; i < bac_transaction(&nodes[node]); i++) {
+    for (size_t i = 0; i < bac_ends(&nodes[node]); i++) {
         print_end(node, i);
         told = 1;
     }

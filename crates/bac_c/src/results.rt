@@ -55,7 +55,7 @@ pub extern "C" fn bac_send(
 
 /// How many asks have ended.
 #[unsafe(no_mangle)]
-pub extern "C" fn bac_transaction(alloc: Global, handle: &mut Handle) -> usize
+pub extern "C" fn bac_ends(alloc: Global, handle: &mut Handle) -> usize
     ensures count { MatchOption handle.old.parked.device (result ≡ 0) (λ d. result ≡ length d.outcome.ended.items) }
     ensures same { handle.new.parked.device ≡ handle.old.parked.device }
 {

@@ -7,7 +7,7 @@ pub mod Restarted
 pub mod Compared
 pub mod Asked
 pub mod Makers
-pub mod Running
+pub mod WorldRunning
 pub mod Endings
 pub mod Still
 pub mod Open
@@ -16,4 +16,4 @@ pub mod Deliveries
 pub mod Results
 pub mod Tells
 pub mod Logs
-pub mod Going
+pub mod StraightGoing

@@ -1,5 +1,5 @@
 -- Lemmas of the server's end.
-pub mod Timers
+pub mod TimerLaws
 pub mod Ticks
 pub mod Turned
 pub mod Sweeps

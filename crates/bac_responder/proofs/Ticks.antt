@@ -14,7 +14,7 @@ use Rattle.bac_transaction.proofs.Telling.{told_none}
 use Rattle.bac_responder.specs.Timers.{IsQuiet}
 use Rattle.bac_responder.specs.Aging.{entry_ticked}
 use Rattle.bac_responder.specs.Views.{end_of}
-use Rattle.bac_responder.proofs.Timers.{stays}
+use Rattle.bac_responder.proofs.TimerLaws.{stays}
 
 abbrev Slots : Type 0
 Slots = List (Slot PeerKey ServerTransaction)

@@ -12,7 +12,7 @@ use Rattle.bac_slots.specs.Ages.{first_due}
 use Rattle.bac_slots.proofs.Fronts.{all_rest, one_moves}
 use Rattle.bac_transaction.proofs.Telling.{none_told}
 use Rattle.bac_responder.specs.Timers.{IsQuiet, LAST_MOMENT, due_of, state_due}
-use Rattle.bac_responder.proofs.Timers.{moves, stays}
+use Rattle.bac_responder.proofs.TimerLaws.{moves, stays}
 
 -- Before anything is due.
 module _ (c : Settings) (now from due : ℕ) (started : from ≤ now) (before : now < due) where

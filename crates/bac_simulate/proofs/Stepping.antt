@@ -10,7 +10,7 @@ use Rattle.bac_network.specs.Histories.{WorldView}
 use Rattle.bac_store.specs.AtNode.{change_fault_number}
 use Rattle.bac_store.specs.declared.change_fault.ChangeFault.{ChangeFault}
 use Rattle.bac_network.specs.Steps.{NamesNoCopy, NamesNoNode, PassesClock, RefusesChange, TakesMemory, Tells}
-use Rattle.bac_network.proofs.Running.{fault_is}
+use Rattle.bac_network.proofs.WorldRunning.{fault_is}
 use Rattle.bac_simulate.specs.declared.script.ScriptLine as code
 use Rattle.bac_simulate.specs.Scripts.{ScriptLine, Happens, Lost, Note}
 use Rattle.bac_simulate.specs.Views.{line_view}

@@ -4,8 +4,8 @@ use Rattle.bac_apdu.specs.Views.{limits_view}
 use Rattle.bac_service.specs.Views.{owned_request_view}
 use Rattle.bac_world.specs.World.Event.{Ask}
 use Rattle.bac_network.specs.Steps.{IsFault}
-use Rattle.bac_network.proofs.Running.{fault_is}
-use Rattle.bac_network.proofs.Going.{told_why}
+use Rattle.bac_network.proofs.WorldRunning.{fault_is}
+use Rattle.bac_network.proofs.StraightGoing.{told_why}
 use Rattle.bac_network.proofs.running.ask.Goals as goal
 
 pub returns-in_err-step-clause-fault : goal.returns-in_err-step-clause-fault

@@ -4,7 +4,7 @@ use Rattle.bac_apdu.specs.Views.{limits_view}
 use Rattle.bac_service.specs.Views.{owned_request_view}
 use Rattle.bac_network.specs.StraightFaults.{Fails}
 use Rattle.bac_network.specs.StraightRuns.{AsksIf}
-use Rattle.bac_network.proofs.Going.{asked_since, copies_many, facts_many, notes_many, stopped_goes, stuck_fails, told_as, told_why}
+use Rattle.bac_network.proofs.StraightGoing.{asked_since, copies_many, facts_many, notes_many, stopped_goes, stuck_fails, told_as, told_why}
 use Rattle.bac_network.proofs.running.ask_and_deliver.Goals as goal
 
 pub returns-in_err-ask-clause-goes : goal.returns-in_err-ask-clause-goes

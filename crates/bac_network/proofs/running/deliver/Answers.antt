@@ -2,8 +2,8 @@
 use Rattle.std.proofs.Common.{refl}
 use Rattle.bac_world.specs.World.Event.{Deliver}
 use Rattle.bac_network.specs.Steps.{IsFault}
-use Rattle.bac_network.proofs.Running.{fault_is}
-use Rattle.bac_network.proofs.Going.{told_why}
+use Rattle.bac_network.proofs.WorldRunning.{fault_is}
+use Rattle.bac_network.proofs.StraightGoing.{told_why}
 use Rattle.bac_network.proofs.running.deliver.Goals as goal
 
 pub returns-in_err-step-clause-fault : goal.returns-in_err-step-clause-fault

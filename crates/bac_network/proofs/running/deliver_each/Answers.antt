@@ -1,7 +1,7 @@
 -- One copy more was delivered.
 use Rattle.std.proofs.Common.{arith}
 use Rattle.bac_network.specs.Going.{IsStuck}
-use Rattle.bac_network.proofs.Going.{gone_none, gone_more, stopped_at, stuck_at, told_why, when_false, when_true}
+use Rattle.bac_network.proofs.StraightGoing.{gone_none, gone_more, stopped_at, stuck_at, told_why, when_false, when_true}
 use Rattle.bac_network.proofs.running.deliver_each.Goals as goal
 
 pub loop-world-init : goal.loop-world-init

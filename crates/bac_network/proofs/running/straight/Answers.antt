@@ -3,7 +3,7 @@ use Rattle.std.proofs.Common.{refl, inl}
 use Rattle.bac_apdu.specs.Views.{limits_view}
 use Rattle.bac_service.specs.Views.{owned_request_view}
 use Rattle.bac_network.specs.Logs.{ending_by}
-use Rattle.bac_network.proofs.Going.{either_way, fails_at, fails_went, goes_at, goes_went, tells, told_as, went_at}
+use Rattle.bac_network.proofs.StraightGoing.{either_way, fails_at, fails_went, goes_at, goes_went, tells, told_as, went_at}
 use Rattle.bac_network.proofs.running.straight.Goals as goal
 
 pub returns-clause-run : goal.returns-clause-run

@@ -17,7 +17,7 @@ use Rattle.bac_slots.proofs.Aging.{goes_on}
 use Rattle.bac_transaction.proofs.Viewed.{put_back}
 use Rattle.bac_responder.specs.Aging.{AreAged, began}
 use Rattle.bac_responder.specs.Views.{end_of}
-use Rattle.bac_responder.proofs.Timers.{quiet_earlier}
+use Rattle.bac_responder.proofs.TimerLaws.{quiet_earlier}
 use Rattle.bac_responder.proofs.Turned.{served_so, served_with, live_begun, live_is, stays_live, serves_as}
 use Rattle.bac_responder.proofs.Sweeps.{none_live, same_end, set_there}
 use Rattle.bac_responder.proofs.hearing.hears.Goals as goal

@@ -2,7 +2,7 @@
 use Rattle.std.proofs.Common.{◌<◌, Err, length, refl, ◌∙◌, arith}
 use Rattle.std.proofs.lemmas.Option.{slice_get_read}
 use Rattle.bac_network.specs.Views.{event_view}
-use Rattle.bac_network.proofs.Running.{fault_is, goes_on, stops}
+use Rattle.bac_network.proofs.WorldRunning.{fault_is, goes_on, stops}
 use Rattle.bac_network.proofs.world.World.run.Goals as goal
 
 pub returns-in-Err-clause-stopped : goal.returns-in-Err-clause-stopped

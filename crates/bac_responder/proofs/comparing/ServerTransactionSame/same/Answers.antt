@@ -1,6 +1,6 @@
 -- First what never changes, then the state.
 use Rattle.bac_responder.proofs.Same.{by_state, by_origin, where_same}
-use Rattle.bac_responder.proofs.comparing.EntrySame.same.Goals as goal
+use Rattle.bac_responder.proofs.comparing.ServerTransactionSame.same.Goals as goal
 
 pub returns-then-is_same_origin : goal.returns-then-is_same_origin
 returns-then-is_same_origin c =
