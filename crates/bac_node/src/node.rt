@@ -185,7 +185,6 @@ impl Node {
             clients,
             servers,
             store,
-            room: Vec::new(alloc),
         })
     }
 
