@@ -30,7 +30,7 @@ fn serve<R: Clock>(rt: &R, bound_node: &mut BoundNode<UdpLink>, out: &mut Vec<u8
     let Ok(mut clock) = MonotonicClock::new(rt) else {
         return None;
     };
-    match bound_node.serve(&mut clock, &WaitLimit::UNTIL_DUE, 1) {
+    match bound_node.serve(&mut clock, &WaitLimit::until_due(), 1) {
         Ok(served) => writeln!(out, "served {served}").ok(),
         Err(_) => None,
     }
