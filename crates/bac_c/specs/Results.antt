@@ -3,7 +3,7 @@ use Rattle.std.specs.Prelude.{◌≡◌, ◌≤◌, ◌<◌, ◌++◌, ℕ, List
 use Rattle.std.specs.Option.{option_map}
 use Rattle.bac_transaction.specs.Meanings.{Finish}
 use Rattle.bac_transaction.specs.Sends.{Datagram}
-use Rattle.bac_requester.specs.Views.{finish_view}
+use Rattle.bac_requester.specs.Views.{ended_view}
 use Rattle.bac_world.specs.Node.{Node}
 use Rattle.bac_c.specs.Endings.{octets_of}
 use Rattle.bac_c.specs.declared.device.Device.{Device}
@@ -29,7 +29,7 @@ octets_sent (Some d) = d.octets
 -- the ending at an index, where an ask has ended
 abbrev pub end_in : Option Device → (index : ℕ) → Option Finish
 end_in None i = None
-end_in (Some d) i = option_map finish_view (slice_get d.outcome.ended.items i)
+end_in (Some d) i = option_map ended_view (slice_get d.outcome.ended.items i)
 
 abbrev pub octets_ended : Option Finish → List ℕ
 octets_ended None = []

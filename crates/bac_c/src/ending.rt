@@ -1,11 +1,11 @@
 //! How an ask ended, as a C program is told.
 ghost use Rattle.std.specs.Prelude.{◌≡◌};
-ghost use Rattle.bac_requester.specs.Views.{finish_view};
+ghost use Rattle.bac_requester.specs.Views.{ended_view};
 ghost use Rattle.bac_service.specs.Views.{owned_complex_view, owned_reply_view};
 ghost use Rattle.bac_c.specs.Endings.{complex_end, end_of as plain_end, octets_of as plain_octets, reply_end};
 
 use crate::records::End;
-use bac_requester::{Ending, Finish};
+use bac_requester::{Ended, Ending};
 use bac_service::{AnyComplex, AnyReply, FileWritten, OwnedComplex, OwnedReply};
 
 fn told(ticket: u64, how: u32, class: u32, code: u32, position: i64) -> End
@@ -44,11 +44,11 @@ fn of_reply(ticket: u64, reply: &OwnedReply) -> End
 }
 
 /// What a C program is told of a ticket that has ended.
-pub fn end_of(finish: &Finish) -> End
-    ensures { result ≡ plain_end (finish_view finish.now) }
+pub fn end_of(finish: &Ended) -> End
+    ensures { result ≡ plain_end (ended_view finish.now) }
 {
     let ticket = finish.ticket;
-    match &finish.how {
+    match &finish.ending {
         Ending::Answered(reply) => of_reply(ticket, reply),
         Ending::Rejected(reason) => told(ticket, 3, 0, u32::from(*reason), 0),
         Ending::Aborted(reason) => told(ticket, 4, 0, u32::from(*reason), 0),
@@ -58,10 +58,10 @@ pub fn end_of(finish: &Finish) -> End
 }
 
 /// The octets of values or of a file that came; none where none came.
-pub fn octets_of(finish: &Finish) -> &[u8]
-    ensures { result.now ≡ plain_octets (finish_view finish.now) }
+pub fn octets_of(finish: &Ended) -> &[u8]
+    ensures { result.now ≡ plain_octets (ended_view finish.now) }
 {
-    match &finish.how {
+    match &finish.ending {
         Ending::Answered(AnyReply::Complex(AnyComplex::PropertyRead(read))) => &read.values.octets,
         Ending::Answered(AnyReply::Complex(AnyComplex::FileRead(read))) => &read.content.octets,
         _ => &[],

@@ -3,7 +3,7 @@ use Rattle.std.proofs.Common.{◌≡◌, ◌⊎◌, ℕ, suc, ◌+◌, ◌<◌, 
 use Rattle.std.proofs.Common.{refl, ap, sym, subst, ◌∙◌, arith, add-one, inl, inr, slice_set}
 use Rattle.std.proofs.lemmas.List.{length-map, length-set}
 use Rattle.std.specs.List.{position}
-use Rattle.bac_requester.specs.declared.turn.Finish.{Finish}
+use Rattle.bac_requester.specs.declared.reaction.Ended.{Ended}
 use Rattle.bac_driver.specs.Runs.{Timed}
 use Rattle.bac_driver.specs.declared.wait_limit.WaitLimit.{WaitLimit}
 use Rattle.bac_driver.specs.declared.question.AskEnd.{AskEnd}
@@ -17,11 +17,11 @@ use Rattle.bac_command_line.proofs.InRounds.{and_true, both_and}
 
 -- ---- how many there are
 
-length_noted_at : (place : Option ℕ) (f : Finish) (fs : List Flight) → length (noted_at place f fs) ≡ length fs
+length_noted_at : (place : Option ℕ) (f : Ended) (fs : List Flight) → length (noted_at place f fs) ≡ length fs
 length_noted_at None f fs = refl
 length_noted_at (Some place) f fs = length-set fs place _
 
-pub length_all_noted : (finishes : List Finish) (fs : List Flight) → length (all_noted finishes fs) ≡ length fs
+pub length_all_noted : (finishes : List Ended) (fs : List Flight) → length (all_noted finishes fs) ≡ length fs
 length_all_noted [] fs = refl
 length_all_noted (f ∷ finishes) fs =
     length_all_noted finishes (noted f fs) ∙ length_noted_at (position (has_ticket f.ticket) fs) f fs

@@ -2,7 +2,7 @@
 use Rattle.std.specs.Prelude.{◌≡◌, ◌⊎◌, ℕ, ◌==◌, ◌<◌, ◌≤◌, ◌++◌, max, Bool, true, false, ◌&&◌, List, [], ◌∷◌, length, Option, Some, None, position, slice_set}
 use Rattle.std.specs.Io.KnownBytes.{Appends}
 use Rattle.bac_driver.specs.Moments.{with_moment}
-use Rattle.bac_requester.specs.declared.turn.Finish.{Finish}
+use Rattle.bac_requester.specs.declared.reaction.Ended.{Ended}
 use Rattle.bac_driver.specs.Asking as run
 use Rattle.bac_driver.specs.Asking.{Question}
 use Rattle.bac_driver.specs.Runs.{Run, Timed, timed}
@@ -63,15 +63,15 @@ pub record Aloft : Type 0 where
 abbrev pub aloft : Timed → List Flight → Aloft
 aloft at flights = record { at = at; flights = flights }
 
-abbrev pub noted_at : Option ℕ → Finish → List Flight → List Flight
+abbrev pub noted_at : Option ℕ → Ended → List Flight → List Flight
 noted_at None f fs = fs
-noted_at (Some place) f fs = slice_set fs place (flight.Over (end.Ended f.how))
+noted_at (Some place) f fs = slice_set fs place (flight.Over (end.Ended f.ending))
 
 -- the ask whose ticket has ended is over
-abbrev pub noted : Finish → List Flight → List Flight
+abbrev pub noted : Ended → List Flight → List Flight
 noted f fs = noted_at (position (has_ticket f.ticket) fs) f fs
 
-abbrev pub all_noted : List Finish → List Flight → List Flight
+abbrev pub all_noted : List Ended → List Flight → List Flight
 all_noted [] fs = fs
 all_noted (f ∷ more) fs = all_noted more (noted f fs)
 

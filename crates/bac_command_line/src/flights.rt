@@ -5,7 +5,7 @@ ghost use Rattle.bac_text.specs.Statuses.{IsFailure};
 ghost use Rattle.bac_command_line.specs.InFlight.{TakesFirst, all_noted, end_of, first_patience, has_ticket, noted, patience_of};
 
 use bac_driver::{AskEnd, Turn, WaitLimit};
-use bac_requester::Finish;
+use bac_requester::Ended;
 use bac_text::{Status, no_memory};
 use std::alloc::Global;
 use std::io::Write;
@@ -107,16 +107,16 @@ impl Flights {
     }
 
     /// Notes how a ticket ended.
-    fn note(&mut self, finish: Finish)
+    fn note(&mut self, finish: Ended)
         ensures { self.new.asks.items ≡ noted finish self.old.asks.items }
     {
         let Some(place) = self.place_of(finish.ticket) else {
             return;
         };
-        self.asks[place] = Flight::Over(AskEnd::Ended(finish.how));
+        self.asks[place] = Flight::Over(AskEnd::Ended(finish.ending));
     }
 
-    fn note_each(&mut self, finishes: Vec<Finish>)
+    fn note_each(&mut self, finishes: Vec<Ended>)
         ensures { self.new.asks.items ≡ all_noted finishes.items self.old.asks.items }
     {
         for finish in finishes {

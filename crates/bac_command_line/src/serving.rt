@@ -7,7 +7,7 @@ ghost use Rattle.bac_command_line.specs.Serving.{patience_of, restart_of, turns_
 
 use crate::address::{LOCAL_HOST, read_host};
 use bac_commands::link_fault;
-use bac_driver::{BoundNode, Clock, Link, Unwatched, WaitLimit};
+use bac_driver::{BoundNode, Clock, Link, NoObserver, WaitLimit};
 use bac_npdu::LinkAddress;
 use bac_text::Status;
 use clap::ArgMatches;
@@ -139,7 +139,7 @@ pub(crate) fn serve_from<L: Link, C: Clock, O: Write, E: Write>(
             clock,
             &wait_limit,
             turns,
-            &mut Unwatched,
+            &mut NoObserver,
             out,
             err,
         );

@@ -6,7 +6,7 @@ ghost use Rattle.bac_driver.specs.Views.{turn_view};
 ghost use Rattle.bac_commands.specs.Lines.{AreTurnLines};
 
 use crate::lines::turn_lines;
-use bac_driver::{Turn, Watch};
+use bac_driver::{Observer, Turn};
 use bac_node::Node;
 use std::alloc::Global;
 use std::io;
@@ -37,7 +37,7 @@ fn write_turn<W: Write>(
     out.write_all(lines.as_slice())
 }
 
-impl<W: Write> Watch<W> for Log {
+impl<W: Write> Observer<W> for Log {
     ghost use Rattle.bac_commands.specs.Logs as logs;
 
     ghost State = { logs.Log };
@@ -46,7 +46,7 @@ impl<W: Write> Watch<W> for Log {
 
     ghost Sees = { logs.Logs };
 
-    fn see(&mut self, node: &Node, buffer: &[u8], turn: &Turn, out: &mut W) {
+    fn on_turn(&mut self, node: &Node, buffer: &[u8], turn: &Turn, out: &mut W) {
         if self.whole {
             self.whole = write_turn(self, node, buffer, turn, out).is_ok();
         }

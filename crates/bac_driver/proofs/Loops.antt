@@ -13,6 +13,7 @@ use Rattle.bac_driver.specs.Seen.{Watcher, WatchesOnce, WatchesTurns, seen}
 use Rattle.bac_driver.specs.Serving.{IsBefore, IsOver, Serves, StopsAfter, StopsServing, TakesEarlyTurn, TakesTurns, TurnsWith, count_of}
 use Rattle.bac_driver.specs.declared.wait_limit.WaitLimit.{WaitLimit}
 use Rattle.bac_driver.specs.Asking.{EndsIn, NeverEnds, Stops, ending_in, ending_of}
+use Rattle.bac_driver.specs.Observed.{TakesObservedTurn, observed}
 
 -- ---- serving
 
@@ -58,6 +59,19 @@ once_watched Sees p from to began effects turn node buffer old new node_is buffe
           };
       told = told;
       counted = counted;
+    }
+
+pub seen_once : {S : Type 0} (Sees : Watcher S) (p : WaitLimit) (from to : S) (turn : Turn) (node : Node) (buffer : Octets) (old new : Timed)
+    → node ≡ new.bound_node.node → buffer ≡ new.bound_node.buffer → TakesEarlyTurn p old turn new → Sees (seen node buffer turn) from to
+    → TakesObservedTurn Sees p (observed old from) (seen node buffer turn) (observed new to)
+seen_once Sees p from to turn node buffer old new node_is buffer_is takes sees =
+    record {
+      takes =
+          record {
+            takes = takes;
+            is = ap (λ (n : Node). seen n buffer turn) node_is ∙ ap (λ (b : Octets). seen new.bound_node.node b turn) buffer_is;
+          };
+      sees = sees;
     }
 
 -- what a turn was, where it was taken, and where it was not

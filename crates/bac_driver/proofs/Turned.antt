@@ -1,12 +1,23 @@
 -- A turn, of its two parts.
-use Rattle.std.proofs.Common.{◌≡◌, ℕ, ◌+◌, ◌≤◌, min, List, ◌++◌, map, length, ap, sym, subst, ◌∙◌, arith, length-append}
+use Rattle.std.proofs.Common.{◌≡◌, ℕ, ◌+◌, ◌≤◌, min, Bool, true, false, inl, inr, List, ◌++◌, map, length, ap, sym, subst, ◌∙◌, arith, length-append}
 use Rattle.std.proofs.lemmas.List.{map-append}
 use Rattle.bac_protocol.specs.Service.{Octets}
+use Rattle.bac_protocol.specs.Wire.{is_from_client}
+use Rattle.bac_world.specs.Node.{IsHeardBy, Node, NodeOn, Outcome}
 use Rattle.bac_transaction.specs.Sends.{Datagram}
 use Rattle.bac_driver.specs.Calls.{Calls, MOST}
 use Rattle.bac_driver.specs.BoundNodes.{BoundNode}
-use Rattle.bac_driver.specs.Turns.{Acts, IsCarried, Step, Steps, Turn, call_of, counted, with_calls}
+use Rattle.bac_driver.specs.Turns.{Acts, IsCarried, NodeStep, Steps, Turn, call_of, counted, with_calls}
 use Rattle.bac_driver.proofs.Counts.{counted_both, with_more}
+
+-- a datagram that comes at a moment leaves the latest one of the node no later
+pub heard_in_time : (now : ℕ) (from octets : Octets) (old new : Node) (o : Outcome) → NodeOn now from octets old new o → new.latest ≤ now
+heard_in_time now from octets old new o (inl d) = subst (λ (n : Node). n.latest ≤ now) (sym d.node) (omega arith)
+heard_in_time now from octets old new o (inr z) = go (is_from_client z.apdu) z.heard
+  where
+    go : (server : Bool) → IsHeardBy server z.peer z.apdu now old new o → new.latest ≤ now
+    go true turn = subst (λ (n : Node). n.latest ≤ now) (sym turn.node) (omega arith)
+    go false turn = subst (λ (n : Node). n.latest ≤ now) (sym turn.node) (omega arith)
 
 -- what a step sends goes to the link
 pub record IsSentBy (sends : List Datagram) (lost : ℕ) (failures after : ℕ) (calls calls_after : Calls) : Type 0 where
@@ -35,7 +46,7 @@ carried_of a b all more lost old new is is_more sent =
     subst (λ (x : List Datagram). IsCarried (all ++ x) lost old new) is_more (subst (λ (x : List Datagram). IsCarried (x ++ b) lost old new) is sent)
 
 -- both steps of a bound_node that was so before them, over the octets that it had in its buffer
-pub acted : (now : ℕ) (seen : Octets) (before old new : BoundNode) (turn : Turn) (first second : Step) → before ≡ old → seen ≡ before.buffer
+pub acted : (now : ℕ) (seen : Octets) (before old new : BoundNode) (turn : Turn) (first second : NodeStep) → before ≡ old → seen ≡ before.buffer
     → turn.at ≡ now → new.buffer ≡ before.buffer → Steps now seen before.node new.node turn first second → IsCarried (first.sends ++ second.sends) turn.lost before new
     → Acts now old turn new
 acted now seen before old new turn first second is seen_is at same steps sent =

@@ -1,4 +1,4 @@
--- A node asks, and takes turns until its ticket has ended.
+-- A bound node asks, and takes turns until the transaction of its ticket has ended.
 use Rattle.std.specs.Prelude.{◌≡◌, ◌⊎◌, ◌<◌, ◌≤◌, ◌++◌, ◌==◌, ◌≢◌, ℕ, List, [], ◌∷◌, length, if◌then◌else◌, Option, Some, None}
 use Rattle.bac_npdu.specs.Peers.{PeerView}
 use Rattle.bac_apdu.specs.Apdu.{Limits}
@@ -41,7 +41,7 @@ pub record IsBegun (now : ℕ) (q : Question) (old : BoundNode) (ticket : ℕ) (
   pub carried : IsCarried sends lost old new
   pub buffer : new.buffer ≡ old.buffer
 
--- the same at the moment that the clock told
+-- the same at the moment of the clock
 pub record Asks (q : Question) (old : Timed) (ticket : ℕ) (new : Timed) : Type 0 where
   pub now : ℕ
   pub told : new.told ≡ with_moment old.told now
@@ -68,7 +68,7 @@ ending_of ticket (f ∷ fs) = if f.ticket == ticket then Some f.how else ending_
 abbrev pub ending_in : (ticket : ℕ) → Turn → Option Ending
 ending_in ticket turn = ending_of ticket (turn.ended ++ turn.tick_ended)
 
--- What follows speaks of the steps after an ask, each with what it gave, and of the turn in that of the node which asked.
+-- What follows is about the steps after an ask, each with what it returned, and the turn of the node which asked.
 
 -- none of these steps ended the ticket
 abbrev pub NoneEnds : {T : Type 0} → (turn_in : T → Turn) → (ticket : ℕ) → List T → Type 0
@@ -116,7 +116,7 @@ pub record Begins {S : Type 0} (begins : S → ℕ → S → Type 0) (rest : ℕ
   pub begun : begins old ticket asked
   pub rest_is : rest ticket asked new
 
--- ---- one node on its link: its turns begin before the last moment of its wait_limit
+-- ---- one bound node, whose turns begin in time
 
 abbrev pub own_turn : Turn → Turn
 own_turn turn = turn

@@ -1,4 +1,4 @@
--- A node on its link.
+-- A bound node: a node on its link.
 use Rattle.std.specs.Prelude.{ℕ}
 use Rattle.bac_protocol.specs.Service.{Octets}
 use Rattle.bac_driver.specs.Calls.{Calls}
@@ -8,7 +8,7 @@ use Rattle.bac_world.specs.Node.{Node}
 abbrev pub BUFFER : ℕ
 BUFFER = 2048
 
--- a node, and of its link how many calls failed, and which calls were made, where it tells; and the buffer for what comes
+-- a node; how many calls of its link failed, and which calls were made, where the link keeps them; and the buffer for what comes
 pub record BoundNode : Type 0 where
   pub node : Node
   pub failures : ℕ

@@ -1,4 +1,4 @@
--- What a link was asked to do, and what came of it.
+-- The calls of a link, and what they returned.
 use Rattle.std.specs.Prelude.{◌≡◌, ◌⊎◌, ℕ, ◌+◌, ◌<◌, ◌≤◌, ◌^◌, ◌-◌, min, List, [], ◌∷◌, ◌++◌, length, take, Option, Some, None, Result, Ok, Err}
 use Rattle.std.specs.Option.{option_map}
 use Rattle.bac_driver.specs.declared.link.LinkFault.{LinkFault}
@@ -10,14 +10,14 @@ pub data Call : Type 0 where
   ReceiveNothing : (wait : ℕ) → Call
   FailedReceive : Call
 
--- the calls so far in their order, where the link tells
+-- the calls so far in their order, where the link keeps them
 abbrev pub Calls : Type 0
 Calls = Option (List Call)
 
 abbrev pub with_call : Calls → Call → Calls
 with_call calls call = option_map (λ (cs : List Call). cs ++ call ∷ []) calls
 
--- a count of failures, which stays at its last value
+-- the largest count of failures, at which it stays
 abbrev pub MOST : ℕ
 MOST = 2 ^ 64 - 1
 

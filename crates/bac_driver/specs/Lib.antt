@@ -6,6 +6,7 @@ pub mod Runs
 pub mod Serving
 pub mod Seen
 pub mod Asking
+pub mod Observed
 pub mod Pairs
 pub mod Views
 pub mod Calls

@@ -1,4 +1,4 @@
--- Turns of a node that serves, as they are seen.
+-- Turns of a bound node, as an observer sees them.
 use Rattle.std.specs.Prelude.{◌≡◌, ◌⊎◌, ℕ, List, map, length}
 use Rattle.bac_protocol.specs.Service.{Octets}
 use Rattle.bac_world.specs.Node.{Node}
@@ -7,7 +7,7 @@ use Rattle.bac_driver.specs.Serving.{IsOver, StopsAfter, TakesEarlyTurn, count_o
 use Rattle.bac_driver.specs.Turns.{Turn}
 use Rattle.bac_driver.specs.declared.wait_limit.WaitLimit.{WaitLimit}
 
--- the node after a turn, the buffer, and what the turn gave
+-- the node after a turn, the buffer, and what the turn returned
 pub record Seen : Type 0 where
   pub node : Node
   pub buffer : Octets
@@ -19,16 +19,16 @@ seen node buffer turn = record { node = node; buffer = buffer; turn = turn }
 abbrev pub turn_of : Seen → Turn
 turn_of s = s.turn
 
--- what a watcher makes of a turn
+-- what an observer does with a turn
 abbrev pub Watcher : Type 0 → Type 1
 Watcher S = Seen → (old new : S) → Type 0
 
--- a turn that began before the last moment, and what was seen of it
+-- a turn that began in time, and what was seen of it
 pub record TakesSeenTurn (p : WaitLimit) (old : Timed) (s : Seen) (new : Timed) : Type 0 where
   pub takes : TakesEarlyTurn p old s.turn new
   pub is : s ≡ seen new.bound_node.node new.bound_node.buffer s.turn
 
--- the watcher saw it, and its state went on
+-- the observer saw it
 abbrev pub goes_on : {S : Type 0} → Watcher S → S → Seen → S → Type 0
 goes_on Sees old s new = Sees s old new
 

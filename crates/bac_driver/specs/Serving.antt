@@ -18,17 +18,17 @@ abbrev pub performed_in : List Turn → ℕ
 performed_in [] = 0
 performed_in (turn ∷ turns) = performed_in turns + count_of turn.performed
 
--- a moment is before that one, if there is one
+-- a moment is before another one, if there is one
 abbrev pub IsBefore : (now : ℕ) → (end : Option ℕ) → Type 0
 IsBefore now end = IfSome end (λ moment. now < moment)
 
--- a turn that began at a moment which the clock told, before the last one
+-- a turn that began at a moment of the clock, in time
 pub record TakesEarlyTurn (p : WaitLimit) (old : Timed) (turn : Turn) (new : Timed) : Type 0 where
   pub began : ℕ
   pub early : IsBefore began p.until
   pub takes : TakesTurnFrom began p (timed old.bound_node (with_moment old.told began)) turn new
 
--- the clock told the last moment, or a later one, and no turn was taken
+-- the clock gave a moment that is too late, and no turn was taken
 pub record IsOver (p : WaitLimit) (old new : Timed) : Type 0 where
   pub now : ℕ
   pub told : new.told ≡ with_moment old.told now

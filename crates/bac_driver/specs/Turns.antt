@@ -1,5 +1,5 @@
--- One turn of a node on a link: what has come is heard, all that is due is done, and what the node sends goes out.
-use Rattle.std.specs.Prelude.{◌≡◌, ◌⊎◌, ℕ, zero, suc, ◌+◌, ◌≤◌, List, [], ◌++◌, map, length, take, Option, Some, None, Ok, IfSome}
+-- One turn of a node on a link: it takes the datagram that has come, does all that is due, and sends what both return.
+use Rattle.std.specs.Prelude.{◌≡◌, ◌⊎◌, ℕ, zero, suc, ◌+◌, ◌≤◌, ◌<◌, List, [], ◌++◌, map, length, take, Option, Some, None, Ok, IfSome}
 use Rattle.std.specs.Option.{option_map}
 use Rattle.bac_protocol.specs.Service.{Octets}
 use Rattle.bac_transaction.specs.Sends.{Datagram}
@@ -8,13 +8,15 @@ use Rattle.bac_driver.specs.Calls.{Call, Calls, one_more, received, with_call}
 use Rattle.bac_driver.specs.Calls.Call.{Send}
 use Rattle.bac_world.specs.Node.{Cause, Node, Outcome, NodeOn, NodeTick}
 use Rattle.bac_world.specs.Services.{Performed}
-use Rattle.bac_node.specs.Calls.{IsNotHeard}
+use Rattle.bac_node.specs.Calls.{IsForNoneOpen, IsNotHeard}
+use Rattle.bac_node.specs.Waiting.{IsDueBy}
+use Rattle.bac_requester.specs.Timers.{LAST_MOMENT}
 use Rattle.bac_driver.specs.BoundNodes.{BoundNode}
 use Rattle.bac_driver.specs.Waits.{IsWait}
 use Rattle.bac_driver.specs.declared.wait_limit.WaitLimit.{WaitLimit}
 
--- what a turn answers: when the node acted; who sent the datagram that came, and how many octets it has; why it was dropped; what was sent for it, and by the
--- tick; failed sends, and steps that found no memory; what was performed; the tickets that ended by the datagram, and by the tick
+-- what a turn returns: when the node acted; who sent the datagram that came, and how many octets it has; why it was dropped; what was sent for it, and by the
+-- tick; failed sends, and steps that failed to allocate; what was performed; the tickets that the datagram ended, and those that the tick ended
 pub record Turn : Type 0 where
   pub at : ℕ
   pub received : Option (Octets × ℕ)
@@ -29,50 +31,56 @@ pub record Turn : Type 0 where
 
 -- ---- the steps of the node
 
--- what one step of the node gave; how often it was skipped: once or not
-pub record Step : Type 0 where
+-- what one step of the node returned; how often it was skipped: once or not
+pub record NodeStep : Type 0 where
   pub sends : List Datagram
   pub performed : Option Performed
   pub ended : List Finish
   pub dropped : Option Cause
   pub skipped : ℕ
 
-abbrev pub no_step : (skipped : ℕ) → Step
+abbrev pub no_step : (skipped : ℕ) → NodeStep
 no_step skipped = record { sends = []; performed = None; ended = []; dropped = None; skipped = skipped }
 
-abbrev pub step_of : Outcome → Step
+abbrev pub step_of : Outcome → NodeStep
 step_of o = record { sends = o.sends; performed = o.performed; ended = o.ended; dropped = o.dropped; skipped = 0 }
 
 -- the step was done
-pub record IsDone (goes_to : Node → Node → Outcome → Type 0) (old new : Node) (step : Step) : Type 0 where
+pub record IsDone (goes_to : Node → Node → Outcome → Type 0) (old new : Node) (step : NodeStep) : Type 0 where
   pub outcome : Outcome
   pub goes : goes_to old new outcome
   pub gives : step ≡ step_of outcome
 
--- it found no memory, and nothing has changed
-pub record IsSkipped (old new : Node) (step : Step) : Type 0 where
+-- allocation failed, and nothing has changed
+pub record IsSkipped (old new : Node) (step : NodeStep) : Type 0 where
   pub same : new ≡ old
   pub gives : step ≡ no_step 1
 
--- so it may be with a datagram that the node does not drop
-pub record IsUnheard (from octets : Octets) (old new : Node) (step : Step) : Type 0 where
+-- so it may be with a datagram that the node does not drop, and that is not for a transaction of the client which has ended
+pub record IsUnheard (from octets : Octets) (old new : Node) (step : NodeStep) : Type 0 where
   pub kept : IsNotHeard old.link from octets → ⊥
+  pub open : IsForNoneOpen from octets old.clients → ⊥
   pub skipped : IsSkipped old new step
 
--- a datagram is heard, or dropped, as the node does
-abbrev pub HearsOne : (now : ℕ) → (from octets : Octets) → (old new : Node) → Step → Type 0
+-- the node takes a datagram, or drops it
+abbrev pub HearsOne : (now : ℕ) → (from octets : Octets) → (old new : Node) → NodeStep → Type 0
 HearsOne now from octets old new step = IsDone (NodeOn now from octets) old new step ⊎ IsUnheard from octets old new step
 
 -- the one that came, if one did; its octets are the first of the buffer
-abbrev pub Hears : (now : ℕ) → (buffer : Octets) → Option (Octets × ℕ) → (old new : Node) → Step → Type 0
+abbrev pub Hears : (now : ℕ) → (buffer : Octets) → Option (Octets × ℕ) → (old new : Node) → NodeStep → Type 0
 Hears now buffer None old new step = (new ≡ old) × (step ≡ no_step 0)
 Hears now buffer (Some d) old new step = HearsOne now d.0 (take d.1 buffer) old new step
 
--- all that is due is done
-abbrev pub Ticks : (now : ℕ) → (old new : Node) → Step → Type 0
-Ticks now old new step = IsDone (NodeTick now) old new step ⊎ IsSkipped old new step
+-- so it may be with a tick where something is due
+pub record IsUnticked (now : ℕ) (old new : Node) (step : NodeStep) : Type 0 where
+  pub due : now < LAST_MOMENT → IsDueBy now old
+  pub skipped : IsSkipped old new step
 
--- ---- what the link is asked to do
+-- all that is due is done
+abbrev pub Ticks : (now : ℕ) → (old new : Node) → NodeStep → Type 0
+Ticks now old new step = IsDone (NodeTick now) old new step ⊎ IsUnticked now old new step
+
+-- ---- the calls of the link
 
 abbrev pub call_of : Datagram → Call
 call_of d = Send d.to d.octets
@@ -88,7 +96,7 @@ counted failures (suc lost) = one_more (counted failures lost)
 -- ---- the turn
 
 -- both steps, one after the other
-pub record Steps (now : ℕ) (buffer : Octets) (old new : Node) (turn : Turn) (first second : Step) : Type 0 where
+pub record Steps (now : ℕ) (buffer : Octets) (old new : Node) (turn : Turn) (first second : NodeStep) : Type 0 where
   pub middle : Node
   pub hears : Hears now buffer turn.received old middle first
   pub ticks : Ticks now middle new second
@@ -106,8 +114,8 @@ pub record IsCarried (sends : List Datagram) (lost : ℕ) (old new : BoundNode) 
   pub count : new.failures ≡ counted old.failures lost
   pub most : lost ≤ length sends
 
--- the link was called to receive once, at that moment, and waited until something was due, but no longer than it may; the datagram that came, if one did, stands
--- in the buffer
+-- the link was called to receive once, at that moment, and waited until something was due, but no longer than the limit says; the datagram that came, if one did,
+-- is in the buffer
 pub record Receives (p : WaitLimit) (now : ℕ) (old : BoundNode) (came : Option (Octets × ℕ)) (new : BoundNode) : Type 0 where
   pub within : IfSome came (λ d. d.1 ≤ length new.buffer)
   pub wait : ℕ
@@ -116,10 +124,10 @@ pub record Receives (p : WaitLimit) (now : ℕ) (old : BoundNode) (came : Option
   pub count : new.failures ≡ old.failures
   pub node : new.node ≡ old.node
 
--- the node heard what had come and did all that was due, and what it sent went to the link
+-- the node took what had come and did all that was due, and what it sent went to the link
 pub record Acts (now : ℕ) (old : BoundNode) (turn : Turn) (new : BoundNode) : Type 0 where
-  pub first : Step
-  pub second : Step
+  pub first : NodeStep
+  pub second : NodeStep
   pub at : turn.at ≡ now
   pub steps : Steps now old.buffer old.node new.node turn first second
   pub carried : IsCarried (first.sends ++ second.sends) turn.lost old new

@@ -1,5 +1,7 @@
--- What is known of a link over UDP.
-use Rattle.std.specs.Prelude.{ℕ, List, [], ◌∷◌}
+-- The addresses and the errors of a link over UDP.
+use Rattle.std.specs.Prelude.{ℕ, Bool, true, false, List, [], ◌∷◌}
+use Rattle.std_io.specs.declared.io.kind.ErrorKind.{ErrorKind}
+use Rattle.std_io.specs.declared.io.kind.ErrorKind.TheVariants as kind
 use Rattle.bac_driver.specs.declared.udp.UdpLink.{UdpLink}
 
 -- the address of this machine that no other one reaches
@@ -17,3 +19,10 @@ bound_port l = l.port
 -- its address (clause J.1.2)
 abbrev pub udp_address : UdpLink → List ℕ
 udp_address l = l.address
+
+-- the errors of the system which mean that no datagram came: the time was over (WouldBlock or TimedOut, by the system), or a signal came first (Interrupted)
+abbrev pub is_empty_wait : ErrorKind → Bool
+is_empty_wait kind.WouldBlock = true
+is_empty_wait kind.TimedOut = true
+is_empty_wait kind.Interrupted = true
+is_empty_wait _ = false

@@ -4,12 +4,12 @@ use Rattle.std.specs.Option.{option_map}
 use Rattle.bac_apdu.specs.Views.{limits_view}
 use Rattle.bac_npdu.specs.Views.{peer_view}
 use Rattle.bac_service.specs.Views.{owned_request_view}
-use Rattle.bac_requester.specs.Views.{finish_view}
+use Rattle.bac_requester.specs.Views.{ended_view}
 use Rattle.bac_node.specs.Views.{cause_view, performed_view}
 use Rattle.bac_driver.specs.Asking as asking
 use Rattle.bac_driver.specs.Turns as turns
 use Rattle.bac_driver.specs.declared.question.Question.{Question}
-use Rattle.bac_driver.specs.declared.step.Step.{Step}
+use Rattle.bac_driver.specs.declared.step.NodeStep.{NodeStep}
 use Rattle.bac_driver.specs.declared.turn.Turn.{Turn}
 
 abbrev pub turn_view : Turn → turns.Turn
@@ -23,17 +23,17 @@ turn_view t =
       lost = t.lost;
       skipped = t.skipped;
       performed = option_map performed_view t.effect;
-      ended = map finish_view t.ended.items;
-      tick_ended = map finish_view t.tick_ended.items;
+      ended = map ended_view t.ended.items;
+      tick_ended = map ended_view t.tick_ended.items;
     }
 
 -- what a step of the node gave
-abbrev pub step_view : Step → turns.Step
+abbrev pub step_view : NodeStep → turns.NodeStep
 step_view s =
     record {
       sends = s.sends.items;
       performed = option_map performed_view s.effect;
-      ended = map finish_view s.ended.items;
+      ended = map ended_view s.ended.items;
       dropped = option_map cause_view s.dropped;
       skipped = s.skipped;
     }

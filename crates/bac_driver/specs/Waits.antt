@@ -10,12 +10,12 @@ pub record IsDue (n : Node) (due : Option ℕ) : Type 0 where
   pub rests : MatchOption due (RestsUntil LAST_MOMENT n) (λ moment. RestsUntil moment n)
   pub moves : IfSome due (λ moment. MovesAt moment n)
 
--- so many milliseconds, but none beyond that moment
+-- at most so many milliseconds, and not past that moment
 abbrev pub wait_until : (most now : ℕ) → Option ℕ → ℕ
 wait_until most now None = most
 wait_until most now (Some moment) = min (moment - now) most
 
--- as long as it may wait, and no longer than until something is due
+-- as long as the limit says, and no longer than until something is due
 pub record IsWait (p : WaitLimit) (now : ℕ) (n : Node) (wait : ℕ) : Type 0 where
   pub due : Option ℕ
   pub is_due : IsDue n due
@@ -31,7 +31,7 @@ BRIEF = record { wait = 100; until = None }
 abbrev pub AT_ONCE : WaitLimit
 AT_ONCE = record { wait = 0; until = None }
 
--- for ever
+-- without end
 abbrev pub MOST : ℕ
 MOST = 2 ^ 64 - 1
 

@@ -1,8 +1,11 @@
-//! A node that asks.
+//! A bound node that asks, and waits for the answer.
+//!
+//! Programs call it; the methods and their contracts are the interface.
 ghost use Rattle.std.specs.Prelude.{◌≢◌, IfOk, IfErr, IsErrOf, MatchOption};
 ghost use Rattle.bac_driver.specs.Runs.{GoesBack, TurnFails, timed};
 ghost use Rattle.bac_driver.specs.Serving.{IsOver, TakesEarlyTurn};
 ghost use Rattle.bac_driver.specs.Asking.{Asks, AskingEnds, AskingFails, IsRefused, WaitingFails, WaitsSo};
+ghost use Rattle.bac_driver.specs.Observed.{ObservedAsk, ObservedWait, observed};
 ghost use Rattle.bac_driver.specs.Views.{question_view, turn_view};
 
 use crate::bound_node::BoundNode;
@@ -11,14 +14,12 @@ use crate::fault::TurnFault;
 use crate::question::{AskEnd, Question};
 use crate::turn::Turn;
 use crate::wait_limit::WaitLimit;
-use crate::watch::{Unwatched, Watch};
+use crate::observer::{NoObserver, Observer};
 use crate::{Clock, Link};
 use bac_requester::{AskFault, Ending};
 
 impl<L: Link> BoundNode<L> {
-    /// The node asks at the moment that a clock tells. Answers the ticket's number.
-    ///
-    /// It is refused as `Node::ask` is. After an Err the bound_node is as before.
+    /// [`begin`](BoundNode::begin) at the moment of a clock. Returns the ticket.
     pub fn begin_by<C: Clock>(
         &mut self,
         clock: &mut C,
@@ -33,7 +34,8 @@ impl<L: Link> BoundNode<L> {
         self.begin(clock.now(), question)
     }
 
-    /// One turn as [`turn_by`](BoundNode::turn_by), where it begins before the last moment of its wait_limit, if there is one; otherwise None, and nothing has changed.
+    /// Takes one turn as [`turn_by`](BoundNode::turn_by), where it begins before `wait_limit.until`, if there is one. Otherwise it returns None, and nothing has
+    /// changed.
     pub fn turn_before<C: Clock>(
         &mut self,
         clock: &mut C,
@@ -51,25 +53,28 @@ impl<L: Link> BoundNode<L> {
         Ok(Some(turn))
     }
 
-    /// Takes turns until the ticket has ended, but no more than so many, and none that would begin at the last moment of its wait_limit or later. The watcher
-    /// sees each.
-    fn wait<C: Clock, W, V: Watch<W>>(
+    /// Takes turns until the transaction of the ticket has ended, but no more than so many, and none that would begin at `wait_limit.until` or later. The
+    /// observer sees each.
+    fn wait<C: Clock, W, O: Observer<W>>(
         &mut self,
         clock: &mut C,
         ticket: u64,
         wait_limit: &WaitLimit,
         turns: u64,
-        watch: &mut V,
+        observer: &mut O,
         out: &mut W,
     ) -> Result<Option<Ending>, TurnFault>
         ensures waited { IfOk result (WaitsSo wait_limit.now turns ticket (timed self.old (C.told clock.old)) (timed self.new (C.told clock.new))) }
+        ensures observed { IfOk result (ObservedWait O.Sees wait_limit.now turns ticket
+            (observed (timed self.old (C.told clock.old)) (O.state observer.old out.old))
+            (observed (timed self.new (C.told clock.new)) (O.state observer.new out.new))) }
         ensures failed { IfErr result (λ e. WaitingFails e wait_limit.now turns ticket (timed self.old (C.told clock.old)) (timed self.new (C.told clock.new))) }
     {
         for _ in 0..turns {
             let Some(turn) = self.turn_before(clock, wait_limit)? else {
                 return Ok(None);
             };
-            watch.see(self.node(), self.buffer(), &turn, out);
+            observer.on_turn(self.node(), self.buffer(), &turn, out);
             if let Some(ending) = ending_in(turn, ticket) {
                 return Ok(Some(ending));
             }
@@ -77,22 +82,25 @@ impl<L: Link> BoundNode<L> {
         Ok(None)
     }
 
-    /// The node asks, and takes turns, at the moments that a clock tells, until its ticket has ended, but no more than so many, and none that would begin at the
-    /// last moment of its wait_limit or later; a turn waits no longer than its wait_limit says.
+    /// The node asks, and takes turns at the moments of a clock until the transaction has ended, but no more than so many, and none that would begin at
+    /// `wait_limit.until` or later. Each turn waits as long as `wait_limit` says. The observer sees each turn, in order, and no other.
     ///
-    /// `Link` where the link could not receive, `ClockBack` where the clock went back; the turns before it stand. The watcher sees each turn, and may tell of
-    /// it.
-    pub fn ask_watched<C: Clock, W, V: Watch<W>>(
+    /// `Link` where the link could not receive, `ClockBack` where the clock went back: the node keeps what the turns before have done, and the transaction
+    /// stays open.
+    pub fn ask_observed<C: Clock, W, O: Observer<W>>(
         &mut self,
         clock: &mut C,
         question: &Question,
         wait_limit: &WaitLimit,
         turns: u64,
-        watch: &mut V,
+        observer: &mut O,
         out: &mut W,
     ) -> Result<AskEnd, TurnFault>
         ensures ended { IfOk result (λ end. AskingEnds (question_view question.now) end wait_limit.now turns
             (timed self.old (C.told clock.old)) (timed self.new (C.told clock.new))) }
+        ensures observed { IfOk result (λ end. ObservedAsk O.Sees (question_view question.now) end wait_limit.now turns
+            (observed (timed self.old (C.told clock.old)) (O.state observer.old out.old))
+            (observed (timed self.new (C.told clock.new)) (O.state observer.new out.new))) }
         ensures failed { IfErr result (λ e. AskingFails (question_view question.now) e wait_limit.now turns
             (timed self.old (C.told clock.old)) (timed self.new (C.told clock.new))) }
     {
@@ -101,13 +109,13 @@ impl<L: Link> BoundNode<L> {
             Err(AskFault::ClockBack) => return Err(TurnFault::ClockBack),
             Err(fault) => return Ok(AskEnd::Refused(fault)),
         };
-        match self.wait(clock, ticket, wait_limit, turns, watch, out)? {
+        match self.wait(clock, ticket, wait_limit, turns, observer, out)? {
             Some(ending) => Ok(AskEnd::Ended(ending)),
             None => Ok(AskEnd::NoEnding),
         }
     }
 
-    /// The same, watched by nobody.
+    /// The same without an observer.
     pub fn ask<C: Clock>(
         &mut self,
         clock: &mut C,
@@ -120,6 +128,6 @@ impl<L: Link> BoundNode<L> {
         ensures failed { IfErr result (λ e. AskingFails (question_view question.now) e wait_limit.now turns
             (timed self.old (C.told clock.old)) (timed self.new (C.told clock.new))) }
     {
-        self.ask_watched(clock, question, wait_limit, turns, &mut Unwatched, &mut ())
+        self.ask_observed(clock, question, wait_limit, turns, &mut NoObserver, &mut ())
     }
 }

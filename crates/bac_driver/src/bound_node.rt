@@ -1,4 +1,6 @@
-//! A node on its link.
+//! A bound node: a node on its link, with a buffer for what comes, and one turn of it.
+//!
+//! Programs, `serving`, `asking` and `pairing` call it. The methods and their contracts are the interface; the fields and the private methods may change.
 ghost use Rattle.std.specs.Prelude.{◌≡◌, ◌↔◌, ◌<◌, ◌≤◌, length, IfOk, IfErr, IfSome, IsErrOf, OnErr};
 ghost use Rattle.bac_driver.specs.Calls.{one_more, with_call};
 ghost use Rattle.bac_driver.specs.Calls.Call.{FailedReceive};
@@ -13,7 +15,7 @@ ghost use Rattle.bac_driver.specs.Views.{question_view, turn_view};
 use crate::fault::TurnFault;
 use crate::question::Question;
 use crate::sending::send_all;
-use crate::step::{hear_received, tick};
+use crate::step::{on_due, on_received};
 use crate::turn::{Received, Turn};
 use crate::wait_limit::{WaitLimit, wait_until};
 use crate::{Clock, Link};
@@ -23,10 +25,14 @@ use bac_value::NoMemory;
 use std::alloc::Global;
 use std::marker::Model;
 
-/// How many octets of a datagram are received. A frame of the greatest APDU has at most 1,514 (clauses 6 and 20.1, annex J).
+/// How many octets of a datagram are received. A frame of the longest APDU has at most 1,514 (clauses 6 and 20.1, annex J).
 const BUFFER: usize = 2_048;
 
 /// A node on its link, with a buffer of 2,048 octets for what comes.
+///
+/// To serve, call [`serve`](BoundNode::serve); to ask and wait for the answer, call [`ask`](BoundNode::ask). Both take turns. A program that does more at once calls
+/// [`begin`](BoundNode::begin) for each ask, and then [`turn_by`](BoundNode::turn_by) or [`turn_before`](BoundNode::turn_before) again and again: each turn waits until
+/// a datagram comes or something is due, so no call to [`Node::next_due`](bac_node::Node::next_due) is needed.
 #[derive(Drop)]
 pub struct BoundNode<L: Link> {
     alloc: Global,
@@ -47,7 +53,7 @@ impl<L: Link> Model for BoundNode<L> {
 }
 
 impl<L: Link> BoundNode<L> {
-    /// That node on that link; an Err where the memory for the buffer is refused.
+    /// Binds a node to a link. `NoMemory` where the buffer can't be allocated.
     pub fn new(alloc: Global, node: Node, link: L) -> Result<BoundNode<L>, NoMemory>
         ensures node { IfOk result (λ s. s.node ≡ node) }
         ensures failures { IfOk result (λ s. s.failures ≡ L.failures link) }
@@ -78,7 +84,7 @@ impl<L: Link> BoundNode<L> {
         &self.link
     }
 
-    /// Its buffer, of 2,048 octets: what came last stands at the front.
+    /// Its buffer, of 2,048 octets. It begins with the datagram that came last.
     pub fn buffer(&self) -> &[u8]
         ensures octets { result.now ≡ self.now.buffer }
         ensures size { length result.now ≡ BUFFER }
@@ -86,7 +92,7 @@ impl<L: Link> BoundNode<L> {
         &self.buffer
     }
 
-    /// How long a call to receive at that moment waits.
+    /// How long a call to receive at that moment waits, in milliseconds.
     fn wait_at(&self, now: u64, wait_limit: &WaitLimit) -> u64
         ensures { IsWait wait_limit.now now self.now.node result }
     {
@@ -112,16 +118,16 @@ impl<L: Link> BoundNode<L> {
         Ok(self.link.recv(&mut self.buffer, wait)?)
     }
 
-    /// The node hears what came, and then does all that is due, at a moment that is not before its latest one; what it sends goes to the link.
+    /// The node takes what came, and then does all that is due, at a moment that is not before its latest one; what it sends goes to the link.
     fn act(&mut self, now: u64, received: Received) -> Turn
         requires within { IfSome received (λ d. d.1 ≤ length self.old.buffer) }
         requires timely { self.old.node.latest ≤ now }
         ensures acted { Acts now self.old (turn_view result) self.new }
         ensures received { result.received ≡ received }
     {
-        let first = hear_received(self.alloc, &mut self.node, now, received, &self.buffer);
+        let first = on_received(self.alloc, &mut self.node, now, received, &self.buffer);
         let first_lost = send_all(&mut self.link, &first.sends);
-        let second = tick(self.alloc, &mut self.node, now);
+        let second = on_due(self.alloc, &mut self.node, now);
         let second_lost = send_all(&mut self.link, &second.sends);
         Turn {
             at: now,
@@ -137,13 +143,14 @@ impl<L: Link> BoundNode<L> {
         }
     }
 
-    /// One turn at a moment in milliseconds: one call to receive into the buffer; the node hears the datagram, if one came; then it does all that is due.
-    /// The call waits until the first moment at which something is due (`Node::next_due`), but no longer than 100 milliseconds: all that the turn does is
-    /// done at the one moment.
-    /// What each step sends goes to the link at once, in order; a send that fails is lost, and changes nothing else. A step that finds no memory is skipped.
+    /// Takes one turn at a moment in milliseconds: it receives once; the node takes the datagram, if one came; then the node does all that is due. It is for
+    /// simulations, where the moment stays the same during the turn; with a clock, call [`turn_by`](BoundNode::turn_by).
     ///
-    /// `ClockBack` exactly where the moment is before the node's latest one; then nothing is received. `Link` where the link could not receive. After an Err
-    /// the node is as before. Beside the node's steps it takes no memory.
+    /// The call to receive waits until something is due (`Node::next_due`), but no longer than 100 milliseconds. What each step sends goes to the link at once,
+    /// in order; a send that fails is lost, and changes nothing else. A step that fails to allocate is skipped.
+    ///
+    /// `ClockBack` exactly where the moment is before the node's latest one; then it receives nothing. `Link` where the link could not receive. After a fault
+    /// the node is as before. It allocates nothing but what the node does.
     pub fn turn(&mut self, now: u64) -> Result<Turn, TurnFault>
         ensures turned { IfOk result (λ t. IsTurn BRIEF now now self.old (turn_view t) self.new) }
         ensures size { length self.new.buffer ≡ BUFFER }
@@ -157,8 +164,8 @@ impl<L: Link> BoundNode<L> {
         Ok(self.act(now, received))
     }
 
-    /// One turn that begins at a moment, as `turn`; but the call to receive waits as long as is said, and once it has ended the node acts at the moment that
-    /// the clock then tells, or at the first one where the clock went back meanwhile.
+    /// Takes one turn that begins at a moment, as `turn`; but the call to receive waits as long as `wait_limit` says, and after it the node acts at the moment of
+    /// the clock, or at the first one where the clock went back meanwhile.
     pub(crate) fn turn_from<C: Clock>(
         &mut self,
         began: u64,
@@ -179,9 +186,10 @@ impl<L: Link> BoundNode<L> {
         Ok(self.act(now, received))
     }
 
-    /// The node asks at a moment in milliseconds, and what it sends goes to the link, in order; a send that fails is lost. Answers the ticket's number.
+    /// The node asks at a moment in milliseconds, and what it sends goes to the link, in order; a send that fails is lost. Returns the ticket: the answer is in
+    /// the `ended` or `tick_ended` of a later turn.
     ///
-    /// It is refused as `Node::ask` is. After an Err the bound_node is as before.
+    /// The faults are those of `Node::ask`. After a fault the bound node is as before.
     pub fn begin(&mut self, now: u64, question: &Question) -> Result<u64, AskFault>
         ensures begun { IfOk result (λ ticket. IsBegun now (question_view question.now) self.old ticket self.new) }
         ensures refused { IfErr result (λ e. Refuses e now (question_view question.now).peer (question_view question.now).limits

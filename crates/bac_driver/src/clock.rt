@@ -1,4 +1,4 @@
-//! Clocks that tell a node the moment.
+//! Clocks: where the moments of a bound node come from. Programs bring one or use [`MonotonicClock`]; tests bring their own.
 ghost use Rattle.std.specs.Prelude.{◌≡◌, ◌≤◌, IfOk};
 ghost use Rattle.bac_driver.specs.Moments.{Told, with_moment};
 ghost use Rattle.bac_driver.specs.Clocks.{latest_told, told_by};
@@ -6,9 +6,7 @@ ghost use Rattle.bac_driver.specs.Clocks.{latest_told, told_by};
 use std::io;
 use std::time::Instant;
 
-/// What tells a node the moment. A clock may go back.
-///
-/// It knows the moment that it told last, and may tell all of them.
+/// Gives the moments of a bound node. A clock may go back: then a turn fails with `ClockBack`.
 pub trait Clock {
     ghost told: { Self → Told };
 
@@ -17,7 +15,7 @@ pub trait Clock {
         ensures tells { Self.told self.new ≡ with_moment (Self.told self.old) result };
 }
 
-/// The milliseconds since it was made, by the machine's clock that never goes back. Where that can't be read, the latest moment that it told.
+/// The milliseconds since it was made, by the machine's monotonic clock. Where that can't be read, the latest moment that it gave.
 #[derive(Drop)]
 pub struct MonotonicClock<'a, R> {
     runtime: &'a R,

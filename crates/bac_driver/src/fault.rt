@@ -1,4 +1,4 @@
-//! Why a turn was not taken.
+//! Why a turn was not taken. Programs match on it and print its number: new cases, texts and numbers are changes of the interface.
 ghost use Rattle.std.specs.Prelude.{◌≡◌};
 ghost use Rattle.bac_driver.specs.Faults.{fault_number};
 ghost use Rattle.bac_driver.specs.declared.fault.TurnFault.TheVariants as fault;
@@ -6,13 +6,13 @@ ghost use Rattle.bac_driver.specs.declared.fault.TurnFault.TheVariants as fault;
 use crate::LinkFault;
 use thiserror::Error;
 
-/// Why a turn was not taken. The node is as before, and the turns before it stand.
+/// Why a turn was not taken. The node is as it was after the turn before.
 #[derive(Clone, Copy, Debug, PartialEq, Eq, Error)]
 pub enum TurnFault {
     /// The link could not receive.
     #[error("the link could not receive")]
     Link,
-    /// The moment is before the latest one that the node was told. Tested first; nothing is received.
+    /// The moment is before the latest one of the node. It is tested first; nothing is received.
     #[error("the clock went back")]
     ClockBack,
 }

@@ -1,7 +1,7 @@
-//! Nodes on links, a turn at a time: what has come is heard, all that is due is done, and what the node sends goes out. And runs of them by a clock: one that
-//! serves, one that asks, and two in one process.
+//! Runs a node on a link, by a clock: [`BoundNode`] receives datagrams, gives them to its node, ticks it when something is due, and sends what it returns.
 //!
-//! Links that carry datagrams, and clocks: what a node's turns stand on (clause J.1).
+//! Programs use it to serve, to ask, and to do both in one process ([`pair`]). A [`Link`] carries datagrams, as [`UdpLink`] does (clause J.1), and a [`Clock`]
+//! gives the moments; tests bring their own. A program that has its own event loop can do without this crate and call bac_node itself.
 #![tactic(auto)]
 
 mod asking;
@@ -10,6 +10,7 @@ mod clock;
 mod endings;
 mod fault;
 mod link;
+mod observer;
 mod pairing;
 mod question;
 mod sending;
@@ -18,7 +19,6 @@ mod step;
 mod turn;
 mod udp;
 mod wait_limit;
-mod watch;
 
 pub use bound_node::BoundNode;
 pub use clock::{Clock, MonotonicClock};
@@ -29,7 +29,7 @@ pub use question::{AskEnd, Question};
 pub use turn::Turn;
 pub use udp::UdpLink;
 pub use wait_limit::WaitLimit;
-pub use watch::{Unwatched, Watch};
+pub use observer::{NoObserver, Observer};
 
 #[cfg(test)]
 mod tests;

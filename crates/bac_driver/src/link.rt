@@ -1,4 +1,4 @@
-//! What carries datagrams from and to a node.
+//! Links: what carries datagrams to and from a bound node. Programs bring one or use `UdpLink`; tests bring their own.
 ghost use Rattle.std.specs.Prelude.{◌≡◌, ℕ, ◌≤◌, length, IfOk, IfSome};
 ghost use Rattle.std.specs.Option.{option_map};
 ghost use Rattle.bac_driver.specs.Calls.{Calls, IsCounted, received, with_call};
@@ -12,9 +12,9 @@ use thiserror::Error;
 #[error("a call of the link failed")]
 pub struct LinkFault;
 
-/// What carries datagrams from and to a node. Addresses are those of clause J.1.2: four octets of an IP address and two of a UDP port.
+/// Carries datagrams to and from a bound node. Addresses are those of clause J.1.2: four octets of an IPv4 address and two of a UDP port.
 ///
-/// A link counts its failures, and may tell which calls were made and what came of them.
+/// A link counts its failures.
 pub trait Link: Drop {
     ghost failures: { Self → ℕ };
 
@@ -24,13 +24,13 @@ pub trait Link: Drop {
     fn failures(&self) -> u64
         ensures { result ≡ Self.failures self.now };
 
-    /// Hands a datagram over to be sent to an address. After an Err it is lost.
+    /// Sends a datagram to an address. After a fault it is lost.
     fn send(&mut self, to: LinkAddress, octets: &[u8]) -> Result<(), LinkFault>
         ensures counted { IsCounted result (Self.failures self.old) (Self.failures self.new) }
         ensures told { Self.calls self.new ≡ with_call (Self.calls self.old) (Send to octets.now) };
 
-    /// Waits for a datagram, so many milliseconds at most. Its sender, and how many octets it has; the octets are the first of the buffer, and of a longer
-    /// datagram those that fit it. None where no datagram has come.
+    /// Waits for a datagram, at most so many milliseconds. Returns its sender, and how many octets it has: they are the first of the buffer, and of a longer
+    /// datagram those that fit. None where no datagram has come.
     fn recv(
         &mut self,
         buffer: &mut [u8],

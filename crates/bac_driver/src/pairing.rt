@@ -1,4 +1,4 @@
-//! Two nodes in one process, each on its own link; the first of them asks.
+//! Two bound nodes in one process, each on its own link; the first of them asks. Programs and tests call [`pair`].
 ghost use Rattle.std.specs.Prelude.{IfOk, IfErr};
 ghost use Rattle.bac_driver.specs.Asking.{Waits};
 ghost use Rattle.bac_driver.specs.Pairs.{IsBeside, PairEnds, PairFails, RoundFails, RoundGives, RoundsFail, TakesRound, paired, turn_of_first};
@@ -15,7 +15,7 @@ use bac_requester::{AskFault, Ending};
 
 /// How long the second node may wait after a turn of the first: until something is due at that one, and not at all where a datagram came to it, since more may
 /// have come.
-fn patience_beside<L: Link>(first: &BoundNode<L>, turn: &Turn) -> WaitLimit
+fn wait_limit_beside<L: Link>(first: &BoundNode<L>, turn: &Turn) -> WaitLimit
     ensures { IsBeside first.now.node (turn_view turn.now) result }
 {
     let wait = match turn.received {
@@ -28,7 +28,7 @@ fn patience_beside<L: Link>(first: &BoundNode<L>, turn: &Turn) -> WaitLimit
     }
 }
 
-/// A turn of the first node, which doesn't wait, and then one of the second. Answers what the first turn gave.
+/// A turn of the first node, which doesn't wait, and then one of the second. Returns the turn of the first.
 fn take_round<L: Link, C: Clock>(
     first: &mut BoundNode<L>,
     second: &mut BoundNode<L>,
@@ -40,11 +40,11 @@ fn take_round<L: Link, C: Clock>(
         (paired first.old second.old (C.told clock.old)) (paired first.new second.new (C.told clock.new))) }
 {
     let turn = first.turn_by(clock, &WaitLimit::AT_ONCE)?;
-    second.turn_by(clock, &patience_beside(first, &turn))?;
+    second.turn_by(clock, &wait_limit_beside(first, &turn))?;
     Ok(turn)
 }
 
-/// Takes rounds until the ticket of the first node has ended, but no more than so many.
+/// Takes rounds until the transaction of the first node has ended, but no more than so many.
 fn wait<L: Link, C: Clock>(
     first: &mut BoundNode<L>,
     second: &mut BoundNode<L>,

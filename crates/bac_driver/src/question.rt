@@ -1,4 +1,4 @@
-//! What a node is to ask, and how asking ended.
+//! What a bound node is to ask, and how asking ended. Programs fill in and read the fields: a change of them is a change of the interface.
 use bac_apdu::Limits;
 use bac_npdu::Peer;
 use bac_requester::{AskFault, Ending};
@@ -18,10 +18,10 @@ pub struct Question {
 /// How asking ended.
 #[derive(Drop)]
 pub enum AskEnd {
-    /// The ticket has ended.
+    /// The transaction has ended.
     Ended(Ending),
-    /// The node refused the ask, for a reason other than a clock that goes back. Nothing has changed.
+    /// The node refused the ask, for a fault other than `ClockBack`. Nothing has changed.
     Refused(AskFault),
-    /// All turns were taken, or the time for them is over, and the ticket is open.
+    /// All turns were taken, or the time for them is over, and the transaction is still open.
     NoEnding,
 }

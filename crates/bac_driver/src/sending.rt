@@ -1,4 +1,4 @@
-//! Handing datagrams to a link.
+//! Sending the datagrams that a node returned. `bound_node` calls it; all here is private to the crate.
 ghost use Rattle.std.specs.Prelude.{◌≡◌, ◌≤◌, length, map};
 ghost use Rattle.bac_driver.specs.Calls.{with_call};
 ghost use Rattle.bac_driver.specs.Turns.{counted, call_of, with_calls};
@@ -6,7 +6,7 @@ ghost use Rattle.bac_driver.specs.Turns.{counted, call_of, with_calls};
 use crate::Link;
 use bac_transaction::Datagram;
 
-/// Hands a datagram to a link; how many sends failed: 0 or 1.
+/// Sends a datagram; returns how many sends failed: 0 or 1.
 fn send_one<L: Link>(link: &mut L, datagram: &Datagram) -> u64
     ensures count { L.failures link.new ≡ counted (L.failures link.old) result }
     ensures told { L.calls link.new ≡ with_call (L.calls link.old) (call_of datagram.now) }
@@ -18,7 +18,7 @@ fn send_one<L: Link>(link: &mut L, datagram: &Datagram) -> u64
     }
 }
 
-/// Hands datagrams to a link, each once, in their order. Answers how many sends failed: those are lost.
+/// Sends datagrams, each once, in their order. Returns how many sends failed: those are lost.
 pub(crate) fn send_all<L: Link>(link: &mut L, sends: &[Datagram]) -> u64
     ensures count { L.failures link.new ≡ counted (L.failures link.old) result }
     ensures order { L.calls link.new ≡ with_calls (L.calls link.old) (map call_of sends.now) }

@@ -1,4 +1,6 @@
-//! A node that serves.
+//! A bound node that serves: turn after turn, for so many turns or until a moment.
+//!
+//! Programs call it; the methods and their contracts are the interface.
 ghost use Rattle.std.specs.Prelude.{◌≡◌, ◌↔◌, ◌<◌, ◌≤◌, IfOk, IfErr, IfSome, IsTrue, MatchOption};
 ghost use Rattle.bac_driver.specs.Runs.{TakesTurn, TurnFails, timed};
 ghost use Rattle.bac_driver.specs.Seen.{Watches, WatchesOnce};
@@ -9,7 +11,7 @@ use crate::bound_node::BoundNode;
 use crate::fault::TurnFault;
 use crate::turn::Turn;
 use crate::wait_limit::WaitLimit;
-use crate::watch::{Unwatched, Watch};
+use crate::observer::{NoObserver, Observer};
 use crate::{Clock, Link};
 
 impl WaitLimit {
@@ -25,8 +27,8 @@ impl WaitLimit {
 }
 
 impl<L: Link> BoundNode<L> {
-    /// One turn at the moments that a clock tells: one when it begins, and one once the call to receive has ended, at which the node acts; where the clock
-    /// went back between them, it acts at the first. It is as `turn`, but the call waits as long as is said.
+    /// Takes one turn by a clock. It begins at one moment, and once the call to receive has returned, the node acts at the next; where the clock went back between
+    /// them, at the first. It is as [`turn`](BoundNode::turn), but waits as long as `wait_limit` says.
     ///
     /// `ClockBack` exactly where the first moment is before the node's latest one; then nothing is received.
     pub fn turn_by<C: Clock>(
@@ -41,19 +43,19 @@ impl<L: Link> BoundNode<L> {
         self.turn_from(began, clock, wait_limit)
     }
 
-    /// The same where it begins before the last moment, if there is one, and the watcher sees it; how many requests were performed: 0 or 1.
-    fn serve_once<C: Clock, W, V: Watch<W>>(
+    /// The same where it begins before `wait_limit.until`, if there is one, and the observer sees it. Returns how many requests were performed: 0 or 1.
+    fn serve_once<C: Clock, W, O: Observer<W>>(
         &mut self,
         clock: &mut C,
         wait_limit: &WaitLimit,
-        watch: &mut V,
+        observer: &mut O,
         out: &mut W,
     ) -> Result<Option<u64>, TurnFault>
-        ensures served { IfOk result (λ r. IfSome r (λ effects. WatchesOnce V.Sees wait_limit.now (V.state watch.old out.old) (V.state watch.new out.new)
+        ensures served { IfOk result (λ r. IfSome r (λ effects. WatchesOnce O.Sees wait_limit.now (O.state observer.old out.old) (O.state observer.new out.new)
             effects (timed self.old (C.told clock.old)) (timed self.new (C.told clock.new)))) }
         ensures over { IfOk result (λ r. MatchOption r (IsOver wait_limit.now (timed self.old (C.told clock.old)) (timed self.new (C.told clock.new)))
             (λ effects. effects ≤ 1)) }
-        ensures unseen { IfOk result (λ r. MatchOption r (V.state watch.new out.new ≡ V.state watch.old out.old) (λ effects. effects ≤ 1)) }
+        ensures unseen { IfOk result (λ r. MatchOption r (O.state observer.new out.new ≡ O.state observer.old out.old) (λ effects. effects ≤ 1)) }
         ensures failed { IfErr result (λ e. TurnFails e (timed self.old (C.told clock.old)) (timed self.new (C.told clock.new))) }
     {
         let began = clock.now();
@@ -61,34 +63,34 @@ impl<L: Link> BoundNode<L> {
             return Ok(None);
         }
         let turn = self.turn_from(began, clock, wait_limit)?;
-        watch.see(self.node(), self.buffer(), &turn, out);
+        observer.on_turn(self.node(), self.buffer(), &turn, out);
         match turn.effect {
             Some(_) => Ok(Some(1)),
             None => Ok(Some(0)),
         }
     }
 
-    /// The node takes so many turns, at the moments that a clock tells, but none that would begin at the last moment of its wait_limit or later; a turn waits
-    /// no longer than its wait_limit says. The watcher sees each, and may tell of it. Answers how many requests it performed.
+    /// Takes so many turns at the moments of a clock, but none that would begin at `wait_limit.until` or later. Each waits as long as `wait_limit` says. The
+    /// observer sees each turn, in order, and no other. Returns how many requests the node performed.
     ///
-    /// `Link` where the link could not receive, `ClockBack` where the clock went back, both in the turn after those that stand.
-    pub fn serve_watched<C: Clock, W, V: Watch<W>>(
+    /// `Link` where the link could not receive, `ClockBack` where the clock went back: the node keeps what the turns before have done.
+    pub fn serve_observed<C: Clock, W, O: Observer<W>>(
         &mut self,
         clock: &mut C,
         wait_limit: &WaitLimit,
         turns: u64,
-        watch: &mut V,
+        observer: &mut O,
         out: &mut W,
     ) -> Result<u64, TurnFault>
         ensures served { IfOk result (λ effects. Serves wait_limit.now turns effects (timed self.old (C.told clock.old))
             (timed self.new (C.told clock.new))) }
-        ensures watched { IfOk result (λ effects. Watches V.Sees wait_limit.now (V.state watch.old out.old) (V.state watch.new out.new) turns effects
+        ensures watched { IfOk result (λ effects. Watches O.Sees wait_limit.now (O.state observer.old out.old) (O.state observer.new out.new) turns effects
             (timed self.old (C.told clock.old)) (timed self.new (C.told clock.new))) }
         ensures failed { IfErr result (λ e. ServingFails e wait_limit.now turns (timed self.old (C.told clock.old)) (timed self.new (C.told clock.new))) }
     {
         let mut effects = 0;
         for _ in 0..turns {
-            let once = self.serve_once(clock, wait_limit, watch, out)?;
+            let once = self.serve_once(clock, wait_limit, observer, out)?;
             let Some(more) = once else {
                 return Ok(effects);
             };
@@ -97,7 +99,7 @@ impl<L: Link> BoundNode<L> {
         Ok(effects)
     }
 
-    /// The same, watched by nobody.
+    /// The same without an observer.
     pub fn serve<C: Clock>(
         &mut self,
         clock: &mut C,
@@ -108,6 +110,6 @@ impl<L: Link> BoundNode<L> {
             (timed self.new (C.told clock.new))) }
         ensures failed { IfErr result (λ e. ServingFails e wait_limit.now turns (timed self.old (C.told clock.old)) (timed self.new (C.told clock.new))) }
     {
-        self.serve_watched(clock, wait_limit, turns, &mut Unwatched, &mut ())
+        self.serve_observed(clock, wait_limit, turns, &mut NoObserver, &mut ())
     }
 }

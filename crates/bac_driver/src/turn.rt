@@ -1,19 +1,19 @@
-//! What a turn gave.
+//! What a turn returns. Observers and programs read the fields: a change of them is a change of the interface.
 use bac_node::Cause;
 use bac_npdu::LinkAddress;
-use bac_requester::Finish;
+use bac_requester::Ended;
 use bac_responder::Act;
 use bac_transaction::Datagram;
 
-/// The sender of the datagram that came, and how many octets it has: they are the first of the bound_node's buffer. None where no datagram came.
+/// The sender of the datagram that came, and how many octets it has: they are the first of `BoundNode::buffer`. None where no datagram came.
 pub(crate) type Received = Option<(LinkAddress, usize)>;
 
-/// What a turn gave.
+/// What a turn of a bound node returns. All that it sends has been handed to the link.
 #[derive(Drop)]
 pub struct Turn {
     /// The moment at which the node acted, in milliseconds.
     pub at: u64,
-    /// The sender of the datagram that came, and how many octets it has: they are the first of the bound_node's buffer. None where no datagram came.
+    /// The sender of the datagram that came, and how many octets it has: they are the first of `BoundNode::buffer`. None where no datagram came.
     pub received: Option<(LinkAddress, usize)>,
     /// Why the node dropped the datagram, if it did.
     pub dropped: Option<Cause>,
@@ -23,12 +23,12 @@ pub struct Turn {
     pub tick_sends: Vec<Datagram>,
     /// How many sends failed, at most 2^64 - 1.
     pub lost: u64,
-    /// How many steps of the node found no memory: 0 to 2. They changed nothing.
+    /// How many of the two steps, to take the datagram and to tick, failed to allocate: 0 to 2. They changed nothing; a datagram that is lost so comes again.
     pub skipped: u8,
-    /// What was performed.
+    /// The request that was performed, with its reply, if one was.
     pub effect: Option<Act>,
-    /// The tickets that ended by the datagram.
-    pub ended: Vec<Finish>,
-    /// The tickets that ended by the tick, in ascending order of peer and invoke ID.
-    pub tick_ended: Vec<Finish>,
+    /// The transactions of the client that the datagram ended: at most one.
+    pub ended: Vec<Ended>,
+    /// The transactions of the client that the tick ended, in ascending order of peer and invoke ID.
+    pub tick_ended: Vec<Ended>,
 }

@@ -1,7 +1,8 @@
-//! A link over UDP (clause J.1).
+//! A link over UDP (clause J.1): [`UdpLink`]. Programs bind it; the methods and their contracts are the interface.
 ghost use Rattle.std.specs.Prelude.{◌≡◌, ℕ, None, IfOk};
+ghost use Rattle.std_io.specs.IoError.{error_kind};
 ghost use Rattle.bac_driver.specs.Calls.{one_more};
-ghost use Rattle.bac_driver.specs.Udp.{LOCAL_HOST, bound_host, bound_port, udp_address};
+ghost use Rattle.bac_driver.specs.Udp.{LOCAL_HOST, bound_host, bound_port, is_empty_wait, udp_address};
 
 use crate::link::{Link, LinkFault};
 use bac_npdu::LinkAddress;
@@ -10,16 +11,16 @@ use std::io::ErrorKind;
 use std::net::{Ipv4Addr, Net, SocketAddr, UdpSocket};
 use std::time::Duration;
 
-/// The shortest wait for a datagram, in milliseconds: a socket takes no time-out of 0.
+/// The shortest wait for a datagram, in milliseconds: a socket takes no timeout of 0.
 const LEAST_WAIT: u64 = 1;
 
-/// The longest wait of one call, in milliseconds: a day. Systems differ in how long a time-out they take.
+/// The longest wait of one call, in milliseconds: a day. Systems differ in how long a timeout they take.
 const MOST_WAIT: u64 = 86_400_000;
 
 /// The address of this machine that no other one reaches.
 const LOCAL_HOST: [u8; 4] = [127, 0, 0, 1];
 
-/// A UDP socket. A call of `recv` that is to wait 0 milliseconds waits 1, and none waits longer than a day.
+/// A UDP socket. A call of `recv` with a wait of 0 milliseconds waits 1, and none waits longer than a day.
 #[derive(Drop)]
 pub struct UdpLink {
     socket: UdpSocket,
@@ -27,7 +28,7 @@ pub struct UdpLink {
     host: [u8; 4],
     /// The port that was asked for.
     port: u16,
-    /// The address that the system tells.
+    /// The address that the system has bound.
     address: LinkAddress,
     /// How long the socket waits for a datagram, in milliseconds.
     wait: u64,
@@ -125,8 +126,10 @@ impl UdpLink {
     }
 }
 
-/// Whether no datagram came in time, or a signal came first.
-fn is_empty_wait(error: &io::Error) -> bool {
+/// Whether an error of the system means that no datagram came in time, or that a signal came first. Any other one is a failure of the link.
+fn is_empty_wait(error: &io::Error) -> bool
+    ensures { result ≡ is_empty_wait (error_kind error.now) }
+{
     matches!(
         error.kind(),
         ErrorKind::WouldBlock | ErrorKind::TimedOut | ErrorKind::Interrupted

@@ -1,13 +1,13 @@
-//! How long turns wait.
+//! How long a turn may wait for a datagram. Programs make one for each kind of run; the fields are the interface.
 ghost use Rattle.std.specs.Prelude.{◌≡◌};
-ghost use Rattle.bac_driver.specs.Waits.{wait_until};
+ghost use Rattle.bac_driver.specs.Waits.{UNTIL_DUE, wait_until};
 
-/// How long a turn may wait for a datagram where nothing is due.
+/// How long a turn may wait for a datagram. It never waits past the moment at which something is due.
 #[derive(Clone, Copy, Debug, PartialEq, Eq)]
 pub struct WaitLimit {
-    /// So many milliseconds at most; 2^64 - 1 is as long as the link can.
+    /// At most so many milliseconds; 2^64 - 1 is as long as the link can.
     pub wait: u64,
-    /// And not beyond this moment, in milliseconds, if there is one.
+    /// And not past this moment, in milliseconds, if there is one.
     pub until: Option<u64>,
 }
 
@@ -24,14 +24,18 @@ impl WaitLimit {
         until: None,
     };
 
-    /// Until something is due.
-    pub const UNTIL_DUE: WaitLimit = WaitLimit {
-        wait: u64::MAX,
-        until: None,
-    };
+    /// Until something is due, however long that is.
+    pub fn until_due() -> WaitLimit
+        ensures { result ≡ UNTIL_DUE }
+    {
+        WaitLimit {
+            wait: u64::MAX,
+            until: None,
+        }
+    }
 }
 
-/// So many milliseconds, but none beyond that moment.
+/// At most so many milliseconds, and not past that moment.
 pub(crate) fn wait_until(most: u64, now: u64, moment: Option<u64>) -> u64
     ensures { result ≡ wait_until most now moment }
 {

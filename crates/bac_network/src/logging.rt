@@ -2,7 +2,7 @@
 ghost use Rattle.std.specs.Prelude.{◌≡◌, ◌+◌, ◌≤◌, List, [], ◌∷◌, length, map, vec_capacity};
 ghost use Rattle.std.specs.Option.{option_map};
 ghost use Rattle.bac_node.specs.Views.{performed_view};
-ghost use Rattle.bac_requester.specs.Views.{finish_view};
+ghost use Rattle.bac_requester.specs.Views.{ended_view};
 ghost use Rattle.bac_world.specs.Node.{Node};
 ghost use Rattle.bac_world.specs.World.{AreEnded, AreLogged, IsLogged};
 ghost use Rattle.bac_journal.specs.Views.{AreLinks};
@@ -11,29 +11,32 @@ ghost use Rattle.bac_network.specs.Views.{log_view};
 
 use crate::fact::Fact;
 use bac_journal::{Journal, Transaction};
-use bac_requester::Finish;
+use bac_requester::Ended;
 use bac_responder::{Act, Effect};
 
 /// The ending of a node's ticket comes into the log, which has room for it.
-fn log_ending(log: &mut Vec<Fact>, journal: &Journal, node: usize, finish: Finish)
+fn log_ending(log: &mut Vec<Fact>, journal: &Journal, node: usize, finish: Ended)
     requires room { length log.old.items + 1 ≤ vec_capacity log.old }
-    requires noted { AreNoted journal.now.notes node (finish_view finish ∷ []) }
-    ensures log { AreEnded journal.now.notes node (finish_view finish ∷ []) (log_view log.old.items) (log_view log.new.items) }
+    requires noted { AreNoted journal.now.notes node (ended_view finish ∷ []) }
+    ensures log { AreEnded journal.now.notes node (ended_view finish ∷ []) (log_view log.old.items) (log_view log.new.items) }
     ensures many { length log.new.items ≡ length log.old.items + 1 }
     ensures room { vec_capacity log.new ≡ vec_capacity log.old }
 {
-    let Finish { ticket, how } = finish;
+    let Ended { ticket, ending } = finish;
     let Some(number) = journal.ask_of(node, ticket) else {
         unreachable!()
     };
-    log.push_reserved(Fact::Ended { number, how });
+    log.push_reserved(Fact::Ended {
+        number,
+        how: ending,
+    });
 }
 
 /// The endings of a node's tickets come into the log, which has room for them.
-pub(crate) fn log_endings(log: &mut Vec<Fact>, journal: &Journal, node: usize, ended: Vec<Finish>)
+pub(crate) fn log_endings(log: &mut Vec<Fact>, journal: &Journal, node: usize, ended: Vec<Ended>)
     requires room { length log.old.items + length ended.items ≤ vec_capacity log.old }
-    requires noted { AreNoted journal.now.notes node (map finish_view ended.items) }
-    ensures log { AreEnded journal.now.notes node (map finish_view ended.items) (log_view log.old.items) (log_view log.new.items) }
+    requires noted { AreNoted journal.now.notes node (map ended_view ended.items) }
+    ensures log { AreEnded journal.now.notes node (map ended_view ended.items) (log_view log.old.items) (log_view log.new.items) }
     ensures many { length log.new.items ≡ length log.old.items + length ended.items }
     ensures room { vec_capacity log.new ≡ vec_capacity log.old }
 {

@@ -6,7 +6,7 @@ use Rattle.bac_service.specs.Requests.{SpellsRequest}
 use Rattle.bac_service.specs.Values.{Request, choice_of}
 use Rattle.bac_protocol.specs.Service.{Octets}
 use Rattle.bac_transaction.specs.Ends.{AskOutcome, ClientEnd, requester_ask}
-use Rattle.bac_requester.specs.Turns as requester
+use Rattle.bac_requester.specs.Reactions as requester
 use Rattle.bac_requester.specs.declared.asking.Asked.{Asked}
 use Rattle.bac_requester.specs.declared.ask_fault.AskFault.{AskFault}
 use Rattle.bac_requester.specs.declared.ask_fault.AskFault.TheVariants as fault

@@ -10,16 +10,16 @@ use Rattle.bac_transaction.specs.Meanings.{Finish, IsFinish}
 use Rattle.bac_transaction.specs.Sends.{Datagram, IsSent, Pairwise}
 use Rattle.bac_transaction.specs.Services as server
 use Rattle.bac_transaction.specs.Services.{service_of}
-use Rattle.bac_requester.specs.Turns as requester
-use Rattle.bac_requester.specs.Views.{finish_view}
-use Rattle.bac_requester.specs.declared.turn.Due.{Due}
+use Rattle.bac_requester.specs.Reactions as requester
+use Rattle.bac_requester.specs.Views.{ended_view}
+use Rattle.bac_requester.specs.declared.reaction.Reaction.{Reaction}
 use Rattle.bac_responder.specs.Turns.{AreActed, IsServed, performed_by}
 use Rattle.bac_responder.specs.Views.{acted_view}
 use Rattle.bac_responder.specs.declared.served.Act.{Act}
 use Rattle.bac_world.specs.Node.{Node, Outcome, IsHeardBy}
 use Rattle.bac_world.specs.Services.{ArePerformed, store_after}
 use Rattle.bac_world.proofs.Pairs.{pairwise_join}
-use Rattle.bac_node.specs.Calls.{IsDue}
+use Rattle.bac_node.specs.Calls.{IsTickOfBoth}
 use Rattle.bac_node.specs.Views.{performed_view}
 
 -- The server's end.
@@ -52,12 +52,12 @@ server_turned now old v t peer a sent x o did sends ended performed dropped =
 
 -- A tick.
 
-pub due_joined : (now : ℕ) (n : Node) (x y : Due) (more : List Datagram) → requester.IsDue (requester_tick n.settings now n.clients) x
+pub both_joined : (now : ℕ) (n : Node) (x y : Reaction) (more : List Datagram) → requester.IsReaction (requester_tick n.settings now n.clients) x
     → Pairwise IsSent (responder_tick n.settings now n.servers).sends more
-    → y.sends.items ≡ x.sends.items ++ more → map finish_view y.ended.items ≡ map finish_view x.ended.items → IsDue now n y
-due_joined now n x y more told server sends ended =
+    → y.sends.items ≡ x.sends.items ++ more → map ended_view y.ended.items ≡ map ended_view x.ended.items → IsTickOfBoth now n y
+both_joined now n x y more told server sends ended =
     record {
       sends = subst (λ (l : List Datagram). Pairwise IsSent ((requester_tick n.settings now n.clients).sends ++ (responder_tick n.settings now n.servers).sends) l)
           (sym sends) (pairwise_join IsSent _ _ _ _ told.sends server);
-      ended = subst (λ (l : List Finish). Pairwise IsFinish (requester_tick n.settings now n.clients).ended l) (sym ended) told.finishes;
+      ended = subst (λ (l : List Finish). Pairwise IsFinish (requester_tick n.settings now n.clients).ended l) (sym ended) told.ended;
     }

@@ -1,21 +1,24 @@
--- What a call makes of a node.
-use Rattle.std.specs.Prelude.{◌≡◌, ◌≢◌, ◌⊎◌, ◌<◌, ◌++◌, ℕ, map, Result, Ok, Err}
+-- What a call of a node does.
+use Rattle.std.specs.Prelude.{◌≡◌, ◌≢◌, ◌⊎◌, ◌<◌, ◌++◌, ℕ, false, map, Result, Ok, Err}
 use Rattle.bac_npdu.specs.Peers.{PeerView}
 use Rattle.bac_apdu.specs.Apdu.{Apdu, Limits}
+use Rattle.bac_apdu.specs.Spelling.{SpellsApdu}
+use Rattle.bac_npdu.specs.Datagram.{Means}
 use Rattle.bac_service.specs.Requests.{SpellsRequest}
 use Rattle.bac_service.specs.Values.{Request, choice_of}
 use Rattle.bac_protocol.specs.Service.{Octets}
 use Rattle.bac_protocol.specs.Sizes.{RequestFault}
 use Rattle.bac_protocol.specs.Wire.{is_from_client}
 use Rattle.bac_value.specs.declared.memory.NoMemory.{NoMemory}
-use Rattle.bac_transaction.specs.Ends.{Accepted, AskOutcome, AskRefusal, CannotGo, requester_ask, requester_tick, responder_tick}
+use Rattle.bac_transaction.specs.Ends.{Accepted, AskOutcome, AskRefusal, CannotGo, ClientEnd, key_of, requester_ask, requester_tick, responder_tick}
 use Rattle.bac_transaction.specs.Meanings.{IsFinish}
 use Rattle.bac_transaction.specs.Sends.{IsSent, Pairwise}
-use Rattle.bac_requester.specs.Views.{finish_view}
+use Rattle.bac_requester.specs.Reactions.{HasNoneOpen}
+use Rattle.bac_requester.specs.Views.{ended_view}
 use Rattle.bac_requester.specs.declared.ask_fault.AskFault.{AskFault}
 use Rattle.bac_requester.specs.declared.ask_fault.AskFault.TheVariants as fault
 use Rattle.bac_requester.specs.declared.asking.Asked.{Asked}
-use Rattle.bac_requester.specs.declared.turn.Due.{Due}
+use Rattle.bac_requester.specs.declared.reaction.Reaction.{Reaction}
 use Rattle.bac_world.specs.Node.{Node, Refusal, IsHeardBy, NodeAsks, NodeRefuses}
 use Rattle.bac_world.specs.Laws.{IsMeaningless}
 use Rattle.bac_node.specs.Views.{outcome_view}
@@ -25,10 +28,14 @@ use Rattle.bac_node.specs.declared.outcome.Outcome.{Outcome}
 abbrev pub IsNotHeard : (link from octets : Octets) → Type 0
 IsNotHeard link from octets = (from ≡ link) ⊎ IsMeaningless from octets
 
--- an APDU of a peer was heard, or memory was refused and nothing has changed
-abbrev pub Hears : (now : ℕ) → PeerView → Apdu → (old : Node) → Result Outcome NoMemory → (new : Node) → Type 0
-Hears now peer a old (Ok o) new = IsHeardBy (is_from_client a) peer a now old new (outcome_view o)
-Hears now peer a old (Err e) new = new ≡ old
+-- each APDU that a datagram means is for the client's end, which has no transaction open for it
+abbrev pub IsForNoneOpen : (from octets : Octets) → ClientEnd → Type 0
+IsForNoneOpen from octets e = (peer : PeerView) (a : Apdu) → Means SpellsApdu from octets peer a → (is_from_client a ≡ false) × HasNoneOpen e (key_of peer a)
+
+-- an APDU of a peer went to the end that it is for, or allocation failed and nothing has changed
+abbrev pub Dispatches : (now : ℕ) → PeerView → Apdu → (old : Node) → Result Outcome NoMemory → (new : Node) → Type 0
+Dispatches now peer a old (Ok o) new = IsHeardBy (is_from_client a) peer a now old new (outcome_view o)
+Dispatches now peer a old (Err e) new = new ≡ old
 
 -- the node after a tick
 abbrev pub ticked : (now : ℕ) → Node → Node
@@ -40,20 +47,20 @@ ticked now n =
     }
 
 -- what a tick of both ends sends and ends
-pub record IsDue (now : ℕ) (n : Node) (x : Due) : Type 0 where
+pub record IsTickOfBoth (now : ℕ) (n : Node) (x : Reaction) : Type 0 where
   pub sends : Pairwise IsSent ((requester_tick n.settings now n.clients).sends ++ (responder_tick n.settings now n.servers).sends) x.sends.items
-  pub ended : Pairwise IsFinish (requester_tick n.settings now n.clients).ended (map finish_view x.ended.items)
+  pub ended : Pairwise IsFinish (requester_tick n.settings now n.clients).ended (map ended_view x.ended.items)
 
 -- An ask.
 
--- it was accepted: its ticket and its invoke ID are told
+-- it was accepted, with this ticket and this invoke ID
 pub record IsAsked (now : ℕ) (peer : PeerView) (limits : Limits) (r : Request) (old new : Node) (x : Asked) : Type 0 where
   pub accepted : Accepted
   pub asks : NodeAsks now peer limits r old new accepted x.sends.items
   pub ticket : x.ticket ≡ accepted.ticket
   pub invoke_id : x.invoke_id ≡ accepted.invoke_id
 
--- it would be, were there memory
+-- it would be accepted, if memory could be allocated
 pub record WouldAsk (now : ℕ) (peer : PeerView) (limits : Limits) (r : Request) (n : Node) : Type 0 where
   pub octets : Octets
   pub spelled : SpellsRequest (choice_of r) r octets

@@ -6,7 +6,7 @@ use Rattle.bac_npdu.specs.declared.fault.Dropped.TheVariants as dropped
 use Rattle.bac_service.specs.Views.{owned_request_view, owned_reply_view}
 use Rattle.bac_protocol.specs.Context.{Settings}
 use Rattle.bac_transaction.specs.Views.{peer_key_view}
-use Rattle.bac_requester.specs.Views.{finish_view}
+use Rattle.bac_requester.specs.Views.{ended_view}
 use Rattle.bac_responder.specs.declared.served.Act.{Act}
 use Rattle.bac_world.specs.Node as world
 use Rattle.bac_world.specs.Services.{Performed}
@@ -36,6 +36,6 @@ outcome_view o =
     record {
       sends = o.sends.items;
       performed = option_map performed_view o.effect;
-      ended = map finish_view o.ended.items;
+      ended = map ended_view o.ended.items;
       dropped = option_map cause_view o.dropped;
     }

@@ -1,8 +1,8 @@
--- How long a node has nothing to do by itself.
+-- How long a node has nothing to do without a datagram.
 use Rattle.std.specs.Prelude.{◌≡◌, ◌≢◌, ℕ, ◌<◌, ◌≤◌, []}
 use Rattle.bac_world.specs.Node.{Node, NodeTick, Outcome}
 
--- nothing is sent, performed or ended, and neither end changes
+-- nothing is sent or ended, and neither end changes
 pub record IsIdleTick (now : ℕ) (old new : Node) (o : Outcome) : Type 0 where
   pub node : new ≡ record old { latest = now }
   pub sends : o.sends ≡ []
@@ -16,3 +16,9 @@ RestsUntil due n = (now : ℕ) (new : Node) (o : Outcome) → n.latest ≤ now �
 pub record MovesAt (due : ℕ) (n : Node) : Type 0 where
   pub timely : n.latest ≤ due
   pub moves : (new : Node) (o : Outcome) → NodeTick due n new o → new ≢ record n { latest = due }
+
+-- something is due by then: at that moment, or at an earlier one, a tick changes an end
+pub record IsDueBy (now : ℕ) (n : Node) : Type 0 where
+  pub due : ℕ
+  pub reached : due ≤ now
+  pub moves : MovesAt due n

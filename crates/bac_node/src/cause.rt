@@ -1,23 +1,23 @@
-//! Why a datagram is dropped.
+//! Why a node drops a datagram. Programs print and count it: new cases and numbers are changes of the interface.
 ghost use Rattle.std.specs.Prelude.{◌≡◌};
 ghost use Rattle.bac_node.specs.Faults.{cause_number};
 
 use bac_npdu::FrameFault;
 
-/// Why a datagram is not looked at: the first of these that holds.
+/// Why a node drops a datagram: the first of these that holds.
 #[derive(Clone, Copy, Debug, PartialEq, Eq)]
 pub enum Cause {
-    /// It is no BVLL (clause J.2).
+    /// Its octets are no BVLL message (clause J.2).
     Bvll(FrameFault),
-    /// It is one, of octets that are no NPDU (clause 6.2).
+    /// The BVLL message holds no NPDU (clause 6.2).
     Npdu(FrameFault),
-    /// The NPDU is to be routed elsewhere: it has a destination (clause 6.2.2).
+    /// The NPDU has a destination: it is to be routed elsewhere (clause 6.2.2).
     Routed,
     /// The NPDU is a network message (clause 6.2.4).
     NetworkMessage,
-    /// The octets in the NPDU are no APDU (clause 20.1).
+    /// The octets in the NPDU are no APDU that this stack reads (clause 20.1).
     Apdu,
-    /// It comes from the node's own link.
+    /// It comes from the address of the node itself.
     OwnLink,
 }
 

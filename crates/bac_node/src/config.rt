@@ -1,18 +1,18 @@
-//! What a node is made of.
+//! What `Node::new` is given beside the store. Whoever makes a node fills it in: a new field is a change of the interface.
 use bac_apdu::Limits;
 use bac_npdu::LinkAddress;
 
-/// What a node is made of, beside its store.
+/// The configuration of a node.
 #[derive(Clone, Copy, Debug, PartialEq, Eq)]
 pub struct Config {
-    /// The node's own link.
+    /// The node's own address on its link.
     pub link: LinkAddress,
-    /// What it takes of APDUs, and of replies in segments.
+    /// What it takes of APDUs and of segments (clause 20.1.2).
     pub limits: Limits,
-    /// The greatest window that it proposes or grants: 1 to 64 segments.
+    /// The largest window that it proposes or grants: 1 to 64 segments (clause 5.3).
     pub window: u8,
-    /// How many asks can have a slot at once: 1 to 1,024.
+    /// How many transactions of the client it has room for: 1 to 1,024.
     pub client_slots: usize,
-    /// How many entries the reply table can have at once: 1 to 1,024.
+    /// How many transactions of the server it has room for: 1 to 1,024.
     pub reply_slots: usize,
 }

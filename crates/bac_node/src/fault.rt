@@ -1,4 +1,4 @@
-//! Why a call of a node is refused.
+//! Why a call of a node fails. Programs print the numbers: new cases, texts and numbers are changes of the interface.
 ghost use Rattle.std.specs.Prelude.{◌≡◌};
 ghost use Rattle.bac_node.specs.Faults.{fault_number, new_fault_number};
 ghost use Rattle.bac_node.specs.declared.fault.NewNodeFault.TheVariants as new_fault;
@@ -7,7 +7,7 @@ ghost use Rattle.bac_node.specs.declared.fault.NodeFault.TheVariants as fault;
 use bac_value::NoMemory;
 use thiserror::Error;
 
-/// Why a node was not made. They are tested in this order.
+/// Why a node can't be made: the first of these that holds.
 #[derive(Clone, Copy, Debug, PartialEq, Eq, Error)]
 pub enum NewNodeFault {
     /// A number of slots is not 1 to 1,024.
@@ -16,7 +16,7 @@ pub enum NewNodeFault {
     /// The window is not 1 to 64.
     #[error("the window is out of range")]
     BadWindow,
-    /// Memory was refused.
+    /// The tables can't be allocated.
     #[error("no memory")]
     NoMemory,
 }
@@ -42,13 +42,13 @@ impl From<NoMemory> for NewNodeFault {
     }
 }
 
-/// Why a call did nothing: the node is as before, its latest moment too.
+/// Why a call did nothing: the node is as before, and so is its latest moment.
 #[derive(Clone, Copy, Debug, PartialEq, Eq, Error)]
 pub enum NodeFault {
-    /// The moment is before the latest one that the node was told. Tested first.
+    /// The moment is before the latest one of the node. It is tested first.
     #[error("the clock went back")]
     ClockBack,
-    /// Memory was refused.
+    /// Memory can't be allocated.
     #[error("no memory")]
     NoMemory,
 }

@@ -1,7 +1,7 @@
-//! What holds of each node, whatever is called.
+//! Laws of all nodes, for callers that need them in a proof. They do nothing when they run.
 ghost use Rattle.bac_node.specs.Capacities.{CapacitiesStay};
 
-/// A node's tables can have as many slots after each call as before it: from `Node::new` on those of its `Config`.
+/// No call changes how many slots the tables of a node have: they are those of its [`Config`](crate::Config).
 #[tactic(auto, using(crate::proofs::Capacities::capacities_stay))]
 pub fn capacities_stay()
     ensures { CapacitiesStay }

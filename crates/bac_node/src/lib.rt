@@ -1,15 +1,16 @@
-//! A node in code: its client's end, its server's end and its store, told by datagrams, by ticks and by asks.
+//! A BACnet node without input or output: its client's end, its server's end and its store.
 //!
-//! Each call does exactly what bac_world's definitions of a node say. Memory is taken before anything changes.
+//! bac_driver runs one on a socket, bac_network many in one process, and bac_c gives it to C. [`Node`] says which calls to make, and when. Each call does exactly
+//! what bac_world's definitions of a node say. All memory is allocated before anything changes.
 #![tactic(auto)]
 
 mod cause;
 mod config;
 mod fault;
-mod hearing;
 mod law;
 mod node;
 mod outcome;
+mod reading;
 
 pub use cause::Cause;
 pub use config::Config;

@@ -1,6 +1,10 @@
-//! A node.
-ghost use Rattle.std.specs.Prelude.{◌≡◌, ◌≢◌, ◌↔◌, ◌<◌, ◌≤◌, [], true, false, map, count_by, vec_capacity};
-ghost use Rattle.std.specs.Prelude.{IfErr, IfOk, IsErrOf, IsSome, IfSome, IsTrue, OnErr, OnOk, MatchOption, None};
+//! A node: [`Node`], a BACnet device that asks and answers, without input or output.
+//!
+//! A driver (bac_driver, bac_c, a program of your own) owns the socket and the clock. It calls [`Node::on`] for each datagram, [`Node::tick`] when something is
+//! due, and [`Node::ask`] to begin a request; it sends what they return, and waits until [`Node::next_due`]. The methods, their contracts and [`Outcome`] are the
+//! interface; the fields and the private methods may change.
+ghost use Rattle.std.specs.Prelude.{◌≡◌, ◌≢◌, ◌↔◌, ℕ, ◌<◌, ◌≤◌, [], true, false, max, count_by};
+ghost use Rattle.std.specs.Prelude.{IfErr, IfOk, IsErr, IsErrOf, IsSome, IfSome, IsTrue, OnErr, OnOk, MatchOption, None};
 ghost use Rattle.bac_apdu.specs.Views.{apdu_view, limits_view};
 ghost use Rattle.bac_npdu.specs.Views.{peer_view};
 ghost use Rattle.bac_service.specs.Values.{Request};
@@ -9,29 +13,30 @@ ghost use Rattle.bac_store.specs.AtNode.{change_fault, IsFaultOf};
 ghost use Rattle.bac_store.specs.Replies.{reply_to};
 ghost use Rattle.bac_store.specs.ReplyLengths.{DATA_LIMIT, reply_length};
 ghost use Rattle.bac_store.specs.Views.{change_view};
-ghost use Rattle.bac_transaction.specs.Ends.{first_after, is_slot_held, is_slot_live};
+ghost use Rattle.bac_transaction.specs.Ends.{first_after, key_of, is_slot_held, is_slot_live, requester_tick, responder_tick};
 ghost use Rattle.bac_transaction.specs.Tables.{IsOrderlyClient, IsOrderlyServer};
 ghost use Rattle.bac_transaction.specs.Views.{settings_view};
+ghost use Rattle.bac_protocol.specs.Context.{Settings as Set};
 ghost use Rattle.bac_protocol.specs.declared.times.TheConstants.{KEEP as KEPT_FOR, REST as REST_TIME};
+ghost use Rattle.bac_protocol.specs.Wire.{is_from_client};
+ghost use Rattle.bac_requester.specs.Reactions.{HasNoneOpen};
 ghost use Rattle.bac_requester.specs.Short.{AreRepliesShort};
-ghost use Rattle.bac_requester.specs.Views.{finish_view, finishes_of};
 ghost use Rattle.bac_responder.specs.Short.{AreRequestsShort};
 ghost use Rattle.bac_world.specs.Keys.{HasKeysApart};
-ghost use Rattle.bac_world.specs.Node.{NodeOn, NodeTick, IsHeardBy, dropped_for, restarted, store_after_restart, with_change};
-ghost use Rattle.bac_node.specs.Calls.{Hears, IsAsked, IsDue, IsNotHeard, Refuses, ticked};
+ghost use Rattle.bac_world.specs.Node.{NodeOn, NodeTick, IsHeardBy, restarted, store_after_restart, with_change};
+ghost use Rattle.bac_node.specs.Calls.{Dispatches, IsAsked, IsForNoneOpen, IsNotHeard, IsTickOfBoth, Refuses, ticked};
 ghost use Rattle.bac_node.specs.Fresh.{fresh_node, has_slots, made_node, slots_fit, window_fits, with_first_id};
-ghost use Rattle.bac_node.specs.Views.{cause_view, outcome_view, settings_of};
-ghost use Rattle.bac_node.specs.Waiting.{MovesAt, RestsUntil};
+ghost use Rattle.bac_node.specs.Views.{outcome_view, settings_of};
+ghost use Rattle.bac_node.specs.Waiting.{IsDueBy, MovesAt, RestsUntil};
 ghost use Rattle.bac_requester.specs.Timers.{LAST_MOMENT};
 
-use crate::cause::Cause;
 use crate::config::Config;
 use crate::fault::{NewNodeFault, NodeFault};
-use crate::hearing::{heard, is_from_client};
+use crate::reading::{is_from_client, read_from};
 use crate::outcome::Outcome;
 use bac_apdu::{Apdu, Limits, Window};
 use bac_npdu::{LinkAddress, Peer};
-use bac_requester::{AskFault, Asked, Client, Due, Finish, Requester, Turn};
+use bac_requester::{AskFault, Asked, Client, Reaction, Requester};
 use bac_responder::{Responder, Served, ServerTransaction};
 use bac_service::OwnedRequest;
 use bac_slots::IndexSlots;
@@ -41,7 +46,9 @@ use bac_value::NoMemory;
 use std::alloc::Global;
 use std::marker::Model;
 
-/// A node: its link, what it is set to, the latest moment that it was told, both its ends and its store.
+/// A BACnet device on one link: the client's end with its asks, the server's end with its replies, and the store that the server performs requests on.
+///
+/// It does no input or output and reads no clock. All moments are in milliseconds from any beginning, and must not go back.
 #[derive(Drop)]
 pub struct Node {
     alloc: Global,
@@ -51,8 +58,6 @@ pub struct Node {
     clients: Requester<IndexSlots<PeerKey, Client>>,
     servers: Responder<IndexSlots<PeerKey, ServerTransaction>>,
     store: Store,
-    /// Room for the next ticket that a datagram ends, so that one which ends none takes no memory for it.
-    room: Vec<Finish>,
 }
 
 impl Model for Node {
@@ -63,10 +68,6 @@ impl Model for Node {
     ghost use Rattle.bac_transaction.specs.Views.{settings_view};
 
     ghost view = { λ n. record { link = n.link; settings = settings_view n.settings; latest = n.latest; clients = n.clients; servers = n.servers; store = n.store } };
-
-    ghost use Rattle.std.specs.Prelude.{◌≡◌, []};
-
-    ghost invariant = { λ n. n.room.items ≡ [] };
 }
 
 /// Whether a table may have so many slots.
@@ -76,7 +77,7 @@ fn slots_fit(slots: usize) -> bool
     slots >= 1 && slots <= 1_024
 }
 
-/// What a node is set to; None where its window is not 1 to 64.
+/// The settings of a node; None where its window is not 1 to 64.
 fn settings_of(config: &Config) -> Option<Settings>
     ensures some { IsSome result ↔ (window_fits config.now.window ≡ true) }
     ensures same { IfSome result (λ s. settings_view s ≡ settings_of config.now) }
@@ -91,34 +92,7 @@ fn settings_of(config: &Config) -> Option<Settings>
     })
 }
 
-/// Nothing is sent, performed or ended: a datagram is dropped. It takes no memory.
-fn dropped(alloc: Global, cause: Cause) -> Outcome
-    ensures { outcome_view result ≡ dropped_for (cause_view cause) }
-{
-    Outcome {
-        sends: Vec::new(alloc),
-        effect: None,
-        ended: Vec::new(alloc),
-        dropped: Some(cause),
-    }
-}
-
-/// The ticket that has ended, if one has, in the room for it, which is then gone.
-fn with_ended(alloc: Global, room: &mut Vec<Finish>, finish: Option<Finish>) -> Vec<Finish>
-    requires empty { room.old.items ≡ [] }
-    requires room { 1 ≤ vec_capacity room.old }
-    ensures ended { map finish_view result.items ≡ finishes_of finish }
-    ensures empty { room.new.items ≡ [] }
-{
-    let Some(finish) = finish else {
-        return Vec::new(alloc);
-    };
-    let mut ended = std::mem::replace(room, Vec::new(alloc));
-    ended.push_reserved(finish);
-    ended
-}
-
-/// The client's end and the server's, both empty, which restart at that moment if there is one.
+/// The client's end and the server's, both empty, after a restart at that moment, if there was one.
 fn empty_ends(
     alloc: Global,
     client_slots: usize,
@@ -139,7 +113,7 @@ fn empty_ends(
     Ok((clients, servers))
 }
 
-/// The store that a node has after its restart: another one, if there is one.
+/// Puts another store in place of the old one, if there is another one.
 fn put_store(store: &mut Store, other: Option<Store>)
     ensures { store.new ≡ store_after_restart store.old other }
 {
@@ -149,10 +123,10 @@ fn put_store(store: &mut Store, other: Option<Store>)
 }
 
 impl Node {
-    /// A node to which nothing has happened, with that store; its invoke IDs begin at 0.
+    /// A new node with that store. Its latest moment is 0, and its invoke IDs begin at 0. Its tables are allocated here, once for all.
     ///
-    /// `BadSlots` where a number of slots is not 1 to 1,024; otherwise `BadWindow` where the window is not 1 to 64; last, `NoMemory` where the memory for
-    /// the slots is refused: no later call takes more of it for them.
+    /// `BadSlots` where a number of slots is not 1 to 1,024; otherwise `BadWindow` where the window is not 1 to 64; otherwise `NoMemory` where the tables can't
+    /// be allocated.
     pub fn new(alloc: Global, config: Config, store: Store) -> Result<Node, NewNodeFault>
         ensures fresh { IfOk result (λ n. n ≡ fresh_node config store) }
         ensures slots { IsErrOf result NewNodeFault.BadSlots ↔ (has_slots config ≡ false) }
@@ -161,12 +135,12 @@ impl Node {
         Node::made(alloc, config, store, None)
     }
 
-    /// A node that is there again at a moment, in milliseconds, after it has lost its asks and its reply table: its process was started anew, or its power
-    /// came back. Its store is that one.
+    /// A node that restarts at a moment, in milliseconds, after it has lost its transactions: its process was started again, or its power came back. Use it in
+    /// place of `new` whenever the link may have had the node before.
     ///
-    /// So that no request of its old life is performed twice, and no answer to one is taken for another's, it waits (own rules of this profile): each new
-    /// request is turned away with an Abort of reason 0 while no more than 65,000 ms have passed since, and each ask is refused with `NoInvokeId` while no
-    /// more than 75,000 ms have. The faults are those of `new`.
+    /// So that no old request is performed twice, and no answer to one is taken for another's, it waits (own rules of this profile): while no more than 65,000 ms
+    /// have passed it answers each new request with an Abort of reason 0, and while no more than 75,000 ms have passed it refuses each ask with `NoInvokeId`.
+    /// The faults are those of `new`.
     pub fn restarted(
         alloc: Global,
         config: Config,
@@ -211,25 +185,24 @@ impl Node {
             clients,
             servers,
             store,
-            room: Vec::new(alloc),
         })
     }
 
-    /// The node's own link.
+    /// Its own address on its link.
     pub fn link(&self) -> LinkAddress
         ensures { result ≡ self.now.link }
     {
         self.link
     }
 
-    /// The latest moment that it was told, in milliseconds; 0 at first.
+    /// Its latest moment, in milliseconds: that of the last call that succeeded; 0 at first.
     pub fn latest(&self) -> u64
         ensures { result ≡ self.now.latest }
     {
         self.latest
     }
 
-    /// What it is set to.
+    /// Its settings.
     pub fn settings(&self) -> Settings
         ensures { settings_view result ≡ self.now.settings }
     {
@@ -257,7 +230,7 @@ impl Node {
         self.servers.capacity()
     }
 
-    /// How many client slots are held at a moment in milliseconds: their tickets are open, or no more than 135,000 ms have passed since the first sending
+    /// How many client slots are held at a moment in milliseconds: their transactions are open, or no more than 135,000 ms have passed since the first sending
     /// (own rule of this profile). No two slots have one key, and there are no more of them than the node was made with, whether they are held or not.
     pub fn held(&self, now: u64) -> usize
         ensures number { result ≡ count_by (is_slot_held now) self.now.clients.slots }
@@ -313,31 +286,38 @@ impl Node {
         now < self.latest
     }
 
-    /// A datagram comes from a link, at a moment in milliseconds.
+    /// A datagram comes from a link, at a moment in milliseconds. Call it for each datagram that arrives, as soon as it arrives. Send what the outcome holds, in
+    /// order, and then look at [`next_due`](Node::next_due) again, since the datagram may have started or stopped a timer.
     ///
-    /// One that comes from the node's own link or means no APDU of a peer is dropped: it changes the latest moment alone, and takes no memory.
-    /// `ClockBack` exactly where the moment is before the latest one, `NoMemory` where memory is refused. After an Err the node is as before.
+    /// It drops a datagram that comes from the node's own address or means no APDU of a peer: then only the latest moment changes. For such a datagram, and for
+    /// an APDU to the client's end that no open transaction waits for, it allocates nothing.
+    ///
+    /// `ClockBack` exactly where the moment is before the latest one. `NoMemory` where memory can't be allocated: the caller may drop the datagram, since the
+    /// peer sends it again. After a fault the node is as before.
     pub fn on(&mut self, now: u64, from: LinkAddress, octets: &[u8]) -> Result<Outcome, NodeFault>
         ensures went { IfOk result (λ o. NodeOn now from octets.now self.old self.new (outcome_view o)) }
         ensures early { IsErrOf result NodeFault.ClockBack ↔ (now < self.old.latest) }
         ensures dropped { IsNotHeard self.old.link from octets.now → IsErrOf result NodeFault.NoMemory → ⊥ }
+        ensures none_open { IsForNoneOpen from octets.now self.old.clients → IsErrOf result NodeFault.NoMemory → ⊥ }
         ensures err { OnErr result (self.new ≡ self.old) }
     {
         if self.is_before(now) {
             return Err(NodeFault::ClockBack);
         }
-        match heard(self.link, from, octets) {
+        match read_from(self.link, from, octets) {
             Err(cause) => {
                 self.latest = now;
-                Ok(dropped(self.alloc, cause))
+                Ok(Outcome::dropped(self.alloc, cause))
             }
-            Ok((peer, apdu)) => Ok(self.hears(now, &peer, &apdu)?),
+            Ok((peer, apdu)) => Ok(self.dispatch(now, &peer, &apdu)?),
         }
     }
 
-    /// An APDU of a peer is heard, by the server's end where a client sends such, by the client's end otherwise.
-    fn hears(&mut self, now: u64, peer: &Peer, apdu: &Apdu<'_>) -> Result<Outcome, NoMemory>
-        ensures { Hears now (peer_view peer.now) (apdu_view apdu.now) self.old result self.new }
+    /// Gives an APDU to the end that it is for: to the server's where the client of a transaction sends such, otherwise to the client's.
+    fn dispatch(&mut self, now: u64, peer: &Peer, apdu: &Apdu<'_>) -> Result<Outcome, NoMemory>
+        ensures dispatches { Dispatches now (peer_view peer.now) (apdu_view apdu.now) self.old result self.new }
+        ensures none_open { is_from_client (apdu_view apdu.now) ≡ false
+            → HasNoneOpen self.old.clients (key_of (peer_view peer.now) (apdu_view apdu.now)) → IsErr result → ⊥ }
     {
         if is_from_client(apdu) {
             self.responder_on_apdu(now, peer, apdu)
@@ -346,8 +326,13 @@ impl Node {
         }
     }
 
-    /// The server's end takes its turn.
-    fn responder_on_apdu(&mut self, now: u64, peer: &Peer, apdu: &Apdu<'_>) -> Result<Outcome, NoMemory>
+    /// An APDU for the server's end.
+    fn responder_on_apdu(
+        &mut self,
+        now: u64,
+        peer: &Peer,
+        apdu: &Apdu<'_>,
+    ) -> Result<Outcome, NoMemory>
         ensures heard { IfOk result (λ o. IsHeardBy true (peer_view peer.now) (apdu_view apdu.now) now self.old self.new (outcome_view o)) }
         ensures err { OnErr result (self.new ≡ self.old) }
     {
@@ -368,47 +353,19 @@ impl Node {
         })
     }
 
-    /// The client's end takes its turn. The room for an ending is taken first.
-    fn requester_on_apdu(&mut self, now: u64, peer: &Peer, apdu: &Apdu<'_>) -> Result<Outcome, NoMemory>
+    /// An APDU for the client's end.
+    fn requester_on_apdu(
+        &mut self,
+        now: u64,
+        peer: &Peer,
+        apdu: &Apdu<'_>,
+    ) -> Result<Outcome, NoMemory>
         ensures heard { IfOk result (λ o. IsHeardBy false (peer_view peer.now) (apdu_view apdu.now) now self.old self.new (outcome_view o)) }
+        ensures none_open { HasNoneOpen self.old.clients (key_of (peer_view peer.now) (apdu_view apdu.now)) → IsErr result → ⊥ }
         ensures err { OnErr result (self.new ≡ self.old) }
     {
-        self.room.reserve_exact(1)?;
-        let Turn { sends, ended } = self
-            .clients
-            .on(self.alloc, &self.settings, now, peer, apdu)?;
+        let Reaction { sends, ended } = self.clients.on(&self.settings, now, peer, apdu)?;
         self.latest = now;
-        Ok(Outcome {
-            sends,
-            effect: None,
-            ended: with_ended(self.alloc, &mut self.room, ended),
-            dropped: None,
-        })
-    }
-
-    /// A tick at a moment in milliseconds: all that is due, of the client's end first, and then of the server's, each in ascending order of peer and
-    /// invoke ID, once for each.
-    ///
-    /// `ClockBack` exactly where the moment is before the latest one, `NoMemory` where memory is refused. After an Err the node is as before.
-    pub fn tick(&mut self, now: u64) -> Result<Outcome, NodeFault>
-        ensures went { IfOk result (λ o. NodeTick now self.old self.new (outcome_view o)) }
-        ensures early { IsErrOf result NodeFault.ClockBack ↔ (now < self.old.latest) }
-        ensures err { OnErr result (self.new ≡ self.old) }
-    {
-        let outcome = self.prepare_tick(now)?;
-        self.commit_tick(now);
-        Ok(outcome)
-    }
-
-    /// What comes of a tick at that moment, in milliseconds, which `commit_tick` makes. Nothing changes. It is refused as `tick` is.
-    pub fn prepare_tick(&self, now: u64) -> Result<Outcome, NodeFault>
-        ensures due { IfOk result (λ o. NodeTick now self.now (ticked now self.now) (outcome_view o)) }
-        ensures early { IsErrOf result NodeFault.ClockBack ↔ (now < self.now.latest) }
-    {
-        if self.is_before(now) {
-            return Err(NodeFault::ClockBack);
-        }
-        let Due { sends, ended } = self.due(now)?;
         Ok(Outcome {
             sends,
             effect: None,
@@ -417,17 +374,60 @@ impl Node {
         })
     }
 
-    /// What a tick sends and ends: of both ends, joined.
-    fn due(&self, now: u64) -> Result<Due, NoMemory>
-        ensures { IfOk result (IsDue now self.now) }
+    /// Does all that is due at a moment in milliseconds: first at the client's end, then at the server's, each in ascending order of peer and invoke ID. Call
+    /// it once the moment of [`next_due`](Node::next_due) has come; calling it earlier, or too often, does no harm. Send what the outcome holds, in order.
+    ///
+    /// `ClockBack` exactly where the moment is before the latest one. `NoMemory` where memory can't be allocated, which happens only where something is due:
+    /// the caller may call again later. After a fault the node is as before.
+    pub fn tick(&mut self, now: u64) -> Result<Outcome, NodeFault>
+        ensures went { IfOk result (λ o. NodeTick now self.old self.new (outcome_view o)) }
+        ensures early { IsErrOf result NodeFault.ClockBack ↔ (now < self.old.latest) }
+        ensures due { now < LAST_MOMENT → IsErrOf result NodeFault.NoMemory → IsDueBy now self.old }
+        ensures err { OnErr result (self.new ≡ self.old) }
     {
-        let Due { mut sends, ended } = self.clients.prepare_tick(self.alloc, &self.settings, now)?;
-        let mut more = self.servers.prepare_tick(self.alloc, &self.settings, now)?;
-        sends.append(&mut more)?;
-        Ok(Due { sends, ended })
+        let outcome = self.prepare_tick(now)?;
+        self.commit_tick(now);
+        Ok(outcome)
     }
 
-    /// The node after a tick, of which `prepare_tick` says what comes; the moment is not before the latest one. It takes no memory.
+    /// The outcome of a tick at that moment, in milliseconds, before [`commit_tick`](Node::commit_tick) makes it. Nothing changes. It is for callers that need
+    /// more memory of their own before the node may change; others call [`tick`](Node::tick). The faults are those of `tick`.
+    pub fn prepare_tick(&self, now: u64) -> Result<Outcome, NodeFault>
+        ensures ticks { IfOk result (λ o. NodeTick now self.now (ticked now self.now) (outcome_view o)) }
+        ensures early { IsErrOf result NodeFault.ClockBack ↔ (now < self.now.latest) }
+        ensures due { now < LAST_MOMENT → IsErrOf result NodeFault.NoMemory → IsDueBy now self.now }
+    {
+        if self.is_before(now) {
+            return Err(NodeFault::ClockBack);
+        }
+        let Reaction { sends, ended } = match self.tick_both(now) {
+            Ok(reaction) => reaction,
+            // a tick with nothing due needs no memory
+            Err(NoMemory) if now < self.first_due() => Reaction {
+                sends: Vec::new(self.alloc),
+                ended: Vec::new(self.alloc),
+            },
+            Err(NoMemory) => return Err(NodeFault::NoMemory),
+        };
+        Ok(Outcome {
+            sends,
+            effect: None,
+            ended,
+            dropped: None,
+        })
+    }
+
+    /// What a tick of both ends sends and ends, joined.
+    fn tick_both(&self, now: u64) -> Result<Reaction, NoMemory>
+        ensures { IfOk result (IsTickOfBoth now self.now) }
+    {
+        let Reaction { mut sends, ended } = self.clients.prepare_tick(&self.settings, now)?;
+        let mut more = self.servers.prepare_tick(self.alloc, &self.settings, now)?;
+        sends.append(&mut more)?;
+        Ok(Reaction { sends, ended })
+    }
+
+    /// Makes the tick of which [`prepare_tick`](Node::prepare_tick) returned the outcome, at the same moment. It allocates nothing.
     pub fn commit_tick(&mut self, now: u64)
         requires { self.old.latest ≤ now }
         ensures { self.new ≡ ticked now self.old }
@@ -437,38 +437,51 @@ impl Node {
         self.latest = now;
     }
 
-    /// The first moment, in milliseconds, at which a tick does anything: the timer of a ticket or of an entry is due, or a ticket is expired (clauses 5.4.4
-    /// and 5.4.5). It is not before the latest moment that the node was told. None where nothing is due before the last moment of all, 2^64 - 1.
+    /// The first moment at which a tick does anything, whether it is before the latest moment or not; the last moment of all where nothing is due before it.
+    fn first_due(&self) -> u64
+        ensures requester { (settings : Set) (now : ℕ) → now < result → requester_tick settings now self.now.clients ≡ record { end = self.now.clients; sends = []; ended = [] } }
+        ensures responder { (settings : Set) (now : ℕ) → self.now.latest ≤ now → now < result
+            → responder_tick settings now self.now.servers ≡ record { end = self.now.servers; sends = []; act = None } }
+        ensures moves { result < LAST_MOMENT → MovesAt (max result self.now.latest) self.now }
+    {
+        self.clients
+            .next_due()
+            .min(self.servers.next_due(self.latest))
+    }
+
+    /// The first moment, in milliseconds, at which a tick does anything: a timer of a transaction runs out, or a transaction of the client expires (clauses 5.4.4
+    /// and 5.4.5). It is not before the latest moment. None where nothing is due before the last moment of all, 2^64 - 1.
     ///
-    /// A driver may sleep until then, or until a datagram comes: a tick before it does nothing. It looks at each slot.
+    /// Call it after each `on`, `tick` and `ask`, and then wait for a datagram until that moment, or without end where it is None: a tick before it does nothing.
+    /// Once the moment has come, call [`tick`](Node::tick). It looks at each slot.
     pub fn next_due(&self) -> Option<u64>
         ensures rests { MatchOption result (RestsUntil LAST_MOMENT self.now) (λ due. RestsUntil due self.now) }
         ensures moves { IfSome result (λ due. MovesAt due self.now) }
     {
-        let due = self
-            .clients
-            .next_due()
-            .min(self.servers.next_due(self.latest));
+        let due = self.first_due();
         if due == u64::MAX {
             return None;
         }
         Some(due.max(self.latest))
     }
 
-    /// From now on its invoke IDs begin at that one: an ask takes the least that is not held for the peer from it on, and where all up to 255 are held, the
-    /// least of all. A program that ends after few asks begins at one that differs each time, as of its clock: where its link had another node before, an
-    /// entry that a server still keeps for that one is then met seldom.
+    /// Sets where its invoke IDs begin from now on: an ask takes the least one from there on that is not held for the peer, and where all up to 255 are held,
+    /// the least of all. A program that ends after a few asks should begin at a different one each time, say one from its clock: a server may still keep the
+    /// reply to an ask of the program that used the same address before.
     pub fn set_first_invoke_id(&mut self, first_id: u8)
         ensures { self.new ≡ with_first_id first_id self.old }
     {
         self.clients.set_first_invoke_id(first_id);
     }
 
-    /// Asks a peer, which takes so much, for a request, at a moment in milliseconds. It takes an invoke ID that is not held for the peer, as `set_first_invoke_id`
-    /// says, and a slot that is not held.
+    /// Asks a peer for a request, at a moment in milliseconds. `limits` is what the peer takes of APDUs and of segments, as its device object says. Send what is
+    /// returned, in order. The answer comes later, in the `ended` of an [`Outcome`](crate::Outcome), with the same ticket: within 60,000 ms, if the caller goes on to
+    /// call `on` and `tick`.
     ///
-    /// It is refused for the first of these that holds: `ClockBack`, the moment is before the latest one; `SelfPeer`, the peer is at the node's own link;
-    /// `TooLong`, `NeedsSegments`, `NoInvokeId` and `NoSlot` as of `Requester::ask`; `NoMemory` comes last. After an Err the node is as before.
+    /// It takes an invoke ID that is not held for the peer, as `set_first_invoke_id` says, and a slot that is not held. The fault is the first of these that
+    /// holds: `ClockBack`, the moment is before the latest one; `SelfPeer`, the peer is at the node's own address; `TooLong`, the request has more than 65,535
+    /// octets; `NeedsSegments`, it needs more segments than the peer takes; `NoInvokeId` and `NoSlot`, all are held, so try again later; `NoMemory`. After a
+    /// fault the node is as before.
     pub fn ask(
         &mut self,
         now: u64,
@@ -487,27 +500,7 @@ impl Node {
         if peer.link == self.link {
             return Err(AskFault::SelfPeer);
         }
-        self.ask_other(now, peer, limits, request)
-    }
-
-    /// Asks a peer of another link.
-    fn ask_other(
-        &mut self,
-        now: u64,
-        peer: &Peer,
-        limits: &Limits,
-        request: &OwnedRequest,
-    ) -> Result<Asked, AskFault>
-        requires { peer.now.link ≢ self.old.link }
-        ensures asked { IfOk result (IsAsked now (peer_view peer.now) (limits_view limits.now) (owned_request_view request.now) self.old self.new) }
-        ensures refused { IfErr result (λ e. Refuses e now (peer_view peer.now) (limits_view limits.now) (owned_request_view request.now) self.old) }
-        ensures early { IsErrOf result AskFault.ClockBack → ⊥ }
-        ensures err { OnErr result (self.new ≡ self.old) }
-    {
-        let result = self
-            .clients
-            .ask(self.alloc, &self.settings, now, peer, limits, request);
-        match result {
+        match self.clients.ask(&self.settings, now, peer, limits, request) {
             Ok(asked) => {
                 self.latest = now;
                 Ok(asked)
@@ -516,10 +509,9 @@ impl Node {
         }
     }
 
-    /// Makes a change of its store at the node itself, by no request, as where a sensor moves: nothing is sent, performed or ended, and neither end
-    /// sees it. It takes no time.
+    /// Changes its store at the node itself, without a request, as where a sensor has a new value. Nothing is sent.
     ///
-    /// The faults are those of `Store::change`: tested in the order of their numbers, and memory last. After an Err the node is as before.
+    /// The faults are those of `Store::change`: tested in the order of their numbers, and memory last. After a fault the node is as before.
     pub fn change(&mut self, change: &Change) -> Result<(), ChangeFault>
         ensures may { OnOk result (change_fault self.old.store (change_view change.now) ≡ None) }
         ensures made { OnOk result (self.new ≡ with_change (change_view change.now) self.old) }
@@ -529,8 +521,8 @@ impl Node {
         self.store.change(self.alloc, change)
     }
 
-    /// The node restarts at a moment in milliseconds, whatever it was told before: as after `restarted`, with the store that it has, or with another one.
-    /// `NoMemory` where the memory for its slots is refused: it is as before then.
+    /// Restarts the node at a moment in milliseconds, which may be before the latest one: it is then as after `restarted`, with the store that it has, or with
+    /// another one. `NoMemory` where its tables can't be allocated; it is then as before.
     pub fn restart(&mut self, now: u64, store: Option<Store>) -> Result<(), NoMemory>
         ensures went { OnOk result (self.new ≡ restarted now (store_after_restart self.old.store store) self.old) }
         ensures err { OnErr result (self.new ≡ self.old) }

@@ -3,7 +3,7 @@ use crate::medium::End;
 use bac_commands::{print_ended, print_ending_line};
 use bac_driver::{AskEnd, Turn, TurnFault};
 use bac_npdu::LinkAddress;
-use bac_requester::Finish;
+use bac_requester::Ended;
 use bac_service::{AnyReply, OwnedReply, OwnedRequest, write_reply, write_request};
 use std::alloc::Global;
 use std::io::Write;
@@ -48,10 +48,10 @@ pub(crate) fn print_performed(
     writeln!(out, "performed {number} {request} {reply}").ok()
 }
 
-fn print_finishes(alloc: Global, word: &str, finishes: &[Finish], out: &mut Vec<u8>) -> Option<()> {
+fn print_finishes(alloc: Global, word: &str, finishes: &[Ended], out: &mut Vec<u8>) -> Option<()> {
     for finish in finishes {
         out.write_all(word.as_bytes()).ok()?;
-        print_ended(alloc, finish.ticket, &finish.how, out).ok()?;
+        print_ended(alloc, finish.ticket, &finish.ending, out).ok()?;
     }
     Some(())
 }

@@ -27,7 +27,7 @@ pub(crate) fn ask(side: &mut Side<'_>, words: &str, out: &mut Vec<u8>) -> Option
     let mut clock = side.clock();
     let end = side
         .client
-        .ask(&mut clock, &question, &WaitLimit::UNTIL_DUE, turns);
+        .ask(&mut clock, &question, &WaitLimit::until_due(), turns);
     print_end(side.alloc, end, out)
 }
 

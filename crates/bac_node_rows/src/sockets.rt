@@ -30,7 +30,7 @@ fn serve<R: Clock>(rt: &R, node: &mut BoundNode<UdpLink>, out: &mut Vec<u8>) -> 
     let Ok(mut clock) = MonotonicClock::new(rt) else {
         return None;
     };
-    match node.serve(&mut clock, &WaitLimit::UNTIL_DUE, 1) {
+    match node.serve(&mut clock, &WaitLimit::until_due(), 1) {
         Ok(served) => writeln!(out, "served {served}").ok(),
         Err(_) => None,
     }

@@ -96,7 +96,7 @@ pub(crate) fn print_outcome(alloc: Global, outcome: &mut Outcome, out: &mut Vec<
         print_performed(alloc, act, out)?;
     }
     for finish in &outcome.ended {
-        print_ended(alloc, finish.ticket, &finish.how, out).ok()?;
+        print_ended(alloc, finish.ticket, &finish.ending, out).ok()?;
     }
     print_sends(alloc, &outcome.sends, out)
 }

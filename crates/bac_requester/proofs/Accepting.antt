@@ -29,7 +29,7 @@ use Rattle.bac_requester.specs.TransactionViews.{fault_view, way_view}
 use Rattle.bac_requester.specs.declared.outgoing_request.RequestFault.{RequestFault}
 use Rattle.bac_requester.specs.declared.outgoing_request.RequestWay.{RequestWay}
 use Rattle.bac_requester.specs.declared.outgoing_request.RequestWay.TheVariants as way
-use Rattle.bac_requester.specs.Turns.{MayBegin}
+use Rattle.bac_requester.specs.Reactions.{MayBegin}
 use Rattle.bac_requester.specs.Views.{end_of}
 
 abbrev Slots : Type 0

@@ -1,6 +1,6 @@
 -- Lemmas of the client's end.
 pub mod Aging
-pub mod Turning
+pub mod OnApdu
 pub mod Ticks
 pub mod Accepting
 pub mod Ids

@@ -4,15 +4,16 @@ use Rattle.bac_slots.specs.declared.slot.Slot.{Slot}
 use Rattle.bac_slots.proofs.SlotAges.{each_more}
 use Rattle.bac_transaction.specs.declared.settings.Settings.{Settings}
 use Rattle.bac_transaction.specs.Ends.{Client, ClientEnd, ClientSlot, client_tick_ends, client_tick_sends, client_ticked, requester_tick, context_of}
-use Rattle.bac_transaction.specs.Meanings.{Finish, IsFinish}
-use Rattle.bac_transaction.specs.Sends.{Datagram, IsSent}
+use Rattle.bac_transaction.specs.Meanings.{IsFinish}
+use Rattle.bac_transaction.specs.Sends.{IsSent}
 use Rattle.bac_transaction.specs.Views.{peer_key_view, settings_view, slot_view, slots_view}
 use Rattle.bac_transaction.specs.declared.peer_key.PeerKey.{PeerKey}
 use Rattle.bac_slots.specs.Ages.{AreQuiet, changed, ticked_in}
 use Rattle.bac_transaction.proofs.Telling.{told_none}
 use Rattle.bac_requester.specs.Aging.{IsClientQuiet, value_ticked}
-use Rattle.bac_requester.specs.Turns.{IsTold}
-use Rattle.bac_requester.specs.Views.{end_of}
+use Rattle.bac_requester.specs.Reactions.{IsReaction}
+use Rattle.bac_requester.specs.Views.{end_of, ended_view}
+use Rattle.bac_requester.specs.declared.reaction.Reaction.{Reaction}
 use Rattle.bac_requester.proofs.Aging.{held_ends, held_sends}
 
 abbrev Slots : Type 0
@@ -30,14 +31,15 @@ committed c now old new capacity room asked from first_id e f =
     ap (λ l. with_slots (slots_view l) room) e ∙ ap (λ l. with_slots l room) (ticked_viewed c now old)
     ∙ ap (λ k. with_slots (map (client_ticked (settings_view c) now) (slots_view old)) k) f
 
-pub nothing_due : (c : Settings) (now begin due : ℕ) (before : now < due) (slots : Slots) (capacity asked from first_id : ℕ) (sent : List Datagram) (ended : List Finish)
-    → AreQuiet IsClientQuiet begin due slots → sent ≡ [] → ended ≡ [] → IsTold (requester_tick (settings_view c) now (end_of slots capacity asked from first_id)) sent ended
-nothing_due c now begin due before slots capacity asked from first_id sent ended q no_sent no_ended =
+pub nothing_due : (c : Settings) (now begin due : ℕ) (before : now < due) (slots : Slots) (capacity asked from first_id : ℕ) (x : Reaction)
+    → AreQuiet IsClientQuiet begin due slots → x.sends.items ≡ [] → x.ended.items ≡ []
+    → IsReaction (requester_tick (settings_view c) now (end_of slots capacity asked from first_id)) x
+nothing_due c now begin due before slots capacity asked from first_id x q no_sent no_ended =
     record {
-      sends = told_none Client IsSent (client_tick_sends (settings_view c) now) slots sent
+      sends = told_none Client IsSent (client_tick_sends (settings_view c) now) slots x.sends.items
           (each_more (λ s. IsClientQuiet begin due s.value) (λ s. client_tick_sends (settings_view c) now (slot_view s) ≡ []) slots
           (λ s h. held_sends (context_of (settings_view c) now (peer_key_view s.key)) due before (peer_key_view s.key).peer s.value.held h) q) no_sent;
-      finishes = told_none Client IsFinish (client_tick_ends (settings_view c) now) slots ended
+      ended = told_none Client IsFinish (client_tick_ends (settings_view c) now) slots (map ended_view x.ended.items)
           (each_more (λ s. IsClientQuiet begin due s.value) (λ s. client_tick_ends (settings_view c) now (slot_view s) ≡ []) slots
-          (λ s h. held_ends (context_of (settings_view c) now (peer_key_view s.key)) due before s.value.number s.value.held h) q) no_ended;
+          (λ s h. held_ends (context_of (settings_view c) now (peer_key_view s.key)) due before s.value.number s.value.held h) q) (ap (λ l. map ended_view l) no_ended);
     }

@@ -5,7 +5,7 @@ use Rattle.bac_segment.specs.Limits.{DATA}
 use Rattle.bac_segment.specs.Pieces.{join}
 use Rattle.bac_protocol.specs.Client.{ClientTransaction}
 use Rattle.bac_transaction.specs.Ends.{ClientSlot, TransactionSlot}
-use Rattle.bac_requester.specs.Reacts.{parts_taken}
+use Rattle.bac_requester.specs.Transitions.{parts_taken}
 
 -- a ticket keeps at most 65,535 octets of its reply, in at most 65,535 segments
 pub record IsReplyShort (t : ClientTransaction) : Type 0 where

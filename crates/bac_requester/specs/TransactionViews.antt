@@ -8,11 +8,11 @@ use Rattle.bac_protocol.specs.Sizes as sizes
 use Rattle.bac_protocol.specs.Client as client
 use Rattle.bac_transaction.specs.Ends as ends
 use Rattle.bac_transaction.specs.Meanings as meanings
-use Rattle.bac_requester.specs.declared.ticket.RequestState.{RequestState}
-use Rattle.bac_requester.specs.declared.ticket.Phase.{Phase}
-use Rattle.bac_requester.specs.declared.ticket.Phase.TheVariants as phase
-use Rattle.bac_requester.specs.declared.held.TransactionSlot.{TransactionSlot}
-use Rattle.bac_requester.specs.declared.held.TransactionSlot.TheVariants as held
+use Rattle.bac_requester.specs.declared.transaction.RequestState.{RequestState}
+use Rattle.bac_requester.specs.declared.transaction.Phase.{Phase}
+use Rattle.bac_requester.specs.declared.transaction.Phase.TheVariants as phase
+use Rattle.bac_requester.specs.declared.transaction_slot.TransactionSlot.{TransactionSlot}
+use Rattle.bac_requester.specs.declared.transaction_slot.TransactionSlot.TheVariants as held
 use Rattle.bac_requester.specs.declared.ending.Ending.{Ending}
 use Rattle.bac_requester.specs.declared.ending.Ending.TheVariants as ending
 use Rattle.bac_requester.specs.declared.outgoing_request.RequestFault.{RequestFault}

@@ -1,4 +1,6 @@
-//! An ask.
+//! An ask: the invoke ID that it takes, the slot that it needs, and the first sending.
+//!
+//! `Requester::ask` calls [`ask`]. [`Asked`] is public; the rest may change with `requester`.
 ghost use Rattle.std.specs.Prelude.{◌≡◌, ℕ, ◌+◌, ◌-◌, ◌<◌, ◌&&◌, ◌||◌, IfOk, Some, None, false, length, nat_le, nat_lt, not};
 ghost use Rattle.bac_npdu.specs.Views.{peer_view};
 ghost use Rattle.bac_slots.specs.Slots.{rank};
@@ -9,15 +11,17 @@ ghost use Rattle.bac_service.specs.Spellings.{request_spelling};
 ghost use Rattle.bac_service.specs.Values.{choice_of};
 ghost use Rattle.bac_service.specs.Views.{request_view};
 ghost use Rattle.bac_requester.specs.Fits.{IsWayFor};
-ghost use Rattle.bac_requester.specs.Reacts.{IsBegun};
+ghost use Rattle.bac_requester.specs.Transitions.{IsBegun};
 ghost use Rattle.bac_requester.specs.Requests.{ask_at, request_by};
 ghost use Rattle.bac_requester.specs.Aging.{AreAged};
-ghost use Rattle.bac_requester.specs.Turns.{Asks};
+ghost use Rattle.bac_requester.specs.Reactions.{Asks};
 ghost use Rattle.bac_requester.specs.Views.{end_of};
 
 use crate::ask_fault::AskFault;
 use crate::client::{Client, ClientRules};
-use crate::{Begun, ClientTransaction, OutgoingRequest, RequestWay, TransactionSlot};
+use crate::outgoing_request::{OutgoingRequest, RequestWay};
+use crate::transaction::ClientTransaction;
+use crate::transaction_slot::TransactionSlot;
 use bac_npdu::Peer;
 use bac_service::{AnyRequest, Request, Service, write_request};
 use bac_slots::{AgedTable, SlotTable, enter, has_room, ranks_of_keys};
@@ -25,18 +29,18 @@ use bac_transaction::{Context, Datagram, PeerKey, Settings};
 use bac_value::NoMemory;
 use std::alloc::Global;
 
-/// An accepted ask.
+/// An accepted ask. The caller sends the datagrams, in order, and waits for the [`Ended`](crate::Ended) with its ticket.
 #[derive(Drop)]
 pub struct Asked {
-    /// The ticket's number: how many asks were accepted before.
+    /// The ticket of the new transaction: how many asks were accepted before it.
     pub ticket: u64,
-    /// Its invoke ID: of those that were not held for the peer the first, from where the end's begin.
+    /// Its invoke ID, which no other transaction with that peer holds.
     pub invoke_id: u8,
-    /// The whole request, or its segment 0.
+    /// The datagrams to send: the whole request, or the first window of its segments.
     pub sends: Vec<Datagram>,
 }
 
-/// Whether a slot that is found has that key and is held.
+/// Whether a slot has that key and is held.
 fn is_held_as(found: &PeerKey, client: &Client, key: &PeerKey, now: u64) -> bool
     ensures { result ≡ (code_same_key found.now key.now && is_held now client.now.held) }
 {
@@ -109,7 +113,7 @@ fn free_id<S: SlotTable<PeerKey, Client>>(
     }
 }
 
-/// Whether all slots are held, or no further ticket has a number.
+/// Whether all slots are held, or there is no further ticket.
 fn has_no_slot<S: SlotTable<PeerKey, Client>>(
     aged: &AgedTable<ClientRules, S>,
     asked: u64,
@@ -134,16 +138,16 @@ fn choice_of(request: Request<'_>) -> u8
     service.choice()
 }
 
-/// The service data of a request are written, and it is sent for the first time.
+/// Writes the service data of a request, and sends it for the first time.
 fn begin(
     alloc: Global,
     context: &Context,
     way: RequestWay,
     request: Request<'_>,
-) -> Result<Begun, NoMemory>
+) -> Result<(ClientTransaction, Vec<Datagram>), NoMemory>
     requires { IsWayFor way (length (request_spelling (request_view request))) }
-    ensures { IfOk result (IsBegun context.now (ask_at context.now.moment
-        (request_by (choice_of (request_view request.entry)) (request_spelling (request_view request.entry)) way))) }
+    ensures { IfOk result (λ begun. IsBegun context.now (ask_at context.now.moment
+        (request_by (choice_of (request_view request.entry)) (request_spelling (request_view request.entry)) way)) begun.0 begun.1.items) }
 {
     let mut service = Vec::new(alloc);
     write_request(request, &mut service)?;
@@ -151,7 +155,7 @@ fn begin(
     ClientTransaction::begin(alloc, context, outgoing)
 }
 
-/// A request that can go that way is asked, by an end that does not wait. Memory is taken once an invoke ID and a slot are found.
+/// Asks for a request that can go that way, at an end that does not wait. It allocates only once it has found an invoke ID and a slot.
 pub(crate) fn ask<S: SlotTable<PeerKey, Client>>(
     alloc: Global,
     settings: &Settings,
@@ -187,13 +191,12 @@ pub(crate) fn ask<S: SlotTable<PeerKey, Client>>(
         },
         moment: now,
     };
-    let Ok(begun) = begin(alloc, &context, way, request) else {
+    let Ok((transaction, sends)) = begin(alloc, &context, way, request) else {
         return Err(AskFault::NoMemory);
     };
-    let Begun { ticket, sends } = begun;
     let client = Client {
         number: *asked,
-        held: TransactionSlot::Open(ticket),
+        held: TransactionSlot::Open(transaction),
     };
     enter(aged, context.key, now, client);
     let ticket = *asked;

@@ -1,18 +1,20 @@
-//! The reply of a request that was sent (clause 5.4.4.3).
+//! AWAIT_CONFIRMATION (clause 5.4.4.3): what an APDU of the server makes of a transaction whose request was sent.
+//!
+//! `transaction_on_apdu` calls [`await_confirmation_on_apdu`], also in SEGMENTED_REQUEST once all segments were sent. All here is private to the crate.
 ghost use Rattle.std.specs.Prelude.{◌≡◌, ◌&&◌, [], IfOk, nat_eq};
 ghost use Rattle.bac_apdu.specs.Views.{apdu_view, segment_view};
 ghost use Rattle.bac_service.specs.Choices.{has_complex_ack, has_simple_ack};
 ghost use Rattle.bac_service.specs.Services.{reads_reply};
 ghost use Rattle.bac_protocol.specs.Client.{answered_with, await_confirmation_on_apdu, on_complex_ack, on_error, on_first_segment, on_simple_ack};
-ghost use Rattle.bac_requester.specs.Reacts.{Does, IsClosing, Reacts};
+ghost use Rattle.bac_requester.specs.Transitions.{IsClosing, MakesTransition, TriesTransition};
 ghost use Rattle.bac_transaction.specs.Views.{context_view};
 
 use crate::ending::Ending;
-use crate::getting::on_refusal;
-use crate::reaction::{Closing, Reaction, closes, ends, stays};
 use crate::reading::read_one;
 use crate::segmented_conf::takes_segment;
-use crate::ticket::{ClientTransaction, Phase};
+use crate::transaction::{ClientTransaction, Phase};
+use crate::transaction_on_apdu::on_refusal;
+use crate::transition::{Closing, Transition, closes, ends, stays};
 use bac_apdu::{Apdu, Segment};
 use bac_protocol::reasons::OTHER;
 use bac_segment::Incoming;
@@ -45,13 +47,13 @@ fn has_simple_ack(choice: u8) -> bool
 fn on_simple_ack(
     alloc: Global,
     context: &Context,
-    ticket: &ClientTransaction,
+    transaction: &ClientTransaction,
     choice: u8,
-) -> Reaction
-    ensures { Does context.now ticket.now (on_simple_ack ticket.now.ask choice) result ticket.now }
+) -> Transition
+    ensures { MakesTransition context.now transaction.now (on_simple_ack transaction.now.ask choice) result transaction.now }
 {
-    if choice != ticket.choice() || !has_simple_ack(choice) {
-        return stays(alloc, context, ticket);
+    if choice != transaction.choice() || !has_simple_ack(choice) {
+        return stays(alloc, context, transaction);
     }
     ends(alloc, Ending::Answered(AnyReply::Simple))
 }
@@ -60,15 +62,15 @@ fn on_simple_ack(
 fn on_error(
     alloc: Global,
     context: &Context,
-    ticket: &ClientTransaction,
+    transaction: &ClientTransaction,
     choice: u8,
     class: u32,
     code: u32,
-) -> Reaction
-    ensures { Does context.now ticket.now (on_error ticket.now.ask choice class code) result ticket.now }
+) -> Transition
+    ensures { MakesTransition context.now transaction.now (on_error transaction.now.ask choice class code) result transaction.now }
 {
-    if choice != ticket.choice() {
-        return stays(alloc, context, ticket);
+    if choice != transaction.choice() {
+        return stays(alloc, context, transaction);
     }
     ends(alloc, Ending::Answered(AnyReply::Error { class, code }))
 }
@@ -86,12 +88,12 @@ fn close_with_one(
         let sends = only_abort(alloc, context, false, OTHER)?;
         return Ok(Closing {
             sends,
-            how: Ending::Aborted(OTHER),
+            ending: Ending::Aborted(OTHER),
         });
     };
     Ok(Closing {
         sends: Vec::new(alloc),
-        how: Ending::Answered(AnyReply::Complex(complex)),
+        ending: Ending::Answered(AnyReply::Complex(complex)),
     })
 }
 
@@ -99,14 +101,14 @@ fn close_with_one(
 fn on_complex_ack(
     alloc: Global,
     context: &Context,
-    ticket: &ClientTransaction,
+    transaction: &ClientTransaction,
     choice: u8,
     service: &[u8],
-) -> Result<Reaction, NoMemory>
-    ensures { Reacts context.now ticket.now (on_complex_ack (context_view context.now) reads_reply ticket.now.ask choice service.now) result ticket.now }
+) -> Result<Transition, NoMemory>
+    ensures { TriesTransition context.now transaction.now (on_complex_ack (context_view context.now) reads_reply transaction.now.ask choice service.now) result transaction.now }
 {
-    if choice != ticket.choice() || !has_complex_ack(choice) {
-        return Ok(stays(alloc, context, ticket));
+    if choice != transaction.choice() || !has_complex_ack(choice) {
+        return Ok(stays(alloc, context, transaction));
     }
     let closing = close_with_one(alloc, context, choice, service)?;
     Ok(closes(closing))
@@ -126,45 +128,44 @@ fn is_first_segment(context: &Context, asked: u8, choice: u8, number: u8) -> boo
 fn on_first_segment(
     alloc: Global,
     context: &Context,
-    ticket: &mut ClientTransaction,
+    transaction: &mut ClientTransaction,
     segment: Segment,
     choice: u8,
     service: &[u8],
-) -> Result<Reaction, NoMemory>
-    ensures { Reacts context.now ticket.old
-        (on_first_segment (context_view context.now) reads_reply ticket.old.ask (segment_view segment) choice service.now) result ticket.new }
+) -> Result<Transition, NoMemory>
+    ensures { TriesTransition context.now transaction.old
+        (on_first_segment (context_view context.now) reads_reply transaction.old.ask (segment_view segment) choice service.now) result transaction.new }
 {
-    if !is_first_segment(context, ticket.choice(), choice, segment.number) {
-        return Ok(stays(alloc, context, ticket));
+    if !is_first_segment(context, transaction.choice(), choice, segment.number) {
+        return Ok(stays(alloc, context, transaction));
     }
     let mut incoming = Incoming::new(alloc, segment.window, context.settings.window);
-    let reaction = takes_segment(
+    let transition = takes_segment(
         alloc,
         context,
-        &ticket.core,
+        &transaction.core,
         &mut incoming,
-        segment.number,
-        segment.more,
+        segment,
         service,
     )?;
-    ticket.core.since = context.moment;
-    ticket.phase = Phase::SegmentedConf { incoming };
-    Ok(reaction)
+    transaction.core.since = context.moment;
+    transaction.phase = Phase::SegmentedConf { incoming };
+    Ok(transition)
 }
 
 /// An APDU comes in AWAIT_CONFIRMATION, or in SEGMENTED_REQUEST once all segments were sent.
 pub(crate) fn await_confirmation_on_apdu(
     alloc: Global,
     context: &Context,
-    ticket: &mut ClientTransaction,
+    transaction: &mut ClientTransaction,
     apdu: &Apdu<'_>,
-) -> Result<Reaction, NoMemory>
-    ensures { Reacts context.now ticket.old
-        (await_confirmation_on_apdu (context_view context.now) reads_reply ticket.old.ask (apdu_view apdu.now)) result ticket.new }
+) -> Result<Transition, NoMemory>
+    ensures { TriesTransition context.now transaction.old
+        (await_confirmation_on_apdu (context_view context.now) reads_reply transaction.old.ask (apdu_view apdu.now)) result transaction.new }
 {
     match *apdu {
         // SimpleACK_Received
-        Apdu::SimpleAck { choice, .. } => Ok(on_simple_ack(alloc, context, ticket, choice)),
+        Apdu::SimpleAck { choice, .. } => Ok(on_simple_ack(alloc, context, transaction, choice)),
         Apdu::ComplexAck {
             segment,
             choice,
@@ -172,9 +173,16 @@ pub(crate) fn await_confirmation_on_apdu(
             ..
         } => match segment {
             // UnsegmentedComplexACK_Received
-            None => on_complex_ack(alloc, context, ticket, choice, service),
+            None => on_complex_ack(alloc, context, transaction, choice, service),
             // SegmentedComplexACK_Received
-            Some(segment) => on_first_segment(alloc, context, ticket, segment, choice, service),
+            Some(segment) => on_first_segment(
+                alloc,
+                context,
+                transaction,
+                segment,
+                choice,
+                service,
+            ),
         },
         // ErrorPDU_Received
         Apdu::Error {
@@ -182,7 +190,7 @@ pub(crate) fn await_confirmation_on_apdu(
             class,
             code,
             ..
-        } => Ok(on_error(alloc, context, ticket, choice, class, code)),
-        _ => Ok(on_refusal(alloc, context, ticket, apdu)),
+        } => Ok(on_error(alloc, context, transaction, choice, class, code)),
+        _ => Ok(on_refusal(alloc, context, transaction, apdu)),
     }
 }

@@ -1,4 +1,6 @@
-//! The value of a slot.
+//! The value of a slot of the client's table: a ticket and its transaction, and how slots age.
+//!
+//! `requester_on_apdu` and bac_slots call it. [`Client`] is public because it is the value type of the table; its fields may change.
 ghost use Rattle.std.specs.Prelude.{◌≡◌, ℕ};
 ghost use Rattle.bac_protocol.specs.declared.times.TheConstants.{HOLD as HELD_FOR};
 ghost use Rattle.bac_transaction.specs.Ends.{held_ticked, is_held};
@@ -7,13 +9,13 @@ ghost use Rattle.bac_requester.specs.TransactionViews.{held_view};
 ghost use Rattle.bac_requester.specs.Aging.{IsClientQuiet, began, client_due, value_ticked};
 ghost use Rattle.bac_requester.specs.Short.{IsHeldShort};
 
-use crate::TransactionSlot;
+use crate::transaction_slot::TransactionSlot;
 use bac_protocol::times::HOLD;
 use bac_slots::{Aged, Fact, Same, Ticks};
 use bac_transaction::{Context, PeerKey, Settings};
 use std::marker::Model;
 
-/// The value of a slot: a ticket's number, and what is kept of the ticket.
+/// The value of a slot: a ticket, and what is kept of its transaction.
 #[derive(Drop)]
 pub struct Client {
     pub(crate) number: u64,
@@ -31,7 +33,7 @@ impl Model for Client {
 }
 
 impl Client {
-    /// Whether its invoke ID is held: its ticket is open, or no more than 135,000 milliseconds have passed since the first sending.
+    /// Whether its invoke ID is held at a moment in milliseconds: its transaction is open, or no more than 135,000 ms have passed since the first sending.
     pub fn is_held(&self, now: u64) -> bool
         ensures { result ≡ is_held now self.now.held }
     {
@@ -39,13 +41,13 @@ impl Client {
     }
 }
 
-/// What is kept of a ticket after a tick.
+/// What is kept of a transaction after a tick.
 fn ticked(context: &Context, held: TransactionSlot) -> TransactionSlot
     ensures { (number : ℕ) → held_ticked (context_view context.now) number (held_view held) ≡ record { number = number; held = held_view result } }
 {
     match held {
         TransactionSlot::Closed { first } => TransactionSlot::Closed { first },
-        TransactionSlot::Open(ticket) => ticket.commit_tick(context),
+        TransactionSlot::Open(transaction) => transaction.commit_tick(context),
     }
 }
 
@@ -102,7 +104,7 @@ impl Ticks<ClientRules, PeerKey, Settings> for Client {
     fn ticks() {}
 }
 
-/// A ticket, if it is open, keeps at most 65,535 octets of a reply, in at most 65,535 segments.
+/// An open transaction keeps at most 65,535 octets of a reply, in at most 65,535 segments.
 #[derive(Drop)]
 pub(crate) struct ShortReplies;
 
@@ -110,10 +112,10 @@ impl Fact<Client> for ShortReplies {
     ghost Holds = { λ c. IsHeldShort c.held };
 
     fn holds(&self, client: &Client) {
-        let TransactionSlot::Open(ticket) = &client.held else {
+        let TransactionSlot::Open(transaction) = &client.held else {
             return;
         };
-        let _octets = ticket.reassembled();
+        let _octets = transaction.reassembled();
     }
 }
 

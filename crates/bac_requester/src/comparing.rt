@@ -1,10 +1,10 @@
-//! Whether contracts see a difference between two tickets.
+//! Whether contracts see a difference between two transactions. `Requester::same` calls it, through `Client`; all here is private to the crate.
 ghost use Rattle.std.specs.Prelude.{◌≡◌, ◌<◌, ◌↔◌, IsTrue, length};
 ghost use Rattle.bac_segment.specs.Pieces.{piece_at};
 ghost use Rattle.bac_requester.specs.TransactionViews.{ask_view, held_view};
 
-use crate::held::TransactionSlot;
-use crate::ticket::{ClientTransaction, Phase, RequestState};
+use crate::transaction::{ClientTransaction, Phase, RequestState};
+use crate::transaction_slot::TransactionSlot;
 use bac_segment::Outgoing;
 
 /// Whether a piece of both is the same.
@@ -16,7 +16,7 @@ fn same_piece(one: &Outgoing, other: &Outgoing, n: usize) -> bool
     one.piece(n) == other.piece(n)
 }
 
-/// Whether both senders have the same pieces, wherever they stand.
+/// Whether both senders have the same pieces, whatever they have sent.
 fn same_pieces(one: &Outgoing, other: &Outgoing) -> bool
     ensures { IsTrue result ↔ (one.now.pieces ≡ other.now.pieces) }
 {
@@ -51,7 +51,7 @@ fn same_ask(one: &RequestState, other: &RequestState) -> bool
     }
 }
 
-/// Whether both stand in the same state, with their transfers alike.
+/// Whether both are in the same state, with the same progress of their transfers.
 fn same_phase(one: &ClientTransaction, other: &ClientTransaction) -> bool
     ensures { IsTrue result ↔ (one.now.phase ≡ other.now.phase) }
 {
@@ -71,8 +71,8 @@ fn same_phase(one: &ClientTransaction, other: &ClientTransaction) -> bool
 }
 
 impl ClientTransaction {
-    /// Whether both are one ticket to contracts: the same request at the same moment, in the same state.
-    pub fn same(&self, other: &ClientTransaction) -> bool
+    /// Whether contracts see no difference: the same request at the same moment, in the same state.
+    pub(crate) fn same(&self, other: &ClientTransaction) -> bool
         ensures { IsTrue result ↔ (self.now ≡ other.now) }
     {
         if self.core.repeats != other.core.repeats {
@@ -89,13 +89,13 @@ impl ClientTransaction {
 }
 
 impl TransactionSlot {
-    /// Whether contracts see the same kept of both.
-    pub fn same(&self, other: &TransactionSlot) -> bool
+    /// Whether contracts see no difference between what both keep.
+    pub(crate) fn same(&self, other: &TransactionSlot) -> bool
         ensures { IsTrue result ↔ (held_view self.now ≡ held_view other.now) }
     {
         match self {
-            TransactionSlot::Open(ticket) => match other {
-                TransactionSlot::Open(open) => ticket.same(open),
+            TransactionSlot::Open(transaction) => match other {
+                TransactionSlot::Open(open) => transaction.same(open),
                 TransactionSlot::Closed { .. } => false,
             },
             TransactionSlot::Closed { first } => match other {

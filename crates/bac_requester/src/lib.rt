@@ -1,44 +1,36 @@
-//! The client's end of a node (clause 5.4): the table of its transactions.
+//! The client's end of a node (clause 5.4): the table of its transactions, and the machine of each (clause 5.4.4).
 //!
-//! A requester does to its slots exactly what the plain client's end of bac_transaction does. Memory is taken before anything changes.
-//!
-//! One transaction of a client (clause 5.4.4): what an ask, an APDU that comes and a tick make of its ticket, and the datagrams that it sends.
-//!
-//! A ticket takes memory before anything of it changes: a call whose memory is refused leaves the ticket as it was.
+//! bac_node makes a [`Requester`] for each node and calls it for each ask, for each APDU of a server and for each tick. A call returns the datagrams to send and
+//! the transactions that have ended; it does no input or output. It does to its slots exactly what bac_transaction's plain definitions of the client's end say.
+//! All memory is allocated before anything changes, so after `NoMemory` nothing has changed.
 #![tactic(auto)]
 
 mod ask_fault;
 mod asking;
 mod await_confirmation;
+mod begin;
 mod client;
 mod comparing;
 mod ending;
-mod getting;
-mod hearing;
-mod held;
 mod outgoing_request;
 mod reaction;
 mod reading;
-mod request_way;
 mod requester;
+mod requester_on_apdu;
+mod requester_tick;
 mod segmented_conf;
 mod segmented_request;
 mod sending;
-mod ticket;
-mod ticking;
 mod timers;
-mod transaction_ticking;
-mod turn;
+mod transaction;
+mod transaction_on_apdu;
+mod transaction_slot;
+mod transaction_tick;
+mod transition;
 
 pub use ask_fault::AskFault;
 pub use asking::Asked;
 pub use client::Client;
 pub use ending::Ending;
-pub use held::TransactionSlot;
-pub use outgoing_request::{OutgoingRequest, RequestFault, RequestWay};
-pub use reaction::Reaction;
-pub use request_way::Begun;
+pub use reaction::{Ended, Reaction};
 pub use requester::Requester;
-pub use ticket::ClientTransaction;
-pub use transaction_ticking::DueTransaction;
-pub use turn::{Due, Finish, Turn};

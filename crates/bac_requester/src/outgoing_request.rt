@@ -1,4 +1,6 @@
-//! Requests that can go to their peer, and the way that each goes.
+//! A request on its way to its peer: in one APDU or in segments (clause 5.2).
+//!
+//! `requester` asks [`RequestWay::of`], and `asking` makes an [`OutgoingRequest`]. All here is private to the crate.
 ghost use Rattle.std.specs.Prelude.{◌≡◌, ℕ, List, length, IfOk};
 ghost use Rattle.bac_apdu.specs.Views.{limits_view};
 ghost use Rattle.bac_transaction.specs.Views.{settings_view};
@@ -24,7 +26,7 @@ const LONGEST_PIECE: usize = 1_470;
 
 /// Why a request can't go.
 #[derive(Clone, Copy, Debug, PartialEq, Eq, Error)]
-pub enum RequestFault {
+pub(crate) enum RequestFault {
     /// It does not fit one APDU, and the peer takes no segments or fewer than are needed.
     #[error("the request needs more segments than the peer takes")]
     NeedsSegments,
@@ -35,7 +37,7 @@ pub enum RequestFault {
 
 /// How a request goes to its peer (clause 5.2).
 #[derive(Clone, Copy, Debug, PartialEq, Eq)]
-pub enum RequestWay {
+pub(crate) enum RequestWay {
     /// In one APDU.
     InOne,
     /// In segments.
@@ -47,10 +49,14 @@ pub enum RequestWay {
 
 impl RequestWay {
     /// The way of a request whose service data have so many octets (clause 5.2): in one APDU where they and 4 octets fit it, otherwise in segments.
-    /// The sizes are those of a node that is set so, and of a peer that takes so much.
+    /// `settings` are those of the node, and `peer` is what the peer takes.
     ///
     /// `TooLong` where the data have more than 65,535 octets; otherwise `NeedsSegments` where they need segments, and the peer takes none or fewer.
-    pub fn of(settings: &Settings, peer: &Limits, len: usize) -> Result<RequestWay, RequestFault>
+    pub(crate) fn of(
+        settings: &Settings,
+        peer: &Limits,
+        len: usize,
+    ) -> Result<RequestWay, RequestFault>
         ensures is { (octets : List ℕ) → length octets ≡ len
             → request_way_of (settings_view settings.now) (limits_view peer.now) octets ≡ way_view octets result }
         ensures fits { IfOk result (λ way. IsWayFor way len) }
@@ -72,7 +78,7 @@ impl RequestWay {
 
 /// A request that can go to its peer: its service choice, and its service data in one APDU or in segments.
 #[derive(Drop)]
-pub struct OutgoingRequest {
+pub(crate) struct OutgoingRequest {
     pub(crate) choice: u8,
     pub(crate) whole: bool,
     // one that goes in one APDU is not cut
@@ -94,7 +100,7 @@ impl Model for OutgoingRequest {
 
 impl OutgoingRequest {
     /// The request of a service choice with these service data, by a way that they can go.
-    pub fn new(choice: u8, way: RequestWay, service: Vec<u8>) -> OutgoingRequest
+    pub(crate) fn new(choice: u8, way: RequestWay, service: Vec<u8>) -> OutgoingRequest
         requires { IsWayFor way (length service.items) }
         ensures { result ≡ request_by choice service.items way }
     {

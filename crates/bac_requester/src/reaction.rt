@@ -1,67 +1,38 @@
-//! What an APDU made of a ticket.
-ghost use Rattle.std.specs.Prelude.{◌≡◌, [], Some, None};
-ghost use Rattle.bac_protocol.specs.Client.Reaction.{Stays};
-ghost use Rattle.bac_requester.specs.Reacts.{Does};
+//! What a call of the client's end hands to its caller: datagrams to send, and transactions that have ended.
+//!
+//! `Requester::on` and `Requester::prepare_tick` return it; bac_node passes both lists on in its `Outcome`. The fields are public: a change of them is a change
+//! of the interface.
+ghost use Rattle.std.specs.Prelude.{◌≡◌, []};
 
 use crate::ending::Ending;
-use crate::ticket::ClientTransaction;
-use bac_transaction::{Context, Datagram};
+use bac_transaction::Datagram;
 use std::alloc::Global;
 
-/// What an APDU made a ticket send, and how it ended it.
+/// A transaction of the client that has ended. It is reported once.
+#[derive(Drop)]
+pub struct Ended {
+    /// Its ticket, as the ask returned it.
+    pub ticket: u64,
+    /// How it ended.
+    pub ending: Ending,
+}
+
+/// What a call of the client's end hands out. The caller sends each datagram, in order, and reports each ending to whoever asked.
 #[derive(Drop)]
 pub struct Reaction {
-    /// What is sent, in order of sending.
+    /// The datagrams to send, in order: after a tick in ascending order of peer and invoke ID.
     pub sends: Vec<Datagram>,
-    /// How the ticket ended, if it did.
-    pub ended: Option<Ending>,
+    /// The transactions that have ended: after an APDU at most one, after a tick in ascending order of peer and invoke ID.
+    pub ended: Vec<Ended>,
 }
 
-/// The end of a ticket: what it sends last, and how it ends.
-#[derive(Drop)]
-pub(crate) struct Closing {
-    pub(crate) sends: Vec<Datagram>,
-    pub(crate) how: Ending,
-}
-
-/// Nothing is sent, and the ticket has not ended.
+/// No datagram and no ending.
 pub(crate) fn nothing(alloc: Global) -> Reaction
     ensures sends { result.sends.items ≡ [] }
-    ensures ended { result.ended ≡ None }
+    ensures ended { result.ended.items ≡ [] }
 {
     Reaction {
         sends: Vec::new(alloc),
-        ended: None,
-    }
-}
-
-/// Nothing of the ticket changes.
-pub(crate) fn stays(alloc: Global, context: &Context, ticket: &ClientTransaction) -> Reaction
-    ensures { Does context.now ticket.now Stays result ticket.now }
-{
-    // that it is open
-    let _phase = &ticket.phase;
-    nothing(alloc)
-}
-
-/// The ticket ends, and nothing is sent.
-pub(crate) fn ends(alloc: Global, how: Ending) -> Reaction
-    ensures sends { result.sends.items ≡ [] }
-    ensures ended { result.ended ≡ Some how }
-{
-    Reaction {
-        sends: Vec::new(alloc),
-        ended: Some(how),
-    }
-}
-
-/// The ticket ends.
-pub(crate) fn closes(closing: Closing) -> Reaction
-    ensures sends { result.sends.items ≡ closing.sends.items }
-    ensures ended { result.ended ≡ Some closing.how }
-{
-    Reaction {
-        sends: closing.sends,
-        ended: Some(closing.how),
+        ended: Vec::new(alloc),
     }
 }

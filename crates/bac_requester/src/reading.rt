@@ -1,16 +1,16 @@
-//! Reading the service data of a ComplexACK.
+//! Reading the service data of a ComplexACK. `await_confirmation` and `segmented_conf` call it; all here is private to the crate.
 ghost use Rattle.std.specs.Prelude.{◌≡◌, IfOk};
 ghost use Rattle.std.specs.Option.{option_map};
 ghost use Rattle.bac_segment.specs.Pieces.{join};
 ghost use Rattle.bac_service.specs.Views.{owned_complex_view};
-ghost use Rattle.bac_requester.specs.Reacts.{IsRead};
+ghost use Rattle.bac_requester.specs.Transitions.{IsRead};
 
 use bac_segment::Incoming;
 use bac_service::{OwnedComplex, ReadError, read_reply, read_reply_parts};
 use bac_value::NoMemory;
 use std::alloc::Global;
 
-/// What the service data of one APDU are; None where they can't be read.
+/// What the service data of one APDU mean; None where they can't be read.
 pub(crate) fn read_one(
     alloc: Global,
     choice: u8,
@@ -25,7 +25,7 @@ pub(crate) fn read_one(
     Ok(Some(complex))
 }
 
-/// What the joined parts of a reassembly are; None where they can't be read. They are not joined.
+/// What the joined parts of a reassembly mean; None where they can't be read. It reads them in place, without joining them.
 pub(crate) fn read_parts(
     alloc: Global,
     choice: u8,

@@ -1,5 +1,8 @@
-//! The client's end.
-ghost use Rattle.std.specs.Prelude.{◌≡◌, ◌≢◌, ℕ, ◌<◌, ◌≤◌, ◌↔◌, [], IfOk, IsTrue, count_by};
+//! The client's end: [`Requester`], the table of a node's own transactions.
+//!
+//! bac_node makes one for each node and calls it for each ask, APDU and tick; nothing else needs to. The methods and their contracts are the interface. The
+//! fields may change.
+ghost use Rattle.std.specs.Prelude.{◌≡◌, ◌≢◌, ℕ, ◌<◌, ◌≤◌, ◌↔◌, [], IfOk, IsErr, IsTrue, count_by};
 ghost use Rattle.bac_apdu.specs.Views.{apdu_view, limits_view};
 ghost use Rattle.bac_npdu.specs.Views.{peer_view};
 ghost use Rattle.bac_service.specs.Requests.{SpellsRequest};
@@ -9,22 +12,22 @@ ghost use Rattle.bac_service.specs.Values.{choice_of};
 ghost use Rattle.bac_service.specs.Views.{owned_request_view, request_view};
 ghost use Rattle.bac_protocol.specs.Context.{Settings as Set};
 ghost use Rattle.bac_protocol.specs.declared.times.TheConstants.{REST as REST_TIME};
-ghost use Rattle.bac_transaction.specs.Ends.{CannotGo, first_after, requester_ask, requester_on_apdu, requester_tick, is_slot_held};
+ghost use Rattle.bac_transaction.specs.Ends.{CannotGo, first_after, requester_ask, key_of, requester_on_apdu, requester_tick, is_slot_held};
 ghost use Rattle.bac_transaction.specs.Tables.{IsOrderlyClient};
 ghost use Rattle.bac_transaction.specs.Ends.AskOutcome.{Refused};
 ghost use Rattle.bac_transaction.specs.Views.{settings_view};
 ghost use Rattle.bac_requester.specs.Timers.{LAST_MOMENT};
 ghost use Rattle.bac_requester.specs.TransactionViews.{fault_view};
 ghost use Rattle.bac_requester.specs.Short.{AreRepliesShort};
-ghost use Rattle.bac_requester.specs.Turns.{Asks, Hears, IsDue, Refuses};
+ghost use Rattle.bac_requester.specs.Reactions.{Asks, HasNoneOpen, IsReaction, OnApdu, Refuses};
 
 use crate::ask_fault::AskFault;
 use crate::asking::{Asked, ask};
 use crate::client::{Client, ClientRules, ShortReplies};
-use crate::hearing::hears;
-use crate::ticking::{nothing_due, prepare};
-use crate::turn::{Due, Turn};
-use crate::{RequestFault, RequestWay};
+use crate::outgoing_request::{RequestFault, RequestWay};
+use crate::reaction::{Ended, Reaction, nothing};
+use crate::requester_on_apdu::requester_on_apdu;
+use crate::requester_tick::prepare;
 use bac_apdu::{Apdu, Limits};
 use bac_npdu::Peer;
 use bac_protocol::times::REST;
@@ -37,13 +40,17 @@ use bac_value::NoMemory;
 use std::alloc::Global;
 use std::marker::Model;
 
-/// The client's end of a node: its transactions, in a table that is made once.
+/// The client's end of a node: its transactions, in a table that is allocated once.
 #[derive(Drop)]
 pub struct Requester<S: SlotTable<PeerKey, Client> + Drop> {
+    alloc: Global,
     aged: AgedTable<ClientRules, S>,
+    // how many asks were accepted
     asked: u64,
     restart: Option<u64>,
     first_id: u8,
+    // always empty; it has room for the next ending once a transaction goes on, so that no ending is lost
+    room: Vec<Ended>,
 }
 
 impl<S: SlotTable<PeerKey, Client> + Drop> Model for Requester<S> {
@@ -58,10 +65,12 @@ impl<S: SlotTable<PeerKey, Client> + Drop> Model for Requester<S> {
 
     ghost view = { λ r. end_of (S.slots r.aged.table) (S.capacity r.aged.table) r.asked (first_after REST r.restart) r.first_id };
 
-    ghost invariant = { λ r. AreAged r.aged.ages (S.slots r.aged.table) };
+    ghost use Rattle.std.specs.Prelude.{◌≡◌, []};
+
+    ghost invariant = { λ r. AreAged r.aged.ages (S.slots r.aged.table) × (r.room.items ≡ []) };
 }
 
-/// A request that can't go, as the fault of its ask.
+/// Why a request can't go, as the fault of its ask.
 fn fault_of(fault: RequestFault) -> AskFault
     ensures { Refuses result (Refused (CannotGo (fault_view fault))) }
 {
@@ -72,10 +81,10 @@ fn fault_of(fault: RequestFault) -> AskFault
 }
 
 impl<S: SlotTable<PeerKey, Client> + Drop> Requester<S> {
-    /// A client's end without transactions, with room for so many, whose invoke IDs begin at 0; an Err where the memory for them is refused.
+    /// A client's end without transactions, with room for `slots` of them, whose invoke IDs begin at 0. `NoMemory` where the table can't be allocated.
     ///
-    /// Where its node restarts at a moment, in milliseconds, it has lost what it had, and asks nothing while no more than 75,000 ms have passed since (own
-    /// rule of this profile): so long a copy of its old life, or an answer to one, may still come.
+    /// `restart` is the moment, in milliseconds, at which its node restarts and has lost what it had. It then refuses each ask while no more than 75,000 ms have
+    /// passed since (own rule of this profile): until then a copy of an old request, or an answer to one, may still arrive.
     pub fn new(alloc: Global, slots: usize, restart: Option<u64>) -> Result<Requester<S>, NoMemory>
         ensures { IfOk result (λ r. r ≡ record { slots = []; capacity = slots; asked = 0; asks_from = first_after REST_TIME restart; first_id = 0 }) }
     {
@@ -83,34 +92,37 @@ impl<S: SlotTable<PeerKey, Client> + Drop> Requester<S> {
             return Err(NoMemory);
         };
         Ok(Requester {
+            alloc,
             aged,
             asked: 0,
             restart,
             first_id: 0,
+            room: Vec::new(alloc),
         })
     }
 
-    /// From now on its invoke IDs begin at that one: an ask takes the least that is not held for the peer from it on, and where all up to 255 are held, the
-    /// least of all.
+    /// Sets where its invoke IDs begin from now on: an ask takes the least one from there on that is not held for the peer, and where all up to 255 are held,
+    /// the least of all.
     pub fn set_first_invoke_id(&mut self, first_id: u8)
         ensures { self.new ≡ record self.old { first_id = first_id } }
     {
         self.first_id = first_id;
     }
 
-    /// Where its invoke IDs begin: 0, or what it was told.
+    /// Where its invoke IDs begin: 0, or what `set_first_invoke_id` set.
     pub fn first_id(&self) -> u8
         ensures { result ≡ self.now.first_id }
     {
         self.first_id
     }
 
-    /// Asks a peer, of another link than the node's own, that takes so much for a request. It takes an invoke ID that is not held for the peer, as
-    /// `set_first_invoke_id` says, and a slot that is not held; while it waits after a restart, it is as if all invoke IDs were held. After a fault nothing has changed; `ClockBack` and `SelfPeer` are never answered, and memory is taken only where no other
-    /// fault holds.
+    /// Asks a peer, of another link than the node's own, for a request. `limits` is what the peer takes (clause 20.1.2). The ask takes an invoke ID that is not
+    /// held for the peer, as `set_first_invoke_id` says, and a slot that is not held. While the end waits after a restart, it is as if all invoke IDs were held.
+    ///
+    /// The fault is the first one that holds of `TooLong`, `NeedsSegments`, `NoInvokeId`, `NoSlot` and `NoMemory`; it allocates only where none of the others
+    /// holds. It never returns `ClockBack` and `SelfPeer`. After a fault nothing has changed.
     pub fn ask(
         &mut self,
-        alloc: Global,
         settings: &Settings,
         now: u64,
         peer: &Peer,
@@ -121,13 +133,12 @@ impl<S: SlotTable<PeerKey, Client> + Drop> Requester<S> {
         ensures asks { Asks (requester_ask (settings_view settings.now) now (peer_view peer.now) (limits_view limits.now)
             (choice_of (owned_request_view request.now)) (request_spelling (owned_request_view request.now)) self.old) self.old result self.new }
     {
-        self.ask_for(alloc, settings, now, peer, limits, request.as_request())
+        self.ask_for(settings, now, peer, limits, request.as_request())
     }
 
-    /// Asks a peer for a request that is lent.
+    /// The same for a request that is lent.
     fn ask_for(
         &mut self,
-        alloc: Global,
         settings: &Settings,
         now: u64,
         peer: &Peer,
@@ -146,7 +157,7 @@ impl<S: SlotTable<PeerKey, Client> + Drop> Requester<S> {
             return Err(AskFault::NoInvokeId);
         }
         ask(
-            alloc,
+            self.alloc,
             settings,
             &mut self.aged,
             &mut self.asked,
@@ -158,16 +169,19 @@ impl<S: SlotTable<PeerKey, Client> + Drop> Requester<S> {
         )
     }
 
-    /// An APDU comes from a peer at a moment, in milliseconds. Where memory is refused, nothing has changed.
+    /// An APDU comes from a peer at a moment, in milliseconds (clause 5.4.4). Call it for each APDU that the server of a transaction sends. Send what it hands
+    /// out, in order, and report its ending, if there is one.
+    ///
+    /// Where no transaction is open for the peer and the invoke ID, it ignores the APDU, and allocates nothing. After `NoMemory` nothing has changed.
     pub fn on(
         &mut self,
-        alloc: Global,
         settings: &Settings,
         now: u64,
         peer: &Peer,
         apdu: &Apdu<'_>,
-    ) -> Result<Turn, NoMemory>
-        ensures { Hears (requester_on_apdu (settings_view settings.now) reads_reply now (peer_view peer.now) (apdu_view apdu.now) self.old) self.old result self.new }
+    ) -> Result<Reaction, NoMemory>
+        ensures reacts { OnApdu (requester_on_apdu (settings_view settings.now) reads_reply now (peer_view peer.now) (apdu_view apdu.now) self.old) self.old result self.new }
+        ensures none_open { HasNoneOpen self.old (key_of (peer_view peer.now) (apdu_view apdu.now)) → IsErr result → ⊥ }
     {
         let key = PeerKey {
             peer: *peer,
@@ -178,35 +192,31 @@ impl<S: SlotTable<PeerKey, Client> + Drop> Requester<S> {
             key,
             moment: now,
         };
-        hears(alloc, &context, &mut self.aged, apdu)
+        requester_on_apdu(self.alloc, &context, &mut self.aged, &mut self.room, apdu)
     }
 
-    /// What a tick sends and ends (clause 5.4.4), at a moment in milliseconds. Nothing changes. Before the first moment at which anything can be due no slot
-    /// is looked at. `NoMemory` where the memory for what is sent is refused.
-    pub fn prepare_tick(
-        &self,
-        alloc: Global,
-        settings: &Settings,
-        now: u64,
-    ) -> Result<Due, NoMemory>
-        ensures { IfOk result (IsDue (requester_tick (settings_view settings.now) now self.now)) }
+    /// What a tick sends and ends (clause 5.4.4), at a moment in milliseconds. Nothing changes: once the caller has all the memory that it needs, it calls
+    /// `commit_tick` with the same moment, and sends. Before the first moment at which anything can be due it looks at no slot. `NoMemory` where the datagrams
+    /// can't be allocated.
+    pub fn prepare_tick(&self, settings: &Settings, now: u64) -> Result<Reaction, NoMemory>
+        ensures { IfOk result (IsReaction (requester_tick (settings_view settings.now) now self.now)) }
     {
         if self.aged.ages.is_quiet(now) {
-            return Ok(nothing_due(alloc));
+            return Ok(nothing(self.alloc));
         }
-        prepare(alloc, settings, &self.aged.table, now)
+        prepare(self.alloc, settings, &self.aged.table, now)
     }
 
-    /// The end after a tick, of which `prepare_tick` says what is sent and ended. It takes no memory. Before the first moment at which anything can be
-    /// due no slot is looked at.
+    /// Makes the tick of which `prepare_tick` says what it sends and ends. It allocates nothing. Before the first moment at which anything can be due it looks at
+    /// no slot.
     pub fn commit_tick(&mut self, settings: &Settings, now: u64)
         ensures { self.new ≡ (requester_tick (settings_view settings.now) now self.old).end }
     {
         tick(&mut self.aged, settings, now);
     }
 
-    /// The first moment, in milliseconds, at which the timer of a ticket is due or a ticket is expired (clause 5.4.4); the last moment of all where no ticket
-    /// is open. A tick before it does nothing; one from it on does something. It looks at each slot.
+    /// The first moment, in milliseconds, at which the timer of a transaction runs out or a transaction expires (clause 5.4.4); the last moment of all where no
+    /// transaction is open. A tick before it does nothing; one from it on does something. It looks at each slot.
     pub fn next_due(&self) -> u64
         ensures rests { (settings : Set) (now : ℕ) → now < result → requester_tick settings now self.now ≡ record { end = self.now; sends = []; ended = [] } }
         ensures moves { (settings : Set) (now : ℕ) → result ≤ now → result < LAST_MOMENT → (requester_tick settings now self.now).end ≢ self.now }
@@ -214,7 +224,7 @@ impl<S: SlotTable<PeerKey, Client> + Drop> Requester<S> {
         first_due(&self.aged.table, 0)
     }
 
-    /// How many slots are held at a moment, in milliseconds: their tickets are open, or no more than 135,000 milliseconds have passed since the first
+    /// How many slots are held at a moment, in milliseconds: their transactions are open, or no more than 135,000 milliseconds have passed since the first
     /// sending (own rule of this profile). No two slots have one key, and there are no more of them than the capacity, whether they are held or not.
     pub fn held(&self, now: u64) -> usize
         ensures number { result ≡ count_by (is_slot_held now) self.now.slots }
@@ -232,8 +242,8 @@ impl<S: SlotTable<PeerKey, Client> + Drop> Requester<S> {
         self.aged.table.room()
     }
 
-    /// A law of each client's end: no ticket keeps more than 65,535 octets of a reply, or more than 65,535 segments. It goes over the table, and changes
-    /// nothing.
+    /// A law of each client's end: no transaction keeps more than 65,535 octets of a reply, or more than 65,535 segments. It goes over the table, and
+    /// changes nothing.
     pub fn reassemblies_are_short(&self)
         ensures { AreRepliesShort self.now.slots }
     {

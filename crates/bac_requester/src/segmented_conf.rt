@@ -1,4 +1,6 @@
-//! A ComplexACK that comes in segments (clause 5.4.4.4).
+//! SEGMENTED_CONF (clause 5.4.4.4): a reply that comes in segments.
+//!
+//! `transaction_on_apdu` calls [`on_next_segment`], `await_confirmation` calls [`takes_segment`] for the first one. All here is private to the crate.
 ghost use Rattle.std.specs.Prelude.{◌≡◌, ◌∷◌, [], IfOk, Ok, false, length};
 ghost use Rattle.bac_apdu.specs.Views.{segment_view};
 ghost use Rattle.bac_segment.specs.Pieces.{join};
@@ -9,16 +11,16 @@ ghost use Rattle.bac_segment.specs.declared.incoming.Step.TheVariants.{Whole};
 ghost use Rattle.bac_service.specs.Services.{reads_reply};
 ghost use Rattle.bac_protocol.specs.Client.{answered_with, client_ack, conf_segment_taken, on_next_segment};
 ghost use Rattle.bac_requester.specs.Fits.{IsShort};
-ghost use Rattle.bac_requester.specs.Reacts.{IsClosing, Reacts, TakesSegment};
+ghost use Rattle.bac_requester.specs.Transitions.{IsClosing, TakesSegment, TriesTransition};
 ghost use Rattle.bac_transaction.specs.Views.{context_view};
 ghost use Rattle.bac_requester.specs.TransactionViews.{ask_view, ticket_view};
-ghost use Rattle.bac_requester.specs.declared.ticket.Phase.TheVariants.{SegmentedConf as Conf};
+ghost use Rattle.bac_requester.specs.declared.transaction.Phase.TheVariants.{SegmentedConf as Conf};
 
 use crate::ending::Ending;
-use crate::reaction::{Closing, Reaction, closes, nothing};
 use crate::reading::read_parts;
 use crate::sending::abort;
-use crate::ticket::RequestState;
+use crate::transaction::RequestState;
+use crate::transition::{Closing, Transition, closes, nothing};
 use bac_apdu::Segment;
 use bac_protocol::reasons::{BUFFER_OVERFLOW, OTHER};
 use bac_segment::{Incoming, Step};
@@ -44,12 +46,12 @@ fn close_with_segments(
         sends.push(abort)?;
         return Ok(Closing {
             sends,
-            how: Ending::Aborted(OTHER),
+            ending: Ending::Aborted(OTHER),
         });
     };
     Ok(Closing {
         sends,
-        how: Ending::Answered(AnyReply::Complex(complex)),
+        ending: Ending::Answered(AnyReply::Complex(complex)),
     })
 }
 
@@ -59,14 +61,14 @@ fn too_long(
     context: &Context,
     core: &RequestState,
     incoming: &Incoming,
-) -> Result<Reaction, NoMemory>
+) -> Result<Transition, NoMemory>
     ensures { TakesSegment context.now (conf_segment_taken (context_view context.now) reads_reply core.now.choice 0 0 TooLong) core.now incoming.now result
         incoming.now }
 {
     let sends = only_abort(alloc, context, false, BUFFER_OVERFLOW)?;
     let closing = Closing {
         sends,
-        how: Ending::Aborted(BUFFER_OVERFLOW),
+        ending: Ending::Aborted(BUFFER_OVERFLOW),
     };
     Ok(closes(closing))
 }
@@ -77,19 +79,19 @@ fn takes_last(
     context: &Context,
     core: &RequestState,
     incoming: &mut Incoming,
-    number: u8,
-    more: bool,
+    segment: Segment,
     octets: &[u8],
-) -> Result<Reaction, NoMemory>
-    requires { answer_of (takes incoming.old number more octets.now) ≡ Ok Whole }
-    ensures { TakesSegment context.now (conf_segment_taken (context_view context.now) reads_reply core.now.choice number incoming.old.window
-        (takes incoming.old number more octets.now)) core.now incoming.old result incoming.new }
+) -> Result<Transition, NoMemory>
+    requires { answer_of (takes incoming.old segment.number segment.more octets.now) ≡ Ok Whole }
+    ensures { TakesSegment context.now (conf_segment_taken (context_view context.now) reads_reply core.now.choice segment.number incoming.old.window
+        (takes incoming.old segment.number segment.more octets.now)) core.now incoming.old result incoming.new }
 {
     let unacknowledged = incoming.unacknowledged();
-    let Ok(_) = incoming.on_segment(number, more, octets) else {
+    let Ok(_) = incoming.on_segment(segment.number, segment.more, octets) else {
         return Err(NoMemory);
     };
-    let Ok(closing) = close_with_segments(alloc, context, core.choice, incoming, number) else {
+    let Ok(closing) = close_with_segments(alloc, context, core.choice, incoming, segment.number)
+    else {
         incoming.take_back(unacknowledged);
         return Err(NoMemory);
     };
@@ -102,25 +104,27 @@ pub(crate) fn takes_segment(
     context: &Context,
     core: &RequestState,
     incoming: &mut Incoming,
-    number: u8,
-    more: bool,
+    segment: Segment,
     octets: &[u8],
-) -> Result<Reaction, NoMemory>
-    ensures { TakesSegment context.now (conf_segment_taken (context_view context.now) reads_reply core.now.choice number incoming.old.window
-        (takes incoming.old number more octets.now)) core.now incoming.old result incoming.new }
+) -> Result<Transition, NoMemory>
+    ensures { TakesSegment context.now (conf_segment_taken (context_view context.now) reads_reply core.now.choice segment.number incoming.old.window
+        (takes incoming.old segment.number segment.more octets.now)) core.now incoming.old result incoming.new }
 {
-    let Ok(step) = incoming.answer(number, more, octets) else {
+    let Ok(step) = incoming.answer(segment.number, segment.more, octets) else {
         return too_long(alloc, context, core, incoming);
     };
     if let Step::Whole = step {
-        return takes_last(alloc, context, core, incoming, number, more, octets);
+        return takes_last(alloc, context, core, incoming, segment, octets);
     }
     let (window, taken) = (incoming.window(), incoming.taken());
-    let sends = step_acks(alloc, context, false, number, window, taken, step)?;
-    let Ok(_) = incoming.on_segment(number, more, octets) else {
+    let sends = step_acks(alloc, context, false, segment.number, window, taken, step)?;
+    let Ok(_) = incoming.on_segment(segment.number, segment.more, octets) else {
         return Err(NoMemory);
     };
-    Ok(Reaction { sends, ended: None })
+    Ok(Transition {
+        sends,
+        ending: None,
+    })
 }
 
 /// A further segment of a ComplexACK comes in SEGMENTED_CONF.
@@ -132,25 +136,17 @@ pub(crate) fn on_next_segment(
     segment: Segment,
     choice: u8,
     octets: &[u8],
-) -> Result<Reaction, NoMemory>
+) -> Result<Transition, NoMemory>
     requires { IsShort core.old.whole core.old.outgoing }
     ensures short { IsShort core.new.whole core.new.outgoing }
-    ensures reacts { Reacts context.now (ticket_view core.old (Conf incoming.old))
+    ensures reacts { TriesTransition context.now (ticket_view core.old (Conf incoming.old))
         (on_next_segment (context_view context.now) reads_reply (ask_view core.old) incoming.old (segment_view segment) choice octets.now) result
         (ticket_view core.new (Conf incoming.new)) }
 {
     if choice != core.choice {
         return Ok(nothing(alloc));
     }
-    let reaction = takes_segment(
-        alloc,
-        context,
-        core,
-        incoming,
-        segment.number,
-        segment.more,
-        octets,
-    )?;
+    let transition = takes_segment(alloc, context, core, incoming, segment, octets)?;
     core.since = context.moment;
-    Ok(reaction)
+    Ok(transition)
 }

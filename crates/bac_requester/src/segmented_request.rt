@@ -1,15 +1,17 @@
-//! A request that goes in segments (clause 5.4.4.2).
+//! SEGMENTED_REQUEST (clause 5.4.4.2): a request that goes in segments, one window after the other.
+//!
+//! `transaction_on_apdu` calls [`on_segment_ack`]. All here is private to the crate.
 ghost use Rattle.bac_segment.specs.Window.{acknowledged};
 ghost use Rattle.bac_protocol.specs.Client.{moves_request_window};
 ghost use Rattle.bac_requester.specs.Fits.{IsShort};
-ghost use Rattle.bac_requester.specs.Reacts.{Reacts};
+ghost use Rattle.bac_requester.specs.Transitions.{TriesTransition};
 ghost use Rattle.bac_transaction.specs.Views.{context_view};
 ghost use Rattle.bac_requester.specs.TransactionViews.{ticket_view};
 
-use crate::reaction::{Reaction, nothing};
-use crate::request_way::ends_all;
+use crate::begin::ends_all;
 use crate::sending::window;
-use crate::ticket::{Phase, RequestState};
+use crate::transaction::{Phase, RequestState};
+use crate::transition::{Transition, nothing};
 use bac_apdu::Window;
 use bac_segment::Progress;
 use bac_transaction::Context;
@@ -25,10 +27,10 @@ pub(crate) fn on_segment_ack(
     all_sent: bool,
     number: u8,
     granted: Window,
-) -> Result<Reaction, NoMemory>
+) -> Result<Transition, NoMemory>
     requires { IsShort core.old.whole core.old.outgoing }
     ensures short { IsShort core.new.whole core.new.outgoing }
-    ensures reacts { Reacts context.now (ticket_view core.old phase.old) (moves_request_window (context_view context.now) core.old.choice all_sent
+    ensures reacts { TriesTransition context.now (ticket_view core.old phase.old) (moves_request_window (context_view context.now) core.old.choice all_sent
         (acknowledged context.now.settings.window.size core.old.outgoing number granted.size)) result (ticket_view core.new phase.new) }
 {
     let was = core.outgoing.position();
@@ -53,7 +55,10 @@ pub(crate) fn on_segment_ack(
             let all_sent = all_sent || ends_all(&core.outgoing);
             core.since = context.moment;
             *phase = Phase::SegmentedRequest { all_sent };
-            Ok(Reaction { sends, ended: None })
+            Ok(Transition {
+                sends,
+                ending: None,
+            })
         }
     }
 }

@@ -1,4 +1,4 @@
-//! Datagrams that a client sends.
+//! The datagrams that a client sends. The handlers of the states call it; all here is private to the crate.
 ghost use Rattle.std.specs.Prelude.{◌≡◌, ◌+◌, ◌-◌, ◌<◌, ◌≤◌, ◌∷◌, [], None, IfOk, length};
 ghost use Rattle.bac_apdu.specs.Apdu.Apdu.{ConfirmedRequest};
 ghost use Rattle.bac_apdu.specs.Views.{apdu_view};

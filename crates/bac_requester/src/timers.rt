@@ -1,16 +1,16 @@
-//! When a ticket is due.
+//! When the timer of a transaction runs out. `client` and the table call it; all here is private to the crate.
 ghost use Rattle.std.specs.Prelude.{◌≡◌};
 ghost use Rattle.bac_requester.specs.Timers.{IsHeldQuiet, IsQuiet, due_of, held_due};
 ghost use Rattle.bac_requester.specs.TransactionViews.{held_view};
 
-use crate::held::TransactionSlot;
-use crate::ticket::{ClientTransaction, Phase};
+use crate::transaction::{ClientTransaction, Phase};
+use crate::transaction_slot::TransactionSlot;
 use bac_protocol::times::{DEADLINE, T_OUT, T_SEG, T_WAIT_FOR_SEG};
 
 impl ClientTransaction {
-    /// The first moment, in milliseconds, at which a tick finds the timer of its state due, or the ticket expired (clause 5.4.4). Before it a tick sends
+    /// The first moment, in milliseconds, at which the timer of its state has run out, or the transaction is expired (clause 5.4.4). Before it a tick sends
     /// nothing and changes nothing.
-    pub fn due(&self) -> u64
+    pub(crate) fn due(&self) -> u64
         ensures due { result ≡ due_of self.now }
         ensures quiet { IsQuiet result self.now }
     {
@@ -25,13 +25,13 @@ impl ClientTransaction {
 }
 
 impl TransactionSlot {
-    /// The first moment, in milliseconds, at which a tick finds something to do; for a ticket that has ended the last moment of all.
-    pub fn due(&self) -> u64
+    /// The first moment, in milliseconds, at which a tick has something to do; the last moment of all for a transaction that has ended.
+    pub(crate) fn due(&self) -> u64
         ensures due { result ≡ held_due (held_view self.now) }
         ensures quiet { IsHeldQuiet result (held_view self.now) }
     {
         match self {
-            TransactionSlot::Open(ticket) => ticket.due(),
+            TransactionSlot::Open(transaction) => transaction.due(),
             TransactionSlot::Closed { .. } => u64::MAX,
         }
     }

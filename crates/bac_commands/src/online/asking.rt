@@ -32,7 +32,7 @@ fn ask_and_print<L: Link, C: Clock, O: Write, E: Write>(
         (timed bound_node.old (C.told clock.old)) (timed bound_node.new (C.told clock.new)) (O.contents out.old) (O.contents out.new)) }
 {
     let mut progress = Progress::new(shows_progress);
-    let ended = bound_node.ask_watched(clock, question, wait_limit, TURNS, &mut progress, err);
+    let ended = bound_node.ask_observed(clock, question, wait_limit, TURNS, &mut progress, err);
     progress.end(err);
     let end = ended?;
     let succeeded = print_ask_end(alloc, output_format, &question.request, &end, out, err)?;

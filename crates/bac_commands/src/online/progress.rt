@@ -1,7 +1,7 @@
 //! The progress of an ask, on a terminal.
 ghost use Rattle.std.specs.Prelude.{⊤};
 
-use bac_driver::{Turn, Watch};
+use bac_driver::{Observer, Turn};
 use bac_node::Node;
 use bac_transaction::Datagram;
 use std::io::Write;
@@ -71,14 +71,14 @@ impl Progress {
     }
 }
 
-impl<W: Write> Watch<W> for Progress {
+impl<W: Write> Observer<W> for Progress {
     ghost State = { Unit {0} };
 
     ghost state = { λ _ _. tt };
 
     ghost Sees = { λ _ _ _. ⊤ };
 
-    fn see(&mut self, _node: &Node, _buffer: &[u8], turn: &Turn, out: &mut W) {
+    fn on_turn(&mut self, _node: &Node, _buffer: &[u8], turn: &Turn, out: &mut W) {
         if !self.is_shown {
             return;
         }

@@ -4,11 +4,11 @@ ghost use Rattle.bac_driver.specs.Runs.{timed};
 ghost use Rattle.bac_commands.specs.Reports.{ReportsServing, ServedText, ServingIsWatched, WatchedServing};
 
 use super::command_error::CommandError;
-use bac_driver::{BoundNode, Clock, Link, WaitLimit, Watch};
+use bac_driver::{BoundNode, Clock, Link, Observer, WaitLimit};
 use bac_text::Status;
 use std::io::Write;
 
-fn serve_and_print<L: Link, C: Clock, V: Watch<E>, O: Write, E: Write>(
+fn serve_and_print<L: Link, C: Clock, V: Observer<E>, O: Write, E: Write>(
     bound_node: &mut BoundNode<L>,
     clock: &mut C,
     wait_limit: &WaitLimit,
@@ -22,7 +22,7 @@ fn serve_and_print<L: Link, C: Clock, V: Watch<E>, O: Write, E: Write>(
     ensures watched { IfOk result (λ _. WatchedServing V.Sees wait_limit.now turns (timed bound_node.old (C.told clock.old)) (timed bound_node.new (C.told clock.new))
         (V.state watch.old err.old) (V.state watch.new err.new)) }
 {
-    let effects = bound_node.serve_watched(clock, wait_limit, turns, watch, err)?;
+    let effects = bound_node.serve_observed(clock, wait_limit, turns, watch, err)?;
     writeln!(out, "served {effects}")?;
     out.flush()?;
     Ok(())
@@ -32,7 +32,7 @@ fn serve_and_print<L: Link, C: Clock, V: Watch<E>, O: Write, E: Write>(
 /// is printed. The watcher sees each turn, and may print on `err`.
 ///
 /// `link fault` on `err` where the link can't receive, `clock fault` where the clock goes back, both with status `Output`.
-pub fn serve<L: Link, C: Clock, V: Watch<E>, O: Write, E: Write>(
+pub fn serve<L: Link, C: Clock, V: Observer<E>, O: Write, E: Write>(
     bound_node: &mut BoundNode<L>,
     clock: &mut C,
     wait_limit: &WaitLimit,

@@ -3,10 +3,7 @@ use super::scene::request_of;
 use super::*;
 use bac_apdu::{Limits, Window, read};
 use bac_npdu::Peer;
-use bac_requester::{
-    AskFault, Begun, Client, ClientTransaction, OutgoingRequest, RequestWay, Requester,
-    TransactionSlot,
-};
+use bac_requester::{AskFault, Client, Ending, Requester};
 use bac_responder::{Responder, ServerTransaction, idle_on_apdu};
 use bac_service::OwnedRequest;
 use bac_slots::{IndexSlots, Same};
@@ -106,7 +103,7 @@ type Indexed = Requester<IndexSlots<PeerKey, Client>>;
 /// Whether an ask is accepted or refused as its row says.
 fn is_accepted(alloc: Global, end: &mut Indexed, request: &OwnedRequest, row: &Asking) -> bool {
     let to = peer(row.1);
-    match end.ask(alloc, &SETTINGS, row.0, &to, &SMALL_APDUS, request) {
+    match end.ask(&SETTINGS, row.0, &to, &SMALL_APDUS, request) {
         Ok(asked) => row.2 == Ok((asked.ticket, asked.invoke_id)),
         Err(fault) => row.2 == Err(fault),
     }
@@ -128,8 +125,8 @@ fn is_rejected(alloc: Global, end: &mut Indexed) -> bool {
     let Ok(apdu) = read(b"\x60\x00\x09") else {
         return false;
     };
-    match end.on(alloc, &SETTINGS, 3_000, &peer(2), &apdu) {
-        Ok(heard) => heard.ended.is_some(),
+    match end.on(&SETTINGS, 3_000, &peer(2), &apdu) {
+        Ok(heard) => !heard.ended.is_empty(),
         Err(_) => false,
     }
 }
@@ -193,48 +190,34 @@ fn an_entry(rt: HostRuntime) -> Result<(), Fail> {
     Ok(())
 }
 
-/// A ticket of an ask at moment 1,000, of service choice 7, though its service data are those of a read.
-fn ticket(alloc: Global) -> Option<ClientTransaction> {
-    let service = Vec::from_slice(alloc, b"\x0C\x00\x00\x00\x05\x19\x55").ok()?;
-    let Ok(way) = RequestWay::of(&SETTINGS, &SMALL_APDUS, service.len()) else {
-        return None;
-    };
-    let request = OutgoingRequest::new(7, way, service);
-    match ClientTransaction::begin(alloc, &context(1_000), request) {
-        Ok(
-            Begun {
-                ticket,
-                sends: _sends,
-            },
-        ) => Some(ticket),
-        Err(_) => None,
+/// Whether the transaction of an ask at moment 1,000 is the next to expire, at 61,001.
+fn expires(end: &Indexed) -> bool {
+    match end.prepare_tick(&SETTINGS, 61_001) {
+        Ok(reaction) => match reaction.ended.first() {
+            Some(ended) => ended.ticket == 0 && matches!(ended.ending, Ending::Expired),
+            None => false,
+        },
+        Err(_) => false,
     }
 }
 
-/// Whether its timer is set, and it expires after 60,000 ms.
-fn is_timed(ticket: &ClientTransaction) -> bool {
-    ticket.first() == 1_000
-        && ticket.choice() == 7
-        && ticket.due() == 4_000
-        && !ticket.is_expired(61_000)
-        && ticket.is_expired(61_001)
-}
-
-/// Whether that holds, and a request is none of its answers.
+/// Whether the transaction of an ask at moment 1,000 takes a request for none of its answers, has its timer set, and expires after 60,000 ms.
 fn ignores_a_request(alloc: Global) -> Option<bool> {
-    let ticket = ticket(alloc)?;
-    let is_timed = is_timed(&ticket);
+    let Ok(mut end) = Indexed::new(alloc, 2, None) else {
+        return None;
+    };
+    let is_asked = are_accepted(alloc, &mut end, &[Asking(1_000, 2, Ok((0, 0)))])?;
     let Ok(apdu) = read(READ) else {
         return None;
     };
-    let mut held = TransactionSlot::Open(ticket);
-    match held.gets(alloc, &context(2_000), &apdu) {
-        Ok(reaction) => Some(is_timed && reaction.sends.is_empty() && reaction.ended.is_none()),
-        Err(_) => None,
-    }
+    let Ok(reaction) = end.on(&SETTINGS, 2_000, &peer(2), &apdu) else {
+        return None;
+    };
+    let is_ignored = reaction.sends.is_empty() && reaction.ended.is_empty();
+    Some(is_asked && is_ignored && end.next_due() == 4_000 && expires(&end))
 }
 
 #[test]
-fn a_ticket(rt: HostRuntime) {
+fn a_request_is_no_answer(rt: HostRuntime) {
     assert!(rt; ignores_a_request(rt.alloc()) == Some(true));
 }

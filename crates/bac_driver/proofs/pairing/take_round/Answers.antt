@@ -11,8 +11,8 @@ returns-clause-taken g c =
           record {
             told = _;
             first = c.in_ok-turn.ensures.taken;
-            wait_limit = c.patience_beside.result;
-            beside = c.patience_beside.ensures;
+            wait_limit = c.wait_limit_beside.result;
+            beside = c.wait_limit_beside.ensures;
             second = c.in_ok-turn_by.ensures.taken;
           };
     }

@@ -8,7 +8,7 @@ use Rattle.bac_transaction.specs.Keys.{PeerKey}
 use Rattle.bac_transaction.specs.Views.{settings_view, slots_view}
 use Rattle.bac_service.specs.Views.{request_view}
 use Rattle.bac_slots.proofs.Aging.{stays_known}
-use Rattle.bac_requester.specs.Turns.{Accepts}
+use Rattle.bac_requester.specs.Reactions.{Accepts}
 use Rattle.bac_requester.specs.Views.{end_of}
 use Rattle.bac_requester.proofs.Accepting.{asked_by, no_id, no_slot, may_begin, free_around, has_room, has_number, accepted, entered, entered_end, not_alive}
 use Rattle.bac_requester.proofs.Aging.{asked_first}
@@ -74,10 +74,10 @@ returns-clause-asks g c = λ from awake.
     c.in-Some.is (sym (c.has_no_slot.ensures from c.args.first_id) ∙ c.if-has_no_slot.false) in
     subst (λ (o : AskOutcome). Accepts o
     (end_of (g.S.SlotTable.slots c.enter.new.aged.table) (g.S.SlotTable.capacity c.enter.new.aged.table) (c.args.asked.now + 1) from c.args.first_id)
-    (record { ticket = c.args.asked.now; invoke_id = c.in-Some.invoke_id; sends = c.in-Ok.begun.sends })) (sym is) (record {
+    (record { ticket = c.args.asked.now; invoke_id = c.in-Some.invoke_id; sends = c.in-Ok.sends })) (sym is) (record {
       end = entered_end (settings_view c.args.settings.now) c.args.now key ask (slots_view (g.S.SlotTable.slots c.args.aged.now.table)) _
-          (g.S.SlotTable.capacity c.args.aged.now.table) _ c.args.asked.now from c.args.first_id c.in-Ok.begun.ticket c.in-Ok.ensures.ticket (entered c.args.now (record { peer = c.args.peer.now; invoke_id = c.in-Some.invoke_id })
-          (record { number = c.args.asked.now; held = Open c.in-Ok.begun.ticket }) (g.S.SlotTable.slots c.args.aged.now.table) _ c.enter.ensures.slots) c.enter.ensures.same;
+          (g.S.SlotTable.capacity c.args.aged.now.table) _ c.args.asked.now from c.args.first_id c.in-Ok.transaction c.in-Ok.ensures.ticket (entered c.args.now (record { peer = c.args.peer.now; invoke_id = c.in-Some.invoke_id })
+          (record { number = c.args.asked.now; held = Open c.in-Ok.transaction }) (g.S.SlotTable.slots c.args.aged.now.table) _ c.enter.ensures.slots) c.enter.ensures.same;
       ticket = refl;
       invoke_id = refl;
       sends = c.in-Ok.ensures.sends;

@@ -6,5 +6,5 @@ use Rattle.bac_requester.proofs.segmented_conf.takes_segment.Goals as goal
 
 pub returns-in_default : goal.returns-in_default
 returns-in_default c =
-    rw (refused_is_too_long (takes c.args.incoming.now c.args.number c.args.more c.args.octets.now) c.in_default.field-0
+    rw (refused_is_too_long (takes c.args.incoming.now c.args.segment.number c.args.segment.more c.args.octets.now) c.in_default.field-0
     (sym c.in_default.is ∙ c.answer.ensures)) c.too_long.ensures

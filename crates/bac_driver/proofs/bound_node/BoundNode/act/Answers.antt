@@ -5,11 +5,11 @@ use Rattle.bac_driver.proofs.bound_node.BoundNode.act.Goals as goal
 
 pub returns-clause-acted : goal.returns-clause-acted
 returns-clause-acted g c =
-    acted _ c.deref.result.now _ _ _ _ (step_view c.hear_received-first.result) (step_view c.tick-second.result) c.self.view_is c.deref.ensures.value refl refl
+    acted _ c.deref.result.now _ _ _ _ (step_view c.on_received-first.result) (step_view c.on_due-second.result) c.self.view_is c.deref.ensures.value refl refl
     (record {
-      middle = c.hear_received-first.new.node;
-      hears = c.hear_received-first.ensures.heard;
-      ticks = c.tick-second.ensures.ticked;
+      middle = c.on_received-first.new.node;
+      hears = c.on_received-first.ensures.heard;
+      ticks = c.on_due-second.ensures.ticked;
       performed = refl;
       dropped = refl;
       sends = refl;

@@ -1,9 +1,12 @@
-use Rattle.std.proofs.Common.{◌≡◌, Option, Some, MatchOption, subst}
+-- One more turn, which the observer saw.
+use Rattle.std.proofs.Common.{◌≡◌, Option, Some, None, MatchOption, subst}
 use Rattle.bac_requester.specs.TransactionViews.{ending_view}
 use Rattle.bac_driver.specs.Views.{turn_view}
+use Rattle.bac_driver.specs.Seen.{seen, turn_of}
 use Rattle.bac_driver.specs.Serving.{TakesEarlyTurn}
-use Rattle.bac_driver.specs.Asking.{own_turn}
-use Rattle.bac_driver.proofs.Loops.{none_told, one_more_waited}
+use Rattle.bac_driver.specs.Asking.{ending_in, own_turn}
+use Rattle.bac_driver.specs.Observed.{TakesObservedTurn}
+use Rattle.bac_driver.proofs.Loops.{none_told, one_more_waited, seen_once}
 use Rattle.bac_driver.proofs.bound_node.BoundNode.wait.Goals as goal
 
 -- what a turn was, where it was taken
@@ -12,6 +15,15 @@ taken_of r is_over is_taken x is taken = subst (λ o. MatchOption o is_over is_t
 
 pub loop-preserved : goal.loop-preserved
 loop-preserved g c =
-    one_more_waited (TakesEarlyTurn c.args.wait_limit.now) own_turn c.loop.counter c.args.ticket (turn_view c.in-Some.turn) _ _ _ c.loop.invariant
-    (taken_of _ _ _ c.in-Some.turn c.in-Some.is c.in_ok-turn.ensures.taken)
-    (none_told ending_view c.ending_in.result _ c.in_default-ending_in.not-Some c.ending_in.ensures)
+    let taken = taken_of _ _ _ c.in-Some.turn c.in-Some.is c.in_ok-turn.ensures.taken in
+    let none : ending_in c.args.ticket (turn_view c.in-Some.turn) ≡ None =
+    none_told ending_view c.ending_in.result _ c.in_default-ending_in.not-Some c.ending_in.ensures in
+    record {
+      waited = one_more_waited (TakesEarlyTurn c.args.wait_limit.now) own_turn c.loop.counter c.args.ticket (turn_view c.in-Some.turn) _ _ _
+          c.loop.invariant.waited taken none;
+      seen =
+          one_more_waited (TakesObservedTurn g.O.Observer.Sees c.args.wait_limit.now) turn_of c.loop.counter c.args.ticket
+          (seen c.node.result.now c.buffer.result.now (turn_view c.in-Some.turn)) _ _ _ c.loop.invariant.seen
+          (seen_once g.O.Observer.Sees c.args.wait_limit.now _ _ (turn_view c.in-Some.turn) c.node.result.now c.buffer.result.now _ _ c.node.ensures
+          c.buffer.ensures.octets taken c.on_turn.ensures) none;
+    }

@@ -2,11 +2,11 @@
 use Rattle.std.proofs.Common.{refl, ap, map}
 use Rattle.bac_apdu.specs.Views.{apdu_view}
 use Rattle.bac_npdu.specs.Views.{peer_view}
-use Rattle.bac_requester.specs.Views.{finish_view}
+use Rattle.bac_requester.specs.Views.{ended_view}
 use Rattle.bac_node.proofs.Turns.{server_turned}
 use Rattle.bac_node.proofs.node.Node.responder_on_apdu.Goals as goal
 
 pub returns-clause-heard : goal.returns-clause-heard
 returns-clause-heard c =
     rw (← c.self.view_is) (server_turned c.args.now _ c.on.new.self c.on.new.store (peer_view c.args.peer.now) (apdu_view c.args.apdu.now)
-    c.in_ok-sends.field-0.sends.items c.in_ok-sends.field-0.act _ c.in_ok-sends.ensures refl (ap (map finish_view) c.new.ensures.items) refl refl)
+    c.in_ok-sends.field-0.sends.items c.in_ok-sends.field-0.act _ c.in_ok-sends.ensures refl (ap (map ended_view) c.new.ensures.items) refl refl)

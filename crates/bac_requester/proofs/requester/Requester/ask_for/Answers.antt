@@ -9,7 +9,7 @@ use Rattle.bac_protocol.specs.declared.times.TheConstants.{REST}
 use Rattle.bac_protocol.specs.Service.{Octets}
 use Rattle.bac_transaction.specs.Ends.{AskOutcome, ClientEnd, first_after}
 use Rattle.bac_transaction.specs.Views.{settings_view}
-use Rattle.bac_requester.specs.Turns.{Asks}
+use Rattle.bac_requester.specs.Reactions.{Asks}
 use Rattle.bac_requester.specs.Views.{end_of}
 use Rattle.bac_requester.proofs.Accepting.{asked_by, can_go, waiting}
 use Rattle.bac_requester.proofs.requester.Requester.ask_for.Goals as goal
