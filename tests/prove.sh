@@ -31,8 +31,8 @@ prove() {
         : > "$WORK/failed"
         exit 255 # so that xargs begins no other crate
     fi
+    echo "[$(($(ls "$WORK/proved" | wc -l) + 1))/$COUNT] $crate: $(($(date +%s) - begun)) seconds"
     : > "$WORK/proved/$crate"
-    echo "[$(ls "$WORK/proved" | wc -l)/$COUNT] $crate: $(($(date +%s) - begun)) seconds"
 }
 
 if [ "${1:-}" = --one ]; then

@@ -33,7 +33,11 @@ mkdir "$work/bin"
 cat > "$work/bin/rt" <<'STANDS_FOR'
 #!/bin/sh
 if [ "$(basename "$PWD")" = "${FAILS:-}" ]; then echo "this crate fails"; exit 1; fi
-if [ "$1" = run ]; then cat stdout; fi
+if [ "$1" = run ]; then
+    # as the program: help has status 2
+    if [ "$*" != "run -- $(paste -s -d ' ' args)" ]; then exit 2; fi
+    cat stdout
+fi
 STANDS_FOR
 chmod +x "$work/bin/rt"
 
@@ -41,7 +45,8 @@ run "$work/bin:"
 if [ "$status" -ne 0 ] || ! ends_proved; then wrong "status $status, or another last line, where each crate is proved"; fi
 named > "$work/named"
 if [ -n "$(sort "$work/named" | uniq -d)" ]; then wrong "a crate is proved twice"; fi
-if [ "$(tail -n 1 "$work/named")" != bac ]; then wrong "bac is not the last crate"; fi
+count=$(wc -l < "$work/named")
+grep -Eqx "\[$count/$count\] bac: [0-9]+ seconds" "$work/out" || wrong "bac is not the last of $count crates"
 : > "$work/wanted"
 # Each crate needs those below it before it, and only bac is needed by no other.
 while read -r crate; do

@@ -17,22 +17,22 @@ none_left (suc count) order options short = go (nat_lt (length options) 5) refl 
     go false e other = absurd (grind (arith, nat_tests, e, short))
 
 -- the result if an option other than the end is left, and this many more options are read
-abbrev pub told_on : ℕ → Order → List ℕ → ℕ
-told_on count order options =
+abbrev pub stated_on : ℕ → Order → List ℕ → ℕ
+stated_on count order options =
     if number_of order 2 options == 9 then slice_index options 4 else
     resolution_in count order (drop (option_len (number_of order 2 (drop 2 options))) options)
 
 -- the result if an option is left
-abbrev pub told : ℕ → Order → List ℕ → ℕ
-told count order options = if number_of order 2 options == 0 then 6 else told_on count order options
+abbrev pub stated : ℕ → Order → List ℕ → ℕ
+stated count order options = if number_of order 2 options == 0 then 6 else stated_on count order options
 
 pub one_left : (count less : ℕ) (order : Order) (options : List ℕ) → count ≡ less + 1 → 5 ≤ length options
-    → resolution_in count order options ≡ told less order options
+    → resolution_in count order options ≡ stated less order options
 unfolding resolution_in
 one_left zero less order options some long = absurd (omega (arith, some))
 one_left (suc count) less order options some long =
     let same : count ≡ less = omega (arith, some) in
-    go (nat_lt (length options) 5) refl _ ∙ ap (λ n. told n order options) same
+    go (nat_lt (length options) 5) refl _ ∙ ap (λ n. stated n order options) same
   where
     go : (b : Bool) → nat_lt (length options) 5 ≡ b → (other : ℕ) → (if b then 6 else other) ≡ other
     go true e other = absurd (grind (arith, nat_tests, e, long))

@@ -19,7 +19,7 @@ use Rattle.bac_capture.specs.declared.check_fault.CapturedFault.TheVariants.{Fil
 use Rattle.bac_capture.specs.Counts.{Counts, OTHERS, no_frames, counted, IsTallied}
 use Rattle.bac_capture.specs.Judged.{IsVerdict}
 use Rattle.bac_capture.specs.CheckTexts.{frame_fault_text}
-use Rattle.bac_capture.specs.Walks.{Tells, IsFileIn}
+use Rattle.bac_capture.specs.Walks.{Prints, IsFileIn}
 
 -- for the frame with this number, from 1: nothing unless it is bad
 abbrev pub verdict_text : ℕ → Verdict → List ℕ
@@ -69,7 +69,7 @@ pub record SeesFrame (also : Option ℕ) (frame : FrameView) (counts : Counts) (
   pub counted : IsCounted verdict counts text next
 
 -- the file cannot be read further: this is printed for the frame that would follow
-abbrev pub BreaksFile : Tells FileFault Counts
+abbrev pub BreaksFile : Prints FileFault Counts
 BreaksFile fault counts text next = IsCounted (Bad (File fault)) counts text next
 
 -- what is printed for a file, and the status: what is wrong with its frames, and then the counts

@@ -3,7 +3,7 @@ ghost use Rattle.std.specs.Prelude.{IfOk, OnOk};
 ghost use Rattle.std.specs.Io.KnownBytes.{Appends};
 ghost use Rattle.bac_capture.specs.Checked.{verdict_text, tally_text, IsCounted, IsFileReport, IsFrontReport, IsReportOf};
 ghost use Rattle.bac_capture.specs.Counted.{counts_of};
-ghost use Rattle.bac_capture.specs.Reports.{IsTold};
+ghost use Rattle.bac_capture.specs.Reports.{IsPrinted};
 ghost use Rattle.bac_text.specs.Statuses.{IsStop};
 
 use crate::broken::Broken;
@@ -12,7 +12,7 @@ use crate::error::{CheckError, stopped};
 use crate::judging::judge;
 use crate::others::print_named;
 use crate::tally::Tally;
-use crate::walk::{Watch, walk_file};
+use crate::walk::{FrameVisitor, walk_file};
 use crate::{FileFault, Form, Frame, Order, Ports, form_of, read_run};
 use bac_text::{Status, check_over};
 use std::alloc::Global;
@@ -31,7 +31,7 @@ fn print_verdict<W: Write>(number: u64, verdict: Verdict, out: &mut W) -> io::Re
 
 /// Counts a frame, and prints what is wrong with it.
 fn count<W: Write>(verdict: Verdict, tally: Tally, out: &mut W) -> Result<Tally, CheckError>
-    ensures { IfOk result (λ t. IsTold IsCounted verdict (W.contents out.old) (W.contents out.new) (counts_of tally) (counts_of t)) }
+    ensures { IfOk result (λ t. IsPrinted IsCounted verdict (W.contents out.old) (W.contents out.new) (counts_of tally) (counts_of t)) }
 {
     let Some(counted) = tally.with(verdict) else {
         return Err(CheckError::Input(io::Error::from(ErrorKind::FileTooLarge)));
@@ -42,7 +42,7 @@ fn count<W: Write>(verdict: Verdict, tally: Tally, out: &mut W) -> Result<Tally,
     }
 }
 
-impl<W: Write> Watch<W> for Tally {
+impl<W: Write> FrameVisitor<W> for Tally {
     ghost use Rattle.bac_capture.specs.Checked.{BreaksFile, SeesFrame};
     ghost use Rattle.bac_capture.specs.Counts.{Counts};
     ghost use Rattle.bac_capture.specs.Counted.{counts_of};
@@ -51,11 +51,16 @@ impl<W: Write> Watch<W> for Tally {
 
     ghost state = { counts_of };
 
-    ghost Sees = { SeesFrame };
+    ghost Visits = { SeesFrame };
 
     ghost Breaks = { BreaksFile };
 
-    fn see(&mut self, frame: Frame<'_>, ports: Ports, out: &mut W) -> Result<(), CheckError> {
+    fn visit_frame(
+        &mut self,
+        frame: Frame<'_>,
+        ports: Ports,
+        out: &mut W,
+    ) -> Result<(), CheckError> {
         *self = count(judge(frame, ports), *self, out)?;
         Ok(())
     }

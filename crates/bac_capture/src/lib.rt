@@ -36,7 +36,6 @@ mod tally;
 mod udp;
 mod walk;
 
-pub use crate::Ports;
 pub use block::{Block, Frame};
 pub use bvlc::{BvlcFunction, OtherBvll};
 pub use capture::{NodeDatagram, print_head, print_record};
@@ -53,4 +52,4 @@ pub use packet::{Datagram, Endpoint};
 pub use ports::Ports;
 pub use reading::read_frame;
 pub use run::read_run;
-pub use walk::{Watch, walk_file};
+pub use walk::{FrameVisitor, walk_file};

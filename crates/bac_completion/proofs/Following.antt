@@ -286,7 +286,7 @@ module _ (links : ℕ → Option Octets) (apart : (i j : ℕ) (l : Octets) → l
       where
         on : NodeOn w.now from octets d.hears.before d.hears.after d.hears.outcome → Followed w' n
         on (inl z) = dropped w w' n h i d.hears.before d.hears.after d.hears.outcome d.hears.at d.hears.acts from octets z
-        on (inr z) = absurd (d.noise.meaningless z.peer z.apdu z.means)
+        on (inr z) = absurd (d.noise z.peer z.apdu z.means)
 
     asks : (w w' : World) (n : Net) → Over links apart W x w n → (c s : ℕ) (limits : Limits) (r : Request) → IsAsked w c s limits r w' → Followed w' n
     asks w w' n h c s limits r a =

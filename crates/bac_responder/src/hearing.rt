@@ -13,20 +13,21 @@ ghost use Rattle.bac_responder.specs.Views.{acted_view, end_of, turn_of, Serves}
 
 use crate::aging::ServerRules;
 use crate::served::{Act, Served};
-use crate::{Answered, Effect, IdleReaction, Reaction, ServerTransaction, idle_on_apdu, live_on_apdu};
+use crate::{Performed, ServerTransaction, idle_on_apdu};
 use bac_apdu::Apdu;
 use bac_protocol::times::KEEP;
 use bac_slots::{AgedTable, SlotTable, enter, has_room};
 use bac_store::Store;
-use bac_transaction::{Context, Datagram, PeerKey, is_waiting};
+use bac_transaction::{Context, PeerKey, is_waiting};
 use bac_value::NoMemory;
 use std::alloc::Global;
 
 /// What was sent, and what was performed for that transaction.
-fn served(key: PeerKey, sends: Vec<Datagram>, effect: Option<Effect>) -> Served
-    ensures sends { result.sends.items ≡ sends.items }
-    ensures act { acted_view result.act ≡ acted_of (peer_key_view key) (performed_view effect) }
+fn served(key: PeerKey, performed: Performed) -> Served
+    ensures sends { result.sends.items ≡ performed.sends.items }
+    ensures act { acted_view result.act ≡ acted_of (peer_key_view key) (performed_view performed.effect) }
 {
+    let Performed { sends, effect } = performed;
     match effect {
         None => Served { sends, act: None },
         Some(effect) => Served {
@@ -80,16 +81,12 @@ fn idle_hears<S: SlotTable<PeerKey, ServerTransaction>>(
     ensures known { IsKnownBy context.now.moment aged.old.ages.latest → IsKnownBy context.now.moment aged.new.ages.latest }
 {
     let free = has_place(aged, restart, context.moment, apdu);
-    match idle_on_apdu(alloc, context, free, apdu, store)? {
-        IdleReaction::Stays(sends) => Ok(Served { sends, act: None }),
-        IdleReaction::Begins(reaction) => {
-            let Reaction {
-                entry,
-                sends,
-                effect,
-            } = reaction;
-            enter(aged, context.key, context.moment, entry);
-            Ok(served(context.key, sends, effect))
+    let (performed, begun) = idle_on_apdu(alloc, context, free, apdu, store)?;
+    match begun {
+        None => Ok(served(context.key, performed)),
+        Some(transaction) => {
+            enter(aged, context.key, context.moment, transaction);
+            Ok(served(context.key, performed))
         }
     }
 }
@@ -116,12 +113,11 @@ pub(crate) fn hears<S: SlotTable<PeerKey, ServerTransaction>>(
     if !slot.is_live(context.moment) {
         return idle_hears(alloc, context, aged, restart, apdu, store);
     }
-    match live_on_apdu(alloc, context, slot, apdu, store) {
-        Ok(answered) => {
+    match slot.on_apdu(alloc, context, apdu, store) {
+        Ok(performed) => {
             let due = slot.due(from);
             aged.ages.comes_due(due);
-            let Answered { sends, effect } = answered;
-            Ok(served(context.key, sends, effect))
+            Ok(served(context.key, performed))
         }
         Err(_) => Err(NoMemory),
     }

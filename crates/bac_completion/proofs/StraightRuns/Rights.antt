@@ -68,7 +68,7 @@ module _ (opening : Stores) where
   one_stores (Ended n how ∷ log) stores other h k node = h.1.2 node ∙ one_stores log h.0 k.0 h.2 k.2 node ∙ sym (k.1.2 node)
   one_stores (Changed i c ∷ log) stores other h k node =
       let again = one_stores log h.0 k.0 h.2 k.2 in
-      h.1 node ∙ (λ d. if nat_eq node i then option_map (changed c) (again i d) else again node d) ∙ sym (k.1 node)
+      h.1.stores node ∙ (λ d. if nat_eq node i then option_map (changed c) (again i d) else again node d) ∙ sym (k.1.stores node)
   one_stores (Restarted i o ∷ log) stores other h k node =
       let again = one_stores log h.0 k.0 h.2 k.2 in
       h.1 node ∙ (λ d. if nat_eq node i then option_map (λ (y : Store). store_after_restart y o) (again i d) else again node d) ∙ sym (k.1 node)

@@ -63,7 +63,7 @@ returns-in-Ok-clause-turn g c =
     let k : PeerKey = peer_key_view key in
     let set : Context = context_view c.args.context.now in
     let d : ServerTransaction = c.in-Some.slot.now in
-    let x : ServerTransaction = c.live_on_apdu.new.entry in
+    let x : ServerTransaction = c.on_apdu.new.self in
     let alive : is_live now d ≡ true = sym c.is_live.ensures ∙ c.if-not-is_live.false in
     let seen : value_at same_key k e.slots ≡ Some d = sym (value_viewed ServerTransaction key slots) ∙ sym c.in-Some.ensures.value in
     let live : is_none_live now (value_at same_key k e.slots) ≡ false = ap (is_none_live now) seen ∙ none_live now d ∙ ap not alive in
@@ -80,7 +80,7 @@ returns-in-Ok-clause-aged g c =
     let now : ℕ = c.args.context.now.moment in
     let slots : List (Slot CodeKey ServerTransaction) = g.S.SlotTable.slots c.args.aged.now.table in
     let d : ServerTransaction = c.in-Some.slot.now in
-    let x : ServerTransaction = c.live_on_apdu.new.entry in
+    let x : ServerTransaction = c.on_apdu.new.self in
     let alive : is_live now d ≡ true = sym c.is_live.ensures ∙ c.if-not-is_live.false in
     let at : value_at code_same_key key slots ≡ Some d = sym c.in-Some.ensures.value in
     let begun = live_begun (context_view c.args.context.now) (service_of c.args.store.now) d x (apdu_view c.args.apdu.now) alive c.in-Ok.ensures.entry_is in
@@ -92,7 +92,7 @@ returns-in-Ok-clause-aged g c =
 pub returns-in-Err-clause-turn : goal.returns-in-Err-clause-turn
 returns-in-Err-clause-turn g c =
     let d : ServerTransaction = c.in-Some.slot.now in
-    let x : ServerTransaction = c.live_on_apdu.new.entry in
+    let x : ServerTransaction = c.on_apdu.new.self in
     let unchanged = put_back ServerTransaction c.args.context.now.key d x (g.S.SlotTable.slots c.args.aged.now.table) _ (sym c.in-Some.ensures.value)
     c.in-Err.ensures.0 (c.get_mut.follows.holds x).0 in (
       same_end _ _ _ _ c.args.restart unchanged (c.get_mut.follows.holds x).1,
@@ -102,7 +102,7 @@ returns-in-Err-clause-turn g c =
 pub returns-in-Err-clause-aged : goal.returns-in-Err-clause-aged
 returns-in-Err-clause-aged g c =
     let d : ServerTransaction = c.in-Some.slot.now in
-    let x : ServerTransaction = c.live_on_apdu.new.entry in
+    let x : ServerTransaction = c.on_apdu.new.self in
     let unchanged = put_back ServerTransaction c.args.context.now.key d x (g.S.SlotTable.slots c.args.aged.now.table) _ (sym c.in-Some.ensures.value)
     c.in-Err.ensures.0 (c.get_mut.follows.holds x).0 in
     subst (λ (y : List (Slot CodeKey ServerTransaction)). AreAged c.args.aged.now.ages y) (sym unchanged) c.requires.aged
