@@ -1,7 +1,7 @@
 -- The addresses and the errors of a link over UDP.
 use Rattle.std.specs.Prelude.{ℕ, Bool, true, false, List, [], ◌∷◌}
-use Rattle.std_io.specs.declared.io.kind.ErrorKind.{ErrorKind}
-use Rattle.std_io.specs.declared.io.kind.ErrorKind.TheVariants as kind
+use Rattle.std.specs.declared.io.ErrorKind.{ErrorKind}
+use Rattle.std.specs.declared.io.ErrorKind.TheVariants as kind
 use Rattle.bac_driver.specs.declared.udp.UdpLink.{UdpLink}
 
 -- the address of this machine that no other one reaches

@@ -11,10 +11,10 @@ ghost use Rattle.bac_driver.specs.Views.{question_view, turn_view};
 use crate::bound_node::BoundNode;
 use crate::endings::ending_in;
 use crate::fault::TurnFault;
+use crate::observer::{NoObserver, Observer};
 use crate::question::{AskEnd, Question};
 use crate::turn::Turn;
 use crate::wait_limit::WaitLimit;
-use crate::observer::{NoObserver, Observer};
 use crate::{Clock, Link};
 use bac_requester::{AskFault, Ending};
 

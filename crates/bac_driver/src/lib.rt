@@ -24,12 +24,12 @@ pub use bound_node::BoundNode;
 pub use clock::{Clock, MonotonicClock};
 pub use fault::TurnFault;
 pub use link::{Link, LinkFault};
+pub use observer::{NoObserver, Observer};
 pub use pairing::pair;
 pub use question::{AskEnd, Question};
 pub use turn::Turn;
 pub use udp::UdpLink;
 pub use wait_limit::WaitLimit;
-pub use observer::{NoObserver, Observer};
 
 #[cfg(test)]
 mod tests;

@@ -9,9 +9,9 @@ ghost use Rattle.bac_driver.specs.Views.{turn_view};
 
 use crate::bound_node::BoundNode;
 use crate::fault::TurnFault;
+use crate::observer::{NoObserver, Observer};
 use crate::turn::Turn;
 use crate::wait_limit::WaitLimit;
-use crate::observer::{NoObserver, Observer};
 use crate::{Clock, Link};
 
 impl WaitLimit {

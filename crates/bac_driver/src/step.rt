@@ -55,7 +55,13 @@ impl NodeStep {
 
 /// The node takes a datagram.
 #[tactic(auto, using(crate::proofs::Turned::heard_in_time))]
-fn on_datagram(alloc: Global, node: &mut Node, now: u64, from: LinkAddress, octets: &[u8]) -> NodeStep
+fn on_datagram(
+    alloc: Global,
+    node: &mut Node,
+    now: u64,
+    from: LinkAddress,
+    octets: &[u8],
+) -> NodeStep
     requires { node.old.latest ≤ now }
     ensures heard { HearsOne now from octets.now node.old node.new (step_view result) }
     ensures most { result.skipped ≤ 1 }

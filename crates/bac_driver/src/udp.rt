@@ -1,6 +1,6 @@
 //! A link over UDP (clause J.1): [`UdpLink`]. Programs bind it; the methods and their contracts are the interface.
 ghost use Rattle.std.specs.Prelude.{◌≡◌, ℕ, None, IfOk};
-ghost use Rattle.std_io.specs.IoError.{error_kind};
+ghost use Rattle.std.specs.IoError.{error_kind};
 ghost use Rattle.bac_driver.specs.Calls.{one_more};
 ghost use Rattle.bac_driver.specs.Udp.{LOCAL_HOST, bound_host, bound_port, is_empty_wait, udp_address};
 

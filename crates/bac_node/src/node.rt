@@ -32,8 +32,8 @@ ghost use Rattle.bac_requester.specs.Timers.{LAST_MOMENT};
 
 use crate::config::Config;
 use crate::fault::{NewNodeFault, NodeFault};
-use crate::reading::{is_from_client, read_from};
 use crate::outcome::Outcome;
+use crate::reading::{is_from_client, read_from};
 use bac_apdu::{Apdu, Limits, Window};
 use bac_npdu::{LinkAddress, Peer};
 use bac_requester::{AskFault, Asked, Client, Reaction, Requester};
