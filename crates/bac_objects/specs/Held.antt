@@ -1,5 +1,5 @@
 -- Values in a document: a table with the value under the word of its form, and a flag.
-use Rattle.std.specs.Prelude.{◌≡◌, ℕ, ◌+◌, ◌==◌, Bool, true, false, List, [], ◌∷◌, map, codes, is_some, if◌then◌else◌, Option, Some, None, Result, Ok, Err}
+use Rattle.std.specs.Prelude.{ℕ, ◌+◌, ◌==◌, Bool, false, List, [], ◌∷◌, map, codes, is_some, if◌then◌else◌, Option, Some, None, Result, Ok, Err}
 use Rattle.std.specs.Borrow.{Bor}
 use Rattle.bac_value.specs.Steps.{◌>>=◌}
 use Rattle.toml.specs.Data.{Data, Members, no_members, member, get_member}

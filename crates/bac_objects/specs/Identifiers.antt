@@ -1,5 +1,5 @@
 -- Object types and identifiers in a document (clause 20.2.14).
-use Rattle.std.specs.Prelude.{ℕ, ◌==◌, List, codes, Bool, nat_le, if◌then◌else◌, Option, Some, None, Result, Ok, Err}
+use Rattle.std.specs.Prelude.{ℕ, ◌==◌, List, codes, nat_le, if◌then◌else◌, Option, Some, None, Result, Ok, Err}
 use Rattle.bac_value_text.specs.Names.{number_in}
 use Rattle.bac_value_text.specs.ObjectTypes.{OBJECT_TYPES}
 use Rattle.bac_value.specs.Steps.{◌>>=◌}

@@ -1,5 +1,5 @@
 -- The properties and the contents of a file of an object in a document (clause 12).
-use Rattle.std.specs.Prelude.{ℕ, nat_le, nat_lt, ◌==◌, ◌&&◌, not, Bool, true, false, List, [], ◌∷◌, length, codes, if◌then◌else◌, Option, Some, None, Result, Ok, Err}
+use Rattle.std.specs.Prelude.{ℕ, nat_lt, ◌==◌, Bool, true, false, List, [], ◌∷◌, length, if◌then◌else◌, Result, Ok, Err}
 use Rattle.bac_value_text.specs.Reading.{property_of as property_word}
 use Rattle.bac_value.specs.declared.fault.FaultKind.{FaultKind}
 use Rattle.bac_value.specs.Reading.{data_of}
@@ -9,7 +9,7 @@ use Rattle.bac_store.specs.Limits.{BINARY_VALUE, DESCRIPTION, FILE_LIMIT, VALUE_
 use Rattle.bac_store.specs.Objects.{are_right_values, is_right_number}
 use Rattle.bac_store.specs.Stores.{Property, File, is_number, kind_of}
 use Rattle.toml.specs.Data.{Data}
-use Rattle.bac_objects.specs.Held.{FORMS, FILE_FORMS, Held, held_in}
+use Rattle.bac_objects.specs.Held.{FORMS, FILE_FORMS, held_in}
 use Rattle.bac_objects.specs.Identifiers.{or_other}
 use Rattle.bac_objects.specs.Reading.{other, text_of, too_long}
 use Rattle.bac_objects.specs.Values.{hex_of, value_of}

@@ -1,5 +1,5 @@
 -- The values in a document, and the results of readers in code.
-use Rattle.std.specs.Prelude.{◌≡◌, ⊤, ℕ, ℤ, pos, negsuc, nat_le, Float, Bool, true, false, List, Option, Some, None, Result, Ok, Err, if◌then◌else◌}
+use Rattle.std.specs.Prelude.{ℕ, ℤ, pos, negsuc, nat_le, Float, Bool, true, false, List, Option, Some, None, Result, Ok, Err, if◌then◌else◌}
 use Rattle.bac_value.specs.Steps.{◌>>=◌}
 use Rattle.bac_value.specs.Value.{Datum}
 use Rattle.toml_datetime.specs.declared.datetime.Datetime.{Datetime}

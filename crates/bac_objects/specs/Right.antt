@@ -1,5 +1,5 @@
 -- The invariant of the objects that are read so far: a store can contain them.
-use Rattle.std.specs.Prelude.{◌≡◌, ◌≢◌, ℕ, IsTrue, List}
+use Rattle.std.specs.Prelude.{◌≢◌, ℕ, IsTrue, List}
 use Rattle.std.specs.List.{All, AllPairs}
 use Rattle.bac_store.specs.Objects.{AreDistinct, IsRight, is_right_property}
 use Rattle.bac_store.specs.Stores.{Object, Property}
