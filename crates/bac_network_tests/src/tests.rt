@@ -17,6 +17,7 @@ mod generated;
 mod journal;
 mod laws;
 mod limits;
+mod links;
 mod memory;
 mod scene;
 mod sleeping;

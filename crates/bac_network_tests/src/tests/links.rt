@@ -1,10 +1,10 @@
 //! Datagrams between two sockets, and the clock.
-use super::*;
+use bac_driver::{Clock, Link, MonotonicClock, UdpLink};
 use bac_npdu::LinkAddress;
 use std::alloc::Global;
 use std::test::Fail;
 
-/// Whether these octets, or as many of them as a buffer of two has room for, come from an address.
+/// Whether these octets, or as many of them as a buffer of two has room for, arrive from an address.
 fn comes(link: &mut UdpLink, wait: u64, from: LinkAddress, octets: &[u8]) -> bool {
     let mut buffer = [0u8; 2];
     match link.recv(&mut buffer, wait) {
@@ -13,17 +13,17 @@ fn comes(link: &mut UdpLink, wait: u64, from: LinkAddress, octets: &[u8]) -> boo
     }
 }
 
-/// Whether nothing comes.
+/// Whether nothing arrives.
 fn comes_nothing(link: &mut UdpLink, wait: u64) -> bool {
     matches!(link.recv(&mut [0u8; 2], wait), Ok(None))
 }
 
-/// Whether a link is at a free port of the loopback, and tells what it was bound to.
+/// Whether a link is at a free port of the loopback, and says what it is bound to.
 fn is_local(link: &UdpLink) -> bool {
     link.address().starts_with(&[127, 0, 0, 1]) && link.port() == 0 && link.host() == [127, 0, 0, 1]
 }
 
-/// Whether three octets come to another link, cut off behind two, and nothing then.
+/// Whether three octets arrive at another link, cut off after two, and nothing after them.
 fn are_exchanged(one: &mut UdpLink, other: &mut UdpLink) -> bool {
     one.send(other.address(), &[0x81, 0x0A, 0x00]).is_ok()
         && comes(other, 100, one.address(), &[0x81, 0x0A])
