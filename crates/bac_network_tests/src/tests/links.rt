@@ -1,6 +1,5 @@
 //! Datagrams between two sockets, and the clock.
-use bac_driver::{Clock, Link, MonotonicClock, UdpLink};
-use bac_npdu::LinkAddress;
+use bac_core::{Clock, Link, LinkAddress, MonotonicClock, UdpLink};
 use std::alloc::Global;
 use std::test::Fail;
 
