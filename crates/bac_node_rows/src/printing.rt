@@ -48,10 +48,10 @@ pub(crate) fn print_performed(
     writeln!(out, "performed {number} {request} {reply}").ok()
 }
 
-fn print_finishes(alloc: Global, word: &str, finishes: &[Ended], out: &mut Vec<u8>) -> Option<()> {
-    for finish in finishes {
+fn print_all_ended(alloc: Global, word: &str, all: &[Ended], out: &mut Vec<u8>) -> Option<()> {
+    for ended in all {
         out.write_all(word.as_bytes()).ok()?;
-        print_ended(alloc, finish.ticket, &finish.ending, out).ok()?;
+        print_ended(alloc, ended.ticket, &ended.ending, out).ok()?;
     }
     Some(())
 }
@@ -62,8 +62,8 @@ pub(crate) fn print_done(alloc: Global, turn: &Turn, out: &mut Vec<u8>) -> Optio
         let number = u64::from(act.key.invoke_id);
         print_performed(alloc, number, &act.effect.request, &act.effect.reply, out)?;
     }
-    print_finishes(alloc, "", &turn.ended, out)?;
-    print_finishes(alloc, "due: ", &turn.tick_ended, out)
+    print_all_ended(alloc, "", &turn.ended, out)?;
+    print_all_ended(alloc, "due: ", &turn.tick_ended, out)
 }
 
 fn print_received(received: Option<(LinkAddress, usize)>, out: &mut Vec<u8>) -> Option<()> {

@@ -95,8 +95,8 @@ pub(crate) fn print_outcome(alloc: Global, outcome: &mut Outcome, out: &mut Vec<
     if let Some(act) = outcome.effect.take() {
         print_performed(alloc, act, out)?;
     }
-    for finish in &outcome.ended {
-        print_ended(alloc, finish.ticket, &finish.ending, out).ok()?;
+    for ended in &outcome.ended {
+        print_ended(alloc, ended.ticket, &ended.ending, out).ok()?;
     }
     print_sends(alloc, &outcome.sends, out)
 }

@@ -53,8 +53,8 @@ fn print_done(alloc: Global, outcome: &Outcome, out: &mut Vec<u8>) -> Option<()>
         let (client, invoke_id) = (place_of(act.key.peer.link), act.key.invoke_id);
         writeln!(out, "performed {client}:{invoke_id}").ok()?;
     }
-    for finish in &outcome.ended {
-        print_ended(alloc, finish.ticket, &finish.how, out).ok()?;
+    for ended in &outcome.ended {
+        print_ended(alloc, ended.ticket, &ended.ending, out).ok()?;
     }
     Some(())
 }
