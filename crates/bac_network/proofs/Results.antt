@@ -10,9 +10,9 @@ use Rattle.bac_transaction.specs.Meanings.{Ending}
 use Rattle.bac_world.specs.Node.{Node, NodeRefuses}
 use Rattle.bac_world.specs.Once.Fact.{Asked}
 use Rattle.bac_world.specs.World.{World, Event, WorldRun, IsFresh, IsBounded, IsAsked, peer_at}
-use Rattle.bac_completion.specs.StraightRuns.{IsStraight, ending_in}
-use Rattle.bac_completion.specs.StraightAnswers.{CanAnswer, IsAnswered, datagrams, way_between}
-use Rattle.bac_completion.proofs.StraightRuns.Reached.{straight_answers}
+use Rattle.bac_liveness.specs.StraightRuns.{IsStraight, ending_in}
+use Rattle.bac_liveness.specs.StraightAnswers.{CanAnswer, IsAnswered, datagrams, way_between}
+use Rattle.bac_liveness.proofs.StraightRuns.Reached.{straight_answers}
 use Rattle.bac_network.specs.Logs.{IsSince, DeliverUnended, Stops}
 use Rattle.bac_network.specs.StraightRuns.{CanBeAnswered, Goes, GoesAt, IsAnsweredSoon, IsNoRun, IsWellMadeAt, WentBy, limits_of_server}
 use Rattle.bac_network.proofs.Open.{open_until_ended, none_ended}

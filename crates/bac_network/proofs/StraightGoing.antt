@@ -20,8 +20,8 @@ use Rattle.bac_network.specs.declared.fault.WorldFault.{WorldFault}
 use Rattle.bac_network.specs.Histories.{WorldView, HasHistory}
 use Rattle.bac_network.specs.Steps.{IsFault}
 use Rattle.bac_network.specs.Views.{fact_view, log_view}
-use Rattle.bac_completion.specs.StraightRuns.{IsStraight, deliveries, ending_in}
-use Rattle.bac_completion.proofs.StraightRuns.Loops.{is_run}
+use Rattle.bac_liveness.specs.StraightRuns.{IsStraight, deliveries, ending_in}
+use Rattle.bac_liveness.proofs.StraightRuns.Loops.{is_run}
 use Rattle.bac_network.specs.StraightFaults.{DeliveryFails, Fails, StopsShort}
 use Rattle.bac_network.specs.Going.{HasGone, HasStopped, IsStuck}
 use Rattle.bac_network.specs.Logs.{IsSince, DeliverUnended, Stops, ending_by}

@@ -8,7 +8,7 @@ use Rattle.bac_world.specs.World.Event.{Ask, Deliver}
 use Rattle.bac_network.specs.Steps.{IsFault}
 use Rattle.bac_network.specs.declared.fault.WorldFault.{WorldFault}
 use Rattle.bac_network.specs.declared.fault.WorldFault.TheVariants as fault
-use Rattle.bac_completion.specs.StraightRuns.{deliveries, ending_in}
+use Rattle.bac_liveness.specs.StraightRuns.{deliveries, ending_in}
 use Rattle.bac_network.specs.StraightRuns.{limits_of_server}
 
 -- the ask met that fault, and nothing changed

@@ -12,8 +12,8 @@ use Rattle.bac_transaction.specs.Meanings.{Ending}
 use Rattle.bac_world.specs.Node.{Node, Refusal, NodeRefuses}
 use Rattle.bac_world.specs.World.{World, WorldRun, IsAsked, IsRefused, peer_at}
 use Rattle.bac_world.specs.World.Event.{Ask}
-use Rattle.bac_completion.specs.StraightRuns.{IsStraight, deliveries}
-use Rattle.bac_completion.specs.StraightAnswers.{CanGo, IsAnswered, datagrams, way_between}
+use Rattle.bac_liveness.specs.StraightRuns.{IsStraight, deliveries}
+use Rattle.bac_liveness.specs.StraightAnswers.{CanGo, IsAnswered, datagrams, way_between}
 
 -- what a client is told that a server takes of APDUs: what that node takes as a client, and requests in segments, whatever its SA bit says
 abbrev pub limits_of_server : Node → Limits

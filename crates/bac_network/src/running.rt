@@ -9,7 +9,7 @@ ghost use Rattle.bac_world.specs.World.Event.{Ask, Deliver};
 ghost use Rattle.bac_network.specs.Histories.{AreChangesPermittedNow, AreEndedOnceNow, ArePerformedOnceNow, AreReplayedNow, HasHistory};
 ghost use Rattle.bac_network.specs.Histories.{HasRequestsAloneNow, IsOnceByRequestsAloneNow, IsOnceNow};
 ghost use Rattle.bac_network.specs.Steps.{IsFault};
-ghost use Rattle.bac_completion.specs.StraightRuns.{ending_in};
+ghost use Rattle.bac_liveness.specs.StraightRuns.{ending_in};
 ghost use Rattle.bac_network.specs.StraightFaults.{Fails, StopsShort};
 ghost use Rattle.bac_network.specs.Going.{HasStopped, IsStuck};
 ghost use Rattle.bac_network.specs.Logs.{IsSince, Stops, ending_by};
