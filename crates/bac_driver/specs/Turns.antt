@@ -59,7 +59,7 @@ pub record IsSkipped (old new : Node) (step : NodeStep) : Type 0 where
 -- so it may be with a datagram that the node does not drop, and that is not for a transaction of the client which has ended
 pub record IsUnheard (from octets : Octets) (old new : Node) (step : NodeStep) : Type 0 where
   pub kept : IsNotHeard old.link from octets → ⊥
-  pub open : IsForNoneOpen from octets old.clients → ⊥
+  pub awaited : IsForNoneOpen from octets old.clients → ⊥
   pub skipped : IsSkipped old new step
 
 -- the node takes a datagram, or drops it

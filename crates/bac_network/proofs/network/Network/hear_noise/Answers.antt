@@ -1,4 +1,4 @@
--- Octets that are no noise are lost.
+-- Octets that mean nothing are heard, and others are lost.
 use Rattle.std.proofs.Common.{◌≡◌, ◌<◌, length, true, false, refl, inr, arith}
 use Rattle.bac_world.specs.Laws.{IsMeaningless}
 use Rattle.bac_network.proofs.Delivered.{there_is}
@@ -11,3 +11,6 @@ returns-else-is_meaningless-clause-happens c = λ overtake.
     let no : IsMeaningless c.args.from c.args.octets.now → ⊥ =
     λ noise. (let t : false ≡ true = c.if-is_meaningless.ensures.1 noise in cc) in
     (inr (record { node = a.0; at = a.1; no_noise = no; same = refl }), λ x. x)
+
+pub drop_noise-requires-clause-noise : goal.drop_noise-requires-clause-noise
+drop_noise-requires-clause-noise c = c.if-is_meaningless.ensures.0 refl
