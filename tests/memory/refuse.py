@@ -1,105 +1,87 @@
-# For gdb's Python: runs a program of tests once, and then once for each allocation that it asked for, with that one refused.
-#     gdb -batch -nx -x tests/memory/refuse.py --args PROGRAM TEST
-# Where TEST is a file N.in, the program reads that, and has to print N.out; or nothing, where it ends with a status that says that its own memory was refused.
-# An allocation is a call of malloc or realloc after main began. It ends with a status other than 0 where a run does not pass.
+#!/usr/bin/env python3
+"""Runs a program once as it is, and then once for each allocation that it asked for, with that one refused:
+    python3 refuse.py [--rest] LIBRARY PROGRAM RUN..
+LIBRARY is refuse.c, compiled. RUN is the name of a test of PROGRAM, which has to pass each time; or a file N.in, which PROGRAM reads: each time it has to print
+N.out, or, where its own memory was refused before it played a row, to end with a status other than 0 and print nothing.
+
+With --rest each allocation from that one on is refused too. A test may then fail as `not prepared`, where memory was refused before what it is about.
+
+It prints how many allocations were refused, and ends with a status other than 0 where a run did not go as it has to."""
+
+import os
+import subprocess
+import sys
+import tempfile
+from concurrent.futures import ThreadPoolExecutor
 from pathlib import Path
 
-import gdb
-
-asked = []
+FAILED, PASSED, EARLY = range(3)
 
 
-class Allocation(gdb.Breakpoint):
-    """Notes which function is asked, and goes on."""
+class Runs:
+    """The runs of a test or of rows."""
 
-    def stop(self):
-        asked.append(self.location)
-        return False
+    def __init__(self, library, program, name, rest):
+        self.library, self.program, self.name, self.rest = library, program, name, rest
+        self.is_rows = name.endswith(".in")
+        if self.is_rows:
+            self.text = Path(name).read_bytes()
+            self.wanted = Path(name).with_suffix(".out").read_bytes()
 
+    def title(self):
+        """The title of the last row, or the name of the test."""
+        if not self.is_rows:
+            return self.name
+        return [line for line in self.text.decode().split("\n") if line.startswith("=")][-1][1:]
 
-def caller():
-    """The function that asked, by its symbol."""
-    frame = gdb.newest_frame().older()
-    names = []
-    while frame is not None and len(names) < 12:
-        if frame.name():
-            names.append(frame.name())
-        frame = frame.older()
-    return " < ".join(names)
+    def run(self, refused):
+        """Runs it with that allocation refused, 0 for none: how it went, and how many allocations were asked for and refused."""
+        with tempfile.NamedTemporaryFile() as notes:
+            notes.write(bytes(16))
+            notes.flush()
+            words = {"LD_PRELOAD": self.library, "REFUSE_NOTES": notes.name}
+            if refused:
+                words["REFUSE"] = f"{refused}-" if self.rest else str(refused)
+            ran = subprocess.run(
+                [self.program] + ([] if self.is_rows else [self.name]),
+                input=self.text if self.is_rows else b"",
+                capture_output=True,
+                env=os.environ | words,
+            )
+            counts = Path(notes.name).read_bytes()
+        numbers = [int.from_bytes(counts[at : at + 8], sys.byteorder) for at in (0, 8)]
+        return self.how(ran), *numbers
 
+    def how(self, ran):
+        if self.is_rows:
+            if ran.returncode == 0 and ran.stdout == self.wanted:
+                return PASSED
+            return EARLY if ran.returncode > 0 and not ran.stdout else FAILED
+        if ran.returncode == 0:
+            return PASSED
+        return EARLY if self.rest and b"not prepared" in ran.stdout + ran.stderr else FAILED
 
-def refuse():
-    """The call that is about to begin returns null."""
-    gdb.execute("set $rax = 0")
-    gdb.execute("set $rip = *(long *)$rsp")
-    gdb.execute("set $rsp = $rsp + 8")
-
-
-def begin():
-    gdb.execute("tbreak main", to_string=True)
-    if is_row:
-        gdb.execute("run < %s > %s" % (arguments, told), to_string=True)
-    else:
-        gdb.execute("run %s > /dev/null" % arguments, to_string=True)
-
-
-def end():
-    """The status of the run, and 255 where it stands still though it should have ended."""
-    crashed = gdb.selected_inferior().pid != 0
-    if crashed:
-        gdb.execute("kill")
-    status = 255 if crashed else int(gdb.parse_and_eval("$_exitcode"))
-    if not is_row or crashed:
-        return status
-    printed = told.read_text()
-    if status != 0:
-        return 254 if printed else 0
-    return 0 if printed == Path(arguments).with_suffix(".out").read_text() else 253
-
-
-def note_all():
-    """Runs the program and refuses nothing: the status."""
-    begin()
-    points = [Allocation("*malloc", internal=True), Allocation("*realloc", internal=True)]
-    gdb.execute("continue", to_string=True)
-    for point in points:
-        point.delete()
-    return end()
-
-
-def run(number):
-    """Runs the program with that allocation refused: who asked for it, or None where no such one came, and the status."""
-    begin()
-    point = gdb.Breakpoint(asked[number - 1], internal=True)
-    point.ignore_count = asked[:number].count(asked[number - 1]) - 1
-    gdb.execute("continue", to_string=True)
-    is_there = gdb.selected_inferior().pid != 0
-    who = caller() if is_there else None
-    point.delete()
-    if is_there:
-        refuse()
-        gdb.execute("continue", to_string=True)
-    return who, end()
+    def refuse_each(self):
+        """Whether each run goes as it has to."""
+        how, asked, _ = self.run(0)
+        if how != PASSED or asked == 0:
+            print(f"{self.title()}: does not pass, or asks for no memory")
+            return False
+        with ThreadPoolExecutor(os.cpu_count()) as pool:
+            runs = list(pool.map(self.run, range(1, asked + 1)))
+        failed = [place for place, run in enumerate(runs, 1) if run[0] == FAILED or run[2] == 0]
+        early = sum(how == EARLY for how, _, _ in runs)
+        refused = sum(run[2] for run in runs)
+        print(f"{self.title()}: {refused} allocations refused in {asked} runs, {early} of them ended early, {len(failed)} failed", *failed[:9])
+        return not failed
 
 
-arguments = gdb.execute("show args", to_string=True).split('"')[1]
-is_row = arguments.endswith(".in")
-told = Path(arguments).with_suffix(".told")
-gdb.execute("set pagination off")
-gdb.execute("set confirm off")
-gdb.execute("set print inferior-events off")
-failed = 0
-if note_all() != 0:
-    print("0 allocations refused: the test does not pass")
-    failed += 1
-if not asked:
-    print("the test asked for no memory, or not where this script looks")
-    failed += 1
-for number in range(1, len(asked) + 1):
-    who, status = run(number)
-    if status != 0 or who is None:
-        print("allocation %d refused: status %d, %s" % (number, status, who))
-        failed += 1
-    print("%d: %s" % (number, who))
-print("%d allocations were refused, one in each run; %d runs did not pass" % (len(asked), failed))
-gdb.execute("quit %d" % (1 if failed else 0))
+def main(words):
+    rest = words[:1] == ["--rest"]
+    library, program, *names = words[rest:]
+    went = [Runs(library, program, name, rest).refuse_each() for name in names]
+    sys.exit(not (went and all(went)))
+
+
+if __name__ == "__main__":
+    main(sys.argv[1:])

@@ -1,31 +1,42 @@
 #!/bin/sh
-# Runs the memory tests with one allocation after the other refused:
+# Runs the memory tests and the memory rows with one allocation after the other refused:
 #     sh tests/memory/refused.sh [CRATE..]
-# of all crates that have such tests, or of those that are given. `rt test` and `rt run` prove and build; gdb refuses. Each allocation that a test asks for is
-# refused once, in a run of its own, and who asked for it is printed. It ends with a status other than 0 where a test does not pass each time, or a crate has
-# no such test: one of a module memory, or with a name that ends in was_refused, or a row of a file stdin whose title ends in [memory].
+# of all crates that have some, or of those that are given. A memory test is one of a module memory, or one with a name that ends in was_refused; a memory row
+# is one of a file stdin whose title ends in [memory]. `rt test` and `rt run` prove and build, and refuse.py refuses: each allocation once, in a run of its own;
+# in the test commits_without_memory also each with all that come after it. It ends with a status other than 0 where a run does not go as it has to, or where a
+# crate has nothing to run.
 set -eu
 top=$(cd "$(dirname "$0")/../.." && pwd)
-crates=${*:-bac_codec_tests bac_network_tests bac_node_rows}
-for crate in $crates; do
+memory=$top/tests/memory
+work=$(mktemp -d)
+trap 'rm -r "$work"' EXIT
+"${CC:-cc}" -shared -fPIC -O2 -o "$work/refuse.so" "$memory/refuse.c"
+
+refuse() {
+    python3 "$memory/refuse.py" "$@" || echo failed > "$work/failed"
+}
+
+for crate in ${*:-bac_codec_tests bac_network_tests bac_node_rows}; do
     cd "$top/crates/$crate"
-    mkdir -p out
-    rows=$(mktemp -d)
+    rest=
     if [ -f stdin ]; then
-        rt run < stdin > out/log 2>&1 || { cat out/log; exit 1; }
-        program=out/$crate
-        tests=$(python3 "$top/tests/memory/rows.py" stdin stdout "$rows")
+        rt run < stdin > "$work/log" 2>&1 || { tail -n 20 "$work/log"; exit 1; }
+        program=$PWD/out/$crate
+        mkdir "$work/$crate"
+        runs=$(python3 "$memory/rows.py" stdin stdout "$work/$crate")
     else
-        rt test > out/log 2>&1 || { cat out/log; exit 1; }
-        program=out/${crate}_tests
-        tests=$("$program" --list | sed -n -E 's/^(.*(memory::.*|was_refused)): test$/\1/p')
+        rt test > "$work/log" 2>&1 || { tail -n 20 "$work/log"; exit 1; }
+        program=$PWD/out/${crate}_tests
+        runs=$("$program" --list | sed -n -E 's/^(.*(memory::.*|was_refused)): test$/\1/p')
+        rest=$(echo "$runs" | grep 'commits_without_memory$' || true)
     fi
-    if [ -z "$tests" ]; then echo "$crate has no memory test"; exit 1; fi
-    for test in $tests; do
-        echo "$crate, $test:"
-        gdb -batch -nx -x "$top/tests/memory/refuse.py" --args "$program" "$test" > out/log 2>&1 || { cat out/log; exit 1; }
-        grep -E '^[0-9]+[ :]' out/log
-    done
-    rm -r "$rows"
+    if [ -z "$runs" ]; then echo "$crate has nothing to run"; exit 1; fi
+    echo "$crate:"
+    refuse "$work/refuse.so" "$program" $runs
+    if [ -n "$rest" ]; then
+        echo "$crate, with all that come after it:"
+        refuse --rest "$work/refuse.so" "$program" $rest
+    fi
 done
-echo "each test passed each time"
+if [ -f "$work/failed" ]; then echo "some runs failed"; exit 1; fi
+echo "each run went as it has to"

@@ -1,11 +1,12 @@
 #!/usr/bin/env python3
-"""The tour of README.md as it stands there: tour.py PROGRAM [DOCUMENT]
+"""Runs the commands of README.md and docs/COMMANDS.md and compares what they print: tour.py PROGRAM [DOCUMENT ..]
 
-Each `out/bac` command of README's code blocks is run, in a folder that has that program, and what it prints on either stream is held against the lines below
-it; where there are none, against what the next words say: a block, or a text in backquotes after `prints` or `says`. `rt run --` and `rt try --` are run as
-`out/bac`. A `serve` runs on, at a free port that stands for README's, while the commands after it are run; where README says what it `ends with`, it has to
-end so, otherwise it is killed in the end. Lines below it have to be among those that it said, in their order, but for moments, ports of clients and invoke
-IDs. Other commands are named and not run. The texts of SAID, which README's sentences have, are held too.
+An indented block is a command and what it prints below it. Each `out/bac` command of such a block is run in a folder that has that program, and its standard
+output and standard error are compared with the lines below it. If there are none, they are compared with what the next words give: a block, or a text in
+backquotes after `prints` or `says`. A fenced block of Mermaid is output too; other fenced blocks are not read. `rt run --` and `rt try --` are run as `out/bac`.
+A `serve` keeps running, at a free port in place of the document's, while the commands after it run. Where the document says what it `ends with`, it must end so;
+otherwise it is killed at the end. The lines below it must be among those that it printed, in their order, apart from moments, ports of clients and invoke IDs.
+Other commands are listed and not run. The texts of SAID must stand in one of the documents, and be printed.
 """
 
 import re
@@ -20,14 +21,15 @@ from pathlib import Path
 from processes import START_SECONDS, free_port, has_port
 
 TOP = Path(__file__).resolve().parents[2]
-PORT = '47808'  # README's; a free one stands for it
-LIVES = 30  # seconds of a server that README lets live longer
+DOCUMENTS = ('README.md', 'docs/COMMANDS.md')
+PORT = '47808'  # the documents'; a free one stands for it
+LIVES = 30  # seconds of a server that a document lets run longer
 TYPED = re.compile(r'(out/bac|cp|cd|rt|sh|make|cc) ')
 BY_RT = re.compile(r'cd crates/bac && rt (try|run) -- ')
-TOLD = re.compile(r'(?:prints|says) `([^`]*)`')  # at the begin of the words after a block
+TOLD = re.compile(r'(?:prints|says) `([^`]*)`')  # at the beginning of the words after a block
 INLINE = re.compile(r'`(out/bac [^`]*)`[^`]*\bprints$')  # at the end of the words before a block
 WRITTEN = re.compile(r'(?:script|file|list) `([\w.]+)`$')  # so: the block is that file
-ENDED = re.compile(r'ends with `([^`]*)`')
+ENDED = re.compile(r'ends with `(served \d+)`')
 ASKS = 'for ask in $(seq 65); do out/bac ask --port 47808 read 0:5 85; done | tail -n 1'
 SAID = [  # a text of a sentence, and a command of which it is a line
     ('bad words: property "presentvalue" is no name and no number', 'out/bac ask --port 47808 --text read analog-input:5 presentvalue'),
@@ -39,14 +41,15 @@ SAID = [  # a text of a sentence, and a command of which it is a line
 
 
 def parts_of(text):
-    """The paragraphs and the code blocks of a document, in order: whether it is a block, and its lines."""
-    parts, is_fenced = [(False, [])], False
+    """The paragraphs and the blocks of a document, in order: whether it is a block, and its lines. Only Mermaid's fenced blocks are among them."""
+    parts, fence = [(False, [])], None
     for line in text.splitlines():
         if line.startswith('```'):
-            is_fenced = not is_fenced
-            parts.append((is_fenced, []))
-        elif is_fenced:
-            parts[-1][1].append(line)
+            fence = None if fence else line
+            parts.append((fence is not None, []))
+        elif fence:
+            if fence == '```mermaid':
+                parts[-1][1].append(line)
         elif not line:
             parts.append((False, []))
         elif parts[-1][1] and parts[-1][0] == line.startswith('    '):
@@ -64,7 +67,7 @@ def masked(line, port):
 
 
 class Serving:
-    """A `serve` that runs on, at a free port. `below` are the lines that README has below it."""
+    """A `serve` that keeps running, at a free port. `below` are the lines that the document has below it."""
 
     def __init__(self, command, port, folder, below):
         self.port, self.below = port, below
@@ -78,11 +81,11 @@ class Serving:
             self.serves = has_port(self.process.pid, port) and self.said.read_text().endswith('\n')
 
     def end(self):
-        """What it prints when it ends by itself."""
+        """What it has printed when it ends by itself."""
         return self.process.communicate(timeout=LIVES + START_SECONDS)[0]
 
     def close(self):
-        """Ends it. Those of the lines below that it did not say in their order."""
+        """Ends it. The lines below it that it did not print in their order."""
         self.process.kill()
         self.process.communicate()
         said = (masked(line, self.port) for line in self.said.read_text().splitlines())
@@ -90,13 +93,13 @@ class Serving:
 
 
 class Tour:
-    """What was run and held so far. `open` is the last command, and what it printed, where that was held against nothing yet."""
+    """What was run and compared so far. `open` is the last command and what it printed, if that was not compared yet."""
 
     def __init__(self, folder, program):
         self.here, self.port, self.servers = folder / 'crates/bac', PORT, []
         self.wrong, self.left_out, self.ran, self.held = [], [], 0, 0
         self.open, self.wanted, self.file = None, '', None
-        # README's commands are typed in crates/bac
+        # the documents' commands are typed in crates/bac
         (self.here / 'out').mkdir(parents=True)
         (self.here / 'out/bac').symlink_to(Path(program).resolve())
         (folder / 'docs').symlink_to(TOP / 'docs')
@@ -104,8 +107,8 @@ class Tour:
     def hold(self, command, wanted, printed):
         self.held += 1
         self.open, self.wanted = None, wanted
-        if printed.rstrip('\n') != wanted.replace(PORT, str(self.port)).rstrip('\n'):
-            self.wrong.append(f'{command}\n  README:  {wanted!r}\n  printed: {printed!r}')
+        if printed.replace(str(self.port), PORT).rstrip('\n') != wanted.rstrip('\n'):
+            self.wrong.append(f'{command}\n  wanted:  {wanted!r}\n  printed: {printed!r}')
 
     def run(self, command):
         """A command, at the port of the latest server: what it prints."""
@@ -115,12 +118,12 @@ class Tour:
         return done.stdout
 
     def serve(self, command, below):
-        """A server, at a port of its own: what it says when it listens."""
+        """A server, at a port of its own: what it prints when it listens."""
         self.ran, self.port = self.ran + 1, free_port()
         self.servers.append(Serving(command.replace(PORT, str(self.port)), self.port, self.here, below))
         said = self.servers[-1].said.read_text()
         if not self.servers[-1].serves:
-            self.wrong.append(f'{command}: it does not serve, and says {said!r}')
+            self.wrong.append(f'{command}: it does not serve, and prints {said!r}')
         return said
 
     def start(self, command, below=()):
@@ -162,35 +165,51 @@ class Tour:
         else:
             self.wrong.append(f'a block that is no command and no output: {lines[0]}')
 
-    def read_said(self, text):
-        """The texts that stand in sentences."""
-        for said, command in SAID:
-            self.port, self.held = free_port(), self.held + 1
-            if f'`{said}`' not in text:
-                self.left_out.append(f'README no longer says {said}')
-            elif said not in (lines := self.run(command).splitlines()):
-                self.wrong.append(f'{command}\n  README:  {said!r}\n  printed: {lines}')
-
     def close(self):
         for server in self.servers:
             self.held += bool(server.below)
-            self.wrong += [f'{server.command}: it did not say {line!r}' for line in server.close()]
+            self.wrong += [f'{server.command}: it did not print {line!r}' for line in server.close()]
 
 
-def main(words):
-    text = Path(words[1] if len(words) > 1 else TOP / 'README.md').read_text()
+def check_said(program, text):
+    """The texts that stand in sentences: how many there are, and what is wrong with them."""
+    wrong = []
     with tempfile.TemporaryDirectory() as folder:
-        tour = Tour(Path(folder), words[0])
+        tour = Tour(Path(folder), program)
+        for said, command in SAID:
+            tour.port = free_port()
+            if f'`{said}`' not in text:
+                wrong.append(f'no document says {said!r}')
+            elif said not in (lines := tour.run(command).splitlines()):
+                wrong.append(f'{command}\n  wanted:  {said!r}\n  printed: {lines}')
+    return len(SAID), wrong
+
+
+def check_document(program, text):
+    """The tour of one document."""
+    with tempfile.TemporaryDirectory() as folder:
+        tour = Tour(Path(folder), program)
         try:
             for is_block, lines in parts_of(text):
                 tour.read_block(lines) if is_block else tour.read_words(' '.join(lines))
-            tour.read_said(text)
         finally:
             tour.close()
-    print(f'{tour.ran} commands run, {tour.held} outputs held against README, left out: {"; ".join(tour.left_out)}')
-    for wrong in tour.wrong:
-        print(f'WRONG: {wrong}')
-    return 1 if tour.wrong else 0
+    return tour
+
+
+def main(words):
+    program, *documents = words
+    texts = {name: (TOP / name).read_text() for name in documents or DOCUMENTS}
+    wrong = []
+    for name, text in texts.items():
+        tour = check_document(program, text)
+        wrong += [f'{name}: {fault}' for fault in tour.wrong]
+        print(f'{name}: {tour.ran} commands run, {tour.held} outputs compared, not run: {"; ".join(tour.left_out) or "none"}')
+    count, faults = check_said(program, ''.join(texts.values()))
+    print(f'texts of sentences: {count} compared')
+    for fault in wrong + faults:
+        print(f'WRONG: {fault}')
+    return 1 if wrong + faults else 0
 
 
 if __name__ == '__main__':

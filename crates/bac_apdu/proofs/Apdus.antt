@@ -1,4 +1,4 @@
--- The two laws of APDUs: what is read is spelled so, and what is spelled so is read.
+-- The two laws of APDUs: what is read is a spelling of the APDU, and each spelling is read as its APDU.
 use Rattle.std.proofs.Common.{◌≡◌, ℕ, zero, suc, ◌+◌, ◌*◌, ◌/◌, ◌%◌, ◌^◌, ◌<◌, Bool, true, false, cond, ltb, eqb, List, [], ◌∷◌, ◌++◌, Result, Ok, Err}
 use Rattle.std.proofs.Common.{Option, Some, None, refl, sym, ap, subst, ◌∙◌, arith, IsTrue, ◌&&◌, ◌||◌, not}
 use Rattle.std.proofs.lemmas.Bool.{ltb-true, lt-ltb, and_parts, and_from, eqb-true, agree_below_at}
@@ -66,7 +66,7 @@ low_bit_is b lt clear =
     let sum : eqb b (bit (has_bit b 1) 1) ≡ true = rw clear at all in
     eqb-true _ _ sum
 
--- ---- what is read is spelled so
+-- ---- what is read is a spelling of the APDU
 
 abbrev Spelled : ℕ → List ℕ → Apdu → Type 0
 Spelled first rest apdu = SpellsApdu apdu (first ∷ rest)
@@ -110,7 +110,7 @@ unconfirmed_takes rest a fits e =
     let t = octet_takes Truncated rest choice.0 fits choice.1 in
     subst (Spelled 16 rest) (ok_is (UnconfirmedRequest choice.0.0 choice.0.1) a choice.2) (record { fits = refl; is = ap (λ (x : List ℕ). 16 ∷ x) t.0.parts })
 
--- two octets and the end
+-- two octets, then the end
 pair_takes : (first : ℕ) (made : ℕ → ℕ → Apdu) → ((x y : ℕ) → Spelled first (x ∷ y ∷ []) (made x y)) → (rest : List ℕ) (a : Apdu) → IsBytes rest
     → (octet_at Truncated rest >>= λ x. octet_at Truncated x.1 >>= λ y. end_at y.1 (made x.0 y.0)) ≡ Ok a → Spelled first rest a
 pair_takes first made law rest a fits e =
@@ -209,7 +209,7 @@ error_takes rest a fits e =
       is = ap (λ (x : List ℕ). 80 ∷ x) after;
     })
 
--- where the bits that the kind does not name are zero
+-- if the bits that the type does not use are zero
 clear_ok : (bits : ℕ) (read : Result Apdu ApduFault) (a : Apdu) → cond (eqb bits 0) read (Err ReservedBits) ≡ Ok a → (bits ≡ 0) × (read ≡ Ok a)
 clear_ok bits read a e = let g = where_ok (eqb bits 0) ReservedBits read a e in (eqb-true _ _ g.0, g.1)
 
@@ -253,7 +253,7 @@ apdu_takes (first ∷ rest) a fits e =
     let s = kind_takes (first / 16) (first % 16) rest a (omega arith) (IsBytes-rest first rest fits) e in
     subst (λ (n : ℕ). Spelled n rest a) (omega arith) s
 
--- ---- what is spelled so is read
+-- ---- each spelling is read
 
 abbrev segment : Bool → ℕ → ℕ → Segment
 segment more number window = record { more = more; number = number; window = window }

@@ -1,4 +1,4 @@
--- The two laws of an application Enumerated.
+-- The laws of an application Enumerated in an Error.
 use Rattle.std.proofs.Common.{◌≡◌, ℕ, zero, suc, ◌+◌, ◌*◌, ◌/◌, ◌%◌, ◌^◌, ◌<◌, ◌≤◌, true, cond, ltb, List, [], ◌∷◌, ◌++◌, length, get_or, Ok, Err, refl, sym}
 use Rattle.std.proofs.Common.{ap, subst, ◌∙◌, arith, inl, inr}
 use Rattle.std.specs.Int.{w16, w32, from_be_bytes, to_be_bytes}
@@ -9,12 +9,15 @@ use Rattle.bac_value.specs.declared.tag.Class.TheVariants.{Application, Context}
 use Rattle.bac_value.specs.declared.tag.Form.{Form}
 use Rattle.bac_value.specs.declared.tag.Form.TheVariants.{Length, Boolean, Opening, Closing}
 use Rattle.bac_value.specs.Octets.{IsBytes}
-use Rattle.bac_value.specs.Number.{number_in}
 use Rattle.bac_value.specs.Spelling.{Mark, tag_spelling, SpellsTag}
 use Rattle.bac_value.specs.Value.{IsNumber, SpellsValue, null, boolean, unsigned, signed, real, double, octets, characters, bits, enumerated, date, time}
 use Rattle.bac_value.specs.Value.{object}
 use Rattle.bac_value.specs.Element.{IsOfKind}
 use Rattle.bac_value.specs.Reading.{tag_at, kind_at, number_at, element_at}
+use Rattle.bac_value.specs.Number.{number_in, unsigned_octets}
+use Rattle.bac_value.specs.Writing.{primitive, value_spelling}
+use Rattle.bac_value.proofs.OneSpelling.{value_only, contents_only}
+use Rattle.bac_value.proofs.Values.{IsContents-of, value_spelled}
 use Rattle.bac_value.proofs.Steps.{Takes, Takes-then, bind_ok, chosen, ok_is}
 use Rattle.bac_value.proofs.Tags.{tag_takes, tag_again}
 use Rattle.bac_value.proofs.RightContents.{kind_again}
@@ -27,7 +30,7 @@ use Rattle.bac_apdu.proofs.Steps.{from_value_ok}
 
 -- ---- a number in the fewest octets, at most four
 
--- the tag's octet and the octets of a number are its spelling
+-- the spelling is the tag's octet, then the contents
 spelled_number : (n : ℕ) (xs : List ℕ) → IsNumber 4 n xs → enumerated_spelling n ≡ (144 + length xs) ∷ xs
 spelled_number n [] h = absurd (omega (arith, h.spelled.some))
 spelled_number n (a ∷ []) h =
@@ -59,7 +62,7 @@ spelled_number n (a ∷ b ∷ c ∷ d ∷ []) h =
     rw (le-ltb n 256 (omega (arith, high)), le-ltb n 65536 (omega (arith, high)), le-ltb n 16777216 high) (ap (λ (x : List ℕ). 148 ∷ x) same)
 spelled_number n (a ∷ b ∷ c ∷ d ∷ e ∷ xs) h = absurd (omega (arith, h.few))
 
--- which number has how many octets
+-- the contents of a number, by its size
 number_octets : ℕ → List ℕ
 number_octets n =
     cond (ltb n 256) (n ∷ []) (cond (ltb n 65536) (to_be_bytes w16 n) (cond (ltb n 16777216) (n / 65536 ∷ to_be_bytes w16 (n % 65536)) (to_be_bytes w32 n)))
@@ -201,7 +204,7 @@ enumerated_takes bytes x fits e =
     let took = tag_takes bytes tag.0 fits (from_value_ok (tag_at bytes) tag.0 tag.1) in
     after_tag_takes tag.0.0.number tag.0.0.class tag.0.0.form tag.0.1 bytes x took.0 tag.2
 
--- it is the spelling of that value
+-- the spelling is that of an application value
 pub enumerated_value : (n : ℕ) → n < 2 ^ 32 → SpellsValue (enumerated n) (enumerated_spelling n)
 enumerated_value n lt =
     let h = number_is n lt in
@@ -211,3 +214,14 @@ enumerated_value n lt =
       fits = omega (arith, h.few);
       is = tag_octet n ∙ ap (λ (t : List ℕ). t ++ number_octets n) (sym (few_bits (length (number_octets n)) h.spelled.some h.few));
     }
+
+-- the spelling is what the writer of application values appends
+pub enumerated_is : (n : ℕ) → n < 2 ^ 32 → enumerated_spelling n ≡ primitive Application 9 (unsigned_octets n)
+enumerated_is n lt = value_only (enumerated n) (enumerated_spelling n) (value_spelling (enumerated n)) (enumerated_value n lt) (value_spelled (enumerated n) lt)
+
+pub enumerated_few : (n : ℕ) → n < 2 ^ 32 → (length (enumerated_spelling n) ≡ 1 + length (unsigned_octets n)) × (length (enumerated_spelling n) ≤ 5)
+enumerated_few n lt =
+    let h = number_is n lt in
+    let few : length (enumerated_spelling n) ≤ 5 = rw (tag_octet n) (omega (arith, h.few)) in
+    let contents : number_octets n ≡ unsigned_octets n = contents_only (enumerated n) (number_octets n) (unsigned_octets n) h (IsContents-of (enumerated n) lt) in
+    (omega (arith, ap length (tag_octet n), ap length contents), few)

@@ -1,5 +1,5 @@
 -- Octets of whole APDUs, computed from the definitions.
-use Rattle.std.proofs.Common.{◌≡◌, List, [], ◌∷◌, Some, None, true, false, refl}
+use Rattle.std.proofs.Common.{◌≡◌, [], ◌∷◌, Some, None, true, false, refl}
 use Rattle.bac_apdu.specs.Apdu.{ConfirmedRequest, UnconfirmedRequest, SimpleAck, ComplexAck, SegmentAck, Error, Reject, Abort}
 use Rattle.bac_apdu.specs.Spelling.{apdu_fits, apdu_spelling, enumerated_spelling}
 
@@ -44,7 +44,7 @@ ack_of_a_server : apdu_spelling (SegmentAck true 0 (record { nak = false; number
 unfolding apdu_spelling
 ack_of_a_server = refl
 
--- Write access is denied: class 2, code 40.
+-- Write access denied: class 2, code 40.
 error_spelled : apdu_spelling (Error 2 15 2 40) ≡ 0x50 ∷ 0x02 ∷ 0x0F ∷ 0x91 ∷ 0x02 ∷ 0x91 ∷ 0x28 ∷ []
 unfolding apdu_spelling
 error_spelled = refl

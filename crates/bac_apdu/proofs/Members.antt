@@ -1,4 +1,4 @@
--- The two laws of each member of an APDU: what is read is spelled so, and what is spelled so is read.
+-- The two laws of each member of an APDU: what is read is a spelling of the member, and each spelling is read as that member.
 use Rattle.std.proofs.Common.{◌≡◌, ℕ, ◌+◌, ◌*◌, ◌/◌, ◌%◌, ◌<◌, Bool, true, false, cond, ltb, List, [], ◌∷◌, ◌++◌, Result, Ok, Err, Option, Some, None, refl}
 use Rattle.std.proofs.Common.{ap, subst, ◌∙◌, arith, IsTrue}
 use Rattle.std.specs.Prelude.{is_some}
@@ -25,7 +25,7 @@ window_takes bytes x fits e =
 abbrev segment : Bool → ℕ → ℕ → Segment
 segment more number window = record { more = more; number = number; window = window }
 
--- whether more segments follow
+-- the flag for more segments
 abbrev pub more_of : Option Segment → Bool
 more_of None = false
 more_of (Some s) = s.more

@@ -1,8 +1,7 @@
--- What the steps of reading an APDU took, beside those of bac_value.
+-- What the steps of reading an APDU consume, in addition to those of bac_value.
 use Rattle.std.proofs.Common.{◌≡◌, List, [], ◌∷◌, Result, Ok, Err, refl, ap, ℕ}
 use Rattle.bac_value.specs.declared.fault.FaultKind.{FaultKind}
 use Rattle.bac_value.proofs.Steps.{ok_is}
-use Rattle.bac_apdu.specs.declared.fault.ApduFault.{ApduFault}
 use Rattle.bac_apdu.specs.Apdu.{Apdu}
 use Rattle.bac_apdu.specs.Reading.{from_value, end_at}
 

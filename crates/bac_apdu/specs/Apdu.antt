@@ -1,26 +1,26 @@
--- The eight kinds of APDU (clause 20.1), as plain values: numbers, and lists of octets.
+-- APDUs (clause 20.1) as plain values: numbers, and lists of octets.
 use Rattle.std.specs.Prelude.{ℕ, Bool, List, Option}
 
--- what an APDU in segments says of its segment: whether more follow, its number modulo 256, and the proposed window
+-- the parameters of a segment: whether more follow, its sequence number modulo 256, and the proposed window size
 pub record Segment : Type 0 where
   pub more : Bool
   pub number : ℕ
   pub window : ℕ
 
--- what the sender of a request takes of the reply: whether in segments (clause 20.1.2.3), the code of how many of them (clause 20.1.2.4),
--- and the code of the longest APDU (clause 20.1.2.5)
+-- what the sender of a request accepts as response: whether segmented (clause 20.1.2.3), the code of the number of segments
+-- (clause 20.1.2.4), and the code of the maximum APDU length (clause 20.1.2.5)
 pub record Limits : Type 0 where
   pub takes_segments : Bool
   pub max_segments : ℕ
   pub max_apdu : ℕ
 
--- what a SegmentACK says of the segments: whether one was out of order, the number of the last one taken in order modulo 256, and the actual window
+-- the members of a SegmentACK: whether a segment was out of order, the number of the last one taken in order modulo 256, and the actual window
 pub record Acknowledgement : Type 0 where
   pub nak : Bool
   pub number : ℕ
   pub window : ℕ
 
--- service data are the rest of the APDU; server says whether the sender is the server
+-- service data are the rest of the APDU; server is whether the sender is the server
 pub data Apdu : Type 0 where
   ConfirmedRequest : (limits : Limits) (invoke_id : ℕ) (segment : Option Segment) (choice : ℕ) (service : List ℕ) → Apdu
   UnconfirmedRequest : (choice : ℕ) (service : List ℕ) → Apdu

@@ -1,4 +1,4 @@
--- The numbers of faults (own numbers of this profile).
+-- The numbers of faults, as they are printed (own numbers of this profile).
 use Rattle.std.specs.Prelude.{ℕ}
 use Rattle.bac_apdu.specs.declared.fault.ApduFault.{ApduFault}
 use Rattle.bac_apdu.specs.declared.fault.ApduFault.TheVariants as fault

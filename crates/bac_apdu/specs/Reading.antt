@@ -1,4 +1,4 @@
--- Reading from left to right, on lists alone.
+-- Readers as functions on lists, from left to right.
 use Rattle.std.specs.Prelude.{ℕ, ◌/◌, ◌%◌, List, [], ◌∷◌, Result, Ok, Err, Option, Some, None, Bool, true, false, nat_lt, ◌==◌, ◌&&◌, ◌||◌, not}
 use Rattle.std.specs.Prelude.{if◌then◌else◌}
 use Rattle.bac_value.specs.declared.fault.FaultKind as value
@@ -15,7 +15,7 @@ use Rattle.bac_apdu.specs.declared.fault.ApduFault.TheVariants.{Truncated, Reser
 use Rattle.bac_apdu.specs.Apdu.{Limits, Segment, Apdu, ConfirmedRequest, UnconfirmedRequest, SimpleAck, ComplexAck, SegmentAck, Error, Reject, Abort}
 use Rattle.bac_apdu.specs.Spelling.{window_fits, SEG, MOR, SA, NAK, SRV}
 
--- nothing is left after the last member
+-- nothing follows the last member
 abbrev pub end_at : List ℕ → Apdu → Result Apdu ApduFault
 end_at [] apdu = Ok apdu
 end_at (x ∷ xs) apdu = Err Trailing
@@ -32,7 +32,7 @@ segment_at true more bytes = do
   window ← window_at number.1
   Ok (Some (record { more = more; number = number.0; window = window.0 }), window.1)
 
--- the octet of the two codes, where the first octet says whether segments are taken
+-- the octet with the two codes; whether segments are accepted comes from the first octet
 unfoldable pub limits_at : Bool → List ℕ → Result (Limits × List ℕ) ApduFault
 limits_at takes bytes = do
   codes ← octet_at Truncated bytes
@@ -75,7 +75,7 @@ segment_ack_at bits bytes = do
   window ← window_at number.1
   end_at window.1 (SegmentAck (has_bit bits SRV) invoke_id.0 (record { nak = has_bit bits NAK; number = number.0; window = window.0 }))
 
--- a fault of class or code: only what ends too early is Truncated
+-- a fault in class or code is Truncated only if the octets end too early
 abbrev pub element_fault : value.FaultKind → ApduFault
 element_fault fault.Truncated = Truncated
 element_fault fault.ReservedTag = BadError
@@ -90,7 +90,7 @@ abbrev pub from_value : {A : Type 0} → Result A value.FaultKind → Result A A
 from_value (Ok x) = Ok x
 from_value (Err e) = Err (element_fault e)
 
--- an element that is no application Enumerated
+-- an element that is not an application Enumerated
 unfoldable pub no_enumerated : List ℕ → Result (ℕ × List ℕ) ApduFault
 no_enumerated bytes = do
   element ← from_value (element_at bytes)
@@ -131,7 +131,7 @@ abort_at bits bytes = do
   reason ← octet_at Truncated invoke_id.1
   end_at reason.1 (Abort (has_bit bits SRV) invoke_id.0 reason.0)
 
--- what is left in bits 3 to 0 of the first octet where the bits that a type names are taken out
+-- the bits 3 to 0 of the first octet that this type does not use
 abbrev pub reserved_of : ℕ → ℕ → ℕ
 reserved_of kind bits =
     if kind == 0 then bits % 2 else
@@ -149,7 +149,7 @@ members_at kind bits bytes =
     (if kind == 5 then error_at bytes else
     (if kind == 6 then reject_at bytes else abort_at bits bytes))))))
 
--- more segments follow a segment alone
+-- the flag for more segments is set on an unsegmented APDU
 unfoldable pub kind_at : ℕ → ℕ → List ℕ → Result Apdu ApduFault
 kind_at kind bits bytes =
     if nat_lt 7 kind then Err BadType else
@@ -157,7 +157,7 @@ kind_at kind bits bytes =
     (if (kind == 0 || kind == 3) && has_bit bits MOR && not (has_bit bits SEG) then Err MorWithoutSeg else members_at kind bits bytes)
     else Err ReservedBits)
 
--- the first octet holds the type in bits 7 to 4
+-- the type is in bits 7 to 4 of the first octet
 unfoldable pub apdu_at : List ℕ → Result Apdu ApduFault
 apdu_at bytes = do
   first ← octet_at Truncated bytes

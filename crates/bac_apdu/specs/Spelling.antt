@@ -4,7 +4,7 @@ use Rattle.std.specs.Int.{w16, w32, to_be_bytes}
 pub use Rattle.bac_apdu.specs.declared.bits.TheConstants.{SEG, MOR, SA, NAK, SRV}
 use Rattle.bac_apdu.specs.Apdu.{Limits, Segment, Apdu, ConfirmedRequest, UnconfirmedRequest, SimpleAck, ComplexAck, SegmentAck, Error, Reject, Abort}
 
--- windows are 1 to 127 (clause 20.1.2.8)
+-- window sizes are 1 to 127 (clause 20.1.2.8)
 abbrev pub window_fits : ℕ → Bool
 window_fits window = nat_lt 0 window && nat_lt window 128
 
@@ -19,7 +19,7 @@ abbrev pub segment_fits : Option Segment → Bool
 segment_fits None = true
 segment_fits (Some s) = window_fits s.window
 
--- which APDUs have a spelling: codes and windows have their limits, and class and code are Enumerated of at most four octets (own limit of this profile)
+-- the APDUs that can be encoded: codes and windows are in range, and class and code have at most four octets (own limit of this profile)
 unfoldable pub apdu_fits : Apdu → Bool
 apdu_fits (ConfirmedRequest limits invoke_id segment choice service) = limits_fit limits && segment_fits segment
 apdu_fits (UnconfirmedRequest choice service) = true
@@ -30,7 +30,7 @@ apdu_fits (Error invoke_id choice class code) = nat_lt class (2 ^ 32) && nat_lt 
 apdu_fits (Reject invoke_id reason) = true
 apdu_fits (Abort server invoke_id reason) = true
 
--- what a bit of the first octet adds, by its weight (clause 20.1.2.1 to 20.1.2.3, 20.1.6.1, 20.1.6.2 and 20.1.9.1)
+-- what a flag adds to the first octet, by its weight (clauses 20.1.2.1 to 20.1.2.3, 20.1.6.1, 20.1.6.2 and 20.1.9.1)
 abbrev pub bit : Bool → ℕ → ℕ
 bit b weight = if b then weight else 0
 
@@ -42,7 +42,7 @@ abbrev pub segment_octets : Option Segment → List ℕ
 segment_octets None = []
 segment_octets (Some s) = s.number ∷ s.window ∷ []
 
--- an application Enumerated: tag number 9 and the count of octets, then the number in the fewest octets (clause 20.2.11)
+-- an application Enumerated: tag number 9 and the length, then the number in the fewest octets (clause 20.2.11)
 abbrev pub enumerated_spelling : ℕ → List ℕ
 enumerated_spelling n =
     if nat_lt n 256 then 0x91 ∷ n ∷ [] else
@@ -50,7 +50,7 @@ enumerated_spelling n =
     (if nat_lt n 16777216 then 0x93 ∷ n / 65536 ∷ to_be_bytes w16 (n % 65536) else
     0x94 ∷ to_be_bytes w32 n))
 
--- the type stands in bits 7 to 4 of the first octet: 16 times the type is its weight
+-- the type is in bits 7 to 4 of the first octet, so it counts 16 times
 unfoldable pub apdu_spelling : Apdu → List ℕ
 apdu_spelling (ConfirmedRequest limits invoke_id segment choice service) =
     (segment_bits segment + bit limits.takes_segments SA) ∷ (16 * limits.max_segments + limits.max_apdu) ∷ invoke_id ∷
@@ -68,7 +68,7 @@ pub record SpellsApdu (apdu : Apdu) (octets : List ℕ) : Type 0 where
   pub fits : IsTrue (apdu_fits apdu)
   pub is : octets ≡ apdu_spelling apdu
 
--- of these alone a reply is expected
+-- the only type of APDU that expects a reply
 abbrev pub is_confirmed_request : Apdu → Bool
 is_confirmed_request (ConfirmedRequest limits invoke_id segment choice service) = true
 is_confirmed_request (UnconfirmedRequest choice service) = false
@@ -79,6 +79,6 @@ is_confirmed_request (Error invoke_id choice class code) = false
 is_confirmed_request (Reject invoke_id reason) = false
 is_confirmed_request (Abort server invoke_id reason) = false
 
--- the octets are no APDU
+-- the octets encode no APDU
 abbrev pub IsNoApdu : List ℕ → Type 0
 IsNoApdu octets = (apdu : Apdu) → SpellsApdu apdu octets → ⊥

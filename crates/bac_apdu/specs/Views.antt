@@ -1,4 +1,4 @@
--- What contracts see of the types in code.
+-- The abstract values of the types in code.
 use Rattle.std.specs.Option.{option_map}
 use Rattle.bac_apdu.specs.declared.apdu.Apdu as declared
 use Rattle.bac_apdu.specs.declared.apdu.Apdu.TheVariants as code

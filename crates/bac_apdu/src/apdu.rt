@@ -10,67 +10,67 @@ use crate::limits::{Limits, Segment, Window};
 /// they run to the end of the APDU and may be empty.
 #[derive(Clone, Copy, Debug)]
 pub enum Apdu<'a> {
-    /// A request that is to be answered (clause 20.1.2).
+    /// Confirmed-Request: a request that needs a response (clause 20.1.2).
     ConfirmedRequest {
-        /// What the sender takes of the reply.
+        /// The sender's limits for the response.
         limits: Limits,
         invoke_id: u8,
-        /// None where the APDU has the whole request.
+        /// None if the request is unsegmented.
         segment: Option<Segment>,
         choice: u8,
         service: &'a [u8],
     },
-    /// A request that is not answered (clause 20.1.3).
+    /// Unconfirmed-Request: a request without a response (clause 20.1.3).
     UnconfirmedRequest {
         choice: u8,
         service: &'a [u8],
     },
-    /// A reply without service data (clause 20.1.4).
+    /// SimpleACK: a positive response without service data (clause 20.1.4).
     SimpleAck {
         invoke_id: u8,
         choice: u8,
     },
-    /// A reply with service data (clause 20.1.5).
+    /// ComplexACK: a positive response with service data (clause 20.1.5).
     ComplexAck {
         invoke_id: u8,
-        /// None where the APDU has the whole service data.
+        /// None if the response is unsegmented.
         segment: Option<Segment>,
         choice: u8,
         service: &'a [u8],
     },
-    /// Segments up to a number were taken in order (clause 20.1.6).
+    /// SegmentACK: acknowledges segments up to a sequence number (clause 20.1.6).
     SegmentAck {
-        /// Whether a segment was out of order.
+        /// Whether this is a negative acknowledgement, for a segment out of order.
         nak: bool,
-        /// Whether the sender is the server.
+        /// Whether the sender is the server of the transaction.
         server: bool,
         invoke_id: u8,
-        /// The number of the last segment taken in order, modulo 256.
+        /// The sequence number, modulo 256, of the last segment taken in order.
         number: u8,
-        /// The actual window.
+        /// The actual window size.
         window: Window,
     },
-    /// The request failed (clause 20.1.7).
+    /// Error: the request failed (clause 20.1.7).
     Error {
         invoke_id: u8,
         choice: u8,
-        /// The class of the error, a number of clause 18.
+        /// The error class (clause 18).
         class: u32,
-        /// Its code, a number of the same clause.
+        /// The error code (clause 18).
         code: u32,
     },
-    /// The request was not understood (clause 20.1.8).
+    /// Reject: the request is invalid and was not performed (clause 20.1.8).
     Reject {
         invoke_id: u8,
-        /// Any octet; those in use are numbered in clause 18.9.
+        /// Any octet; clause 18.9 lists the reasons in use.
         reason: u8,
     },
-    /// The transaction is given up (clause 20.1.9).
+    /// Abort: the transaction is ended early (clause 20.1.9).
     Abort {
-        /// Whether the sender is the server.
+        /// Whether the sender is the server of the transaction.
         server: bool,
         invoke_id: u8,
-        /// Any octet; those in use are numbered in clause 18.10.
+        /// Any octet; clause 18.10 lists the reasons in use.
         reason: u8,
     },
 }
@@ -79,7 +79,7 @@ impl Apdu<'_> {
     ghost use Rattle.bac_apdu.specs.Spelling.{is_confirmed_request};
     ghost use Rattle.bac_apdu.specs.Views.{apdu_view};
 
-    /// Whether a frame that carries it says that a reply is expected: it is a Confirmed-Request.
+    /// Whether a frame with this APDU has to be marked as expecting a reply: true exactly for a Confirmed-Request.
     pub fn expects_reply(&self) -> bool
         ensures { result ≡ is_confirmed_request (apdu_view self.now) }
     {

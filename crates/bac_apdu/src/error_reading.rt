@@ -1,4 +1,4 @@
-//! Reading of Errors.
+//! Reading Error APDUs.
 
 ghost use Rattle.std.specs.Prelude.{◌≡◌, IfOk};
 ghost use Rattle.bac_value.specs.Views.{tag_view};
@@ -9,7 +9,7 @@ ghost use Rattle.bac_apdu.specs.Reading.{element_fault, is_enumerated, no_enumer
 use crate::apdu::Apdu;
 use crate::fault::ApduFault;
 use crate::octets::{ended, octet};
-use bac_value::{Class, FaultKind, Form, Tag, take_element, take_enumerated, take_tag};
+use bac_value::{Class, FaultKind, Form, Tag, kinds, take_element, take_enumerated, take_tag};
 
 fn fault_of(kind: FaultKind) -> ApduFault
     ensures { result ≡ element_fault kind }
@@ -24,10 +24,10 @@ fn fault_of(kind: FaultKind) -> ApduFault
 fn is_enumerated(tag: Tag) -> bool
     ensures { result ≡ is_enumerated tag.class tag.number }
 {
-    tag.class == Class::Application && tag.number == 9
+    tag.class == Class::Application && tag.number == kinds::ENUMERATED
 }
 
-/// What is wrong where no application Enumerated stands in front.
+/// The fault of octets that do not begin with an application Enumerated.
 #[tactic(auto, unfolding(crate::specs::Reading::no_enumerated))]
 fn other_element(octets: &[u8]) -> Result<(u32, &[u8]), ApduFault>
     ensures { Reads (λ x. x) (λ r. r.now) octets.now result no_enumerated }

@@ -1,15 +1,15 @@
-//! Laws of the definitions: each function's contract is one.
+//! Laws of the definitions: empty functions whose contracts are the laws.
 ghost use Rattle.std.specs.Prelude.{◌≡◌, ◌<◌, ◌^◌, ℕ, List};
 ghost use Rattle.bac_value.specs.Value.{SpellsValue, enumerated};
 ghost use Rattle.bac_apdu.specs.Apdu.{Apdu};
 ghost use Rattle.bac_apdu.specs.Spelling.{SpellsApdu, enumerated_spelling};
 
-/// No octets are two APDUs.
+/// Octets encode at most one APDU.
 pub fn one_apdu_spelling()
     ensures { (a b : Apdu) (octets : List ℕ) → SpellsApdu a octets → SpellsApdu b octets → a ≡ b }
 {}
 
-/// The class and the code of an Error are spelled as application values are.
+/// The class and the code of an Error are encoded as application values.
 pub fn error_members_are_values()
     ensures { (n : ℕ) → n < 2 ^ 32 → SpellsValue (enumerated n) (enumerated_spelling n) }
 {}

@@ -1,4 +1,4 @@
-//! How many octets an APDU has, without writing it.
+//! The length of an encoded APDU, computed without writing it.
 ghost use Rattle.std.specs.Prelude.{◌≡◌, ◌≤◌, ◌+◌, length};
 ghost use Rattle.std.specs.Option.{option_map};
 ghost use Rattle.bac_apdu.specs.Spelling.{apdu_spelling, enumerated_spelling, segment_octets};
@@ -6,24 +6,17 @@ ghost use Rattle.bac_apdu.specs.Views.{segment_view, apdu_view};
 
 use crate::apdu::Apdu;
 use crate::limits::Segment;
+use bac_value::unsigned_len;
 
-/// An application Enumerated (clause 20.2.11).
+/// The length of an application Enumerated with its tag (clause 20.2.11).
 fn enumerated_len(number: u32) -> usize
     ensures is { result ≡ length (enumerated_spelling number) }
     ensures few { result ≤ 5 }
 {
-    if number < 0x100 {
-        2
-    } else if number < 0x1_0000 {
-        3
-    } else if number < 0x100_0000 {
-        4
-    } else {
-        5
-    }
+    1 + unsigned_len(u64::from(number))
 }
 
-/// The octets that speak of a segment: its number, and the proposed window.
+/// The length of the octets for segmentation: a sequence number and the proposed window size.
 fn segment_len(segment: Option<Segment>) -> usize
     ensures is { result ≡ length (segment_octets (option_map segment_view segment)) }
     ensures few { result ≤ 2 }
@@ -34,7 +27,7 @@ fn segment_len(segment: Option<Segment>) -> usize
     }
 }
 
-/// So many octets, and service data after them.
+/// The length of a header and the service data after it.
 fn with_service(head: usize, service: &[u8]) -> usize
     requires { head ≤ 6 }
     ensures { result ≡ head + length service.now }
@@ -42,7 +35,7 @@ fn with_service(head: usize, service: &[u8]) -> usize
     head + service.len()
 }
 
-/// How many octets an APDU has in its one spelling (clause 20.1). It takes no memory.
+/// The length in octets of an encoded APDU (clause 20.1). It does not allocate.
 #[tactic(auto, unfolding(crate::specs::Spelling::apdu_spelling))]
 pub fn apdu_len(apdu: &Apdu) -> usize
     ensures { result ≡ length (apdu_spelling (apdu_view apdu.now)) }

@@ -1,4 +1,4 @@
-//! The eight kinds of APDU (clause 20.1): reading, and the one spelling of each.
+//! Encoding of APDUs (clause 20.1): the eight types, their reader and their writer.
 #![tactic(auto)]
 
 mod apdu;

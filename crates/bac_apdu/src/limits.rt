@@ -1,18 +1,18 @@
-//! What APDUs say of segments, windows and the sizes of APDUs, each within its limits.
+//! The parameters of APDUs for segments, window sizes and APDU lengths, each within its range.
 
 ghost use Rattle.std.specs.Prelude.{◌≡◌, ◌<◌, ◌↔◌, IsTrue, IsSome, IfSome, nat_lt, ◌&&◌};
 ghost use Rattle.bac_apdu.specs.Spelling.{window_fits, codes_fit};
 
-/// A number of segments, 1 to 127, that are sent before a SegmentACK is waited for (clauses 20.1.2.8 and 20.1.6.5).
+/// A window size: how many segments, 1 to 127, are sent before waiting for a SegmentACK (clauses 20.1.2.8 and 20.1.6.5).
 #[derive(Clone, Copy, Debug, PartialEq, Eq)]
 pub struct Window {
-    /// How many segments, 1 to 127.
+    /// The number of segments, 1 to 127.
     pub size: u8,
     pub ghost fits: { IsTrue (window_fits size) },
 }
 
 impl Window {
-    /// None where the size is 0 or above 127.
+    /// The window size; None if it is 0 or above 127.
     pub fn new(size: u8) -> Option<Window>
         ensures some { IsSome result ↔ IsTrue (window_fits size) }
         ensures same { IfSome result (λ w. w.size ≡ size) }
@@ -25,34 +25,35 @@ impl Window {
     }
 }
 
-/// What an APDU in segments says of its segment (clauses 20.1.2.1, 20.1.2.2, 20.1.2.7 and 20.1.2.8).
+/// The segmentation parameters of a segment (clauses 20.1.2.1, 20.1.2.2, 20.1.2.7 and 20.1.2.8).
 #[derive(Clone, Copy, Debug, PartialEq, Eq)]
 pub struct Segment {
     /// Whether more segments follow.
     pub more: bool,
-    /// The segment's number, modulo 256.
+    /// The sequence number, modulo 256.
     pub number: u8,
-    /// The proposed window.
+    /// The proposed window size.
     pub window: Window,
 }
 
-/// What the sender of a request takes of the reply: whether segments, and by their codes how many and APDUs how long
+/// What the sender of a request accepts as response: whether it may be segmented, and codes for how many segments and how long APDUs
 /// (clauses 20.1.2.3 to 20.1.2.5).
 ///
-/// Codes of segments are 0 (unspecified), 1 to 6 (2, 4, 8, 16, 32, 64) and 7 (more than 64); codes of octets are 0 to 5 (50, 128, 206, 480, 1,024, 1,476).
+/// The segment codes are 0 (unspecified), 1 to 6 (2, 4, 8, 16, 32, 64) and 7 (more than 64). The APDU length codes are 0 to 5
+/// (50, 128, 206, 480, 1,024, 1,476 octets).
 #[derive(Clone, Copy, Debug, PartialEq, Eq)]
 pub struct Limits {
-    /// The code of the longest APDU.
+    /// The code of the maximum APDU length, 0 to 5.
     pub max_apdu: u8,
-    /// Whether a reply in segments is taken.
+    /// Whether a segmented response is accepted.
     pub takes_segments: bool,
-    /// The code of how many segments are taken.
+    /// The code of the maximum number of segments, 0 to 7.
     pub max_segments: u8,
     pub ghost fits: { IsTrue (codes_fit max_segments max_apdu) },
 }
 
 impl Limits {
-    /// None where the code of octets is above 5, or that of segments above 7.
+    /// The limits; None if the length code is above 5 or the segment code above 7.
     pub fn new(max_apdu: u8, takes_segments: bool, max_segments: u8) -> Option<Limits>
         ensures some { IsSome result ↔ IsTrue (codes_fit max_segments max_apdu) }
         ensures same { IfSome result (λ l. (l.max_apdu ≡ max_apdu) × (l.takes_segments ≡ takes_segments) × (l.max_segments ≡ max_segments)) }

@@ -1,4 +1,4 @@
-//! Reading what an APDU says of segments, windows and the sizes of APDUs.
+//! Reading the parameters of APDUs for segments, window sizes and APDU lengths.
 
 ghost use Rattle.std.specs.Prelude.{◌≡◌, ◌<◌, ◌%◌, ◌/◌, IfOk, true, false};
 ghost use Rattle.std.specs.Option.{option_map};
@@ -21,7 +21,7 @@ pub(crate) fn window(octets: &[u8]) -> Result<(Window, &[u8]), ApduFault>
     }
 }
 
-/// The number and the window of a segment, where it is one.
+/// Reads the sequence number and the window size, if the APDU is a segment.
 #[tactic(auto, unfolding(crate::specs::Reading::segment_at))]
 #[inline(always)]
 pub(crate) fn segment(
@@ -44,7 +44,7 @@ pub(crate) fn segment(
     Ok((Some(segment), rest))
 }
 
-/// The octet of the two codes.
+/// Reads the octet with the two codes.
 #[tactic(auto, unfolding(crate::specs::Reading::limits_at))]
 pub(crate) fn limits(octets: &[u8], takes_segments: bool) -> Result<(Limits, &[u8]), ApduFault>
     ensures { Reads limits_view (λ r. r.now) octets.now result (limits_at takes_segments) }

@@ -1,4 +1,4 @@
-//! Reading an octet from the front, and the end of an APDU.
+//! Reading an octet, and checking for the end of an APDU.
 
 ghost use Rattle.std.specs.Prelude.{◌≡◌};
 ghost use Rattle.bac_value.specs.Steps.{Reads, ReadsAll, octet_at};
@@ -9,7 +9,7 @@ ghost use Rattle.bac_apdu.specs.Reading.{end_at};
 use crate::apdu::Apdu;
 use crate::fault::ApduFault;
 
-/// The first octet, and what is left after it.
+/// Reads the first octet, and returns it and the octets after it.
 #[inline(always)]
 pub(crate) fn octet(octets: &[u8]) -> Result<(u8, &[u8]), ApduFault>
     ensures { Reads (λ x. x) (λ r. r.now) octets.now result (octet_at Truncated) }
@@ -20,7 +20,7 @@ pub(crate) fn octet(octets: &[u8]) -> Result<(u8, &[u8]), ApduFault>
     }
 }
 
-/// The APDU where nothing is left after it.
+/// Returns the APDU if no octets follow it.
 pub(crate) fn ended<'a>(rest: &[u8], apdu: Apdu<'a>) -> Result<Apdu<'a>, ApduFault>
     ensures { ReadsAll apdu_view result (end_at rest.now (apdu_view apdu.entry)) }
 {

@@ -1,4 +1,4 @@
-//! Reading of APDUs.
+//! Reading APDUs.
 
 ghost use Rattle.std.specs.Prelude.{◌≡◌, ℕ, List, IfOk, IfErr, Bool, ◌&&◌, not, ◌<◌, ◌%◌, ◌/◌};
 ghost use Rattle.bac_apdu.specs.declared.bits.TheConstants.{MOR, SEG};
@@ -106,14 +106,14 @@ fn abort(octets: &[u8], bits: u8) -> Result<Apdu<'_>, ApduFault>
     ended(rest, apdu)
 }
 
-/// Whether more segments follow what is no segment.
+/// Whether the flag for more segments is set on an unsegmented APDU.
 fn is_more_alone(bits: u8) -> bool
     ensures { result ≡ (has_bit bits MOR && not (has_bit bits SEG)) }
 {
     has(bits, MOR) && !has(bits, SEG)
 }
 
-/// Which bits of the first octet are set that the kind does not name.
+/// The bits of the first octet that are set although this type of APDU does not use them.
 fn reserved(kind: u8, bits: u8) -> u8
     ensures { result ≡ reserved_of kind bits }
 {
@@ -157,11 +157,11 @@ fn whole(octets: &[u8]) -> Result<Apdu<'_>, ApduFault>
     kind(rest, first / 16, first % 16)
 }
 
-/// The APDU that the octets are, to their end (clause 20.1). Of several faults the first from the left is answered.
+/// Reads the whole octets as an APDU (clause 20.1). Returns the first fault from left to right.
 pub fn read(octets: &[u8]) -> Result<Apdu<'_>, ApduFault>
     ensures found { IfOk result (λ a. SpellsApdu (apdu_view a) octets.now) }
     ensures refused { IfErr result (λ e. IsNoApdu octets.now) }
-    // The fault is the first from the left.
+    // the fault is the first from left to right
     ensures exact { ReadsAll apdu_view result (apdu_at octets.now) }
 {
     whole(octets)

@@ -1,4 +1,4 @@
-//! Writing of APDUs.
+//! Writing APDUs.
 
 ghost use Rattle.std.specs.Prelude.{◌≡◌, ◌+◌, ◌*◌, ◌/◌, ◌%◌, ◌≤◌, ◌<◌, ◌++◌, ◌∷◌, [], length, slice_index, OnOk, OnErr, vec_len, vec_capacity, Bool};
 ghost use Rattle.bac_value.specs.Appending.{Appends, Lengthens, Keeps, NeedsRoom};
@@ -10,9 +10,9 @@ ghost use Rattle.bac_apdu.specs.Views.{segment_view, apdu_view};
 use crate::apdu::Apdu;
 use crate::bits::{MOR, NAK, SA, SEG, SRV};
 use crate::limits::Segment;
-use bac_value::NoMemory;
+use bac_value::{Class, NoMemory, kinds, write_unsigned};
 
-/// The bits of the first octet that speak of a segment.
+/// The flags of the first octet for a segment.
 fn bits_of(segment: Option<Segment>) -> u8
     ensures is { result ≡ segment_bits (option_map segment_view segment) }
     ensures few { result < 16 }
@@ -29,7 +29,7 @@ fn weight(is_set: bool, weight: u8) -> u8
     if is_set { weight } else { 0 }
 }
 
-/// Appends both, or changes nothing.
+/// Appends both slices, or changes nothing.
 #[inline(always)]
 fn append(head: &[u8], service: &[u8], out: &mut Vec<u8>) -> Result<(), NoMemory>
     ensures ok { Appends result out.old out.new (head.now ++ service.now) }
@@ -43,6 +43,7 @@ fn append(head: &[u8], service: &[u8], out: &mut Vec<u8>) -> Result<(), NoMemory
 }
 
 /// Appends an application Enumerated, or changes nothing.
+#[tactic(auto, using(crate::proofs::Enumerated::enumerated_is))]
 fn put_enumerated(number: u32, out: &mut Vec<u8>) -> Result<(), NoMemory>
     ensures ok { Appends result out.old out.new (enumerated_spelling number) }
     ensures len { Lengthens result out.old out.new (enumerated_spelling number) }
@@ -50,19 +51,12 @@ fn put_enumerated(number: u32, out: &mut Vec<u8>) -> Result<(), NoMemory>
     ensures full { NeedsRoom result out.old (enumerated_spelling number) }
     ensures grows { vec_capacity out.old ≤ vec_capacity out.new }
 {
-    if number < 0x100 {
-        out.extend_from_slice(&[0x91, number as u8])?;
-    } else if number < 0x1_0000 {
-        let [high, low] = (number as u16).to_be_bytes();
-        out.extend_from_slice(&[0x92, high, low])?;
-    } else if number < 0x100_0000 {
-        let [high, low] = ((number % 0x1_0000) as u16).to_be_bytes();
-        out.extend_from_slice(&[0x93, (number / 0x1_0000) as u8, high, low])?;
-    } else {
-        let [a, b, c, d] = number.to_be_bytes();
-        out.extend_from_slice(&[0x94, a, b, c, d])?;
-    }
-    Ok(())
+    write_unsigned(
+        Class::Application,
+        kinds::ENUMERATED,
+        u64::from(number),
+        out,
+    )
 }
 
 /// Appends a Confirmed-Request: four or six octets, then its service data; or changes nothing.
@@ -98,7 +92,7 @@ fn append_request(
     }
 }
 
-/// The same of a ComplexACK: three or five octets, then its service data.
+/// Appends a ComplexACK: three or five octets, then its service data; or changes nothing.
 #[inline(always)]
 fn append_answer(
     first: u8,
@@ -127,7 +121,7 @@ fn append_answer(
     }
 }
 
-/// Appends an Error. After an `Err` the old octets are a front of what is there.
+/// Appends an Error. After an `Err` the old octets are a prefix of the output.
 fn put_error(
     first: u8,
     invoke_id: u8,
@@ -166,7 +160,7 @@ fn append_error(
     written
 }
 
-/// The type in bits 7 to 4, and below it the bits that the kind of APDU names.
+/// The first octet: the type in bits 7 to 4, and the flags of this type of APDU below.
 #[tactic(auto, unfolding(crate::specs::Spelling::apdu_spelling))]
 fn first_octet(apdu: &Apdu) -> u8
     ensures { result ≡ slice_index (apdu_spelling (apdu_view apdu.now)) 0 }
@@ -187,7 +181,7 @@ fn first_octet(apdu: &Apdu) -> u8
     }
 }
 
-/// Appends the one spelling of an APDU (clause 20.1). Running out of memory changes nothing.
+/// Appends the one spelling of an APDU (clause 20.1). Returns `NoMemory` and changes nothing if the vector cannot grow.
 #[tactic(auto, unfolding(crate::specs::Spelling::apdu_spelling, crate::specs::Spelling::apdu_fits))]
 pub fn write(apdu: &Apdu, out: &mut Vec<u8>) -> Result<(), NoMemory>
     ensures ok { Appends result out.old out.new (apdu_spelling (apdu_view apdu.now)) }

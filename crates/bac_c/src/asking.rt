@@ -108,7 +108,7 @@ fn ask_by(
         return status(Err(Fault::NotOpen));
     };
     let asked = device.ask(alloc, now, target, question);
-    *handle = Handle::of(device);
+    handle.put(device);
     match asked {
         Ok(number) => {
             *ticket = number;

@@ -102,7 +102,7 @@ fn change_by(alloc: Global, handle: &mut Handle, setting: &Setting<'_>) -> u32
         return status(Err(Fault::NotOpen));
     };
     let done = device.change(alloc, setting);
-    *handle = Handle::of(device);
+    handle.put(device);
     match done {
         Ok(()) => status(Ok(())),
         Err(fault) => status(Err(fault)),

@@ -2,12 +2,11 @@
 ghost use Rattle.std.specs.Prelude.{◌≡◌, ◌≢◌, ◌↔◌, None, Some, MatchOption, IsTrue};
 
 use crate::device::Device;
-use crate::parked::{Parked, fetch, park, vacant};
+use crate::parked::{Parked, fetch, park, vacant, vacate};
 use std::alloc::Global;
 
-/// What a C program holds: nothing where it is zeroed, or a device.
+/// What a C program holds: nothing where it is zeroed, or a device. It cannot be dropped or overwritten, so no device is lost.
 #[repr(C)]
-#[derive(Drop)]
 pub struct Handle {
     pub held: bool,
     pub parked: Parked,
@@ -49,8 +48,18 @@ impl Handle {
     {
         let Handle { held, parked } = std::mem::replace(self, Handle::none());
         if !held {
+            vacate(parked);
             return None;
         }
         Some(fetch(alloc, parked))
+    }
+
+    /// Puts a device into the handle, which holds none.
+    pub fn put(&mut self, boxed: Box<Device>)
+        requires { self.old.parked.device ≡ None }
+        ensures { self.new.parked.device ≡ Some boxed.value }
+    {
+        let Handle { held: _, parked } = std::mem::replace(self, Handle::of(boxed));
+        vacate(parked);
     }
 }

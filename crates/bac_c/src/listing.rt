@@ -171,7 +171,7 @@ pub extern "C" fn bac_add_object(
         return status(Err(Fault::NotOpen));
     };
     let done = device.add_object(alloc, object_type, instance, name);
-    *handle = Handle::of(device);
+    handle.put(device);
     status(done)
 }
 
@@ -195,7 +195,7 @@ pub extern "C" fn bac_add_property(
         return status(Err(Fault::NotOpen));
     };
     let done = device.add_property(alloc, number, octets, writable);
-    *handle = Handle::of(device);
+    handle.put(device);
     status(done)
 }
 
@@ -218,6 +218,6 @@ pub extern "C" fn bac_add_file(
         return status(Err(Fault::NotOpen));
     };
     let done = device.add_file(alloc, octets, writable);
-    *handle = Handle::of(device);
+    handle.put(device);
     status(done)
 }

@@ -23,7 +23,7 @@ pub extern "C" fn bac_open(alloc: Global, handle: &mut Handle) -> u32
     let Ok(device) = Box::new(alloc, Device::new(alloc)) else {
         return status(Err(Fault::NoMemory));
     };
-    *handle = Handle::of(device);
+    handle.put(device);
     status(Ok(()))
 }
 

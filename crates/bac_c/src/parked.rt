@@ -6,9 +6,8 @@ use crate::device::Device;
 use std::alloc::Global;
 use std::marker::Model;
 
-/// The address of the box of a device, or null.
+/// The address of the box of a device, or null. It cannot be dropped, so no box is lost: `fetch` takes the box back, `vacate` ends one that has none.
 #[repr(C)]
-#[derive(Drop)]
 pub struct Parked {
     at: *mut u8,
     pub ghost device: { Option Device },
@@ -18,6 +17,13 @@ impl Model for Parked {
     ghost use Rattle.bac_c.specs.Parking.{parks};
 
     ghost also_owns = { λ p. parks p.at p.device };
+}
+
+/// Ends a place without a device.
+pub(crate) fn vacate(parked: Parked)
+    requires { parked.device ≡ None }
+{
+    let Parked { at: _ } = parked;
 }
 
 /// No device, at null.

@@ -149,6 +149,6 @@ pub extern "C" fn bac_performed(
             0
         }
     };
-    *handle = Handle::of(device);
+    handle.put(device);
     len
 }

@@ -1,5 +1,5 @@
 //! What the node's own store holds.
-ghost use Rattle.std.specs.Prelude.{◌≡◌, ◌≢◌, ◌↔◌, ◌≤◌, false, length, IfErr, IfOk, IsErrOf, IsTrue, None};
+ghost use Rattle.std.specs.Prelude.{◌≡◌, ◌≢◌, ◌↔◌, ◌≤◌, false, length, IfErr, IfOk, IsErrOf, IsTrue, None, OnErr};
 ghost use Rattle.bac_service.specs.Views.{property_reference_view};
 ghost use Rattle.bac_value.specs.Views.{object_identifier_view};
 ghost use Rattle.bac_c.specs.Devices.{Holds, IsIdle, Runs};
@@ -35,6 +35,7 @@ fn value_out(
     ensures object { IsErrOf result Fault.NoSuchObject ↔ LacksObject (property_reference_view reference) store.now }
     ensures property { IsErrOf result Fault.NoSuchProperty ↔ LacksProperty (property_reference_view reference) store.now }
     ensures memory { IsErrOf result Fault.NoMemory → OfValues (λ octets. 1 ≤ length octets) (property_reference_view reference) store.now }
+    ensures kept { OnErr result (out.new ≡ out.old) }
     ensures few { IsTrue (is_one_of READING (status_of result)) }
     ensures idle { IsErrOf result Fault.NotStarted → ⊥ }
     ensures bad { IsErrOf result Fault.BadRequest → ⊥ }
@@ -61,6 +62,7 @@ fn file_out(
     ensures read { IfOk result (λ len. OfFile (λ octets. IsCopied octets out.old len out.new) (object_identifier_view file) store.now) }
     ensures object { IsErrOf result Fault.NoSuchObject ↔ LacksFile (object_identifier_view file) store.now }
     ensures memory { IsErrOf result Fault.NoMemory → OfFile (λ octets. 1 ≤ length octets) (object_identifier_view file) store.now }
+    ensures kept { OnErr result (out.new ≡ out.old) }
     ensures few { IsTrue (is_one_of FILE_READING (status_of result)) }
     ensures idle { IsErrOf result Fault.NotStarted → ⊥ }
     ensures bad { IsErrOf result Fault.BadRequest → ⊥ }
@@ -96,6 +98,7 @@ impl Device {
         ensures object { IsErrOf result Fault.NoSuchObject ↔ Finds LacksObject reference.now self.now }
         ensures property { IsErrOf result Fault.NoSuchProperty ↔ Finds LacksProperty reference.now self.now }
         ensures memory { IsErrOf result Fault.NoMemory → Finds (OfValues (λ octets. 1 ≤ length octets)) reference.now self.now }
+        ensures kept { OnErr result (out.new ≡ out.old) }
         ensures few { IsTrue (is_one_of READING (status_of result)) }
         ensures open { IsErrOf result Fault.NotOpen → ⊥ }
     {
@@ -115,6 +118,7 @@ impl Device {
         ensures bad { IsErrOf result Fault.BadRequest ↔ Runs (λ n. is_instance file ≡ false) self.now }
         ensures object { IsErrOf result Fault.NoSuchObject ↔ FindsFile LacksFile file self.now }
         ensures memory { IsErrOf result Fault.NoMemory → FindsFile (OfFile (λ octets. 1 ≤ length octets)) file self.now }
+        ensures kept { OnErr result (out.new ≡ out.old) }
         ensures few { IsTrue (is_one_of FILE_READING (status_of result)) }
         ensures open { IsErrOf result Fault.NotOpen → ⊥ }
     {
@@ -147,13 +151,14 @@ pub extern "C" fn bac_get_value(
     ensures memory { result ≡ NO_MEMORY → Holds (Finds (OfValues (λ octets. 1 ≤ length octets)) reference.now) handle.old.parked.device }
     ensures few { IsTrue (is_one_of READING result) }
     ensures kept { result ≢ DONE → len.new ≡ len.old }
+    ensures uncopied { result ≢ DONE → out.new ≡ out.old }
     ensures same { handle.new.parked.device ≡ handle.old.parked.device }
 {
     let Some(device) = handle.take(alloc) else {
         return status(Err(Fault::NotOpen));
     };
     let read = device.get_value(alloc, reference, out);
-    *handle = Handle::of(device);
+    handle.put(device);
     match read {
         Ok(number) => {
             *len = number;
@@ -180,13 +185,14 @@ pub extern "C" fn bac_get_file(
     ensures memory { result ≡ NO_MEMORY → Holds (FindsFile (OfFile (λ octets. 1 ≤ length octets)) file) handle.old.parked.device }
     ensures few { IsTrue (is_one_of FILE_READING result) }
     ensures kept { result ≢ DONE → len.new ≡ len.old }
+    ensures uncopied { result ≢ DONE → out.new ≡ out.old }
     ensures same { handle.new.parked.device ≡ handle.old.parked.device }
 {
     let Some(device) = handle.take(alloc) else {
         return status(Err(Fault::NotOpen));
     };
     let read = device.get_file(alloc, file, out);
-    *handle = Handle::of(device);
+    handle.put(device);
     match read {
         Ok(number) => {
             *len = number;

@@ -20,7 +20,7 @@ pub extern "C" fn bac_sends(alloc: Global, handle: &mut Handle) -> usize
         return 0;
     };
     let number = device.outcome.sends.len();
-    *handle = Handle::of(device);
+    handle.put(device);
     number
 }
 
@@ -49,7 +49,7 @@ pub extern "C" fn bac_send(
         }
         None => 0,
     };
-    *handle = Handle::of(device);
+    handle.put(device);
     len
 }
 
@@ -63,7 +63,7 @@ pub extern "C" fn bac_ends(alloc: Global, handle: &mut Handle) -> usize
         return 0;
     };
     let number = device.outcome.ended.len();
-    *handle = Handle::of(device);
+    handle.put(device);
     number
 }
 
@@ -92,7 +92,7 @@ pub extern "C" fn bac_end(
         }
         None => 0,
     };
-    *handle = Handle::of(device);
+    handle.put(device);
     len
 }
 
@@ -110,6 +110,6 @@ pub extern "C" fn bac_cause(alloc: Global, handle: &mut Handle) -> u32
         Some(cause) => u32::from(cause.number()),
         None => 0,
     };
-    *handle = Handle::of(device);
+    handle.put(device);
     number
 }

@@ -19,7 +19,7 @@ pub extern "C" fn bac_held(alloc: Global, handle: &mut Handle, now: u64) -> usiz
         Some(node) => node.held(now),
         None => 0,
     };
-    *handle = Handle::of(device);
+    handle.put(device);
     number
 }
 
@@ -36,6 +36,6 @@ pub extern "C" fn bac_live(alloc: Global, handle: &mut Handle, now: u64) -> usiz
         Some(node) => node.live(now),
         None => 0,
     };
-    *handle = Handle::of(device);
+    handle.put(device);
     number
 }

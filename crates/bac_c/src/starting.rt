@@ -1,5 +1,5 @@
 //! Start.
-ghost use Rattle.std.specs.Prelude.{◌≡◌, ◌≢◌, ◌↔◌, false, map, true, IfOk, IsErrOf, IsTrue, None, OnErr, OnOk, Some};
+ghost use Rattle.std.specs.Prelude.{◌≡◌, ◌≢◌, ◌↔◌, [], false, map, true, IfOk, IsErrOf, IsTrue, None, OnErr, OnOk, Some};
 ghost use Rattle.bac_node.specs.Fresh.{has_slots, made_node, window_fits};
 ghost use Rattle.bac_store.specs.Made.{IsBad, IsMadeOf};
 ghost use Rattle.bac_store.specs.Objects.{AreDistinct};
@@ -78,6 +78,7 @@ impl Device {
     ) -> Result<(), Fault>
         ensures started { OnOk result (IsStartedWith settings.now restart (listed_in self.old) self.new.node) }
         ensures quiet { OnOk result (IsQuiet self.new) }
+        ensures unlisted { OnOk result (self.new.listed.items ≡ []) }
         ensures again { IsErrOf result Fault.AlreadyStarted ↔ (self.old.node ≢ None) }
         ensures settings { IsErrOf result Fault.BadSettings ↔ IsIdle self.old × (IsTrue (is_right settings.now) → ⊥) }
         ensures duplicate { (IsErrOf result Fault.NoMemory → ⊥)
@@ -106,6 +107,7 @@ impl Device {
     pub fn start_house(&mut self, alloc: Global, settings: &Settings) -> Result<(), Fault>
         ensures started { OnOk result (IsHouseWith settings.now self.new.node) }
         ensures quiet { OnOk result (IsQuiet self.new) }
+        ensures unlisted { OnOk result (self.new.listed.items ≡ []) }
         ensures again { IsErrOf result Fault.AlreadyStarted ↔ (self.old.node ≢ None) }
         ensures settings { IsErrOf result Fault.BadSettings ↔ IsIdle self.old × (IsTrue (is_right settings.now) → ⊥) }
         ensures few { IsTrue (is_one_of HOUSE_STARTING (status_of result)) }
@@ -131,6 +133,7 @@ impl Device {
 fn start_by(alloc: Global, handle: &mut Handle, settings: &Settings, restart: Option<u64>) -> u32
     ensures went { result ≡ DONE → HasStarted settings.now restart handle.old.parked.device handle.new.parked.device }
     ensures quiet { result ≡ DONE → Holds IsQuiet handle.new.parked.device }
+    ensures unlisted { result ≡ DONE → Holds (λ d. d.listed.items ≡ []) handle.new.parked.device }
     ensures closed { (result ≡ NOT_OPEN) ↔ (handle.old.parked.device ≡ None) }
     ensures again { (result ≡ ALREADY_STARTED) ↔ Holds (λ d. d.node ≢ None) handle.old.parked.device }
     ensures settings { (result ≡ BAD_SETTINGS) ↔ Holds (λ d. IsIdle d × (IsTrue (is_right settings.now) → ⊥)) handle.old.parked.device }
@@ -144,7 +147,7 @@ fn start_by(alloc: Global, handle: &mut Handle, settings: &Settings, restart: Op
         return status(Err(Fault::NotOpen));
     };
     let done = device.start(alloc, settings, restart);
-    *handle = Handle::of(device);
+    handle.put(device);
     status(done)
 }
 
@@ -153,6 +156,7 @@ fn start_by(alloc: Global, handle: &mut Handle, settings: &Settings, restart: Op
 pub extern "C" fn bac_start(alloc: Global, handle: &mut Handle, settings: &Settings) -> u32
     ensures went { result ≡ DONE → HasStarted settings.now None handle.old.parked.device handle.new.parked.device }
     ensures quiet { result ≡ DONE → Holds IsQuiet handle.new.parked.device }
+    ensures unlisted { result ≡ DONE → Holds (λ d. d.listed.items ≡ []) handle.new.parked.device }
     ensures closed { (result ≡ NOT_OPEN) ↔ (handle.old.parked.device ≡ None) }
     ensures again { (result ≡ ALREADY_STARTED) ↔ Holds (λ d. d.node ≢ None) handle.old.parked.device }
     ensures settings { (result ≡ BAD_SETTINGS) ↔ Holds (λ d. IsIdle d × (IsTrue (is_right settings.now) → ⊥)) handle.old.parked.device }
@@ -176,6 +180,7 @@ pub extern "C" fn bac_start_restarted(
 ) -> u32
     ensures went { result ≡ DONE → HasStarted settings.now (Some now) handle.old.parked.device handle.new.parked.device }
     ensures quiet { result ≡ DONE → Holds IsQuiet handle.new.parked.device }
+    ensures unlisted { result ≡ DONE → Holds (λ d. d.listed.items ≡ []) handle.new.parked.device }
     ensures closed { (result ≡ NOT_OPEN) ↔ (handle.old.parked.device ≡ None) }
     ensures again { (result ≡ ALREADY_STARTED) ↔ Holds (λ d. d.node ≢ None) handle.old.parked.device }
     ensures settings { (result ≡ BAD_SETTINGS) ↔ Holds (λ d. IsIdle d × (IsTrue (is_right settings.now) → ⊥)) handle.old.parked.device }
@@ -193,6 +198,7 @@ pub extern "C" fn bac_start_restarted(
 pub extern "C" fn bac_start_house(alloc: Global, handle: &mut Handle, settings: &Settings) -> u32
     ensures went { result ≡ DONE → HasHouse settings.now handle.new.parked.device }
     ensures quiet { result ≡ DONE → Holds IsQuiet handle.new.parked.device }
+    ensures unlisted { result ≡ DONE → Holds (λ d. d.listed.items ≡ []) handle.new.parked.device }
     ensures closed { (result ≡ NOT_OPEN) ↔ (handle.old.parked.device ≡ None) }
     ensures again { (result ≡ ALREADY_STARTED) ↔ Holds (λ d. d.node ≢ None) handle.old.parked.device }
     ensures settings { (result ≡ BAD_SETTINGS) ↔ Holds (λ d. IsIdle d × (IsTrue (is_right settings.now) → ⊥)) handle.old.parked.device }
@@ -203,6 +209,6 @@ pub extern "C" fn bac_start_house(alloc: Global, handle: &mut Handle, settings: 
         return status(Err(Fault::NotOpen));
     };
     let done = device.start_house(alloc, settings);
-    *handle = Handle::of(device);
+    handle.put(device);
     status(done)
 }

@@ -32,7 +32,7 @@ pub extern "C" fn bac_on(
         return status(Err(Fault::NotOpen));
     };
     let done = device.on(now, *from, octets);
-    *handle = Handle::of(device);
+    handle.put(device);
     status(done)
 }
 
@@ -50,7 +50,7 @@ pub extern "C" fn bac_tick(alloc: Global, handle: &mut Handle, now: u64) -> u32
         return status(Err(Fault::NotOpen));
     };
     let done = device.tick(now);
-    *handle = Handle::of(device);
+    handle.put(device);
     status(done)
 }
 
@@ -65,6 +65,6 @@ pub extern "C" fn bac_next_due(alloc: Global, handle: &mut Handle) -> u64
         return u64::MAX;
     };
     let due = device.next_due();
-    *handle = Handle::of(device);
+    handle.put(device);
     due.unwrap_or(u64::MAX)
 }

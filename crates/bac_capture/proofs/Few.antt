@@ -1,4 +1,4 @@
--- Counts of BVLLs of other functions, none of which is more than the frames.
+-- Counts of BVLLs with other functions, none of which exceeds the number of frames.
 use Rattle.std.proofs.Common.{◌≤◌, ◌<◌, ◌+◌, ℕ, List, length, get_or, set, arith}
 use Rattle.std.specs.List.{All}
 use Rattle.std.proofs.lemmas.List.Elements.{All-set}

@@ -1,4 +1,4 @@
--- What the limits leave.
+-- Consequences of the limits.
 use Rattle.std.proofs.Common.{◌≡◌, ◌≤◌, ◌+◌, ◌++◌, ℕ, List, length, refl, arith}
 use Rattle.std.specs.Prelude.{replicate}
 use Rattle.std.specs.List.{concat}

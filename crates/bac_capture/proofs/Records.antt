@@ -1,4 +1,4 @@
--- Records and blocks that were read: a head, and then a body.
+-- Reading records and blocks: a head, and then a body.
 use Rattle.std.proofs.Common.{◌≡◌, ◌≢◌, ◌<◌, ◌≤◌, min, nat_lt, true, false, Bool, ℕ, List, [], ◌∷◌, length, take, drop}
 use Rattle.std.proofs.Common.{Option, Some, None, Result, Ok, Err, IfOk, refl, sym, ap, subst, ◌∙◌, arith, length-take}
 use Rattle.std.proofs.lemmas.Bool.Decides.{nat_tests}
@@ -15,12 +15,12 @@ use Rattle.bac_capture.specs.BlockViews.{layout_view}
 use Rattle.bac_capture.specs.Runs.{RUN_LIMIT, kept, IsRun}
 use Rattle.bac_capture.proofs.Runs.{take_all}
 
--- a head is short, and has an octet
+-- a head is short, but not empty
 head_bounds : (form : Form) → (0 < head_len_of form) × (head_len_of form ≤ 16)
 head_bounds Records = (omega arith, omega arith)
 head_bounds Blocks = (omega arith, omega arith)
 
--- how many octets of a head were there
+-- how many octets of a head were available
 head_count : (form : Form) (xs head : List ℕ) → head ≡ kept (take (head_len_of form) xs) → length head ≡ min (head_len_of form) (length xs)
 head_count form xs head e =
     let n = head_len_of form in

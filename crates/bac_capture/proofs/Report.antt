@@ -1,4 +1,4 @@
--- Captures whose first octets were read apart.
+-- Captures whose first octets are read separately.
 use Rattle.std.proofs.Common.{◌≡◌, ℕ, Bool, List, ◌++◌, take, drop, Option, Some, None, ap, subst, ◌∙◌, arith, length-take, take-append-drop}
 use Rattle.bac_capture.specs.declared.form.Form.{Form}
 use Rattle.bac_capture.specs.declared.order.Order.{Order}
@@ -14,7 +14,7 @@ use Rattle.bac_capture.specs.Checked.{tally_text, BreaksFile, IsCheckOf, IsFileR
 use Rattle.bac_capture.specs.Counts.{Counts, no_frames, IsTallied}
 use Rattle.bac_capture.specs.Reports.{IsFileWalked}
 
--- a command that stopped says nothing
+-- a command that stopped guarantees nothing
 stop_in : (also : Option ℕ) (named : Bool) (form : Option (Form × Order)) (xs : List ℕ) (a b : Option (List ℕ)) (s : Status) → IsStop s → IsReportIn also named form xs a b s
 stop_in also named None xs a b status.Done h = absurd h
 stop_in also named None xs a b status.Faulty h = absurd h
@@ -40,7 +40,7 @@ front_reported also named (Some xs) left a b front shown w s run same report =
     let here = subst (λ (o : Option (List ℕ)). IsFrontReport also named shown o a b s) run.is report in
     subst (λ (l : List ℕ). IsReportIn also named (form_of l) xs a b s) is (subst (λ (l : List ℕ). IsReportIn also named (form_of shown) l a b s) whole here)
 
--- a file that was walked over, and the counts that were printed after that
+-- a file that was passed over, and the counts that were printed after that
 pub walked_reported : (also : Option ℕ) (named : Bool) (form : Form) (order : Order) (input a b c : Option (List ℕ)) (final : Counts) (s : Status)
     → IsFileWalked Counts (SeesFrame also) BreaksFile form order input a b no_frames final → Appends b c (tally_text named final) → IsTallied final.bad s
     → IsFileReport also named form order input a c s

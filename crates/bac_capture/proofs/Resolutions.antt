@@ -6,7 +6,7 @@ use Rattle.bac_capture.specs.declared.order.Order.{Order}
 use Rattle.bac_capture.specs.Moments.{option_len, resolution_in}
 use Rattle.bac_capture.specs.Orders.{number_of}
 
--- none is left
+-- no option is left
 pub none_left : (count : ℕ) (order : Order) (options : List ℕ) → length options < 5 → resolution_in count order options ≡ 6
 unfolding resolution_in
 none_left zero order options short = refl
@@ -16,29 +16,29 @@ none_left (suc count) order options short = go (nat_lt (length options) 5) refl 
     go true e other = refl
     go false e other = absurd (grind (arith, nat_tests, e, short))
 
--- what is told where one is left that does not end them, and so many after it are looked at
-abbrev pub told_on : ℕ → Order → List ℕ → ℕ
-told_on count order options =
+-- the result if an option other than the end is left, and this many more options are read
+abbrev pub stated_on : ℕ → Order → List ℕ → ℕ
+stated_on count order options =
     if number_of order 2 options == 9 then slice_index options 4 else
     resolution_in count order (drop (option_len (number_of order 2 (drop 2 options))) options)
 
--- what is told where one is left
-abbrev pub told : ℕ → Order → List ℕ → ℕ
-told count order options = if number_of order 2 options == 0 then 6 else told_on count order options
+-- the result if an option is left
+abbrev pub stated : ℕ → Order → List ℕ → ℕ
+stated count order options = if number_of order 2 options == 0 then 6 else stated_on count order options
 
 pub one_left : (count less : ℕ) (order : Order) (options : List ℕ) → count ≡ less + 1 → 5 ≤ length options
-    → resolution_in count order options ≡ told less order options
+    → resolution_in count order options ≡ stated less order options
 unfolding resolution_in
 one_left zero less order options some long = absurd (omega (arith, some))
 one_left (suc count) less order options some long =
     let same : count ≡ less = omega (arith, some) in
-    go (nat_lt (length options) 5) refl _ ∙ ap (λ n. told n order options) same
+    go (nat_lt (length options) 5) refl _ ∙ ap (λ n. stated n order options) same
   where
     go : (b : Bool) → nat_lt (length options) 5 ≡ b → (other : ℕ) → (if b then 6 else other) ≡ other
     go true e other = absurd (grind (arith, nat_tests, e, long))
     go false e other = refl
 
--- the option in front has that code
+-- the first option has this code
 pub is_code : (order : Order) (options : List ℕ) (code one other : ℕ) → number_of order 2 options ≡ code
     → (if number_of order 2 options == code then one else other) ≡ one
 is_code order options code one other is = go (number_of order 2 options == code) refl
@@ -47,7 +47,7 @@ is_code order options code one other is = go (number_of order 2 options == code)
     go true e = refl
     go false e = absurd (grind (arith, nat_tests, e, is))
 
--- it has another
+-- the first option has another code
 pub no_code : (order : Order) (options : List ℕ) (code one other : ℕ) → (number_of order 2 options ≡ code → ⊥)
     → (if number_of order 2 options == code then one else other) ≡ other
 no_code order options code one other is = go (number_of order 2 options == code) refl

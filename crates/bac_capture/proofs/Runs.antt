@@ -28,7 +28,7 @@ take_front zero xs ys = refl
 take_front (suc n) [] ys = refl
 take_front (suc n) (x ∷ xs) ys = ap (λ (l : List ℕ). x ∷ l) (take_front n xs ys)
 
--- what is taken at once is what is taken in two parts
+-- reading at once has the same result as reading in two parts
 take_more : (m n : ℕ) (xs : List ℕ) → m ≤ length xs → take m xs ++ take n (drop m xs) ≡ take (m + n) xs
 take_more zero n xs h =
     let e : n ≡ zero + n = omega arith in
@@ -53,7 +53,7 @@ take_min false xs k e =
     let m : min (length xs) k ≡ k = omega (arith, more) in
     ap (λ (n : ℕ). take n xs) m
 
--- what fits in the room after some octets
+-- what fits after some octets
 pub part_kept : (old xs : List ℕ) (k n : ℕ) → k + length old ≡ n → old ++ take (min (length xs) k) xs ≡ take n (old ++ xs)
 part_kept [] xs k n e = take_min (nat_lt (length xs) k) xs k refl ∙ ap (λ (m : ℕ). take m xs) (omega (arith, e))
 part_kept (x ∷ old) xs k zero e = absurd (omega (arith, e))
@@ -64,7 +64,7 @@ kept_short run = omega (arith, length-take RUN_LIMIT run)
 
 -- ---- a part
 
--- octets that were shown are consumed
+-- octets that were available are consumed
 pub dropped : (old rested new : Option (List ℕ)) (limit : Option ℕ) (shown : List ℕ) (n : ℕ) → n ≤ length shown → Keeps old rested
     → IfSome old (λ xs. IfSome limit (λ k. length shown ≤ k)) → DropsConsumable rested new limit n → IfSome old (λ xs. new ≡ Some (drop n xs))
 dropped None rested new limit shown n within keeps fits drops = tt
@@ -98,7 +98,7 @@ pub part_taken : (old new : Option (List ℕ)) (shown before after : List ℕ) (
 part_taken None new shown before after n count front end len is keeps = tt
 part_taken (Some xs) new shown before after n count front end len is keeps = λ some. taken xs shown new before after n count some front end len is keeps
 
--- a signal came in between
+-- a signal interrupted the read
 pub nothing_taken : (old new : Option (List ℕ)) (before : List ℕ) (count : ℕ) → Keeps old new → IsPart old new count before before None
 nothing_taken None new before count keeps = tt
 nothing_taken (Some xs) None before count keeps = absurd keeps
@@ -106,7 +106,7 @@ nothing_taken (Some xs) (Some ys) before count keeps = (ap (λ (l : List ℕ). S
 
 -- ---- parts one after the other
 
--- so many octets were taken so far
+-- this many octets were read so far
 pub record IsSoFar (octets : List ℕ) (left : Option (List ℕ)) (gone : ℕ) (after : List ℕ) : Type 0 where
   pub within : gone ≤ length octets
   pub is : left ≡ Some (drop gone octets)

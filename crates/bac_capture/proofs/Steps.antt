@@ -1,4 +1,4 @@
--- Records and blocks that were taken, one after the other: what was told of each stands in front of what is told of the rest.
+-- Handling records and blocks, one after the other: the text for each precedes the text for the rest.
 use Rattle.std.proofs.Common.{◌≡◌, ℕ, zero, suc, List, [], ◌++◌, Option, Some, None, Result, Ok, Err, refl, sym, subst, ◌∙◌, append_assoc, append-nil}
 use Rattle.std.specs.Io.KnownBytes.{Appends, Keeps}
 use Rattle.std.proofs.KnownBytes.{Appends-nil, Appends-trans, Appends-kept}
@@ -7,7 +7,7 @@ use Rattle.bac_capture.specs.Blocks.{LayoutView, FrameView, BlockView, FrameBloc
 use Rattle.bac_capture.specs.Files.{Record, Ended, Broken, Whole, record_at}
 use Rattle.bac_capture.specs.declared.walk.Step.{Step}
 use Rattle.bac_capture.specs.declared.walk.Step.TheVariants as step
-use Rattle.bac_capture.specs.Walks.{Tells, Rest, IsBlock, IsWhole, IsNext, AreRead}
+use Rattle.bac_capture.specs.Walks.{Prints, Rest, IsBlock, IsWhole, IsNext, AreRead}
 use Rattle.bac_capture.specs.Reports.{IsPassed, IsTaken, IsWholeTaken}
 use Rattle.bac_capture.specs.Reports.{IsRecordTaken, IsStep, AreWalked}
 
@@ -16,26 +16,26 @@ kept_text None new k = tt
 kept_text (Some xs) None k = absurd k
 kept_text (Some xs) (Some ys) k = k ∙ sym (append-nil xs)
 
-module _ (S : Type 0) (Sees : Tells FrameView S) (Breaks : Tells FileFault S) where
-  -- what a step that goes on gives: the text that it printed, and what it makes of the rest
+module _ (S : Type 0) (Visits : Prints FrameView S) (Breaks : Prints FileFault S) where
+  -- the effect of a step after which reading continues: the text that it printed, and the result for the rest
   pub record GoesOn (layout next : LayoutView) (here : Record) (left old new : Option (List ℕ)) (before now : S) : Type 1 where
     pub rest : List ℕ
     pub is : left ≡ Some rest
     pub text : List ℕ
     pub printed : Appends old new text
     pub then : (Then : Rest S) (more : List ℕ) (final : S) → Then next now rest more final
-        → IsNext S Sees Breaks layout before here (text ++ more) final Then
+        → IsNext S Visits Breaks layout before here (text ++ more) final Then
 
-  -- the text of a block, and what it makes of the rest
+  -- the text for a block, and the result for the rest
   pub record BlockGoesOn (layout next : LayoutView) (block : BlockView) (old new : Option (List ℕ)) (before now : S) : Type 1 where
     pub text : List ℕ
     pub printed : Appends old new text
     pub then : (Then : LayoutView → S → List ℕ → Type 0) (more : List ℕ) → Then next now more
-        → IsBlock S Sees block before (text ++ more) (Then (after layout block))
+        → IsBlock S Visits block before (text ++ more) (Then (after layout block))
 
   passed : (layout next : LayoutView) (block : BlockView) (old new : Option (List ℕ)) (before now : S) → next ≡ after layout block
       → IsPassed S old new before now
-      → ((Then : S → List ℕ → Type 0) (text : List ℕ) → Then before text → IsBlock S Sees block before text Then)
+      → ((Then : S → List ℕ → Type 0) (text : List ℕ) → Then before text → IsBlock S Visits block before text Then)
       → BlockGoesOn layout next block old new before now
   passed layout next block old new before now is p goes = record {
     text = [];
@@ -45,7 +45,7 @@ module _ (S : Type 0) (Sees : Tells FrameView S) (Breaks : Tells FileFault S) wh
   }
 
   block_goes_on : (layout next : LayoutView) (block : BlockView) (old new : Option (List ℕ)) (before now : S)
-      → IsTaken S Sees layout next block old new before now → BlockGoesOn layout next block old new before now
+      → IsTaken S Visits layout next block old new before now → BlockGoesOn layout next block old new before now
   block_goes_on layout next (FrameBlock frame) old new before now t = record {
     text = t.1.text;
     printed = t.1.printed;
@@ -64,15 +64,15 @@ module _ (S : Type 0) (Sees : Tells FrameView S) (Breaks : Tells FileFault S) wh
       passed layout next (InterfaceBlock interface) old new before now t.0 t.1 (λ Then text h. h)
   block_goes_on layout next OtherBlock old new before now t = passed layout next OtherBlock old new before now t.0 t.1 (λ Then text h. h)
 
-  -- a whole record with this block goes on
+  -- after a whole record with this block reading continues
   pub record WholeGoesOn (layout next : LayoutView) (block : Result BlockView FileFault) (rest : List ℕ) (old new : Option (List ℕ)) (before now : S) : Type 1 where
     pub text : List ℕ
     pub printed : Appends old new text
     pub then : (Then : Rest S) (more : List ℕ) (final : S) → Then next now rest more final
-        → IsWhole S Sees Breaks layout before block rest (text ++ more) final Then
+        → IsWhole S Visits Breaks layout before block rest (text ++ more) final Then
 
   whole_goes_on : (layout next : LayoutView) (block : Result BlockView FileFault) (rest : List ℕ) (old new : Option (List ℕ)) (before now : S)
-      → IsWholeTaken S Sees Breaks layout next block old new before now step.Taken → WholeGoesOn layout next block rest old new before now
+      → IsWholeTaken S Visits Breaks layout next block old new before now step.Taken → WholeGoesOn layout next block rest old new before now
   whole_goes_on layout next (Err fault) rest old new before now t = absurd t
   whole_goes_on layout next (Ok block) rest old new before now t =
       let b = block_goes_on layout next block old new before now t in
@@ -83,7 +83,7 @@ module _ (S : Type 0) (Sees : Tells FrameView S) (Breaks : Tells FileFault S) wh
       }
 
   goes_on : (layout next : LayoutView) (here : Record) (left old new : Option (List ℕ)) (before now : S)
-      → IsRecordTaken S Sees Breaks layout next here left old new before now step.Taken → GoesOn layout next here left old new before now
+      → IsRecordTaken S Visits Breaks layout next here left old new before now step.Taken → GoesOn layout next here left old new before now
   goes_on layout next Ended left old new before now t = absurd t
   goes_on layout next (Broken fault) left old new before now t = absurd t
   goes_on layout next (Whole head body rest) left old new before now t =
@@ -92,19 +92,19 @@ module _ (S : Type 0) (Sees : Tells FrameView S) (Breaks : Tells FileFault S) wh
 
   -- ---- the file cannot be read on
 
-  -- the text of what was told last
+  -- the text that was printed last
   pub record IsOver (layout : LayoutView) (here : Record) (old new : Option (List ℕ)) (before now : S) : Type 1 where
     pub text : List ℕ
     pub printed : Appends old new text
-    pub then : (Then : Rest S) → IsNext S Sees Breaks layout before here text now Then
+    pub then : (Then : Rest S) → IsNext S Visits Breaks layout before here text now Then
 
   pub record IsWholeOver (layout : LayoutView) (block : Result BlockView FileFault) (rest : List ℕ) (old new : Option (List ℕ)) (before now : S) : Type 1 where
     pub text : List ℕ
     pub printed : Appends old new text
-    pub then : (Then : Rest S) → IsWhole S Sees Breaks layout before block rest text now Then
+    pub then : (Then : Rest S) → IsWhole S Visits Breaks layout before block rest text now Then
 
   whole_over : (layout next : LayoutView) (block : Result BlockView FileFault) (rest : List ℕ) (old new : Option (List ℕ)) (before now : S)
-      → IsWholeTaken S Sees Breaks layout next block old new before now step.Broken → IsWholeOver layout block rest old new before now
+      → IsWholeTaken S Visits Breaks layout next block old new before now step.Broken → IsWholeOver layout block rest old new before now
   whole_over layout next (Err fault) rest old new before now t = record {
     text = t.text;
     printed = t.printed;
@@ -113,7 +113,7 @@ module _ (S : Type 0) (Sees : Tells FrameView S) (Breaks : Tells FileFault S) wh
   whole_over layout next (Ok block) rest old new before now t = absurd t
 
   over : (layout next : LayoutView) (here : Record) (left old new : Option (List ℕ)) (before now : S)
-      → IsRecordTaken S Sees Breaks layout next here left old new before now step.Broken → IsOver layout here old new before now
+      → IsRecordTaken S Visits Breaks layout next here left old new before now step.Broken → IsOver layout here old new before now
   over layout next Ended left old new before now t = absurd t
   over layout next (Broken fault) left old new before now t = record {
     text = t.text;
@@ -126,14 +126,14 @@ module _ (S : Type 0) (Sees : Tells FrameView S) (Breaks : Tells FileFault S) wh
 
   -- ---- one after the other
 
-  -- some records and blocks were taken, and the others stand before
+  -- some records and blocks were handled, and the others follow
   pub record IsSoFar (begun now : LayoutView) (octets : List ℕ) (left old new : Option (List ℕ)) (start state : S) : Type 0 where
     pub rest : List ℕ
     pub is : left ≡ Some rest
     pub text : List ℕ
     pub printed : Appends old new text
-    pub then : (n : ℕ) (more : List ℕ) (final : S) → AreRead n S Sees Breaks now state rest more final
-        → (m : ℕ) × AreRead m S Sees Breaks begun start octets (text ++ more) final
+    pub then : (n : ℕ) (more : List ℕ) (final : S) → AreRead n S Visits Breaks now state rest more final
+        → (m : ℕ) × AreRead m S Visits Breaks begun start octets (text ++ more) final
 
   abbrev pub AreSoFar : (begun now : LayoutView) → (input left old new : Option (List ℕ)) → (start state : S) → Type 0
   AreSoFar begun now None left old new start state = Unit {0}
@@ -150,18 +150,18 @@ module _ (S : Type 0) (Sees : Tells FrameView S) (Breaks : Tells FileFault S) wh
   }
 
   here_of : (now next : LayoutView) (rest : List ℕ) (left left_new old new : Option (List ℕ)) (before after : S) (s : Step) → left ≡ Some rest
-      → IsStep S Sees Breaks now next left left_new old new before after s
-      → IsRecordTaken S Sees Breaks now next (record_at now.form now.order rest) left_new old new before after s
+      → IsStep S Visits Breaks now next left left_new old new before after s
+      → IsRecordTaken S Visits Breaks now next (record_at now.form now.order rest) left_new old new before after s
   here_of now next rest left left_new old new before after s e t =
-      subst (λ (o : Option (List ℕ)). IsStep S Sees Breaks now next o left_new old new before after s) e t
+      subst (λ (o : Option (List ℕ)). IsStep S Visits Breaks now next o left_new old new before after s) e t
 
   pub more_so_far : (begun now next : LayoutView) (input left left_new a b c : Option (List ℕ)) (start before after : S) (s : Step)
-      → AreSoFar begun now input left a b start before → IsStep S Sees Breaks now next left left_new b c before after s → s ≡ step.Taken
+      → AreSoFar begun now input left a b start before → IsStep S Visits Breaks now next left left_new b c before after s → s ≡ step.Taken
       → AreSoFar begun next input left_new a c start after
   more_so_far begun now next None left left_new a b c start before after s sofar t e = tt
   more_so_far begun now next (Some octets) left left_new a b c start before after s sofar t e =
       let here = record_at now.form now.order sofar.rest in
-      let taken = subst (λ (q : Step). IsRecordTaken S Sees Breaks now next here left_new b c before after q) e
+      let taken = subst (λ (q : Step). IsRecordTaken S Visits Breaks now next here left_new b c before after q) e
       (here_of now next sofar.rest left left_new b c before after s sofar.is t) in
       let g = goes_on now next here left_new b c before after taken in
       record {
@@ -170,43 +170,43 @@ module _ (S : Type 0) (Sees : Tells FrameView S) (Breaks : Tells FileFault S) wh
         text = sofar.text ++ g.text;
         printed = Appends-trans a b c _ _ sofar.printed g.printed;
         then = λ n more final r.
-            let whole = sofar.then (suc n) (g.text ++ more) final (g.then (AreRead n S Sees Breaks) more final r) in
-            (whole.0, subst (λ (l : List ℕ). AreRead whole.0 S Sees Breaks begun start octets l final) (sym (append_assoc sofar.text g.text more)) whole.1);
+            let whole = sofar.then (suc n) (g.text ++ more) final (g.then (AreRead n S Visits Breaks) more final r) in
+            (whole.0, subst (λ (l : List ℕ). AreRead whole.0 S Visits Breaks begun start octets l final) (sym (append_assoc sofar.text g.text more)) whole.1);
       }
 
   pub all_ended : (begun now next : LayoutView) (input left left_new a b c : Option (List ℕ)) (start before after : S) (s : Step)
-      → AreSoFar begun now input left a b start before → IsStep S Sees Breaks now next left left_new b c before after s → s ≡ step.Ended
-      → AreWalked S Sees Breaks begun input a c start after
+      → AreSoFar begun now input left a b start before → IsStep S Visits Breaks now next left left_new b c before after s → s ≡ step.Ended
+      → AreWalked S Visits Breaks begun input a c start after
   all_ended begun now next None left left_new a b c start before after s sofar t e = tt
   all_ended begun now next (Some octets) left left_new a b c start before after s sofar t e =
       let end = ended (record_at now.form now.order sofar.rest)
-      (subst (λ (q : Step). IsRecordTaken S Sees Breaks now next (record_at now.form now.order sofar.rest) left_new b c before after q) e
+      (subst (λ (q : Step). IsRecordTaken S Visits Breaks now next (record_at now.form now.order sofar.rest) left_new b c before after q) e
       (here_of now next sofar.rest left left_new b c before after s sofar.is t)) in
       let whole = sofar.then zero [] after (end.0, refl, end.1.1) in
       record {
         records = whole.0;
         text = sofar.text;
-        read = subst (λ (l : List ℕ). AreRead whole.0 S Sees Breaks begun start octets l after) (append-nil sofar.text) whole.1;
+        read = subst (λ (l : List ℕ). AreRead whole.0 S Visits Breaks begun start octets l after) (append-nil sofar.text) whole.1;
         printed = Appends-kept a b c _ sofar.printed end.1.0;
       } where
-        ended : (here : Record) → IsRecordTaken S Sees Breaks now next here left_new b c before after step.Ended → (here ≡ Ended) × IsPassed S b c before after
+        ended : (here : Record) → IsRecordTaken S Visits Breaks now next here left_new b c before after step.Ended → (here ≡ Ended) × IsPassed S b c before after
         ended Ended u = (refl, u)
         ended (Broken fault) u = absurd u
         ended (Whole head body rest) u = absurd (no_end (block_at now head body) u.1) where
-          no_end : (block : Result BlockView FileFault) → IsWholeTaken S Sees Breaks now next block b c before after step.Ended → ⊥
+          no_end : (block : Result BlockView FileFault) → IsWholeTaken S Visits Breaks now next block b c before after step.Ended → ⊥
           no_end (Err fault) v = v
           no_end (Ok block) v = v
 
   pub all_broken : (begun now next : LayoutView) (input left left_new a b c : Option (List ℕ)) (start before after : S) (s : Step)
-      → AreSoFar begun now input left a b start before → IsStep S Sees Breaks now next left left_new b c before after s → s ≡ step.Broken
-      → AreWalked S Sees Breaks begun input a c start after
+      → AreSoFar begun now input left a b start before → IsStep S Visits Breaks now next left left_new b c before after s → s ≡ step.Broken
+      → AreWalked S Visits Breaks begun input a c start after
   all_broken begun now next None left left_new a b c start before after s sofar t e = tt
   all_broken begun now next (Some octets) left left_new a b c start before after s sofar t e =
       let here = record_at now.form now.order sofar.rest in
-      let taken = subst (λ (q : Step). IsRecordTaken S Sees Breaks now next here left_new b c before after q) e
+      let taken = subst (λ (q : Step). IsRecordTaken S Visits Breaks now next here left_new b c before after q) e
       (here_of now next sofar.rest left left_new b c before after s sofar.is t) in
       let o = over now next here left_new b c before after taken in
-      let whole = sofar.then (suc zero) o.text after (o.then (AreRead zero S Sees Breaks)) in
+      let whole = sofar.then (suc zero) o.text after (o.then (AreRead zero S Visits Breaks)) in
       record {
         records = whole.0;
         text = sofar.text ++ o.text;

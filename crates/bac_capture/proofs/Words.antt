@@ -1,4 +1,4 @@
--- The word at a place, and those after it.
+-- The word at an offset, and the words after it.
 use Rattle.std.proofs.Common.{◌≡◌, ℕ, suc, ◌+◌, ◌*◌, ◌<◌, ◌≤◌, List, [], ◌∷◌, length, drop, get_or, sym, ap, ◌∙◌, arith, refl}
 use Rattle.std.proofs.Math.Seq.{drop-cons}
 use Rattle.bac_capture.specs.Sums.{ones_sum, sum_from}

@@ -1,4 +1,4 @@
--- How a capture file begins.
+-- The headers of capture files.
 use Rattle.std.specs.Prelude.{◌≡◌, ℕ, ◌%◌, List, [], ◌∷◌, length, take, drop, Result, Ok, Err, nat_lt, ◌==◌, if◌then◌else◌, ⊤, Option, Some, None}
 use Rattle.bac_capture.specs.declared.fault.FileFault.{FileFault}
 use Rattle.bac_capture.specs.declared.fault.FileFault.TheVariants.{Cut}
@@ -13,11 +13,11 @@ use Rattle.bac_capture.specs.Blocks.{LayoutView}
 use Rattle.bac_capture.specs.BlockViews.{layout_view}
 use Rattle.bac_capture.specs.Orders.{number_of}
 
--- the header of pcap: in the lower half of its last number the link layer of all frames
+-- the pcap header: the lower half of its last number is the link layer of all frames
 abbrev pub header_link : Order → List ℕ → ℕ
 header_link order header = number_of order 4 (drop 20 header) % 65536
 
--- its first number tells the unit of moments
+-- its first number determines the unit of timestamps
 abbrev pub header_resolution : Order → List ℕ → Resolution
 header_resolution order header = if number_of order 4 header == 0xA1B23C4D then Nanoseconds else Microseconds
 

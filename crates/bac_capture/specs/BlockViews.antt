@@ -1,4 +1,4 @@
--- The plain values of layouts, frames and blocks.
+-- The abstract values of layouts, frames and blocks.
 use Rattle.bac_capture.specs.declared.file.Layout.{Layout}
 use Rattle.bac_capture.specs.declared.block.Frame.{Frame}
 use Rattle.bac_capture.specs.declared.block.Block.{Block}

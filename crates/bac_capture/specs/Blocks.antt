@@ -1,4 +1,4 @@
--- What the records and blocks of a capture file have.
+-- The contents of the records and blocks of a capture file.
 use Rattle.std.specs.Prelude.{ℕ, ◌+◌, List, [], ◌∷◌, ◌++◌, length, take, drop, min, slice_get, Result, Ok, Err}
 use Rattle.std.specs.Prelude.{nat_lt, nat_le, ◌==◌, if◌then◌else◌, Option, Some, None}
 use Rattle.bac_value.specs.Steps.{◌>>=◌}
@@ -13,19 +13,19 @@ use Rattle.bac_capture.specs.Files.{is_section, section_order_of}
 use Rattle.bac_capture.specs.Moments.{block_moment, record_moment, resolution_in, resolution_of}
 use Rattle.bac_capture.specs.Orders.{number_of}
 
--- how the rest of a file is to be read
+-- how to read the rest of a file
 pub record LayoutView : Type 0 where
   pub form : Form
   pub order : Order
   pub interfaces : List Interface
 
--- a frame: the number of its link layer, its moment in milliseconds, and what was captured of it
+-- a frame: the number of its link layer, its timestamp in milliseconds, and the captured octets
 pub record FrameView : Type 0 where
   pub link : ℕ
   pub moment : Option ℕ
   pub octets : List ℕ
 
--- what a record or a block has
+-- the content of a record or a block
 pub data BlockView : Type 0 where
   FrameBlock : FrameView → BlockView
   SectionBlock : Order → BlockView
@@ -40,8 +40,8 @@ interface_in (Some interface) = Ok interface
 abbrev pub interface_of : List Interface → ℕ → Result Interface FileFault
 interface_of interfaces index = interface_in (slice_get interfaces index)
 
--- after the interface's number: two numbers for the moment, how many octets were captured and sent, and those; the block's length counts these numbers,
--- its head and the length at its end
+-- after the interface's number: two numbers for the timestamp, how many octets were captured and sent, and the octets; the block's length includes
+-- these numbers, the block's head and the length at its end
 abbrev pub captured_in : LayoutView → ℕ → List ℕ → Interface → Result FrameView FileFault
 captured_in layout size body interface =
     if nat_lt (length body) 20 then Err BlockLength else
@@ -57,7 +57,7 @@ captured_of layout index size body = do
   interface ← interface_of layout.interfaces index
   captured_in layout size body interface
 
--- of the first interface: as many octets as were sent, but no more than that captures
+-- of the first interface: as many octets as were sent, but at most the number that the interface captures
 abbrev pub simple_len : ℕ → ℕ → ℕ
 simple_len sent most = if most == 0 then sent else min sent most
 
@@ -71,7 +71,7 @@ simple_of layout sent size body = do
   interface ← interface_of layout.interfaces 0
   simple_in sent size body interface
 
--- after the link layer's number and a reserved one: most octets of a frame that are captured
+-- after the link layer's number and a reserved one: the greatest number of octets of a frame that are captured
 abbrev pub described_of : LayoutView → (link : ℕ) → List ℕ → Result Interface FileFault
 described_of layout link body =
     if nat_lt (length body) 8 then Err BlockLength else
@@ -86,7 +86,7 @@ abbrev interfaced : Result Interface FileFault → Result BlockView FileFault
 interfaced (Err fault) = Err fault
 interfaced (Ok interface) = Ok (InterfaceBlock interface)
 
--- types of blocks: 1 an interface, 2 and 6 a frame of an interface, 3 a frame of the first
+-- the types of blocks: 1 an interface, 2 and 6 a frame of an interface, 3 a frame of the first
 abbrev pub typed_block_of : LayoutView → (head body : List ℕ) → Result BlockView FileFault
 typed_block_of layout head body =
     let order = layout.order in
@@ -105,7 +105,7 @@ abbrev pub record_frame_in : Order → (head body : List ℕ) → Interface → 
 record_frame_in order head body interface =
     Ok (record { link = interface.link; moment = record_moment interface.resolution order head; octets = body })
 
--- all records are of the one interface
+-- all records belong to the only interface
 abbrev pub record_frame_of : LayoutView → (head body : List ℕ) → Result FrameView FileFault
 record_frame_of layout head body = do
   interface ← interface_of layout.interfaces 0
@@ -116,11 +116,11 @@ block_in Records layout head body = framed (record_frame_of layout head body)
 block_in Blocks layout head body =
     if is_section head then section_block_in (section_order_of (drop 8 head)) else typed_block_of layout head body
 
--- what a record or a block has, of that head and that body
+-- the content of a record or a block with this head and this body
 abbrev pub block_at : LayoutView → (head body : List ℕ) → Result BlockView FileFault
 block_at layout head body = block_in layout.form layout head body
 
--- how the rest is to be read after it: a section has its own byte order and interfaces
+-- how to read the rest after it: a section has its own byte order and interfaces
 abbrev pub after : LayoutView → BlockView → LayoutView
 after layout (FrameBlock frame) = layout
 after layout (SectionBlock order) = record { form = layout.form; order = order; interfaces = [] }

@@ -56,7 +56,7 @@ function_name function.OriginalUnicastNpdu = codes "Original-Unicast-NPDU"
 function_name function.OriginalBroadcastNpdu = codes "Original-Broadcast-NPDU"
 function_name function.SecureBvll = codes "Secure-BVLL"
 
--- the length that a BVLL tells is that of the datagram
+-- the length in a BVLL is that of the datagram
 abbrev pub is_framed : List ℕ → Bool
 is_framed datagram = nat_le 4 (length datagram) && big_number 2 (drop 2 datagram) == length datagram
 
@@ -64,13 +64,13 @@ abbrev pub over_ipv4 : Option BvlcFunction → Option OtherBvll
 over_ipv4 None = None
 over_ipv4 (Some function) = Some (other.Ipv4 function)
 
--- another function than Original-Unicast-NPDU
+-- a function other than Original-Unicast-NPDU
 abbrev pub other_function_of : ℕ → Option OtherBvll
 other_function_of number = if number == 0x0A then None else over_ipv4 (function_of number)
 
 abbrev pub other_kind_of : (kind number : ℕ) → Option OtherBvll
 other_kind_of kind number = if kind == 0x81 then other_function_of number else (if kind == 0x82 then Some other.Ipv6 else None)
 
--- a BVLL of another function than Original-Unicast-NPDU, or one over IPv6 (Annex U)
+-- a BVLL with a function other than Original-Unicast-NPDU, or one over IPv6 (Annex U)
 abbrev pub other_bvll_of : List ℕ → Option OtherBvll
 other_bvll_of datagram = if is_framed datagram then other_kind_of (slice_index datagram 0) (slice_index datagram 1) else None

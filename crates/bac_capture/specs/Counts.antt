@@ -1,4 +1,4 @@
--- How many frames there are, and what they are.
+-- How many frames there are, by the result of checking them.
 use Rattle.std.specs.Prelude.{◌≡◌, ◌<◌, ℕ, ◌+◌, List, replicate, slice_index, slice_set}
 use Rattle.bac_capture.specs.declared.bvlc.OtherBvll.{OtherBvll}
 use Rattle.bac_capture.specs.declared.bvlc.OtherBvll.TheVariants.{Ipv4, Ipv6}
@@ -26,7 +26,7 @@ other_in Good = 0
 other_in (Other other) = 1
 other_in (Bad fault) = 0
 
--- BVLLs of other functions are counted apart: those over IPv4 at the places of their numbers, and all over IPv6 at the last
+-- BVLLs with other functions are counted separately: those over IPv4 at the index of their number, and all over IPv6 at the last index
 abbrev pub OTHERS : ℕ
 OTHERS = 14
 
@@ -51,7 +51,7 @@ pub record Counts : Type 0 where
 abbrev pub no_frames : Counts
 no_frames = record { frames = 0; good = 0; bad = 0; other = 0; others = replicate OTHERS 0 }
 
--- one frame more
+-- one more frame
 abbrev pub counted : Counts → Verdict → Counts
 counted c v = record {
   frames = c.frames + 1;
@@ -61,7 +61,7 @@ counted c v = record {
   others = others_after c.others v;
 }
 
--- what the status says of the bad ones
+-- what the status implies about bad frames
 abbrev pub IsTallied : ℕ → Status → Type 0
 IsTallied bad Done = bad ≡ 0
 IsTallied bad Faulty = 0 < bad

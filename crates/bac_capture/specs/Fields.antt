@@ -1,10 +1,10 @@
--- Reading the fields of headers from the front, on lists alone; numbers stand in network byte order.
+-- Reading header fields, on lists; numbers are in network byte order.
 use Rattle.std.specs.Prelude.{ℕ, List, length, take, drop, Result, Ok, Err, nat_lt, if◌then◌else◌}
 use Rattle.std.specs.Int.{w16, w32, from_be_bytes}
 use Rattle.bac_capture.specs.declared.fault.PacketFault.{PacketFault}
 use Rattle.bac_capture.specs.declared.fault.PacketFault.TheVariants.{Truncated}
 
--- so many octets, and what is left after them
+-- this many octets, and the octets after them
 unfoldable pub cut_at : ℕ → List ℕ → Result (List ℕ × List ℕ) PacketFault
 cut_at count bytes = if nat_lt (length bytes) count then Err Truncated else Ok (take count bytes, drop count bytes)
 

@@ -1,4 +1,4 @@
--- Capture files as lists of octets: records of pcap and blocks of pcapng.
+-- Capture files as lists of octets: the records of pcap and the blocks of pcapng.
 use Rattle.std.specs.Prelude.{◌≡◌, ℕ, ◌-◌, ◌%◌, Bool, true, false, List, [], ◌∷◌, length, take, drop, Result, Ok, Err}
 use Rattle.std.specs.Prelude.{nat_lt, ◌==◌, ◌||◌, if◌then◌else◌, Option, Some, None, ⊤}
 use Rattle.bac_capture.specs.declared.fault.FileFault.{FileFault}
@@ -13,13 +13,13 @@ use Rattle.bac_capture.specs.Runs.{kept}
 
 -- ---- heads
 
--- a record of pcap begins with two numbers for its moment, and how many octets were captured and sent; a block of pcapng with its type, its length,
--- and the first number of what it has
+-- a pcap record begins with two numbers for its timestamp, and how many octets were captured and sent; a block of pcapng with its type, its length,
+-- and the first number of its contents
 abbrev pub head_len_of : Form → ℕ
 head_len_of Records = 16
 head_len_of Blocks = 12
 
--- a section tells its own byte order by this number
+-- a section has its own byte order, which this number determines
 abbrev pub section_order_of : List ℕ → Option Order
 section_order_of octets =
     if are_octets 0x1A 0x2B 0x3C 0x4D octets then Some Big else
@@ -31,7 +31,7 @@ is_section head = are_octets 0x0A 0x0D 0x0D 0x0A (take 4 head)
 abbrev pub block_order_of : Order → List ℕ → Option Order
 block_order_of order head = if is_section head then section_order_of (drop 8 head) else Some order
 
--- a block's length counts the whole block, and is a multiple of four
+-- the length of a block includes all of it, and is a multiple of four
 abbrev pub checked_len : ℕ → Result ℕ FileFault
 checked_len size = if nat_lt size 12 || (if size % 4 == 0 then false else true) then Err BlockLength else Ok (size - 12)
 
@@ -42,14 +42,14 @@ block_len_in (Some order) head = checked_len (number_of order 4 (drop 4 head))
 abbrev pub block_len_of : Order → List ℕ → Result ℕ FileFault
 block_len_of order head = block_len_in (block_order_of order head) head
 
--- how many octets come after the head
+-- how many octets follow the head
 abbrev pub body_len_of : Form → Order → List ℕ → Result ℕ FileFault
 body_len_of Records order head = Ok (number_of order 4 (drop 8 head))
 body_len_of Blocks order head = block_len_of order head
 
 -- ---- records
 
--- what stands next in a file: nothing, a record or a block with its head, what is kept of its body, and what comes after it, or something broken
+-- what comes next in a file: nothing, a record or a block with its head, the kept part of its body, and what follows it, or something invalid
 pub data Record : Type 0 where
   Ended : Record
   Broken : FileFault → Record
@@ -69,7 +69,7 @@ abbrev pub record_at : Form → Order → List ℕ → Record
 record_at form order [] = Ended
 record_at form order (octet ∷ octets) = head_at form order (octet ∷ octets)
 
--- what the code saw of it
+-- the result of the code for it
 abbrev pub seen : Result Bool FileFault → (head body rest : List ℕ) → Record
 seen (Err fault) head body rest = Broken fault
 seen (Ok false) head body rest = Ended
@@ -84,7 +84,7 @@ abbrev pub IsRecord : Form → Order → Option (List ℕ) → Option (List ℕ)
 IsRecord form order None new head body answer = ⊤
 IsRecord form order (Some octets) new head body answer = IsRecordOf form order octets new head body answer
 
--- the same of what comes after a head
+-- the same for what follows a head
 pub record IsBodyOf (head : List ℕ) (size : Result ℕ FileFault) (octets : List ℕ) (new : Option (List ℕ)) (body : List ℕ) (answer : Result Bool FileFault) : Type 0 where
   pub rest : List ℕ
   pub is : new ≡ Some rest

@@ -1,4 +1,4 @@
--- The forms of capture files, told by the first four octets.
+-- The forms of capture files, by the first four octets.
 use Rattle.std.specs.Prelude.{ℕ, List, [], ◌∷◌, ◌==◌, ◌&&◌, ◌||◌, Bool, false, if◌then◌else◌, Option, Some, None}
 use Rattle.bac_capture.specs.declared.form.Form.{Form}
 use Rattle.bac_capture.specs.declared.form.Form.TheVariants.{Records, Blocks}
@@ -10,7 +10,7 @@ abbrev pub are_octets : ℕ → ℕ → ℕ → ℕ → List ℕ → Bool
 are_octets a b c d (w ∷ x ∷ y ∷ z ∷ []) = w == a && x == b && y == c && z == d
 are_octets a b c d octets = false
 
--- pcap with microseconds and with nanoseconds, in both orders, and pcapng
+-- pcap with microseconds and with nanoseconds, in both byte orders, and pcapng
 abbrev pub form_of : List ℕ → Option (Form × Order)
 form_of front =
     if are_octets 0xA1 0xB2 0xC3 0xD4 front || are_octets 0xA1 0xB2 0x3C 0x4D front then Some (Records, Big) else

@@ -16,7 +16,7 @@ network_at None bytes = Ok None
 network_at (Some Ipv4) bytes = ipv4_at bytes
 network_at (Some Ipv6) bytes = ipv6_at bytes
 
--- the packet of UDP in a frame
+-- the UDP packet in a frame
 unfoldable pub packet_at : LinkKind → List ℕ → Result (Option PacketView) PacketFault
 packet_at link bytes = do
   found ← link_at link bytes
@@ -26,7 +26,7 @@ abbrev pub optional_datagram_at : Option ℕ → Option PacketView → Result (O
 optional_datagram_at also None = Ok None
 optional_datagram_at also (Some packet) = packet_datagram_at also packet
 
--- the datagram of that packet, where one of its ports is BACnet's; `also` is a port beside the sixteen
+-- the datagram of that packet, if one of its ports is BACnet's; `also` is a port in addition to the sixteen
 unfoldable pub datagram_at : LinkKind → Option ℕ → List ℕ → Result (Option DatagramView) PacketFault
 datagram_at link also bytes = do
   found ← packet_at link bytes

@@ -1,4 +1,4 @@
--- Which packet of UDP an IPv6 packet is (RFC 8200).
+-- The UDP packet in an IPv6 packet (RFC 8200).
 use Rattle.std.specs.Prelude.{ℕ, ◌+◌, ◌*◌, ◌/◌, ◌%◌, slice_index, List, take, drop, Result, Ok, Err, Option, Some, None, Bool, ◌||◌, ◌==◌, if◌then◌else◌}
 use Rattle.std.specs.Int.{w16, from_be_bytes}
 use Rattle.std.specs.Option.{option_map}
@@ -10,7 +10,7 @@ use Rattle.bac_capture.specs.declared.packet.Part.TheVariants.{Whole, First, Lat
 use Rattle.bac_capture.specs.Fields.{cut_at, word_at, long_at}
 use Rattle.bac_capture.specs.Packets.{PacketView, Ipv6HeadView}
 
--- of the eight octets in front of the addresses: version, length of what comes after the addresses, next header
+-- of the eight octets before the addresses: version, length after the addresses, next header
 unfoldable pub ipv6_head_at : List ℕ → Result (Ipv6HeadView × List ℕ) PacketFault
 ipv6_head_at bytes = do
   fields ← cut_at 8 bytes
@@ -27,7 +27,7 @@ ipv6_head_at bytes = do
 abbrev pub is_extension : ℕ → Bool
 is_extension next = next == 0 || next == 43 || next == 60
 
--- such a header is passed over: the number of the next one, its own length in eights of octets beside the first eight, and the rest of it
+-- such a header is skipped: the number of the next one, its own length in units of eight octets without the first eight, and the rest of it
 unfoldable pub extension_at : ℕ → List ℕ → Result (ℕ × List ℕ) PacketFault
 extension_at next bytes =
     if is_extension next then (do
@@ -36,11 +36,11 @@ extension_at next bytes =
       options ← cut_at (size.0 * 8 + 6) size.1
       Ok (following.0, options.1)) else Ok (next, bytes)
 
--- the first thirteen bits are the offset, and the last says that there are more fragments
+-- the first thirteen bits are the offset, and the last is "more fragments"
 abbrev pub fragment_part_of : ℕ → Part
 fragment_part_of place = if place / 8 == 0 then (if place % 2 == 1 then First else Whole) else Later
 
--- the header of a fragment: the number of the next one, a reserved octet, offset and flag, the identification
+-- the fragment header: the number of the next header, a reserved octet, offset and flag, the identification
 unfoldable pub fragment_at : List ℕ → Result (Option (Part × List ℕ)) PacketFault
 fragment_at bytes = do
   next ← octet_at Truncated bytes
@@ -49,14 +49,14 @@ fragment_at bytes = do
   identification ← long_at place.1
   if next.0 == 17 then Ok (Some (fragment_part_of place.0, identification.1)) else Ok None
 
--- UDP is 17, and a fragment's header 44; of another protocol there is no packet
+-- UDP is 17, and a fragment header 44; for all other protocols there is no packet
 abbrev pub upper_at : ℕ → List ℕ → Result (Option (Part × List ℕ)) PacketFault
 upper_at next bytes =
     if next == 17 then Ok (Some (Whole, bytes)) else
     (if next == 44 then fragment_at bytes else
     (if is_extension next then Err IpHeader else Ok None))
 
--- the same after at most three headers of options or of a route
+-- the same after at most three headers with options or a route
 unfoldable pub extended_at : ℕ → List ℕ → Result (Option (Part × List ℕ)) PacketFault
 extended_at next bytes = do
   first ← extension_at next bytes
@@ -64,7 +64,7 @@ extended_at next bytes = do
   third ← extension_at second.0 second.1
   upper_at third.0 third.1
 
--- the addresses of sender and receiver, and the contents, up to the length; what comes after them is padding
+-- the addresses of sender and receiver, and the contents, up to the length; anything after them is padding
 unfoldable pub ipv6_udp_at : Ipv6HeadView → List ℕ → Result (Option PacketView) PacketFault
 ipv6_udp_at head bytes = do
   from ← cut_at 16 bytes

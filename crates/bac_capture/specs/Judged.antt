@@ -1,4 +1,4 @@
--- What a frame is.
+-- The result of checking a frame.
 use Rattle.std.specs.Prelude.{◌≡◌, ℕ, List, Result, Ok, Err, Option, Some, None}
 use Rattle.bac_capture.specs.declared.fault.PacketFault.{PacketFault}
 use Rattle.bac_capture.specs.declared.link.LinkKind.{LinkKind}
@@ -13,7 +13,7 @@ use Rattle.bac_capture.specs.declared.check_fault.CapturedFault.TheVariants.{Lin
 use Rattle.bac_capture.specs.declared.check_fault.Verdict.{Verdict}
 use Rattle.bac_capture.specs.declared.check_fault.Verdict.TheVariants.{Nothing, Good, Other, Bad}
 
--- of a datagram of the function that is read: it has no fault, or that one
+-- for a datagram with the function that is read: it has no fault, or this one
 abbrev pub IsReadVerdict : List ℕ → Verdict → Type 0
 IsReadVerdict datagram Nothing = ⊥
 IsReadVerdict datagram Good = IsFine datagram
@@ -30,7 +30,7 @@ IsVerdictIn None datagram verdict = IsReadVerdict datagram verdict
 abbrev pub IsDatagramVerdict : List ℕ → Verdict → Type 0
 IsDatagramVerdict datagram verdict = IsVerdictIn (other_bvll_of datagram) datagram verdict
 
--- of what a frame carries
+-- for what a frame carries
 abbrev pub IsFoundVerdict : Result (Option DatagramView) PacketFault → Verdict → Type 0
 IsFoundVerdict (Err fault) verdict = verdict ≡ Bad (Packet fault)
 IsFoundVerdict (Ok None) verdict = verdict ≡ Nothing
@@ -40,6 +40,6 @@ abbrev pub IsLinkVerdict : Option ℕ → List ℕ → Option LinkKind → Verdi
 IsLinkVerdict also octets None verdict = verdict ≡ Bad Link
 IsLinkVerdict also octets (Some link) verdict = IsFoundVerdict (datagram_at link also octets) verdict
 
--- of a frame; `also` is a port beside the sixteen
+-- for a frame; `also` is a port in addition to the sixteen
 abbrev pub IsVerdict : Option ℕ → FrameView → Verdict → Type 0
 IsVerdict also frame verdict = IsLinkVerdict also frame.octets (link_kind_of frame.link) verdict

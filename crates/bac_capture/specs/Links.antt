@@ -1,4 +1,4 @@
--- Which packet of IP a frame of each link layer carries.
+-- The IP packet in a frame of each link layer.
 use Rattle.std.specs.Prelude.{ℕ, ◌/◌, List, Result, Ok, Err, Option, Some, None, Bool, ◌||◌, ◌==◌, if◌then◌else◌}
 use Rattle.bac_value.specs.Steps.{◌>>=◌, octet_at}
 use Rattle.bac_capture.specs.declared.fault.PacketFault.{PacketFault}
@@ -25,7 +25,7 @@ link_kind_of n =
 abbrev pub network_of : ℕ → Option Network
 network_of ether_type = if ether_type == 0x0800 then Some Ipv4 else (if ether_type == 0x86DD then Some Ipv6 else None)
 
--- families of addresses, each in both byte orders: 2 is IPv4 everywhere, and IPv6 is 10, 24, 28 or 30
+-- address families, each in both byte orders: 2 is IPv4 everywhere, and IPv6 is 10, 24, 28 or 30
 abbrev pub is_ipv6_family : ℕ → Bool
 is_ipv6_family family =
     family == 0x0A || family == 0x18 || family == 0x1C || family == 0x1E
@@ -35,11 +35,11 @@ abbrev pub family_network_of : ℕ → Option Network
 family_network_of family =
     if family == 0x02 || family == 0x02000000 then Some Ipv4 else (if is_ipv6_family family then Some Ipv6 else None)
 
--- VLAN tags: 802.1Q, 802.1ad, and the older one of the same
+-- VLAN tags: 802.1Q, 802.1ad, and an older number of the latter
 abbrev pub is_tag : ℕ → Bool
 is_tag ether_type = ether_type == 0x8100 || ether_type == 0x88A8 || ether_type == 0x9100
 
--- a tag is passed over: two octets, and the EtherType after it
+-- a tag is skipped: two octets, and the EtherType after it
 unfoldable pub untagged_at : ℕ → List ℕ → Result (ℕ × List ℕ) PacketFault
 untagged_at ether_type bytes =
     if is_tag ether_type then (do
@@ -60,21 +60,21 @@ ethernet_at bytes = do
   ether_type ← word_at addresses.1
   typed_at ether_type.0 ether_type.1
 
--- what Linux writes of all its interfaces together: fourteen octets about the interface, and an EtherType
+-- Linux cooked captures: fourteen octets about the interface, and an EtherType
 unfoldable pub cooked_at : List ℕ → Result (Option Network × List ℕ) PacketFault
 cooked_at bytes = do
   interface ← cut_at 14 bytes
   ether_type ← word_at interface.1
   typed_at ether_type.0 ether_type.1
 
--- its second version: an EtherType, and eighteen octets about the interface
+-- the second version: an EtherType, and eighteen octets about the interface
 unfoldable pub cooked_2_at : List ℕ → Result (Option Network × List ℕ) PacketFault
 cooked_2_at bytes = do
   ether_type ← word_at bytes
   interface ← cut_at 18 ether_type.1
   typed_at ether_type.0 interface.1
 
--- the version of IP that the first octet of a packet announces
+-- the version of IP in the first octet of a packet
 abbrev pub version_network_of : ℕ → Option Network
 version_network_of first = if first / 16 == 4 then Some Ipv4 else (if first / 16 == 6 then Some Ipv6 else None)
 
@@ -82,13 +82,13 @@ abbrev pub raw_of : List ℕ → Option Network → Result (Option Network × Li
 raw_of bytes None = Err IpHeader
 raw_of bytes (Some network) = Ok (Some network, bytes)
 
--- a packet and nothing in front of it
+-- a raw packet
 unfoldable pub raw_at : List ℕ → Result (Option Network × List ℕ) PacketFault
 raw_at bytes = do
   first ← octet_at Truncated bytes
   raw_of bytes (version_network_of first.0)
 
--- a family of addresses, and a packet
+-- an address family, and a packet
 unfoldable pub loopback_at : List ℕ → Result (Option Network × List ℕ) PacketFault
 loopback_at bytes = do
   family ← long_at bytes

@@ -1,4 +1,4 @@
--- The moments of frames, in milliseconds.
+-- The timestamps of frames, in milliseconds.
 use Rattle.std.specs.Prelude.{ℕ, zero, suc, ◌+◌, ◌*◌, ◌/◌, ◌^◌, nat_lt, ◌==◌, if◌then◌else◌, List, length, drop, slice_index, Option, Some, None}
 use Rattle.bac_capture.specs.declared.moment.Resolution.{Resolution}
 use Rattle.bac_capture.specs.declared.moment.Resolution.TheVariants.{Milliseconds, Microseconds, Nanoseconds}
@@ -11,29 +11,29 @@ milliseconds_of Milliseconds count = count
 milliseconds_of Microseconds count = count / 1000
 milliseconds_of Nanoseconds count = count / 1000000
 
--- a record of pcap begins with seconds, and units beside them
+-- a pcap record begins with seconds, and units in addition
 abbrev pub record_moment : Option Resolution → Order → (head : List ℕ) → Option ℕ
 record_moment None order head = None
 record_moment (Some r) order head = Some (number_of order 4 head * 1000 + milliseconds_of r (number_of order 4 (drop 4 head)))
 
--- the body of a block of pcapng begins with the upper and the lower half of a count of units
+-- the body of a pcapng block begins with the upper and the lower half of a count of units
 abbrev pub block_moment : Option Resolution → Order → (body : List ℕ) → Option ℕ
 block_moment None order body = None
 block_moment (Some r) order body = Some (milliseconds_of r (number_of order 4 body * 2 ^ 32 + number_of order 4 (drop 4 body)))
 
--- the unit that is this power of a tenth of a second; others are not read (own)
+-- the unit that is 10 to the power of minus this exponent, in seconds; other units are not supported (own)
 abbrev pub resolution_of : ℕ → Option Resolution
 resolution_of exponent =
     if exponent == 3 then Some Milliseconds else
     (if exponent == 6 then Some Microseconds else
     (if exponent == 9 then Some Nanoseconds else None))
 
--- how long an option is with the numbers in front of it: its octets are filled up to a multiple of four
+-- the length of an option with the numbers before it: its octets are padded to a multiple of four
 abbrev pub option_len : ℕ → ℕ
 option_len size = 4 + (size + 3) / 4 * 4
 
--- the exponent that the options of an interface tell, by the one of code 9; 6 where there is none among so many, up to the one of
--- code 0, which ends them
+-- the exponent in the options of an interface, from the option with code 9; 6 if there is none among this many, or before the one
+-- with code 0, which ends the options
 unfoldable pub resolution_in : (count : ℕ) → Order → List ℕ → ℕ
 resolution_in zero order options = 6
 resolution_in (suc count) order options =

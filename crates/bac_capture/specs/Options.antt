@@ -1,11 +1,11 @@
--- Options of an interface, in the byte order with the highest octet first.
+-- Options of an interface, with the most significant octet of numbers first.
 use Rattle.std.specs.Prelude.{ℕ, List, [], ◌∷◌}
 
 -- an empty comment
 abbrev pub comment : List ℕ
 comment = 0 ∷ 1 ∷ 0 ∷ 0 ∷ []
 
--- moments are in nanoseconds: the ninth power of a tenth of a second
+-- timestamps are in nanoseconds: exponent 9
 abbrev pub nanoseconds : List ℕ
 nanoseconds = 0 ∷ 9 ∷ 0 ∷ 1 ∷ 9 ∷ 0 ∷ 0 ∷ 0 ∷ []
 

@@ -1,4 +1,4 @@
--- Numbers of the octets in front, in either byte order.
+-- Numbers in the first octets, in either byte order.
 use Rattle.std.specs.Prelude.{ℕ, List}
 use Rattle.byteorder.specs.Endian.{big_number, little_number}
 use Rattle.bac_capture.specs.declared.order.Order.{Order}

@@ -3,16 +3,16 @@ use Rattle.std.specs.Prelude.{ℕ, ◌+◌, ◌/◌, ◌%◌, List, [], ◌∷�
 use Rattle.std.specs.Int.{w16, to_be_bytes}
 use Rattle.bac_capture.specs.Sums.{checksum}
 
--- 10.0.0.N for node N, as far as 24 bits go
+-- 10.0.0.N for node N, where N is taken modulo 2^24
 abbrev pub address_of : (node : ℕ) → List ℕ
 address_of node = 10 ∷ (node / 65536 % 256) ∷ (node / 256 % 256) ∷ (node % 256) ∷ []
 
--- version 4 with five words of header, not to be fragmented, a life of 64 hops, and UDP
+-- version 4 with a header of five words, don't fragment, 64 hops, and UDP
 abbrev pub ipv4_head : (sum total from to : ℕ) → List ℕ
 ipv4_head sum total from to =
     0x45 ∷ 0 ∷ (to_be_bytes w16 total ++ (0 ∷ 0 ∷ 0x40 ∷ 0 ∷ 0x40 ∷ 0x11 ∷ (to_be_bytes w16 sum ++ (address_of from ++ address_of to))))
 
--- its checksum is that of the header with 0 in its place
+-- its checksum is that of the header with checksum 0
 abbrev pub summed_head : (total from to : ℕ) → List ℕ
 summed_head total from to = ipv4_head (checksum (ipv4_head 0 total from to)) total from to
 

@@ -1,4 +1,4 @@
--- The UDP ports of BACnet/IP: 47808 to 47823 (BAC0 to BACF), and one more where one is given.
+-- The UDP ports of BACnet/IP: 47808 to 47823 (BAC0 to BACF), and optionally one more.
 use Rattle.std.specs.Prelude.{ℕ, Bool, nat_le, ◌&&◌, ◌||◌, ◌==◌, Option, Some, None}
 
 abbrev pub is_standard_port : ℕ → Bool

@@ -1,4 +1,4 @@
--- What the steps of reading a capture file tell, where its octets are known.
+-- The effects of the steps of reading a capture file, if its octets are known.
 use Rattle.std.specs.Prelude.{◌≡◌, ℕ, List, ⊤, Result, Ok, Err, Option, Some, None}
 use Rattle.std.specs.Io.KnownBytes.{Appends, Keeps}
 use Rattle.bac_capture.specs.declared.fault.FileFault.{FileFault}
@@ -9,10 +9,10 @@ use Rattle.bac_capture.specs.Blocks.{LayoutView, FrameView, BlockView, FrameBloc
 use Rattle.bac_capture.specs.Files.{Record, Ended, Broken, Whole, record_at}
 use Rattle.bac_capture.specs.declared.walk.Step.{Step}
 use Rattle.bac_capture.specs.declared.walk.Step.TheVariants as step
-use Rattle.bac_capture.specs.Walks.{Tells, AreRead, IsFileIn}
+use Rattle.bac_capture.specs.Walks.{Prints, AreRead, IsFileIn}
 
--- something was told: the output goes from the first to the second, the state from the third to the fourth
-pub record IsTold {X S : Type 0} (Says : Tells X S) (x : X) (old new : Option (List ℕ)) (before now : S) : Type 0 where
+-- something was printed: the output changes from the first to the second, the state from the third to the fourth
+pub record IsPrinted {X S : Type 0} (Says : Prints X S) (x : X) (old new : Option (List ℕ)) (before now : S) : Type 0 where
   pub text : List ℕ
   pub printed : Appends old new text
   pub says : Says x before text now
@@ -20,70 +20,70 @@ pub record IsTold {X S : Type 0} (Says : Tells X S) (x : X) (old new : Option (L
 abbrev pub IsPassed : (S : Type 0) → (old new : Option (List ℕ)) → (before now : S) → Type 0
 IsPassed S old new before now = Keeps old new × (now ≡ before)
 
-abbrev pub IsBlockTaken : (S : Type 0) → Tells FrameView S → BlockView → (old new : Option (List ℕ)) → (before now : S) → Type 0
-IsBlockTaken S Sees (FrameBlock frame) old new before now = IsTold Sees frame old new before now
-IsBlockTaken S Sees (SectionBlock order) old new before now = IsPassed S old new before now
-IsBlockTaken S Sees (InterfaceBlock interface) old new before now = IsPassed S old new before now
-IsBlockTaken S Sees OtherBlock old new before now = IsPassed S old new before now
+abbrev pub IsBlockTaken : (S : Type 0) → Prints FrameView S → BlockView → (old new : Option (List ℕ)) → (before now : S) → Type 0
+IsBlockTaken S Visits (FrameBlock frame) old new before now = IsPrinted Visits frame old new before now
+IsBlockTaken S Visits (SectionBlock order) old new before now = IsPassed S old new before now
+IsBlockTaken S Visits (InterfaceBlock interface) old new before now = IsPassed S old new before now
+IsBlockTaken S Visits OtherBlock old new before now = IsPassed S old new before now
 
--- a block was taken in: the layout is the next one, and where it has a frame, that was told
-abbrev pub IsTaken : (S : Type 0) → Tells FrameView S → (layout next : LayoutView) → BlockView → (old new : Option (List ℕ)) → (before now : S) → Type 0
-IsTaken S Sees layout next block old new before now = (next ≡ after layout block) × IsBlockTaken S Sees block old new before now
+-- a block was handled: the layout is the next one, and a frame, if any, was seen
+abbrev pub IsTaken : (S : Type 0) → Prints FrameView S → (layout next : LayoutView) → BlockView → (old new : Option (List ℕ)) → (before now : S) → Type 0
+IsTaken S Visits layout next block old new before now = (next ≡ after layout block) × IsBlockTaken S Visits block old new before now
 
--- the file cannot be read on, and that was told
-abbrev pub IsBroken : (S : Type 0) → Tells FileFault S → FileFault → (old new : Option (List ℕ)) → (before now : S) → Step → Type 0
+-- the file cannot be read further, and this was reported
+abbrev pub IsBroken : (S : Type 0) → Prints FileFault S → FileFault → (old new : Option (List ℕ)) → (before now : S) → Step → Type 0
 IsBroken S Breaks fault old new before now step.Ended = ⊥
-IsBroken S Breaks fault old new before now step.Broken = IsTold Breaks fault old new before now
+IsBroken S Breaks fault old new before now step.Broken = IsPrinted Breaks fault old new before now
 IsBroken S Breaks fault old new before now step.Taken = ⊥
 
-abbrev pub IsGoodTaken : (S : Type 0) → Tells FrameView S → (layout next : LayoutView) → BlockView → (old new : Option (List ℕ)) → (before now : S) → Step → Type 0
-IsGoodTaken S Sees layout next block old new before now step.Ended = ⊥
-IsGoodTaken S Sees layout next block old new before now step.Broken = ⊥
-IsGoodTaken S Sees layout next block old new before now step.Taken = IsTaken S Sees layout next block old new before now
+abbrev pub IsGoodTaken : (S : Type 0) → Prints FrameView S → (layout next : LayoutView) → BlockView → (old new : Option (List ℕ)) → (before now : S) → Step → Type 0
+IsGoodTaken S Visits layout next block old new before now step.Ended = ⊥
+IsGoodTaken S Visits layout next block old new before now step.Broken = ⊥
+IsGoodTaken S Visits layout next block old new before now step.Taken = IsTaken S Visits layout next block old new before now
 
-abbrev pub IsWholeTaken : (S : Type 0) → Tells FrameView S → Tells FileFault S → (layout next : LayoutView) → Result BlockView FileFault
+abbrev pub IsWholeTaken : (S : Type 0) → Prints FrameView S → Prints FileFault S → (layout next : LayoutView) → Result BlockView FileFault
     → (old new : Option (List ℕ)) → (before now : S) → Step → Type 0
-IsWholeTaken S Sees Breaks layout next (Err fault) old new before now s = IsBroken S Breaks fault old new before now s
-IsWholeTaken S Sees Breaks layout next (Ok block) old new before now s = IsGoodTaken S Sees layout next block old new before now s
+IsWholeTaken S Visits Breaks layout next (Err fault) old new before now s = IsBroken S Breaks fault old new before now s
+IsWholeTaken S Visits Breaks layout next (Ok block) old new before now s = IsGoodTaken S Visits layout next block old new before now s
 
 abbrev pub IsEnd : (S : Type 0) → (old new : Option (List ℕ)) → (before now : S) → Step → Type 0
 IsEnd S old new before now step.Ended = IsPassed S old new before now
 IsEnd S old new before now step.Broken = ⊥
 IsEnd S old new before now step.Taken = ⊥
 
-abbrev pub IsRecordTaken : (S : Type 0) → Tells FrameView S → Tells FileFault S → (layout next : LayoutView) → Record → (left old new : Option (List ℕ))
+abbrev pub IsRecordTaken : (S : Type 0) → Prints FrameView S → Prints FileFault S → (layout next : LayoutView) → Record → (left old new : Option (List ℕ))
     → (before now : S) → Step → Type 0
-IsRecordTaken S Sees Breaks layout next Ended left old new before now s = IsEnd S old new before now s
-IsRecordTaken S Sees Breaks layout next (Broken fault) left old new before now s = IsBroken S Breaks fault old new before now s
-IsRecordTaken S Sees Breaks layout next (Whole head body rest) left old new before now s =
-    (left ≡ Some rest) × IsWholeTaken S Sees Breaks layout next (block_at layout head body) old new before now s
+IsRecordTaken S Visits Breaks layout next Ended left old new before now s = IsEnd S old new before now s
+IsRecordTaken S Visits Breaks layout next (Broken fault) left old new before now s = IsBroken S Breaks fault old new before now s
+IsRecordTaken S Visits Breaks layout next (Whole head body rest) left old new before now s =
+    (left ≡ Some rest) × IsWholeTaken S Visits Breaks layout next (block_at layout head body) old new before now s
 
--- the input goes from the first to the second, the output from the third to the fourth
-abbrev pub IsStep : (S : Type 0) → Tells FrameView S → Tells FileFault S → (layout next : LayoutView) → (input left old new : Option (List ℕ))
+-- the input changes from the first to the second, the output from the third to the fourth
+abbrev pub IsStep : (S : Type 0) → Prints FrameView S → Prints FileFault S → (layout next : LayoutView) → (input left old new : Option (List ℕ))
     → (before now : S) → Step → Type 0
-IsStep S Sees Breaks layout next None left old new before now s = ⊤
-IsStep S Sees Breaks layout next (Some octets) left old new before now s =
-    IsRecordTaken S Sees Breaks layout next (record_at layout.form layout.order octets) left old new before now s
+IsStep S Visits Breaks layout next None left old new before now s = ⊤
+IsStep S Visits Breaks layout next (Some octets) left old new before now s =
+    IsRecordTaken S Visits Breaks layout next (record_at layout.form layout.order octets) left old new before now s
 
--- all that was left was read, and told
-pub record IsWalkOf (S : Type 0) (Sees : Tells FrameView S) (Breaks : Tells FileFault S) (layout : LayoutView) (octets : List ℕ)
+-- the rest of the file was read and reported
+pub record IsWalkOf (S : Type 0) (Visits : Prints FrameView S) (Breaks : Prints FileFault S) (layout : LayoutView) (octets : List ℕ)
     (old new : Option (List ℕ)) (before final : S) : Type 0 where
   pub records : ℕ
   pub text : List ℕ
-  pub read : AreRead records S Sees Breaks layout before octets text final
+  pub read : AreRead records S Visits Breaks layout before octets text final
   pub printed : Appends old new text
 
-abbrev pub AreWalked : (S : Type 0) → Tells FrameView S → Tells FileFault S → LayoutView → (input old new : Option (List ℕ)) → (before final : S) → Type 0
-AreWalked S Sees Breaks layout None old new before final = ⊤
-AreWalked S Sees Breaks layout (Some octets) old new before final = IsWalkOf S Sees Breaks layout octets old new before final
+abbrev pub AreWalked : (S : Type 0) → Prints FrameView S → Prints FileFault S → LayoutView → (input old new : Option (List ℕ)) → (before final : S) → Type 0
+AreWalked S Visits Breaks layout None old new before final = ⊤
+AreWalked S Visits Breaks layout (Some octets) old new before final = IsWalkOf S Visits Breaks layout octets old new before final
 
--- the same of a whole file
-pub record IsFileWalkOf (S : Type 0) (Sees : Tells FrameView S) (Breaks : Tells FileFault S) (form : Form) (order : Order) (file : List ℕ)
+-- the same for a whole file
+pub record IsFileWalkOf (S : Type 0) (Visits : Prints FrameView S) (Breaks : Prints FileFault S) (form : Form) (order : Order) (file : List ℕ)
     (old new : Option (List ℕ)) (before final : S) : Type 0 where
   pub text : List ℕ
-  pub read : IsFileIn S Sees Breaks before (begun_at form order file) text final
+  pub read : IsFileIn S Visits Breaks before (begun_at form order file) text final
   pub printed : Appends old new text
 
-abbrev pub IsFileWalked : (S : Type 0) → Tells FrameView S → Tells FileFault S → Form → Order → (input old new : Option (List ℕ)) → (before final : S) → Type 0
-IsFileWalked S Sees Breaks form order None old new before final = ⊤
-IsFileWalked S Sees Breaks form order (Some file) old new before final = IsFileWalkOf S Sees Breaks form order file old new before final
+abbrev pub IsFileWalked : (S : Type 0) → Prints FrameView S → Prints FileFault S → Form → Order → (input old new : Option (List ℕ)) → (before final : S) → Type 0
+IsFileWalked S Visits Breaks form order None old new before final = ⊤
+IsFileWalked S Visits Breaks form order (Some file) old new before final = IsFileWalkOf S Visits Breaks form order file old new before final

@@ -1,4 +1,4 @@
--- Which datagram a packet of UDP carries (RFC 768).
+-- The datagram in a UDP packet (RFC 768).
 use Rattle.std.specs.Prelude.{ℕ, ◌-◌, List, Result, Ok, Err, Option, Some, None, nat_lt, ◌||◌, if◌then◌else◌}
 use Rattle.bac_value.specs.Steps.{◌>>=◌}
 use Rattle.bac_capture.specs.declared.fault.PacketFault.{PacketFault}
@@ -16,13 +16,13 @@ udp_body_at bytes = do
   checksum ← word_at size.1
   if nat_lt size.0 8 then Err fault.UdpLength else cut_at (size.0 - 8) checksum.1
 
--- of the first fragment of several the ports alone can be told
+-- of the first fragment of several only the ports can be read
 abbrev pub udp_part_at : Part → List ℕ → Result (List ℕ × List ℕ) PacketFault
 udp_part_at First bytes = Err fault.Fragment
 udp_part_at Whole bytes = udp_body_at bytes
 udp_part_at Later bytes = udp_body_at bytes
 
--- the ports of the sender and of the receiver; where neither is BACnet's there is no datagram
+-- the ports of the sender and of the receiver; if neither is BACnet's there is no datagram
 unfoldable pub udp_at : Option ℕ → PacketView → Result (Option DatagramView) PacketFault
 udp_at also packet = do
   from ← word_at packet.contents
@@ -35,12 +35,12 @@ udp_at also packet = do
       octets = body.0;
     }))) else Ok None
 
--- of a later fragment nothing can be told
+-- of a later fragment nothing can be read
 abbrev pub udp_of_part : Part → Option ℕ → PacketView → Result (Option DatagramView) PacketFault
 udp_of_part Whole also packet = udp_at also packet
 udp_of_part First also packet = udp_at also packet
 udp_of_part Later also packet = Err fault.Fragment
 
--- the datagram of a packet of UDP, where one of its ports is BACnet's
+-- the datagram of a UDP packet, if one of its ports is BACnet's
 abbrev pub packet_datagram_at : Option ℕ → PacketView → Result (Option DatagramView) PacketFault
 packet_datagram_at also packet = udp_of_part packet.part also packet

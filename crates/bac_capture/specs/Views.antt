@@ -1,4 +1,4 @@
--- The plain values of packets and datagrams.
+-- The abstract values of packets and datagrams.
 use Rattle.bac_capture.specs.declared.packet.Endpoint.{Endpoint}
 use Rattle.bac_capture.specs.declared.packet.Datagram.{Datagram}
 use Rattle.bac_capture.specs.declared.packet.Packet.{Packet}

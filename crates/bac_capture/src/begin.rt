@@ -1,4 +1,4 @@
-//! How a capture file begins.
+//! The headers of capture files.
 ghost use Rattle.std.specs.Prelude.{◌≡◌, length, IfOk};
 ghost use Rattle.bac_capture.specs.declared.form.Form.TheVariants.{Records};
 ghost use Rattle.bac_capture.specs.Begins.{header_layout, header_resolution, IsBegun};
@@ -14,13 +14,13 @@ use std::alloc::{AllocError, Global};
 use std::io;
 use std::io::BufRead;
 
-/// The first number of a file of pcap whose moments have nanoseconds.
+/// The first number of a pcap file whose timestamps have nanoseconds.
 const NANOSECONDS: u32 = 0xA1B2_3C4D;
 
-/// How many octets the header of pcap has.
+/// The length of the pcap header in octets.
 const HEADER: usize = 24;
 
-/// The unit of the moments of pcap, as its first number says.
+/// The unit of the timestamps of a pcap file, by its first number.
 fn header_resolution(order: Order, header: &[u8]) -> Resolution
     requires { length header.now ≡ 24 }
     ensures { result ≡ header_resolution order header.now }
@@ -32,7 +32,7 @@ fn header_resolution(order: Order, header: &[u8]) -> Resolution
     }
 }
 
-/// What the header of pcap says: all frames have the link layer that it tells.
+/// The layout that the pcap header defines: all frames have its link layer.
 fn header_layout(alloc: Global, order: Order, header: &[u8]) -> Result<Layout, AllocError>
     requires { length header.now ≡ 24 }
     ensures { IfOk result (λ layout. layout_view layout ≡ header_layout order header.now) }
@@ -69,8 +69,8 @@ fn read_header<R: BufRead>(
 }
 
 impl Layout {
-    /// Reads the header of a capture file of that form and byte order, as its first four octets tell them: how the rest is to be
-    /// read. `Cut` where the file ends within the header.
+    /// Reads the header of a capture file of this form and byte order, which its first four octets determine, and returns how to read
+    /// the rest. Returns `Cut` if the file ends within the header.
     pub fn begin<R: BufRead>(
         alloc: Global,
         form: Form,

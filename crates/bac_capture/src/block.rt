@@ -1,4 +1,4 @@
-//! What the records and blocks of a capture file have.
+//! The contents of the records and blocks of a capture file.
 ghost use Rattle.std.specs.Prelude.{◌≡◌, ◌≤◌, length, OnOk, OnErr};
 ghost use Rattle.bac_value.specs.Steps.{ReadsAll};
 ghost use Rattle.bac_capture.specs.Files.{head_len_of};
@@ -12,29 +12,29 @@ use crate::moment::{OPTION_LIMIT, block_moment, record_moment, resolution_in, re
 use crate::order::Order;
 use std::alloc::AllocError;
 
-/// Most interfaces of a section.
+/// The greatest number of interfaces of a section.
 const INTERFACE_LIMIT: usize = 1_024;
 
 /// A frame of a capture file.
 #[derive(Clone, Copy, Debug)]
 pub struct Frame<'a> {
-    /// The number of its link layer, as capture files have it.
+    /// The number of its link layer in capture files.
     pub link: u16,
-    /// When it was seen, in milliseconds; None where the file does not tell it, or in another unit than milli-, micro- or nanoseconds.
+    /// When it was captured, in milliseconds; None if the file has no timestamp, or one in a unit other than milli-, micro- or nanoseconds.
     pub moment: Option<u64>,
-    /// What was captured of it; of a long frame the front.
+    /// The captured octets; of a long frame the beginning.
     pub octets: &'a [u8],
 }
 
-/// What a record or a block has.
+/// The content of a record or a block.
 #[derive(Clone, Copy, Debug)]
 pub enum Block<'a> {
     Frame(Frame<'a>),
-    /// A section begins: its byte order.
+    /// The beginning of a section, with its byte order.
     Section(Order),
     /// The next interface of the section.
     Interface(Interface),
-    /// What is not looked at.
+    /// Anything else; it is ignored.
     Other,
 }
 
@@ -48,8 +48,8 @@ impl Layout {
         }
     }
 
-    /// The frame of an interface in a block of so many octets: two numbers for its moment, how many octets were captured and
-    /// sent, and those.
+    /// The frame of an interface in a block with a body of this length: two numbers for the timestamp, how many octets were captured and
+    /// sent, and the octets.
     fn captured<'a>(&self, index: usize, size: u32, body: &'a [u8]) -> Result<Frame<'a>, FileFault>
         ensures { ReadsAll frame_view result (captured_of (layout_view self.now) index size body.now) }
     {
@@ -69,7 +69,7 @@ impl Layout {
         })
     }
 
-    /// The frame of the first interface in a block of so many octets, which says how many of it were sent.
+    /// The frame of the first interface in a block with a body of this length, which states how many octets were sent.
     fn simple<'a>(&self, sent: u32, size: u32, body: &'a [u8]) -> Result<Frame<'a>, FileFault>
         ensures { ReadsAll frame_view result (simple_of (layout_view self.now) sent size body.now) }
     {
@@ -90,7 +90,7 @@ impl Layout {
         })
     }
 
-    /// The frame of a record of pcap.
+    /// The frame of a pcap record.
     fn record_frame<'a>(&self, head: &[u8], body: &'a [u8]) -> Result<Frame<'a>, FileFault>
         requires { length head.now ≡ 16 }
         ensures { ReadsAll frame_view result (record_frame_of (layout_view self.now) head.now body.now) }
@@ -103,7 +103,7 @@ impl Layout {
         })
     }
 
-    /// The interface of that link layer that a block describes.
+    /// The interface with this link layer that a block describes.
     fn described(&self, link: u16, body: &[u8]) -> Result<Interface, FileFault>
         ensures { result ≡ described_of (layout_view self.now) link body.now }
     {
@@ -120,7 +120,7 @@ impl Layout {
         })
     }
 
-    /// What a block has that begins no section, by its type.
+    /// The content of a block that does not begin a section, by its type.
     fn typed_block<'a>(&self, head: &[u8], body: &'a [u8]) -> Result<Block<'a>, FileFault>
         requires { length head.now ≡ 12 }
         ensures { ReadsAll block_view result (typed_block_of (layout_view self.now) head.now body.now) }
@@ -139,10 +139,10 @@ impl Layout {
         }
     }
 
-    /// What a record or a block has, of that head and that front of its body, as `read` reads them.
+    /// The content of a record or a block, from its head and the beginning of its body, as `read` reads them.
     ///
-    /// A record has a frame; so have the blocks of types 2, 3 and 6, and 1 describes an interface. Of a longer frame the front is
-    /// told. What a block has beside that, as most of its options, is not looked at, nor is the length at its end.
+    /// A record has a frame, and so have blocks of types 2, 3 and 6; a block of type 1 describes an interface. Of a longer frame the
+    /// beginning is returned. Anything else in a block, such as most options, is ignored, and so is the length at its end.
     pub fn block<'a>(&self, head: &[u8], body: &'a [u8]) -> Result<Block<'a>, FileFault>
         requires { length head.now ≡ head_len_of self.now.form }
         ensures { ReadsAll block_view result (block_at (layout_view self.now) head.now body.now) }
@@ -157,7 +157,7 @@ impl Layout {
         }
     }
 
-    /// Takes in what a block says of those after it. Nothing changes where memory is lacking.
+    /// Updates the layout with a block. Returns an `Err` and changes nothing if an allocation fails.
     pub fn take_in(&mut self, block: Block<'_>) -> Result<(), AllocError>
         ensures ok { OnOk result (layout_view self.new ≡ after (layout_view self.old) (block_view block.entry)) }
         ensures err { OnErr result (layout_view self.new ≡ layout_view self.old) }

@@ -1,8 +1,8 @@
-//! An input that fails.
+//! An input whose reads all fail.
 use std::io;
 use std::io::{BufRead, ErrorKind, Read};
 
-/// An input that fails, each time in the same way.
+/// An input whose reads all fail with the same kind of error.
 #[derive(Clone, Copy, Debug, Drop)]
 pub(crate) struct Broken {
     pub kind: ErrorKind,

@@ -4,7 +4,7 @@ ghost use Rattle.bac_capture.specs.Bvlc.{function_of, function_number, function_
 
 use byteorder::{BigEndian, ByteOrder};
 
-/// The functions of a BVLL over IPv4 (clause J.2), by their numbers.
+/// The functions of a BVLL over IPv4 (clause J.2), by number.
 #[derive(Clone, Copy, Debug, PartialEq, Eq)]
 pub enum BvlcFunction {
     Result = 0x00,
@@ -23,7 +23,7 @@ pub enum BvlcFunction {
 }
 
 impl BvlcFunction {
-    /// The function of a number; None of one above 0C.
+    /// The function with this number; None for numbers above 0x0C.
     pub fn of(number: u8) -> Option<BvlcFunction>
         ensures { result ≡ function_of number }
     {
@@ -45,14 +45,14 @@ impl BvlcFunction {
         }
     }
 
-    /// Its number.
+    /// The number of the function.
     pub fn number(self) -> u8
         ensures { result ≡ function_number self }
     {
         self as u8
     }
 
-    /// The name that the standard has for it.
+    /// The name of the function in the standard.
     pub fn name(self) -> &'static str
         ensures { result.now ≡ function_name self }
     {
@@ -76,23 +76,23 @@ impl BvlcFunction {
     }
 }
 
-/// Whether the length that a BVLL tells is that of its datagram.
+/// Whether the length in a BVLL is that of its datagram.
 fn is_framed(datagram: &[u8]) -> bool
     ensures { result ≡ is_framed datagram.now }
 {
     datagram.len() >= 4 && usize::from(BigEndian::read_u16(&datagram[2..])) == datagram.len()
 }
 
-/// A BVLL that is no Original-Unicast-NPDU over IPv4.
+/// A BVLL other than an Original-Unicast-NPDU over IPv4.
 #[derive(Clone, Copy, Debug, PartialEq, Eq)]
 pub enum OtherBvll {
-    /// Over IPv4 (81, Annex J), of that function.
+    /// A BVLL over IPv4 (0x81, Annex J) with this function.
     Ipv4(BvlcFunction),
-    /// Over IPv6 (82, Annex U), of any function.
+    /// A BVLL over IPv6 (0x82, Annex U) with any function.
     Ipv6,
 }
 
-/// Another function than Original-Unicast-NPDU, by its number.
+/// The function with this number, unless it is Original-Unicast-NPDU.
 fn other_function(number: u8) -> Option<OtherBvll>
     ensures { result ≡ other_function_of number }
 {
@@ -106,7 +106,7 @@ fn other_function(number: u8) -> Option<OtherBvll>
 }
 
 impl OtherBvll {
-    /// What a datagram is where it is such a BVLL, of the length that it tells: over IPv4 of a function that Annex J has.
+    /// The other BVLL that a datagram is, if its length is correct; over IPv4 only if Annex J defines its function.
     pub fn of(datagram: &[u8]) -> Option<OtherBvll>
         ensures { result ≡ other_bvll_of datagram.now }
     {

@@ -1,4 +1,4 @@
-//! Files of pcap, record by record.
+//! Writing pcap files, record by record.
 ghost use Rattle.std.specs.Prelude.{◌≡◌, ◌≤◌, length, IfOk, OnOk};
 ghost use Rattle.std.specs.Io.KnownBytes.{Appends};
 ghost use Rattle.bac_capture.specs.Records.{file_head, record_head, record_octets};
@@ -8,28 +8,28 @@ use std::alloc::{AllocError, Global};
 use std::io;
 use std::io::{ErrorKind, Write};
 
-/// The greatest length of a datagram, in octets: 65,535 less the headers of IPv4 and UDP.
+/// The greatest length of a datagram in octets: 65,535 minus the headers of IPv4 and UDP.
 const LONGEST: usize = 65_507;
 
-/// Moments in microseconds, version 2.4, times of UTC, at most 65,535 octets of a packet, and packets of IP with nothing in front (link type 101).
+/// The header: timestamps in microseconds, version 2.4, UTC, at most 65,535 octets of a packet, and raw IP packets (link type 101).
 const FILE_HEAD: [u8; 24] = [
     0xA1, 0xB2, 0xC3, 0xD4, 0, 2, 0, 4, 0, 0, 0, 0, 0, 0, 0, 0, 0, 0, 0xFF, 0xFF, 0, 0, 0, 101,
 ];
 
-/// A datagram that was sent from one node to another; node N has the address 10.0.0.N, and port 47808.
+/// A datagram that one node sent to another; node N has the address 10.0.0.N, and port 47808.
 #[derive(Clone, Copy, Debug)]
 pub struct NodeDatagram<'a> {
-    /// The moment of its sending, in milliseconds.
+    /// When it was sent, in milliseconds.
     pub moment: u64,
     /// The node that sent it.
     pub from: u64,
-    /// The node that it is for.
+    /// The node that it was sent to.
     pub to: u64,
     /// Its octets.
     pub octets: &'a [u8],
 }
 
-/// Writes what a file begins with. Fails where the output does.
+/// Writes the header of a file. Returns an `Err` if the output fails.
 pub fn print_head<W: Write>(out: &mut W) -> io::Result<()>
     ensures { OnOk result (Appends (W.contents out.old) (W.contents out.new) file_head) }
 {
@@ -59,8 +59,8 @@ fn record_octets(alloc: Global, datagram: NodeDatagram<'_>) -> Result<Vec<u8>, A
     Ok(record)
 }
 
-/// Writes the record of a datagram, in a packet of IPv4 and UDP. Fails where memory is refused, by the kind of the error, or where the output does; also
-/// where the datagram has more than 65,507 octets: `InvalidInput`, and nothing is written.
+/// Writes the record of a datagram, in a packet of IPv4 and UDP. Returns an `Err` if an allocation fails, with the kind `OutOfMemory`, or if the
+/// output fails; also `InvalidInput`, without writing anything, if the datagram has more than 65,507 octets.
 pub fn print_record<W: Write>(
     alloc: Global,
     datagram: NodeDatagram<'_>,

@@ -1,9 +1,9 @@
-//! `bac check` of a capture file: which frames are good.
+//! `bac check` for capture files: which frames carry good datagrams.
 ghost use Rattle.std.specs.Prelude.{IfOk, OnOk};
 ghost use Rattle.std.specs.Io.KnownBytes.{Appends};
 ghost use Rattle.bac_capture.specs.Checked.{verdict_text, tally_text, IsCounted, IsFileReport, IsFrontReport, IsReportOf};
 ghost use Rattle.bac_capture.specs.Counted.{counts_of};
-ghost use Rattle.bac_capture.specs.Reports.{IsTold};
+ghost use Rattle.bac_capture.specs.Reports.{IsPrinted};
 ghost use Rattle.bac_text.specs.Statuses.{IsStop};
 
 use crate::broken::Broken;
@@ -12,14 +12,14 @@ use crate::error::{CheckError, stopped};
 use crate::judging::judge;
 use crate::others::print_named;
 use crate::tally::Tally;
-use crate::walk::{Watch, walk_file};
+use crate::walk::{FrameVisitor, walk_file};
 use crate::{FileFault, Form, Frame, Order, Ports, form_of, read_run};
 use bac_text::{Status, check_over};
 use std::alloc::Global;
 use std::io;
 use std::io::{BufRead, ErrorKind, Read, Write};
 
-/// Prints what is wrong with the frame of that number, if something is.
+/// Prints what is wrong with the frame with this number, if anything.
 fn print_verdict<W: Write>(number: u64, verdict: Verdict, out: &mut W) -> io::Result<()>
     ensures { OnOk result (Appends (W.contents out.old) (W.contents out.new) (verdict_text number verdict)) }
 {
@@ -31,7 +31,7 @@ fn print_verdict<W: Write>(number: u64, verdict: Verdict, out: &mut W) -> io::Re
 
 /// Counts a frame, and prints what is wrong with it.
 fn count<W: Write>(verdict: Verdict, tally: Tally, out: &mut W) -> Result<Tally, CheckError>
-    ensures { IfOk result (λ t. IsTold IsCounted verdict (W.contents out.old) (W.contents out.new) (counts_of tally) (counts_of t)) }
+    ensures { IfOk result (λ t. IsPrinted IsCounted verdict (W.contents out.old) (W.contents out.new) (counts_of tally) (counts_of t)) }
 {
     let Some(counted) = tally.with(verdict) else {
         return Err(CheckError::Input(io::Error::from(ErrorKind::FileTooLarge)));
@@ -42,7 +42,7 @@ fn count<W: Write>(verdict: Verdict, tally: Tally, out: &mut W) -> Result<Tally,
     }
 }
 
-impl<W: Write> Watch<W> for Tally {
+impl<W: Write> FrameVisitor<W> for Tally {
     ghost use Rattle.bac_capture.specs.Checked.{BreaksFile, SeesFrame};
     ghost use Rattle.bac_capture.specs.Counts.{Counts};
     ghost use Rattle.bac_capture.specs.Counted.{counts_of};
@@ -51,11 +51,16 @@ impl<W: Write> Watch<W> for Tally {
 
     ghost state = { counts_of };
 
-    ghost Sees = { SeesFrame };
+    ghost Visits = { SeesFrame };
 
     ghost Breaks = { BreaksFile };
 
-    fn see(&mut self, frame: Frame<'_>, ports: Ports, out: &mut W) -> Result<(), CheckError> {
+    fn visit_frame(
+        &mut self,
+        frame: Frame<'_>,
+        ports: Ports,
+        out: &mut W,
+    ) -> Result<(), CheckError> {
         *self = count(judge(frame, ports), *self, out)?;
         Ok(())
     }
@@ -66,7 +71,7 @@ impl<W: Write> Watch<W> for Tally {
     }
 }
 
-/// Prints the counts, of other functions by name too where that is asked for.
+/// Prints the counts, with those of other functions by name if requested.
 fn print_tally<W: Write>(named: bool, tally: Tally, out: &mut W) -> io::Result<()>
     ensures { OnOk result (Appends (W.contents out.old) (W.contents out.new) (tally_text named (counts_of tally))) }
 {
@@ -98,7 +103,7 @@ fn check_all<R: BufRead, W: Write>(
     }
 }
 
-/// Checks a capture file of that form and byte order.
+/// Checks a capture file of this form and byte order.
 fn check_file<R: BufRead, O: Write, E: Write>(
     alloc: Global,
     form: Form,
@@ -117,7 +122,7 @@ fn check_file<R: BufRead, O: Write, E: Write>(
     }
 }
 
-/// Checks a capture whose first octets are `front`, and the others those of the input.
+/// Checks a capture that begins with the octets `front` and continues with the input.
 fn check_after<R: BufRead, O: Write, E: Write>(
     alloc: Global,
     front: &[u8],
@@ -136,7 +141,7 @@ fn check_after<R: BufRead, O: Write, E: Write>(
     }
 }
 
-/// Tells of an input that failed within its first octets: the lines that ended before that are told, and then how it failed.
+/// Reports an input that failed within its first octets: first the lines that ended before that, and then the failure.
 fn failed_early<O: Write, E: Write>(
     alloc: Global,
     front: &[u8],
@@ -154,16 +159,16 @@ fn failed_early<O: Write, E: Write>(
     }
 }
 
-/// Checks a capture: a file of pcap or pcapng, as its first four octets tell, or else lines, as `check_over` of bac_text does.
+/// Checks a capture: a file of pcap or pcapng, as its first four octets determine, or otherwise lines, as `check_over` of bac_text does.
 ///
-/// Of a file each bad frame is told, by its number from 1, and at the end how many frames there are, and how many of them carry a
-/// good datagram, a bad one, and a BVLL of another function than Original-Unicast-NPDU; the others carry no datagram of
-/// BACnet/IP. Those of another function are also told one by one before that, in order of their numbers, where they are to be
-/// `named`, by the standard's names: `other BVLC-Result=3`; those over IPv6 last and together, as `other BACnet/IPv6=2`. That changes
-/// nothing for lines. A frame is bad where its link layer is not read, its packet is a fragment or no whole one, its datagram has a
-/// fault, or the file cannot be read on from there. Ends with `Faulty` where a frame is bad. An input that cannot be read, or of
-/// 2^64 frames: `cannot read` on `err`. Out of memory: `no memory` on `err`. `Output` where `out` cannot be written, then too
-/// where the input fails. Memory does not grow with the input.
+/// For a file, prints each bad frame with its number from 1, and at the end how many frames there are, and how many of them carry a
+/// good datagram, a bad one, and a BVLL with a function other than Original-Unicast-NPDU; all other frames carry no datagram of
+/// BACnet/IP. If `named` is set, the other functions are listed before that in order of their numbers, by their names in the
+/// standard: `other BVLC-Result=3`; those over IPv6 come last, together: `other BACnet/IPv6=2`. `named` does not matter for
+/// lines. A frame is bad if its link layer is unknown, its packet is a fragment or not complete, its datagram has a fault, or the
+/// file cannot be read beyond it. Returns `Faulty` if a frame is bad. Prints `cannot read` on `err` if the input cannot be read or
+/// has 2^64 frames, and `no memory` if an allocation fails. Returns `Output` if `out` cannot be written, even if the input fails
+/// too. Memory does not grow with the input.
 pub fn check_capture_over<R: BufRead, O: Write, E: Write>(
     alloc: Global,
     input: &mut R,

@@ -1,4 +1,4 @@
-//! What is wrong with a frame.
+//! The result of checking a frame.
 ghost use Rattle.std.specs.Prelude.{Some};
 ghost use Rattle.bac_capture.specs.CheckTexts.{frame_fault_text};
 
@@ -9,13 +9,13 @@ use std::fmt;
 /// Why a frame is bad.
 #[derive(Clone, Copy, Debug, PartialEq, Eq)]
 pub(crate) enum CapturedFault {
-    /// It is of a link layer that is not read.
+    /// Its link layer is unknown.
     Link,
-    /// The packet in it is no whole one.
+    /// The packet in it is not complete.
     Packet(PacketFault),
-    /// Its datagram has that fault.
+    /// Its datagram has this fault.
     Datagram(LayerFault),
-    /// The file cannot be read on from there.
+    /// The file cannot be read beyond it.
     File(FileFault),
 }
 
@@ -32,14 +32,14 @@ impl fmt::Display for CapturedFault {
     }
 }
 
-/// What a frame is.
+/// The result of checking a frame.
 #[derive(Clone, Copy, Debug, PartialEq, Eq)]
 pub(crate) enum Verdict {
     /// It carries no datagram of BACnet/IP.
     Nothing,
     /// Its datagram has no fault.
     Good,
-    /// Its datagram is a BVLL of another function, which is not looked at.
+    /// Its datagram is a BVLL with another function, which is not checked.
     Other(OtherBvll),
     Bad(CapturedFault),
 }

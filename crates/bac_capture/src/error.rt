@@ -1,4 +1,4 @@
-//! Why checking stopped, and complaints of it.
+//! Why checking stopped, and the messages for it.
 ghost use Rattle.bac_capture.specs.Stops.{IsStopBy, IsStopFor};
 ghost use Rattle.bac_text.specs.Statuses.{IsStop, IsFailure};
 ghost use Rattle.std.specs.Prelude.{◌≡◌, ◌≢◌};
@@ -8,19 +8,23 @@ ghost use Rattle.bac_text.specs.declared.status.Status.TheVariants.{CommandLine,
 use bac_text::{Status, complain, no_memory, output_failed};
 use std::io;
 use std::io::{ErrorKind, Write};
+use thiserror::Error;
 
-/// Why checking stopped, or another walk over a capture.
-#[derive(Debug, Drop)]
+/// Why checking, or another pass over a capture, stopped.
+#[derive(Debug, Drop, Error)]
 pub enum CheckError {
     /// The input cannot be read.
+    #[error("cannot read: {0}")]
     Input(io::Error),
     /// The output cannot be written.
+    #[error("cannot write: {0}")]
     Output(io::Error),
-    /// An allocation was refused.
+    /// An allocation failed.
+    #[error("no memory")]
     Memory,
 }
 
-/// The status of an input that cannot be read: out of memory is told apart.
+/// The status for an input that cannot be read; a failed allocation has its own.
 fn input_failed<E: Write>(err: &mut E, error: &io::Error) -> Status
     ensures memory { error_kind error.now ≡ ErrorKind.OutOfMemory → result ≡ Memory }
     ensures input { error_kind error.now ≢ ErrorKind.OutOfMemory → result ≡ CommandLine }
@@ -32,7 +36,7 @@ fn input_failed<E: Write>(err: &mut E, error: &io::Error) -> Status
     }
 }
 
-/// Complains of why checking stopped, where the output could be flushed.
+/// Prints why checking stopped, if the output could be flushed.
 fn stopped_by<E: Write>(error: CheckError, err: &mut E) -> Status
     ensures why { IsStopBy error result }
     ensures stop { IsStop result }
@@ -44,7 +48,7 @@ fn stopped_by<E: Write>(error: CheckError, err: &mut E) -> Status
     }
 }
 
-/// Complains of why checking stopped, or of the output that could not be flushed then.
+/// Prints why checking stopped, or that the output could not be flushed then.
 fn stopped_so<E: Write>(error: CheckError, flushed: io::Result<()>, err: &mut E) -> Status
     ensures why { IsStopFor flushed error result }
     ensures stop { IsStop result }
@@ -58,8 +62,8 @@ fn stopped_so<E: Write>(error: CheckError, flushed: io::Result<()>, err: &mut E)
     }
 }
 
-/// Why checking stopped, as a status: `CommandLine` and `cannot read` on `err` for the input, `Output` for the output, `Memory` and
-/// `no memory` on `err` for both where memory was refused. What was printed before goes out as far as it can.
+/// Prints on `err` why checking stopped, and returns the status: `CommandLine` after `cannot read` for the input, `Output` for the
+/// output, and `Memory` after `no memory` for a failed allocation. Flushes `out` first, as far as possible.
 pub fn stopped<O: Write, E: Write>(error: CheckError, out: &mut O, err: &mut E) -> Status
     ensures { IsStop result }
 {

@@ -1,19 +1,20 @@
-//! What is wrong with the packet in a frame, and with a capture file.
+//! What is wrong with the packet in a frame, or with a capture file.
 ghost use Rattle.std.specs.Prelude.{Some};
 ghost use Rattle.bac_capture.specs.Texts.{packet_fault_text, file_fault_text};
 
+use std::error::Error;
 use std::fmt;
 
-/// Why a frame in which a datagram may stand has none that can be read.
+/// Why the datagram in a frame cannot be read.
 #[derive(Clone, Copy, Debug, PartialEq, Eq)]
 pub enum PacketFault {
     /// The octets end before the datagram does.
     Truncated,
-    /// An IP header of another version than the link says, or of a length that none has.
+    /// The version of the IP header is not that of the link, or its length is not valid.
     IpHeader,
-    /// A UDP length of fewer than the eight octets of its header.
+    /// The UDP length is less than the eight octets of the header.
     UdpLength,
-    /// A fragment of an IP packet: its datagram stands in several frames.
+    /// The frame has a fragment of an IP packet, whose datagram is spread over several frames.
     Fragment,
 }
 
@@ -30,16 +31,18 @@ impl fmt::Display for PacketFault {
     }
 }
 
-/// Why a capture file cannot be read on.
+impl Error for PacketFault {}
+
+/// Why a capture file cannot be read further.
 #[derive(Clone, Copy, Debug, PartialEq, Eq)]
 pub enum FileFault {
     /// The file ends within a record or a block.
     Cut,
-    /// A section of pcapng whose byte order is none.
+    /// A section of pcapng without a valid byte order.
     ByteOrder,
-    /// The length of a block is no multiple of four, or less than what stands in it.
+    /// The length of a block is not a multiple of four, or is too small for its contents.
     BlockLength,
-    /// A frame of an interface that the section has not described.
+    /// A frame of an interface that its section does not describe.
     NoInterface,
     /// A section with more than 1,024 interfaces.
     TooManyInterfaces,
@@ -58,3 +61,5 @@ impl fmt::Display for FileFault {
         }
     }
 }
+
+impl Error for FileFault {}

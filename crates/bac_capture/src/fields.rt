@@ -1,4 +1,4 @@
-//! Reading the fields of headers from the front.
+//! Reading header fields.
 ghost use Rattle.std.specs.Prelude.{◌≡◌, IfOk, length};
 ghost use Rattle.bac_value.specs.Steps.{Reads, octet_at};
 ghost use Rattle.bac_capture.specs.declared.fault.PacketFault.TheVariants.{Truncated};
@@ -7,7 +7,7 @@ ghost use Rattle.bac_capture.specs.Fields.{cut_at, word_at, long_at};
 use crate::fault::PacketFault;
 use byteorder::{BigEndian, ByteOrder};
 
-/// So many octets, and what is left after them.
+/// Reads this many octets, and returns them and the octets after them.
 #[tactic(auto, unfolding(crate::specs::Fields::cut_at))]
 pub(crate) fn cut(octets: &[u8], count: usize) -> Result<(&[u8], &[u8]), PacketFault>
     ensures reads { Reads (λ x. x.now) (λ r. r.now) octets.now result (cut_at count) }
@@ -19,7 +19,7 @@ pub(crate) fn cut(octets: &[u8], count: usize) -> Result<(&[u8], &[u8]), PacketF
     Ok((&octets[..count], &octets[count..]))
 }
 
-/// The first octet, and what is left after it.
+/// Reads the first octet, and returns it and the octets after it.
 pub(crate) fn octet(octets: &[u8]) -> Result<(u8, &[u8]), PacketFault>
     ensures { Reads (λ x. x) (λ r. r.now) octets.now result (octet_at Truncated) }
 {
@@ -29,7 +29,7 @@ pub(crate) fn octet(octets: &[u8]) -> Result<(u8, &[u8]), PacketFault>
     }
 }
 
-/// The number of two octets, and what is left after it.
+/// Reads a number of two octets, and returns it and the octets after it.
 #[tactic(auto, unfolding(crate::specs::Fields::word_at, crate::specs::Fields::cut_at))]
 pub(crate) fn word(octets: &[u8]) -> Result<(u16, &[u8]), PacketFault>
     ensures { Reads (λ x. x) (λ r. r.now) octets.now result word_at }
@@ -38,7 +38,7 @@ pub(crate) fn word(octets: &[u8]) -> Result<(u16, &[u8]), PacketFault>
     Ok((BigEndian::read_u16(number), rest))
 }
 
-/// The number of four octets, and what is left after it.
+/// Reads a number of four octets, and returns it and the octets after it.
 #[tactic(auto, unfolding(crate::specs::Fields::long_at, crate::specs::Fields::cut_at))]
 pub(crate) fn long(octets: &[u8]) -> Result<(u32, &[u8]), PacketFault>
     ensures { Reads (λ x. x) (λ r. r.now) octets.now result long_at }

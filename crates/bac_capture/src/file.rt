@@ -1,4 +1,4 @@
-//! Capture files, record by record and block by block.
+//! Reading capture files, record by record and block by block.
 ghost use Rattle.std.specs.Prelude.{◌≡◌, Ok, true, length, IfOk};
 ghost use Rattle.bac_capture.specs.Files.{head_len_of, section_order_of, is_section, block_order_of, block_len_of, body_len_of, IsBody, IsRecord};
 
@@ -15,13 +15,13 @@ use std::io::BufRead;
 pub struct Interface {
     /// The number of its link layer.
     pub link: u16,
-    /// Most octets of a frame that were captured; 0 for all.
+    /// The greatest number of octets of a frame that are captured; 0 for all.
     pub most: u32,
-    /// The unit of its frames' moments; None where these are not read.
+    /// The unit of its timestamps; None if they are not read.
     pub resolution: Option<Resolution>,
 }
 
-/// How the rest of a capture file is to be read: what its front and its sections say.
+/// How to read the rest of a capture file, as its header and its sections define.
 #[derive(Debug, Drop)]
 pub struct Layout {
     pub(crate) form: Form,
@@ -29,10 +29,10 @@ pub struct Layout {
     pub(crate) interfaces: Vec<Interface>,
 }
 
-/// The type of a block that begins a section; it reads the same in both byte orders.
+/// The type of a block that begins a section; it is the same in both byte orders.
 const SECTION: [u8; 4] = [0x0A, 0x0D, 0x0D, 0x0A];
 
-/// The byte order that a section has in the third of its numbers.
+/// The byte order of a section, from the third number of its block.
 pub(crate) fn section_order(octets: &[u8]) -> Option<Order>
     ensures { result ≡ section_order_of octets.now }
 {
@@ -43,7 +43,7 @@ pub(crate) fn section_order(octets: &[u8]) -> Option<Order>
     }
 }
 
-/// Whether a block of that head begins a section.
+/// Whether a block with this head begins a section.
 pub(crate) fn is_section(head: &[u8]) -> bool
     ensures { result ≡ is_section head.now }
 {
@@ -51,7 +51,7 @@ pub(crate) fn is_section(head: &[u8]) -> bool
 }
 
 impl Layout {
-    /// How many octets the head of a record or a block has.
+    /// The length in octets of the head of a record or a block.
     fn head_len(&self) -> usize
         ensures { result ≡ head_len_of self.now.form }
     {
@@ -61,7 +61,7 @@ impl Layout {
         }
     }
 
-    /// The byte order of a block: a section tells its own.
+    /// The byte order of a block: that of its section.
     fn block_order(&self, head: &[u8]) -> Option<Order>
         requires { length head.now ≡ 12 }
         ensures { result ≡ block_order_of self.now.order head.now }
@@ -73,7 +73,7 @@ impl Layout {
         }
     }
 
-    /// How many octets come after the head of a block.
+    /// How many octets follow the head of a block.
     fn block_len(&self, head: &[u8]) -> Result<usize, FileFault>
         requires { length head.now ≡ 12 }
         ensures { result ≡ block_len_of self.now.order head.now }
@@ -88,7 +88,7 @@ impl Layout {
         Ok((length - 12) as usize)
     }
 
-    /// How many octets come after the head of a record or a block.
+    /// How many octets follow the head of a record or a block.
     fn body_len(&self, head: &[u8]) -> Result<usize, FileFault>
         requires { length head.now ≡ head_len_of self.now.form }
         ensures { result ≡ body_len_of self.now.form self.now.order head.now }
@@ -99,7 +99,7 @@ impl Layout {
         }
     }
 
-    /// Reads what stands after a head: `Cut` where the input ends within it.
+    /// Reads what follows a head. Returns `Cut` if the input ends within it.
     fn read_body<R: BufRead>(
         &self,
         input: &mut R,
@@ -120,8 +120,8 @@ impl Layout {
         }
     }
 
-    /// Reads the record or the block that stands next: its head, and the front of its body, of at most 65,700 octets, in the
-    /// places of what the vectors have. False at the end of the file.
+    /// Reads the next record or block, into the two vectors: its head, and the beginning of its body, at most 65,700 octets.
+    /// Returns false at the end of the file.
     pub fn read<R: BufRead>(
         &self,
         input: &mut R,

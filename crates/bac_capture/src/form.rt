@@ -1,4 +1,4 @@
-//! The two forms of capture files, told by their first octets.
+//! The two forms of capture files, by their first octets.
 ghost use Rattle.std.specs.Prelude.{◌≡◌};
 ghost use Rattle.bac_capture.specs.Forms.{form_of};
 
@@ -7,14 +7,14 @@ use crate::order::Order;
 /// The form of a capture file.
 #[derive(Clone, Copy, Debug, PartialEq, Eq)]
 pub enum Form {
-    /// pcap: a header of the file, and a record for each frame.
+    /// pcap: a header, then a record for each frame.
     Records,
-    /// pcapng: blocks, among them some with frames.
+    /// pcapng: blocks, some of which contain frames.
     Blocks,
 }
 
-/// The form and the byte order that the first octets of a file tell; None where it is no capture file. The blocks of pcapng have
-/// their own order in each section, the first of which these octets begin.
+/// The form and the byte order by the first octets of a file; None if it is not a capture file. In pcapng each section has its own
+/// byte order; this is the first section's.
 pub fn form_of(front: &[u8]) -> Option<(Form, Order)>
     ensures { result ≡ form_of front.now }
 {

@@ -1,4 +1,4 @@
-//! What both versions of IP share.
+//! Constants of both versions of IP.
 
-/// The number of UDP among the protocols of IP.
+/// The IP protocol number of UDP.
 pub(crate) const UDP: u8 = 17;

@@ -11,22 +11,22 @@ use crate::ip::UDP;
 use crate::packet::{Packet, Part};
 use byteorder::{BigEndian, ByteOrder};
 
-/// How many octets a header without options has.
+/// The length of a header without options, in octets.
 const HEADER: u16 = 20;
 
-/// The fields of a header that are read, without the addresses.
+/// The fields of a header that are used, except the addresses.
 #[derive(Clone, Copy)]
 pub(crate) struct Ipv4Head {
-    /// The version, and how many times four octets the header has.
+    /// The version, and the length of the header in units of four octets.
     pub first: u8,
-    /// How many octets the packet has with its header.
+    /// The length of the packet with its header, in octets.
     pub total: u16,
-    /// Three flags, the last of them "more fragments", and the offset of a fragment.
+    /// Three flags, the last of which is "more fragments", and the fragment offset.
     pub fragment: u16,
     pub protocol: u8,
 }
 
-/// The fields in front of the addresses.
+/// Reads the fields before the addresses.
 #[tactic(auto, unfolding(crate::specs::Ipv4::ipv4_head_at, crate::specs::Fields::cut_at))]
 fn head(octets: &[u8]) -> Result<(Ipv4Head, &[u8]), PacketFault>
     ensures { Reads ipv4_head_view (λ r. r.now) octets.now result ipv4_head_at }
@@ -41,7 +41,7 @@ fn head(octets: &[u8]) -> Result<(Ipv4Head, &[u8]), PacketFault>
     Ok((head, rest))
 }
 
-/// Which part of its packet a header's flags and offset announce.
+/// The part of its packet, by the flags and the fragment offset.
 fn part(fragment: u16) -> Part
     ensures { result ≡ part_of fragment }
 {
@@ -54,8 +54,8 @@ fn part(fragment: u16) -> Part
     }
 }
 
-/// The options and the contents, of a header of so many octets in a packet of so many. Of the contents there may be fewer than
-/// announced, and what comes after them is padding.
+/// Reads the options and the contents, by the lengths of header and packet. There may be fewer octets of contents than announced,
+/// and any octets after them are padding.
 #[tactic(auto, unfolding(crate::specs::Ipv4::ipv4_contents_at))]
 fn contents(octets: &[u8], header: u16, total: u16) -> Result<&[u8], PacketFault>
     ensures { ReadsAll (λ x. x.now) result (ipv4_contents_at header total octets.now) }
@@ -68,7 +68,7 @@ fn contents(octets: &[u8], header: u16, total: u16) -> Result<&[u8], PacketFault
     Ok(&rest[..length])
 }
 
-/// The packet of UDP with that head: the addresses, the options and the contents.
+/// Reads a UDP packet with this header: the addresses, the options and the contents.
 #[tactic(auto, unfolding(crate::specs::Ipv4::ipv4_udp_at))]
 fn udp_packet(octets: &[u8], head: Ipv4Head) -> Result<Packet<'_>, PacketFault>
     ensures { ReadsAll packet_view result (ipv4_udp_at (ipv4_head_view head) octets.now) }
@@ -85,7 +85,7 @@ fn udp_packet(octets: &[u8], head: Ipv4Head) -> Result<Packet<'_>, PacketFault>
     })
 }
 
-/// The packet of UDP that the octets are; None of another protocol.
+/// Reads a UDP packet; None for all other protocols.
 #[tactic(auto, unfolding(crate::specs::Ipv4::ipv4_at))]
 pub(crate) fn read_ipv4(octets: &[u8]) -> Result<Option<Packet<'_>>, PacketFault>
     ensures { ReadsAll (option_map packet_view) result (ipv4_at octets.now) }

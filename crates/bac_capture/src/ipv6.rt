@@ -12,27 +12,27 @@ use crate::ip::UDP;
 use crate::packet::{Packet, Part};
 use byteorder::{BigEndian, ByteOrder};
 
-/// The header of options for each router on the way.
+/// The header with hop-by-hop options.
 const HOP_BY_HOP: u8 = 0;
-/// The header of a route.
+/// The routing header.
 const ROUTING: u8 = 43;
-/// The header of a fragment.
+/// The fragment header.
 const FRAGMENT: u8 = 44;
-/// The header of options for the receiver.
+/// The header with destination options.
 const DESTINATION: u8 = 60;
 
-/// The fields of a header that are read, without the addresses.
+/// The fields of a header that are used, except the addresses.
 #[derive(Clone, Copy)]
 pub(crate) struct Ipv6Head {
-    /// The version, and a part of the traffic class.
+    /// The version, and part of the traffic class.
     pub first: u8,
-    /// How many octets the packet has after this header.
+    /// The length of the packet after this header, in octets.
     pub length: u16,
-    /// Which header comes next.
+    /// The number of the next header.
     pub next: u8,
 }
 
-/// The fields in front of the addresses.
+/// Reads the fields before the addresses.
 #[tactic(auto, unfolding(crate::specs::Ipv6::ipv6_head_at, crate::specs::Fields::cut_at))]
 fn head(octets: &[u8]) -> Result<(Ipv6Head, &[u8]), PacketFault>
     ensures { Reads ipv6_head_view (λ r. r.now) octets.now result ipv6_head_at }
@@ -46,14 +46,14 @@ fn head(octets: &[u8]) -> Result<(Ipv6Head, &[u8]), PacketFault>
     Ok((head, rest))
 }
 
-/// Whether a header of that number is one of options or of a route: those can be passed over.
+/// Whether a header with this number has options or a route, so that it can be skipped.
 fn is_extension(next: u8) -> bool
     ensures { result ≡ is_extension next }
 {
     next == HOP_BY_HOP || next == ROUTING || next == DESTINATION
 }
 
-/// Passes over a header of options or of a route, where one comes next: the number of the header after it, and the octets from
+/// Skips a header with options or a route, if one comes next. Returns the number of the header after it, and the octets from
 /// there.
 #[tactic(auto, unfolding(crate::specs::Ipv6::extension_at))]
 fn pass(next: u8, octets: &[u8]) -> Result<(u8, &[u8]), PacketFault>
@@ -68,7 +68,7 @@ fn pass(next: u8, octets: &[u8]) -> Result<(u8, &[u8]), PacketFault>
     Ok((following, rest))
 }
 
-/// Which part of its packet the offset and the flag of a fragment's header announce.
+/// The part of its packet, by the offset and the flag of a fragment header.
 fn part(place: u16) -> Part
     ensures { result ≡ fragment_part_of place }
 {
@@ -81,7 +81,7 @@ fn part(place: u16) -> Part
     }
 }
 
-/// What stands after a fragment's header, and which part it is; None of another protocol than UDP.
+/// Reads what follows a fragment header, and which part it is; None for protocols other than UDP.
 #[tactic(auto, unfolding(crate::specs::Ipv6::fragment_at))]
 fn fragment(octets: &[u8]) -> Result<Option<(Part, &[u8])>, PacketFault>
     ensures { ReadsAll (option_map (λ p. (p.0, p.1.now))) result (fragment_at octets.now) }
@@ -97,7 +97,7 @@ fn fragment(octets: &[u8]) -> Result<Option<(Part, &[u8])>, PacketFault>
     }
 }
 
-/// The octets of UDP, where those or a fragment come next; None of another protocol.
+/// Reads the octets of UDP, if those or a fragment come next; None for all other protocols.
 fn upper(next: u8, octets: &[u8]) -> Result<Option<(Part, &[u8])>, PacketFault>
     ensures { ReadsAll (option_map (λ p. (p.0, p.1.now))) result (upper_at next octets.now) }
 {
@@ -112,7 +112,7 @@ fn upper(next: u8, octets: &[u8]) -> Result<Option<(Part, &[u8])>, PacketFault>
     }
 }
 
-/// The same after at most three headers of options or of a route.
+/// The same, after at most three headers with options or a route.
 #[tactic(auto, unfolding(crate::specs::Ipv6::extended_at))]
 fn extended(next: u8, octets: &[u8]) -> Result<Option<(Part, &[u8])>, PacketFault>
     ensures { ReadsAll (option_map (λ p. (p.0, p.1.now))) result (extended_at next octets.now) }
@@ -123,8 +123,8 @@ fn extended(next: u8, octets: &[u8]) -> Result<Option<(Part, &[u8])>, PacketFaul
     upper(next, rest)
 }
 
-/// The packet of UDP with that head: the addresses and the contents. Of the contents there may be fewer than announced, and what
-/// comes after them is padding.
+/// Reads a UDP packet with this header: the addresses and the contents. There may be fewer octets of contents than announced, and
+/// any octets after them are padding.
 #[tactic(auto, unfolding(crate::specs::Ipv6::ipv6_udp_at))]
 fn udp_packet(octets: &[u8], head: Ipv6Head) -> Result<Option<Packet<'_>>, PacketFault>
     ensures { ReadsAll (option_map packet_view) result (ipv6_udp_at (ipv6_head_view head) octets.now) }
@@ -143,7 +143,7 @@ fn udp_packet(octets: &[u8], head: Ipv6Head) -> Result<Option<Packet<'_>>, Packe
     }
 }
 
-/// The packet of UDP that the octets are; None of another protocol.
+/// Reads a UDP packet; None for all other protocols.
 #[tactic(auto, unfolding(crate::specs::Ipv6::ipv6_at))]
 pub(crate) fn read_ipv6(octets: &[u8]) -> Result<Option<Packet<'_>>, PacketFault>
     ensures { ReadsAll (option_map packet_view) result (ipv6_at octets.now) }

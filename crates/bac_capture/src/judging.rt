@@ -1,4 +1,4 @@
-//! What is wrong with a frame, if something is.
+//! Checking a frame.
 ghost use Rattle.bac_capture.specs.BlockViews.{frame_view};
 ghost use Rattle.bac_capture.specs.Judged.{IsDatagramVerdict, IsVerdict};
 
@@ -18,7 +18,7 @@ fn judge_datagram(datagram: &[u8]) -> Verdict
     }
 }
 
-/// What a frame is, by its link layer's number, and its octets.
+/// The result of checking a frame, from its link layer number and its octets.
 pub(crate) fn judge(frame: Frame<'_>, ports: Ports) -> Verdict
     ensures { IsVerdict ports.also (frame_view frame.entry) result }
 {

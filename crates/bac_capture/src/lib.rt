@@ -1,8 +1,8 @@
-//! Capture files: which UDP datagrams of BACnet/IP the frames of a capture carry.
+//! Reads and writes capture files: which UDP datagrams of BACnet/IP the frames of a capture carry.
 //!
-//! Capture files, frame by frame for whoever watches, and what `bac check` prints of them: which frames carry good datagrams.
+//! It passes the frames of a capture file to a watcher, and checks for `bac check` which frames carry good datagrams.
 //!
-//! Capture files of pcap, written: datagrams of BACnet/IP between numbered nodes, in packets of IPv4 and UDP.
+//! It writes pcap files with datagrams of BACnet/IP between numbered nodes, in packets of IPv4 and UDP.
 #![tactic(auto)]
 
 mod begin;
@@ -36,7 +36,6 @@ mod tally;
 mod udp;
 mod walk;
 
-pub use crate::Ports;
 pub use block::{Block, Frame};
 pub use bvlc::{BvlcFunction, OtherBvll};
 pub use capture::{NodeDatagram, print_head, print_record};
@@ -53,4 +52,4 @@ pub use packet::{Datagram, Endpoint};
 pub use ports::Ports;
 pub use reading::read_frame;
 pub use run::read_run;
-pub use walk::{Watch, walk_file};
+pub use walk::{FrameVisitor, walk_file};

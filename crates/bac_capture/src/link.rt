@@ -1,4 +1,4 @@
-//! Link layers, and what packets of IP they carry.
+//! Link layers, and the IP packets that their frames carry.
 ghost use Rattle.std.specs.Prelude.{◌≡◌};
 ghost use Rattle.bac_value.specs.Steps.{Reads};
 ghost use Rattle.bac_capture.specs.Links.{link_kind_of, network_of, family_network_of, is_tag, untagged_at, typed_at, ethernet_at};
@@ -8,24 +8,24 @@ use crate::fault::PacketFault;
 use crate::fields::{cut, long, octet, word};
 use crate::packet::Network;
 
-/// The link layers whose frames are read.
+/// The link layers that are supported.
 #[derive(Clone, Copy, Debug, PartialEq, Eq)]
 pub enum LinkKind {
-    /// The loopback of BSD: a family of addresses, in either byte order, and a packet.
+    /// BSD loopback: an address family, in either byte order, and a packet.
     Loopback,
     /// Ethernet, with at most two VLAN tags.
     Ethernet,
-    /// Packets of IP and nothing else.
+    /// Raw IP packets.
     RawIp,
-    /// What Linux writes of all its interfaces together.
+    /// Linux cooked captures, of all interfaces together.
     LinuxCooked,
-    /// The second version of that.
+    /// The second version of Linux cooked captures.
     LinuxCooked2,
 }
 
 impl LinkKind {
-    /// The link layer of a number as capture files have it (LINKTYPE_ and DLT_): 0 and 108 loopback, 1 Ethernet, 12, 14, 101,
-    /// 228 and 229 packets alone, 113 and 276 Linux's own. None of any other.
+    /// The link layer with a number of capture files (LINKTYPE_ and DLT_): 0 and 108 loopback, 1 Ethernet, 12, 14, 101, 228 and 229
+    /// raw packets, 113 and 276 Linux cooked captures. None for all other numbers.
     pub fn of(number: u16) -> Option<LinkKind>
         ensures { result ≡ link_kind_of number }
     {
@@ -40,7 +40,7 @@ impl LinkKind {
     }
 }
 
-/// The version of IP that an EtherType announces; None of another protocol.
+/// The version of IP for an EtherType; None for all other protocols.
 fn network_of(ether_type: u16) -> Option<Network>
     ensures { result ≡ network_of ether_type }
 {
@@ -51,7 +51,7 @@ fn network_of(ether_type: u16) -> Option<Network>
     }
 }
 
-/// The version of IP that a family of addresses announces, in either byte order: the numbers of IPv6 differ between systems.
+/// The version of IP for an address family, in either byte order: the numbers for IPv6 differ between systems.
 fn family_network(family: u32) -> Option<Network>
     ensures { result ≡ family_network_of family }
 {
@@ -63,14 +63,14 @@ fn family_network(family: u32) -> Option<Network>
     }
 }
 
-/// Whether an EtherType is that of a VLAN tag (802.1Q, 802.1ad, and the older one of the same).
+/// Whether an EtherType is that of a VLAN tag (802.1Q, 802.1ad, and an older number of the latter).
 fn is_tag(ether_type: u16) -> bool
     ensures { result ≡ is_tag ether_type }
 {
     ether_type == 0x8100 || ether_type == 0x88A8 || ether_type == 0x9100
 }
 
-/// Passes over a VLAN tag, where there is one: the EtherType after it, and the octets from there.
+/// Skips a VLAN tag, if there is one. Returns the EtherType after it, and the octets from there.
 #[tactic(auto, unfolding(crate::specs::Links::untagged_at))]
 fn untagged(ether_type: u16, octets: &[u8]) -> Result<(u16, &[u8]), PacketFault>
     ensures { Reads (λ x. x) (λ r. r.now) octets.now result (untagged_at ether_type) }
@@ -82,7 +82,7 @@ fn untagged(ether_type: u16, octets: &[u8]) -> Result<(u16, &[u8]), PacketFault>
     word(rest)
 }
 
-/// What stands after an EtherType and at most two VLAN tags.
+/// What follows an EtherType and at most two VLAN tags.
 #[tactic(auto, unfolding(crate::specs::Links::typed_at))]
 fn typed(ether_type: u16, octets: &[u8]) -> Result<(Option<Network>, &[u8]), PacketFault>
     ensures { Reads (λ x. x) (λ r. r.now) octets.now result (typed_at ether_type) }
@@ -122,7 +122,7 @@ fn cooked_2(octets: &[u8]) -> Result<(Option<Network>, &[u8]), PacketFault>
     typed(ether_type, rest)
 }
 
-/// The version of IP that the first octet of a packet announces.
+/// The version of IP in the first octet of a packet.
 fn version_network(first: u8) -> Option<Network>
     ensures { result ≡ version_network_of first }
 {
@@ -133,7 +133,7 @@ fn version_network(first: u8) -> Option<Network>
     }
 }
 
-/// A packet, whose first octet tells its version.
+/// A packet, whose first octet contains its version.
 #[tactic(auto, unfolding(crate::specs::Links::raw_at))]
 fn raw(octets: &[u8]) -> Result<(Option<Network>, &[u8]), PacketFault>
     ensures { Reads (λ x. x) (λ r. r.now) octets.now result raw_at }
@@ -145,7 +145,7 @@ fn raw(octets: &[u8]) -> Result<(Option<Network>, &[u8]), PacketFault>
     }
 }
 
-/// A family of addresses, and a packet.
+/// An address family, and a packet.
 #[tactic(auto, unfolding(crate::specs::Links::loopback_at))]
 fn loopback(octets: &[u8]) -> Result<(Option<Network>, &[u8]), PacketFault>
     ensures { Reads (λ x. x) (λ r. r.now) octets.now result loopback_at }
@@ -154,7 +154,7 @@ fn loopback(octets: &[u8]) -> Result<(Option<Network>, &[u8]), PacketFault>
     Ok((family_network(family), rest))
 }
 
-/// The packet in a frame, and its version of IP; None of another protocol.
+/// The packet in a frame, and its version of IP; None for all other protocols.
 pub(crate) fn read_link(
     kind: LinkKind,
     octets: &[u8],

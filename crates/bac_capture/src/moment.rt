@@ -1,23 +1,23 @@
-//! The moments of frames.
+//! The timestamps of frames.
 ghost use Rattle.std.specs.Prelude.{◌≡◌, ◌≤◌, drop, length};
 ghost use Rattle.bac_capture.specs.Orders.{number_of};
 ghost use Rattle.bac_capture.specs.Moments.{block_moment, option_len, record_moment, milliseconds_of, resolution_in, resolution_of};
 
 use crate::order::Order;
 
-/// The code of the option that ends them.
+/// The code of the option that ends the options.
 const END: u16 = 0;
 
-/// The code of an option that tells the unit of moments.
+/// The code of the option for the unit of timestamps.
 const RESOLUTION: u16 = 9;
 
-/// Most options of an interface that are looked at.
+/// The greatest number of options of an interface that are read.
 pub(crate) const OPTION_LIMIT: usize = 64;
 
-/// The exponent where no option tells one: microseconds.
+/// The exponent if there is no such option: microseconds.
 const MICROSECONDS: u8 = 6;
 
-/// The unit of moments.
+/// The unit of timestamps.
 #[derive(Clone, Copy, Debug, PartialEq, Eq)]
 pub enum Resolution {
     Milliseconds,
@@ -26,7 +26,7 @@ pub enum Resolution {
 }
 
 impl Resolution {
-    /// How many whole milliseconds so many units are.
+    /// This many units in whole milliseconds.
     fn milliseconds(self, count: u64) -> u64
         ensures { result ≡ milliseconds_of self count }
     {
@@ -38,7 +38,7 @@ impl Resolution {
     }
 }
 
-/// The moment of a record of pcap: seconds, and units beside them.
+/// The timestamp of a pcap record in milliseconds: seconds, and units in addition.
 pub(crate) fn record_moment(
     resolution: Option<Resolution>,
     order: Order,
@@ -53,7 +53,7 @@ pub(crate) fn record_moment(
     Some(seconds * 1_000 + resolution.milliseconds(beside))
 }
 
-/// The moment of a block of pcapng: a count of units, its upper half first.
+/// The timestamp of a pcapng block in milliseconds: a count of units, upper half first.
 pub(crate) fn block_moment(resolution: Option<Resolution>, order: Order, body: &[u8]) -> Option<u64>
     requires { 8 ≤ length body.now }
     ensures { result ≡ block_moment resolution order body.now }
@@ -64,7 +64,7 @@ pub(crate) fn block_moment(resolution: Option<Resolution>, order: Order, body: &
     Some(resolution.milliseconds(upper * 0x1_0000_0000 + lower))
 }
 
-/// The unit that is that power of a tenth of a second.
+/// The unit that is 10 to the power of minus this exponent, in seconds.
 pub(crate) fn resolution_of(exponent: u8) -> Option<Resolution>
     ensures { result ≡ resolution_of exponent }
 {
@@ -76,7 +76,7 @@ pub(crate) fn resolution_of(exponent: u8) -> Option<Resolution>
     }
 }
 
-/// The options after the first.
+/// The options after the first one.
 fn after_option(order: Order, options: &[u8]) -> &[u8]
     requires { 5 ≤ length options.now }
     ensures { result.now ≡ drop (option_len (number_of order 2 (drop 2 options.now))) options.now }
@@ -86,7 +86,7 @@ fn after_option(order: Order, options: &[u8]) -> &[u8]
     &options[len.min(options.len())..]
 }
 
-/// The exponent that the options of an interface tell, by the first so many of them.
+/// The exponent in the options of an interface, of which at most this many are read.
 pub(crate) fn resolution_in(limit: usize, order: Order, options: &[u8]) -> u8
     ensures { result ≡ resolution_in limit order options.now }
 {

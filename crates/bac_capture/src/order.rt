@@ -1,4 +1,4 @@
-//! The byte order of the numbers of a capture file: that of the machine that wrote it.
+//! The byte order of the numbers in a capture file: that of the machine that wrote it.
 ghost use Rattle.std.specs.Prelude.{◌≡◌, ◌≤◌, length};
 ghost use Rattle.bac_capture.specs.Orders.{number_of};
 
@@ -7,14 +7,14 @@ use byteorder::{BigEndian, ByteOrder, LittleEndian};
 /// Which octet of a number comes first.
 #[derive(Clone, Copy, Debug, PartialEq, Eq)]
 pub enum Order {
-    /// The highest.
+    /// The most significant.
     Big,
-    /// The lowest.
+    /// The least significant.
     Little,
 }
 
 impl Order {
-    /// The number of the first two octets.
+    /// The number in the first two octets.
     pub(crate) fn word(self, octets: &[u8]) -> u16
         requires { 2 ≤ length octets.now }
         ensures { result ≡ number_of self 2 octets.now }
@@ -25,7 +25,7 @@ impl Order {
         }
     }
 
-    /// The number of the first four octets.
+    /// The number in the first four octets.
     pub(crate) fn long(self, octets: &[u8]) -> u32
         requires { 4 ≤ length octets.now }
         ensures { result ≡ number_of self 4 octets.now }

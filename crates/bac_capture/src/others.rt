@@ -1,4 +1,4 @@
-//! BVLLs of other functions than Original-Unicast-NPDU: how many of each are told, by name.
+//! Counts of BVLLs with functions other than Original-Unicast-NPDU, printed by name.
 ghost use Rattle.std.specs.Prelude.{◌≡◌, ◌<◌, OnOk};
 ghost use Rattle.std.specs.Io.KnownBytes.{Appends};
 ghost use Rattle.bac_capture.specs.Bvlc.{function_of};
@@ -9,10 +9,10 @@ use crate::{BvlcFunction, OtherBvll};
 use std::io;
 use std::io::Write;
 
-/// How many kinds are counted apart: the functions over IPv4 by their numbers, and all over IPv6 together.
+/// How many kinds are counted separately: the functions over IPv4 by number, and all over IPv6 together.
 pub(crate) const OTHERS: usize = 14;
 
-/// The place of a kind among the counts.
+/// The index of the count of a kind.
 pub(crate) fn place_of(other: OtherBvll) -> usize
     ensures place { result ≡ place_of other }
     ensures within { result < OTHERS }
@@ -32,7 +32,7 @@ fn name_in(function: Option<BvlcFunction>) -> &'static str
     }
 }
 
-/// Prints how many BVLLs there are of the kind at that place, where there are some.
+/// Prints the count of BVLLs of the kind with this index, unless it is 0.
 fn print_other<W: Write>(place: u8, count: u64, out: &mut W) -> io::Result<()>
     ensures { OnOk result (Appends (W.contents out.old) (W.contents out.new) (other_text place count)) }
 {
@@ -43,7 +43,7 @@ fn print_other<W: Write>(place: u8, count: u64, out: &mut W) -> io::Result<()>
     writeln!(out, "other {name}={count}")
 }
 
-/// Prints how many BVLLs there are of each kind that occurred.
+/// Prints the counts of all kinds that occurred.
 fn print_others<W: Write>(others: [u64; OTHERS], out: &mut W) -> io::Result<()>
     ensures { OnOk result (Appends (W.contents out.old) (W.contents out.new) (others_text OTHERS others)) }
 {
@@ -53,7 +53,7 @@ fn print_others<W: Write>(others: [u64; OTHERS], out: &mut W) -> io::Result<()>
     Ok(())
 }
 
-/// The same where they are asked for by name.
+/// Prints the counts of all kinds that occurred, if requested.
 pub(crate) fn print_named<W: Write>(
     named: bool,
     others: [u64; OTHERS],

@@ -1,4 +1,4 @@
-//! What stands in a frame, layer by layer.
+//! The layers of a frame.
 
 /// One end of a datagram.
 #[derive(Clone, Copy, Debug)]
@@ -27,7 +27,7 @@ pub(crate) enum Network {
     Ipv6,
 }
 
-/// Which part of an IP packet a frame has.
+/// Which part of an IP packet a frame contains.
 #[derive(Clone, Copy, Debug, PartialEq, Eq)]
 pub(crate) enum Part {
     Whole,
@@ -37,12 +37,12 @@ pub(crate) enum Part {
     Later,
 }
 
-/// An IP packet of UDP.
+/// An IP packet that contains UDP.
 #[derive(Clone, Copy, Debug)]
 pub(crate) struct Packet<'a> {
     pub from: &'a [u8],
     pub to: &'a [u8],
     pub part: Part,
-    /// What stands after the headers of IP.
+    /// What follows the headers of IP.
     pub contents: &'a [u8],
 }

@@ -1,17 +1,15 @@
-//! A datagram as a packet of IPv4 and UDP.
+//! Writing a datagram as a packet of IPv4 and UDP.
 ghost use Rattle.std.specs.Prelude.{◌≡◌, ◌≤◌, length, IfOk};
 ghost use Rattle.bac_capture.specs.PacketsWritten.{address_of, ipv4_head, packet, summed_head, udp_head};
 
 use crate::sum::checksum;
 use std::alloc::{AllocError, Global};
 
-/// The address of a node: 10.0.0.N for node N, as far as 24 bits go.
+/// The address of a node: 10.0.0.N for node N, where N is taken modulo 2^24.
 fn address_of(node: u64) -> [u8; 4]
     ensures { result ≡ address_of node }
 {
-    let high = (node / 65_536 % 256) as u8;
-    let middle = (node / 256 % 256) as u8;
-    let low = (node % 256) as u8;
+    let [_, _, _, _, _, high, middle, low] = node.to_be_bytes();
     [10, high, middle, low]
 }
 

@@ -2,20 +2,20 @@
 ghost use Rattle.std.specs.Prelude.{◌≡◌};
 ghost use Rattle.bac_capture.specs.Ports.{is_port};
 
-/// The first of the sixteen ports of BACnet/IP, BAC0 (clause J.1.2 has it as the default).
+/// The first of the sixteen ports of BACnet/IP, BAC0 (the default in clause J.1.2).
 pub(crate) const FIRST_PORT: u16 = 0xBAC0;
-/// The last of them, BACF.
+/// The last of the sixteen ports, BACF.
 pub(crate) const LAST_PORT: u16 = 0xBACF;
 
-/// Which UDP ports carry BACnet/IP: 47808 to 47823, and one more where one is given.
+/// The UDP ports that carry BACnet/IP: 47808 to 47823, and optionally one more.
 #[derive(Clone, Copy, Debug)]
 pub struct Ports {
-    /// A port beside the sixteen.
+    /// A port in addition to the sixteen.
     pub also: Option<u16>,
 }
 
 impl Ports {
-    /// Whether a port is one of them.
+    /// Whether a port is one of these.
     pub(crate) fn has(self, port: u16) -> bool
         ensures { result ≡ is_port self.also port }
     {

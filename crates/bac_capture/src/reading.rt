@@ -1,4 +1,4 @@
-//! The datagram in a frame.
+//! Reading the datagram in a frame.
 ghost use Rattle.std.specs.Option.{option_map};
 ghost use Rattle.bac_value.specs.Steps.{ReadsAll};
 ghost use Rattle.bac_capture.specs.Views.{packet_view, datagram_view};
@@ -12,7 +12,7 @@ use crate::packet::{Datagram, Network, Packet};
 use crate::ports::Ports;
 use crate::udp::read_udp;
 
-/// The packet of UDP of that version of IP; None of another protocol.
+/// Reads a UDP packet with this version of IP; None for all other protocols.
 fn network_packet(
     network: Option<Network>,
     octets: &[u8],
@@ -26,7 +26,7 @@ fn network_packet(
     }
 }
 
-/// The packet of UDP in a frame; None of another protocol.
+/// The UDP packet in a frame; None for all other protocols.
 #[tactic(auto, unfolding(crate::specs::Frames::packet_at))]
 fn packet(link: LinkKind, octets: &[u8]) -> Result<Option<Packet<'_>>, PacketFault>
     ensures { ReadsAll (option_map packet_view) result (packet_at link octets.now) }
@@ -35,12 +35,12 @@ fn packet(link: LinkKind, octets: &[u8]) -> Result<Option<Packet<'_>>, PacketFau
     network_packet(network, rest)
 }
 
-/// The datagram of BACnet/IP in a frame of that link layer: one of UDP over IPv4 or IPv6, with one of those ports at one end.
+/// The datagram of BACnet/IP in a frame with this link layer: UDP over IPv4 or IPv6, with one of these ports at one end.
 ///
-/// None where the frame carries something else. Of the first fragment of a packet the ports tell whether it is one: then, and of
-/// every later fragment of UDP, `Fragment` is answered, since its octets stand in several frames. `Truncated` where the frame
-/// ends before what its headers announce, so too where it was not captured whole; `IpHeader` and `UdpLength` where a header
-/// tells no packet. Checksums are not looked at, and octets after the packet are padding.
+/// Returns None if the frame carries something else. The ports decide this even for the first fragment of a packet; for that,
+/// and for every later fragment of UDP, `Fragment` is returned, since the datagram is spread over several frames. Returns
+/// `Truncated` if the frame ends before its headers say, for example if it was not captured whole, and `IpHeader` or `UdpLength`
+/// if a header is not valid. Checksums are not verified, and octets after the packet are padding.
 #[tactic(auto, unfolding(crate::specs::Frames::datagram_at))]
 pub fn read_frame(
     link: LinkKind,

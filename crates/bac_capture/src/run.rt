@@ -1,18 +1,18 @@
-//! Runs of octets from an input, in memory that does not grow with it.
+//! Reading runs of octets from an input, in bounded memory.
 ghost use Rattle.std.specs.Prelude.{◌≡◌, ◌≤◌, ◌++◌, take, length, IfOk, OnOk, IfSome};
 ghost use Rattle.bac_capture.specs.Runs.{RUN_LIMIT, IsPart, IsRun};
 
 use std::io;
 use std::io::{BufRead, ErrorKind};
 
-/// Most octets of a run that are kept: the longest packet of IP, 65,575, with what may stand in front of it in a block.
+/// How many octets of a run are kept: the longest IP packet, 65,575, and what can precede it in a block.
 pub(crate) const RUN_LIMIT: usize = 65_700;
 
 fn is_interrupted(error: &io::Error) -> bool {
     error.kind() == ErrorKind::Interrupted
 }
 
-/// Appends octets to what is kept of a run, up to the limit.
+/// Appends octets to the kept part of a run, up to the limit.
 fn keep(kept: &mut Vec<u8>, octets: &[u8]) -> io::Result<()>
     requires { length kept.old.items ≤ RUN_LIMIT }
     ensures { OnOk result (kept.new.items ≡ take RUN_LIMIT (kept.old.items ++ octets.now)) }
@@ -23,7 +23,7 @@ fn keep(kept: &mut Vec<u8>, octets: &[u8]) -> io::Result<()>
     Ok(())
 }
 
-/// Takes what the reader has at hand of so many octets, and answers how many that were; None where a signal came in between.
+/// Takes those of `count` octets that the reader has available, and returns their number; None if a signal interrupted the read.
 fn take_part<R: BufRead>(
     input: &mut R,
     count: usize,
@@ -50,7 +50,7 @@ fn take_part<R: BufRead>(
     Ok(Some(len))
 }
 
-/// Reads a run of so many octets, in the place of what `kept` has; whether the input had that many. Of a long run the front is
+/// Reads a run of this many octets into `kept`. Returns whether the input had that many. Of a long run the beginning is
 /// kept.
 pub fn read_run<R: BufRead>(input: &mut R, count: usize, kept: &mut Vec<u8>) -> io::Result<bool>
     ensures { IfOk result (IsRun (R.remaining input.old) (R.remaining input.new) count kept.new.items) }

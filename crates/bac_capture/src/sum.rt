@@ -1,8 +1,10 @@
-//! The checksum of a header of IPv4.
+//! The checksum of an IPv4 header.
 ghost use Rattle.std.specs.Prelude.{◌≡◌, ◌+◌, ◌*◌, ◌<◌, ◌≤◌, length, slice_index};
 ghost use Rattle.bac_capture.specs.Sums.{checksum, ones_sum, sum_from};
 
-/// A sum of two words, with the carry added at its end.
+use byteorder::{BigEndian, ByteOrder};
+
+/// The sum of two words in one's complement: the carry is added at the end.
 fn ones_sum(a: u32, b: u32) -> u32
     requires a { a ≤ 65535 }
     requires b { b ≤ 65535 }
@@ -19,10 +21,10 @@ fn word_at(octets: &[u8], place: usize) -> u32
     ensures is { result ≡ slice_index octets.now place * 256 + slice_index octets.now (place + 1) }
     ensures word { result ≤ 65535 }
 {
-    u32::from(octets[place]) * 256 + u32::from(octets[place + 1])
+    u32::from(BigEndian::read_u16(&octets[place..]))
 }
 
-/// The sum of the words of these octets.
+/// The sum of the words of these octets in one's complement.
 #[tactic(auto, using(crate::proofs::Words::word_more))]
 fn sum_of(octets: &[u8]) -> u32
     ensures is { result ≡ sum_from 0 octets.now }

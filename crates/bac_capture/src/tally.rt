@@ -1,4 +1,4 @@
-//! How many frames there are so far, and what they are.
+//! Counts of frames, by the result of checking them.
 ghost use Rattle.std.specs.Prelude.{◌≡◌, ◌≤◌, ◌+◌, ◌-◌, ◌^◌, ◌<◌, ◌↔◌, All, IsSome, IfSome};
 ghost use Rattle.bac_capture.specs.Counts.{good_in, bad_in, other_in, others_after, IsTallied};
 
@@ -6,14 +6,14 @@ use crate::check_fault::Verdict;
 use crate::others::{OTHERS, place_of};
 use bac_text::Status;
 
-/// The frames so far.
+/// Counts of the frames so far.
 #[derive(Clone, Copy)]
 pub(crate) struct Tally {
     pub frames: u64,
     pub good: u64,
     pub bad: u64,
     pub other: u64,
-    /// Those of another function, by its place.
+    /// Frames with other functions, by index.
     pub others: [u64; OTHERS],
     pub ghost counted: { good + bad + other ≤ frames },
     pub ghost few: { All (λ n. n ≤ frames) others },
@@ -28,7 +28,7 @@ impl Tally {
         others: [0; OTHERS],
     };
 
-    /// How many there are of each other function, with one more frame.
+    /// The counts of other functions, with one more frame.
     #[tactic(auto, using(crate::proofs::Few::few_with, crate::proofs::Few::few_more))]
     fn others_with(self, verdict: Verdict) -> [u64; OTHERS]
         requires { self.frames < 2 ^ 64 - 1 }
@@ -42,7 +42,7 @@ impl Tally {
         others
     }
 
-    /// The frames with one more; None exactly where their number does not fit.
+    /// The counts with one more frame; None exactly if the number of frames overflows.
     pub(crate) fn with(self, verdict: Verdict) -> Option<Tally>
         ensures some { IsSome result ↔ (self.frames < 2 ^ 64 - 1) }
         ensures frames { IfSome result (λ t. t.frames ≡ self.frames + 1) }

@@ -9,10 +9,10 @@ use crate::fields::{cut, word};
 use crate::packet::{Datagram, Endpoint, Packet, Part};
 use crate::ports::Ports;
 
-/// How many octets the header has.
+/// The length of the header in octets.
 const HEADER: u16 = 8;
 
-/// The octets of a datagram, after the ports: its length, the checksum, and then they.
+/// The octets of a datagram, after the ports: the UDP length, the checksum, and the octets.
 #[tactic(auto, unfolding(crate::specs::Udp::udp_body_at))]
 fn body(octets: &[u8]) -> Result<(&[u8], &[u8]), PacketFault>
     ensures { Reads (λ x. x.now) (λ r. r.now) octets.now result udp_body_at }
@@ -25,7 +25,7 @@ fn body(octets: &[u8]) -> Result<(&[u8], &[u8]), PacketFault>
     cut(rest, usize::from(length - HEADER))
 }
 
-/// The same where the packet is whole; of the first fragment of several the ports alone can be told.
+/// The octets of a datagram if the packet is whole; of the first fragment of several only the ports can be read.
 fn part_body(octets: &[u8], part: Part) -> Result<(&[u8], &[u8]), PacketFault>
     ensures { Reads (λ x. x.now) (λ r. r.now) octets.now result (udp_part_at part) }
 {
@@ -35,7 +35,7 @@ fn part_body(octets: &[u8], part: Part) -> Result<(&[u8], &[u8]), PacketFault>
     }
 }
 
-/// The datagram of a packet that is no later fragment, where one of its ports is among those.
+/// The datagram of a packet that is not a later fragment, if one of its ports is among these.
 #[tactic(auto, unfolding(crate::specs::Udp::udp_at))]
 fn datagram(packet: Packet<'_>, ports: Ports) -> Result<Option<Datagram<'_>>, PacketFault>
     ensures { ReadsAll (option_map datagram_view) result (udp_at ports.also (packet_view packet.entry)) }
@@ -59,7 +59,7 @@ fn datagram(packet: Packet<'_>, ports: Ports) -> Result<Option<Datagram<'_>>, Pa
     }))
 }
 
-/// The datagram of a packet of UDP, where one of its ports is among those.
+/// The datagram of a UDP packet, if one of its ports is among these.
 pub(crate) fn read_udp(
     packet: Packet<'_>,
     ports: Ports,

@@ -1,10 +1,10 @@
-//! A capture file, record by record and block by block.
+//! Passing over a capture file, record by record and block by block.
 ghost use Rattle.std.specs.Prelude.{◌≡◌, ℕ, List, Option, OnOk, IfOk, length};
 ghost use Rattle.bac_capture.specs.declared.fault.FileFault.{FileFault as File};
 ghost use Rattle.bac_capture.specs.BlockViews.{frame_view, layout_view, block_view};
 ghost use Rattle.bac_capture.specs.Blocks.{FrameView, block_at};
 ghost use Rattle.bac_capture.specs.Files.{head_len_of};
-ghost use Rattle.bac_capture.specs.Reports.{AreWalked, IsBroken, IsFileWalked, IsStep, IsTaken, IsTold, IsWholeTaken};
+ghost use Rattle.bac_capture.specs.Reports.{AreWalked, IsBroken, IsFileWalked, IsStep, IsTaken, IsPrinted, IsWholeTaken};
 
 use crate::error::CheckError;
 use crate::{Block, FileFault, Form, Frame, Layout, Order, Ports};
@@ -12,52 +12,52 @@ use std::alloc::Global;
 use std::io;
 use std::io::{BufRead, ErrorKind, Write};
 
-/// Who watches the frames of a capture file, and tells of them.
-pub trait Watch<W: Write> {
+/// Who watches the frames of a capture file, and prints what it finds.
+pub trait FrameVisitor<W: Write> {
     // What it keeps.
     ghost State: { Type 0 };
 
     ghost state: { Self → State };
 
-    // What it tells of a frame; there is a port beside the sixteen, or none.
-    ghost Sees: { (also : Option ℕ) → FrameView → State → (text : List ℕ) → State → Type 0 };
+    // What it prints of a frame; there is a port beside the sixteen, or none.
+    ghost Visits: { (also : Option ℕ) → FrameView → State → (text : List ℕ) → State → Type 0 };
 
-    // What it tells of a file that cannot be read on.
+    // What it prints of a file that cannot be read on.
     ghost Breaks: { File → State → (text : List ℕ) → State → Type 0 };
 
     /// It sees a frame.
-    fn see(&mut self, frame: Frame<'_>, ports: Ports, out: &mut W) -> Result<(), CheckError>
-        ensures { OnOk result (IsTold (Sees ports.also) (frame_view frame.entry) (W.contents out.old) (W.contents out.new) (state self.old) (state self.new)) };
+    fn visit_frame(&mut self, frame: Frame<'_>, ports: Ports, out: &mut W) -> Result<(), CheckError>
+        ensures { OnOk result (IsPrinted (Visits ports.also) (frame_view frame.entry) (W.contents out.old) (W.contents out.new) (state self.old) (state self.new)) };
 
     /// The file cannot be read on.
     fn break_off(&mut self, fault: FileFault, out: &mut W) -> Result<(), CheckError>
-        ensures { OnOk result (IsTold Breaks fault (W.contents out.old) (W.contents out.new) (state self.old) (state self.new)) };
+        ensures { OnOk result (IsPrinted Breaks fault (W.contents out.old) (W.contents out.new) (state self.old) (state self.new)) };
 }
 
-/// What became of the next record or block.
+/// The result of reading the next record or block.
 #[derive(Clone, Copy)]
 enum Step {
-    /// There is none: the file ends.
+    /// The file ends.
     Ended,
-    /// The file cannot be read on.
+    /// The file cannot be read further.
     Broken,
-    /// It was taken in.
+    /// A record or block was handled.
     Taken,
 }
 
-/// Takes in what a record or a block has: a frame is seen.
-fn take<W: Write, V: Watch<W>>(
+/// Handles the content of a record or block: the watcher sees a frame.
+fn take<W: Write, V: FrameVisitor<W>>(
     layout: &mut Layout,
     block: Block<'_>,
     ports: Ports,
-    watch: &mut V,
+    visitor: &mut V,
     out: &mut W,
 ) -> Result<(), CheckError>
-    ensures { OnOk result (IsTaken V.State (V.Sees ports.also) (layout_view layout.old) (layout_view layout.new) (block_view block.entry)
-        (W.contents out.old) (W.contents out.new) (V.state watch.old) (V.state watch.new)) }
+    ensures { OnOk result (IsTaken V.State (V.Visits ports.also) (layout_view layout.old) (layout_view layout.new) (block_view block.entry)
+        (W.contents out.old) (W.contents out.new) (V.state visitor.old) (V.state visitor.new)) }
 {
     if let Block::Frame(frame) = block {
-        return watch.see(frame, ports, out);
+        return visitor.visit_frame(frame, ports, out);
     }
     match layout.take_in(block) {
         Ok(()) => Ok(()),
@@ -65,88 +65,88 @@ fn take<W: Write, V: Watch<W>>(
     }
 }
 
-/// Tells that the file cannot be read on.
-fn break_off<W: Write, V: Watch<W>>(
+/// Reports that the file cannot be read further.
+fn break_off<W: Write, V: FrameVisitor<W>>(
     fault: FileFault,
-    watch: &mut V,
+    visitor: &mut V,
     out: &mut W,
 ) -> Result<Step, CheckError>
-    ensures { IfOk result (IsBroken V.State V.Breaks fault (W.contents out.old) (W.contents out.new) (V.state watch.old) (V.state watch.new)) }
+    ensures { IfOk result (IsBroken V.State V.Breaks fault (W.contents out.old) (W.contents out.new) (V.state visitor.old) (V.state visitor.new)) }
 {
-    match watch.break_off(fault, out) {
+    match visitor.break_off(fault, out) {
         Ok(()) => Ok(Step::Broken),
         Err(error) => Err(error),
     }
 }
 
-/// Takes in a record or a block of that head and that body.
-fn take_whole<W: Write, V: Watch<W>>(
+/// Handles a record or a block with this head and this body.
+fn take_whole<W: Write, V: FrameVisitor<W>>(
     layout: &mut Layout,
     head: &[u8],
     body: &[u8],
     ports: Ports,
-    watch: &mut V,
+    visitor: &mut V,
     out: &mut W,
 ) -> Result<Step, CheckError>
     requires { length head.now ≡ head_len_of (layout_view layout.old).form }
-    ensures { IfOk result (IsWholeTaken V.State (V.Sees ports.also) V.Breaks (layout_view layout.old) (layout_view layout.new)
-        (block_at (layout_view layout.old) head.now body.now) (W.contents out.old) (W.contents out.new) (V.state watch.old) (V.state watch.new)) }
+    ensures { IfOk result (IsWholeTaken V.State (V.Visits ports.also) V.Breaks (layout_view layout.old) (layout_view layout.new)
+        (block_at (layout_view layout.old) head.now body.now) (W.contents out.old) (W.contents out.new) (V.state visitor.old) (V.state visitor.new)) }
 {
     let block = match layout.block(head, body) {
         Ok(block) => block,
-        Err(fault) => return break_off(fault, watch, out),
+        Err(fault) => return break_off(fault, visitor, out),
     };
-    match take(layout, block, ports, watch, out) {
+    match take(layout, block, ports, visitor, out) {
         Ok(()) => Ok(Step::Taken),
         Err(error) => Err(error),
     }
 }
 
-/// The memory for a record or a block, which serves each.
+/// The buffers for records and blocks, which are reused.
 #[derive(Drop)]
 struct Buffers {
     head: Vec<u8>,
     body: Vec<u8>,
 }
 
-/// Takes the next record or block.
-fn take_next<R: BufRead, W: Write, V: Watch<W>>(
+/// Reads and handles the next record or block.
+fn take_next<R: BufRead, W: Write, V: FrameVisitor<W>>(
     layout: &mut Layout,
     input: &mut R,
     buffers: &mut Buffers,
     ports: Ports,
-    watch: &mut V,
+    visitor: &mut V,
     out: &mut W,
 ) -> Result<Step, CheckError>
-    ensures { IfOk result (IsStep V.State (V.Sees ports.also) V.Breaks (layout_view layout.old) (layout_view layout.new)
-        (R.remaining input.old) (R.remaining input.new) (W.contents out.old) (W.contents out.new) (V.state watch.old) (V.state watch.new)) }
+    ensures { IfOk result (IsStep V.State (V.Visits ports.also) V.Breaks (layout_view layout.old) (layout_view layout.new)
+        (R.remaining input.old) (R.remaining input.new) (W.contents out.old) (W.contents out.new) (V.state visitor.old) (V.state visitor.new)) }
 {
     match layout.read(input, &mut buffers.head, &mut buffers.body) {
-        Ok(Ok(true)) => take_whole(layout, &buffers.head, &buffers.body, ports, watch, out),
+        Ok(Ok(true)) => take_whole(layout, &buffers.head, &buffers.body, ports, visitor, out),
         Ok(Ok(false)) => Ok(Step::Ended),
-        Ok(Err(fault)) => break_off(fault, watch, out),
+        Ok(Err(fault)) => break_off(fault, visitor, out),
         Err(error) => Err(CheckError::Input(error)),
     }
 }
 
-/// Takes the records or blocks that are left.
-fn walk_records<R: BufRead, W: Write, V: Watch<W>>(
+/// Reads and handles the remaining records or blocks.
+fn walk_records<R: BufRead, W: Write, V: FrameVisitor<W>>(
     alloc: Global,
     layout: &mut Layout,
     input: &mut R,
     ports: Ports,
-    watch: &mut V,
+    visitor: &mut V,
     out: &mut W,
 ) -> Result<(), CheckError>
-    ensures { OnOk result (AreWalked V.State (V.Sees ports.also) V.Breaks (layout_view layout.old) (R.remaining input.old)
-        (W.contents out.old) (W.contents out.new) (V.state watch.old) (V.state watch.new)) }
+    ensures { OnOk result (AreWalked V.State (V.Visits ports.also) V.Breaks (layout_view layout.old) (R.remaining input.old)
+        (W.contents out.old) (W.contents out.new) (V.state visitor.old) (V.state visitor.new)) }
 {
     let mut buffers = Buffers {
         head: Vec::new(alloc),
         body: Vec::new(alloc),
     };
     for _ in 0..u64::MAX {
-        match take_next(layout, input, &mut buffers, ports, watch, out)? {
+        match take_next(layout, input, &mut buffers, ports, visitor, out)? {
             Step::Ended => return Ok(()),
             Step::Broken => return Ok(()),
             Step::Taken => {}
@@ -155,23 +155,23 @@ fn walk_records<R: BufRead, W: Write, V: Watch<W>>(
     Err(CheckError::Input(io::Error::from(ErrorKind::TimedOut)))
 }
 
-/// Takes a file of that form and byte order, as its first four octets tell them, record by record and block by block: each frame is
-/// seen, in the order of the file, up to its end or to where it cannot be read on. Memory does not grow with the file.
-pub fn walk_file<R: BufRead, W: Write, V: Watch<W>>(
+/// Passes over a capture file of this form and byte order, as its first four octets determine: the watcher sees each frame in the order
+/// of the file, up to its end or to where it cannot be read further. Memory does not grow with the file.
+pub fn walk_file<R: BufRead, W: Write, V: FrameVisitor<W>>(
     alloc: Global,
     form: Form,
     order: Order,
     input: &mut R,
     ports: Ports,
-    watch: &mut V,
+    visitor: &mut V,
     out: &mut W,
 ) -> Result<(), CheckError>
-    ensures { OnOk result (IsFileWalked V.State (V.Sees ports.also) V.Breaks form order (R.remaining input.old)
-        (W.contents out.old) (W.contents out.new) (V.state watch.old) (V.state watch.new)) }
+    ensures { OnOk result (IsFileWalked V.State (V.Visits ports.also) V.Breaks form order (R.remaining input.old)
+        (W.contents out.old) (W.contents out.new) (V.state visitor.old) (V.state visitor.new)) }
 {
     match Layout::begin(alloc, form, order, input) {
-        Ok(Ok(mut layout)) => walk_records(alloc, &mut layout, input, ports, watch, out),
-        Ok(Err(fault)) => watch.break_off(fault, out),
+        Ok(Ok(mut layout)) => walk_records(alloc, &mut layout, input, ports, visitor, out),
+        Ok(Err(fault)) => visitor.break_off(fault, out),
         Err(error) => Err(CheckError::Input(error)),
     }
 }

@@ -1,8 +1,9 @@
-//! Plays rows of text from standard input and prints what comes of each: frames of each link layer, capture files, and the datagrams of transactions.
+//! Plays rows of text from standard input and prints the result of each: frames of each link layer, capture files, the datagrams of transactions, and what
+//! `explain` says of made-up worlds.
 //!
-//! The files stdin and stdout beside src/ are the rows and what has to be printed, which was worked out by hand from the RFCs, from the descriptions of the
-//! file formats, and from the rules of transactions. A row begins with `=`, what plays it and its title. What is complained of stands behind `! `, and the
-//! status where it is not 0. A row that says nothing prints `?`, which no row may.
+//! The file stdin beside src/ holds the rows, and stdout what the program has to print, which was worked out by hand from the RFCs, from the descriptions of the
+//! file formats, and from the rules of transactions. A row begins with `=`, what plays it, and its title. What goes to standard error is printed after `! `, and
+//! the exit status where it is not 0. The program prints `?` for a row that has no meaning: stdin has no such row.
 #![tactic(auto)]
 
 mod failing;
@@ -12,6 +13,7 @@ mod rows;
 mod seen;
 mod transactions;
 mod words;
+mod worlds;
 
 use std::io;
 use std::io::{Read, Write};

@@ -1,7 +1,7 @@
 //! Rows one after the other.
 use crate::printing::{Print, print_end_of_chart, print_octets, print_seen};
 use crate::words::first;
-use crate::{failing, frames, transactions};
+use crate::{failing, frames, transactions, worlds};
 use bac_explain_report::Form;
 use std::alloc::Global;
 use std::io;
@@ -12,6 +12,8 @@ use std::io::Write;
 enum Kind {
     Frames,
     Transaction,
+    /// Worlds that are made up from numbers.
+    Worlds,
     /// A capture file of datagrams that are seen.
     Seen(Print),
     /// A capture file in hexadecimal digits.
@@ -26,6 +28,7 @@ enum Kind {
 const KINDS: &[(&str, Kind)] = &[
     ("frames", Kind::Frames),
     ("transaction", Kind::Transaction),
+    ("worlds", Kind::Worlds),
     ("explain", Kind::Seen(Print::Explain)),
     ("chart", Kind::Seen(Print::Chart(Form::Chart))),
     ("mermaid", Kind::Seen(Print::Chart(Form::Mermaid))),
@@ -53,6 +56,7 @@ fn play_lines(alloc: Global, kind: Kind, lines: &str, out: &mut Vec<u8>) -> Opti
     match kind {
         Kind::Frames => frames::play(alloc, lines, out),
         Kind::Transaction => transactions::play(alloc, lines, out),
+        Kind::Worlds => worlds::play(alloc, lines, out),
         Kind::Seen(print) => print_seen(alloc, print, lines, out),
         Kind::File(print) => print_octets(alloc, print, lines, out),
         Kind::End => print_end_of_chart(alloc, lines, out),

@@ -12,7 +12,7 @@ pub(crate) struct Seen {
     pub(crate) datagram: Vec<u8>,
 }
 
-/// The address of the host of a number, at port 47,808, or where a colon stands behind it, the next one.
+/// The address of the host of a number, at port 47,808, or where a colon follows, at the next port.
 fn host(word: &str) -> Option<[u8; 6]> {
     let (number, port) = match word.strip_suffix(':') {
         Some(number) => (number, 0xC1),

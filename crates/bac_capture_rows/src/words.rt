@@ -2,7 +2,7 @@
 use bac_rows::script::plain;
 use std::alloc::Global;
 
-/// The first word of a text, and what stands behind it.
+/// The first word of a text, and what follows it.
 pub(crate) fn first(text: &str) -> (&str, &str) {
     text.split_once(' ').unwrap_or((text, ""))
 }

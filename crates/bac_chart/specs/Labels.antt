@@ -1,76 +1,42 @@
 -- What a datagram is, in short.
-use Rattle.std.specs.Prelude.{ℕ, zero, suc, ℤ, pos, negsuc, Bool, true, false, if◌then◌else◌, List, [], ◌++◌, codes, decimal, Option, Some, None, Result, Ok, Err}
-use Rattle.std.specs.Fmt.{signed_decimal}
-use Rattle.hex.specs.Hex.{encode_upper}
-use Rattle.bac_apdu.specs.Apdu.{Apdu, ConfirmedRequest, UnconfirmedRequest, SimpleAck, ComplexAck, SegmentAck, Error, Reject, Abort}
+use Rattle.std.specs.Prelude.{ℕ, Bool, true, false, List, ◌++◌, codes, decimal, Option, Some, None, Result, Ok, Err}
+use Rattle.bac_apdu.specs.Apdu.{Apdu, Segment, ConfirmedRequest, UnconfirmedRequest, SimpleAck, ComplexAck, SegmentAck, Error, Reject, Abort}
 use Rattle.bac_apdu.specs.Reading.{apdu_at}
 use Rattle.bac_apdu.specs.declared.fault.ApduFault.{ApduFault}
 use Rattle.bac_npdu.specs.Npdu.{NpduView, MessageView}
 use Rattle.bac_npdu.specs.Reading.{bvll_at, npdu_at}
 use Rattle.bac_npdu.specs.declared.fault.FrameFault.{FrameFault}
 use Rattle.bac_service.specs.Services.{request_at}
-use Rattle.bac_service.specs.Values.{Reference, Request}
-use Rattle.bac_service.specs.Values.WriteAccess.{WriteStream, WriteRecords}
-use Rattle.bac_service.specs.Values.Request.{ReadFile, WriteFile, ReadProperty, WriteProperty}
-use Rattle.bac_value.specs.Value.{ObjectId}
-use Rattle.bac_value_text.specs.Reasons.{abort_text, error_text, reject_text}
-use Rattle.bac_value_text.specs.Texts.{object_text, property_text}
-
--- ---- requests, as `bac ask` takes them, without values
-
--- an element of an array
-abbrev pub index_words : Option ℕ → List ℕ
-index_words None = []
-index_words (Some index) = codes "[" ++ (decimal index ++ codes "]")
-
-abbrev pub reference_words : Reference → List ℕ
-reference_words r = object_text r.object ++ (codes " " ++ (property_text r.property ++ index_words r.index))
-
-abbrev pub append_words : ObjectId → (octets : List ℕ) → List ℕ
-append_words file octets = codes "append " ++ (object_text file ++ (codes " " ++ encode_upper octets))
-
-abbrev pub put_words : ObjectId → ℤ → (octets : List ℕ) → List ℕ
-put_words file start octets =
-    codes "put " ++ (object_text file ++ (codes " " ++ (signed_decimal start ++ (codes " " ++ encode_upper octets))))
-
--- -1 is the end of a file (clause 14.2)
-abbrev pub is_end : ℤ → Bool
-is_end (pos n) = false
-is_end (negsuc zero) = true
-is_end (negsuc (suc n)) = false
-
-abbrev pub stream_words : ObjectId → ℤ → (octets : List ℕ) → List ℕ
-stream_words file start octets = if is_end start then append_words file octets else put_words file start octets
-
-abbrev pub request_words : Request → List ℕ
-request_words (ReadProperty r) = codes "read " ++ reference_words r
-request_words (WriteProperty r values priority) = codes "write " ++ reference_words r
-request_words (ReadFile file access) = codes "get " ++ object_text file
-request_words (WriteFile file (WriteStream start octets)) = stream_words file start octets
-request_words (WriteFile file (WriteRecords start count run)) = codes "put records " ++ object_text file
-
--- service data of no request of the four services
-abbrev pub service_words : Result Request ℕ → List ℕ
-service_words (Ok r) = request_words r
-service_words (Err reason) = codes "confirmed-request"
+use Rattle.bac_service_text.specs.Reasons.{abort_words, error_words}
+use Rattle.bac_service_text.specs.ServiceData.{found_request_label}
+use Rattle.bac_value_text.specs.Reasons.{reject_text}
 
 -- ---- APDUs
+
+abbrev pub request_words : Option Segment → (choice : ℕ) → (service : List ℕ) → List ℕ
+request_words None choice service = found_request_label (request_at choice service)
+request_words (Some s) choice service = codes "request segment " ++ decimal s.number
+
+abbrev pub complex_words : Option Segment → List ℕ
+complex_words None = codes "complex-ack"
+complex_words (Some s) = codes "reply segment " ++ decimal s.number
 
 abbrev pub segment_ack_words : (nak : Bool) → (number : ℕ) → List ℕ
 segment_ack_words false number = codes "segment-ack " ++ decimal number
 segment_ack_words true number = codes "negative segment-ack " ++ decimal number
 
+abbrev pub reject_words : (reason : ℕ) → List ℕ
+reject_words reason = codes "reject " ++ reject_text reason
+
 abbrev pub apdu_words : Apdu → List ℕ
-apdu_words (ConfirmedRequest limits invoke_id None choice service) = service_words (request_at choice service)
-apdu_words (ConfirmedRequest limits invoke_id (Some s) choice service) = codes "request segment " ++ decimal s.number
+apdu_words (ConfirmedRequest limits invoke_id segment choice service) = request_words segment choice service
 apdu_words (UnconfirmedRequest choice service) = codes "unconfirmed-request"
 apdu_words (SimpleAck invoke_id choice) = codes "simple-ack"
-apdu_words (ComplexAck invoke_id None choice service) = codes "complex-ack"
-apdu_words (ComplexAck invoke_id (Some s) choice service) = codes "reply segment " ++ decimal s.number
+apdu_words (ComplexAck invoke_id segment choice service) = complex_words segment
 apdu_words (SegmentAck server invoke_id k) = segment_ack_words k.nak k.number
-apdu_words (Error invoke_id choice class code) = codes "error " ++ error_text class code
-apdu_words (Reject invoke_id reason) = codes "reject " ++ reject_text reason
-apdu_words (Abort server invoke_id reason) = codes "abort " ++ abort_text reason
+apdu_words (Error invoke_id choice class code) = error_words class code
+apdu_words (Reject invoke_id reason) = reject_words reason
+apdu_words (Abort server invoke_id reason) = abort_words reason
 
 -- ---- datagrams
 

@@ -1,170 +1,63 @@
 //! What a datagram is, in short.
-ghost use Rattle.std.specs.Prelude.{◌≡◌, ◌++◌, false, codes, IfOk, string_bytes};
+ghost use Rattle.std.specs.Prelude.{◌≡◌, IfOk, string_bytes};
 ghost use Rattle.bac_apdu.specs.Reading.{apdu_at};
-ghost use Rattle.bac_apdu.specs.Spelling.{is_confirmed_request};
-ghost use Rattle.bac_apdu.specs.Views.{apdu_view};
-ghost use Rattle.bac_chart.specs.Labels.{append_words, apdu_words, contents_words, datagram_words, index_words, put_words, read_words, reference_words, request_words, segment_ack_words, service_words, stream_words};
+ghost use Rattle.bac_apdu.specs.Views.{apdu_view, segment_view};
+ghost use Rattle.bac_chart.specs.Labels.{apdu_words, complex_words, contents_words, datagram_words, read_words, reject_words, request_words, segment_ack_words};
 ghost use Rattle.bac_npdu.specs.Views.{npdu_view};
-ghost use Rattle.bac_service.specs.Services.{request_at};
-ghost use Rattle.bac_service.specs.Views.{property_reference_view, request_view};
-ghost use Rattle.bac_value.specs.Views.{object_identifier_view};
-ghost use Rattle.bac_value_text.specs.Reasons.{error_text};
-ghost use Rattle.bac_value_text.specs.Texts.{object_text};
+ghost use Rattle.std.specs.Option.{option_map};
 
-use bac_apdu::{Apdu, read};
+use bac_apdu::{Apdu, Segment, read};
 use bac_npdu::{Npdu, read_bvll, read_npdu};
-use bac_service::{
-    AnyRequest, Content, PropertyReference, Request, WriteAccess, WriteStream, read_request,
-};
-use bac_value::ObjectIdentifier;
-use bac_value_text::{abort_text, error_text, object_text, property_text, reject_text};
+use bac_service_text::{abort_words, error_words, request_data_label};
+use bac_value_text::reject_text;
 use std::alloc::{AllocError, Global};
 
-/// A word in front of an object.
-fn object_words(alloc: Global, word: &[u8], object: ObjectIdentifier) -> Result<Vec<u8>, AllocError>
-    ensures { IfOk result (λ t. t.items ≡ word.now ++ object_text (object_identifier_view object)) }
-{
-    let object = object_text(alloc, object)?;
-    let mut words = Vec::from_slice(alloc, word)?;
-    words.extend_from_slice(&object)?;
-    Ok(words)
-}
-
-/// The index of an element of an array, where there is one.
-fn index_words(alloc: Global, index: Option<u32>) -> Result<String, AllocError>
-    ensures { IfOk result (λ t. string_bytes t ≡ index_words index) }
-{
-    match index {
-        Some(index) => format!(in alloc; "[{index}]"),
-        None => Ok(String::new(alloc)),
-    }
-}
-
-/// A word in front of a property of an object, or of an element of it.
-fn property_words(
+/// A Confirmed-Request: what it asks for, or the number of the segment.
+fn request_words(
     alloc: Global,
-    word: &[u8],
-    reference: PropertyReference,
+    segment: Option<Segment>,
+    choice: u8,
+    service: &[u8],
 ) -> Result<Vec<u8>, AllocError>
-    ensures { IfOk result (λ t. t.items ≡ word.now ++ reference_words (property_reference_view reference)) }
+    ensures { IfOk result (λ t. t.items ≡ request_words (option_map segment_view segment) choice service.now) }
 {
-    let property = property_text(alloc, reference.property)?;
-    let index = index_words(alloc, reference.index)?;
-    let mut words = object_words(alloc, word, reference.object)?;
-    words.push(b' ')?;
-    words.extend_from_slice(property.as_bytes())?;
-    words.extend_from_slice(index.as_bytes())?;
-    Ok(words)
+    let Some(segment) = segment else {
+        return request_data_label(alloc, choice, service);
+    };
+    let number = segment.number;
+    let words = format!(in alloc; "request segment {number}")?;
+    Ok(words.into_bytes())
 }
 
-fn append_words(alloc: Global, file: ObjectIdentifier, octets: &[u8]) -> Result<Vec<u8>, AllocError>
-    ensures { IfOk result (λ t. t.items ≡ append_words (object_identifier_view file) octets.now) }
+/// A ComplexACK, or the number of the segment.
+fn complex_words(alloc: Global, segment: Option<Segment>) -> Result<Vec<u8>, AllocError>
+    ensures { IfOk result (λ t. t.items ≡ complex_words (option_map segment_view segment)) }
 {
-    let octets = hex::encode_upper(alloc, octets)?;
-    let mut words = object_words(alloc, b"append ", file)?;
-    words.push(b' ')?;
-    words.extend_from_slice(octets.as_bytes())?;
-    Ok(words)
+    let Some(segment) = segment else {
+        return Vec::from_slice(alloc, b"complex-ack");
+    };
+    let number = segment.number;
+    let words = format!(in alloc; "reply segment {number}")?;
+    Ok(words.into_bytes())
 }
 
-fn put_words(
-    alloc: Global,
-    file: ObjectIdentifier,
-    start: i64,
-    octets: &[u8],
-) -> Result<Vec<u8>, AllocError>
-    ensures { IfOk result (λ t. t.items ≡ put_words (object_identifier_view file) start octets.now) }
+fn segment_ack_words(alloc: Global, nak: bool, number: u8) -> Result<Vec<u8>, AllocError>
+    ensures { IfOk result (λ t. t.items ≡ segment_ack_words nak number) }
 {
-    let octets = hex::encode_upper(alloc, octets)?;
-    let place = format!(in alloc; " {start} {octets}")?;
-    let mut words = object_words(alloc, b"put ", file)?;
-    words.extend_from_slice(place.as_bytes())?;
-    Ok(words)
-}
-
-fn stream_words(
-    alloc: Global,
-    file: ObjectIdentifier,
-    stream: WriteStream<Content<'_>>,
-) -> Result<Vec<u8>, AllocError>
-    ensures { IfOk result (λ t. t.items ≡ stream_words (object_identifier_view file) stream.entry.start stream.entry.content.octets.now) }
-{
-    if stream.start == -1 {
-        append_words(alloc, file, stream.content.octets)
+    let words = if nak {
+        format!(in alloc; "negative segment-ack {number}")?
     } else {
-        put_words(alloc, file, stream.start, stream.content.octets)
-    }
+        format!(in alloc; "segment-ack {number}")?
+    };
+    Ok(words.into_bytes())
 }
 
-fn request_words(alloc: Global, request: Request<'_>) -> Result<Vec<u8>, AllocError>
-    ensures { IfOk result (λ t. t.items ≡ request_words (request_view request.entry)) }
+fn reject_words(alloc: Global, reason: u8) -> Result<Vec<u8>, AllocError>
+    ensures { IfOk result (λ t. t.items ≡ reject_words reason) }
 {
-    match request {
-        AnyRequest::ReadFile(read) => object_words(alloc, b"get ", read.file),
-        AnyRequest::WriteFile(write) => match write.access {
-            WriteAccess::Stream(stream) => stream_words(alloc, write.file, stream),
-            WriteAccess::Records(_) => object_words(alloc, b"put records ", write.file),
-        },
-        AnyRequest::ReadProperty(reference) => property_words(alloc, b"read ", reference),
-        AnyRequest::WriteProperty(write) => property_words(alloc, b"write ", write.reference),
-    }
-}
-
-/// What service data ask for.
-fn service_words(alloc: Global, choice: u8, service: &[u8]) -> Result<Vec<u8>, AllocError>
-    ensures { IfOk result (λ t. t.items ≡ service_words (request_at choice service.now)) }
-{
-    match read_request(choice, service) {
-        Ok(request) => request_words(alloc, request),
-        Err(_) => Vec::from_slice(alloc, b"confirmed-request"),
-    }
-}
-
-fn segment_ack_words(alloc: Global, nak: bool, number: u8) -> Result<String, AllocError>
-    ensures { IfOk result (λ t. string_bytes t ≡ segment_ack_words nak number) }
-{
-    if nak {
-        format!(in alloc; "negative segment-ack {number}")
-    } else {
-        format!(in alloc; "segment-ack {number}")
-    }
-}
-
-fn error_words(alloc: Global, class: u32, code: u32) -> Result<String, AllocError>
-    ensures { IfOk result (λ t. string_bytes t ≡ codes "error " ++ error_text class code) }
-{
-    let error = error_text(alloc, class, code)?;
-    format!(in alloc; "error {error}")
-}
-
-/// What an APDU other than a Confirmed-Request is.
-fn other_words(alloc: Global, apdu: Apdu<'_>) -> Result<String, AllocError>
-    requires { is_confirmed_request (apdu_view apdu) ≡ false }
-    ensures { IfOk result (λ t. string_bytes t ≡ apdu_words (apdu_view apdu.entry)) }
-{
-    match apdu {
-        Apdu::ConfirmedRequest { .. } => unreachable!(),
-        Apdu::UnconfirmedRequest { .. } => String::from_str(alloc, "unconfirmed-request"),
-        Apdu::SimpleAck { .. } => String::from_str(alloc, "simple-ack"),
-        Apdu::ComplexAck { segment: None, .. } => String::from_str(alloc, "complex-ack"),
-        Apdu::ComplexAck {
-            segment: Some(segment),
-            ..
-        } => {
-            let number = segment.number;
-            format!(in alloc; "reply segment {number}")
-        }
-        Apdu::SegmentAck { nak, number, .. } => segment_ack_words(alloc, nak, number),
-        Apdu::Error { class, code, .. } => error_words(alloc, class, code),
-        Apdu::Reject { reason, .. } => {
-            let reason = reject_text(alloc, reason)?;
-            format!(in alloc; "reject {reason}")
-        }
-        Apdu::Abort { reason, .. } => {
-            let reason = abort_text(alloc, reason)?;
-            format!(in alloc; "abort {reason}")
-        }
-    }
+    let reason = reject_text(alloc, reason)?;
+    let words = format!(in alloc; "reject {reason}")?;
+    Ok(words.into_bytes())
 }
 
 fn apdu_words(alloc: Global, apdu: Apdu<'_>) -> Result<Vec<u8>, AllocError>
@@ -172,23 +65,18 @@ fn apdu_words(alloc: Global, apdu: Apdu<'_>) -> Result<Vec<u8>, AllocError>
 {
     match apdu {
         Apdu::ConfirmedRequest {
-            segment: None,
+            segment,
             choice,
             service,
             ..
-        } => service_words(alloc, choice, service),
-        Apdu::ConfirmedRequest {
-            segment: Some(segment),
-            ..
-        } => {
-            let number = segment.number;
-            let words = format!(in alloc; "request segment {number}")?;
-            Ok(words.into_bytes())
-        }
-        other => {
-            let words = other_words(alloc, other)?;
-            Ok(words.into_bytes())
-        }
+        } => request_words(alloc, segment, choice, service),
+        Apdu::UnconfirmedRequest { .. } => Vec::from_slice(alloc, b"unconfirmed-request"),
+        Apdu::SimpleAck { .. } => Vec::from_slice(alloc, b"simple-ack"),
+        Apdu::ComplexAck { segment, .. } => complex_words(alloc, segment),
+        Apdu::SegmentAck { nak, number, .. } => segment_ack_words(alloc, nak, number),
+        Apdu::Error { class, code, .. } => error_words(alloc, class, code),
+        Apdu::Reject { reason, .. } => reject_words(alloc, reason),
+        Apdu::Abort { reason, .. } => abort_words(alloc, reason),
     }
 }
 

@@ -1,7 +1,7 @@
 //! Lines of what an end sends and compares.
 //!
-//! `datagram PEER HEX` is the datagram of an APDU; `abort REASON` that of an Abort, also as that of its APDU, and `ack SIDE NUMBER TAKEN STEP` what a segment
-//! is answered by; `size CODE` and `segments CODE COUNT` what fits; `keys PEER ID PEER ID` and `settings WINDOW WINDOW` compare; `id HEX` is an APDU's invoke ID.
+//! `datagram PEER HEX` prints the datagram of an APDU, `abort REASON` that of an Abort, and `ack SIDE NUMBER TAKEN STEP` what answers a segment. `size CODE` and
+//! `segments CODE COUNT` print what fits, `keys PEER ID PEER ID` and `settings WINDOW WINDOW` how two compare, and `id HEX` the invoke ID of an APDU.
 use crate::frames::peer_of;
 use crate::words::{first, number, octets_of, print_digits, print_octets, small};
 use bac_apdu::{Apdu, Limits, Window, apdu_len, read};

@@ -1,8 +1,8 @@
 //! Lines of APDUs and of frames.
 //!
-//! `apdu` reads an APDU, and writes it again; `bvll`, `npdu` and `datagram` read a frame, or a part of one, and `fronts` each front of a datagram with its own
-//! length; `frame PEER EXPECTING HEX` writes one behind an octet, `head` what stands in front of the APDU; `order` tells how peers compare. A peer is `near`
-//! or `NETWORK:HEX`.
+//! `apdu` reads an APDU and writes it again; `bvll`, `npdu` and `datagram` read a frame or a part of one, and `fronts` each prefix of a datagram with its own
+//! length. `frame PEER EXPECTING HEX` writes a frame after an octet, and `head` what comes before the APDU. `order` prints how peers compare. A peer is `near` or
+//! `NETWORK:HEX`.
 use crate::words::{first, number, octets_of, print_again, print_digits, print_octets};
 use bac_apdu::{Apdu, apdu_len, read, write};
 use bac_npdu::{

@@ -1,8 +1,8 @@
-//! Plays rows of text from standard input and prints what comes of each: octets and texts that are read and written again, words, segments, tables of slots,
+//! Plays rows of text from standard input and prints the result of each: octets and texts that are read and written again, words, segments, tables of slots,
 //! what an end answers, and stores.
 //!
-//! The files stdin and stdout beside src/ are the rows and what has to be printed. A row begins with `=`, what plays it and its title; its lines, of which each
-//! begins with a verb, are told again behind `> `, and below each what came of it. A line that says nothing prints `?`, which no row may.
+//! The file stdin beside src/ holds the rows, and stdout what the program has to print. A row begins with `=`, what plays it, and its title. Each of its lines
+//! begins with a verb; the program prints the line after `> `, and its result below. It prints `?` for a line that has no meaning: stdin has no such line.
 #![tactic(auto)]
 
 mod ends;

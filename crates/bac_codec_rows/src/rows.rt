@@ -5,7 +5,7 @@ use std::alloc::Global;
 use std::io;
 use std::io::Write;
 
-/// Whose the lines of a row are that leave nothing behind.
+/// What plays the lines of a row, where no line depends on those before it.
 #[derive(Clone, Copy)]
 enum Kind {
     Values,

@@ -1,13 +1,13 @@
-//! Lines of words: `words bac WORD..` tells the request of words or which is bad, `step` what a line of a script says, and `setting` what a first one sets.
+//! Lines of words: `words bac WORD..` prints the request of some words or which one is bad, `step` the meaning of a script's line, and `setting` that of a
+//! script's first line.
 use crate::words::print_octets;
-use bac_script::{
-    Ask, FormFault, Noise, Setting, Step, bad_word, read_request_words, read_setting, read_step,
-};
 use bac_service::{OwnedRequest, write_request};
+use bac_service_text::{FormFault, bad_word, read_request_words};
+use bac_simulate::{Ask, Noise, Setting, Step, read_setting, read_step};
 use std::alloc::Global;
 use std::io::Write;
 
-/// The words behind the program's name.
+/// The words after the program's name.
 fn words_of<'a>(alloc: Global, text: &'a str) -> Option<Vec<&'a [u8]>> {
     let mut words = Vec::new(alloc);
     for word in text.split(' ').skip(1) {

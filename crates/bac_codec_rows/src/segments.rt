@@ -1,9 +1,9 @@
 //! Rows of a transfer in segments, and of what its segments are kept in.
 //!
-//! `begin OCTETS SIZE` begins a transfer of octets that tell their places, in pieces of a size; `offer N` hands piece N to the receiver, `ack N` the sender a
-//! SegmentACK, `timeout` and `resume` are its calls, and `window` tells where it stands. `transfer OCTETS SIZE OWN OTHER` sends all windows in order.
-//! `receive COUNT HEX` is a receiver that has taken so many segments, `same COUNT HEX` compares it with another, and `more HEX` and `last HEX` are the next
-//! one. `rooms FIRST SECOND COUNT` keeps segments of two lengths by turns, and tells in how many vectors and in how much room.
+//! `begin OCTETS SIZE` begins a transfer in pieces of a size, of octets that name their places. `offer N` gives piece N to the receiver, `ack N` gives the sender
+//! a SegmentACK, `timeout` and `resume` are its calls, and `window` prints its window. `transfer OCTETS SIZE OWN OTHER` sends all windows in order.
+//! `receive COUNT HEX` makes a receiver that has taken so many segments, `same COUNT HEX` compares it with another one, and `more HEX` and `last HEX` are the next
+//! segment. `rooms FIRST SECOND COUNT` keeps segments of two lengths in turn, and prints in how many vectors and with how much room.
 ghost use Rattle.std.specs.Prelude.{◌≤◌, ◌<◌, length};
 
 use crate::words::{first, number, octets_of, small, spelled};
@@ -23,7 +23,7 @@ struct Both {
     receiver: Incoming,
 }
 
-/// A sender of octets that tell their places.
+/// A sender of octets that name their places.
 fn sender(alloc: Global, len: u64, size: usize) -> Option<Outgoing>
     requires { 1 ≤ size }
 {
@@ -34,7 +34,7 @@ fn sender(alloc: Global, len: u64, size: usize) -> Option<Outgoing>
     Some(Outgoing::new(octets, size))
 }
 
-/// The sender of `OCTETS SIZE`, and what stands behind it.
+/// The sender of `OCTETS SIZE`, and the words after it.
 fn sender_of(alloc: Global, words: &str) -> Option<(Outgoing, &str)> {
     let (len, words) = first(words);
     let (size, words) = first(words);

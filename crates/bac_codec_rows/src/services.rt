@@ -1,7 +1,7 @@
 //! Lines of service data: `request CHOICE HEX` and `reply CHOICE HEX`.
 //!
 //! They are read whole and in pieces, and written again, by themselves and by their copies. Up to 200 octets are cut in two at every place, and into pieces of
-//! every size with and without empty ones between; longer ones into pieces of 1,024 octets. It is told where pieces are read as something else than the whole.
+//! every size with and without empty ones between; longer ones into pieces of 1,024 octets. A line reports where pieces are read otherwise than the whole.
 ghost use Rattle.std.specs.Prelude.{◌<◌};
 
 use crate::pieces::{between_empty_ones, cut, pieces_of};

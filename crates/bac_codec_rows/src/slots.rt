@@ -1,7 +1,7 @@
-//! Rows of tables of slots: each line is a call of a table of either kind, which answer alike.
+//! Rows of tables of slots: each line is a call of a table of each kind, with equal results.
 //!
-//! `room N` makes both tables; a call is `VERB KEY VALUE`, where a place stands for a key. `compared KEY ..` tells how many keys the plain table compares, all
-//! told, and `chance COUNT` makes so many calls by chance.
+//! `room N` makes both tables. A call is `VERB KEY VALUE`, with a place for the key where the call takes one. `compared KEY ..` prints how many keys the plain
+//! table has compared in all, and `chance COUNT` makes so many generated calls.
 use crate::words::{first, number, small, spelled};
 use bac_slots::{Count, IndexSlots, PlainSlots, SlotTable};
 use std::alloc::Global;

@@ -1,8 +1,8 @@
-//! Rows of a store: at first the house.
+//! Rows of a store, the house store at first.
 //!
-//! `house`, `document TEXT`, `objects OBJECT ..` and `many COUNT` make another store, or tell why there is none; `copy` goes on with a copy, and `same` compares
-//! with the house, or with the store of a document. `ask CHOICE HEX` performs a request and tells the reply. `change OBJECT PROPERTY HEX` and `fill FILE HEX`
-//! are changes at the node. `find COUNT` looks so many objects up, and `faults` tells all faults of changes.
+//! `house`, `document TEXT`, `objects OBJECT ..` and `many COUNT` make another store, or print why there is none; `copy` continues with a copy, and `same` compares
+//! with the house, or with the store of a document. `ask CHOICE HEX` performs a request and prints the reply. `change OBJECT PROPERTY HEX` and `fill FILE HEX`
+//! are changes at the node. `find COUNT` looks up so many objects, and `faults` prints all faults of changes.
 use crate::objects::{bare, identifier, objects_of};
 use crate::words::{first, number, octets_of, print_octets, put, small, spelled};
 use bac_objects::read_objects;
@@ -46,7 +46,7 @@ struct Playing {
 }
 
 impl Playing {
-    /// Goes on with a store of these objects, or tells why there is none.
+    /// Continues with a store of these objects, or prints why there is none.
     fn make(&mut self, objects: Vec<Object>, out: &mut Vec<u8>) -> Option<()> {
         match Store::new(self.alloc, objects) {
             Ok(store) => {
@@ -91,7 +91,7 @@ impl Playing {
         writeln!(out, "same {same}").ok()
     }
 
-    /// Goes on with a copy.
+    /// Continues with a copy.
     fn copy(&mut self, out: &mut Vec<u8>) -> Option<()> {
         let Ok(copy) = self.store.copy(self.alloc) else {
             return None;
@@ -118,7 +118,7 @@ impl Playing {
         self.perform(small(choice)?, &octets, out)
     }
 
-    /// Makes a change, or tells why not, and whether the store is as it was.
+    /// Makes a change, or prints why not, and whether the store is as it was.
     fn make_change(&mut self, change: &Change, out: &mut Vec<u8>) -> Option<()> {
         let Ok(before) = self.store.copy(self.alloc) else {
             return None;
@@ -189,7 +189,7 @@ impl Playing {
         writeln!(out, "found {found}, the last {is_last}").ok()
     }
 
-    /// Goes on with the house.
+    /// Continues with the house.
     fn make_house(&mut self) -> Option<()> {
         let Ok(store) = house(self.alloc) else {
             return None;

@@ -1,4 +1,4 @@
-//! Lines of what `bac decode` and `bac check` print, what they complain of behind `! `, and the status where it is not 0.
+//! Lines of what `bac decode` and `bac check` print on standard output, on standard error after `! `, and their exit status where it is not 0.
 //!
 //! `decode` and `told` take a datagram, `lines` one on each line, `check` and `notes` a capture, without notes and with them; `wrapped` and `told-wrapped` take
 //! an NPDU and put it into its BVLL, and so does `longest`. `captured` reads a line of a capture.

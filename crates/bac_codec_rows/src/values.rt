@@ -1,12 +1,13 @@
 //! Lines of tags, elements, data and values.
 //!
-//! `tag`, `element` and `data` read octets and tell how many were read, or the number and the place of a fault, and `piece SIZE` reads an element in pieces;
-//! what is a value, or data, is written again. `print` prints the value of octets as text, and `value` reads the text of one.
+//! `tag`, `element` and `data` read octets and print how many were read, or the number and the place of a fault. `piece SIZE` reads an element in pieces of
+//! that size. Values and data that were read are written again. `member` reads an element under a context tag, prints the tag's number and the contents, and
+//! writes it again. `print` prints the value of octets as text, and `value` reads the text of one.
 use crate::pieces::{between_empty_ones, pieces_of};
 use crate::words::{first, number, octets_of, print_again, print_octets};
 use bac_value::{
-    Data, Fault, Octets, Parts, Value, copy_out, read_data, read_element, read_tag, take_element,
-    value_of, write_data, write_value,
+    Class, Data, Element, Fault, Form, Octets, Parts, Tag, Value, copy_out, read_data,
+    read_element, read_tag, take_element, value_of, write_data, write_tag, write_value,
 };
 use bac_value_text::{Separator, ValueFault, read_value, value_text};
 use std::alloc::Global;
@@ -33,7 +34,7 @@ fn spelling_of(alloc: Global, value: &Value) -> Option<Vec<u8>> {
     Some(out)
 }
 
-/// Writes a value again; nothing where an element is none.
+/// Writes the value of an element again, where it is one.
 fn write_again(
     alloc: Global,
     value: Option<Value>,
@@ -56,6 +57,34 @@ fn element(alloc: Global, octets: &[u8], out: &mut Vec<u8>) -> Option<()> {
                 octets.get(..len)?,
                 out,
             )
+        }
+        Err(fault) => print_fault(fault, out),
+    }
+}
+
+/// The spelling of contents under a context tag of that number.
+fn member_of(alloc: Global, number: u8, contents: &[u8]) -> Option<Vec<u8>> {
+    let len = u32::try_from(contents.len()).ok()?;
+    let tag = Tag::new(number, Class::Context, Form::Length(len))?;
+    let mut out = Vec::new(alloc);
+    write_tag(&tag, &mut out).ok()?;
+    out.extend_from_slice(contents).ok()?;
+    Some(out)
+}
+
+fn print_member(element: Element<&[u8]>, out: &mut Vec<u8>) -> Option<()> {
+    write!(out, "context {} contents ", element.tag.number).ok()?;
+    print_octets(element.contents, out)
+}
+
+/// Reads an element under a context tag, and writes it again.
+fn member(alloc: Global, octets: &[u8], out: &mut Vec<u8>) -> Option<()> {
+    match read_element(octets) {
+        Ok((element, len)) => {
+            print_length(len, out)?;
+            print_member(element, out)?;
+            let written = member_of(alloc, element.tag.number, element.contents)?;
+            print_again(&written, octets.get(..len)?, out)
         }
         Err(fault) => print_fault(fault, out),
     }
@@ -104,7 +133,7 @@ fn piece(alloc: Global, words: &str, out: &mut Vec<u8>) -> Option<()> {
     )
 }
 
-/// Reads a text and tells the octets of its value.
+/// Reads a text and prints the octets of its value.
 fn read_text(alloc: Global, separator: Separator, text: &[u8], out: &mut Vec<u8>) -> Option<()> {
     match read_value(alloc, separator, text) {
         Ok(value) => print_octets(&spelling_of(alloc, &value)?, out),
@@ -113,7 +142,7 @@ fn read_text(alloc: Global, separator: Separator, text: &[u8], out: &mut Vec<u8>
     }
 }
 
-/// Prints a value, and tells the octets of what is read from that text.
+/// Prints a value, and the octets of the value that is read from that text.
 fn print_and_read(
     alloc: Global,
     separator: Separator,
@@ -137,6 +166,7 @@ fn show_octets(alloc: Global, verb: &str, octets: &[u8], out: &mut Vec<u8>) -> O
     match verb.as_bytes() {
         b"tag" => tag(octets, out),
         b"element" => element(alloc, octets, out),
+        b"member" => member(alloc, octets, out),
         b"data" => data(alloc, octets, out),
         b"print" => print(alloc, octets, out),
         _ => None,

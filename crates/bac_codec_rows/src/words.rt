@@ -6,7 +6,7 @@ use std::alloc::Global;
 use std::fmt::Write as _;
 use std::io::Write;
 
-/// The first word of a text, and what stands behind it.
+/// The first word of a text, and what follows it.
 pub(crate) fn first(text: &str) -> (&str, &str) {
     text.split_once(' ').unwrap_or((text, ""))
 }
@@ -21,7 +21,7 @@ pub(crate) fn small(text: &str) -> Option<u8> {
     text.parse::<u8>().ok()
 }
 
-/// Puts an item behind the others; None where memory is refused.
+/// Appends an item; None where memory is refused.
 pub(crate) fn put<T: Drop>(items: &mut Vec<T>, item: T) -> Option<()> {
     match items.push(item) {
         Ok(()) => Some(()),

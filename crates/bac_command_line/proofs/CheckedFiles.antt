@@ -1,19 +1,19 @@
--- What was told of a buffered reader over a file that has read nothing yet was told of the file.
+-- What was printed of a buffered reader over a file that has read nothing yet was printed of the file.
 use Rattle.std.proofs.Common.{◌≡◌, ℕ, List, [], Option, None, Some, refl}
 use Rattle.std.specs.Io.KnownBytes.{prepend_known}
 use Rattle.bac_text.specs.declared.status.Status.{Status}
 use Rattle.bac_text.specs.declared.status.Status.TheVariants as status
-use Rattle.bac_command_line.specs.Files.{IsToldFile}
+use Rattle.bac_command_line.specs.Files.{IsPrintedFile}
 
 pub prepend_nothing : (known : Option (List ℕ)) → prepend_known [] known ≡ known
 prepend_nothing None = refl
 prepend_nothing (Some octets) = refl
 
 -- what was read of a file at the path is so
-pub told_file : (IsAt : (path : List ℕ) → (content : Option (List ℕ)) → Type 0) (path : List ℕ) (read : Option (List ℕ))
-    (Says : Option (List ℕ) → Type 0) (s : Status) → IsAt path read → Says read → IsToldFile IsAt path s Says
-told_file IsAt path read Says status.Done at told = record { content = read; at = at; says = told }
-told_file IsAt path read Says status.Faulty at told = record { content = read; at = at; says = told }
-told_file IsAt path read Says status.CommandLine at told = tt
-told_file IsAt path read Says status.Output at told = tt
-told_file IsAt path read Says status.Memory at told = tt
+pub printed_file : (IsAt : (path : List ℕ) → (content : Option (List ℕ)) → Type 0) (path : List ℕ) (read : Option (List ℕ))
+    (Says : Option (List ℕ) → Type 0) (s : Status) → IsAt path read → Says read → IsPrintedFile IsAt path s Says
+printed_file IsAt path read Says status.Done at told = record { content = read; at = at; says = told }
+printed_file IsAt path read Says status.Faulty at told = record { content = read; at = at; says = told }
+printed_file IsAt path read Says status.CommandLine at told = tt
+printed_file IsAt path read Says status.Output at told = tt
+printed_file IsAt path read Says status.Memory at told = tt

@@ -1,4 +1,4 @@
--- Asks of lines that have begun and are not yet told.
+-- Asks of lines that have begun and are not yet printed.
 use Rattle.std.proofs.Common.{◌≡◌, ◌⊎◌, ℕ, suc, ◌+◌, ◌<◌, ◌≤◌, max, ◌&&◌, Bool, true, false, List, [], ◌∷◌, ◌++◌, length, map, Option, Some, None}
 use Rattle.std.proofs.Common.{refl, ap, sym, subst, ◌∙◌, arith, add-one, inl, inr, slice_set}
 use Rattle.std.proofs.lemmas.List.{length-map, length-set}
@@ -8,7 +8,7 @@ use Rattle.bac_driver.specs.Runs.{Timed}
 use Rattle.bac_driver.specs.declared.wait_limit.WaitLimit.{WaitLimit}
 use Rattle.bac_driver.specs.declared.question.AskEnd.{AskEnd}
 use Rattle.bac_command_line.specs.AskedLines.{Numbered, line_view}
-use Rattle.bac_command_line.specs.InFlight.{Aloft, BeginsAsk, BeginsMore, EndsFirst, GoesOn, TakesFirst, TakesTurn, TellsEach, TellsLine, Waits}
+use Rattle.bac_command_line.specs.InFlight.{Aloft, BeginsAsk, BeginsMore, EndsFirst, GoesOn, TakesFirst, TakesTurn, PrintsEach, PrintsLine, Waits}
 use Rattle.bac_command_line.specs.InFlight.{all_noted, aloft, first_patience, has_ticket, noted, noted_at}
 use Rattle.bac_command_line.specs.declared.asking.Asking.{Asking}
 use Rattle.bac_command_line.specs.declared.flights.Flight.{Flight}
@@ -35,7 +35,7 @@ length_turned p old new takes =
 pub length_taken : (end : AskEnd) (old new : List Flight) → TakesFirst end old new → length new + 1 ≡ length old
 length_taken end old new takes = let e : length old ≡ suc (length new) = ap length takes.is in omega (arith, e)
 
--- where lines are left, one has begun and is not yet told
+-- where lines are left, one has begun and is not yet printed
 pub some_begun : (window count : ℕ) (rest : List LineQuestion) → (map line_view rest ≡ []) ⊎ (max window 1 ≤ count) → 0 < count + length rest → 0 < count
 some_begun window count rest (inl none) some =
     let e : length rest ≡ 0 = sym (length-map rest line_view) ∙ ap length none in omega (arith, e)
@@ -110,18 +110,18 @@ ran_out turns p end old waited stopped left most waits waiting over takes =
 
 -- ---- all lines
 
--- what is told from here on completes what is told of all
+-- what is printed from here on completes what is printed of all
 pub one_more_told : (asking : Asking) (window : ℕ) (untold others waiting rest : List Numbered) (line : Numbered) (so_far succeeded now more : Bool)
     (before begun ended : Aloft) (end : AskEnd) (after : Timed) (old between new : Option (List ℕ)) (Whole : Bool → Timed → Option (List ℕ) → Type 0)
     → untold ≡ line ∷ others → now ≡ so_far && succeeded → BeginsMore asking window waiting before rest begun → EndsFirst end begun ended
-    → TellsLine asking.output_format line end succeeded old between
-    → ((all : Bool) (last : Timed) (text : Option (List ℕ)) → TellsEach asking window untold waiting all before last old text → Whole (so_far && all) last text)
-    → TellsEach asking window others rest more ended after between new → Whole (now && more) after new
+    → PrintsLine asking.output_format line end succeeded old between
+    → ((all : Bool) (last : Timed) (text : Option (List ℕ)) → PrintsEach asking window untold waiting all before last old text → Whole (so_far && all) last text)
+    → PrintsEach asking window others rest more ended after between new → Whole (now && more) after new
 one_more_told asking window untold others waiting rest line so_far succeeded now more before begun ended end after old between new Whole is both begins ends
     tells whole left =
     subst (λ (b : Bool). Whole b after new) (both_and so_far succeeded more ∙ ap (λ (b : Bool). b && more) (sym both))
     (whole (succeeded && more) after new
-    (subst (λ (l : List Numbered). TellsEach asking window l waiting (succeeded && more) before after old new) (sym is)
+    (subst (λ (l : List Numbered). PrintsEach asking window l waiting (succeeded && more) before after old new) (sym is)
     (record {
       rest = rest;
       begun = begun;
@@ -137,12 +137,12 @@ one_more_told asking window untold others waiting rest line so_far succeeded now
       is = refl;
     })))
 
--- where no line is left, all are told
+-- where no line is left, all are printed
 pub all_told : (asking : Asking) (window : ℕ) (untold waiting : List Numbered) (so_far : Bool) (last : Aloft) (text : Option (List ℕ))
     (Whole : Bool → Timed → Option (List ℕ) → Type 0) → untold ≡ []
-    → ((all : Bool) (t : Timed) (o : Option (List ℕ)) → TellsEach asking window untold waiting all last t text o → Whole (so_far && all) t o)
+    → ((all : Bool) (t : Timed) (o : Option (List ℕ)) → PrintsEach asking window untold waiting all last t text o → Whole (so_far && all) t o)
     → Whole so_far last.at text
 all_told asking window untold waiting so_far last text Whole none whole =
     subst (λ (b : Bool). Whole b last.at text) (and_true so_far)
     (whole true last.at text
-    (subst (λ (l : List Numbered). TellsEach asking window l waiting true last last.at text text) (sym none) (refl, (refl, refl))))
+    (subst (λ (l : List Numbered). PrintsEach asking window l waiting true last last.at text text) (sym none) (refl, (refl, refl))))

@@ -12,7 +12,7 @@ pub and_true : (b : Bool) → b && true ≡ b
 and_true true = refl
 and_true false = refl
 
--- the round began at the moment that the clock told
+-- the round began at the moment that the clock printed
 pub round_begun : (Round : Doing) (from began : ℕ) (succeeded : Bool) (before rested after : Timed) (told : Told) (old new : Option (List ℕ))
     → Rests from before rested → told ≡ with_moment rested.told began → Round succeeded (timed rested.bound_node told) after old new
     → BeginsRound Round from began succeeded before after old new

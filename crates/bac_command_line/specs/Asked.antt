@@ -23,7 +23,7 @@ abbrev pub AsksAll : Asking → Asked → Doing
 AsksAll asking (asked.One q) = AsksOnce asking (question_view q)
 AsksAll asking (asked.Lines lines) = AsksLines asking (map line_view lines.items)
 
--- that was done; whether all succeeded is told by the status
+-- that was done; whether all succeeded is printed by the status
 abbrev pub ReportsDoing : Status → Doing → (before after : Timed) → (old new : Option (List ℕ)) → Type 0
 ReportsDoing s Does before after old new = ByStatus s (Does true before after old new) (Does false before after old new) ⊥
 
@@ -37,7 +37,7 @@ pub record AsksRead (IsOn : Links) (IsClock : Clocks) (asking : Asking) (all : B
   pub read : AreRead (peer_view asking.peer) (Some lines) content
   pub asks : ByClient IsOn IsClock asking (AsksLines asking lines) all old new
 
--- the status that tells why nothing is asked
+-- the status that says why nothing is asked
 abbrev pub status_of : Unasked → Status
 status_of (unasked.Unread s) = s
 status_of unasked.BadLine = status.CommandLine

@@ -2,7 +2,7 @@
 use Rattle.std.specs.Prelude.{◌≡◌, ℕ, ◌+◌, Bool, true, false, ◌==◌, List, [], ◌∷◌, ◌++◌, codes, decimal, Option, None, Some, IfSome}
 use Rattle.std.specs.Io.KnownBytes.{Appends}
 use Rattle.bac_npdu.specs.Peers.{PeerView}
-use Rattle.bac_script.specs.Requests.{request_of}
+use Rattle.bac_service_text.specs.Dispatch.{request_of}
 use Rattle.bac_text.specs.Lines.{LINE_END}
 use Rattle.bac_text.specs.Notes.{read_of}
 use Rattle.bac_driver.specs.Asking.{Question}

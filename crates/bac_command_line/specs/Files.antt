@@ -26,29 +26,29 @@ pub record OfFile (IsAt : (path : List ℕ) → (content : Option (List ℕ)) �
   pub says : Says content
 
 -- the same where the command ended with 0 or 1
-abbrev pub IsToldFile : (IsAt : (path : List ℕ) → (content : Option (List ℕ)) → Type 0) → (path : List ℕ) → Status → (Says : Option (List ℕ) → Type 0) → Type 0
-IsToldFile IsAt path s Says = ByStatus s (OfFile IsAt path Says) (OfFile IsAt path Says) ⊤
+abbrev pub IsPrintedFile : (IsAt : (path : List ℕ) → (content : Option (List ℕ)) → Type 0) → (path : List ℕ) → Status → (Says : Option (List ℕ) → Type 0) → Type 0
+IsPrintedFile IsAt path s Says = ByStatus s (OfFile IsAt path Says) (OfFile IsAt path Says) ⊤
 
 -- the capture in the file was checked to its end; there is a port beside those of BACnet/IP, or none, and other functions are counted by name or not
 abbrev pub IsCheckedFile : (IsAt : (path : List ℕ) → (content : Option (List ℕ)) → Type 0) → (named : Bool) → (path : List ℕ) → (also : Option ℕ) → Status
     → (old new : Option (List ℕ)) → Type 0
-IsCheckedFile IsAt named path also s old new = IsToldFile IsAt path s (λ content. IsReportOf also named content old new s)
+IsCheckedFile IsAt named path also s old new = IsPrintedFile IsAt path s (λ content. IsReportOf also named content old new s)
 
 -- the capture in the file was explained to its end
 abbrev pub IsExplainedFile : (IsAt : (path : List ℕ) → (content : Option (List ℕ)) → Type 0) → (path : List ℕ) → (also : Option ℕ) → Status
     → (old new : Option (List ℕ)) → Type 0
-IsExplainedFile IsAt path also s old new = IsToldFile IsAt path s (λ content. explained.IsReportOf also content old new s)
+IsExplainedFile IsAt path also s old new = IsPrintedFile IsAt path s (λ content. explained.IsReportOf also content old new s)
 
 -- the datagrams of the capture in the file were drawn to its end
 abbrev pub IsChartedFile : (IsAt : (path : List ℕ) → (content : Option (List ℕ)) → Type 0) → Form → (path : List ℕ) → (also : Option ℕ) → Status
     → (old new : Option (List ℕ)) → Type 0
-IsChartedFile IsAt form path also s old new = IsToldFile IsAt path s (λ content. charted.IsReportOf form also content old new s)
+IsChartedFile IsAt form path also s old new = IsPrintedFile IsAt path s (λ content. charted.IsReportOf form also content old new s)
 
 -- the events of the script in the file happened, all of them or up to the first that could not
 abbrev pub IsSimulatedFile : (IsAt : (path : List ℕ) → (content : Option (List ℕ)) → Type 0) → (notes : Bool) → (path : List ℕ) → Status → (old new : Option (List ℕ)) → Type 0
-IsSimulatedFile IsAt notes path s old new = IsToldFile IsAt path s (λ content. SimulatesAs notes content old new s)
+IsSimulatedFile IsAt notes path s old new = IsPrintedFile IsAt path s (λ content. SimulatesAs notes content old new s)
 
 -- so they did, and that was shown
 abbrev pub IsShownFile : (IsAt : (path : List ℕ) → (content : Option (List ℕ)) → Type 0) → View → (notes : Bool) → (path : List ℕ) → Status
     → (old new : Option (List ℕ)) → Type 0
-IsShownFile IsAt view notes path s old new = IsToldFile IsAt path s (λ content. ShowsAs view notes content old new s)
+IsShownFile IsAt view notes path s old new = IsPrintedFile IsAt path s (λ content. ShowsAs view notes content old new s)

@@ -49,7 +49,7 @@ pub record AreRoundsOf (given : ArgMatches) (rounds : Option Rounds) : Type 0 wh
   pub times_is : IsNumber given (codes "times") times
   pub are : rounds ≡ rounds_by every times
 
--- how it is told, how long it waits, and how often and how many at once it asks
+-- how it is printed, how long it waits, and how often and how many at once it asks
 pub record IsGiven (given : ArgMatches) (asking : Asking) : Type 0 where
   pub output_format : IsManner given asking.output_format
   pub timeout : IsNumber given (codes "timeout") asking.timeout

@@ -12,7 +12,7 @@ use Rattle.bac_driver.specs.declared.wait_limit.WaitLimit.{WaitLimit}
 use Rattle.bac_driver.specs.declared.question.AskEnd.{AskEnd}
 use Rattle.bac_driver.specs.declared.question.AskEnd.TheVariants as end
 use Rattle.bac_driver.specs.declared.turn.Turn.{Turn}
-use Rattle.bac_commands.specs.Told.{TellsEnd}
+use Rattle.bac_commands.specs.AskEnds.{PrintsEnd}
 use Rattle.bac_commands.specs.declared.online.output_format.OutputFormat.{OutputFormat}
 use Rattle.bac_command_line.specs.AskedLines.{AsksEach, Numbered, number_text}
 use Rattle.bac_command_line.specs.Asking.{patience_for}
@@ -34,7 +34,7 @@ abbrev pub IsBegun : (timeout : Option ℕ) → (start : ℕ) → Question → F
 IsBegun timeout start q (flight.Open ticket wait_limit) old new = (wait_limit ≡ patience_for timeout start) × run.Asks q old ticket new
 IsBegun timeout start q (flight.Over end) old new = IsRefused q end old new
 
--- an ask began, once the clock had told that moment
+-- an ask began, once the clock had printed that moment
 pub record BeginsAsk (asking : Asking) (q : Question) (f : Flight) (before after : Timed) : Type 0 where
   pub start : ℕ
   pub begun : IsBegun asking.timeout start q f (timed before.bound_node (with_moment before.told start)) after
@@ -53,9 +53,9 @@ abbrev pub end_of : Flight → AskEnd
 end_of (flight.Open ticket wait_limit) = end.NoEnding
 end_of (flight.Over end) = end
 
--- ---- those that have begun and are not yet told, in the order of their lines
+-- ---- those that have begun and are not yet printed, in the order of their lines
 
--- what the node has become, what the clock has told, and the asks that have begun and are not yet told
+-- what the node has become, what the clock has printed, and the asks that have begun and are not yet printed
 pub record Aloft : Type 0 where
   pub at : Timed
   pub flights : List Flight
@@ -87,7 +87,7 @@ pub record TakesFirst (end : AskEnd) (old new : List Flight) : Type 0 where
 
 -- ---- asks begin
 
--- the ask of a line began, where fewer than so many had begun and were not yet told, and then the others
+-- the ask of a line began, where fewer than so many had begun and were not yet printed, and then the others
 pub record BeginsFirst (asking : Asking) (window : ℕ) (line : Numbered) (Others : Aloft → Aloft → Type 0) (old new : Aloft) : Type 0 where
   pub room : length old.flights < max window 1
   pub flight : Flight
@@ -100,7 +100,7 @@ abbrev pub BeginsEach : Asking → (window : ℕ) → List Numbered → (old new
 BeginsEach asking window [] old new = new ≡ old
 BeginsEach asking window (line ∷ lines) old new = BeginsFirst asking window line (BeginsEach asking window lines) old new
 
--- asks of lines that wait began, in order, until none was left or so many had begun and were not yet told
+-- asks of lines that wait began, in order, until none was left or so many had begun and were not yet printed
 pub record BeginsMore (asking : Asking) (window : ℕ) (waiting : List Numbered) (old : Aloft) (rest : List Numbered) (new : Aloft) : Type 0 where
   pub begun : List Numbered
   pub are : waiting ≡ begun ++ rest
@@ -150,22 +150,22 @@ pub record EndsFirst (end : AskEnd) (old new : Aloft) : Type 0 where
   pub takes : TakesFirst end stopped.flights new.flights
   pub same : new.at ≡ stopped.at
 
--- ---- how it is told
+-- ---- how it is printed
 
--- how the ask of a line ended was told behind the line's number; whether it succeeded
-pub record TellsLine (output_format : OutputFormat) (line : Numbered) (end : AskEnd) (succeeded : Bool) (old new : Option (List ℕ)) : Type 0 where
+-- how the ask of a line ended was printed behind the line's number; whether it succeeded
+pub record PrintsLine (output_format : OutputFormat) (line : Numbered) (end : AskEnd) (succeeded : Bool) (old new : Option (List ℕ)) : Type 0 where
   pub between : Option (List ℕ)
   pub numbered : Appends old between (number_text line.number)
-  pub told : TellsEnd output_format line.question.request end succeeded between new
+  pub told : PrintsEnd output_format line.question.request end succeeded between new
 
 -- ---- all lines
 
--- what is left to be asked and told: by the lines that wait to be asked
-abbrev pub Telling : Type 1
-Telling = (waiting : List Numbered) → (all : Bool) → (before : Aloft) → (after : Timed) → (old new : Option (List ℕ)) → Type 0
+-- what is left to be asked and printed: by the lines that wait to be asked
+abbrev pub Printing : Type 1
+Printing = (waiting : List Numbered) → (all : Bool) → (before : Aloft) → (after : Timed) → (old new : Option (List ℕ)) → Type 0
 
--- as many asks as may began; the first that was not yet told, which is that of this line, ended and was told; and then the others
-pub record TellsNext (asking : Asking) (window : ℕ) (line : Numbered) (Others : Telling) (waiting : List Numbered) (all : Bool) (before : Aloft)
+-- as many asks as may began; the first that was not yet printed, which is that of this line, ended and was printed; and then the others
+pub record PrintsNext (asking : Asking) (window : ℕ) (line : Numbered) (Others : Printing) (waiting : List Numbered) (all : Bool) (before : Aloft)
     (after : Timed) (old new : Option (List ℕ)) : Type 0 where
   pub rest : List Numbered
   pub begun : Aloft
@@ -175,20 +175,20 @@ pub record TellsNext (asking : Asking) (window : ℕ) (line : Numbered) (Others 
   pub ends : EndsFirst end begun ended
   pub succeeded : Bool
   pub between : Option (List ℕ)
-  pub tells : TellsLine asking.output_format line end succeeded old between
+  pub tells : PrintsLine asking.output_format line end succeeded old between
   pub more : Bool
   pub others : Others rest more ended after between new
   pub is : all ≡ succeeded && more
 
--- by the lines that are still to be told
-abbrev pub TellsEach : Asking → (window : ℕ) → (untold : List Numbered) → Telling
-TellsEach asking window [] waiting all before after old new = DoesNothing all before.at after old new
-TellsEach asking window (line ∷ untold) waiting all before after old new =
-    TellsNext asking window line (TellsEach asking window untold) waiting all before after old new
+-- by the lines that are still to be printed
+abbrev pub PrintsEach : Asking → (window : ℕ) → (untold : List Numbered) → Printing
+PrintsEach asking window [] waiting all before after old new = DoesNothing all before.at after old new
+PrintsEach asking window (line ∷ untold) waiting all before after old new =
+    PrintsNext asking window line (PrintsEach asking window untold) waiting all before after old new
 
--- the requests of lines were asked by one node, so many at once, and told in order
+-- the requests of lines were asked by one node, so many at once, and printed in order
 abbrev pub AsksAhead : Asking → (window : ℕ) → List Numbered → Doing
-AsksAhead asking window lines all before after old new = TellsEach asking window lines lines all (aloft before []) after old new
+AsksAhead asking window lines all before after old new = PrintsEach asking window lines lines all (aloft before []) after old new
 
 -- so many at once as is wanted; without it one after the other
 abbrev pub AsksLinesBy : (window : Option ℕ) → Asking → List Numbered → Doing

@@ -5,14 +5,14 @@ use Rattle.bac_text.specs.Checked.{IsReportAs}
 use Rattle.bac_text.specs.DecodedLines.{AreDecoded}
 use Rattle.bac_text.specs.Outcome.{IsDecodedAs}
 use Rattle.bac_text.specs.declared.status.Status.{Status}
-use Rattle.bac_command_line.specs.Files.{IsToldFile}
+use Rattle.bac_command_line.specs.Files.{IsPrintedFile}
 
--- each line of the file was told
+-- each line of the file was printed
 abbrev pub AreDecodedLines : (IsAt : (path : List ℕ) → (content : Option (List ℕ)) → Type 0) → (in_words : Bool) → (path : List ℕ) → Status
     → (old new : Option (List ℕ)) → Type 0
-AreDecodedLines IsAt in_words path s old new = IsToldFile IsAt path s (λ content. AreDecoded in_words content old new s)
+AreDecodedLines IsAt in_words path s old new = IsPrintedFile IsAt path s (λ content. AreDecoded in_words content old new s)
 
--- the datagram was told, or where the text is that of standard input each line of it
+-- the datagram was printed, or where the text is that of standard input each line of it
 abbrev pub IsDecodedBy : (IsAt : (path : List ℕ) → (content : Option (List ℕ)) → Type 0) → (in_words is_input : Bool) → (text : List ℕ) → Status
     → (old new : Option (List ℕ)) → Type 0
 IsDecodedBy IsAt in_words true text s old new = AreDecodedLines IsAt in_words text s old new
@@ -24,4 +24,4 @@ IsDecodedFrom IsAt in_words text s old new = IsDecodedBy IsAt in_words (bytes_eq
 
 -- the capture of lines and notes in the file was checked to its end
 abbrev pub AreCheckedLines : (IsAt : (path : List ℕ) → (content : Option (List ℕ)) → Type 0) → (path : List ℕ) → Status → (old new : Option (List ℕ)) → Type 0
-AreCheckedLines IsAt path s old new = IsToldFile IsAt path s (λ content. IsReportAs true content old new s)
+AreCheckedLines IsAt path s old new = IsPrintedFile IsAt path s (λ content. IsReportAs true content old new s)

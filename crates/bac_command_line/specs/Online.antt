@@ -10,9 +10,9 @@ use Rattle.bac_node.specs.Fresh.{slots_fit}
 use Rattle.bac_npdu.specs.Peers.{PeerView}
 use Rattle.bac_npdu.specs.Views.{peer_view}
 use Rattle.bac_service.specs.Values.{Request}
-use Rattle.bac_script.specs.Requests.{request_of}
-use Rattle.bac_script.specs.declared.form_fault.FormFault.{FormFault}
-use Rattle.bac_script.specs.declared.form_fault.FormFault.TheVariants.{NoForm, NoMemory}
+use Rattle.bac_service_text.specs.Dispatch.{request_of}
+use Rattle.bac_service_text.specs.declared.form_fault.FormFault.{FormFault}
+use Rattle.bac_service_text.specs.declared.form_fault.FormFault.TheVariants.{NoForm, NoMemory}
 use Rattle.bac_store.specs.Stores.{Store}
 use Rattle.bac_text.specs.declared.status.Status.{Status}
 use Rattle.bac_driver.specs.Asking.{Question}
@@ -22,13 +22,13 @@ use Rattle.bac_driver.specs.BoundNodes.{BoundNode}
 use Rattle.bac_driver.specs.Views.{question_view}
 use Rattle.bac_driver.specs.declared.question.Question as code
 use Rattle.bac_world.specs.Node.{Node}
-use Rattle.bac_commands.specs.FileOctets.{reads_file}
+use Rattle.bac_service_text.specs.Dispatch.{reads_file}
 use Rattle.bac_commands.specs.Houses.{client_node, house_node, server_node}
 use Rattle.bac_commands.specs.Pairs.{TwoTexts}
 use Rattle.bac_commands.specs.Questions.{IsQuestion}
 use Rattle.bac_commands.specs.Reports.{ServedText}
 use Rattle.bac_commands.specs.Statuses.{ByStatus}
-use Rattle.bac_commands.specs.Told.{Asked}
+use Rattle.bac_commands.specs.AskEnds.{Asked}
 use Rattle.bac_commands.specs.declared.online.output_format.Style.{Style}
 use Rattle.bac_commands.specs.declared.online.output_format.Style.TheVariants as style
 use Rattle.bac_command_line.specs.Asking.{patience_for}
@@ -49,7 +49,7 @@ pub record OnPort {Link : Type 0} (IsBound : (host : Octets) → (port : ℕ) �
   pub failed : failures ≡ failures_of link
   pub made : calls ≡ calls_of link
 
--- a clock that the machine made, by what it has told
+-- a clock that the machine made, by what it has printed
 pub record OnClock {Timer : Type 0} (IsMade : Timer → Type 0) (told_by : Timer → Told) (told : Told) : Type 0 where
   pub timer : Timer
   pub made : IsMade timer
@@ -82,7 +82,7 @@ IsClientAt IsOn host first_id bound_node = IsAt IsOn host FREE (client_node firs
 
 -- ---- serving
 
--- a clock that was made told that moment
+-- a clock that was made printed that moment
 pub record HasTold (IsClock : Clocks) (moment : ℕ) (told : Told) : Type 0 where
   pub before : Told
   pub made : IsClock before
@@ -109,14 +109,14 @@ IsServedBy store IsOn IsClock s serving old new = ByStatus s (Serves store IsOn 
 -- ---- asking
 
 -- octets of a file are there only for a request that reads one
-abbrev pub is_told_by : Style → Request → Bool
-is_told_by style.Numbers r = true
-is_told_by style.Words r = true
-is_told_by style.Octets r = reads_file r
+abbrev pub is_printed_by : Style → Request → Bool
+is_printed_by style.Numbers r = true
+is_printed_by style.Words r = true
+is_printed_by style.Octets r = reads_file r
 
 abbrev pub is_request_for : Style → Option Request → Bool
 is_request_for style None = false
-is_request_for style (Some r) = is_told_by style r
+is_request_for style (Some r) = is_printed_by style r
 
 -- it is read, or there is a fault: the words are no such request, or memory was refused
 abbrev pub ReadsAsked : Style → PeerView → (words : List (List ℕ)) → Result code.Question FormFault → Type 0
@@ -124,7 +124,7 @@ ReadsAsked style peer words (Ok q) = IsQuestion peer words (question_view q)
 ReadsAsked style peer words (Err NoForm) = is_request_for style (request_of words) ≡ false
 ReadsAsked style peer words (Err NoMemory) = ⊤
 
--- a question was asked from a moment on that the clock told, and how that ended was told
+-- a question was asked from a moment on that the clock printed, and how that ended was printed
 pub record AsksOnce (asking : Asking) (q : Question) (succeeded : Bool) (before after : Timed) (old new : Option (List ℕ)) : Type 0 where
   pub start : ℕ
   pub asked :
@@ -145,7 +145,7 @@ pub record Asks (IsOn : Links) (IsClock : Clocks) (asking : Asking) (succeeded :
   pub is : IsQuestion (peer_view asking.peer) words question
   pub asks : ByClient IsOn IsClock asking (AsksOnce asking question) succeeded old new
 
--- the words are no request that can be told so, and nothing was printed
+-- the words are no request that can be printed so, and nothing was printed
 pub record IsNoRequest (asking : Asking) (words : List (List ℕ)) (old new : Option (List ℕ)) : Type 0 where
   pub none : is_request_for asking.output_format.style (request_of words) ≡ false
   pub keeps : Keeps old new

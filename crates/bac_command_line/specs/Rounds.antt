@@ -30,7 +30,7 @@ pub record Rests (moment : ℕ) (before after : Timed) : Type 0 where
   pub effects : ℕ
   pub serves : Serves (record { wait = MOST; until = Some moment }) MOST effects before after
 
--- it rested until that moment; then, at a moment that the clock told, the round began
+-- it rested until that moment; then, at a moment that the clock printed, the round began
 pub record BeginsRound (Round : Doing) (from began : ℕ) (all : Bool) (before after : Timed) (old new : Option (List ℕ)) : Type 0 where
   pub rested : Timed
   pub rests : Rests from before rested

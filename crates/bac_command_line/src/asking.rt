@@ -1,4 +1,4 @@
-//! Whom a node is to ask, how long it waits, how that is told, and how often.
+//! Whom a node is to ask, how long it waits, how the end is printed, and how often.
 ghost use Rattle.std.specs.Prelude.{◌≡◌, IfSome};
 ghost use Rattle.bac_command_line.specs.Asking.{patience_for};
 ghost use Rattle.bac_command_line.specs.Given.{AreRoundsOf, IsFlag, IsGiven, IsManner, IsNumber, rounds_by, style_by};
@@ -39,7 +39,7 @@ impl Rounds {
     }
 }
 
-/// Whom a node is to ask, how long it waits, and how that is told.
+/// Whom a node is to ask, how long it waits, and how the end is printed.
 #[derive(Clone, Copy, Debug)]
 pub(crate) struct Asking {
     /// The node that is asked.
@@ -48,13 +48,13 @@ pub(crate) struct Asking {
     pub host: [u8; 4],
     /// After so many seconds it waits no longer; None where it waits until the ask has ended.
     pub timeout: Option<u64>,
-    /// How it is told, and whether that is strict.
+    /// How it is printed, and whether that is strict.
     pub output_format: OutputFormat,
     /// Whether its progress is shown on standard error.
     pub shows_progress: bool,
     /// How often it asks the same; None where it asks once.
     pub rounds: Option<Rounds>,
-    /// So many asks of lines at most have begun and are not yet told; None where each is asked once the one before is told.
+    /// So many asks of lines at most have begun and are not yet printed; None where each is asked once the one before is printed.
     pub window: Option<u64>,
 }
 

@@ -71,7 +71,7 @@ pub(crate) fn ask_each<L: Link, C: Clock, O: Write, E: Write>(
 /// Why nothing is asked of the lines of a file.
 #[derive(Clone, Copy, Debug, PartialEq, Eq)]
 enum Unasked {
-    /// The file cannot be opened or read, or memory is refused, as the status tells.
+    /// The file cannot be opened or read, or memory is refused, as the status says.
     Unread(Status),
     /// The words of a line are no request.
     BadLine,
@@ -88,7 +88,7 @@ impl Unasked {
     }
 }
 
-/// What is in a file. Where it cannot be opened or read, `err` and the status tell it.
+/// What is in a file. Where it cannot be opened or read, `err` and the status say so.
 fn text_at<F: OpenFiles, E: Write>(
     alloc: Global,
     files: &F,
@@ -102,7 +102,7 @@ fn text_at<F: OpenFiles, E: Write>(
     octets_of(alloc, file, err)
 }
 
-/// What the lines of a file ask. Where it cannot be read, or a line is bad, `err` tells it.
+/// What the lines of a file ask. Where it cannot be read, or a line is bad, `err` says so.
 fn questions_at<F: OpenFiles, E: Write>(
     alloc: Global,
     files: &F,
@@ -126,7 +126,7 @@ fn questions_at<F: OpenFiles, E: Write>(
 }
 
 /// A client asks what the lines of a file ask, one after the other, in rounds where they are wanted; how each ask ended is printed behind the line's number.
-/// A file that cannot be opened or read: `cannot read` on `err`. Where words are no request, `err` tells the line and which is bad, and nothing is asked.
+/// A file that cannot be opened or read: `cannot read` on `err`. Where words are no request, `err` says the line and which is bad, and nothing is asked.
 pub(crate) fn ask_lines<F: OpenFiles, M: Machine, O: Write, E: Write>(
     alloc: Global,
     files: &F,

@@ -1,7 +1,7 @@
-//! What is told of words that are no request.
+//! What is printed of words that are no request.
 ghost use Rattle.bac_text.specs.Statuses.{IsStop};
 
-use bac_script::bad_word;
+use bac_service_text::bad_word;
 use bac_text::{Status, no_memory};
 use std::alloc::{AllocError, Global};
 use std::io::Write;
@@ -19,7 +19,7 @@ fn bad_words_text(alloc: Global, words: &[&[u8]]) -> Result<Vec<u8>, AllocError>
 
 /// Complains of words that are no request: `bad words`, and where the text is wanted in words which is bad and what was wanted. An Err says that memory
 /// was refused.
-pub(crate) fn tell_bad_words<E: Write>(
+pub(crate) fn print_bad_words<E: Write>(
     alloc: Global,
     in_words: bool,
     words: &[&str],
@@ -31,7 +31,7 @@ pub(crate) fn tell_bad_words<E: Write>(
             octets.push(word.as_bytes())?;
         }
         let text = bad_words_text(alloc, &octets)?;
-        // where even that fails, the status alone tells
+        // if that fails too, only the status is left
         let _ = err.write_all(&text);
     } else {
         let _ = err.writeln("bad words");
@@ -40,7 +40,7 @@ pub(crate) fn tell_bad_words<E: Write>(
 }
 
 /// Complains of the words of the line with that number, which are no request: which is bad and what was wanted.
-pub(crate) fn tell_bad_line<E: Write>(
+pub(crate) fn print_bad_line<E: Write>(
     alloc: Global,
     number: u64,
     words: &[&[u8]],
@@ -51,7 +51,7 @@ pub(crate) fn tell_bad_line<E: Write>(
     let Ok(text) = bad_words_text(alloc, words) else {
         return no_memory(err);
     };
-    // where even that fails, the status alone tells
+    // if that fails too, only the status is left
     let _ = write!(err, "line {number}: ");
     let _ = err.write_all(&text);
     Status::CommandLine

@@ -76,7 +76,7 @@ pub fn run<F: OpenFiles, M: Machine, O: Write, E: Write>(
         Ok(matches) => matches,
         Err(error) if error.kind() == ErrorKind::OutOfMemory => return no_memory(err),
         Err(error) => {
-            // where even that fails, the status alone tells
+            // if that fails too, only the status is left
             let _ = write!(err, "{error}");
             return Status::CommandLine;
         }

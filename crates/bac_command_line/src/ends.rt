@@ -1,8 +1,8 @@
-//! How the end of the ask of a line is told.
+//! How the end of the ask of a line is printed.
 ghost use Rattle.std.specs.Prelude.{IfErr, IfOk};
 ghost use Rattle.bac_text.specs.Statuses.{IsFailure};
 ghost use Rattle.bac_command_line.specs.AskedLines.{line_view};
-ghost use Rattle.bac_command_line.specs.InFlight.{TellsLine};
+ghost use Rattle.bac_command_line.specs.InFlight.{PrintsLine};
 
 use crate::question_lines::LineQuestion;
 use bac_commands::OutputFormat;
@@ -13,7 +13,7 @@ use std::io;
 use std::io::Write;
 
 /// The line's number, and behind it how the ask ended.
-fn tell_numbered<O: Write, E: Write>(
+fn print_numbered<O: Write, E: Write>(
     alloc: Global,
     output_format: OutputFormat,
     line: &LineQuestion,
@@ -21,15 +21,15 @@ fn tell_numbered<O: Write, E: Write>(
     out: &mut O,
     err: &mut E,
 ) -> io::Result<bool>
-    ensures { IfOk result (λ succeeded. TellsLine output_format (line_view line.now) end.now succeeded (O.contents out.old) (O.contents out.new)) }
+    ensures { IfOk result (λ succeeded. PrintsLine output_format (line_view line.now) end.now succeeded (O.contents out.old) (O.contents out.new)) }
 {
     let number = line.number;
     write!(out, "{number}: ")?;
-    bac_commands::tell_end(alloc, output_format, &line.question.request, end, out, err)
+    bac_commands::print_ask_end(alloc, output_format, &line.question.request, end, out, err)
 }
 
-/// Tells how the ask of a line ended, behind the line's number. Answers whether it succeeded.
-pub(crate) fn tell_line<O: Write, E: Write>(
+/// Prints how the ask of a line ended, behind the line's number. Answers whether it succeeded.
+pub(crate) fn print_line<O: Write, E: Write>(
     alloc: Global,
     output_format: OutputFormat,
     line: &LineQuestion,
@@ -37,10 +37,10 @@ pub(crate) fn tell_line<O: Write, E: Write>(
     out: &mut O,
     err: &mut E,
 ) -> Result<bool, Status>
-    ensures told { IfOk result (λ succeeded. TellsLine output_format (line_view line.now) end.now succeeded (O.contents out.old) (O.contents out.new)) }
+    ensures told { IfOk result (λ succeeded. PrintsLine output_format (line_view line.now) end.now succeeded (O.contents out.old) (O.contents out.new)) }
     ensures failed { IfErr result IsFailure }
 {
-    match tell_numbered(alloc, output_format, line, end, out, err) {
+    match print_numbered(alloc, output_format, line, end, out, err) {
         Ok(succeeded) => Ok(succeeded),
         Err(error) => Err(output_failed(err, &error)),
     }

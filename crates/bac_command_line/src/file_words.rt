@@ -32,7 +32,7 @@ fn file_in<'w, 'a>(words: &'w [&'a str]) -> Option<(&'w [&'a str], &'a str)>
     Some((front, path))
 }
 
-/// The octets of a file in hexadecimal. Where it cannot be read, `err` and the status tell it.
+/// The octets of a file in hexadecimal. Where it cannot be read, `err` and the status say so.
 fn digits_of<F: OpenFiles, E: Write>(
     alloc: Global,
     files: &F,

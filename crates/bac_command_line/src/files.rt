@@ -26,7 +26,7 @@ pub trait OpenFiles {
         ensures { IfOk result (λ f. Self.is_file path.now f) };
 }
 
-/// A file, opened for reading. Where it cannot be opened, `err` and the status tell it.
+/// A file, opened for reading. Where it cannot be opened, `err` and the status say so.
 pub(crate) fn opened<F: OpenFiles, E: Write>(
     files: &F,
     path: &str,
@@ -42,7 +42,7 @@ pub(crate) fn opened<F: OpenFiles, E: Write>(
     }
 }
 
-/// A file, opened for reading, with a buffer. Where it cannot be opened, or memory is refused, `err` and the status tell it.
+/// A file, opened for reading, with a buffer. Where it cannot be opened, or memory is refused, `err` and the status say so.
 pub(crate) fn reader_of<F: OpenFiles, E: Write>(
     alloc: Global,
     files: &F,

@@ -1,4 +1,4 @@
-//! The asks of a node that have begun and are not yet told.
+//! The asks of a node that have begun and are not yet printed.
 ghost use Rattle.std.specs.Prelude.{◌≡◌, ◌<◌, ◌+◌, ◌↔◌, ◌++◌, ◌∷◌, [], length, max, IfErr, IfOk, IsTrue};
 ghost use Rattle.std.specs.List.{position};
 ghost use Rattle.bac_text.specs.Statuses.{IsFailure};
@@ -73,7 +73,7 @@ impl Flights {
         (self.asks.len() as u64) < window.max(1)
     }
 
-    /// One more. Where memory is refused, `err` and the status tell it.
+    /// One more. Where memory is refused, `err` and the status say so.
     pub(crate) fn add<E: Write>(&mut self, flight: Flight, err: &mut E) -> Result<(), Status>
         ensures added { IfOk result (λ _. self.new.asks.items ≡ self.old.asks.items ++ flight ∷ []) }
         ensures failed { IfErr result IsFailure }

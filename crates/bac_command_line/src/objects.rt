@@ -20,7 +20,7 @@ use std::alloc::Global;
 use std::io;
 use std::io::{Read, Write};
 
-/// All octets of a file. Where it cannot be read, `err` and the status tell it.
+/// All octets of a file. Where it cannot be read, `err` and the status say so.
 pub(crate) fn octets_of<F: Read + Drop, E: Write>(
     alloc: Global,
     file: F,
@@ -38,7 +38,7 @@ pub(crate) fn octets_of<F: Read + Drop, E: Write>(
     }
 }
 
-/// The store that octets mean; where they mean none, `err` and the status tell why.
+/// The store that octets mean; where they mean none, `err` and the status say why.
 fn store_in<E: Write>(
     alloc: Global,
     path: &str,
@@ -52,7 +52,7 @@ fn store_in<E: Write>(
         Ok(store) => Ok(store),
         Err(DocumentFault::NoMemory) => Err(no_memory(err)),
         Err(fault) => {
-            // where even that fails, the status alone tells
+            // if that fails too, only the status is left
             let _ = writeln!(err, "{path}: {fault}");
             Err(Status::CommandLine)
         }
@@ -139,7 +139,7 @@ fn serve_house<M: Machine, O: Write, E: Write>(
     }
 }
 
-/// A node serves so. A file is told of as by [`answer`].
+/// A node serves so. A file is reported as by [`answer`].
 pub(crate) fn serve<F: OpenFiles, M: Machine, O: Write, E: Write>(
     alloc: Global,
     files: &F,

@@ -4,22 +4,20 @@ ghost use Rattle.bac_npdu.specs.Views.{peer_view};
 ghost use Rattle.bac_protocol.specs.Service.{Octets};
 ghost use Rattle.bac_commands.specs.Questions.{ReadsQuestion};
 ghost use Rattle.bac_text.specs.Statuses.{IsFailure};
-ghost use Rattle.bac_command_line.specs.Online.{AsksOnce, IsAsked, IsPair, IsServedBy, OnClock, OnPort, ReadsAsked, is_told_by};
+ghost use Rattle.bac_command_line.specs.Online.{AsksOnce, IsAsked, IsPair, IsServedBy, OnClock, OnPort, ReadsAsked, is_printed_by};
 ghost use Rattle.bac_driver.specs.Runs.{timed};
 ghost use Rattle.bac_driver.specs.Views.{question_view};
 
 use crate::address::LOCAL_HOST;
 use crate::asking::Asking;
-use crate::bad_words::tell_bad_words;
+use crate::bad_words::print_bad_words;
 use crate::rounds::{Asked, ask_by_client};
-use crate::serving::{Serving, serve_from, tell_listening, tell_not_bound};
-use bac_commands::{
-    Style, asks_for_file, bound_house, bound_server, clock_fault, link_fault, read_question,
-};
+use crate::serving::{Serving, print_listening, print_not_bound, serve_from};
+use bac_commands::{Style, bound_house, bound_server, clock_fault, link_fault, read_question};
 use bac_driver::{BoundNode, Clock, Link, Question};
 use bac_node::NewNodeFault;
 use bac_npdu::{LinkAddress, Peer};
-use bac_script::FormFault;
+use bac_service_text::{FormFault, reads_file};
 use bac_store::Store;
 use bac_text::{Status, complain, no_memory};
 use std::alloc::Global;
@@ -45,7 +43,7 @@ pub trait Machine {
     fn timer(&self) -> Option<Self::Timer>
         ensures { IfSome result Self.is_made };
 
-    /// The invoke ID at which a new client begins, one that differs from run to run where the machine can tell one; None where its clock can't be read.
+    /// The invoke ID at which a new client begins, one that differs from run to run where the machine has one; None where its clock can't be read.
     fn first_id(&self) -> Option<u8>;
 
     /// Whether standard error is a terminal, which shows the progress of an ask.
@@ -66,7 +64,7 @@ pub(crate) fn serve<M: Machine, O: Write, E: Write>(
 {
     let bound = match machine.bind(serving.host, serving.port) {
         Ok(bound) => bound,
-        Err(error) => return tell_not_bound(serving, &error, err),
+        Err(error) => return print_not_bound(serving, &error, err),
     };
     let Some(mut timer) = machine.timer() else {
         return clock_fault(err);
@@ -87,7 +85,7 @@ pub(crate) fn serve<M: Machine, O: Write, E: Write>(
         Err(NewNodeFault::BadSlots) => return complain(err, "bad slots", Status::CommandLine),
         Err(_) => return no_memory(err),
     };
-    tell_listening(serving, address, objects, start, err);
+    print_listening(serving, address, objects, start, err);
     serve_from(alloc, serving, start, &mut bound_node, &mut timer, out, err)
 }
 
@@ -104,30 +102,30 @@ fn question_in(alloc: Global, peer: Peer, words: &[&str]) -> Result<Question, Fo
     read_question(alloc, peer, &octets)
 }
 
-/// Whether a question can be told so: octets of a file are there only for one that asks for them.
-fn is_told_by(style: Style, question: &Question) -> bool
-    ensures { result ≡ is_told_by style (question_view question.now).request }
+/// Whether a question can be printed so: octets of a file are there only for one that asks for them.
+fn is_printed_by(style: Style, question: &Question) -> bool
+    ensures { result ≡ is_printed_by style (question_view question.now).request }
 {
     match style {
         Style::Numbers => true,
         Style::Words => true,
-        Style::Octets => asks_for_file(question),
+        Style::Octets => reads_file(question.request.as_request()),
     }
 }
 
-/// The same where it can be told so; `NoForm` also where it can't.
+/// The same where it can be printed so; `NoForm` also where it can't.
 fn asked_in(alloc: Global, asking: &Asking, words: &[&str]) -> Result<Question, FormFault>
     ensures { ReadsAsked asking.now.output_format.style (peer_view asking.now.peer) (map (λ w. w.now) words.now) result }
 {
     let question = question_in(alloc, asking.peer, words)?;
-    if is_told_by(asking.output_format.style, &question) {
+    if is_printed_by(asking.output_format.style, &question) {
         Ok(question)
     } else {
         Err(FormFault::NoForm)
     }
 }
 
-/// A node asks from the moment on that the clock tells; how that ended is told as is wanted. Answers whether it succeeded.
+/// A node asks from the moment of the clock on; how that ended is printed as is wanted. Answers whether it succeeded.
 pub(crate) fn ask_once<L: Link, C: Clock, O: Write, E: Write>(
     alloc: Global,
     asking: &Asking,
@@ -161,7 +159,7 @@ pub(crate) fn ask_once<L: Link, C: Clock, O: Write, E: Write>(
     }
 }
 
-/// A client asks a node, in rounds where they are wanted; how each ask ended is told as is wanted. Words that are no request: `bad words` on `err`, and in
+/// A client asks a node, in rounds where they are wanted; how each ask ended is printed as is wanted. Words that are no request: `bad words` on `err`, and in
 /// words which is bad.
 pub(crate) fn ask<M: Machine, O: Write, E: Write>(
     alloc: Global,
@@ -178,7 +176,7 @@ pub(crate) fn ask<M: Machine, O: Write, E: Write>(
     let question = match asked_in(alloc, asking, words) {
         Ok(question) => question,
         Err(FormFault::NoForm) => {
-            return match tell_bad_words(alloc, in_words, words, err) {
+            return match print_bad_words(alloc, in_words, words, err) {
                 Ok(()) => Status::CommandLine,
                 Err(_) => no_memory(err),
             };

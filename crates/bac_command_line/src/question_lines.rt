@@ -3,17 +3,17 @@ ghost use Rattle.std.specs.Prelude.{◌≡◌, map, true, IfErr, IfOk, IsErrOf, 
 ghost use Rattle.bac_npdu.specs.Views.{peer_view};
 ghost use Rattle.bac_driver.specs.Views.{question_view};
 ghost use Rattle.bac_commands.specs.Questions.{IsQuestion, question_of};
-ghost use Rattle.bac_script.specs.Requests.{request_of};
+ghost use Rattle.bac_service_text.specs.Dispatch.{request_of};
 ghost use Rattle.bac_text.specs.Statuses.{IsStop};
 ghost use Rattle.bac_text.specs.Notes.{read_of as read_in};
 ghost use Rattle.bac_command_line.specs.AskedLines.{AddsLine, asked_by, line_view, questions_from, questions_of, words_of};
 
-use crate::bad_words::tell_bad_line;
+use crate::bad_words::print_bad_line;
 use crate::parts::parts_of;
 use bac_commands::read_question;
 use bac_driver::Question;
 use bac_npdu::Peer;
-use bac_script::FormFault;
+use bac_service_text::FormFault;
 use bac_text::{Status, no_memory, read_of};
 use std::alloc::Global;
 use std::io::Write;
@@ -26,7 +26,7 @@ pub(crate) struct LineQuestion {
     pub question: Question,
 }
 
-/// What the words of a line ask of a peer. Where they are no request, `err` and the status tell it.
+/// What the words of a line ask of a peer. Where they are no request, `err` and the status say so.
 fn question_in<E: Write>(
     alloc: Global,
     peer: Peer,
@@ -43,7 +43,7 @@ fn question_in<E: Write>(
     };
     match read_question(alloc, peer, &words) {
         Ok(question) => Ok(question),
-        Err(FormFault::NoForm) => Err(tell_bad_line(alloc, number, &words, err)),
+        Err(FormFault::NoForm) => Err(print_bad_line(alloc, number, &words, err)),
         Err(FormFault::NoMemory) => Err(no_memory(err)),
     }
 }
@@ -90,7 +90,7 @@ fn questions_among<E: Write>(
 }
 
 /// What the lines of a text ask of a peer: a request a line, its words separated by single spaces. Lines may end in CRLF; blank ones and those that begin with
-/// `#` are passed over. Where the words of one are no request, `err` and the status tell it.
+/// `#` are passed over. Where the words of one are no request, `err` and the status say so.
 pub(crate) fn questions_in<E: Write>(
     alloc: Global,
     peer: Peer,

@@ -85,7 +85,7 @@ fn rest<L: Link, C: Clock, E: Write>(
     };
     match bound_node.serve(clock, &wait_limit, u64::MAX) {
         Ok(_) => Ok(()),
-        Err(fault) => Err(CommandError::from(fault).tell(err)),
+        Err(fault) => Err(CommandError::from(fault).report(err)),
     }
 }
 

@@ -81,7 +81,7 @@ impl Serving {
 }
 
 /// Complains that the system refuses a server its link; where it was to run until it is ended, which link, and the system's reason.
-pub(crate) fn tell_not_bound<E: Write>(serving: &Serving, error: &io::Error, err: &mut E) -> Status
+pub(crate) fn print_not_bound<E: Write>(serving: &Serving, error: &io::Error, err: &mut E) -> Status
     ensures { result ≡ status.Output }
 {
     if serving.turns.is_some() {
@@ -89,13 +89,13 @@ pub(crate) fn tell_not_bound<E: Write>(serving: &Serving, error: &io::Error, err
     }
     let [a, b, c, d] = serving.host;
     let port = serving.port;
-    // where even that fails, the status alone tells
+    // if that fails too, only the status is left
     let _ = writeln!(err, "link fault {a}.{b}.{c}.{d}:{port}: {error}");
     Status::Output
 }
 
-/// Tells on `err` where a node listens that begins at that moment, and how many objects and slots it has; and from when on it serves, where it restarted.
-pub(crate) fn tell_listening<E: Write>(
+/// Prints on `err` where a node listens that begins at that moment, and how many objects and slots it has; and from when on it serves, where it restarted.
+pub(crate) fn print_listening<E: Write>(
     serving: &Serving,
     link: LinkAddress,
     objects: usize,
@@ -105,7 +105,7 @@ pub(crate) fn tell_listening<E: Write>(
     let [a, b, c, d, high, low] = link;
     let port = u16::from_be_bytes([high, low]);
     let slots = serving.slots;
-    // where even that fails, nothing tells it
+    // if that fails too, nothing is printed
     if serving.turns.is_none() {
         let _ = writeln!(
             err,
@@ -156,7 +156,7 @@ pub(crate) fn serve_from<L: Link, C: Clock, O: Write, E: Write>(
         err,
     );
     if !logged.whole {
-        // where even that fails, nothing tells it
+        // if that fails too, nothing is printed
         let _ = err.writeln("log fault");
     }
     logged.status

@@ -66,7 +66,7 @@ pub(crate) enum Task<'m, 'a> {
     Pair,
 }
 
-/// What the run of a script is to be shown as; None where each event is told.
+/// What the run of a script is to be shown as; None where each event is printed.
 fn view_of(given: &ArgMatches<'_>) -> Option<View> {
     if given.get_flag("chart") {
         Some(View::Chart)
@@ -81,7 +81,7 @@ fn view_of(given: &ArgMatches<'_>) -> Option<View> {
     }
 }
 
-/// What the datagrams of a capture are to be drawn as; None where its transactions are told.
+/// What the datagrams of a capture are to be drawn as; None where its transactions are printed.
 fn form_of(given: &ArgMatches<'_>) -> Option<Form> {
     if given.get_flag("chart") {
         Some(Form::Chart)

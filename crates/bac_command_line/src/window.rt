@@ -8,7 +8,7 @@ ghost use Rattle.bac_command_line.specs.InFlight.{AsksAhead, BeginsAsk, BeginsMo
 
 use crate::asking::Asking;
 use crate::asking_lines::both;
-use crate::ends::tell_line;
+use crate::ends::print_line;
 use crate::flights::{Flight, Flights};
 use crate::question_lines::LineQuestion;
 use bac_commands::{CommandError, TURNS, clock_fault};
@@ -84,7 +84,7 @@ fn go_on<L: Link, C: Clock, E: Write>(
             Ok(true)
         }
         Ok(None) => Ok(false),
-        Err(fault) => Err(CommandError::from(fault).tell(err)),
+        Err(fault) => Err(CommandError::from(fault).report(err)),
     }
 }
 
@@ -142,7 +142,7 @@ pub(crate) fn ask_ahead<L: Link, C: Clock, O: Write, E: Write>(
             err,
         )?;
         let end = end_first(bound_node, clock, &mut flights, err)?;
-        let succeeded = tell_line(alloc, asking.output_format, line, &end, out, err)?;
+        let succeeded = print_line(alloc, asking.output_format, line, &end, out, err)?;
         all = both(all, succeeded);
     }
     Ok(all)

@@ -12,9 +12,9 @@ abbrev pub trouble_of : TurnFault → CommandError
 trouble_of fault.Link = command_error.Link
 trouble_of fault.ClockBack = command_error.Clock
 
--- the status that tells it; of a failed output it may also be that memory was refused
-abbrev pub IsToldBy : CommandError → Status → Type 0
-IsToldBy command_error.Link s = s ≡ status.Output
-IsToldBy command_error.Clock s = s ≡ status.Output
-IsToldBy command_error.Memory s = s ≡ status.Memory
-IsToldBy (command_error.Output error) s = IsFailure s
+-- the status that says it; of a failed output it may also be that memory was refused
+abbrev pub IsPrintedBy : CommandError → Status → Type 0
+IsPrintedBy command_error.Link s = s ≡ status.Output
+IsPrintedBy command_error.Clock s = s ≡ status.Output
+IsPrintedBy command_error.Memory s = s ≡ status.Memory
+IsPrintedBy (command_error.Output error) s = IsFailure s

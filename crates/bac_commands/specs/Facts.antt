@@ -1,31 +1,12 @@
--- The lines by which asks, what is performed and sent, and endings are told.
+-- The lines by which asks, what is performed and sent, and endings are printed.
 use Rattle.std.specs.Prelude.{ℕ, List, ◌++◌, codes, decimal}
-use Rattle.std.specs.Fmt.{signed_decimal}
-use Rattle.std.specs.Int.{from_bool}
 use Rattle.hex.specs.Hex.{encode_upper}
-use Rattle.bac_service.specs.Values.{Complex}
-use Rattle.bac_service.specs.Values.Complex.{FileRead, StreamWritten, RecordsWritten, PropertyRead}
-use Rattle.bac_service.specs.Replies as plain
-use Rattle.bac_text.specs.Texts.{line_end}
+use Rattle.bac_service_text.specs.Answers.{reply_text}
+use Rattle.bac_service_text.specs.Members.{line_end}
 use Rattle.bac_transaction.specs.Meanings.{Ending}
 use Rattle.bac_transaction.specs.Meanings.Ending.{Answered, Rejected, Aborted, TimedOut, Expired}
 
 -- ---- how an ask ended
-
--- the service data of a ComplexACK
-abbrev pub complex_text : Complex → List ℕ
-complex_text (FileRead end_of_file start octets) =
-    codes "file " ++ decimal (from_bool end_of_file) ++ codes " " ++ signed_decimal start ++ codes " " ++ encode_upper octets
-complex_text (StreamWritten start) = codes "position " ++ signed_decimal start
-complex_text (RecordsWritten start) = codes "record " ++ signed_decimal start
-complex_text (PropertyRead reference values) = codes "read " ++ encode_upper values
-
--- an answer; a Reject is none
-abbrev pub reply_text : plain.Reply → List ℕ
-reply_text plain.Reply.Simple = codes "answered written"
-reply_text (plain.Reply.Complex c) = codes "answered " ++ complex_text c
-reply_text (plain.Reply.Error class code) = codes "answered error " ++ decimal class ++ codes ":" ++ decimal code
-reply_text (plain.Reply.Reject reason) = codes "rejected " ++ decimal reason
 
 abbrev pub ending_text : Ending → List ℕ
 ending_text (Answered r) = reply_text r

@@ -5,13 +5,12 @@ pub mod Answers
 pub mod AnswerTexts
 pub mod Facts
 pub mod Questions
-pub mod Others
 pub mod Reports
 pub mod Pairs
 pub mod CommandErrors
 pub mod Words
 pub mod FileOctets
-pub mod Told
+pub mod AskEnds
 pub mod Frames
 pub mod LogWords
 pub mod Lines

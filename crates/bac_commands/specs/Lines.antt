@@ -9,7 +9,7 @@ use Rattle.bac_transaction.specs.Ends.{ServerEnd, is_slot_live}
 use Rattle.bac_world.specs.Node.{Cause}
 use Rattle.bac_driver.specs.Seen.{Seen}
 use Rattle.bac_driver.specs.Turns.{Turn}
-use Rattle.bac_explain_report.specs.Peers.{link_text, peer_text}
+use Rattle.bac_text.specs.Peers.{link_text, peer_text}
 use Rattle.bac_text.specs.Texts.{line_end}
 use Rattle.bac_commands.specs.Frames.{contents_of, npdu_in}
 use Rattle.bac_commands.specs.LogWords.{AreAskingWords, AreDoneWords, cause_words}

@@ -7,7 +7,6 @@ use Rattle.bac_npdu.specs.declared.fault.Dropped.TheVariants as why
 use Rattle.bac_npdu.specs.declared.fault.FrameFault.{FrameFault}
 use Rattle.bac_text.specs.Faults.{frame_reason}
 use Rattle.bac_value.specs.declared.fault.Fault.{Fault}
-use Rattle.bac_value_text.specs.Reasons.{abort_text, reject_text}
 use Rattle.bac_service.specs.Services.{complex_at}
 use Rattle.bac_service.specs.Values.{Complex}
 use Rattle.bac_service.specs.Replies as reply
@@ -15,8 +14,10 @@ use Rattle.bac_transaction.specs.Sends.{Datagram}
 use Rattle.bac_world.specs.Node.{Cause}
 use Rattle.bac_world.specs.Node.Cause.{NoFrame, NoApdu, OwnLink}
 use Rattle.bac_world.specs.Services.{Performed}
-use Rattle.bac_commands.specs.Words.{AreReplyWords}
-use Rattle.bac_explain_report.specs.Requests.{AreRequestWords, AreServiceWords}
+use Rattle.bac_service_text.specs.Answers.{AreReplyWords}
+use Rattle.bac_service_text.specs.Dispatch.{AreRequestWords}
+use Rattle.bac_service_text.specs.Reasons as reasons
+use Rattle.bac_service_text.specs.ServiceData.{AreRequestDataWords}
 use Rattle.bac_commands.specs.Frames.{apdu_in}
 
 -- ---- why a datagram was dropped
@@ -43,7 +44,7 @@ segment_words choice s = codes "service " ++ (decimal choice ++ (codes " segment
 
 -- a request, or a segment of one
 abbrev pub AreAskedWords : Option Segment → (choice : ℕ) → (service : List ℕ) → List ℕ → Type 0
-AreAskedWords None choice service words = AreServiceWords choice service words
+AreAskedWords None choice service words = AreRequestDataWords choice service words
 AreAskedWords (Some s) choice service words = words ≡ segment_words choice s
 
 abbrev pub AreCameWords : Apdu → List ℕ → Type 0
@@ -54,9 +55,9 @@ AreCameWords (ComplexAck invoke_id segment choice service) words = words ≡ cod
 AreCameWords (SegmentAck server invoke_id ack) words = words ≡ codes "segment-ack " ++ decimal ack.number
 AreCameWords (Error invoke_id choice class code) words = words ≡ codes "error"
 AreCameWords (Reject invoke_id reason) words = words ≡ codes "reject"
-AreCameWords (Abort server invoke_id reason) words = words ≡ codes "abort " ++ abort_text reason
+AreCameWords (Abort server invoke_id reason) words = words ≡ reasons.abort_words reason
 
--- a request that was performed is told whole, also where it came in segments
+-- a request that was performed is printed whole, also where it came in segments
 abbrev pub AreAskingWords : Option Performed → Apdu → List ℕ → Type 0
 AreAskingWords None a words = AreCameWords a words
 AreAskingWords (Some p) a words = AreRequestWords p.request words
@@ -85,13 +86,13 @@ pub record AreRepeatWords (r : reply.Reply) (words : List ℕ) : Type 0 where
 
 -- an Abort of reason 0 turns a request away; there is more to say of it
 abbrev pub abort_words : (away : List ℕ) → (reason : ℕ) → List ℕ
-abort_words away reason = codes "aborted " ++ (abort_text reason ++ (if reason == 0 then away else []))
+abort_words away reason = reasons.aborted_words reason ++ (if reason == 0 then away else [])
 
 -- any other APDU
 abbrev pub other_words : (away : List ℕ) → Apdu → List ℕ
 other_words away (ComplexAck invoke_id (Some s) choice service) = codes "segment " ++ decimal s.number
 other_words away (SegmentAck server invoke_id ack) = codes "segment-ack " ++ decimal ack.number
-other_words away (Reject invoke_id reason) = codes "rejected " ++ reject_text reason
+other_words away (Reject invoke_id reason) = reasons.rejected_words reason
 other_words away (Abort server invoke_id reason) = abort_words away reason
 other_words away _ = codes "sent"
 
@@ -104,7 +105,7 @@ abbrev pub AreSentWords : (away : List ℕ) → Option Apdu → List ℕ → Typ
 AreSentWords away None words = words ≡ codes "sent"
 AreSentWords away (Some a) words = AreReplyOrWords (kept_reply a) (other_words away a) words
 
--- what was performed is told by its reply
+-- what was performed is printed by its reply
 abbrev pub AreDoneWords : (away : List ℕ) → Option Performed → (sends : List Datagram) → List ℕ → Type 0
 AreDoneWords away (Some p) sends words = AreReplyWords p.reply words
 AreDoneWords away None [] words = words ≡ codes "nothing"

@@ -11,13 +11,13 @@ pub record Log : Type 0 where
   pub text : Option (List ℕ)
 
 -- the lines of a turn were written
-abbrev pub Tells : (serves_from : ℕ) → Watcher (Option (List ℕ))
-Tells from s old new = AppendsText old new (AreTurnLines from s)
+abbrev pub Prints : (serves_from : ℕ) → Watcher (Option (List ℕ))
+Prints from s old new = AppendsText old new (AreTurnLines from s)
 
 -- while the log is whole
 pub record IsWritten (s : Seen) (old new : Log) : Type 0 where
   pub before : old.whole ≡ true
-  pub tells : Tells old.serves_from s old.text new.text
+  pub tells : Prints old.serves_from s old.text new.text
 
 pub record Logs (s : Seen) (old new : Log) : Type 0 where
   pub same : new.serves_from ≡ old.serves_from

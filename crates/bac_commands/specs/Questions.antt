@@ -3,9 +3,9 @@ use Rattle.std.specs.Prelude.{◌≡◌, ℕ, List, Option, Some, None, Result, 
 use Rattle.bac_npdu.specs.Peers.{PeerView}
 use Rattle.bac_protocol.specs.Service.{Octets}
 use Rattle.bac_service.specs.Values.{Request}
-use Rattle.bac_script.specs.Requests.{request_of}
-use Rattle.bac_script.specs.declared.form_fault.FormFault.{FormFault}
-use Rattle.bac_script.specs.declared.form_fault.FormFault.TheVariants.{NoForm, NoMemory}
+use Rattle.bac_service_text.specs.Dispatch.{request_of}
+use Rattle.bac_service_text.specs.declared.form_fault.FormFault.{FormFault}
+use Rattle.bac_service_text.specs.declared.form_fault.FormFault.TheVariants.{NoForm, NoMemory}
 use Rattle.bac_driver.specs.Asking as plain
 use Rattle.bac_driver.specs.Views.{question_view}
 use Rattle.bac_driver.specs.declared.question.Question.{Question}

@@ -16,7 +16,7 @@ use Rattle.bac_driver.specs.declared.wait_limit.WaitLimit.{WaitLimit}
 use Rattle.bac_driver.specs.declared.question.AskEnd.{AskEnd}
 use Rattle.bac_driver.specs.declared.question.AskEnd.TheVariants as end
 use Rattle.bac_commands.specs.Facts.{ending_line, refused_line}
-use Rattle.bac_commands.specs.Others.{names_other}
+use Rattle.bac_service_text.specs.Asked.{names_other}
 use Rattle.bac_commands.specs.Statuses.{ByStatus}
 
 -- ---- serving

@@ -1,16 +1,14 @@
 //! What came, in words.
-ghost use Rattle.std.specs.Prelude.{◌≡◌, ◌++◌, codes, IfOk};
+ghost use Rattle.std.specs.Prelude.{◌≡◌, IfOk};
 ghost use Rattle.std.specs.Option.{option_map};
 ghost use Rattle.bac_apdu.specs.Views.{apdu_view, segment_view};
 ghost use Rattle.bac_node.specs.Views.{performed_view};
-ghost use Rattle.bac_value_text.specs.Reasons.{abort_text};
 ghost use Rattle.bac_commands.specs.LogWords.{AreAskedWords, AreAskingWords, AreCameWords, segment_words};
 
 use bac_apdu::{Apdu, Segment};
-use bac_explain_report::{request_in_words, service_words};
 use bac_responder::Act;
+use bac_service_text::{abort_words, request_data_words, request_words};
 use bac_value::NoMemory;
-use bac_value_text::abort_text;
 use std::alloc::{AllocError, Global};
 
 fn segment_words(alloc: Global, choice: u8, segment: Segment) -> Result<Vec<u8>, AllocError>
@@ -31,17 +29,9 @@ fn asked_words(
     ensures { IfOk result (λ t. AreAskedWords (option_map segment_view segment) choice service.now t.items) }
 {
     match segment {
-        None => service_words(alloc, choice, service),
+        None => request_data_words(alloc, choice, service),
         Some(segment) => Ok(segment_words(alloc, choice, segment)?),
     }
-}
-
-fn aborted_words(alloc: Global, reason: u8) -> Result<Vec<u8>, AllocError>
-    ensures { IfOk result (λ t. t.items ≡ codes "abort " ++ abort_text reason) }
-{
-    let reason = abort_text(alloc, reason)?;
-    let text = format!(in alloc; "abort {reason}")?;
-    Ok(text.into_bytes())
 }
 
 /// An APDU that came.
@@ -65,7 +55,7 @@ fn came_words(alloc: Global, apdu: &Apdu<'_>) -> Result<Vec<u8>, NoMemory>
         }
         Apdu::Error { .. } => Ok(Vec::from_slice(alloc, b"error")?),
         Apdu::Reject { .. } => Ok(Vec::from_slice(alloc, b"reject")?),
-        Apdu::Abort { reason, .. } => Ok(aborted_words(alloc, reason)?),
+        Apdu::Abort { reason, .. } => Ok(abort_words(alloc, reason)?),
     }
 }
 
@@ -78,7 +68,7 @@ pub(crate) fn asking_words(
     ensures { IfOk result (λ t. AreAskingWords (option_map performed_view effect.now) (apdu_view apdu.now) t.items) }
 {
     match effect {
-        Some(act) => request_in_words(alloc, act.effect.request.as_request()),
+        Some(act) => request_words(alloc, act.effect.request.as_request()),
         None => came_words(alloc, apdu),
     }
 }

@@ -1,25 +1,12 @@
 //! Why a datagram was dropped, in words.
 ghost use Rattle.std.specs.Prelude.{◌≡◌, IfOk, string_bytes};
 ghost use Rattle.bac_node.specs.Views.{cause_view};
-ghost use Rattle.bac_text.specs.Faults.{frame_reason};
 ghost use Rattle.bac_commands.specs.LogWords.{cause_words, layer_words};
 
 use bac_node::Cause;
 use bac_npdu::FrameFault;
+use bac_text::frame_reason;
 use std::alloc::{AllocError, Global};
-
-fn frame_reason(fault: FrameFault) -> &'static str
-    ensures { result.now ≡ frame_reason fault }
-{
-    match fault {
-        FrameFault::Truncated => "truncated",
-        FrameFault::Version => "another version",
-        FrameFault::ReservedBits => "reserved bits",
-        FrameFault::BadNet => "bad network number",
-        FrameFault::BadLength => "bad length",
-        FrameFault::NotUnicast => "not Original-Unicast-NPDU",
-    }
-}
 
 /// A fault of a layer, as `bvll 6 (not Original-Unicast-NPDU)`.
 fn layer_words(alloc: Global, layer: &str, fault: FrameFault) -> Result<String, AllocError>

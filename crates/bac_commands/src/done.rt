@@ -1,22 +1,20 @@
 //! What was done, in words.
-ghost use Rattle.std.specs.Prelude.{◌≡◌, ◌++◌, codes, IfOk};
+ghost use Rattle.std.specs.Prelude.{◌≡◌, IfOk};
 ghost use Rattle.std.specs.Option.{option_map};
 ghost use Rattle.bac_apdu.specs.Views.{apdu_view};
 ghost use Rattle.bac_node.specs.Views.{performed_view};
 ghost use Rattle.bac_service.specs.Views.{reply_view};
-ghost use Rattle.bac_value_text.specs.Reasons.{reject_text};
 ghost use Rattle.bac_commands.specs.Frames.{apdu_in};
 ghost use Rattle.bac_commands.specs.LogWords.{AreDoneWords, AreRepeatWords, AreReplyOrWords, AreSentWords, abort_words, kept_reply, other_words};
 
 use crate::frames::apdu_in;
-use crate::reply_words;
 use bac_apdu::Apdu;
 use bac_responder::Act;
 use bac_service::{AnyReply, Reply, read_reply};
+use bac_service_text::{aborted_words, rejected_words, reply_words};
 use bac_transaction::Datagram;
-use bac_value_text::{abort_text, reject_text};
-use std::alloc::Global;
-use std::io;
+use bac_value::NoMemory;
+use std::alloc::{AllocError, Global};
 
 /// The answer that an APDU is.
 fn kept_reply<'a>(apdu: &Apdu<'a>) -> Option<Reply<'a>>
@@ -38,7 +36,7 @@ fn kept_reply<'a>(apdu: &Apdu<'a>) -> Option<Reply<'a>>
     }
 }
 
-fn repeat_words(alloc: Global, reply: Reply<'_>) -> io::Result<Vec<u8>>
+fn repeat_words(alloc: Global, reply: Reply<'_>) -> Result<Vec<u8>, NoMemory>
     ensures { IfOk result (λ t. AreRepeatWords (reply_view reply.entry) t.items) }
 {
     let answer = reply_words(alloc, reply)?;
@@ -47,26 +45,18 @@ fn repeat_words(alloc: Global, reply: Reply<'_>) -> io::Result<Vec<u8>>
     Ok(words)
 }
 
-/// An Abort; of reason 0 with what there is to say of a request that was turned away.
-fn abort_words(alloc: Global, away: &str, reason: u8) -> io::Result<Vec<u8>>
+/// An Abort; of reason 0 with why a request was turned away.
+fn abort_words(alloc: Global, away: &str, reason: u8) -> Result<Vec<u8>, AllocError>
     ensures { IfOk result (λ t. t.items ≡ abort_words away.now reason) }
 {
     let more = if reason == 0 { away } else { "" };
-    let reason = abort_text(alloc, reason)?;
-    let words = format!(in alloc; "aborted {reason}{more}")?;
-    Ok(words.into_bytes())
-}
-
-fn rejected_words(alloc: Global, reason: u8) -> io::Result<Vec<u8>>
-    ensures { IfOk result (λ t. t.items ≡ codes "rejected " ++ reject_text reason) }
-{
-    let reason = reject_text(alloc, reason)?;
-    let words = format!(in alloc; "rejected {reason}")?;
-    Ok(words.into_bytes())
+    let mut words = aborted_words(alloc, reason)?;
+    words.extend_from_slice(more.as_bytes())?;
+    Ok(words)
 }
 
 /// An APDU that is no whole answer.
-fn other_words(alloc: Global, away: &str, apdu: &Apdu<'_>) -> io::Result<Vec<u8>>
+fn other_words(alloc: Global, away: &str, apdu: &Apdu<'_>) -> Result<Vec<u8>, NoMemory>
     ensures { IfOk result (λ t. t.items ≡ other_words away.now (apdu_view apdu.now)) }
 {
     match *apdu {
@@ -80,14 +70,14 @@ fn other_words(alloc: Global, away: &str, apdu: &Apdu<'_>) -> io::Result<Vec<u8>
         Apdu::SegmentAck { number, .. } => {
             Ok(format!(in alloc; "segment-ack {number}")?.into_bytes())
         }
-        Apdu::Reject { reason, .. } => rejected_words(alloc, reason),
-        Apdu::Abort { reason, .. } => abort_words(alloc, away, reason),
+        Apdu::Reject { reason, .. } => Ok(rejected_words(alloc, reason)?),
+        Apdu::Abort { reason, .. } => Ok(abort_words(alloc, away, reason)?),
         _ => Ok(Vec::from_slice(alloc, b"sent")?),
     }
 }
 
 /// The APDU of a datagram that was sent, while nothing was performed.
-fn sent_words(alloc: Global, away: &str, datagram: &Datagram) -> io::Result<Vec<u8>>
+fn sent_words(alloc: Global, away: &str, datagram: &Datagram) -> Result<Vec<u8>, NoMemory>
     ensures { IfOk result (λ t. AreSentWords away.now (apdu_in datagram.now.octets) t.items) }
 {
     let Some(apdu) = apdu_in(datagram.octets()) else {
@@ -99,13 +89,13 @@ fn sent_words(alloc: Global, away: &str, datagram: &Datagram) -> io::Result<Vec<
     }
 }
 
-/// What was done: what was performed is told by its reply, all else by the first datagram that was sent.
+/// What was done: what was performed is printed by its reply, all else by the first datagram that was sent.
 pub(crate) fn done_words(
     alloc: Global,
     away: &str,
     effect: &Option<Act>,
     sends: &[Datagram],
-) -> io::Result<Vec<u8>>
+) -> Result<Vec<u8>, NoMemory>
     ensures { IfOk result (λ t. AreDoneWords away.now (option_map performed_view effect.now) sends.now t.items) }
 {
     if let Some(act) = effect {

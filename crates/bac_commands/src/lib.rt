@@ -1,4 +1,4 @@
-//! What the commands of `bac` do, over any readers, writers, links and clocks: `answer`, `serve`, `ask` and `pair`; and the lines by which they tell what came
+//! What the commands of `bac` do, over any readers, writers, links and clocks: `answer`, `serve`, `ask` and `pair`; and the lines that they print of what came
 //! of it.
 //!
 //! The log of a server: a line for each datagram that came, with what was done, and for what else its turns gave.
@@ -14,16 +14,15 @@ mod fresh_node;
 mod lines;
 mod log;
 mod online;
-mod others;
 mod serving;
 
 pub use answering::{CLIENT, answer_datagram, answer_over};
 pub use facts::{
     ending_words, print_asked, print_changed, print_ended, print_ending, print_ending_line,
-    print_fault, print_nothing, print_performed, print_refused, print_sent, reply_words,
+    print_fault, print_nothing, print_performed, print_refused, print_sent,
 };
 pub use online::{
-    CommandError, OutputFormat, Style, TURNS, ask, asks_for_file, bound_client, bound_house,
-    bound_server, clock_fault, link_fault, pair, read_question, serve, tell_end,
+    CommandError, OutputFormat, Style, TURNS, ask, bound_client, bound_house, bound_server,
+    clock_fault, link_fault, pair, print_ask_end, read_question, serve,
 };
 pub use serving::{Logged, serve_logged};

@@ -14,9 +14,9 @@ use crate::done::done_words;
 use crate::frames::{apdu_of, npdu_in};
 use bac_apdu::Apdu;
 use bac_driver::Turn;
-use bac_explain_report::{link_text, peer_text};
 use bac_node::{Cause, Node};
 use bac_npdu::{LinkAddress, Npdu, Peer};
+use bac_text::{link_text, peer_text};
 use bac_transaction::invoke_id_of;
 use bac_value::NoMemory;
 use std::alloc::{AllocError, Global};
@@ -78,7 +78,9 @@ fn heard_line(
     let Ok(asking) = asking_words(alloc, &turn.effect, apdu) else {
         return Err(io::Error::from(ErrorKind::OutOfMemory));
     };
-    let done = done_words(alloc, away, &turn.effect, &turn.sends)?;
+    let Ok(done) = done_words(alloc, away, &turn.effect, &turn.sends) else {
+        return Err(io::Error::from(ErrorKind::OutOfMemory));
+    };
     let mut text = head_text(alloc, turn.at, peer, apdu)?;
     text.extend_from_slice(asking.as_slice())?;
     text.extend_from_slice(b": ")?;

@@ -1,4 +1,5 @@
 //! Nodes on links: what `bac serve`, `bac ask` and `bac pair` do, over any links and clocks.
+mod ask_end;
 mod asking;
 mod bound_node;
 mod command_error;
@@ -9,14 +10,12 @@ mod progress;
 mod question;
 mod serving;
 mod success;
-mod telling;
 
+pub use ask_end::print_ask_end;
 pub use asking::{TURNS, ask};
 pub use bound_node::{bound_client, bound_house, bound_server};
 pub use command_error::{CommandError, clock_fault, link_fault};
-pub use file_octets::asks_for_file;
 pub use output_format::{OutputFormat, Style};
 pub use pairing::pair;
 pub use question::read_question;
 pub use serving::serve;
-pub use telling::tell_end;

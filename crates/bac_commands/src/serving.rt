@@ -2,7 +2,7 @@
 ghost use Rattle.std.specs.Prelude.{IsTrue};
 ghost use Rattle.bac_driver.specs.Runs.{timed};
 ghost use Rattle.bac_commands.specs.Reports.{ReportsServing, ServingIsWatched};
-ghost use Rattle.bac_commands.specs.Logs.{Tells};
+ghost use Rattle.bac_commands.specs.Logs.{Prints};
 
 use crate::log::Log;
 use bac_driver::{BoundNode, Clock, Link, WaitLimit};
@@ -34,7 +34,7 @@ pub fn serve_logged<L: Link, C: Clock, O: Write, E: Write>(
 ) -> Logged
     ensures printed { ReportsServing result.status wait_limit.now turns (timed bound_node.old (C.told clock.old)) (timed bound_node.new (C.told clock.new))
         (O.contents out.old) (O.contents out.new) }
-    ensures logged { IsTrue result.whole → ServingIsWatched result.status (Tells serves_from) wait_limit.now turns
+    ensures logged { IsTrue result.whole → ServingIsWatched result.status (Prints serves_from) wait_limit.now turns
         (timed bound_node.old (C.told clock.old)) (timed bound_node.new (C.told clock.new)) (E.contents err.old) (E.contents err.new) }
 {
     let mut log = Log {

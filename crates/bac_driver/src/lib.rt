@@ -30,6 +30,3 @@ pub use question::{AskEnd, Question};
 pub use turn::Turn;
 pub use udp::UdpLink;
 pub use wait_limit::WaitLimit;
-
-#[cfg(test)]
-mod tests;

@@ -1,4 +1,4 @@
--- A transaction that awaits answers goes on in its slot.
+-- A transaction that awaits replies is updated in its slot.
 use Rattle.std.proofs.Common.{◌≡◌, ℕ, Bool, true, false, List, [], ◌∷◌, Option, Some, None, is_some}
 use Rattle.std.proofs.Common.{if◌then◌else◌, refl, sym, ap, subst, ◌∙◌}
 use Rattle.std.specs.Option.{option_map}
@@ -13,7 +13,7 @@ use Rattle.bac_explain.specs.Transactions.{TransactionView, is_awaited}
 use Rattle.bac_explain.specs.Views.{code_same_key, slots_view, transaction_view}
 use Rattle.bac_explain.proofs.Seen.{Item, value_seen, set_back_seen}
 
--- what the transaction of the key is, by its slot
+-- the transaction with the key, by its slot
 some_seen : (key : TransactionKey) (slots : List Item) (t : Transaction) → Some t ≡ value_at code_same_key key slots
     → value_at same_key (key_view key) (slots_view slots) ≡ Some (transaction_view t)
 some_seen key slots t e = sym (value_seen key slots) ∙ ap (option_map transaction_view) (sym e)
@@ -26,7 +26,7 @@ awaited_is now o t e alive =
     go true e = refl
     go false e = absurd cc
 
--- it goes on
+-- the transaction is updated
 pub goes_heard : (H : Option TransactionView → Transactions → Heard) (now : ℕ) (key : TransactionKey) (slots new : List Item) (old : Transactions)
     (t w : Transaction) (f : Option Finding) → slots_view slots ≡ old → true ≡ is_some (awaited now (key_view key) old)
     → Some t ≡ value_at code_same_key key slots → new ≡ with_value code_same_key key w slots
@@ -39,7 +39,7 @@ goes_heard H now key slots new old t w f view alive at set step =
     ap (λ l. record { slots = l; closed = None; finding = f }) (set_back_seen key w slots new set) ∙ step
     ∙ ap (λ o. H o (slots_view slots)) (sym is) ∙ ap (λ l. H (awaited now (key_view key) l) l) view
 
--- there is none
+-- there is no such transaction
 pub none_heard : (H : Option TransactionView → Transactions → Heard) (now : ℕ) (key : TransactionKey) (slots new : List Item) (old : Transactions)
     (f : Option Finding) → slots_view slots ≡ old → None ≡ value_at code_same_key key slots → new ≡ slots
     → record { slots = slots_view slots; closed = None; finding = f } ≡ H None (slots_view slots)
@@ -50,7 +50,7 @@ none_heard H now key slots new old f view at same step =
     ap (λ l. record { slots = slots_view l; closed = None; finding = f }) same ∙ step
     ∙ ap (λ o. H o (slots_view slots)) (sym none) ∙ ap (λ l. H (awaited now (key_view key) l) l) view
 
--- where the transaction stays, the slots do
+-- if the transaction is unchanged, so are the slots
 pub same_slots : (key : TransactionKey) (slots new : List Item) (old : Transactions) (t w : Transaction) → slots_view slots ≡ old
     → Some t ≡ value_at code_same_key key slots → new ≡ with_value code_same_key key w slots → transaction_view w ≡ transaction_view t
     → slots_view new ≡ old
@@ -73,7 +73,7 @@ same_slots key slots new old t w view at set same =
             value_in (Some x) = x
         go false e rest = ap (λ m. s ∷ m) (rest e)
 
--- the transaction of a key goes on
+-- the transaction with a key is updated
 pub repeat_heard : (key : TransactionKey) (slots new : List Item) (old : Transactions) (t w : Transaction) (f : Option Finding)
     (step : TransactionView → TransactionView × Option Finding) → slots_view slots ≡ old → Some t ≡ value_at code_same_key key slots
     → new ≡ with_value code_same_key key w slots → transaction_view w ≡ (step (transaction_view t)).0 → f ≡ (step (transaction_view t)).1

@@ -1,4 +1,4 @@
--- What is left where a transaction closes: room for another one, and no transaction of its key.
+-- After a transaction is closed there is room for another one, and no transaction with its key.
 use Rattle.std.proofs.Common.{◌≡◌, suc, ◌<◌, ◌≤◌, Bool, true, false, [], ◌∷◌, length, Option, Some, None, nat_lt}
 use Rattle.std.proofs.Common.{if◌then◌else◌, refl, sym, ap, subst, ◌∙◌, arith}
 use Rattle.std.proofs.lemmas.Bool.Decides.{nat_tests}
@@ -14,7 +14,7 @@ use Rattle.bac_explain.specs.Transactions.{TransactionView}
 pub same_self : (key : Key) → same_key key key ≡ true
 same_self key = (eq_by_cmp_equiv key_cmp_total).refl key
 
--- the first transaction is that of its key
+-- the first transaction has the key
 pub oldest_is : (s : Slot Key TransactionView) (slots : Transactions)
     → (closed_at s.key (s ∷ slots) ≡ Some (closed_of s)) × (without same_key s.key (s ∷ slots) ≡ slots)
 oldest_is s slots = go (same_key s.key s.key) (same_self s.key)
@@ -24,7 +24,7 @@ oldest_is s slots = go (same_key s.key s.key) (same_self s.key)
     go true e = (refl, refl)
     go false e = absurd cc
 
--- a transaction of a key is taken out
+-- the transaction with a key is removed
 taken_length : (key : Key) (t : TransactionView) (slots : Transactions) → value_at same_key key slots ≡ Some t
     → suc (length (without same_key key slots)) ≡ length slots
 taken_length key t [] e = absurd cc
@@ -36,7 +36,7 @@ taken_length key t (s ∷ slots) e = go (same_key s.key key) e (taken_length key
     go true e rest = refl
     go false e rest = ap suc (rest e)
 
--- a transaction of the key closes
+-- the transaction with the key is closed
 pub taken_room : (key : Key) (slots now : Transactions) (c : ClosedView) → length slots ≤ OPEN_LIMIT → Some c ≡ closed_at key slots
     → now ≡ without same_key key slots → length now < OPEN_LIMIT
 taken_room key slots now c few is left = go (value_at same_key key slots) refl is
@@ -45,7 +45,7 @@ taken_room key slots now c few is left = go (value_at same_key key slots) refl i
     go None at e = absurd cc
     go (Some t) at e = omega (arith, few, taken_length key t slots at, ap length left)
 
--- no transaction of the key is open: the oldest closes where too many are
+-- no transaction with the key is open: the oldest is closed if too many are
 none_at : (key : Key) (slots : Transactions) → None ≡ closed_at key slots → value_at same_key key slots ≡ None
 none_at key slots is = go (value_at same_key key slots) is
   where
@@ -79,7 +79,7 @@ full_absent key slots none = go (nat_lt (length slots) OPEN_LIMIT)
     go true = none
     go false = oldest_absent slots none
 
--- what is left where no transaction of the key is open
+-- what is left if no transaction with the key is open
 pub record IsRoom (key : Key) (slots others : Transactions) : Type 0 where
   pub closes : (full_out others).0 ≡ (room_for key slots).0
   pub left : (full_out others).1 ≡ (room_for key slots).1

@@ -1,4 +1,4 @@
--- A table's slots and their plain values.
+-- The slots of a table and their abstract values.
 use Rattle.std.proofs.Common.{◌≡◌, suc, Bool, true, false, List, [], ◌∷◌, ◌++◌, length, Option, Some, None}
 use Rattle.std.proofs.Common.{if◌then◌else◌, refl, sym, ap, subst, ◌∙◌, MatchOption, Bor, slice_get, not, ℕ}
 use Rattle.std.specs.Option.{option_map}
@@ -112,7 +112,7 @@ pub none_over : (now : ℕ) (slots : List Item) → slice_get slots 0 ≡ None �
 none_over now [] e = refl
 none_over now (r ∷ slots) e = absurd cc
 
--- the transaction of the first key is the first one
+-- the transaction with the first key is the first one
 pub first_seen : (key : TransactionKey) (slots : List Item) → Some key ≡ first_key slots
     → (closed_at (key_view key) (slots_view slots) ≡ (oldest_out (slots_view slots)).0)
     × (without same_key (key_view key) (slots_view slots) ≡ (oldest_out (slots_view slots)).1)

@@ -1,4 +1,4 @@
--- Appends to files (clause 14.2), and what they are answered with. Two such answers that differ tell two positions, so the request was performed twice.
+-- Appends to files (clause 14.2), and the replies to them. Two different replies have two positions, so the request was performed twice.
 use Rattle.std.specs.Prelude.{ℕ, zero, suc, ℤ, pos, negsuc, Bool, true, false, ◌==◌, ◌&&◌, if◌then◌else◌, is_ok, List, Some, None, Result, Ok, Err}
 use Rattle.bac_apdu.specs.Apdu.{Apdu, ConfirmedRequest, UnconfirmedRequest, SimpleAck, ComplexAck, SegmentAck, Error, Reject, Abort}
 use Rattle.bac_apdu.specs.Reading.{apdu_at}
@@ -7,7 +7,7 @@ use Rattle.bac_service.specs.declared.service.TheConstants.{ATOMIC_WRITE_FILE}
 use Rattle.bac_service.specs.Services.{request_at, complex_at}
 use Rattle.bac_service.specs.Values.{Request, ReadFile, WriteFile, ReadProperty, WriteProperty, WriteAccess, WriteStream, WriteRecords}
 
--- -1 is the file's end
+-- -1 is the end of the file
 abbrev pub is_end : ℤ → Bool
 is_end (pos n) = false
 is_end (negsuc zero) = true
@@ -40,7 +40,7 @@ is_append_in (Error invoke_id choice class code) = false
 is_append_in (Reject invoke_id reason) = false
 is_append_in (Abort server invoke_id reason) = false
 
--- a whole ComplexACK of AtomicWriteFile whose service data tell a position or a record
+-- a whole ComplexACK of AtomicWriteFile with a position or a record number
 abbrev pub is_written_in : Apdu → Bool
 is_written_in (ConfirmedRequest limits invoke_id segment choice service) = false
 is_written_in (UnconfirmedRequest choice service) = false

@@ -1,4 +1,4 @@
--- The plain value of what a request asks.
+-- The abstract value of what is compared of a request.
 use Rattle.bac_explain.specs.declared.choice.Asked.{Asked}
 use Rattle.bac_explain.specs.Choices.{AskedView}
 

@@ -1,11 +1,11 @@
--- Services by their choices: whether an answer is of the service that was asked for, and whether a server of this profile takes two requests for one.
+-- Services by their choices: whether a reply belongs to the requested service, and whether a server of this profile takes two requests for one.
 use Rattle.std.specs.Prelude.{ℕ, Bool, true, false, not, ◌==◌, ◌&&◌, if◌then◌else◌, is_some, List, Option, Some, None, Result, Ok, Err}
 use Rattle.bac_apdu.specs.Apdu.{Apdu, ConfirmedRequest, UnconfirmedRequest, SimpleAck, ComplexAck, SegmentAck, Error, Reject, Abort}
 use Rattle.bac_apdu.specs.Reading.{apdu_at}
 use Rattle.bac_apdu.specs.declared.fault.ApduFault.{ApduFault}
 use Rattle.bac_explain.specs.Sent.{are_same}
 
--- whether a segment is all that is looked at of a request, its service, and its data
+-- whether a request is a segment, of which only this is used; its service, and its data
 pub record AskedView : Type 0 where
   pub in_segments : Bool
   pub choice : ℕ
@@ -29,7 +29,7 @@ read_asked (Err fault) = None
 abbrev pub asked_by : List ℕ → Option AskedView
 asked_by octets = read_asked (apdu_at octets)
 
--- the service of an answer; a Reject and an Abort tell none (clauses 20.1.8 and 20.1.9)
+-- the service of a reply; a Reject and an Abort have none (clauses 20.1.8 and 20.1.9)
 abbrev pub choice_in : Apdu → Option ℕ
 choice_in (ConfirmedRequest limits invoke_id segment choice service) = None
 choice_in (UnconfirmedRequest choice service) = None
@@ -55,11 +55,11 @@ abbrev pub fits : Option ℕ → Option AskedView → Bool
 fits None a = true
 fits (Some choice) a = has_choice choice a
 
--- an answer is of the service of a request, or tells none
+-- a reply belongs to the service of a request, or has no service
 abbrev pub is_of_service : (request answer : List ℕ) → Bool
 is_of_service request answer = fits (answer_choice answer) (asked_by request)
 
--- whole requests are one by service and data; once one in segments is answered, each in segments is
+-- whole requests with the same service and data are the same; and after a reply to a segmented one, any segmented one is
 abbrev pub is_taken_for : (answered : Bool) → (one other : AskedView) → Bool
 is_taken_for answered a b =
     if a.in_segments then b.in_segments && answered else not b.in_segments && a.choice == b.choice && are_same a.service b.service

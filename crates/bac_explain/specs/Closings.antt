@@ -1,4 +1,4 @@
--- The plain values of a transaction that was closed, and of what became of a sighting.
+-- The abstract values of a closed transaction, and of the result of an APDU.
 use Rattle.std.specs.Prelude.{◌≡◌}
 use Rattle.std.specs.Option.{option_map}
 use Rattle.bac_explain.specs.declared.table.Closed.{Closed}
@@ -10,7 +10,7 @@ use Rattle.bac_explain.specs.Views.{transaction_view}
 abbrev pub closed_view : Closed → ClosedView
 closed_view c = record { key = key_view c.key; transaction = transaction_view c.transaction }
 
--- what became of a sighting, and the transactions then
+-- the result of an APDU, and the transactions after it
 abbrev pub heard_view : (slots : Transactions) → code.Heard → Heard
 heard_view slots h = record { slots = slots; closed = option_map closed_view h.closed; finding = h.finding }
 

@@ -1,4 +1,4 @@
--- Which segments may be sent (clause 5.3): before the first SegmentACK segment 0 alone, then as many as the actual window after the last one that was taken.
+-- Which segments may be sent (clause 5.3): before the first SegmentACK only segment 0, then as many as the actual window after the last one taken.
 use Rattle.std.specs.Prelude.{ℕ, nat_le, nat_lt, Bool, false, not, ◌==◌, ◌&&◌, if◌then◌else◌, Option, Some, None}
 use Rattle.bac_explain.specs.declared.grant.Grant.{Grant}
 use Rattle.bac_explain.specs.declared.grant.Grant.TheVariants.{First, Unknown, Window}
@@ -7,7 +7,7 @@ use Rattle.bac_explain.specs.declared.numbers.TheConstants.{MOST_SENDS}
 use Rattle.bac_explain.specs.declared.part.Taken.{Taken}
 use Rattle.bac_explain.specs.Numbers.{ahead, following, is_ahead, is_behind, one_more}
 
--- where the first APDU that is seen is a later segment, what was granted before is not known
+-- if the first APDU that is seen is a later segment, the window before it is unknown
 abbrev pub at_first : Option ℕ → Grant
 at_first None = First
 at_first (Some number) = if number == 0 then First else Unknown
@@ -21,12 +21,12 @@ is_beyond_number First number = not (number == 0)
 is_beyond_number Unknown number = false
 is_beyond_number (Window g) number = is_past g number
 
--- a segment of that number was not granted; what is whole needs no grant
+-- a segment with this number is beyond the window; never true for an unsegmented APDU
 abbrev pub is_beyond : Grant → Option ℕ → Bool
 is_beyond grant None = false
 is_beyond grant (Some number) = is_beyond_number grant number
 
--- the first segment of the window was sent so often since
+-- the first segment of the window was sent this often since
 abbrev pub is_sent_out : Granted → ℕ → Bool
 is_sent_out g number = following g.number number && nat_le MOST_SENDS g.sends
 
@@ -44,7 +44,7 @@ is_spent grant (Some number) = is_spent_number grant number
 abbrev pub granted_by : Taken → Granted
 granted_by taken = record { number = taken.number; window = taken.window; sends = 0 }
 
--- one that takes less was sent before
+-- a SegmentACK that acknowledges less was sent before
 abbrev pub moved_on : Taken → Granted → Granted
 moved_on taken g = if is_behind g.number taken.number then g else granted_by taken
 
@@ -67,13 +67,13 @@ abbrev pub sent : Option ℕ → Grant → Grant
 sent None grant = grant
 sent (Some number) grant = sent_number number grant
 
--- the first segment comes again: an old copy, or its sender begins again, and nothing is said until the next SegmentACK
+-- the first segment is repeated: an old copy, or its sender restarts, so that the window is unknown until the next SegmentACK
 abbrev pub begun_again : Grant → Grant
 begun_again First = First
 begun_again Unknown = Unknown
 begun_again (Window g) = Unknown
 
--- the request comes again, so its server may send the segments of its answer anew
+-- the request is repeated, so its server may restart the segments of its reply
 abbrev pub asked_again : Grant → Grant
 asked_again First = First
 asked_again Unknown = Unknown

@@ -1,4 +1,4 @@
--- A key in code, as a plain one.
+-- The abstract value of a key.
 use Rattle.bac_npdu.specs.Views.{peer_view}
 use Rattle.bac_explain.specs.Keys.{Key}
 use Rattle.bac_explain.specs.declared.key.TransactionKey.{TransactionKey}

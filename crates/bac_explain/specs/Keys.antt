@@ -1,11 +1,11 @@
--- What a transaction is found by, and the order of keys.
+-- Keys of transactions, and their order.
 use Rattle.std.specs.Prelude.{ℕ, Bool}
 use Rattle.std.specs.Ordering.{nat_cmp, on, then_cmp, eq_by_cmp}
 use Rattle.std.specs.declared.cmp.Ordering.{Ordering}
 use Rattle.std.specs.Cmp.{IsTotalOrder, then_total, on_total, nat_cmp_total}
 use Rattle.bac_npdu.specs.Peers.{PeerView, peer_cmp, peer_cmp_total}
 
--- who asks, who serves, and the invoke ID (clause 5.4)
+-- client, server, and invoke ID (clause 5.4)
 pub record Key : Type 0 where
   pub client : PeerView
   pub server : PeerView
@@ -19,7 +19,7 @@ ends_cmp = then_cmp (on (λ (k : Key). k.client) peer_cmp) (on (λ (k : Key). k.
 abbrev pub key_cmp : Key → Key → Ordering
 key_cmp = then_cmp ends_cmp (on (λ (k : Key). k.invoke_id) nat_cmp)
 
--- two keys are one where neither comes first
+-- two keys are equal if neither comes first
 abbrev pub same_key : Key → Key → Bool
 same_key = eq_by_cmp key_cmp
 

@@ -1,7 +1,7 @@
--- Counts, and the numbers of segments, which go on modulo 256 (clause 20.1.2.7).
+-- Counts, and sequence numbers of segments, which are taken modulo 256 (clause 20.1.2.7).
 use Rattle.std.specs.Prelude.{ℕ, ◌+◌, ◌-◌, ◌%◌, ◌^◌, Bool, nat_le, nat_lt, ◌==◌, ◌&&◌, min}
 
--- counts stay at their last value
+-- counts saturate
 abbrev pub one_more : ℕ → ℕ
 one_more count = min (count + 1) (2 ^ 64 - 1)
 
@@ -12,7 +12,7 @@ more_by more count = min (count + more) (2 ^ 64 - 1)
 abbrev pub ahead : ℕ → ℕ → ℕ
 ahead last number = (number + 256 - last) % 256
 
--- half of all count as behind
+-- half of all numbers are behind
 abbrev pub is_ahead : ℕ → ℕ → Bool
 is_ahead last number = nat_lt 0 (ahead last number) && nat_lt (ahead last number) 128
 

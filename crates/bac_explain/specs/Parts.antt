@@ -1,4 +1,4 @@
--- What an APDU is in its transaction (clause 5.4): which side sent it, and whether it asks, answers, acknowledges or gives up.
+-- The role of an APDU in its transaction (clause 5.4): which side sent it, and whether it is a request, a reply, a SegmentACK or an Abort.
 use Rattle.std.specs.Prelude.{ℕ, Bool, true, false, not, Option, Some, None}
 use Rattle.bac_apdu.specs.Apdu.{Segment, Acknowledgement, Apdu, ConfirmedRequest, UnconfirmedRequest, SimpleAck, ComplexAck, SegmentAck, Error, Reject, Abort}
 use Rattle.bac_explain.specs.declared.part.Part.{Part}
@@ -7,7 +7,7 @@ use Rattle.bac_explain.specs.declared.part.Role.TheVariants as role
 use Rattle.bac_explain.specs.declared.part.Role.TheVariants.{Request, Answer, GivesUp}
 use Rattle.bac_explain.specs.declared.part.Taken.{Taken}
 
--- what is whole has no number
+-- an unsegmented APDU has no number
 abbrev pub number_of : Option Segment → Option ℕ
 number_of None = None
 number_of (Some s) = Some s.number
@@ -18,12 +18,12 @@ by_client invoke_id role = Some (record { by_client = true; invoke_id = invoke_i
 abbrev pub by_server : ℕ → Role → Option Part
 by_server invoke_id role = Some (record { by_client = false; invoke_id = invoke_id; role = role })
 
--- an Abort of the client gives up; one of the server is an answer
+-- an Abort of the client ends the transaction; one of the server counts as a reply
 abbrev pub abort_part : Bool → ℕ → Option Part
 abort_part true invoke_id = by_server invoke_id (Answer None)
 abort_part false invoke_id = by_client invoke_id GivesUp
 
--- the server acknowledges segments of the request, the client those of the answer
+-- the server acknowledges segments of the request, the client those of the reply
 abbrev pub taken_of : (server : Bool) → Acknowledgement → Taken
 taken_of server a = record { of_request = server; nak = a.nak; number = a.number; window = a.window }
 

@@ -1,4 +1,4 @@
--- Requests and answers, as they are seen, and where an APDU stands after them.
+-- Requests and replies as they are seen, and how an APDU relates to them.
 use Rattle.std.specs.Prelude.{ℕ, ◌+◌, ◌-◌, Bool, true, false, nat_le, nat_lt, ◌==◌, ◌&&◌, ◌||◌, if◌then◌else◌, List, Option, Some, None}
 use Rattle.std.specs.Cmp.Lexicographic.{pointwise}
 use Rattle.bac_explain.specs.declared.grant.Grant.{Grant}
@@ -11,7 +11,7 @@ use Rattle.bac_explain.specs.Numbers.{ahead, following, is_ahead, more_by, one_m
 use Rattle.bac_explain.specs.Wholes.{is_end}
 
 -- when it was first seen, the octets of that APDU, how many times they were seen, how many other segments, the number of the last segment,
--- how many come before that one, when the last was seen, whether its end was, and which segments may be sent
+-- how many precede that one, when the last was seen, whether its end was, and which segments may be sent
 pub record SentView : Type 0 where
   pub moment : ℕ
   pub octets : List ℕ
@@ -23,12 +23,12 @@ pub record SentView : Type 0 where
   pub whole : Bool
   pub grant : Grant
 
--- what is whole counts as number 0
+-- an unsegmented APDU counts as number 0
 abbrev pub number_in : Option ℕ → ℕ
 number_in None = 0
 number_in (Some number) = number
 
--- where the first that is seen is a later segment, numbers may have gone round before it
+-- if the first that is seen is a later segment, numbers may have wrapped before it
 abbrev pub first_index : ℕ → ℕ
 first_index number = if number == 0 then 0 else 256 + number
 
@@ -45,7 +45,7 @@ first_sent now number octets = record {
   grant = at_first number;
 }
 
--- the octets are the same
+-- the octets are equal
 abbrev pub are_same : List ℕ → List ℕ → Bool
 are_same = pointwise (λ a b. a == b)
 
@@ -56,7 +56,7 @@ is_back s number = nat_le (ahead number s.number) s.index
 abbrev pub numbered_place : SentView → ℕ → Place
 numbered_place s number = if is_ahead s.number number then Ahead else (if is_back s number then Back else Ahead)
 
--- a segment 0 with other octets begins something else, until so many were seen that numbers may have gone round
+-- a segment 0 with other octets begins another request or reply, until so many were seen that numbers may have wrapped
 abbrev pub begins_anew : SentView → ℕ → Bool
 begins_anew s number = number == 0 && nat_lt s.segments ROUND
 
@@ -67,7 +67,7 @@ other_place s (Some number) = if begins_anew s number then Other else numbered_p
 abbrev pub unlike_next : SentView → Option ℕ → List ℕ → Place
 unlike_next s number octets = if are_same s.octets octets then Again else other_place s number
 
--- where an APDU stands: a segment of that number, or a whole
+-- how an APDU relates: a segment with this number, or an unsegmented one
 abbrev pub place_of : SentView → Option ℕ → List ℕ → Place
 place_of s None octets = unlike_next s None octets
 place_of s (Some number) octets = if following s.number number then Next else unlike_next s (Some number) octets
@@ -79,7 +79,7 @@ is_other Back = false
 is_other Ahead = false
 is_other Other = true
 
--- how many come before the first again, or before a segment that is behind or ahead
+-- how many precede the repeated first one, or a segment that is behind or ahead
 abbrev pub index_after : Place → ℕ → SentView → ℕ
 index_after Again number s = first_index number
 index_after Next number s = more_by (ahead s.number number) s.index
@@ -87,7 +87,7 @@ index_after Back number s = s.index - ahead number s.number
 index_after Ahead number s = more_by (ahead s.number number) s.index
 index_after Other number s = s.index
 
--- the first again
+-- the first one again
 abbrev pub with_first : ℕ → Option ℕ → SentView → SentView
 with_first now number s = record s {
   times = one_more s.times;
@@ -107,7 +107,7 @@ with_segment now place number octets s = record s {
   grant = sent number s.grant;
 }
 
--- an APDU that stands there is counted
+-- an APDU in this relation is counted
 abbrev pub counted : ℕ → Place → Option ℕ → List ℕ → SentView → SentView
 counted now Again number octets s = with_first now number s
 counted now Next number octets s = with_segment now Next number octets s
@@ -115,10 +115,10 @@ counted now Back number octets s = with_segment now Back number octets s
 counted now Ahead number octets s = with_segment now Ahead number octets s
 counted now Other number octets s = s
 
--- a SegmentACK for its segments is seen
+-- a SegmentACK for its segments was seen
 abbrev pub with_taken : Taken → SentView → SentView
 with_taken taken s = record s { grant = moved taken s.grant }
 
--- what it answers is asked again
+-- the request that it replies to was sent again
 abbrev pub with_asked_again : SentView → SentView
 with_asked_again s = record s { grant = asked_again s.grant }

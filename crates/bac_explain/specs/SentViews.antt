@@ -1,4 +1,4 @@
--- The plain values of what was seen, and of transactions.
+-- The abstract values of requests and replies that were seen, and of transactions.
 use Rattle.bac_explain.specs.declared.sent.Sent.{Sent}
 use Rattle.bac_explain.specs.Sent.{SentView}
 

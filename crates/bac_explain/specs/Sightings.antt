@@ -1,4 +1,4 @@
--- What is seen on the wire: an APDU of a transaction, between two links.
+-- Captured APDUs of transactions, between two link addresses.
 use Rattle.std.specs.Prelude.{ℕ, if◌then◌else◌, List, Option, Some, None, Result, Ok, Err}
 use Rattle.bac_apdu.specs.Reading.{apdu_at}
 use Rattle.bac_npdu.specs.Npdu.{NpduView, DestinationView, MessageView}
@@ -11,7 +11,7 @@ use Rattle.bac_explain.specs.Keys.{Key}
 use Rattle.bac_explain.specs.KeyViews.{key_view}
 use Rattle.bac_explain.specs.Parts.{part_of}
 
--- the transaction, what the APDU is in it, and its octets
+-- the transaction, the role of the APDU, and its octets
 pub record SightingView : Type 0 where
   pub key : Key
   pub role : Role
@@ -20,7 +20,7 @@ pub record SightingView : Type 0 where
 abbrev pub sighting_view : Sighting → SightingView
 sighting_view s = record { key = key_view s.key; role = s.role; octets = s.octets.now }
 
--- what is left where there is a value
+-- what follows if there is a value
 infixl 10 ◌>>=◌
 abbrev pub ◌>>=◌ : {A B : Type 0} → Option A → (A → Option B) → Option B
 None >>= f = None
@@ -30,20 +30,20 @@ abbrev pub read_of : {A E : Type 0} → Result A E → Option A
 read_of (Ok x) = Some x
 read_of (Err e) = None
 
--- a destination is a route where it names one device (clause 6.2.2)
+-- a destination is a route if it identifies one device (clause 6.2.2)
 abbrev pub receiver_of : List ℕ → Option DestinationView → Option PeerView
 receiver_of link None = Some (record { link = link; route = None })
 receiver_of link (Some d) =
     if route_fits (record { network = d.network; address = d.address }) then
     Some (record { link = link; route = Some (record { network = d.network; address = d.address }) }) else None
 
--- what the client sends goes to the server, and the other way round
+-- what the client sends goes to the server, and vice versa
 abbrev pub key_of : Part → PeerView → PeerView → Key
 key_of part from to =
     if part.by_client then record { client = from; server = to; invoke_id = part.invoke_id } else
     record { client = to; server = from; invoke_id = part.invoke_id }
 
--- the APDU of an NPDU that is no network message
+-- the APDU of an NPDU that is not a network layer message
 unfoldable pub apdu_sighting : (from to : List ℕ) → NpduView → Option SightingView
 apdu_sighting from to npdu = do
   receiver ← receiver_of to npdu.destination
@@ -58,7 +58,7 @@ unless_message (Some message) sighting = None
 abbrev pub sighting_in : (from to : List ℕ) → NpduView → Option SightingView
 sighting_in from to npdu = unless_message npdu.message (apdu_sighting from to npdu)
 
--- the APDU of a transaction that a datagram between two links carries
+-- the APDU of a transaction in a datagram between two link addresses
 unfoldable pub sighting_at : (from to datagram : List ℕ) → Option SightingView
 sighting_at from to datagram = do
   octets ← read_of (bvll_at datagram)

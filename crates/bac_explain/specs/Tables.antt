@@ -1,4 +1,4 @@
--- The transactions that are open, in the order of their beginning, and what a sighting makes of them.
+-- The open transactions, in the order in which they began, and the effect of an APDU on them.
 use Rattle.std.specs.Prelude.{ℕ, nat_lt, Bool, true, false, not, if◌then◌else◌, List, [], ◌∷◌, ◌++◌, length, Option, Some, None}
 use Rattle.bac_slots.specs.declared.slot.Slot.{Slot}
 use Rattle.bac_slots.specs.Slots.{value_at, with_value, without, keep}
@@ -17,12 +17,12 @@ use Rattle.bac_explain.specs.Transactions.{answered, acknowledged, given_up}
 abbrev pub Transactions : Type 0
 Transactions = List (Slot Key TransactionView)
 
--- a transaction of which nothing more is looked for
+-- a transaction that awaits nothing more
 pub record ClosedView : Type 0 where
   pub key : Key
   pub transaction : TransactionView
 
--- what became of a sighting: the transactions then, one that was closed by it, and what is wrong
+-- the result of an APDU: the transactions after it, one that it closed, and what is wrong
 pub record Heard : Type 0 where
   pub slots : Transactions
   pub closed : Option ClosedView
@@ -33,7 +33,7 @@ pub record Heard : Type 0 where
 abbrev pub closed_of : Slot Key TransactionView → ClosedView
 closed_of s = record { key = s.key; transaction = s.value }
 
--- the one of a key
+-- the transaction with a key
 abbrev pub closed_in : Key → Option TransactionView → Option ClosedView
 closed_in key None = None
 closed_in key (Some t) = Some (record { key = key; transaction = t })
@@ -50,15 +50,15 @@ abbrev pub is_oldest_over : ℕ → Transactions → Bool
 is_oldest_over now [] = false
 is_oldest_over now (s ∷ slots) = not (is_awaited now s.value)
 
--- where nothing more is awaited of it
+-- if it awaits nothing more
 abbrev pub over_out : ℕ → Transactions → Option ClosedView × Transactions
 over_out now slots = if is_oldest_over now slots then oldest_out slots else (None, slots)
 
--- at most so many are open; where another one begins, the oldest closes
+-- a limited number is open; if another one begins, the oldest is closed
 abbrev pub full_out : Transactions → Option ClosedView × Transactions
 full_out slots = if nat_lt (length slots) OPEN_LIMIT then (None, slots) else oldest_out slots
 
--- a transaction with the same key closes
+-- a transaction with the same key is closed
 abbrev pub room_in : Option TransactionView → Key → Transactions → Option ClosedView × Transactions
 room_in None key slots = full_out slots
 room_in (Some t) key slots = (Some (record { key = key; transaction = t }), without same_key key slots)
@@ -68,11 +68,11 @@ room_for key slots = room_in (value_at same_key key slots) key slots
 
 -- ---- one sighting
 
--- the live transaction of a key
+-- the live transaction with a key
 abbrev pub live : ℕ → Key → Transactions → Option TransactionView
 live now key slots = keep (is_live now) (value_at same_key key slots)
 
--- the one that awaits answers
+-- the transaction that awaits replies
 abbrev pub awaited : ℕ → Key → Transactions → Option TransactionView
 awaited now key slots = keep (is_awaited now) (value_at same_key key slots)
 
@@ -80,11 +80,11 @@ awaited now key slots = keep (is_awaited now) (value_at same_key key slots)
 abbrev pub unheard : Option Finding → Transactions → Heard
 unheard finding slots = record { slots = slots; closed = None; finding = finding }
 
--- the transaction of a key goes on
+-- the transaction with a key is updated
 abbrev pub goes_on : Key → Transactions → TransactionView × Option Finding → Heard
 goes_on key slots next = record { slots = with_value same_key key next.0 slots; closed = None; finding = next.1 }
 
--- a transaction begins, last
+-- a transaction is added, as the last
 abbrev pub begins_in : Key → ℕ → TransactionView → Option Finding → Option ClosedView × Transactions → Heard
 begins_in key now t finding room =
     record { slots = room.1 ++ record { key = key; begin = now; value = t } ∷ []; closed = room.0; finding = finding }
@@ -92,7 +92,7 @@ begins_in key now t finding room =
 abbrev pub begins : ℕ → Key → Option ℕ → List ℕ → (reused : Bool) → Option Finding → Transactions → Heard
 begins now key number octets reused finding slots = begins_in key now (first_request now number octets reused) finding (room_for key slots)
 
--- a request stands there after that of the live transaction of its key: another one begins a transaction, whose invoke ID is used again
+-- a request in this relation to that of the live transaction with its key: another one begins a transaction, which uses the invoke ID again
 abbrev pub request_at : Place → ℕ → Key → Option ℕ → List ℕ → TransactionView → Transactions → Heard
 request_at place now key number octets t slots =
     if is_other place then begins now key number octets true (Some (reuse_finding octets t)) slots else
@@ -114,7 +114,7 @@ abbrev pub giving_up_heard : Key → Option TransactionView → Transactions →
 giving_up_heard key None slots = unheard None slots
 giving_up_heard key (Some t) slots = goes_on key slots (given_up t, None)
 
--- an APDU with that role in the transaction of a key is seen
+-- an APDU with this role in the transaction with a key is seen
 abbrev pub heard : ℕ → Key → Role → List ℕ → Transactions → Heard
 heard now key (Request number) octets slots = request_heard now key number octets (live now key slots) slots
 heard now key (Answer number) octets slots = answer_heard now key number octets (awaited now key slots) slots

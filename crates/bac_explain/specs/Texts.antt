@@ -1,4 +1,4 @@
--- The texts of what is wrong.
+-- The texts for what is wrong.
 use Rattle.std.specs.Prelude.{ℕ, List, codes}
 use Rattle.bac_explain.specs.declared.finding.Finding.{Finding}
 use Rattle.bac_explain.specs.declared.finding.Finding.TheVariants.{AnswerToNoRequest, OtherService, AnotherAnswer, PerformedTwice, InvokeIdReused, InvokeIdConfused}

@@ -1,4 +1,4 @@
--- One transaction, as it is seen: what each of its APDUs makes of it, and what is wrong with that APDU.
+-- One transaction as it is seen: the effect of each of its APDUs, and what is wrong with that APDU.
 use Rattle.std.specs.Prelude.{ℕ, ◌+◌, ◌-◌, ◌==◌, ◌&&◌, nat_le, nat_lt, not, Bool, true, false, if◌then◌else◌, List, Option, Some, None, is_none, is_some}
 use Rattle.std.specs.Option.{option_map}
 use Rattle.bac_protocol.specs.declared.times.TheConstants.{KEEP, LIFE}
@@ -18,8 +18,8 @@ use Rattle.bac_explain.specs.Numbers.{one_more}
 use Rattle.bac_explain.specs.Sent.{SentView, first_sent, counted, place_of, with_asked_again, with_taken}
 use Rattle.bac_explain.specs.Wholes.{is_server_abort}
 
--- its request, whether that came soon after another with its key, the first of its answers, whether the server's Abort was seen in the midst
--- of that, how many negative SegmentACKs were seen, and whether the client's Abort was
+-- its request, whether that came soon after another with its key, the first of its replies, whether an Abort of the server was seen within
+-- that, how many negative SegmentACKs were seen, and whether an Abort of the client was
 pub record TransactionView : Type 0 where
   pub request : SentView
   pub reused : Bool
@@ -38,19 +38,19 @@ first_request now number octets reused = record {
   gave_up = false;
 }
 
--- its request was first seen at most 65,000 ms before: so long this profile's server remembers it
+-- its request was first seen at most 65,000 ms ago: the time for which a server of this profile remembers it
 abbrev pub is_live : ℕ → TransactionView → Bool
 is_live now t = nat_le (now - t.request.moment) KEEP
 
--- answers are looked for as long after its request was last seen
+-- replies are expected for as long after its request was last seen
 abbrev pub is_awaited : ℕ → TransactionView → Bool
 is_awaited now t = nat_le (now - t.request.last) KEEP
 
--- another request with its key: a server of this profile would send the kept answer, or Abort 0
+-- another request with its key: a server of this profile would send the stored reply, or Abort 0
 abbrev pub reuse_finding : List ℕ → TransactionView → Finding
 reuse_finding octets t = if keeps_answer (is_some t.answer) (asked_by t.request.octets) (asked_by octets) then InvokeIdConfused else InvokeIdReused
 
--- segments before the first that is seen were not
+-- segments before the first that is seen were not seen
 abbrev pub first_finding : Option ℕ → Option Finding
 first_finding None = None
 first_finding (Some number) = if number == 0 then None else Some SegmentMissing
@@ -66,11 +66,11 @@ abbrev pub granted_finding : Place → Option ℕ → SentView → Option Findin
 granted_finding place number s =
     if is_ahead_of place then Some SegmentMissing else (if is_spent s.grant number then Some SegmentSentTooOften else None)
 
--- a segment: it was not granted, or segments before it were not seen, or it was sent so often
+-- a segment: it is beyond the window, or segments before it were not seen, or it was sent too often
 abbrev pub segment_finding : Place → Option ℕ → SentView → Option Finding
 segment_finding place number s = if is_beyond s.grant number then Some BeyondWindow else granted_finding place number s
 
--- once, and three retries; the first segment comes again with each repeat of the whole, but before any is acknowledged only by its retries
+-- once, and three retries; the first segment is repeated with the whole request, but before any is acknowledged only by its own retries
 abbrev pub spent_finding : Option ℕ → Grant → Option Finding
 spent_finding None grant = Some SentTooOften
 spent_finding (Some number) First = Some SegmentSentTooOften
@@ -87,19 +87,19 @@ request_finding Back number s = segment_finding Back number s
 request_finding Ahead number s = segment_finding Ahead number s
 request_finding Other number s = None
 
--- its request is seen again, or a segment of it
+-- its request is seen again, or another segment of it
 abbrev pub requested : ℕ → Place → Option ℕ → List ℕ → TransactionView → TransactionView × Option Finding
 requested now place number octets t = (
   record t { request = counted now place number octets t.request; answer = option_map with_asked_again t.answer },
   request_finding place number t.request,
 )
 
--- an answer comes again so late that it was on its way too long, or the copy of the request was with which it was sent; segments are sent
--- again by themselves
+-- a reply is repeated so late that it was in the network for too long, or the copy of the request that caused it was; segments are
+-- repeated on their own
 abbrev pub is_old : ℕ → Option ℕ → (request answer : SentView) → Bool
 is_old now number request answer = is_none number && (nat_lt LIFE (now - answer.moment) && nat_lt (LIFE + LIFE) (now - request.last))
 
--- two answers differ; where another request had the key soon before, one of them may answer that
+-- two replies differ; if another request had the key soon before, one of them may be the reply to that
 abbrev pub other_answer : (reused : Bool) → (request first other : List ℕ) → Finding
 other_answer reused request first other = if not reused && is_performed_twice request first other then PerformedTwice else AnotherAnswer
 
@@ -110,7 +110,7 @@ answer_finding now Back number reused request first other = segment_finding Back
 answer_finding now Ahead number reused request first other = segment_finding Ahead number first
 answer_finding now Other number reused request first other = Some (other_answer reused request.octets first.octets other)
 
--- the server's Abort comes in the midst of an answer
+-- an Abort of the server comes within a reply
 abbrev pub breaks_off : SentView → List ℕ → Bool
 breaks_off first octets = not first.whole && is_server_abort octets
 
@@ -124,12 +124,12 @@ answered_after now number octets None t = (record t { answer = Some (first_sent 
 answered_after now number octets (Some first) t =
     if breaks_off first octets then (record t { broken_off = true }, None) else counted_answer now number octets first t
 
--- an answer is seen, or a segment of one: the first is kept; one of another service than was asked for is none
+-- a reply is seen, or a segment of one: the first is kept; one of another service than requested is ignored
 abbrev pub answered : ℕ → Option ℕ → List ℕ → TransactionView → TransactionView × Option Finding
 answered now number octets t =
     if is_of_service t.request.octets octets then answered_after now number octets t.answer t else (t, Some OtherService)
 
--- segments of its request or its answer are acknowledged
+-- segments of its request or its reply are acknowledged
 abbrev pub segments_taken : Taken → TransactionView → TransactionView
 segments_taken a t =
     if a.of_request then record t { request = with_taken a t.request } else record t { answer = option_map (with_taken a) t.answer }
@@ -142,6 +142,6 @@ nak_counted false t = (t, None)
 abbrev pub acknowledged : Taken → TransactionView → TransactionView × Option Finding
 acknowledged a t = nak_counted a.nak (segments_taken a t)
 
--- the client's Abort is seen
+-- an Abort of the client is seen
 abbrev pub given_up : TransactionView → TransactionView
 given_up t = record t { gave_up = true }

@@ -1,4 +1,4 @@
--- The plain values of transactions, and of slots that have them.
+-- The abstract values of transactions, and of the slots that contain them.
 use Rattle.std.specs.Prelude.{List, [], ◌∷◌, Option, Some, None, Bool, map}
 use Rattle.std.specs.Option.{option_map}
 use Rattle.std.specs.Ordering.{on}
@@ -25,7 +25,7 @@ transaction_view t = record {
 abbrev pub slots_view : List (Slot TransactionKey Transaction) → Transactions
 slots_view slots = map (slot_seen key_view transaction_view) slots
 
--- whether two keys in code are one
+-- whether two keys in code are equal
 abbrev pub code_same_key : TransactionKey → TransactionKey → Bool
 code_same_key = on key_view same_key
 

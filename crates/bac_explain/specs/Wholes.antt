@@ -1,11 +1,11 @@
--- Whether an APDU is the end of a request or an answer (clauses 20.1.2.2 and 20.1.5.2: more-follows).
+-- Whether an APDU is the end of a request or a reply (clauses 20.1.2.2 and 20.1.5.2: more-follows).
 use Rattle.std.specs.Prelude.{ℕ, Bool, true, false, not, List, Option, Some, None, Result, Ok, Err}
 use Rattle.bac_apdu.specs.Apdu.{Segment, Apdu, ConfirmedRequest, UnconfirmedRequest, SimpleAck, ComplexAck, SegmentAck, Error, Reject, Abort}
 use Rattle.bac_apdu.specs.Reading.{apdu_at}
 use Rattle.bac_apdu.specs.declared.fault.ApduFault.{ApduFault}
 use Rattle.bac_explain.specs.Appends.{passes}
 
--- no more segments follow; what is whole is its own end
+-- no more segments follow; true for an unsegmented APDU
 abbrev pub is_last : Option Segment → Bool
 is_last None = true
 is_last (Some s) = not s.more
@@ -37,6 +37,6 @@ is_server_abort_in (Error invoke_id choice class code) = false
 is_server_abort_in (Reject invoke_id reason) = false
 is_server_abort_in (Abort server invoke_id reason) = server
 
--- the Abort of a server
+-- an Abort of a server
 abbrev pub is_server_abort : List ℕ → Bool
 is_server_abort octets = passes is_server_abort_in (apdu_at octets)

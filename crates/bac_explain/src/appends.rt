@@ -1,4 +1,4 @@
-//! Appends, and what they are answered with.
+//! Appends to files, and the replies to them.
 ghost use Rattle.std.specs.Prelude.{◌≡◌, ◌&&◌, not};
 ghost use Rattle.bac_apdu.specs.Views.{apdu_view};
 ghost use Rattle.bac_service.specs.Requests.{request_view};
@@ -7,7 +7,7 @@ ghost use Rattle.bac_explain.specs.Appends.{is_append, is_append_in, is_append_r
 use bac_apdu::{Apdu, read};
 use bac_service::{ATOMIC_WRITE_FILE, AnyRequest, Request, WriteAccess, read_reply, read_request};
 
-/// Whether a request appends to a file: it writes at -1.
+/// Whether a request appends to a file: its start position is -1.
 fn is_append_request(request: Request<'_>) -> bool
     ensures { result ≡ is_append_request (request_view request.entry) }
 {
@@ -49,7 +49,7 @@ fn is_append(octets: &[u8]) -> bool
     }
 }
 
-/// Whether an APDU is a whole ComplexACK that tells where a file was written.
+/// Whether an APDU is a whole ComplexACK with the position at which a file was written.
 fn is_written_in(apdu: Apdu<'_>) -> bool
     ensures { result ≡ is_written_in (apdu_view apdu.entry) }
 {
@@ -65,7 +65,7 @@ fn is_written_in(apdu: Apdu<'_>) -> bool
     read_reply(ATOMIC_WRITE_FILE, service).is_ok()
 }
 
-/// Whether the octets are an APDU that is a whole ComplexACK that tells where a file was written.
+/// Whether the octets are an APDU that is a whole ComplexACK with the position at which a file was written.
 fn is_written(octets: &[u8]) -> bool
     ensures { result ≡ is_written octets.now }
 {
@@ -75,7 +75,7 @@ fn is_written(octets: &[u8]) -> bool
     }
 }
 
-/// Whether two answers that differ show that a request was performed twice: it appends to a file, and both tell where it was written.
+/// Whether two different replies show that a request was performed twice: it appends to a file, and both have a position.
 pub(crate) fn is_performed_twice(request: &[u8], first: &[u8], other: &[u8]) -> bool
     ensures { result ≡ is_performed_twice request.now first.now other.now }
 {

@@ -1,4 +1,4 @@
-//! Services by their choices: whether an answer is of the service that was asked for, and whether a server of this profile takes two requests for one.
+//! Services by their choices: whether a reply belongs to the requested service, and whether a server of this profile takes two requests for one.
 ghost use Rattle.std.specs.Prelude.{◌≡◌, ◌==◌, ◌&&◌, not, if◌then◌else◌};
 ghost use Rattle.std.specs.Option.{option_map};
 ghost use Rattle.bac_apdu.specs.Views.{apdu_view, segment_view};
@@ -8,7 +8,7 @@ ghost use Rattle.bac_explain.specs.Choices.{answer_choice, asked_by, asked_in, c
 use crate::sent::are_same;
 use bac_apdu::{Apdu, read};
 
-/// What a request asks: whether a segment is all that is looked at of it, the service, and its data.
+/// What is compared of a request: whether it is a segment, of which only this is used, its service, and its data.
 #[derive(Clone, Copy, Debug)]
 pub(crate) struct Asked<'a> {
     pub in_segments: bool,
@@ -34,7 +34,7 @@ fn asked_in<'a>(apdu: Apdu<'a>) -> Option<Asked<'a>>
     }
 }
 
-/// What the octets of a request ask.
+/// What is compared of the request that these octets encode.
 fn asked_by(octets: &[u8]) -> Option<Asked<'_>>
     ensures { option_map asked_view result ≡ asked_by octets.now }
 {
@@ -44,7 +44,7 @@ fn asked_by(octets: &[u8]) -> Option<Asked<'_>>
     }
 }
 
-/// The service of an answer; None of a Reject and an Abort, which tell none.
+/// The service of a reply; None for a Reject and an Abort, which have none.
 fn choice_in(apdu: Apdu<'_>) -> Option<u8>
     ensures { result ≡ choice_in (apdu_view apdu.entry) }
 {
@@ -65,7 +65,7 @@ fn answer_choice(octets: &[u8]) -> Option<u8>
     }
 }
 
-/// Whether a request is of that service.
+/// Whether a request is for this service.
 fn has_choice(request: &[u8], choice: u8) -> bool
     ensures { result ≡ has_choice choice (asked_by request.now) }
 {
@@ -75,7 +75,7 @@ fn has_choice(request: &[u8], choice: u8) -> bool
     }
 }
 
-/// Whether an answer is of the service of a request, or tells none.
+/// Whether a reply belongs to the service of a request, or has no service.
 pub(crate) fn is_of_service(request: &[u8], answer: &[u8]) -> bool
     ensures { result ≡ is_of_service request.now answer.now }
 {
@@ -86,8 +86,8 @@ pub(crate) fn is_of_service(request: &[u8], answer: &[u8]) -> bool
 }
 
 impl Asked<'_> {
-    /// Whether a server of this profile takes another request for this one: whole requests by service and data; once it has answered
-    /// one in segments, any in segments.
+    /// Whether a server of this profile takes another request for this one: whole requests with the same service and data; and once it
+    /// has answered a segmented request, any segmented one.
     fn is_taken_for(self, other: Asked<'_>, answered: bool) -> bool
         ensures { result ≡ is_taken_for answered (asked_view self.entry) (asked_view other.entry) }
     {
@@ -98,7 +98,7 @@ impl Asked<'_> {
     }
 }
 
-/// Whether a server of this profile sends the kept answer of a request to another one with its invoke ID.
+/// Whether a server of this profile sends the stored reply of a request to another one with its invoke ID.
 pub(crate) fn keeps_answer(request: &[u8], other: &[u8], answered: bool) -> bool
     ensures { result ≡ keeps_answer answered (asked_by request.now) (asked_by other.now) }
 {

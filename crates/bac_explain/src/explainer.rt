@@ -1,4 +1,4 @@
-//! What a capture says of transactions, sighting by sighting.
+//! What a capture shows of transactions, APDU by APDU.
 ghost use Rattle.std.specs.Prelude.{◌≡◌, [], None, Some, IfOk, OnErr, is_some};
 ghost use Rattle.std.specs.Option.{option_map};
 ghost use Rattle.bac_explain.specs.KeyViews.{key_view};
@@ -19,16 +19,16 @@ use bac_slots::SlotTable;
 use std::alloc::{AllocError, Global};
 use std::marker::Model;
 
-/// What became of a sighting.
+/// The result of an APDU that was seen.
 #[derive(Debug, Drop)]
 pub struct Heard {
-    /// What is wrong with it.
+    /// What is wrong with it, if anything.
     pub finding: Option<Finding>,
-    /// The transaction that was closed by it.
+    /// The transaction that it closed, if any.
     pub closed: Option<Closed>,
 }
 
-/// The transactions that are open, in the order of their beginning. All memory for the table is taken when it is made.
+/// The open transactions, in the order in which they began. The table allocates all its memory when it is created.
 #[derive(Drop)]
 pub struct Explainer {
     table: OpenTable,
@@ -48,7 +48,7 @@ impl Model for Explainer {
 }
 
 impl Explainer {
-    /// No transaction is open; an Err where the memory for the table is refused.
+    /// No open transactions. Returns an `Err` if the allocation of the table fails.
     pub fn new(alloc: Global) -> Result<Explainer, AllocError>
         ensures { IfOk result (λ e. e ≡ []) }
     {
@@ -56,7 +56,7 @@ impl Explainer {
         Ok(Explainer { table })
     }
 
-    /// Closes the transaction that began first; None where none is open.
+    /// Closes the transaction that began first; None if none is open.
     pub fn pop(&mut self) -> Option<Closed>
         ensures closed { option_map closed_view result ≡ (oldest_out self.old).0 }
         ensures left { self.new ≡ (oldest_out self.old).1 }
@@ -64,7 +64,7 @@ impl Explainer {
         take_oldest(&mut self.table)
     }
 
-    /// Closes the transaction that began first, where its request was last seen more than 65,000 ms before.
+    /// Closes the transaction that began first, if its request was last seen more than 65,000 ms ago.
     pub fn pop_over(&mut self, now: u64) -> Option<Closed>
         ensures closed { option_map closed_view result ≡ (over_out now self.old).0 }
         ensures left { self.new ≡ (over_out now self.old).1 }
@@ -72,7 +72,7 @@ impl Explainer {
         take_over(&mut self.table, now)
     }
 
-    /// Whether a transaction of that key awaits answers.
+    /// Whether a transaction with this key awaits replies.
     fn is_awaited(&self, now: u64, key: &TransactionKey) -> bool
         ensures { result ≡ is_some (awaited now (key_view key.now) self.now) }
     {
@@ -82,7 +82,7 @@ impl Explainer {
         }
     }
 
-    /// Where a request stands after that of the live transaction of its key; None where there is no such transaction.
+    /// How a request relates to that of the live transaction with its key; None if there is no such transaction.
     fn place(
         &self,
         now: u64,
@@ -107,7 +107,7 @@ impl Explainer {
         Some(transaction.reuse_finding(octets))
     }
 
-    /// A transaction begins with a request that is seen.
+    /// Begins a transaction, with a request that is seen.
     fn begin(
         &mut self,
         alloc: Global,
@@ -126,7 +126,7 @@ impl Explainer {
         Ok(Heard { finding, closed })
     }
 
-    /// The request of the live transaction of a key is seen again, or a segment of it.
+    /// The request of the live transaction with this key is seen again, or another segment of it.
     fn repeat(
         &mut self,
         now: u64,
@@ -144,7 +144,7 @@ impl Explainer {
         transaction.requested(now, place, number, octets)
     }
 
-    /// A request is seen, or a segment of one.
+    /// Handles a request, or a segment of one.
     fn hear_request(
         &mut self,
         alloc: Global,
@@ -170,7 +170,7 @@ impl Explainer {
         })
     }
 
-    /// An answer is seen, or a segment of one.
+    /// Handles a reply, or a segment of one.
     fn hear_answer(
         &mut self,
         alloc: Global,
@@ -192,7 +192,7 @@ impl Explainer {
         transaction.answered(alloc, now, number, octets)
     }
 
-    /// A SegmentACK is seen.
+    /// Handles a SegmentACK.
     fn hear_acknowledgement(
         &mut self,
         now: u64,
@@ -211,7 +211,7 @@ impl Explainer {
         transaction.acknowledged(taken)
     }
 
-    /// The client's Abort is seen.
+    /// Handles an Abort of the client.
     fn hear_giving_up(&mut self, now: u64, key: &TransactionKey)
         ensures { record { slots = self.new; closed = None; finding = None }
             ≡ giving_up_heard (key_view key.now) (awaited now (key_view key.now) self.old) self.old }
@@ -225,9 +225,9 @@ impl Explainer {
         transaction.given_up();
     }
 
-    /// An APDU with that role in the transaction of that key is seen at a moment: what is wrong with it, and the transaction that it
-    /// closes: an earlier one of that key, where it begins another one, or the oldest, where 16,384 are open. An Err only where
-    /// memory is refused; nothing has changed then.
+    /// Handles an APDU of the transaction with this key, seen at a moment in milliseconds. Returns what is wrong with it, and the
+    /// transaction that it closes: an earlier one with this key, if it begins another one, or the oldest, if 16,384 are open. Returns an
+    /// `Err` only if an allocation fails; nothing has changed then.
     pub fn hear(
         &mut self,
         alloc: Global,

@@ -1,36 +1,36 @@
-//! What is wrong with a datagram of a transaction.
+//! What is wrong with a datagram, considering the transaction's earlier ones.
 ghost use Rattle.std.specs.Prelude.{Some};
 ghost use Rattle.bac_explain.specs.Texts.{finding_text};
 
 use std::fmt;
 
-/// What is wrong with a datagram, in view of those before it.
+/// What is wrong with a datagram, considering the earlier ones.
 #[derive(Clone, Copy, Debug, PartialEq, Eq)]
 pub enum Finding {
-    /// It answers no request of the last 65,000 ms.
+    /// It is a reply to no request of the last 65,000 ms.
     AnswerToNoRequest,
-    /// It answers another service than its request asks for, and counts as no answer.
+    /// It is a reply of a service other than the requested one, and is ignored as a reply.
     OtherService,
-    /// Its request was answered otherwise before.
+    /// There was a different reply to its request before.
     AnotherAnswer,
-    /// Its request appends to a file, and was answered with another position before, and no other request had its invoke ID in the
-    /// 65,000 ms before it: as far as can be seen it was performed twice.
+    /// Its request appends to a file, there was a reply with another position before, and no other request had its invoke ID in the
+    /// 65,000 ms before: as far as the capture shows, it was performed twice.
     PerformedTwice,
-    /// It asks with an invoke ID that had another request at most 65,000 ms before.
+    /// It is a request with an invoke ID that another request had at most 65,000 ms before.
     InvokeIdReused,
-    /// The same, and a server of this profile takes it for that one and sends its answer: both are whole, of one service with the same
-    /// data, and differ in what the client takes; or both are in segments, and the earlier one was answered.
+    /// The same, and a server of this profile takes it for that one and sends its reply: both are unsegmented, with the same service and
+    /// data, and differ in the client's limits; or both are segmented, and there was a reply to the earlier one.
     InvokeIdConfused,
-    /// It asks in one APDU for the fifth time, or later: once, and three retries, is the default of the standard (clause 12.11.28).
+    /// It is an unsegmented request that is sent for the fifth time, or later: once, and three retries, is the default (clause 12.11.28).
     SentTooOften,
-    /// It is a segment after one or more that were not seen.
+    /// It is a segment after one or more that the capture does not have.
     SegmentMissing,
-    /// It is a segment that no SegmentACK granted: after the window of the last one, or after segment 0 where none was seen (clause 5.3).
+    /// It is a segment outside the window: after that of the last SegmentACK, or after segment 0 if there was none (clause 5.3).
     BeyondWindow,
-    /// It is the first segment of a window, for the fifth time or later since the SegmentACK; or that of a request before any.
+    /// It is the first segment of a window, sent for the fifth time or later since the SegmentACK; or that of a request before any.
     SegmentSentTooOften,
-    /// It is an answer again, more than 5,000 ms after it was first seen and 10,000 ms after the request was last: a server answers
-    /// again only where a copy of the request comes, so one of the two was on its way for more than 5,000 ms.
+    /// It is a repeated reply, more than 5,000 ms after it was first seen and 10,000 ms after the request was last seen. A server repeats
+    /// a reply only when a copy of the request arrives, so one of the two took more than 5,000 ms in the network.
     OldCopy,
     /// It is a negative SegmentACK.
     NegativeAck,

@@ -1,34 +1,34 @@
-//! Which segments may be sent, as far as the SegmentACKs that were seen tell.
+//! Which segments may be sent, according to the SegmentACKs that were seen.
 ghost use Rattle.std.specs.Prelude.{◌≡◌};
 ghost use Rattle.bac_explain.specs.Grants.{asked_again, at_first, begun_again, granted_by, is_beyond, is_past, is_spent, is_sent_out, moved, moved_on, sent, sent_on};
 
 use crate::numbers::{MOST_SENDS, ahead, is_ahead, is_behind, is_following, one_more};
 use crate::part::Taken;
 
-/// What the last SegmentACK granted, and how often its first segment was sent since.
+/// What the last SegmentACK allows, and how often the first of these segments was sent since.
 #[derive(Clone, Copy, Debug, PartialEq, Eq)]
 pub struct Granted {
-    /// The number of the last segment that was taken in order, modulo 256.
+    /// The sequence number of the last segment taken in order, modulo 256.
     pub number: u8,
-    /// How many segments after that may be sent.
+    /// How many segments after that one may be sent.
     pub window: u8,
-    /// How many times the first of them was seen; the count stays at its last value.
+    /// How many times the first of them was seen; the count saturates.
     pub sends: u64,
 }
 
-/// Which segments may be sent (clause 5.3), as far as the SegmentACKs that were seen tell.
+/// Which segments may be sent (clause 5.3), according to the SegmentACKs that were seen.
 #[derive(Clone, Copy, Debug, PartialEq, Eq)]
 pub enum Grant {
-    /// Segment 0 alone: no SegmentACK was seen.
+    /// Only segment 0: no SegmentACK was seen.
     First,
-    /// That cannot be told: its sender may have begun again, or it had begun before anything was seen, and no SegmentACK was seen since.
+    /// Unknown: the sender may have restarted, or it began before the capture, and no SegmentACK was seen since.
     Unknown,
-    /// Those of a window.
+    /// The segments of a window.
     Window(Granted),
 }
 
 impl Granted {
-    /// What a SegmentACK grants.
+    /// The window that a SegmentACK allows.
     fn by(taken: Taken) -> Granted
         ensures { result ≡ granted_by taken }
     {
@@ -39,21 +39,21 @@ impl Granted {
         }
     }
 
-    /// Whether a segment of that number is after the window.
+    /// Whether a segment with this number is after the window.
     fn is_past(self, number: u8) -> bool
         ensures { result ≡ is_past self number }
     {
         is_ahead(self.number, number) && ahead(self.number, number) > u16::from(self.window)
     }
 
-    /// Whether a segment of that number is the first of the window, and was sent so often that it may not be sent once more.
+    /// Whether a segment with this number is the first of the window, and was sent as often as allowed.
     fn is_sent_out(self, number: u8) -> bool
         ensures { result ≡ is_sent_out self number }
     {
         is_following(self.number, number) && self.sends >= MOST_SENDS
     }
 
-    /// After a SegmentACK: one that takes less than was taken changes nothing, as it was sent before.
+    /// After a SegmentACK. One that acknowledges less than an earlier one changes nothing, as it was sent before that.
     fn moved(self, taken: Taken) -> Granted
         ensures { result ≡ moved_on taken self }
     {
@@ -64,7 +64,7 @@ impl Granted {
         }
     }
 
-    /// After a segment of that number.
+    /// After a segment with this number.
     fn sent(self, number: u8) -> Granted
         ensures { result ≡ sent_on number self }
     {
@@ -80,7 +80,7 @@ impl Granted {
 }
 
 impl Grant {
-    /// After the first APDU that is seen: a whole, or a segment of that number.
+    /// After the first APDU that is seen: unsegmented, or a segment with this number.
     pub(crate) fn at_first(number: Option<u8>) -> Grant
         ensures { result ≡ at_first number }
     {
@@ -90,7 +90,7 @@ impl Grant {
         }
     }
 
-    /// Whether a segment of that number is beyond the window; what is whole is not.
+    /// Whether a segment with this number is beyond the window; false for an unsegmented APDU.
     pub(crate) fn is_beyond(self, number: Option<u8>) -> bool
         ensures { result ≡ is_beyond self number }
     {
@@ -104,7 +104,7 @@ impl Grant {
         }
     }
 
-    /// Whether a segment of that number was sent so often that it may not be sent once more.
+    /// Whether a segment with this number was sent as often as allowed.
     pub(crate) fn is_spent(self, number: Option<u8>) -> bool
         ensures { result ≡ is_spent self number }
     {
@@ -127,7 +127,7 @@ impl Grant {
         }
     }
 
-    /// After a segment of that number.
+    /// After a segment with this number.
     pub(crate) fn sent(self, number: Option<u8>) -> Grant
         ensures { result ≡ sent number self }
     {
@@ -140,7 +140,7 @@ impl Grant {
         }
     }
 
-    /// After the first segment again: it may be an old copy, or its sender begins again.
+    /// After the first segment again: it may be an old copy, or its sender restarts.
     pub(crate) fn begun_again(self) -> Grant
         ensures { result ≡ begun_again self }
     {
@@ -150,7 +150,7 @@ impl Grant {
         }
     }
 
-    /// After the request again, with which a server sends its segments anew.
+    /// After the request again, for which a server restarts its segments.
     pub(crate) fn asked_again(self) -> Grant
         ensures { result ≡ asked_again self }
     {

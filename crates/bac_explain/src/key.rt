@@ -1,4 +1,4 @@
-//! What a transaction is found by.
+//! Keys of transactions.
 ghost use Rattle.std.specs.Prelude.{◌≡◌, ◌==◌, true, false};
 ghost use Rattle.std.proofs.Common.{rules};
 ghost use Rattle.std.specs.Ordering.{on, eq_by_cmp, as_partial_cmp};
@@ -10,7 +10,7 @@ ghost use Rattle.bac_explain.specs.KeyViews.{key_view};
 use bac_npdu::Peer;
 use std::cmp::Ordering;
 
-/// A transaction: who asks, who serves, and the invoke ID (clause 5.4). Keys are ordered by client, then by server, then by invoke ID.
+/// The key of a transaction: client, server, and invoke ID (clause 5.4). Keys are ordered by client, then by server, then by invoke ID.
 #[derive(Clone, Copy, Debug)]
 pub struct TransactionKey {
     pub client: Peer,

@@ -1,4 +1,4 @@
-//! What a capture says of transactions (clause 5.4), from its datagrams alone: what each asked, how it was answered, and what was wrong.
+//! What the datagrams of a capture show of transactions (clause 5.4): each request, the reply to it, and what was wrong.
 #![tactic(auto)]
 
 mod appends;

@@ -1,36 +1,36 @@
-//! Counts, and the numbers of segments.
+//! Counts, and sequence numbers of segments.
 ghost use Rattle.std.specs.Prelude.{◌≡◌};
 ghost use Rattle.bac_explain.specs.Numbers.{ahead, following, is_ahead, is_behind, more_by, one_more};
 
-/// How often a request or a segment is sent at most: once, and then as often as the standard repeats it (Number_Of_APDU_Retries,
-/// clause 12.11.28, whose default is 3).
+/// How often a request or a segment may be sent: once, and as many retries as the standard has by default (Number_Of_APDU_Retries,
+/// clause 12.11.28, default 3).
 pub(crate) const MOST_SENDS: u64 = 4;
 
-/// How many segments beside the first were seen where numbers may have gone round: half of all numbers, as some of them may not have been captured (own).
+/// How many segments after the first are seen before sequence numbers may have wrapped: half of all numbers, as the capture may lack some (own).
 pub(crate) const ROUND: u64 = 128;
 
-/// A count with one more; it stays at its last value.
+/// One more than a count; it saturates.
 pub(crate) fn one_more(count: u64) -> u64
     ensures { result ≡ one_more count }
 {
     count.saturating_add(1)
 }
 
-/// A count with so many more; it stays at its last value.
+/// A count plus this many; it saturates.
 pub(crate) fn more_by(count: u64, more: u16) -> u64
     ensures { result ≡ more_by more count }
 {
     count.saturating_add(u64::from(more))
 }
 
-/// How far a number of a segment is ahead of another, modulo 256.
+/// How far a sequence number is ahead of another, modulo 256.
 pub(crate) fn ahead(last: u8, number: u8) -> u16
     ensures { result ≡ ahead last number }
 {
-    (u16::from(number) + 256 - u16::from(last)) % 256
+    u16::from(number.wrapping_sub(last))
 }
 
-/// Whether a number of a segment is after another: fewer than half of all lie between them.
+/// Whether a sequence number is ahead of another by less than half of all numbers.
 pub(crate) fn is_ahead(last: u8, number: u8) -> bool
     ensures { result ≡ is_ahead last number }
 {
@@ -38,16 +38,16 @@ pub(crate) fn is_ahead(last: u8, number: u8) -> bool
     0 < ahead && ahead < 128
 }
 
-/// Whether a number of a segment is before another.
+/// Whether a sequence number is behind another.
 pub(crate) fn is_behind(last: u8, number: u8) -> bool
     ensures { result ≡ is_behind last number }
 {
     ahead(last, number) >= 128
 }
 
-/// Whether a number of a segment is the one after another.
+/// Whether a sequence number is the next after another.
 pub(crate) fn is_following(last: u8, number: u8) -> bool
     ensures { result ≡ following last number }
 {
-    (u16::from(last) + 1) % 256 == u16::from(number)
+    last.wrapping_add(1) == number
 }

@@ -1,4 +1,4 @@
-//! What an APDU is in its transaction.
+//! The role of an APDU in its transaction.
 ghost use Rattle.std.specs.Prelude.{◌≡◌};
 ghost use Rattle.std.specs.Option.{option_map};
 ghost use Rattle.bac_apdu.specs.Views.{apdu_view, segment_view};
@@ -6,33 +6,33 @@ ghost use Rattle.bac_explain.specs.Parts.{number_of, part_of};
 
 use bac_apdu::{Apdu, Segment};
 
-/// What a SegmentACK says of the segments of its transaction.
+/// What a SegmentACK states about the segments of its transaction.
 #[derive(Clone, Copy, Debug, PartialEq, Eq)]
 pub struct Taken {
-    /// Whether they are those of the request: the server sent it.
+    /// Whether it is about segments of the request: the server sent it.
     pub of_request: bool,
-    /// Whether one was out of order.
+    /// Whether it is negative.
     pub nak: bool,
-    /// The number of the last one taken in order, modulo 256.
+    /// The sequence number of the last segment taken in order, modulo 256.
     pub number: u8,
-    /// How many after that may be sent before the next SegmentACK.
+    /// How many segments may be sent after that one before the next SegmentACK.
     pub window: u8,
 }
 
-/// What an APDU is in its transaction. A segment has its number modulo 256; what is whole has none.
+/// The role of an APDU in its transaction. A segment has its sequence number, modulo 256; an unsegmented APDU has none.
 #[derive(Clone, Copy, Debug, PartialEq, Eq)]
 pub enum Role {
     /// The request.
     Request(Option<u8>),
-    /// A reply, or the server's Abort.
+    /// A reply, or an Abort of the server.
     Answer(Option<u8>),
     /// A SegmentACK of either end.
     Acknowledgement(Taken),
-    /// The client's Abort.
+    /// An Abort of the client.
     GivesUp,
 }
 
-/// The side that sent an APDU, the invoke ID, and what it is in its transaction.
+/// The side that sent an APDU, the invoke ID, and the role in the transaction.
 #[derive(Clone, Copy, Debug, PartialEq, Eq)]
 pub struct Part {
     /// Whether the client sent it.
@@ -41,7 +41,7 @@ pub struct Part {
     pub role: Role,
 }
 
-/// The number of a segment.
+/// The sequence number of a segment.
 fn number_of(segment: Option<Segment>) -> Option<u8>
     ensures { result ≡ number_of (option_map segment_view segment) }
 {
@@ -51,7 +51,7 @@ fn number_of(segment: Option<Segment>) -> Option<u8>
     }
 }
 
-/// What an APDU is in its transaction; None of an Unconfirmed-Request, which belongs to none.
+/// The role of an APDU in its transaction; None for an Unconfirmed-Request, which belongs to none.
 pub fn part_of(apdu: &Apdu<'_>) -> Option<Part>
     ensures { result ≡ part_of (apdu_view apdu.now) }
 {

@@ -1,4 +1,4 @@
-//! A request or an answer, as it was seen.
+//! A request or a reply, as it was seen.
 ghost use Rattle.std.specs.Prelude.{◌≡◌, IfOk};
 ghost use Rattle.bac_explain.specs.SentViews.{sent_view};
 ghost use Rattle.bac_explain.specs.Sent.{are_same, begins_anew, counted, first_index, first_sent, index_after, is_back, is_other, number_in};
@@ -11,42 +11,42 @@ use crate::part::Taken;
 use crate::whole::is_end;
 use std::alloc::{AllocError, Global};
 
-/// A request or an answer, as it was seen: by the first of its APDUs, and how many came after it.
+/// A request or a reply, as it was seen: its first APDU, and how many followed it.
 #[derive(Debug, Drop)]
 pub struct Sent {
     /// When it was first seen, in milliseconds.
     pub moment: u64,
-    /// The octets of that APDU: the whole, or one segment.
+    /// The octets of its first APDU: all of it, or one segment.
     pub octets: Vec<u8>,
-    /// How many times they were seen, at least 1; the count stays at its last value.
+    /// How many times these octets were seen, at least 1; the count saturates.
     pub times: u64,
-    /// How many other segments were seen, those that were sent again too; the count stays at its last value.
+    /// How many other segments were seen, including repeated ones; the count saturates.
     pub segments: u64,
-    /// The number of the last segment that was seen, modulo 256; 0 of what is whole.
+    /// The sequence number of the last segment that was seen, modulo 256; 0 if it is unsegmented.
     pub number: u8,
-    /// How many segments come before that one, those too that were not seen; where the first that was seen is not segment 0, so many and
-    /// 256 more, as numbers may have gone round. The count stays at its last value.
+    /// How many segments precede that one, including those not seen. If the first that was seen is not segment 0, 256 is added, as sequence
+    /// numbers may have wrapped. The count saturates.
     pub index: u64,
     /// When the last of its APDUs was seen, in milliseconds.
     pub last: u64,
-    /// Whether its end was seen: the segment after which no more follow, or it is no segment.
+    /// Whether its end was seen: an unsegmented APDU, or the segment after which no more follow.
     pub whole: bool,
     /// Which of its segments may be sent.
     pub grant: Grant,
 }
 
-/// Where an APDU stands after what was seen.
+/// How an APDU relates to what was seen before.
 #[derive(Clone, Copy, Debug, PartialEq, Eq)]
 pub(crate) enum Place {
     /// The first APDU again.
     Again,
     /// The segment after the last one.
     Next,
-    /// A segment that was sent before, as far as numbers tell.
+    /// A segment that was sent before, judging by its number.
     Back,
-    /// A later segment than the next.
+    /// A segment after the next one.
     Ahead,
-    /// Another request or answer.
+    /// Another request or reply.
     Other,
 }
 
@@ -64,7 +64,7 @@ fn number_in(number: Option<u8>) -> u8
     number.unwrap_or(0)
 }
 
-/// How many segments come before the first that is seen.
+/// How many segments precede the first one that is seen.
 fn first_index(number: u8) -> u64
     ensures { result ≡ first_index number }
 {
@@ -75,7 +75,7 @@ fn first_index(number: u8) -> u64
     }
 }
 
-/// Whether the octets are the same.
+/// Whether the octets are equal.
 pub(crate) fn are_same(one: &[u8], other: &[u8]) -> bool
     ensures { result ≡ are_same one.now other.now }
 {
@@ -83,7 +83,7 @@ pub(crate) fn are_same(one: &[u8], other: &[u8]) -> bool
 }
 
 impl Sent {
-    /// What is seen for the first time; an Err only where the memory for it is refused.
+    /// A request or a reply that is seen for the first time. Returns an `Err` only if the allocation fails.
     pub(crate) fn first(
         alloc: Global,
         now: u64,
@@ -111,21 +111,21 @@ impl Sent {
         is_following(self.number, number)
     }
 
-    /// Whether a segment of that number, whose octets are not those of the first, begins something else.
+    /// Whether a segment with this number, whose octets are not those of the first, begins another request or reply.
     fn begins_anew(&self, number: u8) -> bool
         ensures { result ≡ begins_anew (sent_view self.now) number }
     {
         number == 0 && self.segments < ROUND
     }
 
-    /// Whether a segment of that number, which is not ahead, is no further behind than the first.
+    /// Whether a segment with this number, which is not ahead, is no further behind than the first.
     fn is_back(&self, number: u8) -> bool
         ensures { result ≡ is_back (sent_view self.now) number }
     {
         u64::from(ahead(number, self.number)) <= self.index
     }
 
-    /// Where a segment of that number stands, where it is not the next: numbers are compared modulo 256.
+    /// How a segment with this number relates to what was seen, if it is not the next one: numbers are compared modulo 256.
     fn numbered_place(&self, number: u8) -> Place
         ensures { result ≡ numbered_place (sent_view self.now) number }
     {
@@ -139,7 +139,7 @@ impl Sent {
         }
     }
 
-    /// Where an APDU stands that is not the next segment.
+    /// How an APDU that is not the next segment relates to what was seen.
     fn unlike_next(&self, number: Option<u8>, octets: &[u8]) -> Place
         ensures { result ≡ unlike_next (sent_view self.now) number octets.now }
     {
@@ -153,7 +153,7 @@ impl Sent {
         }
     }
 
-    /// Where an APDU stands after what was seen: a segment of that number, or a whole.
+    /// How an APDU relates to what was seen: a segment with this number, or an unsegmented one.
     pub(crate) fn place(&self, number: Option<u8>, octets: &[u8]) -> Place
         ensures { result ≡ place_of (sent_view self.now) number octets.now }
     {
@@ -163,7 +163,7 @@ impl Sent {
         }
     }
 
-    /// How many segments come before one of that number that stands there.
+    /// How many segments precede one with this number in this relation.
     fn index_after(&self, place: Place, number: u8) -> u64
         ensures { result ≡ index_after place number (sent_view self.now) }
     {
@@ -177,7 +177,7 @@ impl Sent {
         }
     }
 
-    /// Counts an APDU that stands there, which is seen at that moment.
+    /// Counts an APDU in this relation, which is seen at this moment.
     pub(crate) fn count(&mut self, now: u64, place: Place, number: Option<u8>, octets: &[u8])
         ensures { sent_view self.new ≡ counted now place number octets.now (sent_view self.old) }
     {
@@ -199,14 +199,14 @@ impl Sent {
         self.index = index;
     }
 
-    /// A SegmentACK for its segments is seen.
+    /// A SegmentACK for its segments was seen.
     pub(crate) fn take(&mut self, taken: Taken)
         ensures { sent_view self.new ≡ with_taken taken (sent_view self.old) }
     {
         self.grant = self.grant.moved(taken);
     }
 
-    /// What it answers is asked again.
+    /// The request that it replies to was sent again.
     pub(crate) fn ask_again(&mut self)
         ensures { sent_view self.new ≡ with_asked_again (sent_view self.old) }
     {

@@ -1,4 +1,4 @@
-//! Reading what was seen on the wire.
+//! Decoding what was captured.
 ghost use Rattle.std.specs.Prelude.{◌≡◌};
 ghost use Rattle.std.specs.Option.{option_map};
 ghost use Rattle.bac_npdu.specs.Views.{destination_view, npdu_view, peer_view};
@@ -9,18 +9,18 @@ use crate::key::TransactionKey;
 use crate::part::{Part, Role, part_of};
 use bac_npdu::{Destination, LinkAddress, Npdu, Peer, Route, read_bvll, read_npdu};
 
-/// What was seen: an APDU of a transaction.
+/// An APDU of a transaction that was captured.
 #[derive(Clone, Copy, Debug)]
 pub struct Sighting<'a> {
     /// The transaction.
     pub key: TransactionKey,
-    /// What the APDU is in it.
+    /// The role of the APDU.
     pub role: Role,
     /// Its octets.
     pub octets: &'a [u8],
 }
 
-/// The receiver at a link: the one that stands there, or where the NPDU is to be routed to. None where that is many receivers.
+/// The receiver at a link address: the node there, or the destination of the NPDU. None if these are many receivers.
 fn receiver(link: LinkAddress, destination: Option<Destination>) -> Option<Peer>
     ensures { option_map peer_view result ≡ receiver_of link (option_map destination_view destination) }
 {
@@ -52,7 +52,7 @@ fn key_of(part: Part, from: Peer, to: Peer) -> TransactionKey
     }
 }
 
-/// The APDU of an NPDU between two links.
+/// The APDU of an NPDU between two link addresses.
 #[tactic(auto, unfolding(crate::specs::Sightings::apdu_sighting))]
 fn apdu_sighting<'a>(from: LinkAddress, to: LinkAddress, npdu: Npdu<'a>) -> Option<Sighting<'a>>
     ensures { option_map sighting_view result ≡ apdu_sighting from to (npdu_view npdu.entry) }
@@ -73,7 +73,7 @@ fn apdu_sighting<'a>(from: LinkAddress, to: LinkAddress, npdu: Npdu<'a>) -> Opti
     })
 }
 
-/// The same where it is no network message.
+/// The same, unless it is a network layer message.
 fn sighting_in<'a>(from: LinkAddress, to: LinkAddress, npdu: Npdu<'a>) -> Option<Sighting<'a>>
     ensures { option_map sighting_view result ≡ sighting_in from to (npdu_view npdu.entry) }
 {
@@ -83,9 +83,9 @@ fn sighting_in<'a>(from: LinkAddress, to: LinkAddress, npdu: Npdu<'a>) -> Option
     apdu_sighting(from, to, npdu)
 }
 
-/// The APDU of a transaction that a datagram between two links carries: a BVLL with function Original-Unicast-NPDU, whose NPDU is no
-/// network message. Each end is its link, with the source or the destination of the NPDU as its route. None where the datagram
-/// carries none, as one that is broadcast, or an Unconfirmed-Request.
+/// The APDU of a transaction in a datagram between two link addresses: a BVLL with function Original-Unicast-NPDU, whose NPDU is not a
+/// network layer message. Each end is its link address, with the source or the destination of the NPDU as its route. None if the
+/// datagram has no such APDU, for example if it is a broadcast or an Unconfirmed-Request.
 #[tactic(auto, unfolding(crate::specs::Sightings::sighting_at))]
 pub fn read_sighting(from: LinkAddress, to: LinkAddress, datagram: &[u8]) -> Option<Sighting<'_>>
     ensures { option_map sighting_view result ≡ sighting_at from to datagram.now }

@@ -1,4 +1,4 @@
-//! The transactions that are open: a table in the order of their beginning.
+//! The open transactions: a table in the order in which they began.
 ghost use Rattle.std.specs.Prelude.{◌≡◌, ◌<◌, [], ◌∷◌, ◌++◌, None, length};
 ghost use Rattle.std.specs.Option.{option_map};
 ghost use Rattle.bac_slots.specs.Slots.{value_at, without};
@@ -12,20 +12,20 @@ use crate::key::TransactionKey;
 use crate::transaction::Transaction;
 use bac_slots::{IndexSlots, SlotTable, removing_a_slot};
 
-/// Most transactions that are open at once (own).
+/// The greatest number of open transactions (own).
 pub const OPEN_LIMIT: usize = 16_384;
 
 /// The transactions that are open.
 pub(crate) type OpenTable = IndexSlots<TransactionKey, Transaction>;
 
-/// A transaction of which nothing more is looked for.
+/// A transaction that awaits nothing more.
 #[derive(Debug, Drop)]
 pub struct Closed {
     pub key: TransactionKey,
     pub transaction: Transaction,
 }
 
-/// The transaction of that key.
+/// The transaction with this key.
 #[tactic(auto, using(crate::proofs::Seen::found_seen))]
 pub(crate) fn find<'a>(table: &'a OpenTable, key: &TransactionKey) -> Option<&'a Transaction>
     ensures { option_map (λ t. transaction_view t.now) result ≡ value_at same_key (key_view key.now) (slots_view table.now.0) }
@@ -33,7 +33,7 @@ pub(crate) fn find<'a>(table: &'a OpenTable, key: &TransactionKey) -> Option<&'a
     table.get(key)
 }
 
-/// Takes out the transaction of that key.
+/// Removes the transaction with this key.
 #[tactic(auto, using(crate::proofs::Seen::closed_none, crate::proofs::Seen::closed_some, crate::proofs::Seen::taken_seen, crate::proofs::Seen::none_seen))]
 fn take_out(table: &mut OpenTable, key: &TransactionKey) -> Option<Closed>
     ensures closed { option_map closed_view result ≡ closed_at (key_view key.now) (slots_view table.old.0) }
@@ -62,7 +62,7 @@ fn oldest_key(table: &OpenTable) -> Option<TransactionKey>
     }
 }
 
-/// Takes out the transaction that began first.
+/// Removes the transaction that began first.
 pub(crate) fn take_oldest(table: &mut OpenTable) -> Option<Closed>
     ensures closed { option_map closed_view result ≡ (oldest_out (slots_view table.old.0)).0 }
     ensures slots { slots_view table.new.0 ≡ (oldest_out (slots_view table.old.0)).1 }
@@ -84,7 +84,7 @@ fn is_oldest_over(table: &OpenTable, now: u64) -> bool
     }
 }
 
-/// Takes out the transaction that began first, where it awaits nothing more.
+/// Removes the transaction that began first, if it awaits nothing more.
 pub(crate) fn take_over(table: &mut OpenTable, now: u64) -> Option<Closed>
     ensures closed { option_map closed_view result ≡ (over_out now (slots_view table.old.0)).0 }
     ensures slots { slots_view table.new.0 ≡ (over_out now (slots_view table.old.0)).1 }
@@ -96,7 +96,7 @@ pub(crate) fn take_over(table: &mut OpenTable, now: u64) -> Option<Closed>
     take_oldest(table)
 }
 
-/// Takes out the oldest transaction where so many are open that there is no room for another one.
+/// Removes the oldest transaction if the table has no room for another one.
 fn take_if_full(table: &mut OpenTable) -> Option<Closed>
     ensures closed { option_map closed_view result ≡ (full_out (slots_view table.old.0)).0 }
     ensures slots { slots_view table.new.0 ≡ (full_out (slots_view table.old.0)).1 }
@@ -108,7 +108,7 @@ fn take_if_full(table: &mut OpenTable) -> Option<Closed>
     take_oldest(table)
 }
 
-/// Makes room for a transaction of that key: one with the same key closes, or the oldest where too many are open.
+/// Makes room for a transaction with this key: one with the same key is closed, or the oldest if too many are open.
 fn make_room(table: &mut OpenTable, key: &TransactionKey) -> Option<Closed>
     requires { table.old.1 ≡ OPEN_LIMIT }
     ensures closed { option_map closed_view result ≡ (room_for (key_view key.now) (slots_view table.old.0)).0 }
@@ -124,7 +124,7 @@ fn make_room(table: &mut OpenTable, key: &TransactionKey) -> Option<Closed>
     }
 }
 
-/// A transaction of that key begins, last.
+/// Adds a transaction with this key, as the last.
 pub(crate) fn enter(
     table: &mut OpenTable,
     key: TransactionKey,

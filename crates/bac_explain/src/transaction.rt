@@ -23,19 +23,19 @@ use std::alloc::{AllocError, Global};
 pub struct Transaction {
     /// Its request.
     pub request: Sent,
-    /// Whether another request had its key at most 65,000 ms before.
+    /// Whether another request had its key in the 65,000 ms before.
     pub reused: bool,
-    /// The first of its answers; None where none was seen.
+    /// The first of its replies; None if none was seen.
     pub answer: Option<Sent>,
-    /// Whether the server's Abort was seen after the answer's first segment and before its last one.
+    /// Whether an Abort of the server was seen between the reply's first and last segment.
     pub broken_off: bool,
-    /// How many negative SegmentACKs were seen; the count stays at its last value.
+    /// How many negative SegmentACKs were seen; the count saturates.
     pub naks: u64,
-    /// Whether the client's Abort was seen.
+    /// Whether an Abort of the client was seen.
     pub gave_up: bool,
 }
 
-/// What is wrong with the first APDU that is seen of a request or an answer.
+/// What is wrong with the first APDU that is seen of a request or a reply.
 pub(crate) fn first_finding(number: Option<u8>) -> Option<Finding>
     ensures { result ≡ first_finding number }
 {
@@ -45,7 +45,7 @@ pub(crate) fn first_finding(number: Option<u8>) -> Option<Finding>
     }
 }
 
-/// What is wrong with a segment of that number that stands there after what was sent before.
+/// What is wrong with a segment with this number in this relation to what was sent before.
 fn segment_finding(sent: &Sent, place: Place, number: Option<u8>) -> Option<Finding>
     ensures { result ≡ segment_finding place number (sent_view sent.now) }
 {
@@ -61,7 +61,7 @@ fn segment_finding(sent: &Sent, place: Place, number: Option<u8>) -> Option<Find
     None
 }
 
-/// What is wrong with a request, or its first segment, that comes again.
+/// What is wrong with a repeated request, or its first segment.
 fn again_finding(request: &Sent, number: Option<u8>) -> Option<Finding>
     ensures { result ≡ again_finding number (sent_view request.now) }
 {
@@ -75,7 +75,7 @@ fn again_finding(request: &Sent, number: Option<u8>) -> Option<Finding>
     }
 }
 
-/// What is wrong with a request that stands there after what was asked before.
+/// What is wrong with a request in this relation to what was requested before.
 fn request_finding(request: &Sent, place: Place, number: Option<u8>) -> Option<Finding>
     ensures { result ≡ request_finding place number (sent_view request.now) }
 {
@@ -86,7 +86,7 @@ fn request_finding(request: &Sent, place: Place, number: Option<u8>) -> Option<F
     }
 }
 
-/// Whether an answer that comes again at that moment was on its way for more than 5,000 ms, or the request before it.
+/// Whether a reply that is repeated at this moment, or the request before it, was in the network for more than 5,000 ms.
 fn is_old(now: u64, number: Option<u8>, request: &Sent, answer: &Sent) -> bool
     ensures { result ≡ is_old now number (sent_view request.now) (sent_view answer.now) }
 {
@@ -95,7 +95,7 @@ fn is_old(now: u64, number: Option<u8>, request: &Sent, answer: &Sent) -> bool
         && now.saturating_sub(request.last) > LIFE + LIFE
 }
 
-/// What is wrong with an answer that differs from the first.
+/// What is wrong with a reply that differs from the first.
 fn other_answer(reused: bool, request: &[u8], first: &[u8], other: &[u8]) -> Finding
     ensures { result ≡ other_answer reused request.now first.now other.now }
 {
@@ -106,7 +106,7 @@ fn other_answer(reused: bool, request: &[u8], first: &[u8], other: &[u8]) -> Fin
     }
 }
 
-/// What is wrong with an answer that stands there after the first one.
+/// What is wrong with a reply in this relation to the first one.
 fn answer_finding(
     request: &Sent,
     reused: bool,
@@ -126,7 +126,7 @@ fn answer_finding(
     }
 }
 
-/// Whether an answer is the server's Abort in the midst of the first one.
+/// Whether a reply is an Abort of the server within the first one.
 fn breaks_off(first: &Sent, octets: &[u8]) -> bool
     ensures { result ≡ breaks_off (sent_view first.now) octets.now }
 {
@@ -134,7 +134,7 @@ fn breaks_off(first: &Sent, octets: &[u8]) -> bool
 }
 
 impl Transaction {
-    /// A transaction whose request is seen for the first time; an Err only where the memory for it is refused.
+    /// A transaction whose request is seen for the first time. Returns an `Err` only if the allocation fails.
     pub(crate) fn begin(
         alloc: Global,
         now: u64,
@@ -154,14 +154,14 @@ impl Transaction {
         })
     }
 
-    /// Whether a request with its invoke ID is no new one at that moment: its own was first seen at most 65,000 ms before.
+    /// Whether a request with its invoke ID at this moment is not a new one: its own was first seen at most 65,000 ms ago.
     pub(crate) fn is_live(&self, now: u64) -> bool
         ensures { result ≡ is_live now (transaction_view self.now) }
     {
         now.saturating_sub(self.request.moment) <= KEEP
     }
 
-    /// Whether answers are looked for at that moment: its request was last seen at most 65,000 ms before.
+    /// Whether replies are expected at this moment: its request was last seen at most 65,000 ms ago.
     pub(crate) fn is_awaited(&self, now: u64) -> bool
         ensures { result ≡ is_awaited now (transaction_view self.now) }
     {
@@ -179,7 +179,7 @@ impl Transaction {
         }
     }
 
-    /// Its request is seen again, or a segment of it.
+    /// Its request is seen again, or another segment of it.
     pub(crate) fn requested(
         &mut self,
         now: u64,
@@ -198,7 +198,7 @@ impl Transaction {
         finding
     }
 
-    /// An answer is seen, or a segment of one. Nothing changes where the memory for it is refused.
+    /// A reply is seen, or a segment of one. Nothing changes if an allocation fails.
     pub(crate) fn answered(
         &mut self,
         alloc: Global,
@@ -235,7 +235,7 @@ impl Transaction {
         Ok(finding)
     }
 
-    /// Segments of its request or its answer are acknowledged.
+    /// Segments of its request or its reply are acknowledged.
     fn take(&mut self, taken: Taken)
         ensures { transaction_view self.new ≡ segments_taken taken (transaction_view self.old) }
     {
@@ -259,7 +259,7 @@ impl Transaction {
         Some(Finding::NegativeAck)
     }
 
-    /// The client's Abort is seen.
+    /// An Abort of the client is seen.
     pub(crate) fn given_up(&mut self)
         ensures { transaction_view self.new ≡ given_up (transaction_view self.old) }
     {

@@ -1,4 +1,4 @@
-//! Whether an APDU is the end of a request or an answer.
+//! Whether an APDU is the end of a request or a reply.
 ghost use Rattle.std.specs.Prelude.{◌≡◌, not};
 ghost use Rattle.std.specs.Option.{option_map};
 ghost use Rattle.bac_apdu.specs.Views.{apdu_view, segment_view};
@@ -6,7 +6,7 @@ ghost use Rattle.bac_explain.specs.Wholes.{is_end, is_end_in, is_last, is_server
 
 use bac_apdu::{Apdu, Segment, read};
 
-/// Whether no more segments follow; what is whole is its own end.
+/// Whether no more segments follow; true for an unsegmented APDU.
 fn is_last(segment: Option<Segment>) -> bool
     ensures { result ≡ is_last (option_map segment_view segment) }
 {
@@ -27,7 +27,7 @@ fn is_end_in(apdu: Apdu<'_>) -> bool
     }
 }
 
-/// Whether the octets are the end of what they belong to: no segment, or one after which no more follow.
+/// Whether the octets end their request or reply: an unsegmented APDU, or a segment after which no more follow.
 pub(crate) fn is_end(octets: &[u8]) -> bool
     ensures { result ≡ is_end octets.now }
 {
@@ -43,7 +43,7 @@ fn is_server_abort_in(apdu: Apdu<'_>) -> bool
     matches!(apdu, Apdu::Abort { server: true, .. })
 }
 
-/// Whether the octets are the Abort of a server.
+/// Whether the octets are an Abort of a server.
 pub(crate) fn is_server_abort(octets: &[u8]) -> bool
     ensures { result ≡ is_server_abort octets.now }
 {

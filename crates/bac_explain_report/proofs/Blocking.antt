@@ -4,7 +4,7 @@ use Rattle.std.specs.Io.KnownBytes.{Appends}
 use Rattle.std.proofs.KnownBytes.{Appends-nil, Appends-trans}
 use Rattle.bac_explain.specs.Tables.{Transactions}
 use Rattle.bac_explain_report.specs.Accounts.{Account}
-use Rattle.bac_explain_report.specs.Rest.{AreBlocks, AreTold, IsStep, IsStepIn}
+use Rattle.bac_explain_report.specs.Rest.{AreBlocks, ArePrinted, IsStep, IsStepIn}
 use Rattle.bac_explain_report.specs.declared.tally.Tally.{Tally}
 
 -- some blocks were printed, and the others come behind them
@@ -52,9 +52,9 @@ finished : (slots : Transactions) (tally : Tally) (next : Account) (b c : Option
 finished [] tally next b c t = ((refl, ap (λ (a : Account). a.tally) t.0), t.1)
 finished (s ∷ slots) tally next b c t = absurd t
 
-pub all_told : (start now next : Account) (a b c : Option (List ℕ)) (m : Bool) → IsSoFar start now a b → IsStep now next b c m → m ≡ false
-    → AreTold start next.tally a c
-all_told start now next a b c m sofar step e =
+pub all_printed : (start now next : Account) (a b c : Option (List ℕ)) (m : Bool) → IsSoFar start now a b → IsStep now next b c m → m ≡ false
+    → ArePrinted start next.tally a c
+all_printed start now next a b c m sofar step e =
     let f = finished now.slots now.tally next b c (subst (λ (q : Bool). IsStep now next b c q) e step) in
     record {
       text = sofar.text ++ [];

@@ -1,4 +1,4 @@
 pub mod Blocking
 pub mod Report
-pub mod Telling
+pub mod Reporting
 pub mod ChartReport

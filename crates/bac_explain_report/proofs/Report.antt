@@ -13,13 +13,13 @@ use Rattle.bac_text.specs.declared.status.Status.{Status}
 use Rattle.bac_text.specs.declared.status.Status.TheVariants as status
 use Rattle.bac_explain_report.specs.Accounts.{Account, fresh}
 use Rattle.bac_explain_report.specs.Explained.{summary_text, BreaksFile, IsExplainedFile, IsFileReport, IsFrontReport, IsReportIn, IsReportOf, SeesFrame}
-use Rattle.bac_explain_report.specs.Rest.{AreTold}
+use Rattle.bac_explain_report.specs.Rest.{ArePrinted}
 use Rattle.bac_explain_report.specs.Tallies.{status_of}
 use Rattle.bac_explain_report.specs.declared.tally.Tally.{Tally}
 
--- the frames were told, then the transactions that were open, and then the summary
+-- the frames were printed, then the transactions that were open, and then the summary
 explained : (also : Option ℕ) (form : Form) (order : Order) (input a b c d : Option (List ℕ)) (account : Account) (final : Tally) (s : Status)
-    → IsFileWalked Account (SeesFrame also) BreaksFile form order input a b fresh account → AreTold account final b c → Appends c d (summary_text final)
+    → IsFileWalked Account (SeesFrame also) BreaksFile form order input a b fresh account → ArePrinted account final b c → Appends c d (summary_text final)
     → s ≡ status_of final → IsExplainedFile also form order input a d s
 explained also form order None a b c d account final s walked told printed is = tt
 explained also form order (Some file) a b c d account final s walked told printed is = record {
@@ -34,7 +34,7 @@ explained also form order (Some file) a b c d account final s walked told printe
 }
 
 pub reported : (also : Option ℕ) (form : Form) (order : Order) (input a b c d : Option (List ℕ)) (account : Account) (final : Tally) (s : Status)
-    → IsFileWalked Account (SeesFrame also) BreaksFile form order input a b fresh account → AreTold account final b c → Appends c d (summary_text final)
+    → IsFileWalked Account (SeesFrame also) BreaksFile form order input a b fresh account → ArePrinted account final b c → Appends c d (summary_text final)
     → s ≡ status_of final → IsFileReport also form order input a d s
 reported also form order input a b c d account final status.Done walked told printed is =
     explained also form order input a b c d account final status.Done walked told printed is

@@ -1,14 +1,14 @@
--- What contracts see of what is known of a capture, and of what there is to tell.
+-- What contracts see of what is known of a capture, and of what there is to say.
 use Rattle.std.specs.Option.{option_map}
 use Rattle.bac_explain.specs.Closings.{closed_view}
 use Rattle.bac_explain.specs.KeyViews.{key_view}
 use Rattle.bac_explain_report.specs.Accounts as plain
-use Rattle.bac_explain_report.specs.Accounts.{HearingView, ToldView}
-use Rattle.bac_explain_report.specs.Accounts.ToldView.{NothingTold, UnreadTold, HeardTold}
+use Rattle.bac_explain_report.specs.Accounts.{HearingView, FrameReportView}
+use Rattle.bac_explain_report.specs.Accounts.FrameReportView.{NothingReported, UnreadReported, HeardReported}
 use Rattle.bac_explain_report.specs.declared.account.Account.{Account}
 use Rattle.bac_explain_report.specs.declared.told.Hearing.{Hearing}
-use Rattle.bac_explain_report.specs.declared.told.Told.{Told}
-use Rattle.bac_explain_report.specs.declared.told.Told.TheVariants as told
+use Rattle.bac_explain_report.specs.declared.frame_report.FrameReport.{FrameReport}
+use Rattle.bac_explain_report.specs.declared.frame_report.FrameReport.TheVariants as told
 
 abbrev pub account_view : Account → plain.Account
 account_view a = record { slots = a.explainer; tally = a.tally }
@@ -21,7 +21,7 @@ hearing_view h = record {
   finding = h.finding;
 }
 
-abbrev pub told_view : Told → ToldView
-told_view told.Nothing = NothingTold
-told_view (told.Unread why) = UnreadTold why
-told_view (told.Heard h) = HeardTold (hearing_view h)
+abbrev pub report_view : FrameReport → FrameReportView
+report_view told.Nothing = NothingReported
+report_view (told.Unread why) = UnreadReported why
+report_view (told.Heard h) = HeardReported (hearing_view h)

@@ -20,47 +20,47 @@ pub record Account : Type 0 where
 abbrev pub fresh : Account
 fresh = record { slots = []; tally = no_frames }
 
--- what there is to tell of an APDU: its transaction, one that is over, one that it closes, and what is wrong with it
+-- what there is to print of an APDU: its transaction, one that is over, one that it closes, and what is wrong with it
 pub record HearingView : Type 0 where
   pub key : Key
   pub over : Option ClosedView
   pub closed : Option ClosedView
   pub finding : Option Finding
 
--- what there is to tell of a frame
-pub data ToldView : Type 0 where
-  NothingTold : ToldView
-  UnreadTold : (why : Unread) → ToldView
-  HeardTold : (hearing : HearingView) → ToldView
+-- what there is to print of a frame
+pub data FrameReportView : Type 0 where
+  NothingReported : FrameReportView
+  UnreadReported : (why : Unread) → FrameReportView
+  HeardReported : (hearing : HearingView) → FrameReportView
 
 abbrev pub heard_tally : (over : Option ClosedView) → Heard → Tally → Tally
 heard_tally over h t = with_finding h.finding (with_blocks h.closed (with_blocks over t))
 
-abbrev pub hearing : Key → (over : Option ClosedView) → Heard → Tally → ToldView × Account
+abbrev pub hearing : Key → (over : Option ClosedView) → Heard → Tally → FrameReportView × Account
 hearing key over h t = (
-  HeardTold (record { key = key; over = over; closed = h.closed; finding = h.finding }),
+  HeardReported (record { key = key; over = over; closed = h.closed; finding = h.finding }),
   record { slots = h.slots; tally = heard_tally over h t },
 )
 
 -- the transaction that began first closes, where it is over; then the APDU is heard
-abbrev pub sighting_heard : ℕ → SightingView → Account → ToldView × Account
+abbrev pub sighting_heard : ℕ → SightingView → Account → FrameReportView × Account
 sighting_heard now s a = hearing s.key (over_out now a.slots).0 (heard now s.key s.role s.octets (over_out now a.slots).1) a.tally
 
-abbrev pub unheard : Unread → Account → ToldView × Account
-unheard why a = (UnreadTold why, record { slots = a.slots; tally = with_unread a.tally })
+abbrev pub unheard : Unread → Account → FrameReportView × Account
+unheard why a = (UnreadReported why, record { slots = a.slots; tally = with_unread a.tally })
 
-abbrev pub found_heard : Result (Option (ℕ × SightingView)) Unread → Account → ToldView × Account
+abbrev pub found_heard : Result (Option (ℕ × SightingView)) Unread → Account → FrameReportView × Account
 found_heard (Err why) a = unheard why a
-found_heard (Ok None) a = (NothingTold, a)
+found_heard (Ok None) a = (NothingReported, a)
 found_heard (Ok (Some s)) a = sighting_heard s.0 s.1 a
 
 abbrev pub one_frame : Account → Account
 one_frame a = record { slots = a.slots; tally = with_frame a.tally }
 
 -- a frame is seen; there is a port beside the sixteen, or none
-abbrev pub frame_heard : (also : Option ℕ) → FrameView → Account → ToldView × Account
+abbrev pub frame_heard : (also : Option ℕ) → FrameView → Account → FrameReportView × Account
 frame_heard also frame a = found_heard (seen_of also frame) (one_frame a)
 
--- the file cannot be read on: that is told of the frame that would come
-abbrev pub broken_off : FileFault → Account → ToldView × Account
+-- the file cannot be read on: that is printed of the frame that would come
+abbrev pub broken_off : FileFault → Account → FrameReportView × Account
 broken_off fault a = unheard (File fault) (one_frame a)

@@ -4,10 +4,10 @@ use Rattle.bac_explain.specs.Keys.{Key}
 use Rattle.bac_explain.specs.Sent.{SentView}
 use Rattle.bac_explain.specs.Tables.{ClosedView}
 use Rattle.bac_explain.specs.Transactions.{TransactionView}
-use Rattle.bac_explain_report.specs.Answers as answer
+use Rattle.bac_explain_report.specs.AnswerWords as answer
 use Rattle.bac_explain_report.specs.Endings.{answer_ending, ending_name}
-use Rattle.bac_explain_report.specs.Peers.{key_text}
-use Rattle.bac_explain_report.specs.Requests as request
+use Rattle.bac_explain_report.specs.Keys.{key_text}
+use Rattle.bac_explain_report.specs.RequestWords as request
 
 abbrev pub head_text : Key → List ℕ
 head_text k = codes "transaction " ++ (key_text k ++ codes "\n")

@@ -49,7 +49,7 @@ abbrev pub IsReportIn : Form → Option ℕ → Option (capture.Form × Order) �
 IsReportIn shape also None octets old new status = IsStop status
 IsReportIn shape also (Some form) octets old new status = IsFileReport shape also form.0 form.1 (Some octets) old new status
 
--- the first four octets tell whether it is a capture file
+-- the first four octets say whether it is a capture file
 abbrev pub IsReportOf : Form → Option ℕ → Option (List ℕ) → Option (List ℕ) → Option (List ℕ) → Status → Type 0
 IsReportOf shape also None old new status = ⊤
 IsReportOf shape also (Some octets) old new status = IsReportIn shape also (form_of (take 4 octets)) octets old new status

@@ -5,7 +5,7 @@ use Rattle.bac_chart.specs.Drawings.{line_text}
 use Rattle.bac_chart.specs.Lines.{note_line}
 use Rattle.bac_chart.specs.declared.drawing.Form.{Form}
 use Rattle.bac_chart.specs.declared.drawing.Form.TheVariants as form
-use Rattle.bac_explain_report.specs.Peers.{peer_text}
+use Rattle.bac_text.specs.Peers.{peer_text}
 use Rattle.bac_npdu.specs.Peers.{PeerView, peer_cmp}
 
 -- the column of a peer, counted from 0; as many as there are where it has none

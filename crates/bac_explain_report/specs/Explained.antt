@@ -7,14 +7,14 @@ use Rattle.bac_capture.specs.declared.order.Order.{Order}
 use Rattle.bac_capture.specs.Begins.{begun_at}
 use Rattle.bac_capture.specs.Blocks.{FrameView}
 use Rattle.bac_capture.specs.Forms.{form_of}
-use Rattle.bac_capture.specs.Walks.{Tells, IsFileIn}
+use Rattle.bac_capture.specs.Walks.{Prints, IsFileIn}
 use Rattle.bac_text.specs.Statuses.{IsStop}
 use Rattle.bac_text.specs.declared.status.Status.{Status}
 use Rattle.bac_text.specs.declared.status.Status.TheVariants.{Done, Faulty, CommandLine, Output, Memory}
-use Rattle.bac_explain_report.specs.Accounts.{Account, ToldView, fresh, frame_heard, broken_off}
+use Rattle.bac_explain_report.specs.Accounts.{Account, FrameReportView, fresh, frame_heard, broken_off}
 use Rattle.bac_explain_report.specs.Rest.{AreBlocks}
 use Rattle.bac_explain_report.specs.Tallies.{status_of}
-use Rattle.bac_explain_report.specs.Told.{IsTold}
+use Rattle.bac_explain_report.specs.FrameReports.{IsFrameReport}
 use Rattle.bac_explain_report.specs.declared.tally.Tally.{Tally}
 
 -- ---- the summary
@@ -35,19 +35,19 @@ summary_text t =
 
 -- ---- a file
 
--- it is told of the frame by its number, and the account is the next one
-pub record IsToldNext (what : ToldView × Account) (text : List ℕ) (next : Account) : Type 0 where
+-- it is printed of the frame by its number, and the account is the next one
+pub record IsPrintedNext (what : FrameReportView × Account) (text : List ℕ) (next : Account) : Type 0 where
   pub is : next ≡ what.1
-  pub told : IsTold next.tally.frames what.0 text
+  pub told : IsFrameReport next.tally.frames what.0 text
 
 -- a frame is seen; there is a port beside the sixteen, or none
-abbrev pub SeesFrame : (also : Option ℕ) → Tells FrameView Account
-SeesFrame also frame a text next = IsToldNext (frame_heard also frame a) text next
+abbrev pub SeesFrame : (also : Option ℕ) → Prints FrameView Account
+SeesFrame also frame a text next = IsPrintedNext (frame_heard also frame a) text next
 
-abbrev pub BreaksFile : Tells FileFault Account
-BreaksFile fault a text next = IsToldNext (broken_off fault a) text next
+abbrev pub BreaksFile : Prints FileFault Account
+BreaksFile fault a text next = IsPrintedNext (broken_off fault a) text next
 
--- what is printed of a file, and the status: what there is to tell of each frame, then the transactions that are open, and a summary
+-- what is printed of a file, and the status: what there is to print of each frame, then the transactions that are open, and a summary
 pub record IsExplained (also : Option ℕ) (form : Form) (order : Order) (file : List ℕ) (old new : Option (List ℕ)) (status : Status) : Type 0 where
   pub text : List ℕ
   pub account : Account
@@ -75,7 +75,7 @@ abbrev pub IsReportIn : Option ℕ → Option (Form × Order) → List ℕ → O
 IsReportIn also None octets old new status = IsStop status
 IsReportIn also (Some form) octets old new status = IsFileReport also form.0 form.1 (Some octets) old new status
 
--- the first four octets tell whether it is a capture file
+-- the first four octets say whether it is a capture file
 abbrev pub IsReportOf : Option ℕ → Option (List ℕ) → Option (List ℕ) → Option (List ℕ) → Status → Type 0
 IsReportOf also None old new status = ⊤
 IsReportOf also (Some octets) old new status = IsReportIn also (form_of (take 4 octets)) octets old new status

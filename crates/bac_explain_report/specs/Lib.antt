@@ -1,7 +1,6 @@
-pub mod Peers
-pub mod Words
-pub mod Requests
-pub mod Answers
+pub mod Keys
+pub mod RequestWords
+pub mod AnswerWords
 pub mod Endings
 pub mod Blocks
 pub mod Tallies
@@ -9,7 +8,7 @@ pub mod Unread
 pub mod Seen
 pub mod Accounts
 pub mod AccountViews
-pub mod Told
+pub mod FrameReports
 pub mod Rest
 pub mod Explained
 pub mod Columns

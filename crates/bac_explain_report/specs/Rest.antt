@@ -32,7 +32,7 @@ pub record IsPrinted (s : Slot Key TransactionView) (old new : Option (List ℕ)
   pub is_block : IsBlock (closed_of s) text
   pub printed : Appends old new text
 
--- the next of them was told, and there may be more; or there was none
+-- the next of them was printed, and there may be more; or there was none
 abbrev pub IsStepIn : Transactions → Tally → (next : Account) → (old new : Option (List ℕ)) → (more : Bool) → Type 0
 IsStepIn [] tally next old new true = ⊥
 IsStepIn [] tally next old new false = (next ≡ record { slots = []; tally = tally }) × (new ≡ old)
@@ -43,8 +43,8 @@ IsStepIn (s ∷ slots) tally next old new false = ⊥
 abbrev pub IsStep : (before next : Account) → (old new : Option (List ℕ)) → (more : Bool) → Type 0
 IsStep before next old new more = IsStepIn before.slots before.tally next old new more
 
--- all of them were told
-pub record AreTold (before : Account) (final : Tally) (old new : Option (List ℕ)) : Type 0 where
+-- all of them were printed
+pub record ArePrinted (before : Account) (final : Tally) (old new : Option (List ℕ)) : Type 0 where
   pub text : List ℕ
   pub are : AreBlocks before.slots before.tally text final
   pub printed : Appends old new text

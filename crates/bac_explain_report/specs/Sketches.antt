@@ -78,7 +78,7 @@ drawn_of now s c = drawn_at now c s.octets
 abbrev pub arrow_of : (number moment : ℕ) → Ends → (octets : List ℕ) → Arrow
 arrow_of number moment e octets = record { number = number; sent = moment; from = e.from; to = e.to; words = read_words (apdu_at octets) }
 
--- it tells whether the same came before
+-- it says whether the same came before
 abbrev pub row_text : Form → (nodes : ℕ) → (again : Bool) → (moment : ℕ) → Arrow → List ℕ
 row_text f nodes again moment a = line_text f nodes (coming_line again moment a)
 
@@ -132,6 +132,6 @@ IsSeen (Ok (Some s)) k text next = IsDrawn s.0 s.1 k text next
 abbrev pub SeesFrame : (also : Option ℕ) → FrameView → Sketch → (text : List ℕ) → (next : Sketch) → Type 0
 SeesFrame also frame k text next = IsSeen (seen_of also frame) (one_frame k) text next
 
--- the file cannot be read on: that is told of the frame that would come
+-- the file cannot be read on: that is printed of the frame that would come
 abbrev pub BreaksFile : FileFault → Sketch → (text : List ℕ) → (next : Sketch) → Type 0
 BreaksFile fault k text next = IsUnread (File fault) (one_frame k) text next

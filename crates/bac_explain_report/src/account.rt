@@ -4,11 +4,11 @@ ghost use Rattle.std.specs.Option.{option_map};
 ghost use Rattle.bac_capture.specs.BlockViews.{frame_view};
 ghost use Rattle.bac_explain.specs.Sightings.{sighting_view};
 ghost use Rattle.bac_explain_report.specs.Accounts.{fresh, frame_heard, broken_off, sighting_heard};
-ghost use Rattle.bac_explain_report.specs.AccountViews.{account_view, told_view};
+ghost use Rattle.bac_explain_report.specs.AccountViews.{account_view, report_view};
 
+use crate::frame_report::{FrameReport, Hearing};
 use crate::seeing::seen_of;
 use crate::tally::Tally;
-use crate::told::{Hearing, Told};
 use crate::unread::Unread;
 use bac_capture::{FileFault, Frame, Ports};
 use bac_explain::{Explainer, Sighting};
@@ -36,8 +36,8 @@ impl Account {
     }
 
     /// An APDU of a transaction is seen.
-    fn hear_sighting(&mut self, now: u64, sighting: Sighting<'_>) -> Result<Told, AllocError>
-        ensures { IfOk result (λ t. (told_view t, account_view self.new) ≡ sighting_heard now (sighting_view sighting.entry) (account_view self.old)) }
+    fn hear_sighting(&mut self, now: u64, sighting: Sighting<'_>) -> Result<FrameReport, AllocError>
+        ensures { IfOk result (λ t. (report_view t, account_view self.new) ≡ sighting_heard now (sighting_view sighting.entry) (account_view self.old)) }
     {
         let over = self.explainer.pop_over(now);
         let heard = self.explainer.hear(
@@ -52,7 +52,7 @@ impl Account {
             .with_blocks(&over)
             .with_blocks(&heard.closed)
             .with_finding(heard.finding);
-        Ok(Told::Heard(Hearing {
+        Ok(FrameReport::Heard(Hearing {
             key: sighting.key,
             over,
             closed: heard.closed,
@@ -61,25 +61,29 @@ impl Account {
     }
 
     /// A frame is seen.
-    pub(crate) fn hear_frame(&mut self, frame: Frame<'_>, ports: Ports) -> Result<Told, AllocError>
-        ensures { IfOk result (λ t. (told_view t, account_view self.new) ≡ frame_heard ports.also (frame_view frame.entry) (account_view self.old)) }
+    pub(crate) fn hear_frame(
+        &mut self,
+        frame: Frame<'_>,
+        ports: Ports,
+    ) -> Result<FrameReport, AllocError>
+        ensures { IfOk result (λ t. (report_view t, account_view self.new) ≡ frame_heard ports.also (frame_view frame.entry) (account_view self.old)) }
     {
         self.tally = self.tally.with_frame();
         match seen_of(frame, ports) {
             Ok(Some((now, sighting))) => self.hear_sighting(now, sighting),
-            Ok(None) => Ok(Told::Nothing),
+            Ok(None) => Ok(FrameReport::Nothing),
             Err(why) => {
                 self.tally = self.tally.with_unread();
-                Ok(Told::Unread(why))
+                Ok(FrameReport::Unread(why))
             }
         }
     }
 
     /// The file cannot be read on.
-    pub(crate) fn break_off(&mut self, fault: FileFault) -> Told
-        ensures { (told_view result, account_view self.new) ≡ broken_off fault (account_view self.old) }
+    pub(crate) fn break_off(&mut self, fault: FileFault) -> FrameReport
+        ensures { (report_view result, account_view self.new) ≡ broken_off fault (account_view self.old) }
     {
         self.tally = self.tally.with_frame().with_unread();
-        Told::Unread(Unread::File(fault))
+        FrameReport::Unread(Unread::File(fault))
     }
 }

@@ -9,7 +9,7 @@ ghost use Rattle.bac_explain_report.specs.Blocks.{answer_name, asked_front, answ
 ghost use Rattle.bac_explain_report.specs.Blocks.{IsAnsweredLine, IsAnswerLine, IsAskedLine, IsBlock};
 
 use crate::ending::answer_ending;
-use crate::peers::key_text;
+use crate::keys::key_text;
 use crate::{answer_words, request_words};
 use bac_explain::{Closed, Sent, Transaction, TransactionKey};
 use bac_value::NoMemory;

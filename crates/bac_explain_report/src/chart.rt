@@ -1,7 +1,7 @@
 //! `bac explain --chart` and `--mermaid`: a sequence chart of a capture file.
 ghost use Rattle.std.specs.Prelude.{◌≡◌, IfOk, OnOk};
 ghost use Rattle.std.specs.Io.KnownBytes.{Appends};
-ghost use Rattle.bac_capture.specs.Reports.{IsFileWalked, IsTold};
+ghost use Rattle.bac_capture.specs.Reports.{IsFileWalked, IsPrinted};
 ghost use Rattle.bac_explain_report.specs.Charted.{status_of, IsDrawnFile, IsFileReport, IsFrontReport, IsReportOf};
 ghost use Rattle.bac_explain_report.specs.Sketches as plain;
 ghost use Rattle.bac_explain_report.specs.Sketches.{front_text, fresh, BreaksFile, SeesFrame};
@@ -10,7 +10,7 @@ ghost use Rattle.bac_text.specs.Statuses.{IsStop};
 
 use crate::sketch::{Sketch, front_text};
 use bac_capture::{
-    CheckError, FileFault, Frame, Order, Ports, Watch, form_of, read_run, stopped, walk_file,
+    CheckError, FileFault, Frame, FrameVisitor, Order, Ports, form_of, read_run, stopped, walk_file,
 };
 use bac_chart::Form;
 use bac_text::{Status, complain, output_failed};
@@ -26,7 +26,7 @@ fn print<W: Write>(text: &[u8], out: &mut W) -> Result<(), CheckError>
     }
 }
 
-impl<W: Write> Watch<W> for Sketch {
+impl<W: Write> FrameVisitor<W> for Sketch {
     ghost use Rattle.bac_explain_report.specs.Sketches.{BreaksFile, SeesFrame, Sketch as Plain};
     ghost use Rattle.bac_explain_report.specs.SketchViews.{sketch_view};
 
@@ -34,11 +34,16 @@ impl<W: Write> Watch<W> for Sketch {
 
     ghost state = { sketch_view };
 
-    ghost Sees = { SeesFrame };
+    ghost Visits = { SeesFrame };
 
     ghost Breaks = { BreaksFile };
 
-    fn see(&mut self, frame: Frame<'_>, ports: Ports, out: &mut W) -> Result<(), CheckError> {
+    fn visit_frame(
+        &mut self,
+        frame: Frame<'_>,
+        ports: Ports,
+        out: &mut W,
+    ) -> Result<(), CheckError> {
         match self.see_frame(frame, ports) {
             Ok(text) => print(&text, out),
             Err(error) => Err(error),
@@ -151,11 +156,11 @@ fn chart_after<R: BufRead, O: Write, E: Write>(
     }
 }
 
-/// Draws a file of pcap or pcapng, as its first four octets tell: each datagram of a transaction as an arrow between the columns of its ends, with the
+/// Draws a file of pcap or pcapng, by its first four octets: each datagram of a transaction as an arrow between the columns of its ends, with the
 /// moment in milliseconds since the first of them, the number of its frame from 1, and what it is, in short; `again` where the same octets went the same
 /// way at most 65,000 ms before, among the last 255.
 ///
-/// A column begins with the first datagram of its peer, and says whose it is. A frame that cannot be looked at is told by its number; then the command
+/// A column begins with the first datagram of its peer, and says whose it is. A frame that cannot be looked at is printed by its number; then the command
 /// ends with `Faulty`. `more than 16 peers` on `err` where there are so many; `no capture file` where it is none; `cannot read` where it cannot be read;
 /// out of memory: `no memory` on `err`. `Output` where `out` cannot be written, then too where the input fails. Memory does not grow with the file, but
 /// for the datagrams that are compared.

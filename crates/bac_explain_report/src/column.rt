@@ -1,13 +1,13 @@
 //! The columns of a chart: one for each peer, in the order in which they are first seen.
 ghost use Rattle.std.specs.Prelude.{◌≡◌, ◌+◌, ◌^◌, ◌<◌, ◌≤◌, IfOk, OnOk, length, map, string_bytes};
 ghost use Rattle.bac_npdu.specs.Views.{peer_view};
-ghost use Rattle.bac_explain_report.specs.Peers.{peer_text};
+ghost use Rattle.bac_text.specs.Peers.{peer_text};
 ghost use Rattle.bac_explain_report.specs.Columns.{begun_text, column_text, ends_of, place_of, with_column, with_columns};
 ghost use Rattle.bac_explain_report.specs.EndViews.{ends_view};
 
-use crate::peer_text;
 use bac_chart::{Form, line_text, note_line};
 use bac_npdu::Peer;
+use bac_text::peer_text;
 use std::alloc::{AllocError, Global};
 
 /// The columns of the sender and of the receiver of a datagram.

@@ -1,21 +1,22 @@
 //! `bac explain`: the transactions of a capture file.
 ghost use Rattle.std.specs.Prelude.{◌≡◌, IfOk, OnOk};
 ghost use Rattle.std.specs.Io.KnownBytes.{Appends};
-ghost use Rattle.bac_explain_report.specs.AccountViews.{account_view, told_view};
+ghost use Rattle.bac_explain_report.specs.AccountViews.{account_view, report_view};
 ghost use Rattle.bac_capture.specs.Reports.{IsFileWalked};
 ghost use Rattle.bac_explain_report.specs.Accounts.{Account as Plain, fresh};
 ghost use Rattle.bac_explain_report.specs.Explained.{summary_text, BreaksFile, IsFileReport, IsFrontReport, IsReportOf, SeesFrame};
-ghost use Rattle.bac_explain_report.specs.Rest.{AreTold, IsStep};
-ghost use Rattle.bac_explain_report.specs.Told.{IsTold};
+ghost use Rattle.bac_explain_report.specs.Rest.{ArePrinted, IsStep};
+ghost use Rattle.bac_explain_report.specs.FrameReports.{IsFrameReport};
 ghost use Rattle.bac_text.specs.Texts.{AppendsText};
 
 use crate::account::Account;
 use crate::block::block;
+use crate::frame_report::{FrameReport, report_text};
 use crate::summary::summary_text;
 use crate::tally::Tally;
-use crate::told::{Told, told_text};
 use bac_capture::{
-    CheckError, FileFault, Form, Frame, Order, Ports, Watch, form_of, read_run, stopped, walk_file,
+    CheckError, FileFault, Form, Frame, FrameVisitor, Order, Ports, form_of, read_run, stopped,
+    walk_file,
 };
 use bac_text::{Status, complain};
 use std::alloc::Global;
@@ -31,17 +32,22 @@ fn print<W: Write>(text: &[u8], out: &mut W) -> Result<(), CheckError>
     }
 }
 
-/// Prints what there is to tell of the frame of that number.
-fn tell<W: Write>(alloc: Global, number: u64, told: &Told, out: &mut W) -> Result<(), CheckError>
-    ensures { OnOk result (AppendsText (W.contents out.old) (W.contents out.new) (IsTold number (told_view told.now))) }
+/// Prints what there is to print of the frame of that number.
+fn print_report<W: Write>(
+    alloc: Global,
+    number: u64,
+    told: &FrameReport,
+    out: &mut W,
+) -> Result<(), CheckError>
+    ensures { OnOk result (AppendsText (W.contents out.old) (W.contents out.new) (IsFrameReport number (report_view told.now))) }
 {
-    match told_text(alloc, number, told) {
+    match report_text(alloc, number, told) {
         Ok(text) => print(text.as_slice(), out),
         Err(_) => Err(CheckError::Memory),
     }
 }
 
-impl<W: Write> Watch<W> for Account {
+impl<W: Write> FrameVisitor<W> for Account {
     ghost use Rattle.bac_explain_report.specs.Accounts.{Account as Plain};
     ghost use Rattle.bac_explain_report.specs.AccountViews.{account_view};
     ghost use Rattle.bac_explain_report.specs.Explained.{BreaksFile, SeesFrame};
@@ -50,25 +56,30 @@ impl<W: Write> Watch<W> for Account {
 
     ghost state = { account_view };
 
-    ghost Sees = { SeesFrame };
+    ghost Visits = { SeesFrame };
 
     ghost Breaks = { BreaksFile };
 
-    fn see(&mut self, frame: Frame<'_>, ports: Ports, out: &mut W) -> Result<(), CheckError> {
+    fn visit_frame(
+        &mut self,
+        frame: Frame<'_>,
+        ports: Ports,
+        out: &mut W,
+    ) -> Result<(), CheckError> {
         match self.hear_frame(frame, ports) {
-            Ok(told) => tell(self.alloc, self.tally.frames, &told, out),
+            Ok(told) => print_report(self.alloc, self.tally.frames, &told, out),
             Err(_) => Err(CheckError::Memory),
         }
     }
 
     fn break_off(&mut self, fault: FileFault, out: &mut W) -> Result<(), CheckError> {
         let told = self.break_off(fault);
-        tell(self.alloc, self.tally.frames, &told, out)
+        print_report(self.alloc, self.tally.frames, &told, out)
     }
 }
 
 /// Prints the transaction that began first of those that are open; false where none is.
-fn tell_next<W: Write>(account: &mut Account, out: &mut W) -> Result<bool, CheckError>
+fn print_next<W: Write>(account: &mut Account, out: &mut W) -> Result<bool, CheckError>
     ensures { IfOk result (IsStep (account_view account.old) (account_view account.new) (W.contents out.old) (W.contents out.new)) }
 {
     let Some(closed) = account.explainer.pop() else {
@@ -85,11 +96,11 @@ fn tell_next<W: Write>(account: &mut Account, out: &mut W) -> Result<bool, Check
 }
 
 /// Prints the transactions that are open.
-fn tell_rest<W: Write>(account: &mut Account, out: &mut W) -> Result<(), CheckError>
-    ensures { OnOk result (AreTold (account_view account.old) (account_view account.new).tally (W.contents out.old) (W.contents out.new)) }
+fn print_rest<W: Write>(account: &mut Account, out: &mut W) -> Result<(), CheckError>
+    ensures { OnOk result (ArePrinted (account_view account.old) (account_view account.new).tally (W.contents out.old) (W.contents out.new)) }
 {
     for _ in 0..u64::MAX {
-        if !tell_next(account, out)? {
+        if !print_next(account, out)? {
             return Ok(());
         }
     }
@@ -139,7 +150,7 @@ fn explain_all<R: BufRead, W: Write>(
     ensures { IfOk result (IsFileReport ports.also form order (R.remaining input.old) (W.contents out.old) (W.contents out.new)) }
 {
     let mut account = account_of(alloc, form, order, input, ports, out)?;
-    tell_rest(&mut account, out)?;
+    print_rest(&mut account, out)?;
     print_summary(alloc, account.tally, out)?;
     Ok(account.tally.status())
 }
@@ -180,11 +191,11 @@ fn explain_after<R: BufRead, O: Write, E: Write>(
     }
 }
 
-/// Explains a file of pcap or pcapng, as its first four octets tell: prints its transactions, and what was wrong with their datagrams.
+/// Explains a file of pcap or pcapng, by its first four octets: prints its transactions, and what was wrong with their datagrams.
 ///
-/// A datagram that is wrong is told when its frame is read, by the number of the frame from 1 and the transaction; so is a frame that
-/// cannot be looked at. A transaction is told where it is over, 65,000 ms after its request, or gives way to another one; all that
-/// are open at the end are told there, and then how many there were, how they ended, the slowest answer in milliseconds, how many
+/// A datagram that is wrong is printed when its frame is read, by the number of the frame from 1 and the transaction; so is a frame that
+/// cannot be looked at. A transaction is printed where it is over, 65,000 ms after its request, or gives way to another one; all that
+/// are open at the end are printed there, and then how many there were, how they ended, the slowest answer in milliseconds, how many
 /// findings and frames there were, and how many of these cannot be looked at. Ends with `Faulty` where there is a finding or such a
 /// frame. `no capture file` on `err` where it is none; `cannot read` where it cannot be read; out of memory: `no memory` on `err`.
 /// `Output` where `out` cannot be written, then too where the input fails. Memory does not grow with the file, but for at most

@@ -157,7 +157,7 @@ impl Sketch {
         Ok(again)
     }
 
-    /// The row of a datagram; it tells whether the same came before.
+    /// The row of a datagram; it says whether the same came before.
     fn row(
         &self,
         again: bool,

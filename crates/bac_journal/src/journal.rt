@@ -3,7 +3,7 @@ ghost use Rattle.std.specs.Prelude.{◌≡◌, ◌↔◌, ◌+◌, ◌<◌, ◌�
 ghost use Rattle.std.specs.Prelude.{IsTrue, OnOk, OnErr, List, [], ◌∷◌, None, Some, length, map, slice_get};
 ghost use Rattle.bac_world.specs.Node.{Node};
 ghost use Rattle.bac_world.specs.World as world;
-ghost use Rattle.bac_world.specs.World.{ask_of, is_deliverable, newest, IsNoise};
+ghost use Rattle.bac_world.specs.World.{ask_of, is_deliverable, newest};
 ghost use Rattle.bac_journal.specs.Entering.{tickets_of};
 ghost use Rattle.bac_journal.specs.Growing.{BecomeCopies, CanGo};
 ghost use Rattle.bac_journal.specs.Journals.{AreEmpty, AreFresh, AreSame, HasNoteRoom, IsFreshRow, JournalView};
@@ -14,7 +14,6 @@ use crate::arriving::deliverable;
 use crate::asks::{Cell, Row, known, number_of, reserve_ask};
 use crate::comparing::{are_same_copies, are_same_links, are_same_notes};
 use crate::copies::{Copy, node_at};
-use crate::meaning::is_noise;
 use crate::noting::{Note, add_note};
 use crate::sending::send_all;
 use crate::transaction::Transaction;
@@ -142,13 +141,6 @@ impl Journal {
         ensures { result ≡ slice_get self.now.links node }
     {
         self.links.get(node).copied()
-    }
-
-    /// Whether octets from a link are noise: the link is no node's, and they mean no APDU of a peer. It takes no memory.
-    pub fn is_noise(&self, from: LinkAddress, octets: &[u8]) -> bool
-        ensures { (nodes : List Node) → AreLinks nodes self.now.links → (IsTrue result ↔ IsNoise nodes from octets.now) }
-    {
-        is_noise(&self.links, from, octets)
     }
 
     /// Whether a copy may arrive now: it was sent at most 5,000 ms ago, and at most so many later copies are of its transaction. None where there is no

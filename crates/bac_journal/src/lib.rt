@@ -15,6 +15,7 @@ ghost use Rattle.bac_journal.specs.Entering.{RunsCanGoOn};
 
 pub use copies::Copy;
 pub use journal::Journal;
+pub use meaning::is_meaningless;
 pub use noting::Note;
 pub use transaction::Transaction;
 

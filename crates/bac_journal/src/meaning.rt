@@ -1,16 +1,14 @@
 //! What datagrams mean.
-ghost use Rattle.std.specs.Prelude.{◌≡◌, ◌↔◌, ◌<◌, List, None, IfSome, IsTrue};
+ghost use Rattle.std.specs.Prelude.{◌≡◌, ◌↔◌, ◌<◌, None, IfSome, IsTrue};
 ghost use Rattle.bac_apdu.specs.Spelling.{SpellsApdu};
 ghost use Rattle.bac_apdu.specs.Views.{apdu_view};
 ghost use Rattle.bac_npdu.specs.Datagram.{Means};
 ghost use Rattle.bac_npdu.specs.Peers.{PeerView};
 ghost use Rattle.bac_protocol.specs.Wire.{is_from_client};
 ghost use Rattle.bac_world.specs.Laws.{IsMeaningless};
-ghost use Rattle.bac_world.specs.Node.{Node};
-ghost use Rattle.bac_world.specs.World.{IsNoise, transaction_of};
-ghost use Rattle.bac_journal.specs.Views.{key_view, AreLinks};
+ghost use Rattle.bac_world.specs.World.{transaction_of};
+ghost use Rattle.bac_journal.specs.Views.{key_view};
 
-use crate::copies::node_at;
 use crate::transaction::Transaction;
 use bac_apdu::Apdu;
 use bac_npdu::{LinkAddress, read_datagram};
@@ -31,22 +29,12 @@ pub(crate) fn meaning(from: LinkAddress, octets: &[u8]) -> Option<Apdu<'_>>
 }
 
 /// Whether octets from a link mean no APDU of a peer. It takes no memory.
-fn is_meaningless(from: LinkAddress, octets: &[u8]) -> bool
+pub fn is_meaningless(from: LinkAddress, octets: &[u8]) -> bool
     ensures { IsTrue result ↔ IsMeaningless from octets.now }
 {
     match meaning(from, octets) {
         Some(_apdu) => false,
         None => true,
-    }
-}
-
-/// Whether octets are noise: they come from a link of no node, and mean no APDU of a peer. It takes no memory.
-pub(crate) fn is_noise(links: &[LinkAddress], from: LinkAddress, octets: &[u8]) -> bool
-    ensures { (nodes : List Node) → AreLinks nodes links.now → (IsTrue result ↔ IsNoise nodes from octets.now) }
-{
-    match node_at(links, from) {
-        Some(_node) => false,
-        None => is_meaningless(from, octets),
     }
 }
 

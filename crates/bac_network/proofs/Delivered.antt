@@ -8,7 +8,7 @@ use Rattle.bac_node.specs.Calls.{ticked}
 use Rattle.bac_world.specs.Laws.{IsMeaningless}
 use Rattle.bac_world.specs.Node.{Node, Outcome, NodeOn, NodeTick, IsDropped, dropped_for}
 use Rattle.bac_world.specs.Services.{Performed}
-use Rattle.bac_world.specs.World.{World, Copy, DeliversIf, IsDelivered, IsNoise, HearsNoise, Ticks}
+use Rattle.bac_world.specs.World.{World, Copy, DeliversIf, IsDelivered, HearsNoise, Ticks}
 use Rattle.bac_world.specs.World.{is_deliverable}
 use Rattle.bac_world.specs.World.Event.{Deliver}
 use Rattle.bac_world.proofs.Pairs.{append_none}
@@ -213,7 +213,7 @@ dropped_is : (now : ℕ) (from octets : Octets) (a b : Node) (o : Outcome) → I
 dropped_is now from octets a b o none (inl d) = d
 dropped_is now from octets a b o none (inr h) = absurd (none h.peer h.apdu h.means)
 
-pub noise_heard : (n n' : Network) (node : ℕ) (from octets : Octets) (o : Outcome) → IsNoise n.nodes.items from octets
+pub noise_heard : (n n' : Network) (node : ℕ) (from octets : Octets) (o : Outcome) → IsMeaningless from octets
     → (nodes : List Node) → nodes ≡ n.nodes.items → (now : ℕ) → now ≡ n.journal.moment
     → (new : List Node) → n'.nodes.items ≡ new → Goes nodes node (λ a b. NodeOn now from octets a b o) new → n'.journal ≡ n.journal → n'.log ≡ n.log
     → HearsNoise (world_of n) node from octets (world_of n')
@@ -222,7 +222,7 @@ noise_heard n n' node from octets o noise nodes are now is new fits went journal
     subst (λ l. Goes n.nodes.items node (λ a b. NodeOn n.journal.moment from octets a b o) l) (sym fits)
     (subst (λ l. Goes l node (λ a b. NodeOn n.journal.moment from octets a b o) new) are
     (subst (λ (t : ℕ). Goes nodes node (λ a b. NodeOn t from octets a b o) new) is went)) in
-    let d = dropped_is n.journal.moment from octets g.before g.after o noise.meaningless g.goes in
+    let d = dropped_is n.journal.moment from octets g.before g.after o noise g.goes in
     record {
       noise = noise;
       hears = record {

@@ -6,7 +6,7 @@ use Rattle.bac_service.specs.Values.{Request}
 use Rattle.bac_transaction.specs.Keys.{PeerKey}
 use Rattle.bac_world.specs.World.{World, WorldStep, WorldRun, IsAsked}
 use Rattle.bac_world.specs.World.Event.{Deliver}
-use Rattle.bac_completion.specs.StraightRuns.{is_open, DeliverEach, IsStraight, deliveries, ending_in, key_of_ask}
+use Rattle.bac_liveness.specs.StraightRuns.{is_open, DeliverEach, IsStraight, deliveries, ending_in, key_of_ask}
 use Rattle.bac_network.specs.Logs.{DeliverUnended, Stops}
 use Rattle.bac_network.specs.Open.{OpenUntilEnded}
 

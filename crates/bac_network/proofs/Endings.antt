@@ -3,8 +3,8 @@ use Rattle.std.proofs.Common.{◌≡◌, ℕ, suc, Bool, true, false, List, [], 
 use Rattle.std.proofs.lemmas.Bool.Decides.{nat_tests}
 use Rattle.bac_world.specs.Once.{Fact, IsUnended}
 use Rattle.bac_world.specs.Once.Fact.{Asked, Performed, Ended, Changed, Restarted}
-use Rattle.bac_completion.specs.Runs.{endings_of}
-use Rattle.bac_completion.specs.StraightRuns.{ending_in}
+use Rattle.bac_liveness.specs.WorldRuns.{endings_of}
+use Rattle.bac_liveness.specs.StraightRuns.{ending_in}
 
 -- an ask without an ending has none
 pub none_counted : (n : ℕ) (log : List Fact) → ending_in n log ≡ None → endings_of n log ≡ 0

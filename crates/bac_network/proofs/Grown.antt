@@ -2,7 +2,7 @@
 use Rattle.std.proofs.Common.{◌≡◌, ℕ, suc, Bool, true, false, List, [], ◌∷◌, ◌++◌, length, drop, sym, ap, ◌∙◌, append_assoc, length-append, arith}
 use Rattle.bac_world.specs.Once.{Fact}
 use Rattle.bac_world.specs.World.{World, IsDelivered, DeliversIf, is_deliverable}
-use Rattle.bac_completion.proofs.StraightRuns.Growing.{Grows, grows_not, acts_grow}
+use Rattle.bac_liveness.proofs.StraightRuns.Growing.{Grows, grows_not, acts_grow}
 use Rattle.bac_network.specs.Logs.{IsSince}
 
 -- the log of an ask stays one as it grows

@@ -3,13 +3,15 @@ use Rattle.std.proofs.Common.{◌≡◌, ℕ, List, [], ◌∷◌, ◌++◌, Opt
 use Rattle.bac_protocol.specs.World.{net_start}
 use Rattle.bac_store.specs.Stores.{Store}
 use Rattle.bac_requester.specs.declared.ask_fault.AskFault.{AskFault}
-use Rattle.bac_world.specs.Once.{Fact, Stores, IsOnce}
-use Rattle.bac_world.specs.World.{World, Event, WorldStep, WorldRun, IsFresh, IsBounded, link_at, stores_of}
-use Rattle.bac_world.proofs.Claims.{ended_once, performed_once, replayed}
+use Rattle.bac_world.specs.Once.{Fact, Stores, IsOnce, HasRequestsAlone}
+use Rattle.bac_world.specs.World.{World, Event, WorldStep, WorldRun, IsFresh, IsBounded, MakeRequestsAlone, link_at, stores_of}
+use Rattle.bac_world.proofs.Claims.{by_requests_alone, changes_permitted, ended_once, performed_once, replayed}
+use Rattle.bac_world.proofs.Quiet.{alone_after_step}
 use Rattle.bac_world.proofs.Headline.{run_over, rules_of, rules_bounded, fresh_over, headline}
 use Rattle.bac_journal.specs.Views.{AreLinks}
 use Rattle.bac_journal.proofs.GoingOn.{runs_can_go_on}
 use Rattle.bac_network.specs.Histories.{WorldView, HasRun, IsKept, IsOnceNow, ArePerformedOnceNow, AreEndedOnceNow, AreReplayedNow}
+use Rattle.bac_network.specs.Histories.{AreChangesPermittedNow, HasRequestsAloneNow, IsOnceByRequestsAloneNow}
 use Rattle.bac_network.specs.Histories.{opening_stores, view_of}
 use Rattle.bac_network.specs.Networks.{world_of, IsReady}
 use Rattle.bac_network.specs.Steps.{HappensTelling}
@@ -50,8 +52,15 @@ module _ (w : WorldView) (once : IsOnceNow w) where
   pub ended_now : AreEndedOnceNow w
   ended_now = ended_once (opening_stores w) w.world.log (stores_of w.world.nodes) once
 
+  pub permitted_now : AreChangesPermittedNow w
+  permitted_now = changes_permitted (opening_stores w) w.world.log (stores_of w.world.nodes) once
+
   pub replayed_now : AreReplayedNow w
   replayed_now = replayed (opening_stores w) w.world.log (stores_of w.world.nodes) once
+
+  -- where no node changed its own store or restarted
+  pub requests_now : HasRequestsAloneNow w → IsOnceByRequestsAloneNow w
+  requests_now alone = by_requests_alone (opening_stores w) w.world.log (stores_of w.world.nodes) alone once
 
 pub ready_now : (window overtake : ℕ) (opening : List Store) (n : Network) → IsKept window n.journal.links (view_of overtake opening n)
     → IsReady window overtake n
@@ -64,6 +73,11 @@ ready_now window overtake opening n k =
     }
 
 -- After a step.
+
+pub alone_after : (overtake : ℕ) (w w' : World) (e : Event) (result : Result (Option AskFault) WorldFault) → HappensTelling overtake w e result w'
+    → MakeRequestsAlone (e ∷ []) → HasRequestsAlone w.log → HasRequestsAlone w'.log
+alone_after overtake w w' e (Ok told) h alone p = alone_after_step overtake w w' e alone h.0 p
+alone_after overtake w w' e (Err f) h alone p = subst (λ (u : World). HasRequestsAlone u.log) (sym h.1) p
 
 module _ (window overtake : ℕ) (opening : List Store) (m n : Network) (links : n.journal.links ≡ m.journal.links)
     (k : IsKept window m.journal.links (view_of overtake opening m)) where

@@ -6,7 +6,7 @@ use Rattle.std.proofs.lemmas.List.{append-nil, length-map, length-reverse, map-a
 use Rattle.bac_world.specs.Once.{Fact}
 use Rattle.bac_network.specs.declared.fact.Fact as code
 use Rattle.bac_network.specs.Views.{fact_view, log_view}
-use Rattle.bac_completion.specs.StraightRuns.{ending_in}
+use Rattle.bac_liveness.specs.StraightRuns.{ending_in}
 use Rattle.bac_network.specs.Logs.{IsSince}
 use Rattle.bac_network.proofs.Grown.{same_ends}
 

@@ -16,8 +16,8 @@ use Rattle.bac_protocol.proofs.Facts.{below_unended}
 use Rattle.bac_protocol.proofs.Headline.{net_log}
 use Rattle.bac_protocol.proofs.Nets.{sound_at}
 use Rattle.bac_protocol.proofs.SingleMoves.{reached_net}
-use Rattle.bac_progress.proofs.Paths.{Any, bounded_start}
-use Rattle.bac_progress.proofs.Changes.{IdleIsLogged, HasEnded, IsThere, logged_path}
+use Rattle.bac_liveness.proofs.Paths.{Any, bounded_start}
+use Rattle.bac_liveness.proofs.Changes.{IdleIsLogged, HasEnded, IsThere, logged_path}
 use Rattle.bac_transaction.specs.Keys.{PeerKey}
 use Rattle.bac_world.specs.Once.{IsUnended}
 use Rattle.bac_world.specs.World.{World, Event, WorldRun, IsFresh, IsBounded, IsAsked, RunsOn, link_at, peer_at}
@@ -26,12 +26,12 @@ use Rattle.bac_world.proofs.Bridge.{slot_key}
 use Rattle.bac_world.proofs.Steps.{Over}
 use Rattle.bac_world.proofs.Asking.{accepted_is}
 use Rattle.bac_world.proofs.Headline.{fresh_over, rules_of, rules_bounded}
-use Rattle.bac_completion.proofs.Staying.{reached_bounded}
-use Rattle.bac_completion.proofs.Asked.{key, ask, made, made_over, made_bounded, made_path, there, stays, server_link, client_link}
-use Rattle.bac_completion.proofs.Endings.{on_run, once_in}
-use Rattle.bac_completion.proofs.Following.{Followed, Parts, accepted}
-use Rattle.bac_completion.specs.StraightRuns.{is_open, key_of_ask, ending_in, deliveries}
-use Rattle.bac_completion.proofs.StraightRuns.Tickets.{open_there, closed_there}
+use Rattle.bac_liveness.proofs.Staying.{reached_bounded}
+use Rattle.bac_liveness.proofs.Asked.{key, ask, made, made_over, made_bounded, made_path, there, stays, server_link, client_link}
+use Rattle.bac_liveness.proofs.WorldEndings.{on_run, once_in}
+use Rattle.bac_liveness.proofs.Following.{Followed, Parts, accepted}
+use Rattle.bac_liveness.specs.StraightRuns.{is_open, key_of_ask, ending_in, deliveries}
+use Rattle.bac_liveness.proofs.StraightRuns.Tickets.{open_there, closed_there}
 use Rattle.bac_network.specs.Open.{OpenUntilEnded}
 use Rattle.bac_network.proofs.Endings.{none_counted, unended_none}
 use Rattle.bac_network.proofs.Still.{stays_there, deliveries_now}

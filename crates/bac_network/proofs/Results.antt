@@ -10,11 +10,11 @@ use Rattle.bac_transaction.specs.Meanings.{Ending}
 use Rattle.bac_world.specs.Node.{Node, NodeRefuses}
 use Rattle.bac_world.specs.Once.Fact.{Asked}
 use Rattle.bac_world.specs.World.{World, Event, WorldRun, IsFresh, IsBounded, IsAsked, peer_at}
-use Rattle.bac_completion.specs.StraightRuns.{IsStraight, ending_in}
-use Rattle.bac_completion.specs.StraightAnswers.{CanAnswer, IsAnswered, datagrams, way_between}
-use Rattle.bac_completion.proofs.StraightRuns.Reached.{straight_answers}
+use Rattle.bac_liveness.specs.StraightRuns.{IsStraight, ending_in}
+use Rattle.bac_liveness.specs.StraightAnswers.{CanAnswer, IsAnswered, datagrams, way_between}
+use Rattle.bac_liveness.proofs.StraightRuns.Reached.{straight_answers}
 use Rattle.bac_network.specs.Logs.{IsSince, DeliverUnended, Stops}
-use Rattle.bac_network.specs.StraightRuns.{CanBeAnswered, Goes, GoesAt, IsAnsweredSoon, IsNoRun, IsWellMadeAt, WentBy}
+use Rattle.bac_network.specs.StraightRuns.{CanBeAnswered, Goes, GoesAt, IsAnsweredSoon, IsNoRun, IsWellMadeAt, WentBy, limits_of_server}
 use Rattle.bac_network.proofs.Open.{open_until_ended, none_ended}
 use Rattle.bac_network.proofs.Deliveries.{run_of, was_straight}
 
@@ -58,37 +58,37 @@ module _ (W overtake : ℕ) (first old : World) (fresh : IsFresh first) (bounded
     server_is : g.node ≡ b
     server_is = let e : Some g.node ≡ Some b = sym g.at ∙ can.server_at in cc
 
-    ran : IsStraight overtake old client server g.node.settings.limits r ending count new → IsAnsweredSoon old client server a b r ending count new
+    ran : IsStraight overtake old client server (limits_of_server g.node) r ending count new → IsAnsweredSoon old client server a b r ending count new
     ran it =
         let before : it.asks.before ≡ a = let e : Some it.asks.before ≡ Some a = sym it.asks.at ∙ can.client_at in cc in
         let answers = straight_answers W overtake first old fresh bounded events run in
-        let answered = answers client server g.node.settings.limits r ending count new it b can.server_at
+        let answered = answers client server (limits_of_server g.node) r ending count new it b can.server_at
         (subst (λ (x : Node). CanAnswer overtake old.now x b r) (sym before) can_answer) in
         record {
           octets = it.asks.asks.octets;
           spelled = it.asks.asks.spelled;
           answered =
-              subst (λ (x : Node). IsAnswered old client server r b.store (datagrams (request_way_of a.settings x.settings.limits it.asks.asks.octets))
+              subst (λ (x : Node). IsAnswered old client server r b.store (datagrams (request_way_of a.settings (limits_of_server x) it.asks.asks.octets))
               (datagrams (way_between a.settings b.settings (reply_to b.store r))) ending count new) server_is
               (subst (λ (x : Node). IsAnswered old client server r b.store
-              (datagrams (request_way_of x.settings g.node.settings.limits it.asks.asks.octets))
+              (datagrams (request_way_of x.settings (limits_of_server g.node) it.asks.asks.octets))
               (datagrams (way_between x.settings b.settings (reply_to b.store r))) ending count new) before answered);
         }
 
-    refused : IsNoRun old client server g.node.settings.limits r ending count new → IsAnsweredSoon old client server a b r ending count new
+    refused : IsNoRun old client server (limits_of_server g.node) r ending count new → IsAnsweredSoon old client server a b r ending count new
     refused was =
         let node : was.refused.node ≡ a = let e : Some was.refused.node ≡ Some a = sym was.refused.at ∙ can.client_at in cc in
         let link : was.refused.link ≡ b.link =
         let e : Some was.refused.link ≡ Some b.link = sym was.refused.peer
         ∙ ap (λ (o : Option Node). option_map (λ (n : Node). n.link) o) can.server_at in cc in
         absurd (can.may_ask was.refused.refusal
-        (subst (λ (x : Node). NodeRefuses old.now (peer_at b.link) x.settings.limits r a was.refused.refusal) server_is
-        (subst (λ (l : Octets). NodeRefuses old.now (peer_at l) g.node.settings.limits r a was.refused.refusal) link
-        (subst (λ (x : Node). NodeRefuses old.now (peer_at was.refused.link) g.node.settings.limits r x was.refused.refusal) node was.refused.why))))
+        (subst (λ (x : Node). NodeRefuses old.now (peer_at b.link) (limits_of_server x) r a was.refused.refusal) server_is
+        (subst (λ (l : Octets). NodeRefuses old.now (peer_at l) (limits_of_server g.node) r a was.refused.refusal) link
+        (subst (λ (x : Node). NodeRefuses old.now (peer_at was.refused.link) (limits_of_server g.node) r x was.refused.refusal) node was.refused.why))))
 
     pub soon : IsAnsweredSoon old client server a b r ending count new
     soon = go g.goes
       where
-        go : Goes overtake old client server g.node.settings.limits r ending count new → IsAnsweredSoon old client server a b r ending count new
+        go : Goes overtake old client server (limits_of_server g.node) r ending count new → IsAnsweredSoon old client server a b r ending count new
         go (inl it) = ran it
         go (inr was) = refused was

@@ -4,12 +4,12 @@ use Rattle.std.proofs.lemmas.Bool.Decides.{nat_tests}
 use Rattle.bac_protocol.specs.Client.{Ask}
 use Rattle.bac_protocol.specs.Transaction.{Key, Rules}
 use Rattle.bac_protocol.specs.World.{Net, is_id_held}
-use Rattle.bac_progress.proofs.Paths.{Any, Step, Path, step_now, path_now}
-use Rattle.bac_progress.proofs.Paths.Path.{Here, Then}
-use Rattle.bac_progress.proofs.Changes.{IsThere, there_step}
-use Rattle.bac_progress.proofs.Kept.{held_in_time}
+use Rattle.bac_liveness.proofs.Paths.{Any, Step, Path, step_now, path_now}
+use Rattle.bac_liveness.proofs.Paths.Path.{Here, Then}
+use Rattle.bac_liveness.proofs.Changes.{IsThere, there_step}
+use Rattle.bac_liveness.proofs.Kept.{held_in_time}
 use Rattle.bac_world.specs.World.{World, WorldRun, IsDelivered, DeliversIf, is_deliverable}
-use Rattle.bac_completion.specs.StraightRuns.{deliveries}
+use Rattle.bac_liveness.specs.StraightRuns.{deliveries}
 
 module _ (x : Rules) (key : Key) (number : ℕ) (ask : Ask) where
   still : (l m : Net) → Step x Any l m → l.now ≡ ask.first → IsThere x Any key number ask l → IsThere x Any key number ask m

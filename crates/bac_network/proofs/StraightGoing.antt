@@ -1,5 +1,5 @@
 -- How far the deliveries of an ask have gone.
-use Rattle.std.proofs.Common.{◌≡◌, ℕ, ◌+◌, ◌-◌, ◌<◌, ◌≤◌, Bool, true, false, List, length, map, Option, Some, None, slice_get}
+use Rattle.std.proofs.Common.{◌≡◌, ℕ, zero, suc, ◌+◌, ◌-◌, ◌<◌, ◌≤◌, Bool, true, false, List, ◌∷◌, length, map, Option, Some, None, slice_get}
 use Rattle.std.proofs.Common.{refl, sym, ap, subst, inl, inr, ◌∙◌, arith}
 use Rattle.std.specs.Prelude.{Result, Ok, Err, IsErrAnd, MatchBool, MatchResult}
 use Rattle.std.proofs.lemmas.List.{length-map, length-reverse}
@@ -7,9 +7,10 @@ use Rattle.bac_apdu.specs.Apdu.{Limits}
 use Rattle.bac_service.specs.Values.{Request}
 use Rattle.bac_transaction.specs.Meanings.{Ending}
 use Rattle.bac_world.specs.Node.{Node}
-use Rattle.bac_world.specs.Once.{Fact}
-use Rattle.bac_world.specs.World.{World, Copy, Note, WorldStep, IsAsked}
-use Rattle.bac_world.specs.World.Event.{Deliver}
+use Rattle.bac_world.specs.Once.{Fact, HasRequestsAlone}
+use Rattle.bac_world.specs.World.{World, Copy, Note, WorldStep, IsAsked, MakeRequestsAlone}
+use Rattle.bac_world.specs.World.Event.{Ask, Deliver}
+use Rattle.bac_world.proofs.Quiet.{alone_after_run}
 use Rattle.bac_journal.specs.declared.copies.Copy as copy
 use Rattle.bac_journal.specs.declared.noting.Note as note
 use Rattle.bac_journal.specs.Notes.{note_view, notes_view}
@@ -19,12 +20,12 @@ use Rattle.bac_network.specs.declared.fault.WorldFault.{WorldFault}
 use Rattle.bac_network.specs.Histories.{WorldView, HasHistory}
 use Rattle.bac_network.specs.Steps.{IsFault}
 use Rattle.bac_network.specs.Views.{fact_view, log_view}
-use Rattle.bac_completion.specs.StraightRuns.{IsStraight, ending_in}
-use Rattle.bac_completion.proofs.StraightRuns.Loops.{is_run}
+use Rattle.bac_liveness.specs.StraightRuns.{IsStraight, deliveries, ending_in}
+use Rattle.bac_liveness.proofs.StraightRuns.Loops.{is_run}
 use Rattle.bac_network.specs.StraightFaults.{DeliveryFails, Fails, StopsShort}
 use Rattle.bac_network.specs.Going.{HasGone, HasStopped, IsStuck}
 use Rattle.bac_network.specs.Logs.{IsSince, DeliverUnended, Stops, ending_by}
-use Rattle.bac_network.specs.StraightRuns.{Goes, GoesAt, WentBy, WentSoFar}
+use Rattle.bac_network.specs.StraightRuns.{Goes, GoesAt, WentBy, WentSoFar, limits_of_server}
 use Rattle.bac_network.specs.Tells.{LogTells}
 use Rattle.bac_network.proofs.Deliveries.{none_yet, one_more, run_of}
 use Rattle.bac_network.proofs.Grown.{since_grows, delivered_grows}
@@ -116,6 +117,10 @@ asked_since w asked h client server limits r asks since ask since_is ask_is =
     subst (λ k. IsSince k ask asked.world.log) (sym since_is) (subst (λ k. IsSince (length w.world.log) k asked.world.log) (sym ask_is)
     ((tells w h).since client server limits r asked.world asks))
 
+alone_deliveries : (count number : ℕ) → MakeRequestsAlone (deliveries count number)
+alone_deliveries zero number = tt
+alone_deliveries (suc count) number = alone_deliveries count (suc number)
+
 module _ (overtake : ℕ) (old : World) (client server : ℕ) (limits : Limits) (r : Request) (new : World) where
   -- it went as far as it goes
   pub goes_went : (ending : Option Ending) (count : ℕ) → Goes overtake old client server limits r ending count new
@@ -123,12 +128,18 @@ module _ (overtake : ℕ) (old : World) (client server : ℕ) (limits : Limits) 
   goes_went ending count (inl s) = inr (count, is_run overtake old client server limits r ending count new s)
   goes_went ending count (inr x) = inl x.refused.same
 
+  -- no node changed its own store or restarted
+  pub alone_by : WentBy overtake old client server limits r new → HasRequestsAlone old.log → HasRequestsAlone new.log
+  alone_by (inl same) alone = subst (λ (w : World). HasRequestsAlone w.log) (sym same) alone
+  alone_by (inr g) alone = alone_after_run overtake (Ask client server limits r ∷ deliveries g.0 (length old.copies)) old new
+      (alone_deliveries g.0 (length old.copies)) g.1 alone
+
   -- so it did where it met a fault
   pub fails_went : (f : WorldFault) → Fails f overtake old client server limits r new → WentBy overtake old client server limits r new
   fails_went f (inl ask) = inl ask.1
   fails_went f (inr d) = inr (d.count, (d.asked, inl d.asks, d.done))
 
-  module _ (node : Node) (at : slice_get old.nodes server ≡ Some node) (same : limits ≡ node.settings.limits) where
+  module _ (node : Node) (at : slice_get old.nodes server ≡ Some node) (same : limits ≡ limits_of_server node) where
     pub went_at : WentBy overtake old client server limits r new → WentSoFar overtake old client server r new
     went_at g = inr (record { node = node; at = at; went = subst (λ l. WentBy overtake old client server l r new) same g })
 

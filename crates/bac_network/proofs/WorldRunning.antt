@@ -5,10 +5,11 @@ use Rattle.std.proofs.lemmas.List.{length-map}
 use Rattle.std.proofs.lemmas.Option.{slice_get-map}
 use Rattle.std.specs.Option.{option_map}
 use Rattle.bac_world.specs.World as world
-use Rattle.bac_world.specs.World.{World, WorldRun, WorldStep}
+use Rattle.bac_world.specs.World.{World, WorldRun, WorldStep, MakeRequestsAlone}
+use Rattle.bac_world.proofs.Quiet.{alone_after_run}
 use Rattle.bac_requester.specs.declared.ask_fault.AskFault.{AskFault}
 use Rattle.bac_store.specs.declared.change_fault.ChangeFault.{ChangeFault}
-use Rattle.bac_network.specs.Histories.{WorldView}
+use Rattle.bac_network.specs.Histories.{WorldView, HasRequestsAloneNow}
 use Rattle.bac_network.specs.Runs.{StopsAt}
 use Rattle.bac_network.specs.Steps.{IsFault, NamesNoCopy, NamesNoNode, PassesClock, RefusesChange, TakesMemory}
 use Rattle.bac_network.specs.Views.{event_view}
@@ -54,6 +55,25 @@ pub all_done : (old new : WorldView) (events : List Event) (place : ℕ) → len
 all_done old new events place all done =
     let many = length-map events event_view in
     subst (λ l. WorldRun old.overtake old.world l new.world) (take_whole (map event_view events) place (omega (arith, many, all))) done
+
+-- Where no node changes its own store or restarts.
+
+alone_front : (events : List world.Event) (place : ℕ) → MakeRequestsAlone events → MakeRequestsAlone (take place events)
+alone_front [] zero alone = tt
+alone_front [] (suc place) alone = tt
+alone_front (e ∷ events) zero alone = tt
+alone_front (world.Event.Ask client server limits r ∷ events) (suc place) alone = alone_front events place alone
+alone_front (world.Event.Deliver number ∷ events) (suc place) alone = alone_front events place alone
+alone_front (world.Event.Noise node from octets ∷ events) (suc place) alone = alone_front events place alone
+alone_front (world.Event.Tick node ∷ events) (suc place) alone = alone_front events place alone
+alone_front (world.Event.Advance by ∷ events) (suc place) alone = alone_front events place alone
+alone_front (world.Event.Change node c ∷ events) (suc place) alone = absurd alone
+alone_front (world.Event.Restart node store ∷ events) (suc place) alone = absurd alone
+
+pub alone_so_far : (old mid : WorldView) (events : List world.Event) (place : ℕ) → WorldRun old.overtake old.world (take place events) mid.world
+    → HasRequestsAloneNow old → MakeRequestsAlone events → HasRequestsAloneNow mid
+alone_so_far old mid events place done before alone =
+    alone_after_run old.overtake (take place events) old.world mid.world (alone_front events place alone) done before
 
 -- A fault.
 

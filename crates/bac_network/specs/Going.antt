@@ -4,7 +4,7 @@ use Rattle.bac_world.specs.World.Event.{Deliver}
 use Rattle.bac_network.specs.Histories.{WorldView}
 use Rattle.bac_network.specs.Steps.{IsFault}
 use Rattle.bac_network.specs.declared.fault.WorldFault.{WorldFault}
-use Rattle.bac_completion.specs.StraightRuns.{ending_in}
+use Rattle.bac_liveness.specs.StraightRuns.{ending_in}
 use Rattle.bac_network.specs.Logs.{IsSince, DeliverUnended, Stops}
 
 -- so many copies were delivered, from the first of the ask on

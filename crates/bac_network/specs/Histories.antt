@@ -2,8 +2,8 @@
 use Rattle.std.specs.Prelude.{◌≡◌, ℕ, List, slice_get}
 use Rattle.bac_protocol.specs.Service.{Octets}
 use Rattle.bac_store.specs.Stores.{Store}
-use Rattle.bac_world.specs.Claims.{AreEndedOnce, ArePerformedOnce, AreReplayed}
-use Rattle.bac_world.specs.Once.{Stores, IsOnce}
+use Rattle.bac_world.specs.Claims.{AreChangesPermitted, AreEndedOnce, ArePerformedOnce, AreReplayed}
+use Rattle.bac_world.specs.Once.{Stores, IsOnce, IsOnceByRequestsAlone, HasRequestsAlone}
 use Rattle.bac_world.specs.World.{World, Event, WorldRun, IsFresh, IsBounded, stores_of}
 use Rattle.bac_journal.specs.Views.{AreLinks}
 use Rattle.bac_network.specs.Networks.{world_of}
@@ -35,9 +35,22 @@ ArePerformedOnceNow w = ArePerformedOnce (opening_stores w) w.world.log
 abbrev pub AreEndedOnceNow : WorldView → Type 0
 AreEndedOnceNow w = AreEndedOnce w.world.log
 
+-- of the changes that nodes made in their own stores: none has a fault for its node's store as it then was
+abbrev pub AreChangesPermittedNow : WorldView → Type 0
+AreChangesPermittedNow w = AreChangesPermitted (opening_stores w) w.world.log
+
 -- of the stores: they are those of their nodes' last starts, after what was performed and changed since, in the log's order
 abbrev pub AreReplayedNow : WorldView → Type 0
 AreReplayedNow w = AreReplayed (opening_stores w) w.world.log (stores_of w.world.nodes)
+
+-- so far no node changed its own store, and none restarted
+abbrev pub HasRequestsAloneNow : WorldView → Type 0
+HasRequestsAloneNow w = HasRequestsAlone w.world.log
+
+-- every accepted ask takes effect at most once, and exactly once where a service answer reached its client; the request performed and the answer are its
+-- own, whole; and each server's store is its opening store after the performed requests in their order
+abbrev pub IsOnceByRequestsAloneNow : WorldView → Type 0
+IsOnceByRequestsAloneNow w = IsOnceByRequestsAlone (opening_stores w) w.world.log (stores_of w.world.nodes)
 
 -- a run of a fresh world with those stores, whose windows are at most W, led to it
 pub record HasRun (W : ℕ) (w : WorldView) : Type 0 where

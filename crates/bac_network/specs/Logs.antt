@@ -4,7 +4,7 @@ use Rattle.bac_transaction.specs.Meanings.{Ending}
 use Rattle.bac_world.specs.Once.{Fact}
 use Rattle.bac_world.specs.World.{World, WorldStep}
 use Rattle.bac_world.specs.World.Event.{Deliver}
-use Rattle.bac_completion.specs.StraightRuns.{ending_in}
+use Rattle.bac_liveness.specs.StraightRuns.{ending_in}
 
 -- the log had so many facts before the ask, and no ending of it
 pub record IsSince (since ask : ℕ) (log : List Fact) : Type 0 where

@@ -3,7 +3,7 @@ use Rattle.std.specs.Prelude.{◌≡◌, ◌↔◌, ℕ, true, length, None}
 use Rattle.bac_apdu.specs.Apdu.{Limits}
 use Rattle.bac_service.specs.Values.{Request}
 use Rattle.bac_world.specs.World.{World, WorldRun, IsAsked}
-use Rattle.bac_completion.specs.StraightRuns.{is_open, key_of_ask, ending_in, deliveries}
+use Rattle.bac_liveness.specs.StraightRuns.{is_open, key_of_ask, ending_in, deliveries}
 
 -- while copies are delivered after an ask, its ticket is open exactly as long as the log has no ending of it
 abbrev pub OpenUntilEnded : (overtake : ℕ) → World → Type 0

@@ -1,7 +1,7 @@
--- A run that stopped at a fault.
+-- Runs: one that stopped at a fault, and what holds after one in which no node changes its own store or restarts.
 use Rattle.std.specs.Prelude.{◌≡◌, List, Some, slice_get, take}
-use Rattle.bac_world.specs.World.{Event, WorldRun}
-use Rattle.bac_network.specs.Histories.{WorldView}
+use Rattle.bac_world.specs.World.{Event, WorldRun, MakeRequestsAlone}
+use Rattle.bac_network.specs.Histories.{WorldView, HasRequestsAloneNow, IsOnceByRequestsAloneNow}
 use Rattle.bac_network.specs.Steps.{IsFault}
 use Rattle.bac_network.specs.declared.fault.RunFault.{RunFault}
 
@@ -11,3 +11,10 @@ pub record StopsAt (f : RunFault) (old : WorldView) (events : List Event) (new :
   pub event : Event
   pub at : slice_get events f.place ≡ Some event
   pub fault : IsFault f.fault old.overtake new.world event
+
+-- for every list of asks, deliveries, losses, repeats, reorderings, noise, ticks and clock steps among nodes, every accepted ask takes effect at most once,
+-- and exactly once where a service answer reached its client; the request performed and the answer are its own, whole; and each server's store is its
+-- opening store after the performed requests in their order. A loss is a copy that no event delivers, and a repeat is one that two events deliver; nor did
+-- a node change its own store or restart before these events
+abbrev pub RequestsTakeEffectOnce : (old : WorldView) → List Event → (new : WorldView) → Type 0
+RequestsTakeEffectOnce old events new = HasRequestsAloneNow old → MakeRequestsAlone events → IsOnceByRequestsAloneNow new

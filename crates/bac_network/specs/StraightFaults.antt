@@ -8,7 +8,8 @@ use Rattle.bac_world.specs.World.Event.{Ask, Deliver}
 use Rattle.bac_network.specs.Steps.{IsFault}
 use Rattle.bac_network.specs.declared.fault.WorldFault.{WorldFault}
 use Rattle.bac_network.specs.declared.fault.WorldFault.TheVariants as fault
-use Rattle.bac_completion.specs.StraightRuns.{deliveries, ending_in}
+use Rattle.bac_liveness.specs.StraightRuns.{deliveries, ending_in}
+use Rattle.bac_network.specs.StraightRuns.{limits_of_server}
 
 -- the ask met that fault, and nothing changed
 abbrev pub AskFails : WorldFault → (overtake : ℕ) → (old : World) → (client server : ℕ) → Limits → Request → (new : World) → Type 0
@@ -28,11 +29,11 @@ abbrev pub Fails : WorldFault → (overtake : ℕ) → (old : World) → (client
 Fails f overtake old client server limits r new =
     AskFails f overtake old client server limits r new ⊎ DeliveryFails f overtake old client server limits r new
 
--- where there is such a server, of an ask with what it takes of APDUs
+-- where there is such a server, of an ask with what it takes of APDUs as a server
 pub record FailsAt (f : WorldFault) (overtake : ℕ) (old : World) (client server : ℕ) (r : Request) (new : World) : Type 0 where
   pub node : Node
   pub at : slice_get old.nodes server ≡ Some node
-  pub fails : Fails f overtake old client server node.settings.limits r new
+  pub fails : Fails f overtake old client server (limits_of_server node) r new
 
 -- there is no such server
 pub record LacksServer (f : WorldFault) (old : World) (server : ℕ) (new : World) : Type 0 where

@@ -12,8 +12,12 @@ use Rattle.bac_transaction.specs.Meanings.{Ending}
 use Rattle.bac_world.specs.Node.{Node, Refusal, NodeRefuses}
 use Rattle.bac_world.specs.World.{World, WorldRun, IsAsked, IsRefused, peer_at}
 use Rattle.bac_world.specs.World.Event.{Ask}
-use Rattle.bac_completion.specs.StraightRuns.{IsStraight, deliveries}
-use Rattle.bac_completion.specs.StraightAnswers.{CanGo, IsAnswered, datagrams, way_between}
+use Rattle.bac_liveness.specs.StraightRuns.{IsStraight, deliveries}
+use Rattle.bac_liveness.specs.StraightAnswers.{CanGo, IsAnswered, datagrams, way_between}
+
+-- what a client is told that a server takes of APDUs: what that node takes as a client, and requests in segments, whatever its SA bit says
+abbrev pub limits_of_server : Node → Limits
+limits_of_server server = record (server.settings.limits) { takes_segments = true }
 
 -- an ask is accepted, or refused
 abbrev pub AsksIf : Bool → (old : World) → (client server : ℕ) → Limits → Request → (new : World) → Type 0
@@ -25,11 +29,11 @@ abbrev pub WentBy : (overtake : ℕ) → (old : World) → (client server : ℕ)
 WentBy overtake old client server limits r new =
     (new ≡ old) ⊎ ((count : ℕ) × WorldRun overtake old (Ask client server limits r ∷ deliveries count (length old.copies)) new)
 
--- where there is such a server, with what it takes of APDUs
+-- where there is such a server, with what it takes of APDUs as a server
 pub record WentAt (overtake : ℕ) (old : World) (client server : ℕ) (r : Request) (new : World) : Type 0 where
   pub node : Node
   pub at : slice_get old.nodes server ≡ Some node
-  pub went : WentBy overtake old client server node.settings.limits r new
+  pub went : WentBy overtake old client server (limits_of_server node) r new
 
 abbrev pub WentSoFar : (overtake : ℕ) → (old : World) → (client server : ℕ) → Request → (new : World) → Type 0
 WentSoFar overtake old client server r new = (new ≡ old) ⊎ WentAt overtake old client server r new
@@ -49,7 +53,7 @@ Goes overtake old client server limits r ending count new =
 pub record GoesAt (overtake : ℕ) (old : World) (client server : ℕ) (r : Request) (ending : Option Ending) (count : ℕ) (new : World) : Type 0 where
   pub node : Node
   pub at : slice_get old.nodes server ≡ Some node
-  pub goes : Goes overtake old client server node.settings.limits r ending count new
+  pub goes : Goes overtake old client server (limits_of_server node) r ending count new
 
 -- the server has a slot without a live entry; its store's reply goes in one APDU or in segments that the client takes; and the client's window is no greater
 -- than the number of copies that may overtake one
@@ -62,7 +66,7 @@ pub record CanReply (overtake now : ℕ) (client server : Node) (r : Request) : 
 pub record CanBeAnswered (overtake : ℕ) (old : World) (client server : ℕ) (a b : Node) (r : Request) : Type 0 where
   pub client_at : slice_get old.nodes client ≡ Some a
   pub server_at : slice_get old.nodes server ≡ Some b
-  pub may_ask : (why : Refusal) → NodeRefuses old.now (peer_at b.link) b.settings.limits r a why → ⊥
+  pub may_ask : (why : Refusal) → NodeRefuses old.now (peer_at b.link) (limits_of_server b) r a why → ⊥
   pub can : CanReply overtake old.now a b r
 
 -- what holds of each node in code: a window of 1 at least, and replies that can be sent
@@ -78,5 +82,5 @@ IsWellMadeAt w i = (n : Node) → slice_get w.nodes i ≡ Some n → IsWellMade 
 pub record IsAnsweredSoon (old : World) (client server : ℕ) (a b : Node) (r : Request) (ending : Option Ending) (count : ℕ) (new : World) : Type 0 where
   pub octets : Octets
   pub spelled : SpellsRequest (choice_of r) r octets
-  pub answered : IsAnswered old client server r b.store (datagrams (request_way_of a.settings b.settings.limits octets))
+  pub answered : IsAnswered old client server r b.store (datagrams (request_way_of a.settings (limits_of_server b) octets))
       (datagrams (way_between a.settings b.settings (reply_to b.store r))) ending count new

@@ -6,7 +6,7 @@ use Rattle.bac_transaction.specs.Meanings.{Ending}
 use Rattle.bac_world.specs.Node.{Node}
 use Rattle.bac_world.specs.World.{World, WorldStep, IsAsked}
 use Rattle.bac_world.specs.World.Event.{Deliver}
-use Rattle.bac_completion.specs.StraightRuns.{IsStraight, ending_in}
+use Rattle.bac_liveness.specs.StraightRuns.{IsStraight, ending_in}
 use Rattle.bac_network.specs.Logs.{IsSince, DeliverUnended, Stops}
 use Rattle.bac_network.specs.StraightRuns.{CanBeAnswered, GoesAt, IsAnsweredSoon, IsWellMadeAt, WentBy}
 

@@ -17,7 +17,7 @@ use bac_value::NoMemory;
 use std::alloc::Global;
 
 impl Network {
-    /// A node changes its own store, and the change enters the log.
+    /// A node changes its own store, where the change has no fault for it, and the change enters the log.
     pub(crate) fn change(
         &mut self,
         alloc: Global,

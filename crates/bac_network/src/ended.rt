@@ -2,7 +2,7 @@
 ghost use Rattle.std.specs.Prelude.{◌≡◌, List, ◌∷◌, MatchOption, None, Some};
 ghost use Rattle.bac_requester.specs.TransactionViews.{ending_view};
 ghost use Rattle.bac_network.specs.Views.{fact_view, log_view};
-ghost use Rattle.bac_completion.specs.StraightRuns.{ending_in};
+ghost use Rattle.bac_liveness.specs.StraightRuns.{ending_in};
 ghost use Rattle.bac_network.specs.Logs.{IsSince};
 ghost use Rattle.bac_world.specs.Once as once;
 

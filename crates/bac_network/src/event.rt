@@ -4,7 +4,7 @@ use bac_npdu::LinkAddress;
 use bac_service::OwnedRequest;
 use bac_store::{Change, Store};
 
-/// What can happen. Nodes and copies are numbered from 0.
+/// What can happen in a world. Nodes and copies are numbered from 0.
 #[derive(Drop)]
 pub enum Event {
     /// A node asks another one.
@@ -13,47 +13,47 @@ pub enum Event {
         client: usize,
         /// The node that is asked.
         server: usize,
-        /// What the client supposes that the server takes of APDUs.
+        /// What the client takes the server to accept of APDUs.
         limits: Limits,
         /// What is asked.
         request: OwnedRequest,
     },
-    /// A copy comes to its node; it is lost where it is not deliverable.
+    /// A copy arrives at its node, or is lost where it is not deliverable.
     Deliver {
         /// The copy.
         number: usize,
     },
-    /// Octets come to a node that no node sent: they are lost unless they come from a link of no node and mean no APDU of a peer.
+    /// Octets that no node sent arrive at a node, from any link. They are lost where they mean an APDU of a peer.
     Noise {
-        /// The node to which they come.
+        /// The node.
         node: usize,
-        /// The link from which they come: four octets of IPv4 address and two of UDP port (clause J.1.2).
+        /// Their source: four octets of IPv4 address and two of UDP port (clause J.1.2).
         from: LinkAddress,
         /// The octets.
         octets: Vec<u8>,
     },
-    /// A node does what is due.
+    /// A node's timers run: it sends again, or gives up, what is due.
     Tick {
         /// The node.
         node: usize,
     },
-    /// The clock goes on.
+    /// The clock advances.
     Advance {
-        /// By so many milliseconds.
+        /// By this many milliseconds.
         by: u64,
     },
     /// A node changes its own store, by no request, as where a sensor moves.
     Change {
         /// The node.
         node: usize,
-        /// What changes.
+        /// The change.
         change: Change,
     },
-    /// A node restarts: its asks and its reply table are lost, and for a time both its ends wait.
+    /// A node restarts: it loses its asks and its reply table, asks nothing for `REST`, and turns requests away for `KEEP`.
     Restart {
         /// The node.
         node: usize,
-        /// The store with which it starts again; None where it is the one that it has.
+        /// The store with which it starts again, or None where it keeps its own.
         store: Option<Store>,
     },
 }

@@ -1,8 +1,8 @@
 //! Octets that no node sent.
 ghost use Rattle.std.specs.Prelude.{◌≡◌, ◌<◌, ℕ, length};
-ghost use Rattle.bac_world.specs.World.{HearsNoise, IsNoise};
+ghost use Rattle.bac_world.specs.Laws.{IsMeaningless};
+ghost use Rattle.bac_world.specs.World.{HearsNoise};
 ghost use Rattle.bac_world.specs.World.Event.{Noise};
-ghost use Rattle.bac_journal.specs.Views.{AreLinks};
 ghost use Rattle.bac_network.specs.Goings.{ArePunctual};
 ghost use Rattle.bac_network.specs.Networks.{world_of};
 ghost use Rattle.bac_network.specs.Steps.{Happens};
@@ -10,25 +10,25 @@ ghost use Rattle.bac_network.specs.Steps.{Happens};
 use crate::fault::WorldFault;
 use crate::going::hear;
 use crate::network::Network;
+use bac_journal::is_meaningless;
 use bac_npdu::LinkAddress;
 
 impl Network {
-    /// Octets that mean no APDU of a peer come to a node from a link of no node; others are lost. It takes no memory.
+    /// Octets that mean no APDU of a peer come to a node, from any link; others are lost. It takes no memory.
     pub(crate) fn hear_noise(
         &mut self,
         node: usize,
         from: LinkAddress,
         octets: &[u8],
     ) -> Result<(), WorldFault>
-        requires punctual { ArePunctual self.old.nodes.items self.old.journal.moment }
-        requires linked { AreLinks self.old.nodes.items self.old.journal.links }
+        requires { ArePunctual self.old.nodes.items self.old.journal.moment }
         ensures happens { (overtake : ℕ) → Happens overtake (world_of self.old) (Noise node from octets.now) result (world_of self.new) }
         ensures links { self.new.journal.links ≡ self.old.journal.links }
     {
         if node >= self.nodes.len() {
             return Err(WorldFault::NoSuchNode);
         }
-        if self.journal.is_noise(from, octets) {
+        if is_meaningless(from, octets) {
             self.drop_noise(node, from, octets);
         }
         Ok(())
@@ -38,7 +38,7 @@ impl Network {
     fn drop_noise(&mut self, node: usize, from: LinkAddress, octets: &[u8])
         requires punctual { ArePunctual self.old.nodes.items self.old.journal.moment }
         requires there { node < length self.old.nodes.items }
-        requires noise { IsNoise self.old.nodes.items from octets.now }
+        requires noise { IsMeaningless from octets.now }
         ensures heard { HearsNoise (world_of self.old) node from octets.now (world_of self.new) }
         ensures links { self.new.journal.links ≡ self.old.journal.links }
     {

@@ -6,13 +6,15 @@ ghost use Rattle.bac_requester.specs.TransactionViews.{ending_view};
 ghost use Rattle.bac_world.specs.Node.{Node};
 ghost use Rattle.bac_world.specs.World.{WorldStep};
 ghost use Rattle.bac_world.specs.World.Event.{Ask, Deliver};
-ghost use Rattle.bac_network.specs.Histories.{AreEndedOnceNow, ArePerformedOnceNow, AreReplayedNow, HasHistory, IsOnceNow};
+ghost use Rattle.bac_network.specs.Histories.{AreChangesPermittedNow, AreEndedOnceNow, ArePerformedOnceNow, AreReplayedNow, HasHistory};
+ghost use Rattle.bac_network.specs.Histories.{HasRequestsAloneNow, IsOnceByRequestsAloneNow, IsOnceNow};
 ghost use Rattle.bac_network.specs.Steps.{IsFault};
-ghost use Rattle.bac_completion.specs.StraightRuns.{ending_in};
+ghost use Rattle.bac_liveness.specs.StraightRuns.{ending_in};
 ghost use Rattle.bac_network.specs.StraightFaults.{Fails, StopsShort};
 ghost use Rattle.bac_network.specs.Going.{HasStopped, IsStuck};
 ghost use Rattle.bac_network.specs.Logs.{IsSince, Stops, ending_by};
 ghost use Rattle.bac_network.specs.StraightRuns.{AsksIf, CanBeAnswered, Goes, GoesAt, IsAnsweredSoon, IsWellMadeAt, WentSoFar};
+ghost use Rattle.bac_network.specs.StraightRuns.{limits_of_server};
 
 use crate::ended::ending_of;
 use crate::{Event, World, WorldFault};
@@ -20,17 +22,17 @@ use bac_apdu::Limits;
 use bac_requester::Ending;
 use bac_service::OwnedRequest;
 
-/// How a straight run went.
+/// The ask of a straight run, and how many copies were delivered.
 #[derive(Clone, Copy, Debug, PartialEq, Eq)]
 pub struct StraightRun {
-    /// The number of its ask in the world; None where it was refused.
+    /// The number of the ask in the world, or None where the ask was refused.
     pub ask: Option<usize>,
     /// How many copies were delivered.
     pub deliveries: usize,
 }
 
 impl StraightRun {
-    /// How its ask ended, which the world's log has; None where it was refused, or has not ended.
+    /// How the ask ended, by the world's log, or None where it was refused or has not ended.
     pub fn ending<'a>(&self, world: &'a World) -> Option<&'a Ending>
         ensures { MatchOption result (ending_by self.now.ask world.now.world.log ≡ None)
             (λ how. ending_by self.now.ask world.now.world.log ≡ Some (ending_view how.now)) }
@@ -42,18 +44,25 @@ impl StraightRun {
     }
 }
 
-/// What a node takes of APDUs; None where there is no such node.
-fn limits_of(world: &World, node: usize) -> Option<Limits>
+/// What a client takes a node to accept of APDUs as a server: requests in segments whatever its SA bit says. None where there is no such node.
+fn limits_of_server(world: &World, node: usize) -> Option<Limits>
     ensures { MatchOption result (slice_get world.now.world.nodes node ≡ None)
-        (λ l. (n : Node) × (slice_get world.now.world.nodes node ≡ Some n) × (limits_view l ≡ n.settings.limits)) }
+        (λ l. (n : Node) × (slice_get world.now.world.nodes node ≡ Some n) × (limits_view l ≡ limits_of_server n)) }
 {
     match world.nodes().get(node) {
-        Some(node) => Some(node.settings().limits),
+        Some(node) => {
+            let limits = node.settings().limits;
+            Some(Limits {
+                max_apdu: limits.max_apdu,
+                takes_segments: true,
+                max_segments: limits.max_segments,
+            })
+        }
         None => None,
     }
 }
 
-/// What holds of each node: its window is 1 at least, and each reply of its store can be sent.
+/// A law of each node: its window is at least 1, and each reply of its store can be sent.
 fn is_well_made(world: &World, node: usize)
     ensures { IsWellMadeAt world.now.world node }
 {
@@ -62,7 +71,7 @@ fn is_well_made(world: &World, node: usize)
     }
 }
 
-/// Asks, and tells whether the ask was accepted. After an Err the world is as before.
+/// Asks, and returns whether the ask was accepted. After an error the world is as before.
 fn ask(
     world: &mut World,
     client: usize,
@@ -103,7 +112,7 @@ fn is_over(world: &World, ask: usize, since: usize, number: usize) -> bool
     }
 }
 
-/// Delivers a copy. After an Err the world is as before.
+/// Delivers a copy. After an error the world is as before.
 fn deliver(world: &mut World, number: usize) -> Result<(), WorldFault>
     ensures went { OnOk result (WorldStep world.old.overtake world.old.world (Deliver number) world.new.world) }
     ensures fault { IfErr result (λ f. IsFault f world.old.overtake world.old.world (Deliver number)) }
@@ -115,7 +124,7 @@ fn deliver(world: &mut World, number: usize) -> Result<(), WorldFault>
     Ok(())
 }
 
-/// Delivers the copies from that number on, each once, until the ask has ended or none is left, and tells how many it delivered.
+/// Delivers the copies from that number on, each once, until the ask has ended or none is left, and returns how many it delivered.
 fn deliver_each(
     world: &mut World,
     ask: usize,
@@ -133,7 +142,7 @@ fn deliver_each(
     Ok(number - first)
 }
 
-/// Delivers what arises from an accepted ask, and tells how that went.
+/// Delivers the copies that arise from an accepted ask.
 fn deliver_all(
     world: &mut World,
     ask: usize,
@@ -151,7 +160,7 @@ fn deliver_all(
     })
 }
 
-/// Asks, where the server is said to take that of APDUs, and delivers what arises from it.
+/// Asks with these limits of the server, and delivers the copies that arise.
 fn ask_and_deliver(
     world: &mut World,
     client: usize,
@@ -179,11 +188,11 @@ fn ask_and_deliver(
     }
 }
 
-/// A straight run: asks with what the server takes of APDUs, and delivers each copy that arises from it once, in order of sending, at one moment, until the
-/// ask has ended or no copy is left. A refused ask changes nothing.
+/// A straight run: asks, and delivers each copy that arises once, in order of sending, at one moment, until the ask has ended or no copy is left. The client
+/// goes by the server's limits of APDUs, and sends requests in segments whatever the server's SA bit says. A refused ask changes nothing.
 ///
-/// It stops at the first fault of an event, and tells it; what was done before stands. `NoSuchNode` where either node is not there, and then nothing changed;
-/// `NoMemory` where there is none for an event. It tells no other fault: each copy that it delivers is there. It takes no memory of its own.
+/// It stops at the first event that fails, and returns its fault; the events before it have happened. Errors: `NoSuchNode` where the world lacks one of the
+/// nodes, and then nothing has changed; `NoMemory` where an allocation fails. No other: each copy that it delivers is there. It takes no memory of its own.
 pub fn straight(
     world: &mut World,
     client: usize,
@@ -202,12 +211,14 @@ pub fn straight(
     ensures once { IsOnceNow world.new }
     ensures performed { ArePerformedOnceNow world.new }
     ensures ended { AreEndedOnceNow world.new }
+    ensures permitted { AreChangesPermittedNow world.new }
     ensures stores { AreReplayedNow world.new }
+    ensures requests_alone { HasRequestsAloneNow world.old → IsOnceByRequestsAloneNow world.new }
 {
     world.is_once();
     is_well_made(world, client);
     is_well_made(world, server);
-    let Some(limits) = limits_of(world, server) else {
+    let Some(limits) = limits_of_server(world, server) else {
         return Err(WorldFault::NoSuchNode);
     };
     let run = ask_and_deliver(world, client, server, limits, request);

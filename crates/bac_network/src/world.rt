@@ -1,12 +1,13 @@
 //! A world.
-ghost use Rattle.std.specs.Prelude.{◌≡◌, ◌↔◌, ℕ, IsErrOf, IsTrue, IfErr, IfOk, OnErr, OnOk, MatchOption, MatchResult, None, Some, length, map, slice_get, take};
+ghost use Rattle.std.specs.Prelude.{◌≡◌, ◌↔◌, ◌∷◌, [], ℕ, IsErrOf, IsTrue, IfErr, IfOk, OnErr, OnOk, MatchOption, MatchResult, None, Some, length, map, slice_get, take};
 ghost use Rattle.bac_store.specs.declared.change_fault.ChangeFault.{ChangeFault};
 ghost use Rattle.bac_world.specs.World.{WorldRun, WorldStep, stores_of};
 ghost use Rattle.bac_journal.specs.Notes.{notes_view};
 ghost use Rattle.bac_journal.specs.Views.{copy_view};
-ghost use Rattle.bac_network.specs.Histories.{AreEndedOnceNow, ArePerformedOnceNow, AreReplayedNow, HasHistory, IsOnceNow};
+ghost use Rattle.bac_network.specs.Histories.{AreChangesPermittedNow, AreEndedOnceNow, ArePerformedOnceNow, AreReplayedNow, HasHistory};
+ghost use Rattle.bac_network.specs.Histories.{HasRequestsAloneNow, IsOnceByRequestsAloneNow, IsOnceNow};
 ghost use Rattle.bac_network.specs.Steps.{NamesNoCopy, NamesNoNode, PassesClock, RefusesChange, TakesMemory, Tells};
-ghost use Rattle.bac_network.specs.Runs.{StopsAt};
+ghost use Rattle.bac_network.specs.Runs.{RequestsTakeEffectOnce, StopsAt};
 ghost use Rattle.bac_network.specs.Views.{event_view, log_view};
 
 use crate::are_alike;
@@ -23,9 +24,9 @@ use std::marker::Model;
 
 /// Nodes in one simulated network, with a clock, the copies of the datagrams that they sent, and a log of what was asked, performed and answered.
 ///
-/// However events follow each other, the log is right with the stores: every accepted ask takes effect at most once, and exactly once where a service answer
-/// reached its client; the request performed and the answer are its own, whole; and each store is that of its node's last start, after what was performed
-/// and changed there since, in the log's order: at a restart it stays, or is the one that the log tells.
+/// Whatever events happen, every accepted ask takes effect at most once, and exactly once where a service answer reached its client; the request performed and
+/// the answer are its own, whole; and each store is that of its node's last start, after what was performed and changed there since, in the log's order. A
+/// restart keeps the store, or the log has the new one.
 #[derive(Drop)]
 pub struct World {
     pub(crate) alloc: Global,
@@ -46,21 +47,21 @@ impl Model for World {
 }
 
 impl World {
-    /// How many later copies of its transaction may overtake a copy that is delivered.
+    /// How many later copies of its transaction may overtake a copy that is delivered; a copy that more have overtaken is lost.
     pub fn overtake(&self) -> u8
         ensures { result ≡ self.now.overtake }
     {
         self.overtake
     }
 
-    /// The nodes; they are numbered from 0.
+    /// The nodes, numbered from 0.
     pub fn nodes(&self) -> &[Node]
         ensures { result.now ≡ self.now.world.nodes }
     {
         &self.network.nodes
     }
 
-    /// The store of a node; None where there is no such node.
+    /// The store of a node, or None where the world has no node of that number.
     pub fn store(&self, node: usize) -> Option<&Store>
         ensures { MatchOption result (stores_of self.now.world.nodes node ≡ None) (λ s. stores_of self.now.world.nodes node ≡ Some s.now) }
     {
@@ -70,14 +71,14 @@ impl World {
         }
     }
 
-    /// The stores that the nodes had at first, in the nodes' order. They never change.
+    /// The stores that the nodes had when the world was made, in the nodes' order. They never change.
     pub fn opening(&self) -> &[Store]
         ensures { result.now ≡ self.now.opening }
     {
         &self.opening
     }
 
-    /// The moment, in milliseconds; 0 at first.
+    /// The present moment, in milliseconds since the world was made.
     pub fn now(&self) -> u64
         ensures { result ≡ self.now.world.now }
     {
@@ -98,31 +99,35 @@ impl World {
         self.network.journal.copies()
     }
 
-    /// What is noted of the accepted asks, which are numbered from 0 in this order; contracts see the newest first.
+    /// The transaction and the ticket of each accepted ask, in the order of the asks' numbers, which begin at 0; contracts see the newest first.
     pub fn asks(&self) -> &[Note]
         ensures { notes_view result.now ≡ self.now.world.notes }
     {
         self.network.journal.notes()
     }
 
-    /// A run of a fresh world with the opening stores led to it, and its log is right with the stores: every accepted ask was performed at most once, as it
-    /// was asked, with the reply of its server's store as it then was (`performed`); it ended at most once, and was answered with that reply alone (`ended`);
-    /// and stores were changed by performed requests, and by changes and restarts of their nodes alone (`stores`).
+    /// A law of every world; the call does nothing. A run of a fresh world with the opening stores led to this one (`history`), and its log is right with the
+    /// stores (`once`): every accepted ask was performed at most once, as it was asked, with the reply of its server's store as it then was (`performed`); it
+    /// ended at most once, and was answered with that reply alone (`ended`); each change that a node made in its own store had no fault for it as it then was
+    /// (`permitted`); and performed requests, changes and restarts alone changed the stores (`stores`). Where no node changed its own store or restarted,
+    /// performed requests alone did (`requests_alone`).
     pub fn is_once(&self)
         ensures history { HasHistory self.now }
         ensures once { IsOnceNow self.now }
         ensures performed { ArePerformedOnceNow self.now }
         ensures ended { AreEndedOnceNow self.now }
+        ensures permitted { AreChangesPermittedNow self.now }
         ensures stores { AreReplayedNow self.now }
+        ensures requests_alone { HasRequestsAloneNow self.now → IsOnceByRequestsAloneNow self.now }
     {
         let _network = &self.network;
     }
 
-    /// An event happens. The fault of a refused ask is told: a refused ask changes nothing.
+    /// Makes an event happen. Returns the fault of an ask that was refused, which changes nothing, and otherwise None.
     ///
-    /// `NoSuchNode` exactly where the event names a node that there is not, `NoSuchDatagram` exactly where it names a copy that there is not, `ClockEnd`
-    /// exactly where the moment would pass 64 bits, `BadChange` exactly where a change of a node's own store has that fault, and `NoMemory` after these, where
-    /// memory was refused: never for octets of no node, for a copy that is not deliverable, and for the clock. After an Err the world is as before.
+    /// Errors: `NoSuchNode` exactly where the world has no node that the event names, `NoSuchDatagram` exactly where it has no copy of that number, `ClockEnd`
+    /// exactly where the moment would pass 64 bits, `BadChange` exactly where a change of a node's own store has that fault, and after these `NoMemory` where
+    /// an allocation fails: never for noise, for a copy that is not deliverable, or for the clock. After an error the world is as before.
     pub fn step(&mut self, event: &Event) -> Result<Option<AskFault>, WorldFault>
         ensures went { OnOk result (WorldStep self.old.overtake self.old.world (event_view event.now) self.new.world) }
         ensures told { IfOk result (λ told. Tells told self.old.world (event_view event.now) self.new.world) }
@@ -136,13 +141,19 @@ impl World {
         ensures once { IsOnceNow self.new }
         ensures performed { ArePerformedOnceNow self.new }
         ensures ended { AreEndedOnceNow self.new }
+        ensures permitted { AreChangesPermittedNow self.new }
         ensures stores { AreReplayedNow self.new }
+        ensures requests_alone { RequestsTakeEffectOnce self.old (event_view event.now ∷ []) self.new }
     {
         self.network
             .step(self.alloc, self.overtake, self.window, event)
     }
 
-    /// Events happen in their order, up to the first that meets a fault: the events before it stand.
+    /// Makes events happen in their order, up to the first that fails, whose place and fault it returns; the events before it have happened.
+    ///
+    /// For every list of asks, deliveries, losses, repeats, reorderings, noise, ticks and clock steps (`requests_alone`), every accepted ask takes effect at
+    /// most once, and exactly once where a service answer reached its client; the request performed and the answer are its own, whole; and each server's store
+    /// is its opening store after the performed requests in their order. With changes and restarts of nodes too, the log is right with the stores (`once`).
     pub fn run(&mut self, events: &[Event]) -> Result<(), RunFault>
         ensures went { OnOk result (WorldRun self.old.overtake self.old.world (map event_view events.now) self.new.world) }
         ensures stopped { IfErr result (λ f. StopsAt f self.old (map event_view events.now) self.new) }
@@ -150,7 +161,9 @@ impl World {
         ensures once { IsOnceNow self.new }
         ensures performed { ArePerformedOnceNow self.new }
         ensures ended { AreEndedOnceNow self.new }
+        ensures permitted { AreChangesPermittedNow self.new }
         ensures stores { AreReplayedNow self.new }
+        ensures requests_alone { RequestsTakeEffectOnce self.old (map event_view events.now) self.new }
     {
         for (place, event) in events.iter().enumerate() {
             if let Err(fault) = self.step(event) {
@@ -161,7 +174,7 @@ impl World {
         Ok(())
     }
 
-    /// Whether contracts see no difference between two worlds: the same limit of overtaking, opening stores, nodes with their stores, moment, log, copies and
+    /// Whether two worlds are the same: the limit of overtaking, the opening stores, the nodes with their stores, the moment, the log, the copies, and the
     /// notes of asks. It takes no memory.
     pub fn same(&self, other: &World) -> bool
         ensures { IsTrue result ↔ (self.now ≡ other.now) }

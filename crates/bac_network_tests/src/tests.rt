@@ -1,5 +1,5 @@
-//! What no row of text says of nodes, worlds and scripts (all else is in the rows of bac_node_rows): worlds that are made up from numbers,
-//! noise, a link that tells its calls, refused memory and failing files, laws, and what is made of wrong settings. Here is what the tests share.
+//! What rows of text can't say of nodes, worlds and scripts (all else is in the rows of bac_node_rows): worlds that are made up from numbers, noise, a link that
+//! notes its calls, refused memory and failing files, laws, and wrong settings. Here is what the tests share.
 use bac_network::World;
 use bac_npdu::LinkAddress;
 use bac_rows::holds;
@@ -17,10 +17,10 @@ mod generated;
 mod journal;
 mod laws;
 mod limits;
+mod links;
 mod memory;
 mod scene;
 mod sleeping;
-mod straight_runs;
 mod turns;
 mod twins;
 
@@ -32,19 +32,13 @@ const LARGE: Member = Member {
     window: 32,
     client_slots: 64,
     reply_slots: 64,
-    after: "",
+    description: "",
 };
 
 /// The same, but for APDUs of 50 octets.
 const SMALL: Member = Member {
     takes: "0270",
     ..LARGE
-};
-
-/// Three nodes that take large APDUs.
-const LARGE_ONES: Scene = Scene {
-    members: &[LARGE, LARGE, LARGE],
-    overtake: 128,
 };
 
 /// Three nodes that take small ones.

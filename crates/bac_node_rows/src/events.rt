@@ -1,35 +1,34 @@
-//! What happens to a node by a line of a script: a moment, a verb, and its words.
+//! What a line of a row does to a node. A line is a moment, a verb and its words.
 //!
-//! `from PEER HEX`: an APDU comes in its plain frame, `hear PEER HEX`: a datagram. `ask PEER LIMITS REQUEST`, `tick`, `prepare` (a tick that is not made),
-//! `begin ID` (where invoke IDs begin), `restart`, `set OBJECT PROPERTY HEX` and `file OBJECT HEX`. Asked is by `due` when something is next due, by `count`
-//! how many slots are held and entries live, and by `compare` whether the node and its store are those of a new one.
+//! `from PEER HEX`: an APDU arrives in a plain frame. `hear PEER HEX`: a datagram arrives. `ask PEER LIMITS REQUEST`, `tick`, `prepare` (a tick that is only
+//! prepared), `begin ID` (where invoke IDs begin), `restart`, `set OBJECT PROPERTY HEX` and `file OBJECT HEX` are calls of the node. `due` prints when something
+//! is next due, `count` how many slots are held and how many entries live, and `compare` whether the node and its store are as new.
 use crate::scene::{limits_of, link, nodes_of};
 use crate::telling::{framed, print_outcome, print_sends};
-use crate::words::{first, octets_of, request_of};
+use crate::words::{change_of, first, octets_of, request_of};
 use bac_apdu::read;
 use bac_commands::{print_asked, print_refused};
 use bac_node::{Node, NodeFault, Outcome};
 use bac_npdu::Peer;
 use bac_requester::{AskFault, Asked};
-use bac_script::{SetFile, SetProperty, Step, read_step};
-use bac_store::{Change, ChangeFault};
+use bac_store::ChangeFault;
 use std::alloc::Global;
 use std::io::Write;
 
-/// What an event was to a node.
+/// How a node took an event.
 #[derive(Clone, Copy, PartialEq)]
 pub(crate) enum Came {
-    /// It was told, and knows the moment.
+    /// It was accepted, and set the latest moment.
     Heard,
-    /// It was told no moment.
+    /// It was accepted, and has no moment.
     Timeless,
-    /// A datagram was dropped: to the node it was a tick.
+    /// A datagram was dropped: it set the latest moment, as a tick does.
     Dropped,
     Refused,
     NoMemory,
 }
 
-/// A node of a scene, to which nothing has happened.
+/// A new node of a scene.
 pub(crate) fn node_of(alloc: Global, scene: &str) -> Option<Node> {
     let (config, store) = nodes_of(alloc, scene, 1)?.pop()?;
     match Node::new(alloc, config, store) {
@@ -38,7 +37,7 @@ pub(crate) fn node_of(alloc: Global, scene: &str) -> Option<Node> {
     }
 }
 
-/// What a call told.
+/// Prints the result of a call.
 fn told(alloc: Global, came: Result<Outcome, NodeFault>, out: &mut Vec<u8>) -> Option<Came> {
     match came {
         Ok(mut outcome) => {
@@ -56,7 +55,7 @@ fn told(alloc: Global, came: Result<Outcome, NodeFault>, out: &mut Vec<u8>) -> O
     }
 }
 
-/// The datagram of a line. What is no APDU comes in no frame.
+/// The datagram of a line. Octets that are not an APDU have no frame.
 fn datagram_of(alloc: Global, verb: &str, digits: &str) -> Option<Vec<u8>> {
     let octets = octets_of(alloc, digits)?;
     if verb == "hear" {
@@ -87,7 +86,7 @@ fn prepares(alloc: Global, node: &Node, now: u64, out: &mut Vec<u8>) -> Option<C
     }
 }
 
-/// What an ask told.
+/// Prints the result of an ask.
 fn told_of_ask(alloc: Global, came: Result<Asked, AskFault>, out: &mut Vec<u8>) -> Option<Came> {
     match came {
         Ok(asked) => {
@@ -113,29 +112,6 @@ fn asks(alloc: Global, node: &mut Node, now: u64, words: &str, out: &mut Vec<u8>
     let limits = limits_of(alloc, limits)?;
     let request = request_of(alloc, words)?;
     told_of_ask(alloc, node.ask(now, &peer, &limits, &request), out)
-}
-
-/// The change of a line, which is spelled as in a script of a network.
-fn change_of(alloc: Global, verb: &str, words: &str) -> Option<Change> {
-    let line = format!(in alloc; "{verb} 0 {words}").ok()?;
-    match read_step(alloc, line.as_bytes()) {
-        Ok(
-            Step::SetProperty(
-                SetProperty {
-                    object,
-                    property,
-                    octets,
-                    ..
-                },
-            ),
-        ) => Some(Change::Value {
-            object,
-            property,
-            octets,
-        }),
-        Ok(Step::SetFile(SetFile { object, octets, .. })) => Some(Change::File { object, octets }),
-        _ => None,
-    }
 }
 
 fn changes(
@@ -185,7 +161,7 @@ fn compare(alloc: Global, node: &Node, scene: &str, out: &mut Vec<u8>) -> Option
     writeln!(out, "new node {is_new} store {has_new}").ok()
 }
 
-/// What is asked of a node.
+/// Prints what a line asks about a node.
 fn tells(
     alloc: Global,
     node: &Node,
@@ -203,7 +179,7 @@ fn tells(
     Some(Came::Timeless)
 }
 
-/// What happens at a node of a scene; where memory is refused, nothing is told.
+/// Does what a line says to a node of a scene, and prints the result; where an allocation fails in the node, prints nothing.
 pub(crate) fn happens(
     alloc: Global,
     node: &mut Node,

@@ -1,8 +1,9 @@
 //! Plays rows of text from standard input and prints what comes of each: single nodes, worlds, nodes on links in memory, a socket of this machine, and scripts.
 //!
-//! The files stdin and stdout beside src/ are the rows and what has to be printed. A row begins with `=`, what plays it and its title. In rows of nodes and
-//! worlds stands behind each event what it tells: of what is told otherwise the line is printed behind `! `, which no row may but those that are to be wrong.
-//! Lines of other rows are told again behind `> `, and below each, or below them all, what came of it. A line that says nothing prints `?`.
+//! The file stdin beside src/ holds the rows, and stdout what the program has to print. A row begins with `=`, what plays it, and its title. In rows of nodes,
+//! worlds and wires the expected result follows each event: where the result differs, the program prints the event's line after `! `, and the result. Only rows
+//! that are wrong on purpose do so. Of other rows the program prints each line after `> `, and the result below it, or below all lines. It prints `?` for a line
+//! that has no meaning.
 #![tactic(auto)]
 
 mod events;
@@ -20,6 +21,7 @@ mod side;
 mod sockets;
 mod telling;
 mod turns;
+mod wires;
 mod words;
 mod worlds;
 

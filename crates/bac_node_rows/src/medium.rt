@@ -58,15 +58,15 @@ pub(crate) struct Medium {
     pub(crate) failing_receive: u64,
     pub(crate) receives: u64,
     sends: u64,
-    /// It goes on by 100 milliseconds at each call that receives nothing, also where that was to wait less: a system may be late.
+    /// It goes on by 100 milliseconds at each call that receives nothing, even where the call was to wait less: a system may be late.
     pub(crate) moment: u64,
-    /// The moments that clocks tell in their order, in place of that one, and how many they told.
+    /// The moments that clocks read, in this order, in place of that one, and how many were read.
     pub(crate) moments: Vec<u64>,
     pub(crate) told: usize,
     pub(crate) calls: Vec<u8>,
 }
 
-/// Copies the octets to the front of a buffer, as far as they fit; how many that are.
+/// Copies octets to the front of a buffer, as many as fit, and returns how many.
 fn copy_front(octets: &[u8], buffer: &mut [u8]) -> usize
     ensures { result ≤ length buffer.new }
 {
@@ -150,7 +150,7 @@ impl Medium {
         Ok(Some((end.other().link(), len)))
     }
 
-    /// The moment that a clock tells, and the last one where all were told.
+    /// The moment that a clock reads: the next one of the list, or the medium's where the list is used up.
     pub(crate) fn now(&mut self) -> u64 {
         self.told = self.told.saturating_add(1);
         let place = self.told.saturating_sub(1);

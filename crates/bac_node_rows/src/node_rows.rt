@@ -1,6 +1,6 @@
-//! Rows of a node and its twin, which meets what the node did not refuse: both are the same after each line.
+//! Rows of a node and its twin. The twin gets each event that the node accepted: both are the same after each line.
 //!
-//! Where memory is refused to a call the node is as its twin, which has not met it, and the call is made again.
+//! Where an allocation fails in a call, the node has to be the same as its twin, which has not got the event yet; then the call is made again.
 use crate::events::{Came, happens, node_of};
 use crate::playing::{Stage, play};
 use crate::words::{first, number};
@@ -17,7 +17,7 @@ struct Twins<'a> {
 }
 
 impl Twins<'_> {
-    /// What comes of an event at the node; where memory is refused, the second time.
+    /// The result of an event at the node: of the second call where an allocation fails in the first.
     fn node_meets(&mut self, alloc: Global, line: &str, out: &mut Vec<u8>) -> Option<Came> {
         let came = happens(alloc, &mut self.node, self.scene, line, out)?;
         if came != Came::NoMemory {
@@ -29,7 +29,7 @@ impl Twins<'_> {
         happens(alloc, &mut self.node, self.scene, line, out)
     }
 
-    /// What the twin tells of an event.
+    /// The result of an event at the twin.
     fn twin_meets(&mut self, alloc: Global, line: &str) -> Option<Vec<u8>> {
         let mut told = Vec::new(alloc);
         match happens(alloc, &mut self.twin, self.scene, line, &mut told)? {
@@ -38,7 +38,7 @@ impl Twins<'_> {
         }
     }
 
-    /// Whether the twin tells the same of an event; of a dropped datagram, which is a tick to it, and of what was refused, nothing.
+    /// Whether the result at the twin is the same. A dropped datagram is a tick to the twin, and an event that the node refused is not repeated.
     fn twin_agrees(&mut self, alloc: Global, line: &str, came: Came, told: &[u8]) -> Option<bool> {
         match came {
             Came::Heard | Came::Timeless => {
@@ -54,7 +54,7 @@ impl Twins<'_> {
     }
 }
 
-/// The latest moment that a node knows after an event.
+/// The latest moment of a node after an event.
 fn latest_after(came: Came, line: &str, before: u64) -> Option<u64> {
     match came {
         Came::Heard | Came::Dropped => number(first(line).0),

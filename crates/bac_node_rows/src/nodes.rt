@@ -1,7 +1,7 @@
 //! Rows of nodes on links in memory.
 //!
-//! A row has two sides, each a client and a server; a line that begins with `twin` is the second one's. On a side calls of links may be made to fail, and a
-//! clock tells the moments of a list.
+//! A row has two sides, each with a client and a server; a line that begins with `twin` is about the second side. A side's links can be made to fail at a call,
+//! and its clock can read the moments of a list.
 use crate::medium::Medium;
 use crate::runs::{ask, ask_in_pair, rounds, serve};
 use crate::side::Side;
@@ -45,7 +45,7 @@ fn fail(medium: &mut Medium, words: &str) -> Option<()> {
     Some(())
 }
 
-/// `moments M M ..`: what the clock tells.
+/// `moments M M ..`: the moments that the clock reads.
 fn moments(medium: &mut Medium, words: &str) -> Option<()> {
     for word in words.split(' ') {
         medium.moments.push(number(word)?).ok()?;
@@ -125,7 +125,7 @@ fn verb_of(word: &str) -> Option<Verb> {
     None
 }
 
-/// What is seen of a side.
+/// Prints what a line asks about a side.
 fn tell(side: &Side<'_>, verb: Verb, words: &str, out: &mut Vec<u8>) -> Option<()> {
     match verb {
         Verb::Send => send(side, words, out),
@@ -136,7 +136,7 @@ fn tell(side: &Side<'_>, verb: Verb, words: &str, out: &mut Vec<u8>) -> Option<(
     }
 }
 
-/// Turns of a side.
+/// Takes turns of a side.
 fn act(side: &mut Side<'_>, verb: Verb, words: &str, out: &mut Vec<u8>) -> Option<()> {
     match verb {
         Verb::Turn => turn(side, words, out),

@@ -1,27 +1,27 @@
-//! Scripts are gone by, line by line.
+//! Plays a script line by line.
 //!
-//! After a line that says what happens, each line that is told stands behind two spaces; lines that begin with `--` are comments, and `bac_rows` says how lines
-//! are shortened. Of a script is printed how many events it has; and where something else is told of a line than stands there, `! `, the line and what is.
+//! After a line that says what happens come the lines of its result, each indented by two spaces. Lines that begin with `--` are comments. `bac_rows` says how
+//! lines are shortened. A script prints how many events it has; where a result differs, it also prints the event's line after `! `, and the result.
 use bac_rows::script::{add_lines, ranged, spelled};
 use std::alloc::Global;
 use std::io::Write;
 
-/// What goes by a script, twice: once beside it.
+/// What a script is played on, and its twin.
 pub(crate) trait Stage: Drop {
-    /// Tells what comes of an event at both; None where the line says nothing, or the row's own memory is refused.
+    /// Prints the result of an event at both; None where the line has no meaning, or the row's own memory is refused.
     fn meets(&mut self, alloc: Global, line: &str, out: &mut Vec<u8>) -> Option<()>;
 
     /// Whether both are the same.
     fn is_sound(&self) -> bool;
 }
 
-/// A stage on which a script is played, in the texts of a scene.
+/// Plays a script on a stage, with the texts of a scene.
 #[derive(Drop)]
 struct Player<'a, S: Stage> {
     alloc: Global,
     stage: S,
     scene: &'a str,
-    /// The last event's line, what was told of it, and what should have been.
+    /// The last event's line, its result, and the result that is expected.
     line: &'a str,
     told: Vec<u8>,
     wanted: Vec<u8>,
@@ -49,7 +49,7 @@ impl<'a, S: Stage> Player<'a, S> {
         Some(())
     }
 
-    /// Tells what came of the last event, if it is not what should have.
+    /// Prints the result of the last event where it is not the expected one.
     fn compare(&mut self, out: &mut Vec<u8>) -> Option<()> {
         if self.told != self.wanted {
             writeln!(out, "! {}", self.line).ok()?;
@@ -81,7 +81,7 @@ impl<'a, S: Stage> Player<'a, S> {
         self.compare(out)
     }
 
-    /// What scripts begin with in the scene, and a script; how many events that were is printed.
+    /// Plays what scripts of the scene begin with, and a script; prints how many events there were.
     fn goes_by_both(&mut self, script: &'a str, out: &mut Vec<u8>) -> Option<()> {
         if let Some((_, first)) = self.scene.split_once("\nfirst\n") {
             self.goes_by(first, out)?;
@@ -91,7 +91,7 @@ impl<'a, S: Stage> Player<'a, S> {
     }
 }
 
-/// A stage goes by what scripts begin with in a scene, and by a script.
+/// Plays what scripts of a scene begin with, and a script.
 pub(crate) fn play<S: Stage>(
     alloc: Global,
     stage: S,

@@ -1,4 +1,4 @@
-//! What came of turns, as lines.
+//! Prints the results of turns.
 use crate::medium::End;
 use bac_commands::{print_ended, print_ending_line};
 use bac_driver::{AskEnd, Turn, TurnFault};
@@ -24,7 +24,7 @@ fn spelled_reply(alloc: Global, reply: &OwnedReply) -> Option<String> {
     hex::encode_upper(alloc, &octets).ok()
 }
 
-/// That a request was asked, by its number.
+/// Prints that a request was asked, by its number.
 pub(crate) fn print_asked(
     alloc: Global,
     number: u64,
@@ -35,7 +35,7 @@ pub(crate) fn print_asked(
     writeln!(out, "asked {number} {request}").ok()
 }
 
-/// That a request was performed, by its number, with its reply.
+/// Prints that a request was performed, by its number, with its reply.
 pub(crate) fn print_performed(
     alloc: Global,
     number: u64,
@@ -56,7 +56,7 @@ fn print_finishes(alloc: Global, word: &str, finishes: &[Ended], out: &mut Vec<u
     Some(())
 }
 
-/// What a turn performed, and which tickets ended by the datagram and by the tick.
+/// Prints what a turn performed, and which tickets ended by the datagram and by the tick.
 pub(crate) fn print_done(alloc: Global, turn: &Turn, out: &mut Vec<u8>) -> Option<()> {
     if let Some(act) = &turn.effect {
         let number = u64::from(act.key.invoke_id);
@@ -76,7 +76,7 @@ fn print_received(received: Option<(LinkAddress, usize)>, out: &mut Vec<u8>) -> 
     }
 }
 
-/// What a turn gave.
+/// Prints the result of a turn.
 pub(crate) fn print_turn(alloc: Global, turn: &Turn, out: &mut Vec<u8>) -> Option<()> {
     writeln!(
         out,
@@ -92,7 +92,7 @@ pub(crate) fn print_fault(fault: TurnFault, out: &mut Vec<u8>) -> Option<()> {
     writeln!(out, "fault {}: {fault}", fault.number()).ok()
 }
 
-/// How an ask ended.
+/// Prints how an ask ended.
 pub(crate) fn print_end(
     alloc: Global,
     end: Result<AskEnd, TurnFault>,

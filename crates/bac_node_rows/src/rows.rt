@@ -1,6 +1,7 @@
 //! Rows one after the other.
 use crate::node_rows::play_node;
 use crate::scripts::Way;
+use crate::wires::play_wire;
 use crate::worlds::play_world;
 use crate::{nodes, scripts, sockets, words};
 use bac_simulate::View;
@@ -13,10 +14,11 @@ use std::time::Clock;
 /// What plays a row.
 #[derive(Clone, Copy)]
 enum Kind {
-    /// What rows of nodes and of worlds behind it are played on.
+    /// What the following rows of nodes, worlds and wires are played on.
     Scene,
     Node,
     World,
+    Wire,
     Nodes,
     Socket,
     /// One script, or one in each line.
@@ -28,6 +30,7 @@ const KINDS: &[(&str, Kind)] = &[
     ("scene", Kind::Scene),
     ("node", Kind::Node),
     ("world", Kind::World),
+    ("wire", Kind::Wire),
     ("nodes", Kind::Nodes),
     ("socket", Kind::Socket),
     ("script", Kind::Script(Way::Plain)),
@@ -48,7 +51,7 @@ fn kind_of(word: &str) -> Option<Kind> {
     None
 }
 
-/// Rows that are played one after the other, on the scene of the last one of that kind.
+/// Plays rows one after the other, each on the last scene before it.
 #[derive(Drop)]
 struct Rows<'a, R> {
     rt: &'a R,
@@ -63,6 +66,7 @@ impl<'a, R: Net + Clock> Rows<'a, R> {
             Kind::Scene => Some(()),
             Kind::Node => play_node(self.alloc, self.scene, lines, out),
             Kind::World => play_world(self.alloc, self.scene, lines, out),
+            Kind::Wire => play_wire(self.alloc, self.scene, lines, out),
             Kind::Nodes => nodes::play(self.alloc, lines, out),
             Kind::Socket => sockets::play(self.rt, self.alloc, lines, out),
             Kind::Script(way) => scripts::play(self.alloc, way, lines, out),
@@ -70,7 +74,7 @@ impl<'a, R: Net + Clock> Rows<'a, R> {
         }
     }
 
-    /// Plays a row, once more where it can't be: memory may have been refused to it.
+    /// Plays a row, and once more where that fails: memory may have been refused to it.
     fn play(&self, kind: Kind, lines: &str, out: &mut Vec<u8>) -> io::Result<()> {
         let begin = out.len();
         if self.play_lines(kind, lines, out).is_some() {
@@ -100,7 +104,7 @@ impl<'a, R: Net + Clock> Rows<'a, R> {
     }
 }
 
-/// Each row of a text, behind a `=`.
+/// Plays each row of a text; a row begins with `=`.
 pub(crate) fn play_all<R: Net + Clock>(
     rt: &R,
     alloc: Global,

@@ -1,7 +1,7 @@
 //! Runs of turns.
 use crate::printing::{print_done, print_end, print_fault};
-use crate::side::{MemoryStation, Side, question};
-use crate::turns::{moment_of, patience_of};
+use crate::side::{MemoryNode, Side, question};
+use crate::turns::{moment_of, wait_limit_of};
 use crate::words::{first, number};
 use bac_driver::{WaitLimit, pair};
 use std::alloc::Global;
@@ -11,7 +11,7 @@ use std::io::Write;
 pub(crate) fn serve(side: &mut Side<'_>, words: &str, out: &mut Vec<u8>) -> Option<()> {
     let (turns, words) = first(words);
     let turns = number(turns)?;
-    let wait_limit = patience_of(words);
+    let wait_limit = wait_limit_of(words);
     let mut clock = side.clock();
     match side.server.serve(&mut clock, &wait_limit, turns) {
         Ok(effects) => writeln!(out, "served {effects}").ok(),
@@ -47,13 +47,8 @@ pub(crate) fn ask_in_pair(side: &mut Side<'_>, words: &str, out: &mut Vec<u8>) -
     print_end(side.alloc, end, out)
 }
 
-fn turn_of(
-    alloc: Global,
-    bound_node: &mut MemoryStation<'_>,
-    now: u64,
-    out: &mut Vec<u8>,
-) -> Option<()> {
-    match bound_node.turn(now) {
+fn turn_of(alloc: Global, node: &mut MemoryNode<'_>, now: u64, out: &mut Vec<u8>) -> Option<()> {
+    match node.turn(now) {
         Ok(turn) => print_done(alloc, &turn, out),
         Err(fault) => print_fault(fault, out),
     }

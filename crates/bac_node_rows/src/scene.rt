@@ -1,14 +1,16 @@
-//! What rows of nodes and of worlds are played on: the lines of the last row of kind `scene`.
+//! What rows of nodes and worlds are played on: the lines of the last row of kind `scene`.
 //!
 //! `node TAKES WINDOW SLOTS SLOTS` is a node: what it takes, as the first two octets of its requests say it, its window, and its slots for asks and for replies.
-//! It has the house store, behind them the words of a request as it is after that. `overtake LIMIT` is the world's, 128 where there is none. `NAME: TEXT` is
-//! a text that lines may name. Behind a line `first` stands what each script begins with.
-use crate::words::{first, number, octets_of, put, request_of};
+//! Its store is the house store; where the words of a request follow, it is that store after the request; where `only T:I PROPERTY HEX` follows, the store has
+//! that object alone, with that property, which the network may not write. `overtake LIMIT` is the world's overtaking limit, 128 where there is no such line.
+//! `NAME: TEXT` is a text that lines may name. What follows a line `first` is what each script begins with.
+use crate::words::{change_of, first, number, octets_of, put, request_of};
 use bac_apdu::{Apdu, Limits, read};
 use bac_node::Config;
 use bac_npdu::LinkAddress;
 use bac_rows::script::plain;
-use bac_store::{Store, house};
+use bac_rows::stores::store_of;
+use bac_store::{Change, Store, house};
 use std::alloc::Global;
 
 /// The link of the node with that number.
@@ -26,7 +28,7 @@ pub(crate) fn limits_of(alloc: Global, digits: &str) -> Option<Limits> {
     }
 }
 
-/// A store performs the request of some words.
+/// Performs the request of some words.
 fn performs(alloc: Global, store: &mut Store, words: &str) -> Option<()> {
     let words = plain(alloc, words).ok()?;
     let request = request_of(alloc, &words)?;
@@ -48,6 +50,27 @@ pub(crate) fn house_after(alloc: Global, words: &str) -> Option<Store> {
     }
 }
 
+/// The store of one object: `T:I PROPERTY HEX`.
+fn store_with(alloc: Global, words: &str) -> Option<Store> {
+    let words = plain(alloc, words).ok()?;
+    match change_of(alloc, "set", &words)? {
+        Change::Value {
+            object,
+            property,
+            octets,
+        } => store_of(alloc, object, property, &octets),
+        Change::File { .. } => None,
+    }
+}
+
+/// The store of a node by the last words of its line.
+fn store_by(alloc: Global, words: &str) -> Option<Store> {
+    match words.strip_prefix("only ") {
+        Some(words) => store_with(alloc, words),
+        None => house_after(alloc, words),
+    }
+}
+
 /// What a node of that number is made of.
 fn made_of(alloc: Global, number: u8, line: &str) -> Option<(Config, Store)> {
     let (takes, rest) = first(line);
@@ -61,7 +84,7 @@ fn made_of(alloc: Global, number: u8, line: &str) -> Option<(Config, Store)> {
         client_slots: client_slots.parse::<usize>().ok()?,
         reply_slots: reply_slots.parse::<usize>().ok()?,
     };
-    Some((config, house_after(alloc, after)?))
+    Some((config, store_by(alloc, after)?))
 }
 
 /// What the nodes of a scene are made of, by numbers from that one on.

@@ -1,4 +1,4 @@
-//! Rows of whole scripts: what is printed, what is complained of behind `! `, and the status where it is not 0.
+//! Rows of whole scripts: what they print on standard output, on standard error after `! `, and their exit status where it is not 0.
 //!
 //! A row is one script, or each of its lines is: there `|` stands for the end of a line, `~` for a carriage return and `_` for nothing.
 use bac_simulate::{View, show_over, simulate_lines_over};
@@ -47,7 +47,7 @@ fn meant(character: char) -> Option<char> {
     }
 }
 
-/// Puts the script that a line stands for.
+/// Appends the script that a line stands for.
 fn put_script(line: &str, script: &mut String) -> Option<()> {
     for character in line.chars() {
         if let Some(character) = meant(character) {

@@ -40,16 +40,12 @@ pub(crate) fn house_node(alloc: Global, link: LinkAddress) -> Option<Node> {
 }
 
 /// A node on a link in memory.
-pub(crate) type MemoryStation<'a> = BoundNode<MemoryLink<'a>>;
+pub(crate) type MemoryNode<'a> = BoundNode<MemoryLink<'a>>;
 
-fn bound_node<'a>(
-    alloc: Global,
-    medium: &'a RefCell<Medium>,
-    end: End,
-) -> Option<MemoryStation<'a>> {
+fn node_on<'a>(alloc: Global, medium: &'a RefCell<Medium>, end: End) -> Option<MemoryNode<'a>> {
     let node = house_node(alloc, end.link())?;
     match BoundNode::new(alloc, node, MemoryLink::new(medium, end)) {
-        Ok(bound_node) => Some(bound_node),
+        Ok(node) => Some(node),
         Err(_) => None,
     }
 }
@@ -59,14 +55,14 @@ fn bound_node<'a>(
 pub(crate) struct Side<'a> {
     pub(crate) alloc: Global,
     pub(crate) medium: &'a RefCell<Medium>,
-    pub(crate) client: MemoryStation<'a>,
-    pub(crate) server: MemoryStation<'a>,
+    pub(crate) client: MemoryNode<'a>,
+    pub(crate) server: MemoryNode<'a>,
 }
 
 impl<'a> Side<'a> {
     pub(crate) fn new(alloc: Global, medium: &'a RefCell<Medium>) -> Option<Side<'a>> {
-        let client = bound_node(alloc, medium, End::Client)?;
-        let server = bound_node(alloc, medium, End::Server)?;
+        let client = node_on(alloc, medium, End::Client)?;
+        let server = node_on(alloc, medium, End::Server)?;
         Some(Side {
             alloc,
             medium,
@@ -75,8 +71,8 @@ impl<'a> Side<'a> {
         })
     }
 
-    /// The bound_node of that name.
-    pub(crate) fn named(&mut self, name: &str) -> Option<&mut MemoryStation<'a>> {
+    /// The node of that name, on its link.
+    pub(crate) fn named(&mut self, name: &str) -> Option<&mut MemoryNode<'a>> {
         match name.as_bytes() {
             b"client" => Some(&mut self.client),
             b"server" => Some(&mut self.server),

@@ -17,20 +17,20 @@ fn bound<R: Net>(rt: &R) -> Option<UdpLink> {
 }
 
 /// A node with the house store on a link.
-fn station_on(alloc: Global, link: UdpLink) -> Option<BoundNode<UdpLink>> {
+fn node_on(alloc: Global, link: UdpLink) -> Option<BoundNode<UdpLink>> {
     let node = house_node(alloc, link.address())?;
     match BoundNode::new(alloc, node, link) {
-        Ok(bound_node) => Some(bound_node),
+        Ok(node) => Some(node),
         Err(_) => None,
     }
 }
 
 /// A node takes one turn on its own.
-fn serve<R: Clock>(rt: &R, bound_node: &mut BoundNode<UdpLink>, out: &mut Vec<u8>) -> Option<()> {
+fn serve<R: Clock>(rt: &R, node: &mut BoundNode<UdpLink>, out: &mut Vec<u8>) -> Option<()> {
     let Ok(mut clock) = MonotonicClock::new(rt) else {
         return None;
     };
-    match bound_node.serve(&mut clock, &WaitLimit::until_due(), 1) {
+    match node.serve(&mut clock, &WaitLimit::until_due(), 1) {
         Ok(served) => writeln!(out, "served {served}").ok(),
         Err(_) => None,
     }
@@ -46,7 +46,7 @@ fn exchange<R: Net + Clock>(
 ) -> Option<()> {
     let link = bound(rt)?;
     client.send(link.address(), octets).ok()?;
-    serve(rt, &mut station_on(alloc, link)?, out)?;
+    serve(rt, &mut node_on(alloc, link)?, out)?;
     receive(alloc, client, 1_000, out)
 }
 

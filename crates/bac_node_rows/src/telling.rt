@@ -1,4 +1,4 @@
-//! What came of an event at a node: what was dropped, performed and sent, and how tickets ended.
+//! Prints the result of an event at a node: what was dropped, performed and sent, and how tickets ended.
 use crate::printing::spelled;
 use crate::scene::link;
 use crate::turns::print_octets;
@@ -11,7 +11,7 @@ use bac_transaction::{Datagram, PeerKey};
 use std::alloc::Global;
 use std::io::Write;
 
-/// The plain frame of an APDU. Of a Confirmed-Request a reply is expected.
+/// An APDU in a plain frame, which expects a reply exactly where it is a Confirmed-Request.
 pub(crate) fn framed(alloc: Global, apdu: &[u8]) -> Option<Vec<u8>> {
     let len = u16::try_from(apdu.len().saturating_add(6)).ok()?;
     let is_request = matches!(apdu.first(), Some(first) if *first < 0x10);
@@ -30,14 +30,14 @@ fn is_plain(alloc: Global, octets: &[u8]) -> Option<bool> {
     Some(frame.as_slice() == octets)
 }
 
-/// Of a datagram in another frame, or to another link, the link and all octets.
+/// Prints a datagram in another frame or to another link: the link and all octets.
 fn print_other(alloc: Global, datagram: &Datagram, out: &mut Vec<u8>) -> Option<()> {
     let to = hex::encode_upper(alloc, datagram.to().as_slice()).ok()?;
     write!(out, "sent {to} ").ok()?;
     print_octets(alloc, datagram.octets(), out)
 }
 
-/// One that is sent: the last octet of the link's address, and the APDU; or the datagram, where it is not the plain frame.
+/// Prints a datagram that is sent: the number of the link and the APDU, or all octets where the frame is not a plain one.
 fn print_sent(alloc: Global, datagram: &Datagram, out: &mut Vec<u8>) -> Option<()> {
     let (octets, peer) = (datagram.octets(), datagram.to()[3]);
     if datagram.to() != link(peer) || !is_plain(alloc, octets)? {
@@ -76,7 +76,7 @@ fn print_request(
     write!(out, "performed {peer}:{invoke_id} {verb} {service} ").ok()
 }
 
-/// A request that was performed, and how it is answered.
+/// Prints a request that was performed, and its reply.
 fn print_performed(alloc: Global, act: Act, out: &mut Vec<u8>) -> Option<()> {
     let Act { key, effect } = act;
     print_request(alloc, &key, &effect.request, out)?;
@@ -87,7 +87,7 @@ fn print_performed(alloc: Global, act: Act, out: &mut Vec<u8>) -> Option<()> {
     print_ending_line(alloc, &Ending::Answered(reply), out).ok()
 }
 
-/// What came of a call. What was performed is taken out.
+/// Prints the result of a call, and takes the effect out of it.
 pub(crate) fn print_outcome(alloc: Global, outcome: &mut Outcome, out: &mut Vec<u8>) -> Option<()> {
     if let Some(cause) = &outcome.dropped {
         writeln!(out, "dropped {}", cause.number()).ok()?;

@@ -8,7 +8,7 @@ use bac_driver::{Link, Turn, TurnFault, WaitLimit};
 use std::alloc::Global;
 use std::io::Write;
 
-/// `send HEX`: the client's link is handed a datagram for the server.
+/// `send HEX`: the client's link sends a datagram to the server.
 pub(crate) fn send(side: &Side<'_>, digits: &str, out: &mut Vec<u8>) -> Option<()> {
     let octets = octets_of(side.alloc, digits)?;
     let mut link = MemoryLink::new(side.medium, End::Client);
@@ -70,8 +70,8 @@ pub(crate) fn turn(side: &mut Side<'_>, words: &str, out: &mut Vec<u8>) -> Optio
     print_taken(side.alloc, taken, out)
 }
 
-/// `WAIT`, or `WAIT UNTIL`; of a wait that is no number, until something is due.
-pub(crate) fn patience_of(words: &str) -> WaitLimit {
+/// `WAIT`, or `WAIT UNTIL`; where WAIT is not a number, until something is due.
+pub(crate) fn wait_limit_of(words: &str) -> WaitLimit {
     let (wait, until) = first(words);
     WaitLimit {
         wait: number(wait).unwrap_or(u64::MAX),
@@ -82,7 +82,7 @@ pub(crate) fn patience_of(words: &str) -> WaitLimit {
 /// `by END WAIT UNTIL`: a turn by the clock.
 pub(crate) fn turn_by(side: &mut Side<'_>, words: &str, out: &mut Vec<u8>) -> Option<()> {
     let (name, words) = first(words);
-    let wait_limit = patience_of(words);
+    let wait_limit = wait_limit_of(words);
     let mut clock = side.clock();
     let taken = side.named(name)?.turn_by(&mut clock, &wait_limit);
     print_taken(side.alloc, taken, out)

@@ -1,9 +1,11 @@
 //! The words of a line.
-use bac_script::read_request_words;
 use bac_service::OwnedRequest;
+use bac_service_text::read_request_words;
+use bac_simulate::{SetFile, SetProperty, Step, read_step};
+use bac_store::Change;
 use std::alloc::Global;
 
-/// The first word of a text, and what stands behind it.
+/// The first word of a text, and what follows it.
 pub(crate) fn first(text: &str) -> (&str, &str) {
     text.split_once(' ').unwrap_or((text, ""))
 }
@@ -13,7 +15,7 @@ pub(crate) fn number(text: &str) -> Option<u64> {
     text.parse::<u64>().ok()
 }
 
-/// Puts an item behind the others; None where memory is refused.
+/// Appends an item; None where memory is refused.
 pub(crate) fn put<T: Drop>(items: &mut Vec<T>, item: T) -> Option<()> {
     match items.push(item) {
         Ok(()) => Some(()),
@@ -43,5 +45,28 @@ pub(crate) fn request_of(alloc: Global, text: &str) -> Option<OwnedRequest> {
     match read_request_words(alloc, &words) {
         Ok(request) => Some(request),
         Err(_) => None,
+    }
+}
+
+/// The change that `set` or `file` makes with these words, as in a script but without the node.
+pub(crate) fn change_of(alloc: Global, verb: &str, words: &str) -> Option<Change> {
+    let line = format!(in alloc; "{verb} 0 {words}").ok()?;
+    match read_step(alloc, line.as_bytes()) {
+        Ok(
+            Step::SetProperty(
+                SetProperty {
+                    object,
+                    property,
+                    octets,
+                    ..
+                },
+            ),
+        ) => Some(Change::Value {
+            object,
+            property,
+            octets,
+        }),
+        Ok(Step::SetFile(SetFile { object, octets, .. })) => Some(Change::File { object, octets }),
+        _ => None,
     }
 }

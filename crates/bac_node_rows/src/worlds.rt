@@ -1,16 +1,17 @@
-//! Rows of a simulated world and its twin, which goes an event behind it: both are the same after each line.
+//! Rows of a simulated world and its twin, which follows one event later: both are the same after each line.
 //!
-//! Lines are those of scripts, and a few more: `anew NODE WORDS` (the node restarts with the house store as it is after a request), `octets NODE LINK HEX` (a
-//! millisecond later they come from a link of that number; whether the node looks at them), `flow COUNT` (the first copies come in their order, each once),
-//! `stores` (of each node whether its store was the house's and is) and `log`. Where memory is refused to an event the world is as its twin, and the event is
-//! told again.
+//! Lines are those of scripts, and a few more. `anew NODE WORDS`: the node restarts with the house store as it is after a request. `octets NODE LINK HEX`: a
+//! millisecond later the octets arrive from the link of that number; prints whether the node looks at them. `flow COUNT`: the first copies are delivered in
+//! order, each once. `run LINE|LINE..`: `World::run` with the events of these lines. `straight CLIENT SERVER REQUEST`: a straight run; prints how many copies it
+//! delivers, and how its ask ends. `stores` prints of each node whether its store was the house store and whether it is, `counts` how many copies and facts there
+//! are, and `log` the world's log. Where an allocation fails in an event, the world has to be the same as its twin, and the event happens again.
 use crate::playing::{Stage, play};
 use crate::printing::{print_asked, print_performed};
 use crate::scene::{house_after, link, nodes_of, overtake_of};
-use crate::words::{first, octets_of};
+use crate::words::{first, octets_of, put, request_of};
 use bac_commands::print_ended;
-use bac_network::{Event, Fact, World, WorldFault};
-use bac_simulate::simulate_in;
+use bac_network::{Event, Fact, StraightRun, World, WorldFault, straight};
+use bac_simulate::{Step, read_step, simulate_in};
 use bac_store::{Store, house};
 use std::alloc::Global;
 use std::io::Write;
@@ -33,7 +34,7 @@ fn print_fact(alloc: Global, fact: &Fact, out: &mut Vec<u8>) -> Option<()> {
     }
 }
 
-/// What a world's log has.
+/// Prints a world's log.
 fn print_log(alloc: Global, world: &World, out: &mut Vec<u8>) -> Option<()> {
     for fact in world.log() {
         print_fact(alloc, fact, out)?;
@@ -41,7 +42,7 @@ fn print_log(alloc: Global, world: &World, out: &mut Vec<u8>) -> Option<()> {
     Some(())
 }
 
-/// Of each node whether its store was that one, and is.
+/// Prints of each node whether its store was that one, and whether it is.
 fn compare_stores(world: &World, fresh: &Store, out: &mut Vec<u8>) -> Option<()> {
     for (node, store) in world.opening().iter().enumerate() {
         let was_fresh = store.same(fresh);
@@ -51,7 +52,7 @@ fn compare_stores(world: &World, fresh: &Store, out: &mut Vec<u8>) -> Option<()>
     Some(())
 }
 
-/// Of each node whether its store was the house's, and is.
+/// Prints of each node whether its store was the house store, and whether it is.
 fn print_stores(alloc: Global, world: &World, out: &mut Vec<u8>) -> Option<()> {
     match house(alloc) {
         Ok(fresh) => compare_stores(world, &fresh, out),
@@ -59,7 +60,7 @@ fn print_stores(alloc: Global, world: &World, out: &mut Vec<u8>) -> Option<()> {
     }
 }
 
-/// What a step that is in no script is told as; where memory was refused, as scripts tell it.
+/// Prints the result of a step that scripts don't have; where an allocation fails, as scripts print it.
 fn print_step(world: &mut World, event: &Event, text: &str, out: &mut Vec<u8>) -> Option<()> {
     match world.step(event) {
         Ok(None) => writeln!(out, "{text}").ok(),
@@ -80,7 +81,7 @@ fn restart_anew(alloc: Global, world: &mut World, words: &str, out: &mut Vec<u8>
     )
 }
 
-/// An event happens, of which nothing is told.
+/// Makes an event happen, and prints nothing.
 fn steps(world: &mut World, event: &Event) -> Option<()> {
     match world.step(event) {
         Ok(_) => Some(()),
@@ -99,7 +100,7 @@ fn print_counts(world: &World, out: &mut Vec<u8>) -> Option<()> {
     .ok()
 }
 
-/// The octets of words come to a node from a link, a millisecond later.
+/// Octets arrive at a node from a link, a millisecond later.
 fn hears(alloc: Global, world: &mut World, node: usize, words: &str) -> Option<()> {
     let (from, digits) = first(words);
     let from = link(from.parse::<u8>().ok()?);
@@ -108,7 +109,7 @@ fn hears(alloc: Global, world: &mut World, node: usize, words: &str) -> Option<(
     steps(world, &Event::Noise { node, from, octets })
 }
 
-/// A node that looks at octets knows the moment; nothing else comes of them.
+/// A node that looks at octets sets its latest moment; they have no other effect.
 fn octets_come(alloc: Global, world: &mut World, words: &str, out: &mut Vec<u8>) -> Option<()> {
     let (node, words) = first(words);
     let node = node.parse::<usize>().ok()?;
@@ -118,7 +119,7 @@ fn octets_come(alloc: Global, world: &mut World, words: &str, out: &mut Vec<u8>)
     print_counts(world, out)
 }
 
-/// So many copies come, each once and in the order of sending.
+/// Delivers so many copies, each once, in the order of sending.
 fn flow(world: &mut World, words: &str, out: &mut Vec<u8>) -> Option<()> {
     for number in 0..words.parse::<usize>().ok()? {
         steps(world, &Event::Deliver { number })?;
@@ -126,10 +127,74 @@ fn flow(world: &mut World, words: &str, out: &mut Vec<u8>) -> Option<()> {
     print_counts(world, out)
 }
 
-/// What is told of an event that its memory was refused to.
+/// The event of a script's line; an ask goes by what the asked node takes.
+fn event_of(alloc: Global, world: &World, line: &str) -> Option<Event> {
+    let Ok(step) = read_step(alloc, line.as_bytes()) else {
+        return None;
+    };
+    match step {
+        Step::Ask(ask) => Some(Event::Ask {
+            client: ask.client as usize,
+            server: ask.server as usize,
+            limits: world.nodes().get(ask.server as usize)?.settings().limits,
+            request: ask.request,
+        }),
+        Step::Deliver(number) => Some(Event::Deliver {
+            number: number as usize,
+        }),
+        Step::Tick(node) => Some(Event::Tick {
+            node: node as usize,
+        }),
+        Step::Advance(by) => Some(Event::Advance { by }),
+        _ => None,
+    }
+}
+
+/// Runs the events of these lines by one call.
+fn run(alloc: Global, world: &mut World, lines: &str, out: &mut Vec<u8>) -> Option<()> {
+    let mut events = Vec::new(alloc);
+    for line in lines.lines() {
+        put(&mut events, event_of(alloc, world, line)?)?;
+    }
+    match world.run(&events) {
+        Ok(()) => writeln!(out, "{} events ran", events.len()).ok(),
+        Err(stopped) => {
+            let (fault, place) = (stopped.fault.number(), stopped.place);
+            writeln!(out, "fault {fault} at event {place}").ok()
+        }
+    }
+}
+
+fn print_straight(
+    alloc: Global,
+    world: &World,
+    run: &StraightRun,
+    out: &mut Vec<u8>,
+) -> Option<()> {
+    writeln!(out, "{} deliveries", run.deliveries).ok()?;
+    match (run.ask, run.ending(world)) {
+        (Some(ask), Some(how)) => print_ended(alloc, ask as u64, how, out).ok(),
+        (Some(ask), None) => writeln!(out, "{ask} is open").ok(),
+        (None, _) => out.write_all(b"refused\n").ok(),
+    }
+}
+
+/// A node asks another one; each copy is delivered once, in order of sending, until the ask has ended.
+fn goes_straight(alloc: Global, world: &mut World, words: &str, out: &mut Vec<u8>) -> Option<()> {
+    let (client, words) = first(words);
+    let (server, words) = first(words);
+    let (client, server) = (client.parse::<usize>().ok()?, server.parse::<usize>().ok()?);
+    let request = request_of(alloc, words)?;
+    match straight(world, client, server, request) {
+        Ok(run) => print_straight(alloc, world, &run, out),
+        Err(fault) => writeln!(out, "fault {}", fault.number()).ok(),
+    }
+}
+
+/// What is printed of an event in which an allocation fails.
 const NO_MEMORY: &[u8] = b"line 1: fault 4\n";
 
-/// Tells what comes of a script's line; None where that is complained of.
+/// Prints the result of a script's line; None where the line is not one.
 fn simulates(alloc: Global, world: &mut World, line: &str, out: &mut Vec<u8>) -> Option<()> {
     let mut err = Vec::new(alloc);
     let status = simulate_in(alloc, world, line.as_bytes(), out, &mut err).code();
@@ -141,13 +206,16 @@ fn simulates(alloc: Global, world: &mut World, line: &str, out: &mut Vec<u8>) ->
     }
 }
 
-/// Tells what comes of a line, into a text that is empty.
+/// Prints the result of a line, into an empty text.
 fn happens(alloc: Global, world: &mut World, line: &str, out: &mut Vec<u8>) -> Option<()> {
     let (verb, words) = first(line);
     match verb.as_bytes() {
         b"anew" => restart_anew(alloc, world, words, out),
         b"octets" => octets_come(alloc, world, words, out),
         b"flow" => flow(world, words, out),
+        b"run" => run(alloc, world, words, out),
+        b"straight" => goes_straight(alloc, world, words, out),
+        b"counts" => print_counts(world, out),
         b"stores" => print_stores(alloc, world, out),
         b"log" => print_log(alloc, world, out),
         _ => simulates(alloc, world, line, out),
@@ -162,7 +230,7 @@ struct Twins {
 }
 
 impl Twins {
-    /// What comes of a line in the world, into a text that is empty; where memory is refused, the second time.
+    /// Prints the result of a line in the world, into an empty text: of the second time where an allocation fails in the first.
     fn world_meets(&mut self, alloc: Global, line: &str, told: &mut Vec<u8>) -> Option<()> {
         happens(alloc, &mut self.world, line, told)?;
         if told.as_slice() != NO_MEMORY {
@@ -175,7 +243,7 @@ impl Twins {
         happens(alloc, &mut self.world, line, told)
     }
 
-    /// Whether a line comes to the same at the twin; None where memory is refused to it.
+    /// Whether the result at the twin is the same; None where an allocation fails there.
     fn twin_agrees(&mut self, alloc: Global, line: &str, told: &[u8]) -> Option<bool> {
         let mut other = Vec::new(alloc);
         happens(alloc, &mut self.twin, line, &mut other)?;

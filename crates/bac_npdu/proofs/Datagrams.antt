@@ -1,4 +1,4 @@
--- What datagrams mean.
+-- Which peer and APDU a datagram carries.
 use Rattle.std.proofs.Common.{◌≡◌, ℕ, ◌+◌, ◌<◌, ◌≤◌, Bool, List, ◌∷◌, length, Option, Some, None, refl, sym, ap, subst, ◌∙◌, arith, IsTrue}
 use Rattle.std.proofs.lemmas.Bool.Decides.{nat_tests}
 use Rattle.std.proofs.lemmas.List.{length-append}
@@ -89,7 +89,7 @@ routed_on from to route expecting apdu p a fits short c =
 
 -- ---- the same with APDUs of any kind, seen by their spelling
 
--- what is sent to a peer without a route means that APDU, of the sender's link
+-- a frame for a peer without a route carries that APDU, from the sender's link address
 pub frame_means : {A : Type 0} (Spells : A → List ℕ → Type 0) (expects : A → Bool) (from to octets : List ℕ) (apdu : A)
     → ((text : List ℕ) → Spells apdu text → length text ≤ 1476)
     → IsFrameTo Spells expects (peer_at to None) apdu octets → Means Spells from octets (peer_at from None) apdu
@@ -100,7 +100,7 @@ frame_means Spells expects from to octets apdu short f = record {
   spelled = f.spelled;
 }
 
--- what is sent to a peer with a route means no APDU to the node at its link
+-- a frame for a peer with a route carries no APDU for the node at its link address
 pub routed_means_none : {A : Type 0} (Spells : A → List ℕ → Type 0) (expects : A → Bool) (from to : List ℕ) (route : RouteView) (octets : List ℕ) (apdu : A)
     → IsTrue (route_fits route) → ((text : List ℕ) → Spells apdu text → length text ≤ 1476)
     → IsFrameTo Spells expects (peer_at to (Some route)) apdu octets → (p : PeerView) (a : A) → Means Spells from octets p a → ⊥
@@ -108,14 +108,14 @@ routed_means_none Spells expects from to route octets apdu fits short f p a m =
     routed_on from to route (expects apdu) f.apdu_octets p m.apdu_octets fits (short f.apdu_octets f.spelled)
     (subst (λ (l : List ℕ). Carries from l p m.apdu_octets) f.is m.carries)
 
--- a datagram means at most one APDU, of one peer, where no octets spell two APDUs
+-- a datagram carries at most one APDU, from one peer, as octets encode at most one APDU
 pub means_one : {A : Type 0} (Spells : A → List ℕ → Type 0) → ((a b : A) (text : List ℕ) → Spells a text → Spells b text → a ≡ b)
     → (link octets : List ℕ) (p q : PeerView) (a b : A) → Means Spells link octets p a → Means Spells link octets q b → (p ≡ q) × (a ≡ b)
 means_one Spells one link octets p q a b s t =
     let same = carries_one link octets p q s.apdu_octets t.apdu_octets s.carries t.carries in
     (same.0, one a b t.apdu_octets (subst (Spells a) same.1 s.spelled) t.spelled)
 
--- a datagram that is dropped means no APDU
+-- a datagram that is dropped carries no APDU
 pub dropped_means_none : {A : Type 0} (Spells : A → List ℕ → Type 0) (octets : List ℕ) (d : Dropped) → IsCause octets d
     → (link : List ℕ) (p : PeerView) (a : A) → Means Spells link octets p a → ⊥
 dropped_means_none Spells octets d cause link p a m = cause_none octets d cause link p m.apdu_octets m.carries

@@ -1,4 +1,4 @@
--- The two laws of NPDU and BVLL: what is read is spelled so, and what is spelled so is read.
+-- The two laws of NPDU and BVLL: what is read is a spelling of the value, and each spelling is read as its value.
 use Rattle.std.proofs.Common.{◌≡◌, ℕ, ◌+◌, ◌*◌, ◌/◌, ◌%◌, ◌<◌, Bool, true, false, cond, ltb, eqb, List, [], ◌∷◌, ◌++◌, length, Result, Ok, Err, Option, Some}
 use Rattle.std.proofs.Common.{None, refl, sym, ap, subst, ◌∙◌, arith, IsTrue, ◌||◌}
 use Rattle.std.specs.Prelude.{is_some}
@@ -105,7 +105,7 @@ npdu control to from message contents = record {
   contents = contents;
 }
 
--- a destination is a place with a hop count
+-- a destination is a network, an address and a hop count
 same_octets : (o : Option DestinationView) → optional (λ (r : RouteView). address_spelling r.network r.address) (option_map place_of o)
     ≡ optional (λ (d : DestinationView). address_spelling d.network d.address) o
 same_octets None = refl

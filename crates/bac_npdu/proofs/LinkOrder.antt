@@ -1,4 +1,4 @@
--- Links are in the order of the numbers that their octets spell, most significant first.
+-- Link addresses are ordered as the numbers that their octets encode, most significant first.
 use Rattle.std.proofs.Common.{◌≡◌, ◌<◌, ℕ, suc, ◌+◌, ◌*◌, List, [], ◌∷◌, length, refl, sym, ap, ◌∙◌, arith, Ordering, Less, Equal, Greater}
 use Rattle.std.specs.Ordering.{nat_cmp, ordering_then, MatchOrdering}
 use Rattle.std.specs.Cmp.{ranks, nat_cmp_is}
@@ -6,12 +6,12 @@ use Rattle.std.specs.Cmp.Lexicographic.{slice_cmp}
 use Rattle.std.specs.Int.{w64, from_be_bytes}
 use Rattle.bac_value.specs.Octets.{IsBytes}
 
--- the number of some octets, with a number in front of them
+-- the number that octets encode after an initial number
 abbrev number_after : ℕ → List ℕ → ℕ
 number_after n [] = n
 number_after n (octet ∷ octets) = number_after (n * 256 + octet) octets
 
--- the number in front decides where it differs
+-- the initial numbers decide if they differ
 front_decides : (a b : ℕ) (xs ys : List ℕ) → length xs ≡ length ys → IsBytes xs → a < b → number_after a xs < number_after b ys
 front_decides a b [] [] same fits less = less
 front_decides a b [] (y ∷ ys) same fits less = absurd (omega arith)
@@ -20,7 +20,7 @@ front_decides a b (x ∷ xs) (y ∷ ys) same fits less =
     let octet : x < 256 = fits 0 in
     front_decides (a * 256 + x) (b * 256 + y) xs ys (omega arith) (λ i. fits (suc i)) (omega arith)
 
--- where the fronts are the same the octets decide
+-- the octets decide if the initial numbers are equal
 octets_decide : (a : ℕ) (xs ys : List ℕ) → length xs ≡ length ys → IsBytes xs → IsBytes ys
     → nat_cmp (number_after a xs) (number_after a ys) ≡ slice_cmp nat_cmp xs ys
 octets_decide a [] [] same left right = sym (nat_cmp_is a a Equal refl)
@@ -42,7 +42,7 @@ octets_decide a (x ∷ xs) (y ∷ ys) same left right =
         let level : y ≡ x = sym l in
         ap (λ n. nat_cmp (number_after (a * 256 + x) xs) (number_after (a * 256 + n) ys)) level ∙ rest
 
--- the number of a link, as it is read
+-- the number of a link address, as the code reads it
 spelled : (xs : List ℕ) → length xs ≡ 6 → from_be_bytes w64 (0 ∷ 0 ∷ xs) ≡ number_after 0 xs
 spelled (a ∷ b ∷ c ∷ d ∷ e ∷ f ∷ []) six = omega arith
 spelled [] six = absurd (omega arith)

@@ -1,4 +1,4 @@
--- The two laws of each member of an NPDU: what is read is spelled so, and what is spelled so is read.
+-- The two laws of each member of an NPDU: what is read is a spelling of the member, and each spelling is read as that member.
 use Rattle.std.proofs.Common.{◌≡◌, ℕ, ◌<◌, ◌^◌, Bool, true, false, cond, ltb, List, [], ◌∷◌, ◌++◌, length, take, drop, Result, Ok, Err, Option, Some, None}
 use Rattle.std.proofs.Common.{refl, sym, ap, subst, ◌∙◌, append_assoc, arith, inl, inr, IsTrue}
 use Rattle.std.specs.Prelude.{is_some}

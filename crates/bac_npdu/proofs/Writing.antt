@@ -1,4 +1,4 @@
--- The parts of the frame to a peer, as they are written.
+-- The parts of the frame for a peer, as they are written.
 use Rattle.std.proofs.Common.{IsTrue, ◌≤◌, ◌≡◌, ℕ, ◌+◌, Bool, true, List, [], ◌∷◌, ◌++◌, length, Option, Some, None, refl, sym, ap, ◌∙◌, append_assoc, arith}
 use Rattle.std.specs.Prelude.{slice_index}
 use Rattle.std.specs.Int.{w16, to_be_bytes}
@@ -31,12 +31,12 @@ pub members_length : (p : PeerView) → length (npdu_spelling (npdu_to p true []
 unfolding npdu_spelling
 members_length p = omega arith
 
--- how many octets stand in front of the APDU
+-- how many octets precede the APDU
 pub head_length : (p : PeerView) (e : Bool) (count : ℕ) → length (frame_head p e count) ≡ 4 + length (npdu_spelling (npdu_to p true []))
 unfolding frame_head
 head_length p e count = omega (arith, same_head p e)
 
--- a frame is what stands in front of the APDU, and the APDU
+-- a frame is the part that precedes the APDU, and the APDU
 pub frame_headed : (p : PeerView) (e : Bool) (apdu : List ℕ) → frame p e apdu ≡ frame_head p e (length apdu) ++ apdu
 unfolding frame frame_head bvll_spelling
 frame_headed p e apdu =
@@ -47,7 +47,7 @@ frame_headed p e apdu =
 pub frame_length : (p : PeerView) (e : Bool) (apdu : List ℕ) → length (frame p e apdu) ≡ length (frame_head p e (length apdu)) + length apdu
 frame_length p e apdu = rw (frame_headed p e apdu) (length-append (frame_head p e (length apdu)) apdu)
 
--- the octets of every frame and then the members, written one after the other, are what stands in front of the APDU
+-- the fixed octets of every frame and the members, written one after the other, are the part that precedes the APDU
 pub head_written : (p : PeerView) (e : Bool) (old reserved first all bytes : List ℕ) (n count control : ℕ) → n ≡ length (npdu_spelling (npdu_to p true []))
     → bytes ≡ to_be_bytes w16 (4 + n + count) → control ≡ control_octet (npdu_to p e [])
     → reserved ≡ old → first ≡ reserved ++ 0x81 ∷ 0x0A ∷ slice_index bytes 0 ∷ slice_index bytes 1 ∷ 1 ∷ control ∷ []
@@ -58,7 +58,7 @@ head_written p e old reserved first all bytes n count control is-n is-bytes is-c
     is-bytes ∙ ap (λ (x : ℕ). to_be_bytes w16 (4 + x + count)) (is-n ∙ sym (same_head p e)) in
     rw (two, one, same, is-control, octets) (simp append_assoc)
 
--- a peer's route keeps the limits of one
+-- a peer's route is within the limits of routes
 peer_fits : (route : Option Route) → IsTrue (all_of route_fits (option_map route_view route))
 peer_fits None = refl
 peer_fits (Some r) = r.fits

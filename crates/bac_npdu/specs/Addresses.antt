@@ -1,4 +1,4 @@
--- The plain value of an address: the octets that it shows. (Apart from the other views, since the limits of routes and destinations speak of it.)
+-- The plain value of an address: its octets. (In a file of its own, since the limits of routes and destinations use it.)
 use Rattle.std.specs.Prelude.{ℕ, List, take}
 use Rattle.bac_npdu.specs.declared.address.Address.{Address}
 

@@ -1,4 +1,4 @@
--- The numbers of faults (own numbers of this profile).
+-- The numbers of faults, as they are printed (own numbers of this profile).
 use Rattle.std.specs.Prelude.{ℕ}
 use Rattle.bac_npdu.specs.declared.fault.FrameFault.{FrameFault}
 use Rattle.bac_npdu.specs.declared.fault.FrameFault.TheVariants as fault

@@ -7,25 +7,25 @@ use Rattle.std.specs.Cmp.{IsTotalOrder, then_total, on_total, nat_cmp_total}
 use Rattle.std.specs.Cmp.Lexicographic.{slice_cmp, lists_total, options_total}
 pub use Rattle.bac_npdu.specs.declared.route.TheConstants.{ALL_NETWORKS}
 
--- a device on a network behind a router: the network's number, and the device's address there (clause 6.2.2)
+-- a device on a network behind a router: the network number, and the address of the device there (clause 6.2.2)
 pub record RouteView : Type 0 where
   pub network : ℕ
   pub address : List ℕ
 
--- the other end of a transaction: its BACnet/IP address (four octets of IPv4 and two of the UDP port, clause J.1.2), and the way on from there
+-- the other end of a transaction: its BACnet/IP address (four octets of IPv4 and two of UDP port, clause J.1.2), and the route from there
 pub record PeerView : Type 0 where
   pub link : List ℕ
   pub route : Option RouteView
 
--- networks are numbered 1 to 65,534, and addresses have 1 to 8 octets (8 is the own limit of this profile)
+-- networks have numbers 1 to 65,534, and addresses 1 to 8 octets (8 is an own limit of this profile)
 abbrev pub route_fits : RouteView → Bool
 route_fits r = nat_lt 0 r.network && nat_lt r.network ALL_NETWORKS && nat_lt 0 (length r.address) && nat_lt (length r.address) 9
 
--- by network number, then by the address octets as lists, a front first
+-- by network number, then by the address octets as lists, a prefix first
 abbrev pub route_cmp : RouteView → RouteView → Ordering
 route_cmp = then_cmp (on (λ r. r.network) nat_cmp) (on (λ r. r.address) (slice_cmp nat_cmp))
 
--- by link, then no route before a route, then by route
+-- by link address, then no route before any route, then by route
 abbrev pub peer_cmp : PeerView → PeerView → Ordering
 peer_cmp = then_cmp (on (λ p. p.link) (slice_cmp nat_cmp)) (on (λ p. p.route) (option_cmp route_cmp))
 

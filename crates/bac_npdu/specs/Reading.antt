@@ -1,4 +1,4 @@
--- Reading from left to right, on lists alone.
+-- Readers as functions on lists, from left to right.
 use Rattle.std.specs.Prelude.{ℕ, ◌%◌, slice_index, List, length, take, drop, Result, Ok, Err, Option, Some, None, Bool, true, false}
 use Rattle.std.specs.Prelude.{nat_lt, ◌==◌, ◌&&◌, ◌||◌, if◌then◌else◌}
 use Rattle.std.specs.Int.{w16, from_be_bytes}
@@ -15,7 +15,7 @@ word_at bytes = if nat_lt (length bytes) 2 then Err Truncated else Ok (from_be_b
 unfoldable pub cut_at : ℕ → List ℕ → Result (List ℕ × List ℕ) FrameFault
 cut_at count bytes = if nat_lt (length bytes) count then Err Truncated else Ok (take count bytes, drop count bytes)
 
--- limits of the network's number and of the count of address octets, at a source and at a destination
+-- the limits of the network number and of the address length, for a source and for a destination
 abbrev pub network_in : Bool → ℕ → Bool
 network_in is_source network = nat_lt 0 network && (nat_lt network ALL_NETWORKS || (if is_source then false else true))
 
@@ -34,7 +34,7 @@ place_at is_source bytes = do
   network ← word_at bytes
   if network_in is_source network.0 then address_at is_source network.0 network.1 else Err BadNet
 
--- a member that is there where its bit is set
+-- a member that is present if its bit is set
 abbrev pub optional_at : {A : Type 0} → (List ℕ → Result (A × List ℕ) FrameFault) → Bool → List ℕ → Result (Option A × List ℕ) FrameFault
 optional_at read false bytes = Ok (None, bytes)
 optional_at read true bytes = do

@@ -1,4 +1,4 @@
-//! The address of a device on its network.
+//! Addresses of devices on their networks.
 ghost use Rattle.std.specs.Prelude.{◌≡◌, ◌≤◌, ◌↔◌, IsSome, IfSome, length};
 
 /// The address of a device on its network: 0 to 8 octets (8 is the own limit of this profile).
@@ -12,7 +12,7 @@ pub struct Address {
 impl Address {
     ghost use Rattle.bac_npdu.specs.Addresses.{address_view};
 
-    /// None where there are more than 8 octets.
+    /// The address; None if there are more than 8 octets.
     pub fn new(octets: &[u8]) -> Option<Address>
         ensures some { IsSome result ↔ (length octets.now ≤ 8) }
         ensures same { IfSome result (λ a. address_view a ≡ octets.now) }
@@ -26,7 +26,7 @@ impl Address {
         Some(Address { octets: room, len })
     }
 
-    /// Its octets.
+    /// The octets of the address.
     pub fn octets(&self) -> &[u8]
         ensures { result.now ≡ address_view self.now }
     {

@@ -8,7 +8,7 @@ use crate::fault::FrameFault;
 
 /// The first octet of a BVLL: BACnet/IP (clause J.2).
 pub(crate) const TYPE: u8 = 0x81;
-/// The second octet: the function Original-Unicast-NPDU (clause J.2.11).
+/// The second octet of a BVLL: the function Original-Unicast-NPDU (clause J.2.11).
 pub(crate) const ORIGINAL_UNICAST_NPDU: u8 = 0x0A;
 
 #[tactic(auto, unfolding(crate::specs::Reading::bvll_at))]
@@ -29,13 +29,13 @@ fn npdu_in(octets: &[u8]) -> Result<&[u8], FrameFault>
     }
 }
 
-/// The octets of the NPDU in a datagram: a BVLL with function Original-Unicast-NPDU (clause J.2.11).
+/// Returns the octets of the NPDU in a BVLL with function Original-Unicast-NPDU (clause J.2.11).
 ///
-/// Fewer than four octets are `Truncated`; then `Version`, `NotUnicast` and `BadLength` are found in this order.
+/// Fewer than four octets are `Truncated`; otherwise `Version`, `NotUnicast` and `BadLength` are tested in this order.
 pub fn read_bvll(octets: &[u8]) -> Result<&[u8], FrameFault>
     ensures found { IfOk result (λ n. SpellsBvll n.now octets.now) }
     ensures refused { IfErr result (λ e. (n : List ℕ) → SpellsBvll n octets.now → ⊥) }
-    // The fault is the first from the left.
+    // the fault is the first from left to right
     ensures exact { ReadsAll (λ n. n.now) result (bvll_at octets.now) }
 {
     npdu_in(octets)

@@ -1,4 +1,4 @@
-//! Reading the datagrams that come from a link.
+//! Reading datagrams that were received from a link.
 ghost use Rattle.std.specs.Prelude.{◌≡◌, ℕ, List, IfOk, IfErr};
 ghost use Rattle.bac_npdu.specs.Peers.{PeerView};
 ghost use Rattle.bac_npdu.specs.Datagram.{Carries};
@@ -10,8 +10,8 @@ use crate::fault::Dropped;
 use crate::npdu_reading::read_npdu;
 use crate::peer::{LinkAddress, Peer};
 
-/// The peer and the octets of the APDU that a datagram from a link means (clause 6, Annex J), or why it means none: the first of the reasons of `Dropped`
-/// that holds.
+/// Returns the peer that sent a datagram from a link, and the octets of its APDU (clause 6, Annex J); or the first reason of
+/// `Dropped` that applies.
 pub fn read_datagram(link: LinkAddress, octets: &[u8]) -> Result<(Peer, &[u8]), Dropped>
     ensures carried { IfOk result (λ r. Carries link octets.now (peer_view r.0) r.1.now) }
     ensures none { IfErr result (λ e. (peer : PeerView) (apdu : List ℕ) → Carries link octets.now peer apdu → ⊥) }

@@ -1,4 +1,4 @@
-//! Writing the frame to a peer.
+//! Writing frames for a peer.
 ghost use Rattle.std.specs.Prelude.{◌≡◌, ◌+◌, ◌≤◌, ◌<◌, ◌++◌, ◌∷◌, [], length, OnOk, OnErr, vec_len, vec_capacity, true};
 ghost use Rattle.bac_value.specs.Appending.{Appends, Lengthens, Keeps, NeedsRoom};
 ghost use Rattle.bac_npdu.specs.Npdu.{address_spelling, npdu_spelling, members_spelling, control_octet};
@@ -13,7 +13,7 @@ use crate::peer::Peer;
 use crate::route::Route;
 use bac_value::NoMemory;
 
-/// How many octets the NPDU to a peer has in front of its contents.
+/// How many octets of the NPDU for a peer precede its contents.
 #[tactic(auto, unfolding(crate::specs::Npdu::npdu_spelling, crate::specs::Npdu::members_spelling))]
 fn head_len(peer: &Peer) -> usize
     ensures head { result ≡ length (npdu_spelling (npdu_to (peer_view peer.now) true [])) }
@@ -25,7 +25,7 @@ fn head_len(peer: &Peer) -> usize
     }
 }
 
-/// The network's number, the count of the address octets, and these.
+/// Appends the network number, the address length, and the address.
 fn put_address(route: &Route, out: &mut Vec<u8>) -> Result<(), NoMemory>
     ensures ok { Appends result out.old out.new (address_spelling route.now.network (address_view route.now.address)) }
     ensures len { OnOk result (vec_len out.new ≡ vec_len out.old + 3 + length (address_view route.now.address)) }
@@ -39,7 +39,7 @@ fn put_address(route: &Route, out: &mut Vec<u8>) -> Result<(), NoMemory>
     Ok(())
 }
 
-/// The control octet of the NPDU to a peer.
+/// The control octet of the NPDU for a peer.
 fn control_to(peer: &Peer, expecting: bool) -> u8
     ensures { result ≡ control_octet (npdu_to (peer_view peer.now) expecting []) }
 {
@@ -54,7 +54,7 @@ fn control_to(peer: &Peer, expecting: bool) -> u8
     }
 }
 
-/// What the NPDU to a peer has between its control octet and its contents.
+/// Appends what is between the control octet and the contents of the NPDU for a peer.
 #[tactic(auto, unfolding(crate::specs::Npdu::members_spelling))]
 fn put_members(peer: &Peer, out: &mut Vec<u8>) -> Result<(), NoMemory>
     ensures ok { Appends result out.old out.new (members_spelling (npdu_to (peer_view peer.now) true [])) }
@@ -69,8 +69,8 @@ fn put_members(peer: &Peer, out: &mut Vec<u8>) -> Result<(), NoMemory>
     Ok(())
 }
 
-/// Appends what the one frame to a peer has in front of the octets of an APDU, of which there are so many, at most 1,476; and makes room for
-/// these too. `expecting` says that a reply is expected. Nothing is changed where memory is lacking.
+/// Appends the part of the frame for a peer that precedes the APDU, and reserves room for the APDU's `len` octets, at most 1,476.
+/// `expecting` is whether a reply is expected. Returns `NoMemory` and changes nothing if an allocation fails.
 #[tactic(auto, using(crate::proofs::Writing::head_length))]
 pub fn write_frame_head(
     peer: &Peer,
@@ -93,8 +93,8 @@ pub fn write_frame_head(
     Ok(())
 }
 
-/// Appends the one frame that carries the octets of an APDU, at most 1,476, to a peer; `expecting` says that a reply is expected,
-/// as it is of Confirmed-Requests alone. Nothing is changed where memory is lacking.
+/// Appends the one frame that carries the octets of an APDU, at most 1,476, to a peer. `expecting` is whether a reply is expected,
+/// which is true only for Confirmed-Requests. Returns `NoMemory` and changes nothing if an allocation fails.
 #[tactic(auto, using(crate::proofs::Writing::frame_length))]
 pub fn write_datagram(
     peer: &Peer,

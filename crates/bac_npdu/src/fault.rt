@@ -1,26 +1,34 @@
-//! Faults of frames, and why datagrams are dropped.
+//! Why octets are not a frame, and why datagrams are dropped.
 ghost use Rattle.std.specs.Prelude.{◌≡◌};
 ghost use Rattle.bac_npdu.specs.Faults.{fault_number};
 
-/// Why octets are no frame. `number` is the number by which it is printed.
-#[derive(Clone, Copy, Debug, PartialEq, Eq)]
+use thiserror::Error;
+
+/// Why octets are not a frame. `number` returns the number that is printed for it.
+#[derive(Clone, Copy, Debug, PartialEq, Eq, Error)]
 pub enum FrameFault {
     /// The octets end too early.
+    #[error("truncated")]
     Truncated = 1,
-    /// A BVLL that does not begin with 81, or an NPDU that does not begin with 01.
+    /// A BVLL that does not begin with 0x81, or an NPDU that does not begin with 0x01.
+    #[error("bad version")]
     Version = 2,
-    /// Bit 6 or 4 of the control octet is set.
+    /// Bit 6 or bit 4 of the control octet is set.
+    #[error("reserved bits")]
     ReservedBits = 3,
-    /// A network number that no destination or no source has.
+    /// A network number that is not valid for a destination or a source.
+    #[error("bad network number")]
     BadNet = 4,
-    /// The length of a BVLL is not that of the datagram, or an address has too many octets or too few.
+    /// The length of a BVLL differs from that of the datagram, or an address is too long or too short.
+    #[error("bad length")]
     BadLength = 5,
     /// A BVLL function other than Original-Unicast-NPDU.
+    #[error("not an Original-Unicast-NPDU")]
     NotUnicast = 6,
 }
 
 impl FrameFault {
-    /// The number of the fault, 1 to 6 (own numbers of this profile).
+    /// The number of the fault, 1 to 6, by which it is printed (own numbers of this profile).
     pub fn number(self) -> u8
         ensures { result ≡ fault_number self }
     {
@@ -28,15 +36,19 @@ impl FrameFault {
     }
 }
 
-/// Why a datagram means no peer and no APDU: the first of these that holds.
-#[derive(Clone, Copy, Debug, PartialEq, Eq)]
+/// Why a datagram is dropped, that is, has no peer and APDU. The first reason that applies is returned.
+#[derive(Clone, Copy, Debug, PartialEq, Eq, Error)]
 pub enum Dropped {
-    /// It is no BVLL.
+    /// The datagram is not a BVLL.
+    #[error("bad BVLL: {0}")]
     Bvll(FrameFault),
-    /// It is one, of octets that are no NPDU.
+    /// The contents of the BVLL are not an NPDU.
+    #[error("bad NPDU: {0}")]
     Npdu(FrameFault),
-    /// The NPDU is to be routed elsewhere: it has a destination.
+    /// The NPDU is for another network: it has a destination.
+    #[error("to be routed to another network")]
     Routed,
-    /// The NPDU is a network message.
+    /// The NPDU is a network layer message.
+    #[error("network layer message")]
     NetworkMessage,
 }

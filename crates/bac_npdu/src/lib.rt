@@ -1,4 +1,4 @@
-//! BACnet/IP frames: BVLL (Annex J) and NPDU (clause 6), the peers that they name, and the order of peers.
+//! BACnet/IP frames: BVLL (Annex J) and NPDU (clause 6), the peers that they identify, and the order of peers.
 #![tactic(auto)]
 
 mod address;

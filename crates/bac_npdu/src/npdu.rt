@@ -1,4 +1,4 @@
-//! Messages of the network layer and their members (clause 6.2).
+//! NPDUs and their members (clause 6.2).
 ghost use Rattle.std.specs.Prelude.{◌<◌, IsTrue, length};
 ghost use Rattle.bac_npdu.specs.Npdu.{destination_fits, message_fits};
 ghost use Rattle.bac_npdu.specs.Addresses.{address_view};
@@ -8,46 +8,46 @@ use crate::route::Route;
 
 /// The first octet of an NPDU (clause 6.2.1).
 pub(crate) const VERSION: u8 = 1;
-/// The hop count of an NPDU that a node sends (clause 6.2.2).
+/// The hop count of an NPDU that a node originates (clause 6.2.2).
 pub(crate) const FIRST_HOPS: u8 = 255;
 
-/// Where an NPDU is to be routed to (clause 6.2.2): network 65,535 is the global broadcast, and an address of no octets a
-/// broadcast on the network.
+/// The destination to which an NPDU is to be routed (clause 6.2.2). Network 65,535 is the global broadcast, and an empty address
+/// is a broadcast on the network.
 #[derive(Clone, Copy, Debug)]
 pub struct Destination {
-    /// 1 to 65,535.
+    /// The network number, 1 to 65,535.
     pub network: u16,
-    /// 0 to 8 octets, and none on network 65,535 (own limits of this profile).
+    /// The address: 0 to 8 octets, and none on network 65,535 (own limits of this profile).
     pub address: Address,
-    /// How many routers it may pass still.
+    /// The hop count: how many more routers the NPDU may pass.
     pub hops: u8,
     pub ghost fits: { IsTrue (destination_fits network (length (address_view address))) },
 }
 
-/// The type of a network message, with the vendor's identifier from type 128 on (clause 6.2.4).
+/// The type of a network layer message, and the vendor identifier of types 128 and above (clause 6.2.4).
 #[derive(Clone, Copy, Debug)]
 pub struct Message {
-    /// The type: 0 to 127 of the standard, 128 to 255 of vendors.
+    /// The type: 0 to 127 are defined by the standard, 128 to 255 by vendors.
     pub kind: u8,
-    /// None below type 128 alone.
+    /// The vendor identifier; None exactly for types below 128.
     pub vendor: Option<u16>,
     pub ghost fits: { IsTrue (message_fits kind vendor) },
 }
 
-/// A message of the network layer (clause 6.2).
+/// An NPDU (clause 6.2).
 #[derive(Clone, Copy, Debug)]
 pub struct Npdu<'a> {
-    /// Where it is to be routed to; None where it stays on the network.
+    /// The destination; None if the NPDU stays on the network.
     pub destination: Option<Destination>,
-    /// Where it was routed from; None where it comes from the network.
+    /// The source that it was routed from; None if it comes from the network.
     pub source: Option<Route>,
     /// Whether the sender expects a reply.
     pub expecting: bool,
-    /// 0 normal, 1 urgent, 2 critical equipment, 3 life safety.
+    /// The priority: 0 normal, 1 urgent, 2 critical equipment, 3 life safety.
     pub priority: u8,
-    /// None where the contents are an APDU.
+    /// The network layer message; None if the contents are an APDU.
     pub message: Option<Message>,
-    /// The octets of the APDU, or the raw contents of the network message.
+    /// The octets of the APDU, or the raw contents of the network layer message.
     pub contents: &'a [u8],
     pub ghost normal_to_safety: { priority < 4 },
 }

@@ -1,4 +1,4 @@
-//! Reading an NPDU, to the end of the octets (clause 6.2).
+//! Reading an NPDU (clause 6.2).
 ghost use Rattle.std.specs.Prelude.{MatchOption, ◌≡◌, ℕ, List, IfOk, IfErr, MatchResult, Ok, Err, Bool, ◌==◌, ◌/◌, ◌%◌, ◌<◌, length, IsTrue, true, false};
 ghost use Rattle.std.specs.Option.{option_map};
 ghost use Rattle.bac_npdu.specs.Peers.{RouteView, route_fits};
@@ -16,7 +16,7 @@ use crate::octets::{octet, word};
 use crate::place::Place;
 use crate::route::Route;
 
-/// The type of a network message, and from type 128 on the vendor's identifier.
+/// Reads the type of a network layer message, and the vendor identifier of types 128 and above.
 #[tactic(auto, unfolding(crate::specs::Reading::message_at))]
 fn message(octets: &[u8]) -> Result<(Message, &[u8]), FrameFault>
     ensures { Reads message_view (λ r. r.now) octets.now result message_at }
@@ -62,7 +62,7 @@ fn destination_place(octets: &[u8], is_there: bool) -> Result<(Option<Place>, &[
     Ok((Some(place), rest))
 }
 
-/// The hop count, where there is a destination.
+/// Reads the hop count, if there is a destination.
 fn destination(
     octets: &[u8],
     place: Option<Place>,
@@ -94,7 +94,7 @@ fn optional_message(octets: &[u8], is_there: bool) -> Result<(Option<Message>, &
     Ok((Some(message), rest))
 }
 
-/// The members that the control octet announces, and the contents after them.
+/// Reads the members that the control octet announces, and the contents after them.
 #[tactic(auto, unfolding(crate::specs::Reading::members_at))]
 fn members(octets: &[u8], bits: u8) -> Result<Npdu<'_>, FrameFault>
     ensures { ReadsAll npdu_view result (members_at bits octets.now) }
@@ -128,11 +128,11 @@ fn whole(octets: &[u8]) -> Result<Npdu<'_>, FrameFault>
     members(rest, bits)
 }
 
-/// The NPDU that the octets are, to their end (clause 6.2). Of several faults the first from the left is answered.
+/// Reads the whole octets as an NPDU (clause 6.2). Returns the first fault from left to right.
 pub fn read_npdu(octets: &[u8]) -> Result<Npdu<'_>, FrameFault>
     ensures found { IfOk result (λ n. SpellsNpdu (npdu_view n) octets.now) }
     ensures refused { IfErr result (λ e. (n : NpduView) → SpellsNpdu n octets.now → ⊥) }
-    // The fault is the first from the left.
+    // the fault is the first from left to right
     ensures exact { ReadsAll npdu_view result (npdu_at octets.now) }
 {
     whole(octets)

@@ -1,4 +1,4 @@
-//! Peers and their order: by link, then no route before a route, then by route.
+//! Peers and their order.
 ghost use Rattle.std.specs.Prelude.{◌≡◌, ◌==◌, ◌∷◌, true, false};
 ghost use Rattle.std.proofs.Common.{rules};
 ghost use Rattle.std.specs.Int.{w64, from_be_bytes};
@@ -12,23 +12,23 @@ ghost use Rattle.bac_npdu.specs.Views.{peer_view};
 use crate::route::Route;
 use std::cmp::Ordering;
 
-/// A BACnet/IP address, by which a node stands on its link: four octets of IPv4 address, then two of the UDP port, most significant first (clause
-/// J.1.2).
+/// The BACnet/IP address of a node on its link: four octets of IPv4 address, then two of UDP port, most significant first
+/// (clause J.1.2).
 pub type LinkAddress = [u8; 6];
 
-/// The other end of a transaction: its BACnet/IP address, and the way on from there where it stands on a network behind a router.
+/// The other end of a transaction: its BACnet/IP address, and the route from there if it is on a network behind a router.
 ///
-/// Peers are ordered by link, then no route before a route, then by network number, then by the octets of the address, a front
-/// first.
+/// Peers are ordered by link address, then no route before any route, then by network number, then by the octets of the address,
+/// where a prefix comes first.
 #[derive(Clone, Copy, Debug)]
 pub struct Peer {
     /// The BACnet/IP address.
     pub link: LinkAddress,
-    /// The way on from a router; None for a peer at the address itself.
+    /// The route beyond a router; None for a peer at the link address itself.
     pub route: Option<Route>,
 }
 
-/// The octets of a link as one number, most significant first.
+/// The octets of a link address as one number, most significant first.
 #[inline(always)]
 fn number_of(link: &LinkAddress) -> u64
     ensures { result ≡ from_be_bytes w64 (0 ∷ 0 ∷ link.now) }
@@ -37,7 +37,7 @@ fn number_of(link: &LinkAddress) -> u64
     u64::from_be_bytes([0, 0, a, b, c, d, e, f])
 }
 
-/// The order of two links, octet by octet: that of their numbers.
+/// The order of two link addresses, octet by octet: that of their numbers.
 #[inline(always)]
 #[tactic(auto, using(crate::proofs::LinkOrder::links_in_order))]
 fn order_of(link: &LinkAddress, other: &LinkAddress) -> Ordering

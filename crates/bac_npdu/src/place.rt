@@ -1,4 +1,4 @@
-//! A network's number and an address, as an NPDU has them for its destination and for its source (clause 6.2.2).
+//! A network number and an address, as in the destination and the source of an NPDU (clause 6.2.2).
 ghost use Rattle.std.specs.Prelude.{◌≡◌, IfOk, length, IsTrue};
 ghost use Rattle.bac_value.specs.Steps.{Reads};
 ghost use Rattle.bac_npdu.specs.Addresses.{address_view};
@@ -33,7 +33,7 @@ fn is_count_in(is_source: bool, network: u16, count: u8) -> bool
         }
 }
 
-/// The count of address octets, and these.
+/// Reads the length of an address, and the address.
 #[tactic(auto, unfolding(crate::specs::Reading::address_at, crate::specs::Reading::cut_at))]
 fn address(octets: &[u8], is_source: bool, network: u16) -> Result<(Place, &[u8]), FrameFault>
     ensures reads { Reads place_view (λ r. r.now) octets.now result (address_at is_source network) }
@@ -52,8 +52,7 @@ fn address(octets: &[u8], is_source: bool, network: u16) -> Result<(Place, &[u8]
 }
 
 impl Place {
-    /// The place in front of the octets, a source's or a destination's: first the network's number is tested (`BadNet`), then the
-    /// count of address octets (`BadLength`).
+    /// Reads a source or a destination: first the network number is tested (`BadNet`), then the address length (`BadLength`).
     #[tactic(auto, unfolding(crate::specs::Reading::place_at))]
     pub(crate) fn read(octets: &[u8], is_source: bool) -> Result<(Place, &[u8]), FrameFault>
         ensures reads { Reads place_view (λ r. r.now) octets.now result (place_at is_source) }

@@ -1,4 +1,4 @@
-//! Routes: the way on from a router to a device, and their order.
+//! Routes to devices behind a router, and their order.
 ghost use Rattle.std.specs.Prelude.{◌≡◌, ◌↔◌, ◌==◌, IsTrue, IsSome, IfSome, true, false};
 ghost use Rattle.std.proofs.Common.{rules};
 ghost use Rattle.std.specs.Ordering.{on, eq_by_cmp, as_partial_cmp};
@@ -10,14 +10,14 @@ ghost use Rattle.bac_npdu.specs.Addresses.{address_view};
 use crate::address::Address;
 use std::cmp::Ordering;
 
-/// The number of all networks: a destination's alone, for the global broadcast (clause 6.2.2).
+/// The network number of all networks, which only a destination has, for the global broadcast (clause 6.2.2).
 pub(crate) const ALL_NETWORKS: u16 = 0xFFFF;
 
 /// A device on a network behind a router: a network number of 1 to 65,534, and an address of 1 to 8 octets (clause 6.2.2; 8 is
-/// the own limit of this profile). Routes are ordered by network number, then by the octets of the address, a front first.
+/// an own limit of this profile). Routes are ordered by network number, then by the octets of the address, a prefix first.
 #[derive(Clone, Copy, Debug)]
 pub struct Route {
-    /// The network's number, 1 to 65,534.
+    /// The network number, 1 to 65,534.
     pub network: u16,
     /// The device's address on that network, 1 to 8 octets.
     pub address: Address,
@@ -27,7 +27,7 @@ pub struct Route {
 impl Route {
     ghost use Rattle.bac_npdu.specs.Views.{route_view};
 
-    /// None where the network number or the count of octets is outside its limits.
+    /// The route; None if the network number or the address length is out of range.
     pub fn new(network: u16, address: &[u8]) -> Option<Route>
         ensures some { IsSome result ↔ IsTrue (route_fits (record { network = network; address = address.now })) }
         ensures parts { IfSome result (λ r. route_view r ≡ record { network = network; address = address.now }) }

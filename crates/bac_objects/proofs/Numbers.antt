@@ -1,5 +1,5 @@
--- Properties from one to the next.
-use Rattle.std.proofs.Common.{◌≡◌, ℕ, ◌+◌, ◌<◌, ◌==◌, true, if◌then◌else◌, List, [], ◌∷◌, length, map, drop, get_or, arith}
+-- Reading properties one after the other.
+use Rattle.std.proofs.Common.{◌≡◌, ℕ, ◌+◌, ◌<◌, ◌==◌, true, if◌then◌else◌, List, length, map, drop, get_or}
 use Rattle.std.proofs.lemmas.List.{drop_more}
 use Rattle.bac_store.specs.declared.object.Property as listed
 use Rattle.bac_store.specs.Views.{property_view}

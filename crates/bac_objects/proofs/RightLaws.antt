@@ -1,6 +1,5 @@
 -- One property more, and one object more.
-use Rattle.std.proofs.Common.{◌≡◌, ◌≢◌, ℕ, zero, suc, ◌+◌, ◌<◌, ◌==◌, Bool, true, false, IsTrue, if◌then◌else◌, List, [], ◌∷◌, ◌++◌, length, map, get_or, refl, ap, sym, ◌∙◌, arith}
-use Rattle.std.specs.List.{All, AllPairs}
+use Rattle.std.proofs.Common.{◌≡◌, ◌≢◌, ℕ, zero, suc, ◌<◌, Bool, true, false, IsTrue, if◌then◌else◌, List, [], ◌∷◌, ◌++◌, length, map, get_or, refl, ap, arith}
 use Rattle.std.proofs.lemmas.Bool.Decides.{nat_tests}
 use Rattle.std.proofs.lemmas.List.Elements.{All-append, All-cons, All-nil}
 use Rattle.std.proofs.lemmas.List.Quantifiers.{all_pairs_push}
@@ -9,7 +8,7 @@ use Rattle.bac_value.specs.Views.{object_identifier_view}
 use Rattle.bac_store.specs.declared.object.Object as thing
 use Rattle.bac_store.specs.declared.object.Property as listed
 use Rattle.bac_store.specs.Views.{object_view, property_view}
-use Rattle.bac_store.specs.Objects.{AreDistinct, IsRight, is_right_property}
+use Rattle.bac_store.specs.Objects.{IsRight, is_right_property}
 use Rattle.bac_store.specs.Stores.{Object, Property, is_number, is_object}
 use Rattle.bac_objects.specs.Objects.{has_id}
 use Rattle.bac_objects.specs.Properties.{has_number}

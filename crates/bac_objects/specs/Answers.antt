@@ -1,4 +1,4 @@
--- What a reader in code answers that may take memory.
+-- The results of readers in code that may allocate.
 use Rattle.std.specs.Prelude.{◌≡◌, ⊤, List, ℕ, Option, Result, Ok, Err}
 use Rattle.bac_value.specs.Value.{ObjectId}
 use Rattle.bac_objects.specs.declared.fault.ValueFault.{ValueFault}
@@ -9,13 +9,13 @@ use Rattle.bac_objects.specs.Objects.{Flaw}
 use Rattle.bac_objects.specs.Views.{flaw_view}
 use Rattle.bac_objects.specs.declared.problem.Problem.{Problem}
 
--- what is wanted, or memory ran out
+-- what is expected, unless an allocation failed
 abbrev pub Reads : {A B : Type 0} → (A → B) → Result A ValueFault → Result B Problem → Type 0
 Reads view (Ok x) read = read ≡ Ok (view x)
 Reads view (Err (Wrong p)) read = read ≡ Err p
 Reads view (Err NoMemory) read = ⊤
 
--- the same of a reader of an object's table
+-- the same for a reader of an object's table
 abbrev pub ReadsObject : {A B : Type 0} → (A → B) → Result A ObjectFault → Result B Flaw → Type 0
 ReadsObject view (Ok x) read = read ≡ Ok (view x)
 ReadsObject view (Err (object_fault.Flaw f)) read = read ≡ Err (flaw_view f)

@@ -1,5 +1,5 @@
--- The bits that a text of digits 0 and 1 stands for, eight in an octet, the first in bit 7 (clause 20.2.10).
-use Rattle.std.specs.Prelude.{ℕ, ◌+◌, ◌-◌, ◌/◌, ◌^◌, nat_lt, ◌==◌, ◌&&◌, List, [], ◌∷◌, ◌++◌, length, Bool, true, false, if◌then◌else◌, Result, Ok, Err}
+-- The bits of a text of digits 0 and 1, eight in an octet, the first in bit 7 (clause 20.2.10).
+use Rattle.std.specs.Prelude.{ℕ, ◌+◌, ◌-◌, ◌/◌, ◌^◌, nat_lt, ◌==◌, ◌&&◌, List, [], ◌∷◌, ◌++◌, length, if◌then◌else◌, Result, Ok, Err}
 use Rattle.bac_value.specs.Limits.{bits_fit}
 use Rattle.bac_value.specs.Steps.{◌>>=◌}
 use Rattle.bac_value.specs.Value.{Datum, bits}
@@ -8,7 +8,7 @@ use Rattle.bac_objects.specs.Reading.{fitting, other, text_of}
 use Rattle.bac_objects.specs.declared.problem.Problem.{Problem}
 use Rattle.bac_objects.specs.declared.problem.Wanted.TheVariants as wanted
 
--- whole octets, and one that takes so many more bits, the next of that weight
+-- whole octets, and a last octet with room for more bits, of which the next has this weight
 pub record Packing : Type 0 where
   pub octets : List ℕ
   pub left : ℕ
@@ -34,7 +34,7 @@ packed p (c ∷ cs) = with_digit c p >>= (λ q. packed q cs)
 abbrev pub string_of : (unused : ℕ) → List ℕ → Result Datum Problem
 string_of unused xs = fitting (nat_lt (length xs + 1) (2 ^ 32) && bits_fit unused xs) (bits unused xs)
 
--- the bits that the last octet does not have are unused
+-- the bits that are missing in the last octet are unused
 abbrev pub whole : Packing → Result Datum Problem
 whole p = if p.left == 8 then string_of 0 p.octets else string_of p.left (p.octets ++ p.octet ∷ [])
 

@@ -1,4 +1,4 @@
--- What reading a document answers.
+-- The result of reading a document.
 use Rattle.std.specs.Prelude.{◌≡◌, ⊤, ℕ, IsUtf8, List, Option, Some, None, Result, Ok, Err}
 use Rattle.std.specs.Option.{option_map}
 use Rattle.std.specs.String.{string_bytes}
@@ -24,14 +24,14 @@ fault_view place problem =
       flaw = record { id = option_map object_identifier_view place.id; key = string_bytes place.key; problem = problem };
     }
 
--- a reader's answer of objects: what is wanted, the first fault, or memory ran out
+-- the result of reading objects: what is expected, the first fault, or a failed allocation
 abbrev pub ReadsDocument : {A B : Type 0} → (A → B) → Result A DocumentFault → Result B Fault → Type 0
 ReadsDocument view (Ok x) read = read ≡ Ok (view x)
 ReadsDocument view (Err (fault.Wrong place problem)) read = read ≡ Err (fault_view place problem)
 ReadsDocument view (Err (fault.NoToml line error)) read = ⊥
 ReadsDocument view (Err fault.NoMemory) read = ⊤
 
--- the fault of an object's table, in the object of that number
+-- the fault in an object's table, with the number of the object
 abbrev pub IsInObject : ℕ → ObjectFault → DocumentFault → Type 0
 IsInObject n (object_fault.Flaw f) (fault.Wrong place problem) = fault_view place problem ≡ record { object = n; flaw = flaw_view f }
 IsInObject n (object_fault.Flaw f) (fault.NoToml line error) = ⊥
@@ -44,7 +44,7 @@ abbrev pub IsMeant : Result (List Object) Fault → Store → Type 0
 IsMeant (Ok objects) s = IsMadeOf objects s
 IsMeant (Err f) s = ⊥
 
--- the store of the objects that a table means, its first fault, or memory ran out
+-- the store of the objects of a table, its first fault, or a failed allocation
 abbrev pub IsReadTable : Members → Result Store DocumentFault → Type 0
 IsReadTable ms (Ok s) = IsMeant (objects_in ms) s
 IsReadTable ms (Err (fault.Wrong place problem)) = objects_in ms ≡ Err (fault_view place problem)
@@ -55,7 +55,7 @@ abbrev pub IsReadOf : Option Members → Result Store DocumentFault → Type 0
 IsReadOf (Some ms) r = IsReadTable ms r
 IsReadOf None r = ⊥
 
--- the same of a text, which may be no TOML in UTF-8
+-- the same for a text, which may be no TOML in UTF-8
 abbrev pub IsRead : (text : List ℕ) → Result Store DocumentFault → Type 0
 IsRead text (Err (fault.NoToml line error)) = IsUtf8 text → parse_document text ≡ None
 IsRead text (Err fault.NoMemory) = ⊤

@@ -1,5 +1,5 @@
--- How values are given: in a table, under the word of their kind, with a mark beside them.
-use Rattle.std.specs.Prelude.{◌≡◌, ℕ, ◌+◌, ◌==◌, Bool, true, false, List, [], ◌∷◌, map, codes, is_some, if◌then◌else◌, Option, Some, None, Result, Ok, Err}
+-- Values in a document: a table with the value under the word of its form, and a flag.
+use Rattle.std.specs.Prelude.{ℕ, ◌+◌, ◌==◌, Bool, false, List, [], ◌∷◌, map, codes, is_some, if◌then◌else◌, Option, Some, None, Result, Ok, Err}
 use Rattle.std.specs.Borrow.{Bor}
 use Rattle.bac_value.specs.Steps.{◌>>=◌}
 use Rattle.toml.specs.Data.{Data, Members, no_members, member, get_member}
@@ -10,7 +10,7 @@ use Rattle.bac_objects.specs.declared.problem.Problem.{Problem}
 use Rattle.bac_objects.specs.declared.problem.Given.TheVariants as given
 use Rattle.bac_objects.specs.declared.problem.Wanted.TheVariants as wanted
 
--- a word, and what it stands for
+-- a word, and the form that it stands for
 abbrev pub Row : Type 0
 Row = List ℕ × Form
 
@@ -32,7 +32,7 @@ abbrev pub or_later : Form → Option Data → Option (Form × Data) → Option 
 or_later f (Some d) later = Some (f, d)
 or_later f None later = later
 
--- what stands under the first of the words that is a key
+-- the value under the first of the words that is a key
 abbrev pub found_in : List Row → Members → Option (Form × Data)
 found_in [] ms = None
 found_in (r ∷ rows) ms = or_later r.1 (get_member r.0 ms) (found_in rows ms)
@@ -41,7 +41,7 @@ abbrev pub or_nothing : {A : Type 0} → Option A → Result A Problem
 or_nothing (Some x) = Ok x
 or_nothing None = Err (record { wanted = wanted.OneValue; given = given.Nothing })
 
--- without a mark nothing can be written
+-- without the flag nothing is writable
 abbrev pub mark_of : Option Data → Result Bool Problem
 mark_of None = Ok false
 mark_of (Some d) = boolean_of wanted.Mark d
@@ -49,13 +49,13 @@ mark_of (Some d) = boolean_of wanted.Mark d
 abbrev pub the_mark : Members → Option Data
 the_mark ms = get_member (codes "writable") ms
 
--- how a value is given, the value, and whether it can be written
+-- the form of a value, the value, and whether it is writable
 pub record Held : Type 0 where
   pub form : Form
   pub value : Data
   pub writable : Bool
 
--- there is no key but that one and the mark
+-- there are no keys but the word and the flag
 abbrev pub alone : (is_marked : Bool) → (keys : ℕ) → Held → Result Held Problem
 alone is_marked keys h =
     if keys == (if is_marked then 2 else 1) then Ok h else Err (record { wanted = wanted.OneValue; given = given.More })

@@ -1,5 +1,5 @@
 -- Object types and identifiers in a document (clause 20.2.14).
-use Rattle.std.specs.Prelude.{ℕ, ◌==◌, List, codes, Bool, nat_le, if◌then◌else◌, Option, Some, None, Result, Ok, Err}
+use Rattle.std.specs.Prelude.{ℕ, ◌==◌, List, codes, nat_le, if◌then◌else◌, Option, Some, None, Result, Ok, Err}
 use Rattle.bac_value_text.specs.Names.{number_in}
 use Rattle.bac_value_text.specs.ObjectTypes.{OBJECT_TYPES}
 use Rattle.bac_value.specs.Steps.{◌>>=◌}
@@ -23,7 +23,7 @@ or_other w None = Err (other w)
 abbrev pub at_most : (most : ℕ) → Wanted → ℕ → Result ℕ Problem
 at_most most w n = if nat_le n most then Ok n else Err (other w)
 
--- by its name of the standard
+-- an object type by its name in the standard
 unfoldable pub named : Wanted → List ℕ → Result ℕ Problem
 named w name = or_other w (number_in OBJECT_TYPES name) >>= at_most 1023 w
 
@@ -41,11 +41,11 @@ the_type w ms = or_nothing w (get_member (codes "type") ms) >>= type_of w
 abbrev pub the_instance : (most : ℕ) → Wanted → Members → Result ℕ Problem
 the_instance most w ms = or_nothing w (get_member (codes "instance") ms) >>= number_up_to most w
 
--- a table has these two keys alone
+-- a table with only these two keys
 abbrev pub alone : (keys : ℕ) → ObjectId → Result ObjectId Problem
 alone keys id = if keys == 2 then Ok id else Err (record { wanted = wanted.Identifier; given = given.More })
 
--- any identifier, from a table of a type and an instance
+-- any identifier, from a table with a type and an instance
 unfoldable pub identifier_of : Data → Result ObjectId Problem
 identifier_of d = do
   ms ← table_of wanted.Identifier d

@@ -1,4 +1,4 @@
--- The objects that a document means: a list of tables under the key `object` (clause 12).
+-- The objects of a document: a list of tables under the key `object` (clause 12).
 use Rattle.std.specs.Prelude.{ℕ, ◌+◌, nat_le, ◌==◌, ◌&&◌, ◌||◌, Bool, true, false, List, [], ◌∷◌, ◌++◌, length, codes, if◌then◌else◌, Option, Some, None, Result, Ok, Err}
 use Rattle.std.specs.Str.{bytes_eq}
 use Rattle.bac_value.specs.Steps.{◌>>=◌}
@@ -17,7 +17,7 @@ use Rattle.bac_objects.specs.declared.problem.Given.TheVariants as given
 
 -- ---- one object
 
--- what is wrong in the table of an object: at which key, and whose, where its type and its instance are right
+-- a fault in the table of an object: its key, and the identifier of the object, if type and instance are valid
 pub record Flaw : Type 0 where
   pub id : Option ObjectId
   pub key : List ℕ
@@ -33,7 +33,7 @@ served_type n = if is_right_type n then Ok n else Err (other wanted.ServedType)
 abbrev pub kind_in : Members → Result ℕ Problem
 kind_in ms = the_type wanted.ServedType ms >>= served_type
 
--- a type that a store can have, and an instance of one object (clause 20.2.14)
+-- a type that a store supports, and an instance of one object (clause 20.2.14)
 unfoldable pub identifier_in : Members → Result ObjectId Flaw
 identifier_in ms = do
   kind ← at None (codes "type") (kind_in ms)
@@ -46,12 +46,12 @@ short_name name = if nat_le (length name) 4091 then Ok name else Err (record { w
 abbrev pub name_in : Members → Result (List ℕ) Problem
 name_in ms = or_nothing wanted.Text (get_member (codes "name") ms) >>= (λ d. text_of wanted.Text d >>= short_name)
 
--- a file has octets, and nothing else has
+-- exactly files have octets
 abbrev pub file_in : (kind : ℕ) → Members → Result (Option File) Problem
 file_in kind ms =
     if kind == FILE then or_nothing wanted.File (get_member (codes "file") ms) >>= (λ d. file_of d >>= (λ f. Ok (Some f))) else Ok None
 
--- the keys that are no properties
+-- the keys that are not those of properties
 abbrev pub is_reserved : (kind : ℕ) → (key : List ℕ) → Bool
 is_reserved kind key =
     bytes_eq key (codes "type") || (bytes_eq key (codes "instance") || (bytes_eq key (codes "name") || ((kind == FILE) && bytes_eq key (codes "file"))))
@@ -61,7 +61,7 @@ with_property id done key d =
     if is_reserved id.kind key then Ok done
     else at (Some id) key (own_property id.kind done key d) >>= (λ p. Ok (done ++ p ∷ []))
 
--- the properties, in the order of their keys, after some that are read
+-- the properties, in the order of their keys, read after others
 abbrev pub properties_on : ObjectId → List Property → Members → Result (List Property) Flaw
 properties_on id done no_members = Ok done
 properties_on id done (member key d ms) = with_property id done key d >>= (λ more. properties_on id more ms)
@@ -83,11 +83,11 @@ not_yet done id =
     then Err (record { id = Some id; key = codes "instance"; problem = record { wanted = wanted.OwnIdentifier; given = given.Again } })
     else Ok id
 
--- one that no earlier object has
+-- an identifier that no earlier object has
 abbrev pub own_identifier : List Object → Members → Result ObjectId Flaw
 own_identifier done ms = identifier_in ms >>= not_yet done
 
--- the object, after some that are read
+-- an object, read after others
 unfoldable pub object_of : List Object → Data → Result Object Flaw
 object_of done d = do
   ms ← at None [] (table_of wanted.Table d)
@@ -96,7 +96,7 @@ object_of done d = do
 
 -- ---- all objects
 
--- what is wrong in a document: in which object, from 1 on, or 0 where in none of them
+-- a fault in a document: the number of the object, from 1 on, or 0 if it is in none of them
 pub record Fault : Type 0 where
   pub object : ℕ
   pub flaw : Flaw
@@ -108,7 +108,7 @@ in_object n (Err f) = Err (record { object = n; flaw = f })
 abbrev pub with_object : List Object → Data → Result (List Object) Flaw
 with_object done d = object_of done d >>= (λ o. Ok (done ++ o ∷ []))
 
--- the objects, in the order of the document, after some that are read
+-- the objects, in the order of the document, read after others
 abbrev pub objects_on : List Object → Items → Result (List Object) Fault
 objects_on done no_items = Ok done
 objects_on done (item d ds) = in_object (length done + 1) (with_object done d) >>= (λ more. objects_on more ds)
@@ -116,11 +116,11 @@ objects_on done (item d ds) = in_object (length done + 1) (with_object done d) >
 abbrev pub alone : (keys : ℕ) → Items → Result Items Problem
 alone keys ds = if keys == 1 then Ok ds else Err (record { wanted = wanted.Objects; given = given.More })
 
--- the list under `object`, which is the one key
+-- the list under `object`, which is the only key
 abbrev pub list_in : Members → Result Items Problem
 list_in ms = or_nothing wanted.Objects (get_member (codes "object") ms) >>= (λ d. array_of wanted.Objects d >>= alone (count ms))
 
--- the objects that a document means, or the first fault: objects in the order of the document; in each `type`, `instance`, whether an earlier one has both,
+-- the objects of a document, or the first fault: objects in the order of the document; in each `type`, `instance`, whether an earlier one has both,
 -- `name` and `file`, and then the other keys in the order of their octets
 unfoldable pub objects_in : Members → Result (List Object) Fault
 objects_in ms = do

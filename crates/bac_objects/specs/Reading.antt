@@ -1,5 +1,5 @@
--- What stands in a document, and what a reader in code answers of it.
-use Rattle.std.specs.Prelude.{◌≡◌, ⊤, ℕ, ℤ, pos, negsuc, nat_le, Float, Bool, true, false, List, Option, Some, None, Result, Ok, Err, if◌then◌else◌}
+-- The values in a document, and the results of readers in code.
+use Rattle.std.specs.Prelude.{ℕ, ℤ, pos, negsuc, nat_le, Float, Bool, true, false, List, Option, Some, None, Result, Ok, Err, if◌then◌else◌}
 use Rattle.bac_value.specs.Steps.{◌>>=◌}
 use Rattle.bac_value.specs.Value.{Datum}
 use Rattle.toml_datetime.specs.declared.datetime.Datetime.{Datetime}
@@ -10,7 +10,7 @@ use Rattle.bac_objects.specs.declared.problem.Wanted.TheVariants as wanted
 use Rattle.bac_objects.specs.declared.problem.Given.{Given}
 use Rattle.bac_objects.specs.declared.problem.Given.TheVariants as given
 
--- what stands there, by the types of TOML
+-- the form of a value, by the types of TOML
 abbrev pub given_of : Data → Given
 given_of (string s) = given.Text
 given_of (integer z) = given.Integer
@@ -23,7 +23,7 @@ given_of (table ms) = given.Table
 abbrev pub in_place : Wanted → Data → Problem
 in_place w d = record { wanted = w; given = given_of d }
 
--- something of the right form that is none of those wanted
+-- something of the expected form, but not one of the expected values
 abbrev pub other : Wanted → Problem
 other w = record { wanted = w; given = given.Other }
 
@@ -56,14 +56,14 @@ abbrev pub up_to : (most : ℕ) → Wanted → ℤ → Result ℕ Problem
 up_to most w (pos n) = if nat_le n most then Ok n else Err (other w)
 up_to most w (negsuc n) = Err (other w)
 
--- an integer from 0 to that
+-- an integer from 0 to most
 unfoldable pub number_up_to : (most : ℕ) → Wanted → Data → Result ℕ Problem
 number_up_to most w d = integer_of w d >>= up_to most w
 
 abbrev pub too_long : Problem
 too_long = record { wanted = wanted.ShortValue; given = given.More }
 
--- a value, where its contents are few enough
+-- a value, if its contents are not too long
 abbrev pub fitting : Bool → Datum → Result Datum Problem
 fitting true v = Ok v
 fitting false v = Err too_long

@@ -1,10 +1,9 @@
--- The value that a document gives under the word of its kind (clause 20.2).
-use Rattle.std.specs.Prelude.{ℕ, ◌+◌, ◌-◌, ◌*◌, ◌/◌, ◌%◌, ◌^◌, nat_le, nat_lt, ◌==◌, ◌&&◌, ◌||◌, not, List, [], ◌∷◌, ◌++◌, length, map, Bool, true, false, to_bits, if◌then◌else◌, Option, Some, None, Result, Ok, Err}
+-- The value in a document under the word of its kind (clause 20.2).
+use Rattle.std.specs.Prelude.{ℕ, ◌+◌, ◌-◌, ◌/◌, ◌^◌, nat_le, nat_lt, ◌&&◌, not, List, [], ◌∷◌, length, Bool, true, false, to_bits, if◌then◌else◌, Option, Some, None, Result, Ok, Err}
 use Rattle.std.specs.Float.{Float, binary32, binary64, float_is_finite, round_to_format}
 use Rattle.std.specs.Int.{w32, w64, to_be_bytes}
 use Rattle.hex.specs.Hex.{decode_of}
 use Rattle.hex.specs.declared.error.FromHexError.{FromHexError}
-use Rattle.toml_datetime.specs.declared.datetime.Datetime.{Datetime}
 use Rattle.toml_datetime.specs.declared.datetime.Date.{Date}
 use Rattle.toml_datetime.specs.declared.datetime.Time.{Time}
 use Rattle.bac_value.specs.Steps.{◌>>=◌}
@@ -17,7 +16,6 @@ use Rattle.bac_objects.specs.declared.form.Kind.{Kind}
 use Rattle.bac_objects.specs.declared.form.Kind.TheVariants as kind
 use Rattle.bac_objects.specs.declared.problem.Problem.{Problem}
 use Rattle.bac_objects.specs.declared.problem.Wanted.TheVariants as wanted
-use Rattle.bac_objects.specs.declared.problem.Given.TheVariants as given
 
 -- ---- null, true and false
 
@@ -42,11 +40,11 @@ signed_of d = integer_of wanted.Integer d >>= (λ z. Ok (signed z))
 abbrev pub enumerated_of : Data → Result Datum Problem
 enumerated_of d = number_up_to (2 ^ 32 - 1) wanted.Enumerated d >>= (λ n. Ok (enumerated n))
 
--- clause 20.2.6: the float of 32 bits that is nearest to TOML's, which has 64 bits and is itself the nearest to what is written
+-- clause 20.2.6: the float of 32 bits that is nearest to TOML's of 64 bits, which itself is nearest to the number in the text
 abbrev pub single : Float → Float
 single x = round_to_format binary32 x
 
--- a number for which 32 bits have only an infinity
+-- a number that becomes infinite in 32 bits
 abbrev pub is_beyond : Float → Bool
 is_beyond x = float_is_finite x && not (float_is_finite (single x))
 

@@ -1,4 +1,4 @@
--- What contracts see of the types in code.
+-- The abstract values of the types in code.
 use Rattle.std.specs.Option.{option_map}
 use Rattle.bac_value.specs.Views.{object_identifier_view}
 use Rattle.toml.specs.View.{view}

@@ -24,7 +24,7 @@ fn fresh(octets: Vec<u8>) -> Packing
     }
 }
 
-/// One more bit: the last octet with it has this value.
+/// Adds a bit that makes the last octet this value.
 fn after_bit(packing: Packing, is_set: bool) -> Result<Packing, AllocError>
     ensures { IfOk result (λ p. packing_view p ≡ after_bit_of (packing_view packing) (if is_set then packing.octet + packing.weight else packing.octet)) }
 {
@@ -84,7 +84,7 @@ fn string(unused: u8, octets: Vec<u8>) -> Result<Value, ValueFault>
     }
 }
 
-/// The bit string; the bits that the last octet does not have are unused.
+/// The bit string; the bits that are missing in the last octet are unused.
 fn whole(packing: Packing) -> Result<Value, ValueFault>
     ensures { Reads value_view result (whole_of (packing_view packing)) }
 {
@@ -101,7 +101,7 @@ fn whole(packing: Packing) -> Result<Value, ValueFault>
     string(left, octets)
 }
 
-/// A bit string from a text of digits 0 and 1.
+/// Reads a bit string from a text of digits 0 and 1.
 #[tactic(auto, unfolding(crate::specs::Bits::bits_of))]
 pub(crate) fn bits(alloc: Global, value: &toml::Value) -> Result<Value, ValueFault>
     ensures { Reads value_view result (bits_of (view value.now)) }

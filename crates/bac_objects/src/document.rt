@@ -1,4 +1,4 @@
-//! A document as a whole: the store that it means.
+//! Reading a whole document as a store.
 ghost use Rattle.std.specs.Prelude.{◌≡◌, ◌+◌, [], length, map, IfOk};
 ghost use Rattle.bac_value.specs.Steps.{ReadsAll};
 ghost use Rattle.bac_store.specs.Views.{object_view};
@@ -19,7 +19,7 @@ use toml::de::Error;
 use toml::value::Array;
 use toml::{Table, Value};
 
-/// The objects with one more.
+/// The objects, with one more.
 fn with_object<'a>(
     alloc: Global,
     done: Vec<Object>,
@@ -35,7 +35,7 @@ fn with_object<'a>(
     Ok(objects)
 }
 
-/// The fault of an object, with its number.
+/// The fault of an object, with the object's number.
 fn in_object(alloc: Global, object: usize, fault: ObjectFault<'_>) -> DocumentFault
     ensures { IsInObject object fault.entry result }
 {
@@ -51,7 +51,7 @@ fn in_object(alloc: Global, object: usize, fault: ObjectFault<'_>) -> DocumentFa
     }
 }
 
-/// The objects with the next one of a list, or its fault with its number.
+/// The objects, with the next one of a list; or its fault, with its number.
 fn with_next(alloc: Global, done: Vec<Object>, value: &Value) -> Result<Vec<Object>, DocumentFault>
     requires { AreFit (map object_view done.items) }
     ensures is { ReadsDocument (λ v. map object_view v.items) result
@@ -77,7 +77,7 @@ fn objects_of_list(alloc: Global, list: &Array) -> Result<Vec<Object>, DocumentF
     Ok(objects)
 }
 
-/// The list under `object`, which is the one key.
+/// The list under the key `object`, which is the only key.
 fn list_in(table: &Table) -> Result<&Array, Problem>
     ensures { ReadsAll (λ a. array_view a.now) result (list_of (table_view table.now)) }
 {
@@ -97,7 +97,7 @@ fn list_in(table: &Table) -> Result<&Array, Problem>
     Ok(list)
 }
 
-/// The objects that a document means.
+/// The objects of a document.
 #[tactic(auto, unfolding(crate::specs::Objects::objects_in))]
 fn objects_in(alloc: Global, table: &Table) -> Result<Vec<Object>, DocumentFault>
     ensures is { ReadsDocument (λ v. map object_view v.items) result (objects_of (table_view table.now)) }
@@ -117,7 +117,7 @@ fn objects_in(alloc: Global, table: &Table) -> Result<Vec<Object>, DocumentFault
     }
 }
 
-/// The store that a table means.
+/// The store of a document's table.
 fn store_in(alloc: Global, table: &Table) -> Result<Store, DocumentFault>
     ensures { IsReadTable (table_view table.now) result }
 {
@@ -125,12 +125,12 @@ fn store_in(alloc: Global, table: &Table) -> Result<Store, DocumentFault>
     match Store::new(alloc, objects) {
         Ok(store) => Ok(store),
         Err(StoreFault::NoMemory) => Err(DocumentFault::NoMemory),
-        // each object is right, and has an identifier of its own
+        // each object is valid, and has an identifier of its own
         Err(StoreFault::Duplicate | StoreFault::BadObject) => unreachable!(),
     }
 }
 
-/// The number of the line, from 1 on, in which an error is.
+/// The number of the line, from 1 on, that contains an error.
 fn line_of(text: &[u8], error: &Error) -> usize {
     let place = match error.span() {
         Some(span) => span.start.min(text.len()),
@@ -145,10 +145,11 @@ fn line_of(text: &[u8], error: &Error) -> usize {
     line
 }
 
-/// The store that a document means: TOML in UTF-8.
+/// Reads a store from a document: TOML in UTF-8.
 ///
-/// `NoToml` where it is no TOML. `Wrong` names the first fault: the objects in the order of the document, in each `type`,
-/// `instance`, whether an earlier object has both, `name` and `file` and then the other keys in the order of their octets. `NoMemory` where memory is refused.
+/// Returns `NoToml` if the document is not TOML, and `Wrong` with the first fault: objects are read in the order of the document, and
+/// in each `type`, `instance`, whether an earlier object has both, `name`, `file`, and then the other keys in the order of their octets.
+/// Returns `NoMemory` if an allocation fails.
 pub fn read_objects(alloc: Global, text: &[u8]) -> Result<Store, DocumentFault>
     ensures { IsRead text.now result }
 {

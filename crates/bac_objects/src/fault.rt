@@ -11,27 +11,27 @@ use std::alloc::{AllocError, AllocFailed};
 use std::fmt;
 use thiserror::Error;
 
-/// Where a fault is.
+/// The place of a fault.
 #[derive(Debug, Drop)]
 pub struct Place {
-    /// The number of the object in the document, from 1 on; 0 where it is in none of them.
+    /// The number of the object in the document, from 1 on; 0 if the fault is in none of them.
     pub object: usize,
-    /// The type and the instance of that object, where they are right.
+    /// The identifier of that object, if its type and its instance are valid.
     pub id: Option<ObjectIdentifier>,
-    /// The key; no octets where the object is no table.
+    /// The key; empty if the object is not a table.
     pub key: String,
 }
 
-/// Why a document means no store.
+/// Why a document is not a store.
 #[derive(Debug, Drop, Error)]
 pub enum DocumentFault {
-    /// The octets are no TOML in UTF-8, in that line.
+    /// The document is not TOML in UTF-8; `line` is the number of the line with the first error, from 1 on.
     #[error("line {line}: {}", .error.message())]
     NoToml { line: usize, error: toml::de::Error },
-    /// At a key something else is given than is wanted.
+    /// A key has a value that is not allowed.
     #[error("{place}{problem}")]
     Wrong { place: Place, problem: Problem },
-    /// An allocation was refused.
+    /// An allocation failed.
     #[error("no memory")]
     NoMemory,
 }
@@ -53,7 +53,7 @@ impl fmt::Display for Place {
     }
 }
 
-/// An identifier in parentheses: the name of its type, or its number, and its instance.
+/// Prints an identifier in parentheses: the name of its type, or its number, and its instance.
 fn write_id<W: fmt::Write>(f: &mut fmt::Formatter<W>, id: ObjectIdentifier) -> fmt::Result {
     let ObjectIdentifier { kind, instance } = id;
     match object_type_name(u32::from(kind)) {
@@ -80,9 +80,9 @@ pub(crate) enum ValueFault {
 /// What is wrong in the table of an object.
 #[derive(Clone, Copy, Debug)]
 pub(crate) struct Flaw<'a> {
-    /// Its identifier, where its type and its instance are right.
+    /// The object's identifier, if its type and its instance are valid.
     pub(crate) id: Option<ObjectIdentifier>,
-    /// The key, or no octets where it is the table.
+    /// The key; empty if the fault is the table itself.
     pub(crate) key: &'a str,
     pub(crate) problem: Problem,
 }

@@ -1,6 +1,6 @@
-//! How the values of a property are given.
+//! The forms in which a document states the values of a property.
 
-/// The kinds of application values (clause 20.2.1.4), by the words of a document.
+/// The kinds of application values (clause 20.2.1.4) that have a word in documents.
 #[derive(Clone, Copy, Debug, PartialEq, Eq)]
 pub enum Kind {
     Null,
@@ -18,14 +18,14 @@ pub enum Kind {
     Object,
 }
 
-/// How values are given: as one value of a kind, or by their spelling.
+/// The form of values: one value of a kind, or encoded values in hexadecimal.
 #[derive(Clone, Copy, Debug, PartialEq, Eq)]
 pub enum Form {
     Value(Kind),
     Hex,
 }
 
-/// The words for them.
+/// The words for the forms of a property's values.
 pub(crate) const FORMS: &[(&str, Form)] = &[
     ("null", Form::Value(Kind::Null)),
     ("boolean", Form::Value(Kind::Boolean)),
@@ -43,14 +43,14 @@ pub(crate) const FORMS: &[(&str, Form)] = &[
     ("hex", Form::Hex),
 ];
 
-/// The words for the octets of a file.
+/// The words for the forms of a file's octets.
 pub(crate) const FILE_FORMS: &[(&str, Form)] = &[
     ("hex", Form::Hex),
     ("text", Form::Value(Kind::Text)),
 ];
 
 impl Kind {
-    /// The word for it.
+    /// The word for the kind.
     pub fn word(self) -> &'static str {
         match self {
             Kind::Null => "null",

@@ -1,4 +1,4 @@
-//! What stands in a document, in place of what was wanted.
+//! What a document has in place of what is expected.
 ghost use Rattle.std.specs.Prelude.{◌≡◌};
 ghost use Rattle.toml.specs.View.{view};
 ghost use Rattle.bac_objects.specs.Reading.{given_of, in_place};
@@ -6,7 +6,7 @@ ghost use Rattle.bac_objects.specs.Reading.{given_of, in_place};
 use crate::problem::{Given, Problem, Wanted};
 use toml::Value;
 
-/// What a value is.
+/// The form of a TOML value.
 fn given(value: &Value) -> Given
     ensures { result ≡ given_of (view value.now) }
 {
@@ -21,7 +21,7 @@ fn given(value: &Value) -> Given
     }
 }
 
-/// A value in place of what was wanted.
+/// The problem of a value in place of what is expected.
 pub(crate) fn in_place(wanted: Wanted, value: &Value) -> Problem
     ensures { result ≡ in_place wanted (view value.now) }
 {

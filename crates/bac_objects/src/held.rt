@@ -1,4 +1,4 @@
-//! How values are given: in a table, under the word of their kind, with a mark beside them.
+//! Values in a document: a table with the value under the word of its form, and a flag.
 ghost use Rattle.std.specs.Prelude.{◌≡◌};
 ghost use Rattle.std.specs.Option.{option_map};
 ghost use Rattle.bac_value.specs.Steps.{ReadsAll};
@@ -12,7 +12,7 @@ use crate::problem::{Given, Problem, Wanted};
 use crate::scalars::{boolean, table};
 use toml::{Table, Value};
 
-/// A value that is given by a word.
+/// A value and the form that its word stands for.
 #[derive(Clone, Copy)]
 pub(crate) struct Held<'a> {
     pub(crate) form: Form,
@@ -20,7 +20,7 @@ pub(crate) struct Held<'a> {
     pub(crate) writable: bool,
 }
 
-/// What stands at a key.
+/// The value of a key.
 pub(crate) fn member<'a>(table: &'a Table, key: &str) -> Option<&'a Value>
     ensures { option_map (λ v. view v.now) result ≡ get_member key.now (table_view table.now) }
 {
@@ -34,7 +34,7 @@ pub(crate) fn count(table: &Table) -> usize
     table.len()
 }
 
-/// What stands under the first of some words that is a key.
+/// The value under the first of some words that is a key.
 #[tactic(auto, using(crate::proofs::Tables::found_next))]
 fn found_in<'a>(rows: &[(&str, Form)], table: &'a Table) -> Option<(Form, &'a Value)>
     ensures { option_map (λ f. (f.0, view f.1.now)) result ≡ found_of (plain rows.now) (table_view table.now) }
@@ -56,7 +56,7 @@ fn is_writable(mark: Option<&Value>) -> Result<bool, Problem>
     }
 }
 
-/// What stands under one of some words.
+/// The value under one of some words.
 fn found<'a>(rows: &[(&str, Form)], table: &'a Table) -> Result<(Form, &'a Value), Problem>
     ensures { ReadsAll (λ f. (f.0, view f.1.now)) result (or_nothing (found_of (plain rows.now) (table_view table.now))) }
 {
@@ -69,7 +69,7 @@ fn found<'a>(rows: &[(&str, Form)], table: &'a Table) -> Result<(Form, &'a Value
     }
 }
 
-/// A value where there is no key but its word and the mark.
+/// Checks that there are no keys but the word and the flag.
 fn alone(is_marked: bool, keys: usize, held: Held<'_>) -> Result<Held<'_>, Problem>
     ensures { ReadsAll held_view result (alone_of is_marked keys (held_view held.entry)) }
 {
@@ -98,7 +98,7 @@ fn held_by<'a>(rows: &[(&str, Form)], table: &'a Table) -> Result<Held<'a>, Prob
     alone(mark.is_some(), count(table), held)
 }
 
-/// The words for values of a property.
+/// The words for the values of a property.
 fn forms() -> &'static [(&'static str, Form)]
     ensures { plain result.now ≡ ROWS }
 {
@@ -112,14 +112,14 @@ fn file_forms() -> &'static [(&'static str, Form)]
     FILE_FORMS
 }
 
-/// The value that is given for a property.
+/// The value in the table of a property.
 pub(crate) fn held_values(value: &Value) -> Result<Held<'_>, Problem>
     ensures { ReadsAll held_view result (held_in ROWS (view value.now)) }
 {
     held_by(forms(), table(Wanted::Value, value)?)
 }
 
-/// The octets that are given for a file.
+/// The octets in the table of a file.
 pub(crate) fn held_file(value: &Value) -> Result<Held<'_>, Problem>
     ensures { ReadsAll held_view result (held_in FILE_ROWS (view value.now)) }
 {

@@ -12,7 +12,7 @@ use bac_value::ObjectIdentifier;
 use bac_value_text::object_type_number;
 use toml::{Table, Value};
 
-/// The type of a name.
+/// The object type with this name.
 #[tactic(auto, unfolding(crate::specs::Identifiers::named))]
 fn named(wanted: Wanted, name: &str) -> Result<u64, Problem>
     ensures is { result ≡ named_of wanted name.now }
@@ -37,7 +37,7 @@ fn type_in(wanted: Wanted, value: &Value) -> Result<u64, Problem>
     }
 }
 
-/// What stands at `type`.
+/// The type under the key `type`.
 pub(crate) fn the_type(wanted: Wanted, table: &Table) -> Result<u64, Problem>
     ensures is { result ≡ the_type_of wanted (table_view table.now) }
     ensures within { IfOk result (λ n. n ≤ 1023) }
@@ -51,7 +51,7 @@ pub(crate) fn the_type(wanted: Wanted, table: &Table) -> Result<u64, Problem>
     }
 }
 
-/// What stands at `instance`.
+/// The instance under the key `instance`.
 pub(crate) fn the_instance(most: u64, wanted: Wanted, table: &Table) -> Result<u64, Problem>
     ensures is { result ≡ instance_of most wanted (table_view table.now) }
     ensures within { IfOk result (λ n. n ≤ most) }
@@ -65,7 +65,7 @@ pub(crate) fn the_instance(most: u64, wanted: Wanted, table: &Table) -> Result<u
     }
 }
 
-/// An identifier of any type and instance; nothing stands beside them.
+/// An identifier with any type and instance, in a table without other keys.
 #[tactic(auto, unfolding(crate::specs::Identifiers::identifier_of))]
 pub(crate) fn identifier_in(value: &Value) -> Result<ObjectIdentifier, Problem>
     ensures { ReadsAll object_identifier_view result (identifier_of (view value.now)) }

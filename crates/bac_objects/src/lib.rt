@@ -1,4 +1,4 @@
-//! Objects from a document: TOML text that says which objects a store has.
+//! Reads the objects of a store from a TOML document.
 #![tactic(auto)]
 
 mod bits;

@@ -28,10 +28,10 @@ use toml::{Table, Value};
 /// The object type file.
 const FILE: u16 = 10;
 
-/// The most octets of a name: its spelling has five more.
+/// The greatest length of a name in octets: its encoding takes five more.
 const NAME_LIMIT: usize = 4091;
 
-/// What is wrong at a key of an object.
+/// The fault at a key of an object.
 fn at<'a>(id: Option<ObjectIdentifier>, key: &'a str, fault: ValueFault) -> ObjectFault<'a>
     ensures { IsAt (option_map object_identifier_view id) key.now fault result }
 {
@@ -41,7 +41,7 @@ fn at<'a>(id: Option<ObjectIdentifier>, key: &'a str, fault: ValueFault) -> Obje
     }
 }
 
-/// A type that a store can have.
+/// An object type that a store supports.
 fn served(kind: u64) -> Result<u16, Problem>
     ensures is { result ≡ served_type kind }
     ensures within { IfOk result (λ k. k < 1024) }
@@ -56,7 +56,7 @@ fn served(kind: u64) -> Result<u16, Problem>
     }
 }
 
-/// The type of an object.
+/// Reads the type of an object.
 fn kind_in(table: &Table) -> Result<u16, Problem>
     ensures is { result ≡ kind_of (table_view table.now) }
     ensures within { IfOk result (λ k. k < 1024) }
@@ -65,7 +65,7 @@ fn kind_in(table: &Table) -> Result<u16, Problem>
     served(the_type(Wanted::ServedType, table)?)
 }
 
-/// The type and the instance of an object.
+/// Reads the type and the instance of an object.
 #[tactic(auto, unfolding(crate::specs::Objects::identifier_in))]
 fn identifier_in<'a>(table: &Table) -> Result<ObjectIdentifier, ObjectFault<'a>>
     ensures is { ReadsObject object_identifier_view result (identifier_of (table_view table.now)) }
@@ -84,7 +84,7 @@ fn identifier_in<'a>(table: &Table) -> Result<ObjectIdentifier, ObjectFault<'a>>
     }
 }
 
-/// Whether some objects have one of that identifier.
+/// Whether one of some objects has this identifier.
 #[tactic(auto, using(crate::proofs::Identifiers::id_next))]
 fn has_id(id: ObjectIdentifier, objects: &[Object]) -> bool
     ensures { result ≡ has_id_in (object_identifier_view id) (map object_view objects.now) }
@@ -97,7 +97,7 @@ fn has_id(id: ObjectIdentifier, objects: &[Object]) -> bool
     false
 }
 
-/// The type and the instance of an object after some that have others.
+/// Reads the type and the instance of an object, which no earlier object may have.
 fn own_identifier<'a>(done: &[Object], table: &Table) -> Result<ObjectIdentifier, ObjectFault<'a>>
     ensures is { ReadsObject object_identifier_view result (own_identifier_of (map object_view done.now) (table_view table.now)) }
     ensures right { IfOk result (λ i. IsTrue (is_right_id (object_identifier_view i))) }
@@ -117,7 +117,7 @@ fn own_identifier<'a>(done: &[Object], table: &Table) -> Result<ObjectIdentifier
     Ok(id)
 }
 
-/// The name of an object.
+/// Reads the name of an object.
 #[tactic(auto, using(bac_store::proofs::ValueData::name_fits))]
 fn name_in(alloc: Global, table: &Table) -> Result<String, ValueFault>
     ensures is { Reads string_bytes result (name_of (table_view table.now)) }
@@ -139,7 +139,7 @@ fn name_in(alloc: Global, table: &Table) -> Result<String, ValueFault>
     Ok(String::from_str(alloc, name)?)
 }
 
-/// What a file holds; None of all other objects.
+/// Reads the contents of a file; None for all other objects.
 fn file_of(alloc: Global, kind: u16, table: &Table) -> Result<Option<File>, ValueFault>
     ensures is { Reads (option_map file_view) result (file_in_members kind (table_view table.now)) }
     ensures right { IfOk result (λ f. IsTrue (is_right_file kind (option_map file_view f))) }
@@ -156,14 +156,14 @@ fn file_of(alloc: Global, kind: u16, table: &Table) -> Result<Option<File>, Valu
     Ok(Some(file_in(alloc, value)?))
 }
 
-/// Whether a key is no property.
+/// Whether a key is not that of a property.
 fn is_reserved(kind: u16, key: &str) -> bool
     ensures { result ≡ is_kept kind key.now }
 {
     key == "type" || key == "instance" || key == "name" || (kind == FILE && key == "file")
 }
 
-/// The properties with one more, where the key is one.
+/// The properties, with one more if the key is that of a property.
 fn with_property<'a>(
     alloc: Global,
     id: ObjectIdentifier,
@@ -187,7 +187,7 @@ fn with_property<'a>(
     Ok(properties)
 }
 
-/// The properties of an object, in the order of their keys.
+/// Reads the properties of an object, in the order of their keys.
 fn properties_in<'a>(
     alloc: Global,
     id: ObjectIdentifier,
@@ -231,7 +231,7 @@ fn object_with<'a>(
     })
 }
 
-/// The object that a table means, after some that are read.
+/// Reads an object from its table, after the earlier objects.
 #[tactic(auto, unfolding(crate::specs::Objects::object_of))]
 pub(crate) fn object_in<'a>(
     alloc: Global,

@@ -1,7 +1,7 @@
-//! Bits on their way into octets.
+//! Bits that are being packed into octets.
 ghost use Rattle.std.specs.Prelude.{◌≤◌, ◌+◌, ◌*◌};
 
-/// Whole octets, and one that takes so many more bits.
+/// Whole octets, and a last octet with room for `left` more bits.
 #[derive(Drop)]
 pub(crate) struct Packing {
     pub(crate) octets: Vec<u8>,

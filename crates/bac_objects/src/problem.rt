@@ -2,14 +2,14 @@
 use crate::form::Kind;
 use std::fmt;
 
-/// What a key has to have.
+/// What is expected at a key.
 #[derive(Clone, Copy, Debug, PartialEq, Eq)]
 pub enum Wanted {
-    /// The document has one key, `object`, with a list of tables.
+    /// The document has only the key `object`, with a list of tables.
     Objects,
     /// An object is a table.
     Table,
-    /// A type that an object of a store can have, by its name or its number.
+    /// An object type that a store supports, by its name or its number.
     ServedType,
     /// Any object type, by its name or its number from 0 to 1,023.
     ObjectType,
@@ -17,33 +17,33 @@ pub enum Wanted {
     Instance,
     /// Any instance: 0 to 4,194,303.
     AnyInstance,
-    /// A type and an instance that no earlier object has.
+    /// A type and an instance that together differ from those of earlier objects.
     OwnIdentifier,
     /// A text.
     Text,
-    /// A text whose spelling has at most 4,096 octets.
+    /// A text whose encoding has at most 4,096 octets.
     ShortName,
-    /// A property that can be listed: description, present-value, or one of vendors' own by its number from 512 to 4,194,303.
+    /// A property that can be listed: description, present-value, or a proprietary one by its number from 512 to 4,194,303.
     Property,
-    /// A property that the object does not have yet.
+    /// A property that the object does not have so far.
     OwnProperty,
-    /// A table with a value by its kind.
+    /// A table with a value under the word of its kind.
     Value,
     /// One value and no other key but `writable`.
     OneValue,
-    /// A mark: `writable = true` or `writable = false`.
+    /// A flag: `writable = true` or `writable = false`.
     Mark,
     /// `true`.
     True,
     /// `true` or `false`.
     Boolean,
-    /// An integer from 0 on.
+    /// An integer of at least 0.
     Unsigned,
     /// An integer.
     Integer,
     /// A number with a point or an exponent, or inf or nan.
     Float,
-    /// A number that does not become infinite in 32 bits.
+    /// A number that is finite in 32 bits.
     Single,
     /// An integer from 0 to 4,294,967,295.
     Enumerated,
@@ -51,7 +51,7 @@ pub enum Wanted {
     Bits,
     /// A text of octets in hexadecimal.
     Hex,
-    /// Octets in hexadecimal that spell data.
+    /// Octets in hexadecimal that encode data.
     Spelling,
     /// A date from 1900 to 2154, without a time.
     Date,
@@ -63,7 +63,7 @@ pub enum Wanted {
     Kind(Kind),
     /// Enumerated 0 or 1, for the present-value of a binary-value.
     State,
-    /// Values whose spelling has at most 4,096 octets.
+    /// Values whose encoding has at most 4,096 octets.
     ShortValue,
     /// The octets of a file.
     File,
@@ -71,7 +71,7 @@ pub enum Wanted {
     ShortFile,
 }
 
-/// What a key has instead.
+/// What is found at a key instead.
 #[derive(Clone, Copy, Debug, PartialEq, Eq)]
 pub enum Given {
     Nothing,
@@ -82,19 +82,19 @@ pub enum Given {
     DateTime,
     Array,
     Table,
-    /// Something of the right form, and none of those that are wanted.
+    /// Something of the expected form, but not one of the expected values.
     Other,
-    /// More than is wanted.
+    /// More than is expected.
     More,
-    /// What an earlier key or object has.
+    /// Something that an earlier key or object has too.
     Again,
     /// A value of another kind.
     Kind(Kind),
-    /// A spelling of other values.
+    /// An encoding of other values.
     Hex,
 }
 
-/// What was wanted, and what was given.
+/// What is expected at a key, and what is found.
 #[derive(Clone, Copy, Debug, PartialEq, Eq)]
 pub struct Problem {
     pub wanted: Wanted,

@@ -1,7 +1,5 @@
 //! The properties and the file of an object (clause 12).
 ghost use Rattle.std.specs.Prelude.{◌≡◌, ◌≤◌, IfOk, IsTrue, false, length, map};
-ghost use Rattle.bac_value_text.specs.Names.{number_in as named_number};
-ghost use Rattle.bac_value_text.specs.Properties.{PROPERTIES};
 ghost use Rattle.bac_value.specs.Reading.{data_of};
 ghost use Rattle.bac_value.specs.Steps.{ReadsAll};
 ghost use Rattle.bac_value.specs.Views.{value_view};
@@ -12,7 +10,7 @@ ghost use Rattle.bac_store.specs.Stores.{is_state as is_state_in, kind_of as kin
 ghost use Rattle.bac_store.specs.Views.{file_view, property_view};
 ghost use Rattle.toml.specs.View.{view};
 ghost use Rattle.bac_objects.specs.Answers.{Reads};
-ghost use Rattle.bac_objects.specs.Properties.{content_of, file_of, given_as as given_by, has_number as has_number_in, numbered as numbered_of, or_numbered};
+ghost use Rattle.bac_objects.specs.Properties.{content_of, file_of, given_as as given_by, has_number as has_number_in};
 ghost use Rattle.bac_objects.specs.Properties.{own_property as own_property_of, property_number as number_of, property_of, right_at as right_of, spelling_of};
 ghost use Rattle.bac_objects.specs.Properties.{wanted_at as wanted_by, whole_data};
 
@@ -24,7 +22,6 @@ use crate::scalars::text;
 use crate::values::{hex_octets, value_in};
 use bac_store::{FILE_LIMIT, File, Property, VALUE_LIMIT};
 use bac_value::{Class, DataBuf, NoMemory, kinds, take_data, take_element, write_value};
-use bac_value_text::property_number;
 use std::alloc::Global;
 use toml::Value;
 
@@ -34,7 +31,7 @@ const DESCRIPTION: u32 = 28;
 /// The property present-value.
 const PRESENT_VALUE: u32 = 85;
 
-/// The first property of vendors' own (clause 23.1).
+/// The first proprietary property (clause 23.1).
 const FIRST_VENDOR_PROPERTY: u32 = 512;
 
 // object types (BACnetObjectType)
@@ -45,49 +42,18 @@ const ANALOG_VALUE: u16 = 2;
 
 const BINARY_VALUE: u16 = 5;
 
-/// The octet of a tag for an Enumerated of one octet of contents.
+/// The first octet of an Enumerated with one octet of contents: its tag.
 const STATE_TAG: u8 = 0x91;
 
-/// The greatest number of a property: 22 bits.
+/// The last proprietary property: numbers have 22 bits (clause 23.1).
 const LAST_PROPERTY: u32 = 4_194_303;
 
-/// A number in decimal digits.
-fn numbered(key: &[u8]) -> Option<u32>
-    ensures { result ≡ numbered_of key.now }
-{
-    if key.is_empty() {
-        return None;
-    }
-    let mut number = 0;
-    for digit in key {
-        if !digit.is_ascii_digit() {
-            return None;
-        }
-        let next = 10 * number + u32::from(*digit - b'0');
-        if next > LAST_PROPERTY {
-            return None;
-        }
-        number = next;
-    }
-    Some(number)
-}
-
-/// The number of the property that a key names, by its name or its number.
-fn number_in(key: &str) -> Option<u32>
-    ensures { result ≡ or_numbered key.now (named_number PROPERTIES key.now) }
-{
-    match property_number(key) {
-        Some(number) => Some(number),
-        None => numbered(key.as_bytes()),
-    }
-}
-
-/// The same of one that can be listed.
+/// The number of the listed property that a key identifies by its name or its number.
 fn listed_number(key: &str) -> Result<u32, Problem>
     ensures is { result ≡ number_of key.now }
     ensures right { IfOk result (λ n. IsTrue (is_right_number n)) }
 {
-    match number_in(key) {
+    match bac_value_text::property_in(key.as_bytes()) {
         Some(number @ (DESCRIPTION | PRESENT_VALUE | FIRST_VENDOR_PROPERTY..=LAST_PROPERTY)) => {
             Ok(number)
         }
@@ -98,7 +64,7 @@ fn listed_number(key: &str) -> Result<u32, Problem>
     }
 }
 
-/// A value as data: its one spelling.
+/// A value encoded as data.
 fn spelled(alloc: Global, value: &bac_value::Value) -> Result<DataBuf, NoMemory>
     ensures { IfOk result (λ d. d.octets.items ≡ value_spelling (value_view value.now)) }
 {
@@ -107,7 +73,7 @@ fn spelled(alloc: Global, value: &bac_value::Value) -> Result<DataBuf, NoMemory>
     Ok(DataBuf { octets })
 }
 
-/// Octets that spell data as a whole.
+/// The octets as data, if they encode data as a whole.
 fn data_in(octets: Vec<u8>) -> Result<DataBuf, Problem>
     ensures { ReadsAll (λ d. d.octets.items) result (whole_data octets.items (data_of octets.items)) }
 {
@@ -120,7 +86,7 @@ fn data_in(octets: Vec<u8>) -> Result<DataBuf, Problem>
     }
 }
 
-/// The values that are given.
+/// Reads the values in a form.
 fn values_in(alloc: Global, form: Form, value: &Value) -> Result<DataBuf, ValueFault>
     ensures { Reads (λ d. d.octets.items) result (spelling_of form (view value.now)) }
 {
@@ -136,7 +102,7 @@ fn values_in(alloc: Global, form: Form, value: &Value) -> Result<DataBuf, ValueF
     }
 }
 
-/// The application tag of data that are one element; None where they are not one.
+/// The application tag of data that consist of one element; None for all other data.
 fn kind_of(values: &[u8]) -> Option<u8>
     ensures { result ≡ kind_in values.now }
 {
@@ -159,7 +125,7 @@ fn is_state(values: &[u8]) -> bool
     }
 }
 
-/// Whether values are those that a type of object has at a property.
+/// Whether values are valid for a property of an object of this type.
 fn are_right_values(kind: u16, number: u32, values: &[u8]) -> bool
     ensures { result ≡ are_right kind number values.now }
 {
@@ -171,7 +137,7 @@ fn are_right_values(kind: u16, number: u32, values: &[u8]) -> bool
     }
 }
 
-/// What a type of object has at a property.
+/// What is expected as values of a property of an object of this type.
 fn wanted_at(kind: u16, number: u32) -> Wanted
     ensures { result ≡ wanted_by kind number }
 {
@@ -193,7 +159,7 @@ fn given_as(form: Form) -> Given
     }
 }
 
-/// Values that are few enough, and those of the property.
+/// Checks that values are not too long, and valid for the property.
 fn right_at(kind: u16, number: u32, form: Form, values: DataBuf) -> Result<DataBuf, Problem>
     ensures is { ReadsAll (λ d. d.octets.items) result (right_of kind number form values.octets.items) }
     ensures short { IfOk result (λ d. length d.octets.items ≤ VALUE_MOST) }
@@ -214,7 +180,7 @@ fn right_at(kind: u16, number: u32, form: Form, values: DataBuf) -> Result<DataB
     Ok(values)
 }
 
-/// The property of an object of a type.
+/// Reads the property of an object of this type.
 #[tactic(auto, unfolding(crate::specs::Properties::property_of))]
 fn property_in(alloc: Global, kind: u16, key: &str, value: &Value) -> Result<Property, ValueFault>
     ensures is { Reads property_view result (property_of kind key.now (view value.now)) }
@@ -231,7 +197,7 @@ fn property_in(alloc: Global, kind: u16, key: &str, value: &Value) -> Result<Pro
     })
 }
 
-/// Whether some properties have one of that number.
+/// Whether one of some properties has this number.
 #[tactic(auto, using(crate::proofs::Numbers::number_next))]
 fn has_number(number: u32, properties: &[Property]) -> bool
     ensures { result ≡ has_number_in number (map property_view properties.now) }
@@ -244,7 +210,7 @@ fn has_number(number: u32, properties: &[Property]) -> bool
     false
 }
 
-/// The property of an object of a type that has some already.
+/// Reads a property of an object of this type, which the object may not have already.
 pub(crate) fn own_property(
     alloc: Global,
     kind: u16,
@@ -278,7 +244,7 @@ fn content_in(alloc: Global, form: Form, value: &Value) -> Result<Vec<u8>, Value
     }
 }
 
-/// What a file holds.
+/// Reads the contents of a file.
 #[tactic(auto, unfolding(crate::specs::Properties::file_of))]
 pub(crate) fn file_in(alloc: Global, value: &Value) -> Result<File, ValueFault>
     ensures is { Reads file_view result (file_of (view value.now)) }

@@ -1,4 +1,4 @@
-//! Values of a document by their type.
+//! TOML values by their types.
 ghost use Rattle.std.specs.Prelude.{◌≡◌, ◌≤◌, IfOk};
 ghost use Rattle.bac_value.specs.Steps.{ReadsAll};
 ghost use Rattle.toml.specs.View.{view, array_view, table_view};
@@ -72,7 +72,7 @@ pub(crate) fn table(wanted: Wanted, value: &Value) -> Result<&Table, Problem>
     }
 }
 
-/// An integer from 0 to that.
+/// An integer from 0 to `most`.
 #[tactic(auto, unfolding(crate::specs::Reading::number_up_to))]
 pub(crate) fn number_up_to(most: u64, wanted: Wanted, value: &Value) -> Result<u64, Problem>
     ensures is { result ≡ number_up_to most wanted (view value.now) }

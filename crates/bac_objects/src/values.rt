@@ -1,4 +1,4 @@
-//! A value under the word of its kind (clause 20.2).
+//! Reading a value under the word of its kind (clause 20.2).
 ghost use Rattle.std.specs.Prelude.{◌≡◌};
 ghost use Rattle.bac_value.specs.Steps.{ReadsAll};
 ghost use Rattle.bac_value.specs.Views.{value_view};
@@ -33,7 +33,7 @@ const TOO_LONG: Problem = Problem {
     given: Given::More,
 };
 
-/// Null is given as `true`.
+/// Null is written as `true`.
 fn null(value: &toml::Value) -> Result<Value, Problem>
     ensures { ReadsAll value_view result (null_of (view value.now)) }
 {
@@ -70,7 +70,7 @@ fn enumerated(value: &toml::Value) -> Result<Value, Problem>
     Ok(Value::Enumerated(number as u32))
 }
 
-/// The float of 32 bits that is nearest to TOML's of 64; one pattern stands for all that are no number. A finite one does not become infinite.
+/// The float of 32 bits that is nearest to TOML's of 64 bits, with one pattern for all NaN. A finite number must not become infinite.
 fn real(value: &toml::Value) -> Result<Value, Problem>
     ensures { ReadsAll value_view result (real_of (view value.now)) }
 {
@@ -172,7 +172,7 @@ fn object(value: &toml::Value) -> Result<Value, Problem>
     Ok(Value::ObjectIdentifier(identifier_in(value)?))
 }
 
-/// A value of a kind.
+/// Reads a value of a kind.
 pub(crate) fn value_in(alloc: Global, kind: Kind, value: &toml::Value) -> Result<Value, ValueFault>
     ensures { Reads value_view result (value_of kind (view value.now)) }
 {

@@ -14,9 +14,8 @@ use Rattle.bac_protocol.specs.Server.{ServerTransaction, Service}
 use Rattle.bac_npdu.specs.Peers.{PeerView}
 use Rattle.bac_store.specs.Stores.{Store}
 use Rattle.bac_value.specs.declared.memory.NoMemory.{NoMemory}
-use Rattle.bac_responder.specs.Reactions.{IdleReacts, BeginsAt}
-use Rattle.bac_responder.specs.declared.reaction.IdleReaction.{IdleReaction}
-use Rattle.bac_responder.specs.declared.reaction.IdleReaction.TheVariants.{Stays, Begins}
+use Rattle.bac_responder.specs.Reactions.{IdleReacts, BeginsAt, BeginsWith, IsBegunAt}
+use Rattle.bac_responder.specs.declared.performed.Performed.{Performed}
 
 abbrev HasBegun : ℕ → Option ServerTransaction → Type 0
 HasBegun now None = Unit {0}
@@ -68,8 +67,11 @@ module _ (c : Context) (service : Service) where
   begins_now : (free : Bool) (a : Apdu) (d : ServerTransaction) → (server.idle_on_apdu c service None free a).entry ≡ Some d → d.begin ≡ c.now
   begins_now free a d is = subst (λ (o : Option ServerTransaction). HasBegun c.now o) is (idle_begun free a)
 
-  pub idle_begins_now : (peer : PeerView) (s t : Store) (free : Bool) (a : Apdu) (r : Result IdleReaction NoMemory)
+  pub idle_begins_now : (peer : PeerView) (s t : Store) (free : Bool) (a : Apdu) (r : Result (Performed × Option ServerTransaction) NoMemory)
       → IdleReacts (λ dead. server.idle_on_apdu c service dead free a) peer s r t → BeginsAt c.now r
-  idle_begins_now peer s t free a (Ok (Stays sends)) does = tt
-  idle_begins_now peer s t free a (Ok (Begins x)) does = begins_now free a x.entry (does None).entry_is
+  idle_begins_now peer s t free a (Ok x) does = go x.0 x.1 does
+    where
+      go : (p : Performed) (o : Option ServerTransaction) → BeginsWith (λ dead. server.idle_on_apdu c service dead free a) peer s p o t → IsBegunAt c.now o
+      go p None does = tt
+      go p (Some e) does = begins_now free a e (does None).entry_is
   idle_begins_now peer s t free a (Err e) does = tt

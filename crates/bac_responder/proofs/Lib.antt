@@ -9,4 +9,4 @@ pub mod Takings
 pub mod Copies
 pub mod Same
 pub mod Begun
-pub mod Standing
+pub mod Rests

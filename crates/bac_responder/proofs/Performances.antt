@@ -1,5 +1,8 @@
 -- A performance that was prepared and committed is what the machine says.
 use Rattle.std.proofs.Common.{◌≡◌, ℕ, Bool, true, false, List, [], ◌∷◌, ◌++◌, Option, Some, None, Result, Ok, Err, refl, ap, sym, subst, ◌∙◌, if◌then◌else◌}
+use Rattle.std.specs.Global.{Vec}
+use Rattle.std.specs.Prelude.{IfOk}
+use Rattle.bac_value.specs.declared.memory.NoMemory.{NoMemory}
 use Rattle.bac_apdu.specs.Apdu.{Apdu, Limits}
 use Rattle.bac_npdu.specs.Peers.{PeerView}
 use Rattle.bac_service.specs.Replies as plain
@@ -24,11 +27,11 @@ use Rattle.bac_transaction.specs.Sends.{Datagram, Pairwise, IsSent, to_all}
 use Rattle.bac_transaction.specs.Services.{Performed, ArePerformed, outcome_of, outcome_by, service_of, store_after}
 use Rattle.bac_responder.specs.Reactions.{IsReaction}
 use Rattle.bac_responder.specs.Reading.{IsRead}
-use Rattle.bac_responder.specs.TransactionViews.{state_view}
-use Rattle.bac_responder.specs.Preparing.{sent_by, state_by, is_performed, Waits, IsPrepared, IsCommitted, CanCommit}
-use Rattle.bac_responder.specs.Preparing.{IsNoReject, IsSpelledReply}
-use Rattle.bac_responder.specs.declared.preparing.Pending.{Pending}
-use Rattle.bac_responder.specs.declared.preparing.Prepared.{Prepared}
+use Rattle.bac_responder.specs.TransactionViews.{IsSendable, state_view}
+use Rattle.bac_responder.specs.Preparing.{sent_by, state_by, is_performed, Waits, IsReplyPrepared, IsPrepared, IsCommitted, CanCommit}
+use Rattle.bac_responder.specs.Preparing.{IsKeptApdu, IsNoReject, IsPending, IsSentByWay, IsReady, IsRejected, IsSpelledReply}
+use Rattle.bac_responder.specs.declared.replying.Commit.{Commit}
+use Rattle.bac_responder.specs.declared.replying.PreparedReply.{PreparedReply}
 use Rattle.bac_transaction.proofs.Pieces.{one_more_sent}
 
 sends_reply_is : (c : Context) (e : ServerTransaction) (before : List Apdu) (octets : Octets) (reply : Reply) (way : Way ℕ) → sends_reply c e before octets reply way
@@ -69,18 +72,18 @@ store_means s r reply = means (choice_of r) (reply_to s r) reply (replies_fit s 
 
 -- What waits can be committed.
 
-waits_commits : (performed : Bool) (s : Store) (r : Request) (reply : Reply) (p : Option Pending) → Waits performed s r reply p → CanCommit s p
+waits_commits : (performed : Bool) (s : Store) (r : Request) (reply : Reply) (p : Option Commit) → Waits performed s r reply p → CanCommit s p
 waits_commits true s r reply (Some p) w = subst (λ (q : Request). IsPlanFor s q p.plan) (sym w.request) w.plan
 waits_commits true s r reply None w = tt
 waits_commits false s r reply (Some p) w = absurd w
 waits_commits false s r reply None w = tt
 
-pub prepared_commits : (c : Context) (peer : PeerView) (choice : ℕ) (limits : Limits) (s : Store) (found : Result Request ℕ) (x : Prepared)
-    → IsPrepared c peer choice limits s found x → CanCommit s x.pending
-prepared_commits c peer choice limits s (Ok r) x p = waits_commits _ s r p.reply x.pending p.pending
-prepared_commits c peer choice limits s (Err reason) x p = rw p.pending tt
+pub prepared_commits : (c : Context) (peer : PeerView) (choice : ℕ) (limits : Limits) (s : Store) (found : Result Request ℕ) (before : List Apdu)
+    (x : PreparedReply) → IsPrepared c peer choice limits s found before x → CanCommit s x.commit
+prepared_commits c peer choice limits s (Ok r) before x p = waits_commits _ s r p.reply x.commit p.pending
+prepared_commits c peer choice limits s (Err reason) before x p = rw p.pending tt
 
-effect_is : (performed : Bool) (s : Store) (r : Request) (e : ServerTransaction) (octets : Octets) (reply : Reply) (p : Option Pending) (q : Option Performed)
+effect_is : (performed : Bool) (s : Store) (r : Request) (e : ServerTransaction) (octets : Octets) (reply : Reply) (p : Option Commit) (q : Option Performed)
     → SpellsRequest e.choice r octets → Waits performed s r reply p → IsCommitted s p q
     → ArePerformed s (if performed then effect_of e octets reply else None) q
 effect_is true s r e octets reply (Some p) q spells w k =
@@ -95,32 +98,90 @@ effect_is true s r e octets reply None q spells w k = absurd w
 effect_is false s r e octets reply (Some p) q spells w k = absurd w
 effect_is false s r e octets reply None q spells w k = rw k tt
 
-pub performed : (c : Context) (peer : PeerView) (e : ServerTransaction) (before : List Apdu) (octets : Octets) (s : Store) (found : Result Request ℕ) (x : Prepared)
-    (entry : ServerTransaction) (front sent : List Datagram) (q : Option Performed) (t : Store)
-    → IsRead e.choice octets found → IsPrepared c peer e.choice e.limits s found x
-    → Pairwise IsSent (to_all peer before) front → sent ≡ front ++ x.last ∷ []
-    → entry ≡ record e { state = state_view e.choice x.state } → IsCommitted s x.pending q → t ≡ store_after s q
-    → IsReaction (performs c (service_of s) e before octets) peer s entry sent q t
-performed c peer e before octets s (Ok r) x entry front sent q t read ready pairs is same committed after =
+pub performed : (c : Context) (peer : PeerView) (e : ServerTransaction) (before : List Apdu) (octets : Octets) (s : Store) (found : Result Request ℕ)
+    (x : PreparedReply) (entry : ServerTransaction) (q : Option Performed) (t : Store)
+    → IsRead e.choice octets found → IsPrepared c peer e.choice e.limits s found before x
+    → entry ≡ record e { state = state_view e.choice x.state } → IsCommitted s x.commit q → t ≡ store_after s q
+    → IsReaction (performs c (service_of s) e before octets) peer s entry x.sends.items q t
+performed c peer e before octets s (Ok r) x entry q t read ready same committed after =
     let way : Way ℕ = reply_way_of c.settings e.limits ready.reply in
     let outcome : service_of s e.choice octets ≡ Replies ready.reply = ap (outcome_by s) read.read ∙ ready.outcome in
     let all = ap (performs_so c e before octets) outcome ∙ sends_reply_is c e before octets ready.reply way in
-    subst (λ (v : server.Reaction). IsReaction v peer s entry sent q t) (sym all) (record {
-      entry_is = ap (λ (z : State). Some (record e { state = z })) (sym ready.placed.viewed) ∙ ap (λ (z : ServerTransaction). Some z) (sym same);
-      sends = subst (λ (l : List Datagram). Pairwise IsSent (to_all peer (before ++ sent_by c e.choice ready.reply way ∷ [])) l) (sym is)
-          (one_more_sent peer before front (sent_by c e.choice ready.reply way) x.last pairs ready.placed.sent);
-      effect = effect_is (is_performed way) s r e octets ready.reply x.pending q read.spelled ready.pending committed;
+    subst (λ (v : server.Reaction). IsReaction v peer s entry x.sends.items q t) (sym all) (record {
+      entry_is = ap (λ (z : State). Some (record e { state = z })) (sym ready.prepared.viewed) ∙ ap (λ (z : ServerTransaction). Some z) (sym same);
+      sends = ready.prepared.sent;
+      effect = effect_is (is_performed way) s r e octets ready.reply x.commit q read.spelled ready.pending committed;
       store = after;
     })
-performed c peer e before octets s (Err reason) x entry front sent q t read ready pairs is same committed after =
+performed c peer e before octets s (Err reason) x entry q t read ready same committed after =
     let outcome : service_of s e.choice octets ≡ Rejects reason = ap (outcome_by s) read.read in
     let all = ap (performs_so c e before octets) outcome in
-    subst (λ (v : server.Reaction). IsReaction v peer s entry sent q t) (sym all) (record {
-      entry_is = ap (λ (z : State). Some (record e { state = z })) (sym ready.placed.viewed) ∙ ap (λ (z : ServerTransaction). Some z) (sym same);
-      sends = subst (λ (l : List Datagram). Pairwise IsSent (to_all peer (before ++ Apdu.Reject c.invoke_id reason ∷ [])) l) (sym is)
-          (one_more_sent peer before front (Apdu.Reject c.invoke_id reason) x.last pairs ready.placed.sent);
+    subst (λ (v : server.Reaction). IsReaction v peer s entry x.sends.items q t) (sym all) (record {
+      entry_is = ap (λ (z : State). Some (record e { state = z })) (sym ready.prepared.viewed) ∙ ap (λ (z : ServerTransaction). Some z) (sym same);
+      sends = ready.prepared.sent;
       effect =
-          (let none : q ≡ None = subst (λ (o : Option Pending). IsCommitted s o q) ready.pending committed in
+          (let none : q ≡ None = subst (λ (o : Option Commit). IsCommitted s o q) ready.pending committed in
           subst (λ (o : Option Performed). ArePerformed s None o) (sym none) tt);
       store = after;
     })
+
+-- After the SegmentACK of the last segment.
+
+sent_after : (peer : PeerView) (before : List Apdu) (a : Apdu) (front last all : List Datagram) → Pairwise IsSent (to_all peer before) front
+    → Pairwise IsSent (to_all peer (a ∷ [])) last → all ≡ front ++ last → Pairwise IsSent (to_all peer (before ++ a ∷ [])) all
+sent_after peer before a front [] all p r is = absurd r
+sent_after peer before a front (d ∷ []) all p r is =
+    subst (λ (l : List Datagram). Pairwise IsSent (to_all peer (before ++ a ∷ [])) l) (sym is) (one_more_sent peer before front a d p r.0)
+sent_after peer before a front (d ∷ d' ∷ last) all p r is = absurd r.1
+
+reply_after : (peer : PeerView) (choice : ℕ) (before : List Apdu) (a : Apdu) (z : State) (x : PreparedReply) (front : List Datagram) (all : Vec Datagram)
+    → Pairwise IsSent (to_all peer before) front → all.items ≡ front ++ x.sends.items → IsReplyPrepared peer choice (a ∷ []) z x
+    → IsReplyPrepared peer choice (before ++ a ∷ []) z (record { state = x.state; sends = all; commit = x.commit })
+reply_after peer choice before a z x front all p is prepared =
+    record {
+      viewed = prepared.viewed;
+      sendable = prepared.sendable;
+      sent = sent_after peer before a front x.sends.items all.items p prepared.sent is;
+    }
+
+pub prepared_after : (c : Context) (peer : PeerView) (choice : ℕ) (limits : Limits) (s : Store) (found : Result Request ℕ) (before : List Apdu)
+    (x : PreparedReply) (front : List Datagram) (all : Vec Datagram) → Pairwise IsSent (to_all peer before) front → all.items ≡ front ++ x.sends.items
+    → IsPrepared c peer choice limits s found [] x → IsPrepared c peer choice limits s found before (record { state = x.state; sends = all; commit = x.commit })
+prepared_after c peer choice limits s (Ok r) before x front all p is ready =
+    record {
+      reply = ready.reply;
+      outcome = ready.outcome;
+      prepared = reply_after peer choice before _ _ x front all p is ready.prepared;
+      pending = ready.pending;
+    }
+prepared_after c peer choice limits s (Err reason) before x front all p is ready =
+    record { prepared = reply_after peer choice before _ _ x front all p is ready.prepared; pending = ready.pending }
+
+-- What is prepared of a request that was read, and of a Reject.
+
+waits : (performs : Bool) (s : Store) (r : Request) (reply : Reply) (p : Commit) (o : Option Commit) → o ≡ (if performs then Some p else None)
+    → IsPending s r reply p → Waits performs s r reply o
+waits true s r reply p o is pending = subst (λ (x : Option Commit). Waits true s r reply x) (sym is) pending
+waits false s r reply p o is pending = subst (λ (x : Option Commit). Waits false s r reply x) (sym is) tt
+
+pub reply_ready : (c : Context) (peer : PeerView) (choice : ℕ) (limits : Limits) (s : Store) (r : Request) (reply : Reply) (p : Commit)
+    → outcome_of (reply_to s r) ≡ Replies reply → IsPending s r reply p → (x : Result PreparedReply NoMemory)
+    → IfOk x (IsSentByWay c peer choice reply (reply_way_of c.settings limits reply) p) → IfOk x (IsReady c peer choice limits s r [])
+reply_ready c peer choice limits s r reply p outcome pending (Ok x) h =
+    record {
+      reply = reply;
+      outcome = outcome;
+      prepared = h.prepared;
+      pending = waits (is_performed (reply_way_of c.settings limits reply)) s r reply p x.commit h.commit pending;
+    }
+reply_ready c peer choice limits s r reply p outcome pending (Err e) h = tt
+
+pub reject_ready : (c : Context) (peer : PeerView) (choice reason : ℕ) (x : Result PreparedReply NoMemory)
+    → IfOk x (IsKeptApdu peer choice (Apdu.Reject c.invoke_id reason) None) → IfOk x (IsRejected c peer choice reason [])
+reject_ready c peer choice reason (Ok x) h = record { prepared = h.prepared; pending = h.commit }
+reject_ready c peer choice reason (Err e) h = tt
+
+pub prepared_sendable : (c : Context) (peer : PeerView) (choice : ℕ) (limits : Limits) (s : Store) (found : Result Request ℕ) (before : List Apdu) (x : PreparedReply)
+    → IsPrepared c peer choice limits s found before x → IsSendable choice x.state
+prepared_sendable c peer choice limits s (Ok r) before x p = p.prepared.sendable
+prepared_sendable c peer choice limits s (Err reason) before x p = p.prepared.sendable

@@ -3,8 +3,8 @@ use Rattle.std.proofs.Common.{◌≡◌, ◌↔◌, ℕ, Bool, true, false, IsTr
 use Rattle.bac_protocol.specs.Server.{ServerTransaction, State}
 use Rattle.bac_protocol.specs.Server.State.{Dropped}
 use Rattle.bac_responder.specs.TransactionViews.{entry_of, entry_view, state_view}
-use Rattle.bac_responder.specs.declared.entry.Origin.{Origin}
-use Rattle.bac_responder.specs.declared.entry.State as code
+use Rattle.bac_responder.specs.declared.server_transaction.Origin.{Origin}
+use Rattle.bac_responder.specs.declared.server_transaction.State as code
 
 module _ (a b : Origin) (s t : code.State) where
   pub by_state : (r : Bool) → ((z : State) → entry_of a z ≡ entry_of b z)

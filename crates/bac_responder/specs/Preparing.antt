@@ -1,5 +1,5 @@
 -- A performance in two steps: what is prepared, and what is committed.
-use Rattle.std.specs.Prelude.{◌≡◌, ℕ, Bool, true, false, Option, Some, None, Result, Ok, Err}
+use Rattle.std.specs.Prelude.{◌≡◌, ℕ, Bool, true, false, List, [], ◌∷◌, ◌++◌, if◌then◌else◌, Option, Some, None, Result, Ok, Err}
 use Rattle.bac_apdu.specs.Apdu.{Apdu, Limits}
 use Rattle.bac_npdu.specs.Peers.{PeerView}
 use Rattle.bac_service.specs.Replies as plain
@@ -18,14 +18,11 @@ use Rattle.bac_protocol.specs.Service.{Reply}
 use Rattle.bac_protocol.specs.Service.Outcome.{Replies}
 use Rattle.bac_protocol.specs.Server.{State, Transfer, reply_apdu, reply_piece, server_abort}
 use Rattle.bac_transaction.specs.Meanings.{MeansReply}
-use Rattle.bac_transaction.specs.Sends as sends
-use Rattle.bac_transaction.specs.Sends.{IsSent, to_peer}
+use Rattle.bac_transaction.specs.Sends.{IsSent, Pairwise, to_all}
 use Rattle.bac_transaction.specs.Services.{Performed, outcome_of}
 use Rattle.bac_responder.specs.TransactionViews.{state_view, IsSendable}
-use Rattle.bac_responder.specs.declared.entry.State as code
-use Rattle.bac_responder.specs.declared.preparing.Pending.{Pending}
-use Rattle.bac_responder.specs.declared.preparing.Prepared.{Prepared}
-use Rattle.bac_responder.specs.declared.placing.Placed.{Placed}
+use Rattle.bac_responder.specs.declared.replying.Commit.{Commit}
+use Rattle.bac_responder.specs.declared.replying.PreparedReply.{PreparedReply}
 
 -- what is sent, which state follows, and whether the request is performed, by the way of its reply
 abbrev pub sent_by : Context → (choice : ℕ) → Reply → Way ℕ → Apdu
@@ -43,49 +40,49 @@ is_performed InOne = true
 is_performed (InSegments pieces) = true
 is_performed (Refused reason) = false
 
--- a state as the machine has it, which keeps only what can be sent, and the datagram of that APDU
-pub record IsPlacedAt (peer : PeerView) (choice : ℕ) (a : Apdu) (z : State) (state : code.State) (last : sends.Datagram) : Type 0 where
-  pub viewed : state_view choice state ≡ z
-  pub sendable : IsSendable choice state
-  pub sent : IsSent (to_peer peer a) last
+-- a state as the machine has it, which keeps only what can be sent, and the datagrams of these APDUs
+pub record IsReplyPrepared (peer : PeerView) (choice : ℕ) (apdus : List Apdu) (z : State) (x : PreparedReply) : Type 0 where
+  pub viewed : state_view choice x.state ≡ z
+  pub sendable : IsSendable choice x.state
+  pub sent : Pairwise IsSent (to_all peer apdus) x.sends.items
 
--- a reply by its way
-pub record IsPlaced (c : Context) (peer : PeerView) (choice : ℕ) (reply : Reply) (way : Way ℕ) (x : Placed) : Type 0 where
-  pub placed : IsPlacedAt peer choice (sent_by c choice reply way) (state_by c choice reply way) x.state x.last
-  pub performed : x.performed ≡ is_performed way
+-- a reply by its way; where it can't be sent, nothing is performed
+pub record IsSentByWay (c : Context) (peer : PeerView) (choice : ℕ) (reply : Reply) (way : Way ℕ) (p : Commit) (x : PreparedReply) : Type 0 where
+  pub prepared : IsReplyPrepared peer choice (sent_by c choice reply way ∷ []) (state_by c choice reply way) x
+  pub commit : x.commit ≡ (if is_performed way then Some p else None)
 
 -- an APDU that is kept
-pub record IsInOneApdu (peer : PeerView) (choice : ℕ) (a : Apdu) (performs : Bool) (x : Placed) : Type 0 where
-  pub placed : IsPlacedAt peer choice a (State.Done a) x.state x.last
-  pub performed : x.performed ≡ performs
+pub record IsKeptApdu (peer : PeerView) (choice : ℕ) (a : Apdu) (p : Option Commit) (x : PreparedReply) : Type 0 where
+  pub prepared : IsReplyPrepared peer choice (a ∷ []) (State.Done a) x
+  pub commit : x.commit ≡ p
 
 -- what waits for its commit is the plan for that request on this store
-pub record IsPending (s : Store) (r : Request) (reply : Reply) (p : Pending) : Type 0 where
+pub record IsPending (s : Store) (r : Request) (reply : Reply) (p : Commit) : Type 0 where
   pub request : owned_request_view p.request ≡ r
   pub plan : IsPlanFor s r p.plan
   pub means : MeansReply (choice_of r) reply (reply_to s r)
 
-abbrev pub Waits : Bool → Store → Request → Reply → Option Pending → Type 0
+abbrev pub Waits : Bool → Store → Request → Reply → Option Commit → Type 0
 Waits true s r reply (Some p) = IsPending s r reply p
 Waits true s r reply None = ⊥
 Waits false s r reply (Some p) = ⊥
 Waits false s r reply None = Unit {0}
 
--- a request that was read: its reply goes by its way
-pub record IsReady (c : Context) (peer : PeerView) (choice : ℕ) (limits : Limits) (s : Store) (r : Request) (x : Prepared) : Type 0 where
+-- a request that was read: after these APDUs its reply goes by its way
+pub record IsReady (c : Context) (peer : PeerView) (choice : ℕ) (limits : Limits) (s : Store) (r : Request) (before : List Apdu) (x : PreparedReply) : Type 0 where
   pub reply : Reply
   pub outcome : outcome_of (reply_to s r) ≡ Replies reply
-  pub placed : IsPlacedAt peer choice (sent_by c choice reply (reply_way_of c.settings limits reply))
-      (state_by c choice reply (reply_way_of c.settings limits reply)) x.state x.last
-  pub pending : Waits (is_performed (reply_way_of c.settings limits reply)) s r reply x.pending
+  pub prepared : IsReplyPrepared peer choice (before ++ sent_by c choice reply (reply_way_of c.settings limits reply) ∷ [])
+      (state_by c choice reply (reply_way_of c.settings limits reply)) x
+  pub pending : Waits (is_performed (reply_way_of c.settings limits reply)) s r reply x.commit
 
-pub record IsRejected (c : Context) (peer : PeerView) (choice reason : ℕ) (x : Prepared) : Type 0 where
-  pub placed : IsPlacedAt peer choice (Apdu.Reject c.invoke_id reason) (State.Done (Apdu.Reject c.invoke_id reason)) x.state x.last
-  pub pending : x.pending ≡ None
+pub record IsRejected (c : Context) (peer : PeerView) (choice reason : ℕ) (before : List Apdu) (x : PreparedReply) : Type 0 where
+  pub prepared : IsReplyPrepared peer choice (before ++ Apdu.Reject c.invoke_id reason ∷ []) (State.Done (Apdu.Reject c.invoke_id reason)) x
+  pub pending : x.commit ≡ None
 
-abbrev pub IsPrepared : Context → PeerView → (choice : ℕ) → Limits → Store → Result Request ℕ → Prepared → Type 0
-IsPrepared c peer choice limits s (Ok r) x = IsReady c peer choice limits s r x
-IsPrepared c peer choice limits s (Err reason) x = IsRejected c peer choice reason x
+abbrev pub IsPrepared : Context → PeerView → (choice : ℕ) → Limits → Store → Result Request ℕ → (before : List Apdu) → PreparedReply → Type 0
+IsPrepared c peer choice limits s (Ok r) before x = IsReady c peer choice limits s r before x
+IsPrepared c peer choice limits s (Err reason) before x = IsRejected c peer choice reason before x
 
 abbrev pub IsNoReject : plain.Reply → Type 0
 IsNoReject plain.Reply.Simple = Unit {0}
@@ -101,10 +98,10 @@ IsSpelledReply (plain.Reply.Error class code) = Unit {0}
 IsSpelledReply (plain.Reply.Reject reason) = Unit {0}
 
 -- the plan was made on this store
-abbrev pub CanCommit : Store → Option Pending → Type 0
+abbrev pub CanCommit : Store → Option Commit → Type 0
 CanCommit s None = Unit {0}
 CanCommit s (Some p) = IsPlanFor s (owned_request_view p.request) p.plan
 
-abbrev pub IsCommitted : Store → Option Pending → Option Performed → Type 0
+abbrev pub IsCommitted : Store → Option Commit → Option Performed → Type 0
 IsCommitted s None p = p ≡ None
 IsCommitted s (Some x) p = p ≡ Some (record { request = owned_request_view x.request; reply = reply_to s (owned_request_view x.request) })

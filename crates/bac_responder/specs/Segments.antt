@@ -1,9 +1,9 @@
 -- What the handling of segments answers.
-use Rattle.std.specs.Prelude.{◌≡◌, ℕ, false, List, [], ◌∷◌, ◌++◌, Bool, not, Option, Some, None, is_some, Result, Ok, Err}
-use Rattle.std.specs.Global.{Vec}
+use Rattle.std.specs.Prelude.{◌≡◌, ℕ, false, [], ◌∷◌, Bool, not, Option, Some, None, is_some, Result, Ok, Err}
 use Rattle.bac_apdu.specs.Apdu.{Limits, Segment}
 use Rattle.bac_npdu.specs.Peers.{PeerView}
-use Rattle.bac_segment.specs.Window.{Incoming, Outgoing, Taking}
+use Rattle.bac_segment.specs.Pieces.{join}
+use Rattle.bac_segment.specs.Window.{Taking}
 use Rattle.bac_service.specs.Values.{Request}
 use Rattle.bac_store.specs.Stores.{Store}
 use Rattle.bac_value.specs.declared.memory.NoMemory.{NoMemory}
@@ -11,70 +11,54 @@ use Rattle.bac_protocol.specs.Context.{Context}
 use Rattle.bac_protocol.specs.Service.{Octets}
 use Rattle.bac_protocol.specs.Server as server
 use Rattle.bac_protocol.specs.Server.{State, ServerTransaction, server_ack, is_kept}
-use Rattle.bac_transaction.specs.Sends.{Datagram, Pairwise, IsSent, to_all}
 use Rattle.bac_responder.specs.Reading.{IsRead}
-use Rattle.bac_responder.specs.Reactions.{IsReacted, IsReaction}
-use Rattle.bac_responder.specs.TransactionViews.{entry_of}
+use Rattle.bac_responder.specs.Reactions.{IsReaction}
+use Rattle.bac_responder.specs.TransactionViews.{IsSendable, entry_of, entry_view, performed_view, reassembly_state}
 use Rattle.bac_responder.specs.Preparing.{IsPrepared}
-use Rattle.bac_responder.specs.declared.entry.State as code
-use Rattle.bac_responder.specs.declared.entry.Origin.{Origin}
-use Rattle.bac_responder.specs.declared.preparing.Pending.{Pending}
-use Rattle.bac_responder.specs.declared.reaction.Reaction.{Reaction}
+use Rattle.bac_responder.specs.declared.performed.Performed.{Performed}
+use Rattle.bac_responder.specs.declared.replying.PreparedReply.{PreparedReply}
+use Rattle.bac_responder.specs.declared.server_transaction.State as code
+use Rattle.bac_responder.specs.declared.server_transaction.Origin.{Origin}
+use Rattle.bac_responder.specs.declared.server_transaction.Reassembly.{Reassembly}
 
--- a segment came: the entry goes on, whatever state it had, or all is handed back as it was
-abbrev pub TakesSegment : (State → server.Reaction) → PeerView → Origin → Incoming → Store → Result Reaction (Origin × Incoming) → Store → Type 0
-TakesSegment r peer origin inc s (Ok x) t = (z : State) → IsReacted (r z) peer s x t
-TakesSegment r peer origin inc s (Err old) t = (old.0 ≡ origin) × (old.1 ≡ inc) × (t ≡ s)
+-- the entry receives on, or goes over to another state, which keeps only what can be sent
+abbrev pub GoesOn : server.Reaction → PeerView → Origin → Reassembly → Store → Performed → Option code.State → Store → Type 0
+GoesOn r peer origin new s x None t = IsReaction r peer s (entry_of origin (reassembly_state new)) x.sends.items (performed_view x.effect) t
+GoesOn r peer origin new s x (Some z) t =
+    IsSendable origin.terms.choice z × IsReaction r peer s (entry_view origin z) x.sends.items (performed_view x.effect) t
 
--- a segment that is neither the last one nor too much
-abbrev pub IsNext : Taking → Type 0
-IsNext (Taking.Taken ack inc) = Unit {0}
-IsNext (Taking.Whole parts) = ⊥
-IsNext (Taking.Nak inc) = Unit {0}
-IsNext Taking.TooLong = ⊥
+-- a reassembly and the store are as they were
+abbrev pub IsUnchanged : (old new : Reassembly) → (s t : Store) → Type 0
+IsUnchanged old new s t = (new.incoming ≡ old.incoming) × (new.since ≡ old.since) × (t ≡ s)
 
--- a segment that leaves its reassembly what it is: the receiver after it, or all is as it was
-abbrev pub TakesNext : (State → server.Reaction) → PeerView → (now : ℕ) → Origin → (old new : Incoming) → Store → Result (Vec Datagram) NoMemory → Type 0
-TakesNext r peer now origin old new s (Ok v) =
-    (z : State) → IsReaction (r z) peer s (entry_of origin (State.SegmentedRequest new now)) v.items None s
-TakesNext r peer now origin old new s (Err e) = new ≡ old
+-- an APDU comes
+abbrev pub Receives : server.Reaction → PeerView → Origin → (old new : Reassembly) → Store → Result (Performed × Option code.State) NoMemory → Store → Type 0
+Receives r peer origin old new s (Ok x) t = GoesOn r peer origin new s x.0 x.1 t
+Receives r peer origin old new s (Err e) t = IsUnchanged old new s t
 
--- an APDU that does, where the reassembly stands, or none
-abbrev pub StaysReceiving : server.Reaction → PeerView → Origin → (old new : Incoming) → (since after : ℕ) → Store → Option (Result (Vec Datagram) NoMemory)
+-- a segment comes, whatever state the entry had
+abbrev pub TakesSegment : (State → server.Reaction) → PeerView → Origin → (old new : Reassembly) → Store → Result (Performed × Option code.State) NoMemory → Store
     → Type 0
-StaysReceiving r peer origin old new since after s None = (new ≡ old) × (after ≡ since)
-StaysReceiving r peer origin old new since after s (Some (Ok v)) =
-    IsReaction r peer s (entry_of origin (State.SegmentedRequest new after)) v.items None s
-StaysReceiving r peer origin old new since after s (Some (Err e)) = (new ≡ old) × (after ≡ since)
+TakesSegment r peer origin old new s (Ok x) t = (z : State) → GoesOn (r z) peer origin new s x.0 x.1 t
+TakesSegment r peer origin old new s (Err e) t = IsUnchanged old new s t
 
 -- all of a performance but its commit, after the SegmentACK of the last segment
-pub record IsWhole (c : Context) (peer : PeerView) (choice : ℕ) (limits : Limits) (s : Store) (number window : ℕ) (octets : Octets)
-    (state : code.State) (sent : List Datagram) (pending : Option Pending) : Type 0 where
+pub record IsWhole (c : Context) (peer : PeerView) (choice : ℕ) (limits : Limits) (s : Store) (number window : ℕ) (octets : Octets) (x : PreparedReply)
+    : Type 0 where
   pub found : Result Request ℕ
-  pub last : Datagram
   pub read : IsRead choice octets found
-  pub prepared : IsPrepared c peer choice limits s found (record { state = state; last = last; pending = pending })
-  pub front : List Datagram
-  pub acks : Pairwise IsSent (to_all peer (server_ack c false number window ∷ [])) front
-  pub is : sent ≡ front ++ last ∷ []
+  pub prepared : IsPrepared c peer choice limits s found (server_ack c false number window ∷ []) x
 
--- the window is sent, whatever state the entry had, or all is handed back as it was
-abbrev pub SendsWindow : (State → server.Reaction) → PeerView → Origin → Outgoing → Result Reaction (Origin × Outgoing) → Type 0
-SendsWindow r peer origin out (Ok x) = (s : Store) (z : State) → IsReacted (r z) peer s x s
-SendsWindow r peer origin out (Err old) = (old.0 ≡ origin) × (old.1 ≡ out)
+-- the same of the last segment
+abbrev pub IsLast : Context → PeerView → (choice : ℕ) → Limits → Store → (number window : ℕ) → Taking → PreparedReply → Type 0
+IsLast c peer choice limits s number window (Taking.Taken ack inc) x = ⊥
+IsLast c peer choice limits s number window (Taking.Whole parts) x = IsWhole c peer choice limits s number window (join parts) x
+IsLast c peer choice limits s number window (Taking.Nak inc) x = ⊥
+IsLast c peer choice limits s number window Taking.TooLong x = ⊥
 
--- the entry, and what was sent
-pub record IsGiven (e : ServerTransaction) (sent : List Datagram) (x : Reaction) : Type 0 where
-  pub entry : x.entry ≡ e
-  pub sends : x.sends.items ≡ sent
-  pub effect : x.effect ≡ None
-
--- the entry with these sends, or handed back where memory ran out
-abbrev pub Gives : ServerTransaction → Result (Vec Datagram) NoMemory → Result Reaction ServerTransaction → Type 0
-Gives e (Ok v) (Ok x) = IsGiven e v.items x
-Gives e (Ok v) (Err old) = ⊥
-Gives e (Err m) (Ok x) = ⊥
-Gives e (Err m) (Err old) = old ≡ e
+abbrev pub TakesLast : Context → PeerView → (choice : ℕ) → Limits → Store → (number : ℕ) → Taking → (old new : Reassembly) → Result PreparedReply NoMemory → Type 0
+TakesLast c peer choice limits s number taking old new (Ok x) = IsLast c peer choice limits s number old.incoming.window taking x
+TakesLast c peer choice limits s number taking old new (Err e) = (new.incoming ≡ old.incoming) × (new.since ≡ old.since)
 
 -- whether a request is that of an entry: a copy of the kept one, or a segment where the entry began with one
 abbrev pub is_repeated : ServerTransaction → Option Segment → (choice : ℕ) → Octets → Bool

@@ -1,5 +1,5 @@
 -- What contracts see of the types in code.
-use Rattle.std.specs.Prelude.{ℕ, true, false, Option, None}
+use Rattle.std.specs.Prelude.{ℕ, true, Option, None}
 use Rattle.std.specs.Option.{option_map}
 use Rattle.bac_apdu.specs.Apdu.{Apdu}
 use Rattle.bac_apdu.specs.Views.{limits_view}
@@ -10,11 +10,13 @@ use Rattle.bac_protocol.specs.Short.{IsShort}
 use Rattle.bac_transaction.specs.Segments.{ArePiecesShort}
 use Rattle.bac_transaction.specs.Services.{Performed}
 use Rattle.bac_responder.specs.declared.effect.Effect.{Effect}
-use Rattle.bac_responder.specs.declared.entry.Origin.{Origin}
-use Rattle.bac_responder.specs.declared.entry.State as state
-use Rattle.bac_responder.specs.declared.entry.State.TheVariants as state_case
-use Rattle.bac_responder.specs.declared.entry.Transfer as transfer
-use Rattle.bac_responder.specs.declared.entry.Transfer.TheVariants as transfer_case
+use Rattle.bac_responder.specs.declared.server_transaction.Origin.{Origin}
+use Rattle.bac_responder.specs.declared.server_transaction.Reassembly.{Reassembly}
+use Rattle.bac_responder.specs.declared.server_transaction.ReplyTransfer.{ReplyTransfer}
+use Rattle.bac_responder.specs.declared.server_transaction.State as state
+use Rattle.bac_responder.specs.declared.server_transaction.State.TheVariants as state_case
+use Rattle.bac_responder.specs.declared.server_transaction.Transfer as transfer
+use Rattle.bac_responder.specs.declared.server_transaction.Transfer.TheVariants as transfer_case
 use Rattle.bac_responder.specs.declared.kept_reply.SpelledReply as reply
 use Rattle.bac_responder.specs.declared.kept_reply.SpelledReply.TheVariants as reply_case
 use Rattle.bac_responder.specs.declared.kept_reply.KeptReply as kept
@@ -44,10 +46,17 @@ transfer_view transfer_case.Running = server.Transfer.Running
 transfer_view transfer_case.Stopped = server.Transfer.Stopped
 transfer_view transfer_case.Finished = server.Transfer.Finished
 
+-- a reassembly and a transfer as states of the machine
+abbrev pub reassembly_state : Reassembly → server.State
+reassembly_state r = server.State.SegmentedRequest r.incoming r.since
+
+abbrev pub transfer_state : ReplyTransfer → server.State
+transfer_state r = server.State.SegmentedResponse r.outgoing (transfer_view r.transfer) r.since
+
 abbrev pub state_view : (choice : ℕ) → state.State → server.State
-state_view choice (state_case.SegmentedRequest incoming since) = server.State.SegmentedRequest incoming since
+state_view choice (state_case.SegmentedRequest r) = reassembly_state r
 state_view choice (state_case.Done invoke_id k) = server.State.Done (kept_reply_view invoke_id choice k)
-state_view choice (state_case.SegmentedResponse outgoing transfer since) = server.State.SegmentedResponse outgoing (transfer_view transfer) since
+state_view choice (state_case.SegmentedResponse r) = transfer_state r
 state_view choice state_case.Dropped = server.State.Dropped
 
 -- the most octets in a segment of a reply: with the five in front of them they fill the longest APDU (clauses 20.1.2.5 and 20.1.5)
@@ -56,9 +65,9 @@ LONGEST_PIECE = 1471
 
 -- what an entry keeps can be sent
 abbrev pub IsSendable : (choice : ℕ) → state.State → Type 0
-IsSendable choice (state_case.SegmentedRequest incoming since) = Unit {0}
+IsSendable choice (state_case.SegmentedRequest r) = Unit {0}
 IsSendable choice (state_case.Done invoke_id k) = IsShort (kept_reply_view invoke_id choice k)
-IsSendable choice (state_case.SegmentedResponse outgoing transfer since) = ArePiecesShort LONGEST_PIECE outgoing
+IsSendable choice (state_case.SegmentedResponse r) = ArePiecesShort LONGEST_PIECE r.outgoing
 IsSendable choice state_case.Dropped = Unit {0}
 
 -- an entry of this origin in a state
@@ -68,14 +77,3 @@ entry_of o s =
 
 abbrev pub entry_view : Origin → state.State → server.ServerTransaction
 entry_view o s = entry_of o (state_view o.terms.choice s)
-
--- what stands in a slot whose entry was taken out
-abbrev pub no_entry : server.ServerTransaction
-no_entry =
-    record {
-      begin = 0;
-      choice = 0;
-      limits = record { takes_segments = false; max_segments = 0; max_apdu = 0 };
-      request = None;
-      state = server.State.Dropped;
-    }

@@ -5,7 +5,8 @@ ghost use Rattle.bac_responder.specs.Timers.{IsQuiet, due_of};
 ghost use Rattle.bac_responder.specs.Aging.{began, entry_ticked};
 ghost use Rattle.bac_responder.specs.Short.{IsRequestShort};
 
-use crate::ServerTransaction;
+use crate::server_transaction::{Origin, ServerTransaction, State, Terms};
+use bac_apdu::Limits;
 use bac_protocol::times::KEEP;
 use bac_slots::{Aged, Fact, Ticks};
 use bac_transaction::{Context, PeerKey, Settings};
@@ -43,16 +44,30 @@ impl Ticks<ServerRules, PeerKey, Settings> for ServerTransaction {
     ghost ticked = { entry_ticked };
 
     fn stand_in() -> ServerTransaction {
-        ServerTransaction::placeholder()
+        let limits = Limits {
+            max_apdu: 0,
+            takes_segments: false,
+            max_segments: 0,
+        };
+        let origin = Origin {
+            begin: 0,
+            terms: Terms { choice: 0, limits },
+            request: None,
+        };
+        ServerTransaction {
+            origin,
+            state: State::Dropped,
+        }
     }
 
-    fn tick(self, settings: &Settings, now: u64, key: &PeerKey) -> ServerTransaction {
+    fn tick(mut self, settings: &Settings, now: u64, key: &PeerKey) -> ServerTransaction {
         let context = Context {
             settings: *settings,
             key: *key,
             moment: now,
         };
-        self.commit_tick(&context)
+        self.commit_tick(&context);
+        self
     }
 
     fn ticks() {}

@@ -3,8 +3,8 @@ ghost use Rattle.std.specs.Prelude.{◌≡◌, ◌↔◌, ℕ, IsTrue, MatchBool
 ghost use Rattle.bac_protocol.specs.Server as machine;
 ghost use Rattle.bac_responder.specs.TransactionViews.{spelled_view, kept_reply_view, state_view, transfer_view, entry_of};
 
-use crate::entry::{Origin, ServerTransaction, State, Transfer};
 use crate::kept_reply::{KeptReply, SpelledReply};
+use crate::server_transaction::{Origin, ServerTransaction, State, Transfer};
 use bac_slots::Same;
 
 fn is_same_spelled(reply: &SpelledReply, other: &SpelledReply) -> bool
@@ -52,13 +52,9 @@ fn is_same_state(state: &State, other: &State) -> bool
         ((c : ℕ) → state_view c state.now ≡ state_view c other.now → ⊥) }
 {
     match (state, other) {
-        (
-            State::SegmentedRequest { incoming, since },
-            State::SegmentedRequest {
-                incoming: other_incoming,
-                since: other_since,
-            },
-        ) => since == other_since && incoming.same(other_incoming),
+        (State::SegmentedRequest(reassembly), State::SegmentedRequest(other)) => {
+            reassembly.since == other.since && reassembly.incoming.same(&other.incoming)
+        }
         (
             State::Done { invoke_id, kept },
             State::Done {
@@ -66,21 +62,10 @@ fn is_same_state(state: &State, other: &State) -> bool
                 kept: other_kept,
             },
         ) => invoke_id == other_id && is_same_kept(kept, other_kept),
-        (
-            State::SegmentedResponse {
-                outgoing,
-                transfer,
-                since,
-            },
-            State::SegmentedResponse {
-                outgoing: other_outgoing,
-                transfer: other_transfer,
-                since: other_since,
-            },
-        ) => {
-            since == other_since
-                && is_same_transfer(*transfer, *other_transfer)
-                && outgoing.same(other_outgoing)
+        (State::SegmentedResponse(reply), State::SegmentedResponse(other)) => {
+            reply.since == other.since
+                && is_same_transfer(reply.transfer, other.transfer)
+                && reply.outgoing.same(&other.outgoing)
         }
         (State::Dropped, State::Dropped) => true,
         _ => false,

@@ -1,17 +1,16 @@
-//! IDLE (clause 5.4.5.1): an APDU where no entry of its key is live.
-ghost use Rattle.std.specs.Prelude.{◌≡◌};
+//! IDLE (clause 5.4.5.1): an APDU where no entry of its key is live. lookup calls it once for such an APDU.
+ghost use Rattle.std.specs.Prelude.{◌≡◌, true};
 ghost use Rattle.bac_apdu.specs.Views.{apdu_view, limits_view, segment_view};
 ghost use Rattle.bac_protocol.specs.Server as machine;
 ghost use Rattle.bac_responder.specs.Reactions.{IdleReacts, BeginsAt, BeginsWhereFree};
 ghost use Rattle.bac_transaction.specs.Services.{service_of};
 ghost use Rattle.bac_transaction.specs.Views.{context_view, peer_of};
 
-use crate::entry::{Origin, ServerTransaction, Terms};
+use crate::performed::Performed;
 use crate::performing::commit;
-use crate::preparing::{Prepared, prepare};
-use crate::reaction::{IdleReaction, Reaction};
 use crate::reading::read_whole;
-use crate::segmented_request::take_segment;
+use crate::replying::{PreparedReply, prepare_reply};
+use crate::server_transaction::{Origin, Reassembly, ServerTransaction, State, Terms};
 use bac_apdu::{Apdu, Segment};
 use bac_protocol::reasons::OTHER;
 use bac_segment::Incoming;
@@ -20,89 +19,80 @@ use bac_transaction::{Context, only_abort};
 use bac_value::NoMemory;
 use std::alloc::Global;
 
-/// A request without SEG comes (ConfirmedUnsegmentedReceived).
-fn request_comes(
+/// A request without SEG comes, and a slot is free (ConfirmedUnsegmentedReceived): it is performed.
+fn on_request(
     alloc: Global,
     context: &Context,
-    free: bool,
     terms: Terms,
     octets: &[u8],
     store: &mut Store,
-) -> Result<IdleReaction, NoMemory>
-    ensures does { IdleReacts (λ dead. machine.idle_on_request (context_view context.now) (service_of store.old) dead free terms.choice
+) -> Result<(Performed, Option<ServerTransaction>), NoMemory>
+    ensures { IdleReacts (λ dead. machine.idle_on_request (context_view context.now) (service_of store.old) dead true terms.choice
         (limits_view terms.limits) octets.now) (peer_of context.now) store.old result store.new }
-    ensures free { BeginsWhereFree free result }
 {
-    if !free {
-        let sends = only_abort(alloc, context, true, OTHER)?;
-        return Ok(IdleReaction::Stays(sends));
-    }
     let found = read_whole(alloc, terms.choice, octets)?;
-    let Prepared {
+    let PreparedReply {
         state,
-        last,
-        pending,
-    } = prepare(alloc, context, terms, found, store)?;
+        sends,
+        commit: change,
+    } = prepare_reply(alloc, context, terms, found, store)?;
     let request = Vec::from_slice(alloc, octets)?;
-    let mut sends = Vec::new(alloc);
-    sends.push(last)?;
-    let effect = commit(pending, store);
+    let effect = commit(change, store);
     let origin = Origin {
         begin: context.moment,
         terms,
         request: Some(request),
     };
-    Ok(IdleReaction::Begins(Reaction {
-        entry: ServerTransaction { origin, state },
-        sends,
-        effect,
-    }))
+    let transaction = ServerTransaction { origin, state };
+    Ok((Performed { sends, effect }, Some(transaction)))
 }
 
-/// A segment of a request comes (ConfirmedSegmentedReceived; own: any but segment 0 is dropped).
-fn segment_comes(
+/// Segment 0 of a request comes, and a slot is free (ConfirmedSegmentedReceived).
+fn on_first_segment(
     alloc: Global,
     context: &Context,
-    free: bool,
     terms: Terms,
     segment: Segment,
     octets: &[u8],
     store: &mut Store,
-) -> Result<IdleReaction, NoMemory>
-    ensures does { IdleReacts (λ dead. machine.idle_on_segment (context_view context.now) (service_of store.old) dead free terms.choice
+) -> Result<(Performed, Option<ServerTransaction>), NoMemory>
+    requires { segment.number ≡ 0 }
+    ensures { IdleReacts (λ dead. machine.idle_on_segment (context_view context.now) (service_of store.old) dead true terms.choice
         (limits_view terms.limits) (segment_view segment) octets.now) (peer_of context.now) store.old result store.new }
-    ensures free { BeginsWhereFree free result }
 {
-    if segment.number != 0 {
-        return Ok(IdleReaction::Stays(Vec::new(alloc)));
-    }
-    if !free {
-        let sends = only_abort(alloc, context, true, OTHER)?;
-        return Ok(IdleReaction::Stays(sends));
-    }
     let origin = Origin {
         begin: context.moment,
         terms,
         request: None,
     };
-    let incoming = Incoming::new(alloc, segment.window, context.settings.window);
-    match take_segment(alloc, context, origin, incoming, segment, octets, store) {
-        Ok(reaction) => Ok(IdleReaction::Begins(reaction)),
-        Err(_) => Err(NoMemory),
+    let mut reassembly = Reassembly {
+        incoming: Incoming::new(alloc, segment.window, context.settings.window),
+        since: context.moment,
+    };
+    let (performed, next) = reassembly.take_segment(
+        alloc, context, &origin, segment, octets, store,
+    )?;
+    match next {
+        None => {
+            let state = State::SegmentedRequest(reassembly);
+            Ok((performed, Some(ServerTransaction { origin, state })))
+        }
+        Some(state) => Ok((performed, Some(ServerTransaction { origin, state }))),
     }
 }
 
-/// An APDU comes where no entry of its key is live; `free` says whether a slot of the reply table has no live entry.
+/// An APDU comes where no entry of its key is live; `free` says whether a slot of the reply table has no live entry. What is sent, what is performed, and the
+/// entry that begins, if any.
 ///
 /// A request is performed, and segment 0 of one begins to be received, where a slot is free; otherwise an Abort with reason 0 is sent, and nothing is
-/// remembered. All else is ignored. An Err says that memory was refused; the store is then as before.
+/// remembered. All else is ignored. An Err says that an allocation failed; the store is then as before.
 pub fn idle_on_apdu(
     alloc: Global,
     context: &Context,
     free: bool,
     apdu: &Apdu<'_>,
     store: &mut Store,
-) -> Result<IdleReaction, NoMemory>
+) -> Result<(Performed, Option<ServerTransaction>), NoMemory>
     ensures does { IdleReacts (λ dead. machine.idle_on_apdu (context_view context.now) (service_of store.old) dead free (apdu_view apdu.now)) (peer_of context.now)
         store.old result store.new }
     ensures free { BeginsWhereFree free result }
@@ -116,11 +106,19 @@ pub fn idle_on_apdu(
         ..
     } = *apdu
     else {
-        return Ok(IdleReaction::Stays(Vec::new(alloc)));
+        return Ok((Performed::nothing(alloc), None));
     };
     let terms = Terms { choice, limits };
     match segment {
-        None => request_comes(alloc, context, free, terms, service, store),
-        Some(segment) => segment_comes(alloc, context, free, terms, segment, service, store),
+        // own: any segment but segment 0 is dropped
+        Some(segment) if segment.number != 0 => Ok((Performed::nothing(alloc), None)),
+        Some(segment) if free => {
+            on_first_segment(alloc, context, terms, segment, service, store)
+        }
+        None if free => on_request(alloc, context, terms, service, store),
+        _ => {
+            let sends = only_abort(alloc, context, true, OTHER)?;
+            Ok((Performed::sends(sends), None))
+        }
     }
 }

@@ -1,40 +1,37 @@
-//! The server's end of a node: the reply table, over any table of slots (clause 5.4.5, with this profile's own rules).
+//! The server's end of a node: the reply table, over any table of slots (clause 5.4.5, with this profile's own rules). A live entry is never evicted.
 //!
-//! Each call gives exactly what bac_transaction' definitions of the server's end say. A live entry is never evicted.
+//! `Responder` is the table: bac_node calls `on` for each APDU, and `prepare_tick` and `commit_tick` for each tick. `ServerTransaction` is one entry of it: a
+//! request that came, and what became of it. An APDU goes from `Responder::on` over lookup to live or idle, by whether its key has a live entry; live goes by
+//! the entry's state.
 //!
-//! One entry of a server's reply table (clause 5.4.5 on one transaction, with this profile's reply table): what each APDU and each tick make of it,
-//! which datagrams are sent, and which request is performed on the store.
-//!
-//! Each call gives exactly what bac_protocol's definitions of the server say. What takes memory comes first, so that after an Err the entry and the
-//! store are as before.
+//! Each call gives exactly what bac_transaction's definitions of the server's end say, and below it what bac_protocol's machine says of one entry. An entry
+//! is changed in its slot. All memory is taken before anything changes, so that after an Err the table and the store are as before.
 #![tactic(auto)]
 
 mod aging;
 mod comparing;
 mod effect;
-mod entry;
-mod hearing;
 mod idle;
 mod kept_reply;
 mod live;
+mod lookup;
+mod performed;
 mod performing;
-mod placing;
-mod preparing;
-mod reaction;
 mod reading;
 mod repeats;
+mod replying;
 mod responder;
 mod segmented_request;
 mod segmented_response;
 mod served;
+mod server_transaction;
 mod tick;
 mod ticking;
 mod timers;
 
 pub use effect::Effect;
-pub use entry::ServerTransaction;
 pub use idle::idle_on_apdu;
-pub use live::live_on_apdu;
-pub use reaction::{Answered, IdleReaction, Reaction};
+pub use performed::Performed;
 pub use responder::Responder;
 pub use served::{Act, Served};
+pub use server_transaction::ServerTransaction;

@@ -6,7 +6,7 @@ ghost use Rattle.bac_protocol.specs.Server.{State as ServerState};
 ghost use Rattle.bac_responder.specs.Segments.{is_repeated as is_repeat};
 ghost use Rattle.bac_responder.specs.TransactionViews.{entry_of};
 
-use crate::entry::Origin;
+use crate::server_transaction::Origin;
 use bac_apdu::Segment;
 
 /// Whether it is a copy of the kept request, or a segment where the entry began with one.

@@ -1,4 +1,4 @@
-//! The server's end.
+//! The server's end: the calls that bac_node makes. Their contracts are what crates above rest on.
 ghost use Rattle.std.specs.Prelude.{◌≡◌, ◌≢◌, ℕ, ◌<◌, ◌≤◌, ◌↔◌, [], None, count_by, max, IfOk, IsTrue};
 ghost use Rattle.bac_apdu.specs.Views.{apdu_view};
 ghost use Rattle.bac_npdu.specs.Views.{peer_view};
@@ -15,7 +15,7 @@ ghost use Rattle.bac_responder.specs.Views.{end_of, Serves};
 
 use crate::ServerTransaction;
 use crate::aging::{ServerRules, ShortRequests};
-use crate::hearing::hears;
+use crate::lookup::on_apdu;
 use crate::served::Served;
 use crate::ticking::{nothing_due, prepare};
 use bac_apdu::Apdu;
@@ -50,7 +50,7 @@ impl<S: SlotTable<PeerKey, ServerTransaction> + Drop> Model for Responder<S> {
 }
 
 impl<S: SlotTable<PeerKey, ServerTransaction> + Drop> Responder<S> {
-    /// A server's end without entries, with room for so many slots; an Err where the memory for them is refused. Nothing takes memory for slots later.
+    /// A server's end without entries, with room for so many slots; an Err where their allocation fails. Nothing takes memory for slots later.
     ///
     /// Where its node restarts at a moment, in milliseconds, it has lost its entries, and turns each request away while no more than 65,000 ms have passed
     /// since (own rule of this profile): so long one that it performed before may still come again.
@@ -107,10 +107,12 @@ impl<S: SlotTable<PeerKey, ServerTransaction> + Drop> Responder<S> {
         self.restart == other.restart && same_tables(&self.aged.table, &other.aged.table)
     }
 
-    /// An APDU comes from a peer, at that moment in milliseconds.
+    /// An APDU comes from a peer, at that moment in milliseconds: call it for each APDU that a client can send, and then send all of `sends`, in their order.
+    /// `act` is the request that was performed, if any; the store has changed by it already.
     ///
-    /// A live entry is never evicted; where no slot is free, or while it waits after a restart, a new request gets an Abort with reason 0. An Err says that memory was refused;
-    /// the server's end and the store are then as before.
+    /// A new request is performed, or begins to be received, where a slot is free; a copy of one with a live entry is answered from the entry, and not
+    /// performed again. A live entry is never evicted: where no slot is free, or while the end waits after a restart, a new request gets an Abort with
+    /// reason 0. An Err says that an allocation failed; the server's end and the store are then as before, and the same APDU can be handed in again.
     pub fn on(
         &mut self,
         alloc: Global,
@@ -132,11 +134,12 @@ impl<S: SlotTable<PeerKey, ServerTransaction> + Drop> Responder<S> {
             key,
             moment: now,
         };
-        hears(alloc, &context, &mut self.aged, self.restart, apdu, store)
+        on_apdu(alloc, &context, &mut self.aged, self.restart, apdu, store)
     }
 
     /// What a tick sends, in ascending order of peer and invoke ID: the windows of replies that no SegmentACK came for in 2,000 ms, while a retry is left.
-    /// An Err says that memory was refused. Before the first moment at which anything can be due no slot is looked at.
+    /// Call `commit_tick` next, with the same settings and moment, and then send these. An Err says that an allocation failed, and nothing has changed. Before
+    /// the first moment at which anything can be due no slot is looked at.
     pub fn prepare_tick(
         &self,
         alloc: Global,
@@ -151,7 +154,8 @@ impl<S: SlotTable<PeerKey, ServerTransaction> + Drop> Responder<S> {
         prepare(alloc, settings, &self.aged.table, now)
     }
 
-    /// The entries after a tick. It takes no memory. Before the first moment at which anything can be due no slot is looked at.
+    /// Time goes on for all entries, up to that moment in milliseconds. Call it after `prepare_tick`, at `next_due` or as often as suits. It takes no memory.
+    /// Before the first moment at which anything can be due no slot is looked at.
     pub fn commit_tick(&mut self, settings: &Settings, now: u64)
         ensures { self.new ≡ (responder_tick (settings_view settings.now) now self.old).end }
     {

@@ -1,20 +1,18 @@
-//! SEGMENTED_RESPONSE (clause 5.4.5.4): a reply that goes in segments.
+//! SEGMENTED_RESPONSE (clause 5.4.5.4): a reply that is sent in segments. transaction_apdu calls it for each APDU in this state.
 ghost use Rattle.std.specs.Prelude.{◌≡◌, IfOk};
 ghost use Rattle.bac_apdu.specs.Views.{apdu_view};
 ghost use Rattle.bac_protocol.specs.Server as machine;
-ghost use Rattle.bac_protocol.specs.Server.State.{SegmentedResponse};
 ghost use Rattle.bac_store.specs.Stores.{Store as Objects};
 ghost use Rattle.bac_transaction.specs.Sends.{Pairwise, IsSent, to_all};
-ghost use Rattle.bac_responder.specs.Reactions.{Reacts};
-ghost use Rattle.bac_responder.specs.Segments.{SendsWindow};
+ghost use Rattle.bac_responder.specs.Reactions.{Answers};
 ghost use Rattle.bac_transaction.specs.Views.{context_view, peer_of};
 ghost use Rattle.bac_transaction.specs.Segments.{ArePiecesShort};
-ghost use Rattle.bac_responder.specs.TransactionViews.{LONGEST_PIECE, entry_of, transfer_view};
+ghost use Rattle.bac_responder.specs.TransactionViews.{LONGEST_PIECE, entry_of, transfer_state, transfer_view};
 
-use crate::entry::{Origin, ServerTransaction, State, Transfer};
-use crate::placing::piece_apdu;
-use crate::reaction::Reaction;
+use crate::performed::Performed;
 use crate::repeats::is_repeated;
+use crate::replying::piece_apdu;
+use crate::server_transaction::{Origin, ReplyTransfer, Transfer};
 use bac_apdu::{Apdu, Window};
 use bac_protocol::reasons::OTHER;
 use bac_segment::{Outgoing, Progress};
@@ -43,173 +41,122 @@ pub(crate) fn window_sends(
     Ok(sends)
 }
 
-/// The window is sent, and the transfer runs; where memory runs out, the sender stands where it stood.
-fn runs(
-    alloc: Global,
-    context: &Context,
-    origin: Origin,
-    outgoing: Outgoing,
-) -> Result<Reaction, (Origin, Outgoing)>
-    requires { ArePiecesShort LONGEST_PIECE outgoing }
-    ensures { SendsWindow (λ z. machine.sends_reply_window (context_view context.now) (entry_of origin z) outgoing) (peer_of context.now) origin outgoing
-        result }
-{
-    let Ok(sends) = window_sends(alloc, context, origin.terms.choice, &outgoing) else {
-        return Err((origin, outgoing));
-    };
-    let state = State::SegmentedResponse {
-        outgoing,
-        transfer: Transfer::Running,
-        since: context.moment,
-    };
-    Ok(Reaction {
-        entry: ServerTransaction { origin, state },
-        sends,
-        effect: None,
-    })
-}
-
-/// An entry with a reply in segments.
-pub(crate) fn with_transfer(
-    origin: Origin,
-    outgoing: Outgoing,
-    transfer: Transfer,
-    since: u64,
-) -> ServerTransaction
-    requires { ArePiecesShort LONGEST_PIECE outgoing }
-    ensures { result ≡ entry_of origin (SegmentedResponse outgoing (transfer_view transfer) since) }
-{
-    ServerTransaction {
-        origin,
-        state: State::SegmentedResponse {
-            outgoing,
-            transfer,
-            since,
-        },
+impl ReplyTransfer {
+    /// A copy of the request comes: it sets a stopped transfer going again (own rule of this profile).
+    fn resume(
+        &mut self,
+        alloc: Global,
+        context: &Context,
+        origin: &Origin,
+    ) -> Result<Performed, NoMemory>
+        requires { ArePiecesShort LONGEST_PIECE self.old.outgoing }
+        ensures short { ArePiecesShort LONGEST_PIECE self.new.outgoing }
+        ensures does { (s : Objects) → Answers (machine.resumes (context_view context.now) (entry_of origin.now (transfer_state self.old)) self.old.outgoing
+            (transfer_view self.old.transfer)) (peer_of context.now) (entry_of origin.now (transfer_state self.old))
+            (entry_of origin.now (transfer_state self.new)) s result s }
+    {
+        let Transfer::Stopped = self.transfer else {
+            return Ok(Performed::nothing(alloc));
+        };
+        let before = self.outgoing.position();
+        self.outgoing.resume();
+        let Ok(sends) = window_sends(alloc, context, origin.terms.choice, &self.outgoing) else {
+            self.outgoing.go_back(before);
+            return Err(NoMemory);
+        };
+        self.transfer = Transfer::Running;
+        self.since = context.moment;
+        Ok(Performed::sends(sends))
     }
-}
 
-/// A copy of the request sets a stopped transfer going again.
-fn resume(
-    alloc: Global,
-    context: &Context,
-    origin: Origin,
-    mut outgoing: Outgoing,
-    transfer: Transfer,
-    since: u64,
-) -> Result<Reaction, ServerTransaction>
-    requires { ArePiecesShort LONGEST_PIECE outgoing }
-    ensures { (s : Objects) → Reacts (machine.resumes (context_view context.now) (entry_of origin (SegmentedResponse outgoing (transfer_view transfer) since))
-        outgoing (transfer_view transfer)) (peer_of context.now) (entry_of origin (SegmentedResponse outgoing (transfer_view transfer) since)) s result s }
-{
-    let Transfer::Stopped = transfer else {
-        let entry = with_transfer(origin, outgoing, transfer, since);
-        return Ok(Reaction::silent(alloc, entry));
-    };
-    let was = outgoing.position();
-    outgoing.resume();
-    match runs(alloc, context, origin, outgoing) {
-        Ok(reaction) => Ok(reaction),
-        Err((origin, mut outgoing)) => {
-            outgoing.go_back(was);
-            Err(with_transfer(origin, outgoing, transfer, since))
+    /// A SegmentACK of the reply's segments comes.
+    fn on_segment_ack(
+        &mut self,
+        alloc: Global,
+        context: &Context,
+        origin: &Origin,
+        number: u8,
+        window: Window,
+    ) -> Result<Performed, NoMemory>
+        requires { ArePiecesShort LONGEST_PIECE self.old.outgoing }
+        ensures short { ArePiecesShort LONGEST_PIECE self.new.outgoing }
+        ensures does { (s : Objects) → Answers (machine.segmented_response_on_ack (context_view context.now) (entry_of origin.now (transfer_state self.old))
+            self.old.outgoing (transfer_view self.old.transfer) number window.size) (peer_of context.now) (entry_of origin.now (transfer_state self.old))
+            (entry_of origin.now (transfer_state self.new)) s result s }
+    {
+        let Transfer::Running = self.transfer else {
+            return Ok(Performed::nothing(alloc));
+        };
+        let before = self.outgoing.position();
+        match self
+            .outgoing
+            .on_ack(number, window, context.settings.window)
+        {
+            // DuplicateACK_Received; own: the timer runs on
+            Progress::Ignored => Ok(Performed::nothing(alloc)),
+            // FinalACK_Received
+            Progress::Finished => {
+                self.transfer = Transfer::Finished;
+                self.since = context.moment;
+                Ok(Performed::nothing(alloc))
+            }
+            // NewACK_Received
+            Progress::Moved => {
+                let choice = origin.terms.choice;
+                let Ok(sends) = window_sends(alloc, context, choice, &self.outgoing) else {
+                    self.outgoing.go_back(before);
+                    return Err(NoMemory);
+                };
+                self.since = context.moment;
+                Ok(Performed::sends(sends))
+            }
         }
     }
-}
 
-/// A SegmentACK of the reply's segments comes.
-fn ack_comes(
-    alloc: Global,
-    context: &Context,
-    origin: Origin,
-    mut outgoing: Outgoing,
-    transfer: Transfer,
-    since: u64,
-    number: u8,
-    window: Window,
-) -> Result<Reaction, ServerTransaction>
-    requires { ArePiecesShort LONGEST_PIECE outgoing }
-    ensures { (s : Objects) → Reacts (machine.segmented_response_on_ack (context_view context.now)
-        (entry_of origin (SegmentedResponse outgoing (transfer_view transfer) since)) outgoing (transfer_view transfer) number window.size)
-        (peer_of context.now) (entry_of origin (SegmentedResponse outgoing (transfer_view transfer) since)) s result s }
-{
-    let Transfer::Running = transfer else {
-        let entry = with_transfer(origin, outgoing, transfer, since);
-        return Ok(Reaction::silent(alloc, entry));
-    };
-    let was = outgoing.position();
-    match outgoing.on_ack(number, window, context.settings.window) {
-        // DuplicateACK_Received; own: the timer runs on
-        Progress::Ignored => Ok(Reaction::silent(
-            alloc,
-            with_transfer(origin, outgoing, transfer, since),
-        )),
-        // FinalACK_Received
-        Progress::Finished => {
-            let entry = with_transfer(origin, outgoing, Transfer::Finished, context.moment);
-            Ok(Reaction::silent(alloc, entry))
-        }
-        // NewACK_Received
-        Progress::Moved => match runs(alloc, context, origin, outgoing) {
-            Ok(reaction) => Ok(reaction),
-            Err((origin, mut outgoing)) => {
-                outgoing.go_back(was);
-                Err(with_transfer(origin, outgoing, transfer, since))
+    /// An APDU comes for an entry whose reply is sent in segments. After an Err the transfer is as it was.
+    pub(crate) fn on_apdu(
+        &mut self,
+        alloc: Global,
+        context: &Context,
+        origin: &Origin,
+        apdu: &Apdu<'_>,
+    ) -> Result<Performed, NoMemory>
+        requires { ArePiecesShort LONGEST_PIECE self.old.outgoing }
+        ensures short { ArePiecesShort LONGEST_PIECE self.new.outgoing }
+        ensures does { (s : Objects) → Answers (machine.segmented_response_on_apdu (context_view context.now) (entry_of origin.now (transfer_state self.old))
+            self.old.outgoing (transfer_view self.old.transfer) self.old.since (apdu_view apdu.now)) (peer_of context.now)
+            (entry_of origin.now (transfer_state self.old)) (entry_of origin.now (transfer_state self.new)) s result s }
+    {
+        match *apdu {
+            Apdu::ConfirmedRequest {
+                segment,
+                choice,
+                service,
+                ..
+            } => {
+                if is_repeated(origin, segment, choice, service) {
+                    return self.resume(alloc, context, origin);
+                }
+                let sends = only_abort(alloc, context, true, OTHER)?;
+                Ok(Performed::sends(sends))
             }
-        },
-    }
-}
-
-/// An APDU comes for an entry whose reply goes in segments.
-pub(crate) fn segmented_response_on_apdu(
-    alloc: Global,
-    context: &Context,
-    origin: Origin,
-    outgoing: Outgoing,
-    transfer: Transfer,
-    since: u64,
-    apdu: &Apdu<'_>,
-) -> Result<Reaction, ServerTransaction>
-    requires { ArePiecesShort LONGEST_PIECE outgoing }
-    ensures { (s : Objects) → Reacts (machine.segmented_response_on_apdu (context_view context.now)
-        (entry_of origin (SegmentedResponse outgoing (transfer_view transfer) since)) outgoing (transfer_view transfer) since (apdu_view apdu.now))
-        (peer_of context.now) (entry_of origin (SegmentedResponse outgoing (transfer_view transfer) since)) s result s }
-{
-    match *apdu {
-        Apdu::ConfirmedRequest {
-            segment,
-            choice,
-            service,
-            ..
-        } => {
-            if is_repeated(&origin, segment, choice, service) {
-                return resume(alloc, context, origin, outgoing, transfer, since);
+            Apdu::SegmentAck {
+                server,
+                number,
+                window,
+                ..
+            } => {
+                if server {
+                    return Ok(Performed::nothing(alloc));
+                }
+                self.on_segment_ack(alloc, context, origin, number, window)
             }
-            let entry = with_transfer(origin, outgoing, transfer, since);
-            Reaction::with_sends(entry, only_abort(alloc, context, true, OTHER))
-        }
-        Apdu::SegmentAck {
-            server,
-            number,
-            window,
-            ..
-        } => {
-            if server {
-                let entry = with_transfer(origin, outgoing, transfer, since);
-                return Ok(Reaction::silent(alloc, entry));
+            // AbortPDU_Received; own: the reply stays kept
+            Apdu::Abort { server: false, .. } => {
+                self.transfer = Transfer::Finished;
+                Ok(Performed::nothing(alloc))
             }
-            ack_comes(
-                alloc, context, origin, outgoing, transfer, since, number, window,
-            )
-        }
-        // AbortPDU_Received; own: the reply stays kept
-        Apdu::Abort { server: false, .. } => {
-            let entry = with_transfer(origin, outgoing, Transfer::Finished, since);
-            Ok(Reaction::silent(alloc, entry))
-        }
-        _ => {
-            let entry = with_transfer(origin, outgoing, transfer, since);
-            Ok(Reaction::silent(alloc, entry))
+            _ => Ok(Performed::nothing(alloc)),
         }
     }
 }

@@ -3,7 +3,7 @@ ghost use Rattle.std.specs.Prelude.{◌≡◌};
 ghost use Rattle.bac_responder.specs.Timers.{IsQuiet, IsStateQuiet, due_of, state_due};
 ghost use Rattle.bac_responder.specs.TransactionViews.{state_view};
 
-use crate::entry::{ServerTransaction, State, Transfer};
+use crate::server_transaction::{ServerTransaction, State, Transfer};
 use bac_protocol::times::{T_SEG, T_WAIT_FOR_SEG};
 
 /// The first moment at which the timer of a state is due; the last moment of all, where it has none.
@@ -11,13 +11,12 @@ fn state_due(state: &State) -> u64
     ensures { result ≡ state_due (state_view 0 state.now) }
 {
     match state {
-        State::SegmentedRequest { since, .. } => since.saturating_add(T_WAIT_FOR_SEG),
-        State::SegmentedResponse {
-            transfer: Transfer::Running,
-            since,
-            ..
-        } => since.saturating_add(T_SEG),
-        _ => u64::MAX,
+        State::SegmentedRequest(reassembly) => reassembly.since.saturating_add(T_WAIT_FOR_SEG),
+        State::SegmentedResponse(reply) => match reply.transfer {
+            Transfer::Running => reply.since.saturating_add(T_SEG),
+            Transfer::Stopped | Transfer::Finished => u64::MAX,
+        },
+        State::Done { .. } | State::Dropped => u64::MAX,
     }
 }
 

@@ -1,6 +1,6 @@
-//! Rows of tests: octets of hexadecimal text, lines of scripts, and how a row that is wrong is told.
+//! What rows of tests share: octets in hexadecimal, lines of scripts, stores, and failures.
 //!
-//! A table of rows is a `const` slice; a row that cannot be read fails its test, as one that does not hold does.
+//! A table of rows is a `const` slice. A row that cannot be read fails its test, as does one that does not hold.
 #![tactic(auto)]
 
 ghost use Rattle.std.specs.Prelude.{◌≡◌, ◌↔◌, IfOk, IsOk, IsErr, IsTrue};
@@ -8,6 +8,7 @@ ghost use Rattle.hex.specs.Hex.{decode_of};
 ghost use Rattle.bac_rows.specs.declared.RowFault.TheVariants.{NotHexadecimal};
 
 pub mod script;
+pub mod stores;
 
 use hex::FromHexError;
 use std::alloc::{AllocError, AllocFailed, Global};
@@ -19,7 +20,7 @@ use std::test::Fail;
 pub enum RowFault {
     /// The text is no hexadecimal: an odd number of digits, or something else than a digit.
     NotHexadecimal,
-    /// The line is of no form.
+    /// The line is malformed.
     NoLine,
     /// Memory was refused.
     NoMemory,
@@ -56,7 +57,7 @@ pub fn octets_of(alloc: Global, text: &str) -> Result<Vec<u8>, RowFault>
     }
 }
 
-/// A failure about a row that does not hold.
+/// Fails, with that text, where a row does not hold.
 pub fn holds(is: bool, about: &str) -> Result<(), Fail>
     ensures { IsOk result ↔ IsTrue is }
 {

@@ -1,18 +1,20 @@
 //! Scripts in rows: how lines of tests are written.
 //!
-//! After a line that says what happens, each line that is printed stands behind two spaces. Lines that begin with `--` are comments.
+//! After a line that says what happens come the lines that are printed, each indented by two spaces. Lines that begin with `--` are comments.
 //! `FIRST,NEXT..LAST: ` before a line stands for that line once for each of these numbers.
-//! In a line `<name>` stands for the text that a line `name: text` of the names has, `{41*00}` for 41 times the digits, `{41/}` for 41 octets of which the one of number i is
-//! i / 256, `#` for the number in decimal, `{+6}` for a number that is greater by 6, `@` for the number modulo 256 in hexadecimal, `|` for the end of a
-//! line, and `_` for nothing.
+//! In a line `<name>` stands for the text that a line `name: text` of the names has, `{41*00}` for 41 times the text `00`, `#` for the number in decimal,
+//! `{+6}` for the number plus 6, `@` for the number modulo 256 in hexadecimal, `|` for the end of a line, and `_` for nothing.
+//!
+//! `{41/}` stands for the first 41 octets of a long file whose octet i is i / 256, `{41/7}` for 41 octets of it from octet 7 on, and `{41/-12,44}` for 41 octets
+//! of it from octet -12 + 44 times the number on.
 use crate::RowFault;
 use std::alloc::Global;
 use std::fmt::Write;
 
-/// For which numbers a line stands: so many from the first on, each so much more than the one before it.
+/// The numbers that a line stands for: so many from the first on, each greater by one step than the one before.
 #[derive(Clone, Copy)]
 pub struct Numbers {
-    /// How many.
+    /// How many numbers there are.
     pub count: u64,
     first: u64,
     step: u64,
@@ -39,7 +41,7 @@ pub fn number(text: &str) -> Result<u64, RowFault> {
     }
 }
 
-/// What stands before the first separator and after it.
+/// The text before the first separator, and the text after it.
 pub fn parted(text: &str, separator: char) -> Result<(&str, &str), RowFault> {
     match text.split_once(separator) {
         Some(parts) => Ok(parts),
@@ -70,7 +72,7 @@ fn numbers_of(text: &str) -> Result<Numbers, RowFault> {
     numbers_to(number(first)?, number(next)?, number(last)?)
 }
 
-/// For which numbers a line stands, and the line. Only a range has two dots.
+/// The numbers that a line stands for, and the line. Only a range has two dots.
 pub fn ranged(line: &str) -> Result<(Numbers, &str), RowFault> {
     match line.split_once("..") {
         Some(_) => {
@@ -119,15 +121,34 @@ fn put_digits(count: u64, digits: &str, out: &mut String) -> Result<(), RowFault
     Ok(())
 }
 
-/// So many octets by their numbers.
-fn put_octets(count: u64, out: &mut String) -> Result<(), RowFault> {
+/// A decimal number, or one below 0, modulo 2^64.
+fn wrapped(text: &str) -> Result<u64, RowFault> {
+    match text.strip_prefix("-") {
+        Some(text) => Ok(0u64.wrapping_sub(number(text)?)),
+        None => number(text),
+    }
+}
+
+/// Where octets of the long file begin: `PLACE`, or `PLACE,STEP`.
+fn begin_of(place: &str, number_here: u64) -> Result<u64, RowFault> {
+    match place.split_once(',') {
+        Some((place, step)) => {
+            Ok(wrapped(place)?.wrapping_add(number(step)?.wrapping_mul(number_here)))
+        }
+        None if place.is_empty() => Ok(0),
+        None => number(place),
+    }
+}
+
+/// So many octets of the long file, from that one on.
+fn put_octets(count: u64, begin: u64, out: &mut String) -> Result<(), RowFault> {
     for i in 0..count {
-        write!(out, "{:02X}", i / 256 % 256)?;
+        write!(out, "{:02X}", begin.wrapping_add(i) / 256 % 256)?;
     }
     Ok(())
 }
 
-/// So many times the digits, so many octets by their numbers, or the number and so much more.
+/// A text so many times, octets of the long file, or the number and so much more.
 fn put_word(word: &str, number_here: u64, out: &mut String) -> Result<(), RowFault> {
     if let Some(more) = word.strip_prefix("+") {
         write!(out, "{}", number_here.saturating_add(number(more)?))?;
@@ -135,7 +156,10 @@ fn put_word(word: &str, number_here: u64, out: &mut String) -> Result<(), RowFau
     }
     match word.split_once('*') {
         Some((count, digits)) => put_digits(number(count)?, digits, out),
-        None => put_octets(number(parted(word, '/')?.0)?, out),
+        None => {
+            let (count, place) = parted(word, '/')?;
+            put_octets(number(count)?, begin_of(place, number_here)?, out)
+        }
     }
 }
 

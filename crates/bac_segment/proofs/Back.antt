@@ -1,4 +1,4 @@
--- A segment that was taken is taken back.
+-- Removing the last segment that was taken.
 use Rattle.std.proofs.Common.{◌≡◌, ℕ, ◌+◌, ◌-◌, Bool, true, false, Ok, List, [], ◌∷◌, ◌++◌, length, take, refl, sym, ap, subst, ◌∙◌, arith}
 use Rattle.std.proofs.lemmas.List.{length_push, take_at}
 use Rattle.bac_segment.specs.Answers.{IsKept, Takes}

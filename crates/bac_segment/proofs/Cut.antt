@@ -26,11 +26,11 @@ join-cut zero size xs = grind (arith, common_steps)
 join-cut (suc count) size xs =
     ap (λ l. take size xs ++ l) (join-cut count size (drop size xs)) ∙ sym (take-add size (count * size) xs) ∙ ap (λ n. take n xs) (grind arith)
 
--- the pieces are enough
+-- the pieces cover the octets
 pub length-le-count : (size : ℕ) (xs : List ℕ) → 1 ≤ size → length xs ≤ count_of size xs * size
 length-le-count size xs some = (div_ceil_times (length xs) size some).0
 
--- each of them begins within the octets
+-- each of them starts within the octets
 pub begins_within : (size n : ℕ) (xs : List ℕ) → 1 ≤ size → n < count_of size xs → n * size < length xs
 begins_within size n xs some h =
     let few = (div_ceil_times (length xs) size some).1 in

@@ -1,4 +1,4 @@
--- Octets that are split by lengths, and octets in vectors.
+-- Octets split by lengths, and octets in vectors.
 use Rattle.std.proofs.Common.{◌≡◌, ℕ, zero, suc, ◌+◌, ◌-◌, ◌<◌, ◌≤◌, List, [], ◌∷◌, ◌++◌, length, take, drop, map, refl, ap, sym, ◌∙◌, arith}
 use Rattle.std.proofs.Common.{length-append, append_assoc, length-drop}
 use Rattle.std.proofs.lemmas.List.{append-nil, length_push, length-take-le, take-append-le, drop-append-le, take-append-drop, take_all, take_at}
@@ -18,7 +18,7 @@ sum-cons n lengths = sum_by-cons (λ k. k) n lengths
 sum_push : (lengths : List ℕ) (n : ℕ) → sum (lengths ++ n ∷ []) ≡ sum lengths + n
 sum_push lengths n = sum_by_push (λ k. k) lengths n
 
--- what is left for the later parts
+-- the octets of the later parts
 sum_rest : (n : ℕ) (lengths octets : List ℕ) → sum (n ∷ lengths) ≡ length octets → (n ≤ length octets) × (sum lengths ≡ length (drop n octets))
 sum_rest n lengths octets whole = omega (arith, sum-cons n lengths, length-drop n octets)
 
@@ -50,11 +50,11 @@ split-push (k ∷ lengths) octets more n whole is =
     ∙ ap (λ l. take k octets ∷ split (lengths ++ n ∷ []) l) (drop-append-le k octets more rest.0)
     ∙ ap (λ l. take k octets ∷ l) (split-push lengths (drop k octets) more n rest.1 is)
 
--- the parts have all the octets
+-- the parts have all octets
 pub parts_have_all : (lengths octets : List ℕ) → sum lengths ≡ length octets → length (join (split lengths octets)) ≡ length octets
 parts_have_all lengths octets whole = ap length (join-split lengths octets whole)
 
--- one more segment is counted
+-- the counts after one more segment
 pub CountsOctets-push : (lengths octets more then_lengths then_octets : List ℕ) (n total fresh : ℕ) → CountsOctets total fresh lengths octets
     → then_lengths ≡ lengths ++ n ∷ [] → then_octets ≡ octets ++ more → n ≡ length more
     → length (join (split lengths octets)) + length more ≤ DATA → length (split lengths octets) + 1 ≤ DATA
@@ -72,7 +72,7 @@ CountsOctets-push lengths octets more then_lengths then_octets n total fresh cou
       fresh = omega (arith, many, counts.fresh);
     }
 
--- the last segment is counted no more
+-- the counts without the last segment
 pub CountsOctets-pop : (lengths octets then_lengths then_octets : List ℕ) (n total fresh then : ℕ) → CountsOctets total fresh lengths octets
     → lengths ≡ then_lengths ++ n ∷ [] → then_octets ≡ take (length octets - n) octets → then < length (split lengths octets)
     → CountsOctets (total - n) then then_lengths then_octets
@@ -89,7 +89,7 @@ CountsOctets-pop lengths octets then_lengths then_octets n total fresh then coun
       fresh = omega (arith, many, fewer, parts_are_as_many lengths octets);
     }
 
--- without the last segment the parts are those before it
+-- without the last segment, the parts are those before it
 pub split-pop : (lengths octets then_lengths then_octets : List ℕ) (n : ℕ) → lengths ≡ then_lengths ++ n ∷ []
     → then_octets ≡ take (length octets - n) octets → sum lengths ≡ length octets
     → split then_lengths then_octets ≡ take (length (split lengths octets) - 1) (split lengths octets)
@@ -127,7 +127,7 @@ joined-set_same [] chunk n at = refl
 joined-set_same (first ∷ chunks) chunk zero at = ap (λ (v : Vec ℕ). v.items ++ joined chunks) at
 joined-set_same (first ∷ chunks) chunk (suc n) at = ap (λ l. first.items ++ l) (joined-set_same chunks chunk n at)
 
--- the last vector is cut: what is left of the octets
+-- the last vector is shortened: the octets that remain
 pub cut_last : (chunks front : List (Vec ℕ)) (last then : Vec ℕ) (more : List (Vec ℕ)) (left : ℕ) → chunks ≡ front ++ last ∷ [] → left ≤ length last.items
     → then.items ≡ take (length last.items - left) last.items → more ≡ front ++ then ∷ []
     → joined more ≡ take (length (joined chunks) - left) (joined chunks)
@@ -140,7 +140,7 @@ cut_last chunks front last then more left are few is then_are =
     ∙ ap (λ l. take (length (joined front) + (length last.items - left)) l) (sym whole)
     ∙ ap (λ n. take n (joined chunks)) (sym rest)
 
--- the last vector goes: what is left to cut, and what will be left of the octets
+-- the last vector is removed: how many octets are still to be removed, and the octets that will remain
 pub drop_last : (chunks front : List (Vec ℕ)) (last : Vec ℕ) (left : ℕ) → chunks ≡ front ++ last ∷ [] → length last.items ≤ left
     → left ≤ length (joined chunks) → (left - length last.items ≤ length (joined front))
     × (take (length (joined front) - (left - length last.items)) (joined front) ≡ take (length (joined chunks) - left) (joined chunks))

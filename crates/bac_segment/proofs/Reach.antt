@@ -1,4 +1,4 @@
--- Numbers modulo 256, read against a window.
+-- Sequence numbers modulo 256, relative to a window.
 use Rattle.std.proofs.Common.{◌≡◌, ◌≢◌, ℕ, ◌+◌, ◌-◌, ◌*◌, ◌%◌, ◌<◌, ◌≤◌, min, Bool, true, false, Option, Some, None}
 use Rattle.std.proofs.Common.{List, [], ◌∷◌, ◌++◌, length, take, if◌then◌else◌, nat_lt, nat_le, refl, sym, ap, subst, ◌∙◌, arith}
 use Rattle.std.proofs.lemmas.Bool.Decides.{nat_tests}
@@ -10,11 +10,11 @@ use Rattle.bac_segment.specs.Pieces.{piece_at}
 use Rattle.bac_segment.specs.Window.{Outgoing, in_window, acknowledged, Incoming, Taking, takes, parts_after, AreFirst}
 use Rattle.bac_segment.specs.Window.{is_expected, is_too_long, is_acknowledged}
 
--- within the bound, no two numbers that can arrive look alike
+-- within the bound, all numbers that can arrive have different remainders
 pub are_different : (V W a : ℕ) → V + 2 * W ≤ 255 → AreDifferent V W a
 are_different V W a bound = λ p q left right same. omega (arith, left.above, left.below, right.above, right.below)
 
--- beyond it, the least of them and the one that is 256 greater do
+-- beyond the bound, the least of them and the number 256 above it have the same remainder
 pub bound_is_needed : (V W a : ℕ) → 1 + W + V ≤ a → AreDifferent V W a → V + 2 * W ≤ 255
 bound_is_needed V W a enough different = go (nat_le (V + 2 * W) 255) refl
   where
@@ -33,7 +33,7 @@ bound_is_needed V W a enough different = go (nat_le (V + 2 * W) 255) refl
 
 -- The receiver.
 
--- the piece that a receiver takes for the next one is the next one
+-- the piece that a receiver accepts as the next one is the next one
 expected_is_next : (V W p : ℕ) (inc : Incoming) → 1 ≤ W → V + 2 * W ≤ 255 → IsInReach V W (length inc.parts) p
     → p % 256 ≡ length inc.parts % 256 → p ≡ length inc.parts
 expected_is_next V W p inc some bound reach same =
@@ -50,7 +50,7 @@ takes_only_expected V W inc some bound = λ p more octets reach other. refused p
         let is : is_expected inc (p % 256) ≡ false = grind (arith, nat_tests) in
         grind (arith, is)
 
--- what a segment does, by its four tests
+-- the effect of a segment, by four tests
 unfoldable pub branches : (inc : Incoming) (octets : List ℕ) (expected long more ack : Bool) → Taking
 branches inc octets false long more ack = Taking.Nak (record inc { unacknowledged = 0 })
 branches inc octets true true more ack = Taking.TooLong

@@ -1,4 +1,4 @@
--- What decides that two sides are the same.
+-- What decides that two sides are in the same state.
 use Rattle.std.proofs.Common.{◌≡◌, ℕ, zero, suc, ◌*◌, ◌<◌, ◌≤◌, ◌⊎◌, inl, inr, Bool, true, false, not}
 use Rattle.std.proofs.Common.{◌&&◌, eqb, List, [], ◌∷◌, length, map, Decides, refl, ap, sym, ◌∙◌, arith}
 use Rattle.std.specs.List.{sum}
@@ -13,7 +13,7 @@ use Rattle.bac_segment.proofs.Joined.{join-split, lengths-split}
 use Rattle.bac_segment.proofs.Cut.{length-pieces_of, length-le-count, join-pieces_of}
 use Rattle.bac_segment.proofs.Unique.{pieces_are}
 
--- the same parts are the same lengths and the same octets
+-- equal parts have equal lengths and equal octets
 pub parts_are_same : (ours theirs octets other : List ℕ) → sum ours ≡ length octets → sum theirs ≡ length other
     → split ours octets ≡ split theirs other → (ours ≡ theirs) × (octets ≡ other)
 parts_are_same ours theirs octets other whole all same = (
@@ -26,7 +26,7 @@ pub parts_from_same : (ours theirs octets other : List ℕ) → sum ours ≡ len
 parts_from_same ours theirs octets other whole all lengths same =
     ap (λ l. split l octets) lengths ∙ ap (split theirs) (sym (join-split ours octets whole) ∙ same ∙ join-split theirs other all)
 
--- what a test by `!=` says of numbers
+-- what a test with `!=` means for numbers
 pub lengths_differ : (ours theirs : List ℕ) (r : Bool) → r ≡ not (pointwise eqb ours theirs) → Decides (not r) (ours ≡ theirs)
 lengths_differ ours theirs r is = slice_eq-Decides Decides-eqb ours theirs (not r) (ap not is ∙ not-not (pointwise eqb ours theirs))
   where
@@ -41,7 +41,7 @@ whole_front (suc zero) size octets few enough =
     ap (λ l. l ∷ []) (take_all size octets (omega arith) ∙ sym (take_all (length octets) octets (omega arith)))
 whole_front (suc (suc count)) size octets few enough = absurd (omega arith)
 
--- the same octets in as many pieces are the same pieces, where these are one at most or of one size
+-- equal octets in as many pieces have equal pieces, if there is at most one or the size is the same
 pub pieces_from_same : (s t : ℕ) (octets other : List ℕ) → 1 ≤ s → 1 ≤ t → octets ≡ other
     → length (pieces_of s octets) ≡ length (pieces_of t other) → (length (pieces_of s octets) < 2) ⊎ (s ≡ t) → pieces_of s octets ≡ pieces_of t other
 pieces_from_same s t octets other ps pt same count (inl few) =

@@ -1,4 +1,4 @@
--- The pieces of some octets are one list.
+-- Octets have one list of pieces.
 use Rattle.std.proofs.Common.{◌≡◌, ℕ, suc, ◌+◌, ◌-◌, ◌*◌, ◌<◌, ◌≤◌, min, List, []}
 use Rattle.std.proofs.Common.{◌∷◌, length, take, drop, refl, ap, sym, subst, ◌∙◌, arith, length-append}
 use Rattle.std.proofs.Math.Nat.{lt_of_mul-lt-mul_right, mul-le-mul_left}
@@ -68,7 +68,7 @@ spans size octets (piece ∷ second ∷ pieces) positive are =
     let later = spans size rest (second ∷ pieces) positive (tail_are size octets piece (second ∷ pieces) are) in
     omega (arith, all, both, full, later.0, later.1)
 
--- two counts that are enough, and not one too many
+-- two counts that are enough, but not one too many, are equal
 count-le : (a b size len : ℕ) → a * size < len + size → len ≤ b * size → a ≤ b
 count-le a b size len few enough =
     let below : a * size < (b + 1) * size = grind arith in

@@ -1,4 +1,4 @@
--- The limits of a transfer (own rules of this profile), as the code states them.
+-- The limits of a transfer (own rules of this profile), as constants in code.
 use Rattle.std.specs.Prelude.{ℕ}
 use Rattle.bac_segment.specs.declared.limits.TheConstants as code
 
@@ -6,6 +6,6 @@ use Rattle.bac_segment.specs.declared.limits.TheConstants as code
 abbrev pub N_RETRY : ℕ
 N_RETRY = code.N_RETRY
 
--- the most octets of service data, and the most segments of one transfer
+-- the greatest length of service data in octets, and the greatest number of segments of one transfer
 abbrev pub DATA : ℕ
 DATA = code.DATA

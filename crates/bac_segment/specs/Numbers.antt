@@ -1,7 +1,7 @@
--- Pieces have whole numbers; the wire carries each modulo 256 (clauses 20.1.2.7 and 20.1.6.4).
+-- Pieces are numbered with whole numbers; on the wire each is taken modulo 256 (clauses 20.1.2.7 and 20.1.6.4).
 use Rattle.std.specs.Prelude.{ℕ, ◌+◌, ◌-◌, ◌%◌, ◌<◌, ◌≤◌}
 
--- how far a number of the wire is ahead of the whole number a, modulo 256
+-- how far a sequence number on the wire is ahead of the whole number a, modulo 256
 abbrev pub ahead : ℕ → ℕ → ℕ
 ahead number a = (number + (256 - a % 256)) % 256
 

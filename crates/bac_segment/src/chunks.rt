@@ -1,15 +1,15 @@
-//! Octets that grow at their end, in few vectors. What stands is never copied again.
+//! Growing octets in few vectors. Octets are never copied again after they were appended.
 ghost use Rattle.std.specs.Prelude.{◌≡◌, ◌-◌, ◌≤◌, ◌↔◌, ◌++◌, length, take, IsTrue, IfOk, OnOk, OnErr};
 ghost use Rattle.bac_value.specs.Octets.{joined};
 
 use bac_value::{NoMemory, Octets};
 use std::alloc::Global;
 
-/// The least room of a vector that is begun. Of the usual sizes of a segment it holds 23 of 44 octets, 8 of 122, 5 of 200, 2 of 474,
-/// or 1 of 1,018; longer ones are kept one by one.
+/// The least capacity of a new vector. Of the usual segment sizes it holds 23 of 44 octets, 8 of 122, 5 of 200, 2 of 474, or 1 of
+/// 1,018; longer segments get a vector each.
 pub(crate) const ROOM: usize = 1_024;
 
-/// Appends octets, or changes nothing. They go into the last vector where its room is enough, and otherwise into one that is begun.
+/// Appends octets, or changes nothing. They go into the last vector if it has room for them, otherwise into a new one.
 pub fn append(alloc: Global, chunks: &mut Vec<Vec<u8>>, octets: &[u8]) -> Result<(), NoMemory>
     ensures ok { OnOk result (joined chunks.new.items ≡ joined chunks.old.items ++ octets.now) }
     ensures err { OnErr result (joined chunks.new.items ≡ joined chunks.old.items) }
@@ -24,7 +24,7 @@ pub fn append(alloc: Global, chunks: &mut Vec<Vec<u8>>, octets: &[u8]) -> Result
     Ok(())
 }
 
-/// A vector of these octets, with room for at least [`ROOM`].
+/// A vector with these octets, with a capacity of at least [`ROOM`].
 fn begun(alloc: Global, octets: &[u8]) -> Result<Vec<u8>, NoMemory>
     ensures { IfOk result (λ chunk. chunk.items ≡ octets.now) }
 {
@@ -33,7 +33,7 @@ fn begun(alloc: Global, octets: &[u8]) -> Result<Vec<u8>, NoMemory>
     Ok(chunk)
 }
 
-/// Takes the last `count` octets off. Vectors that get empty go.
+/// Removes the last `count` octets. Vectors that become empty are removed.
 pub(crate) fn cut_back(chunks: &mut Vec<Vec<u8>>, count: usize)
     requires { count ≤ length (joined chunks.old.items) }
     ensures { joined chunks.new.items ≡ take (length (joined chunks.old.items) - count) (joined chunks.old.items) }
@@ -49,7 +49,7 @@ pub(crate) fn cut_back(chunks: &mut Vec<Vec<u8>>, count: usize)
     }
 }
 
-/// Whether these are the same octets, wherever their pieces end.
+/// Whether the octets are equal, however they are split into pieces.
 pub(crate) fn same_octets<O: Octets>(ours: O, theirs: O) -> bool
     ensures { IsTrue result ↔ (O.octets ours ≡ O.octets theirs) }
 {

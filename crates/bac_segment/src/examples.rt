@@ -1,11 +1,11 @@
-//! Small worked cases of the definitions, by computation: numbers that were worked out by hand, not by this crate.
+//! Small worked examples of the definitions, with numbers that were worked out by hand.
 ghost use Rattle.std.specs.Prelude.{◌≡◌, [], ◌∷◌, true, false, Some, None, length, map, replicate};
 ghost use Rattle.bac_segment.specs.Numbers.{ahead};
 ghost use Rattle.bac_segment.specs.Pieces.{join, piece_at, pieces_of};
 ghost use Rattle.bac_segment.specs.Window.{outgoing, in_window, window_pieces, is_finished, acknowledged, again, restart, resume};
 ghost use Rattle.bac_segment.specs.Window.{incoming, Taking, takes};
 
-/// 111 octets in pieces of 44 are pieces of 44, 44 and 23.
+/// 111 octets in pieces of at most 44: 44, 44 and 23.
 pub fn cuts()
     ensures lengths { map length (pieces_of 44 (replicate 111 7)) ≡ 44 ∷ 44 ∷ 23 ∷ [] }
     ensures even { pieces_of 2 (1 ∷ 2 ∷ 3 ∷ 4 ∷ []) ≡ (1 ∷ 2 ∷ []) ∷ (3 ∷ 4 ∷ []) ∷ [] }
@@ -15,7 +15,7 @@ pub fn cuts()
     ensures at { piece_at (pieces_of 2 (1 ∷ 2 ∷ 3 ∷ [])) 1 ≡ 3 ∷ [] }
 {}
 
-/// How far the wire's number is ahead.
+/// How far a sequence number is ahead.
 pub fn counts_ahead()
     ensures same { ahead 0 256 ≡ 0 }
     ensures next { ahead 1 256 ≡ 1 }
@@ -23,7 +23,7 @@ pub fn counts_ahead()
     ensures round { ahead 4 510 ≡ 6 }
 {}
 
-/// A sender of three pieces: acknowledgements of piece 0, of pieces before and after the window, and of the last.
+/// A sender of three pieces: SegmentACKs for piece 0, for pieces before and after the window, and for the last piece.
 pub fn sends()
     ensures start { window_pieces (outgoing ((1 ∷ []) ∷ (2 ∷ []) ∷ (3 ∷ []) ∷ [])) ≡ (1 ∷ []) ∷ [] }
     ensures first { acknowledged 32 (outgoing ((1 ∷ []) ∷ (2 ∷ []) ∷ (3 ∷ []) ∷ [])) 0 127
@@ -39,7 +39,7 @@ pub fn sends()
         ≡ false }
 {}
 
-/// Repeats, and what a transfer begins with again.
+/// Retransmissions, and a restarted transfer.
 pub fn repeats()
     ensures once { again (outgoing ((1 ∷ []) ∷ [])) ≡ Some (record { pieces = (1 ∷ []) ∷ []; first = 0; window = 1; retries = 2 }) }
     ensures no_more { again (record { pieces = (1 ∷ []) ∷ []; first = 0; window = 1; retries = 0 }) ≡ None }
@@ -49,7 +49,7 @@ pub fn repeats()
         ≡ record { pieces = (1 ∷ []) ∷ (2 ∷ []) ∷ []; first = 1; window = 9; retries = 3 } }
 {}
 
-/// A receiver of window 2: piece 0 is acknowledged, piece 1 is not, piece 2 fills the window.
+/// A receiver with window size 2: piece 0 is acknowledged, piece 1 is not, piece 2 fills the window.
 pub fn receives()
     ensures actual { incoming 32 64 ≡ record { parts = []; unacknowledged = 0; window = 32 } }
     ensures lesser { incoming 32 2 ≡ record { parts = []; unacknowledged = 0; window = 2 } }

@@ -1,4 +1,4 @@
-//! The receiver of a transfer. The octets of short segments share a vector; beside them it keeps how long each segment was.
+//! The receiver of a segmented transfer. The octets of short segments share a vector; the length of each segment is kept beside.
 ghost use Rattle.std.specs.Prelude.{◌≡◌, ◌+◌, ◌<◌, ◌≤◌, ◌↔◌, ◌∷◌, ◌++◌, [], length, min, IsTrue, OnOk, OnErr, IsOkUnless};
 ghost use Rattle.bac_value.specs.Octets.{IsBytes};
 ghost use Rattle.bac_value.specs.Views.{parts_view};
@@ -12,28 +12,31 @@ use bac_apdu::Window;
 use bac_value::{Octets, Parts};
 use std::alloc::Global;
 use std::marker::Model;
+use thiserror::Error;
 
-/// What a segment did to the receiver.
+/// The effect of a segment on the receiver.
 #[derive(Clone, Copy, Debug, PartialEq, Eq)]
 pub enum Step {
-    /// It was taken, and more follow. Where `ack` is true, a SegmentACK is to be sent.
+    /// The segment was taken, and more follow. If `ack` is true, send a SegmentACK.
     Taken { ack: bool },
-    /// It was taken and was the last. A SegmentACK is to be sent.
+    /// The segment was taken and was the last. Send a SegmentACK.
     Whole,
-    /// It is not the expected one. A negative SegmentACK is to be sent.
+    /// The segment is not the expected one. Send a negative SegmentACK.
     Nak,
 }
 
-/// Why a segment was refused. The receiver is as before.
-#[derive(Clone, Copy, Debug, PartialEq, Eq)]
+/// Why a segment was not taken. The receiver is unchanged.
+#[derive(Clone, Copy, Debug, PartialEq, Eq, Error)]
 pub enum SegmentFault {
-    /// With it the octets or the segments would be more than 65,535.
+    /// With the segment, the transfer would have more than 65,535 octets or segments.
+    #[error("transfer too long")]
     TooLong,
-    /// The memory for it was refused. This is tested last.
+    /// An allocation failed. This is tested last.
+    #[error("no memory")]
     NoMemory,
 }
 
-/// The receiver of a transfer.
+/// The receiver of a segmented transfer.
 #[derive(Drop)]
 pub struct Incoming {
     alloc: Global,
@@ -59,8 +62,8 @@ impl Model for Incoming {
 }
 
 impl Incoming {
-    /// A receiver that has taken nothing, of a transfer whose segments propose that window, on a node whose own
-    /// greatest window is `own`. It takes memory as segments are taken, and none now.
+    /// A new receiver. `proposed` is the window size that the segments propose, and `own` the greatest window size of this node.
+    /// It allocates when segments are taken, not now.
     pub fn new(alloc: Global, proposed: Window, own: Window) -> Incoming
         ensures { result ≡ incoming own.size proposed.size }
     {
@@ -74,7 +77,7 @@ impl Incoming {
         }
     }
 
-    /// How many segments were taken.
+    /// How many segments were taken, at most 65,535.
     #[tactic(auto, using(crate::proofs::Joined::parts_are_as_many))]
     pub fn taken(&self) -> usize
         ensures number { result ≡ length self.now.parts }
@@ -83,7 +86,7 @@ impl Incoming {
         self.lengths.len()
     }
 
-    /// How many octets were taken.
+    /// How many octets were taken, at most 65,535.
     #[tactic(auto, using(crate::proofs::Joined::parts_have_all))]
     pub fn len(&self) -> usize
         ensures number { result ≡ length (join self.now.parts) }
@@ -92,7 +95,7 @@ impl Incoming {
         self.total
     }
 
-    /// The octets that were taken, joined; nothing is copied. It goes once over the vectors that they are in.
+    /// The octets that were taken, as if joined; nothing is copied. The call passes over the vectors once.
     pub fn parts(&self) -> Parts<'_>
         ensures joined { parts_view result ≡ join self.now.parts }
         ensures each { IsBytes (join self.now.parts) }
@@ -103,16 +106,16 @@ impl Incoming {
         parts
     }
 
-    /// The actual window.
+    /// The actual window size: the lesser of the proposed one and that of this node.
     pub fn window(&self) -> Window
         ensures { result.size ≡ self.now.window }
     {
         self.window
     }
 
-    /// What a segment would do: its number on the wire, whether more follow, and its octets. It changes nothing,
-    /// takes no memory, and never answers `NoMemory`. `TooLong` where the segment is the next, and the octets with it would pass 65,535 or 65,535 segments
-    /// were taken.
+    /// The effect that a segment would have: its sequence number on the wire, whether more segments follow, and its octets. It changes
+    /// nothing, does not allocate, and never returns `NoMemory`. Returns `TooLong` if the segment is the expected one, but the octets with
+    /// it would exceed 65,535, or 65,535 segments were taken already.
     #[tactic(auto, using(crate::proofs::Joined::parts_are_as_many, crate::proofs::Joined::parts_have_all))]
     pub fn answer(&self, number: u8, more: bool, octets: &[u8]) -> Result<Step, SegmentFault>
         ensures { result ≡ answer_of (takes self.now number more octets.now) }
@@ -131,9 +134,10 @@ impl Incoming {
         Ok(Step::Taken { ack })
     }
 
-    /// A segment comes (clauses 5.4.4.4 and 5.4.5.2): its number on the wire, whether more follow, and its octets.
+    /// Handles a segment (clauses 5.4.4.4 and 5.4.5.2): its sequence number on the wire, whether more segments follow, and its octets.
     ///
-    /// `TooLong` exactly where `answer` says so, and `NoMemory` where memory is refused to one that is taken. After an Err nothing has changed.
+    /// Returns `TooLong` exactly if `answer` does, and `NoMemory` if an allocation for a taken segment fails. After an `Err` nothing has
+    /// changed.
     pub fn on_segment(
         &mut self,
         number: u8,
@@ -157,7 +161,7 @@ impl Incoming {
         Ok(step)
     }
 
-    /// How many segments were taken since the last SegmentACK of either kind.
+    /// How many segments were taken since the last SegmentACK, positive or negative.
     #[tactic(auto, using(crate::proofs::Joined::parts_are_as_many))]
     pub fn unacknowledged(&self) -> usize
         ensures number { result ≡ self.now.unacknowledged }
@@ -166,8 +170,8 @@ impl Incoming {
         self.unacknowledged
     }
 
-    /// The last segment was not taken after all: this undoes a step that the caller could not finish. `unacknowledged` is what
-    /// [`unacknowledged`](Incoming::unacknowledged) answered before that segment came.
+    /// Removes the last segment that was taken: this undoes a step that the caller could not finish. `unacknowledged` is the result of
+    /// [`unacknowledged`](Incoming::unacknowledged) before that segment came.
     pub fn take_back(&mut self, unacknowledged: usize)
         requires { unacknowledged < length self.old.parts }
         ensures { self.new ≡ taken_back unacknowledged self.old }
@@ -180,7 +184,7 @@ impl Incoming {
         self.unacknowledged = unacknowledged;
     }
 
-    /// Whether both hold the same parts and stand alike.
+    /// Whether two receivers are in the same state.
     pub fn same(&self, other: &Incoming) -> bool
         ensures { IsTrue result ↔ (self.now ≡ other.now) }
     {
@@ -196,7 +200,7 @@ impl Incoming {
         same_octets(self.parts(), other.parts())
     }
 
-    /// Keeps the octets of one more segment.
+    /// Appends the octets of one more segment.
     fn keep(&mut self, octets: &[u8]) -> Result<(), SegmentFault>
         requires short { length (join self.old.parts) + length octets.now ≤ DATA }
         requires few { length self.old.parts + 1 ≤ DATA }
@@ -216,7 +220,7 @@ impl Incoming {
     }
 }
 
-/// The lesser of two windows.
+/// The lesser of two window sizes.
 pub(crate) fn lesser(a: Window, b: Window) -> Window
     ensures { result.size ≡ min a.size b.size }
 {

@@ -1,8 +1,7 @@
-//! Both sides of a transfer in segments (clauses 5.2 and 5.4): what is cut into pieces on one end is taken in order on
-//! the other.
+//! Both sides of a segmented transfer (clauses 5.2 and 5.4): one end cuts octets into pieces, the other end takes them in order.
 //!
-//! Pieces have whole numbers from 0 on. The wire carries the remainder modulo 256, and only the calls that are handed
-//! a number of the wire know of it. Windows are those of bac_apdu: 1 to 127 segments.
+//! Pieces are numbered with whole numbers from 0 on. On the wire a sequence number is the remainder modulo 256; only the calls that
+//! take or return sequence numbers use it. Window sizes are those of bac_apdu: 1 to 127 segments.
 #![tactic(auto)]
 
 pub mod chunks;

@@ -1,7 +1,7 @@
 //! The limits of a transfer (own rules of this profile).
 
-/// How often a window is sent again before the sender gives up.
+/// How often a window is sent again before the sender gives up (clause 5.4.1, Number_Of_APDU_Retries).
 pub const N_RETRY: u8 = 3;
 
-/// The most octets of service data, and the most segments of one transfer.
+/// The greatest length of service data in octets, and the greatest number of segments of one transfer.
 pub const DATA: usize = 65_535;

@@ -1,4 +1,4 @@
-//! The sender of a transfer. It keeps the octets whole, and cuts where a piece is asked for.
+//! The sender of a segmented transfer. It keeps the octets whole, and cuts a piece when it is requested.
 ghost use Rattle.std.specs.Prelude.{◌≡◌, ◌+◌, ◌-◌, ◌<◌, ◌≤◌, ◌↔◌, length, take, drop, map, IsTrue};
 ghost use Rattle.std.specs.List.{range_with_len};
 ghost use Rattle.bac_segment.specs.Pieces.{ArePieces, join, piece_at, pieces_of};
@@ -11,39 +11,39 @@ use bac_apdu::Window;
 use std::marker::Model;
 use std::ops::Range;
 
-/// What a SegmentACK did to the sender.
+/// The effect of a SegmentACK on the sender.
 #[derive(Clone, Copy, Debug, PartialEq, Eq)]
 pub enum Progress {
-    /// It acknowledged pieces of the window, and others are left: the next window is to be sent.
+    /// It acknowledged pieces of the window, and others are left: send the next window.
     Moved,
     /// It acknowledged the last piece.
     Finished,
-    /// Its number is none of the window. Nothing changed.
+    /// Its sequence number is not in the window. Nothing changed.
     Ignored,
 }
 
-/// What a timeout did to the sender.
+/// The effect of a timeout on the sender.
 #[derive(Clone, Copy, Debug, PartialEq, Eq)]
 pub enum Timeout {
-    /// It took a retry: the window is to be sent again.
+    /// A retry was used: send the window again.
     Again,
     /// No retry is left. Nothing changed.
     GivenUp,
 }
 
-/// Where a sender stands: all of it that changes.
+/// The state of a sender: all of it that changes.
 #[derive(Clone, Copy, Debug, PartialEq, Eq)]
 pub struct Position {
     /// The first unacknowledged piece, from 0 on.
     pub first: usize,
-    /// The window, in pieces.
+    /// The window size, in pieces.
     pub window: Window,
-    /// How often the window may be sent again.
+    /// How many more times the window may be sent again.
     pub retries: u8,
 }
 
 impl Position {
-    /// Nothing was sent: the first window has one piece.
+    /// The state before anything was sent: the first window has one piece.
     const START: Position = Position {
         first: 0,
         window: Window { size: 1 },
@@ -51,7 +51,7 @@ impl Position {
     };
 }
 
-/// The sender of a transfer.
+/// The sender of a segmented transfer.
 #[derive(Drop)]
 pub struct Outgoing {
     octets: Vec<u8>,
@@ -74,8 +74,7 @@ impl Model for Outgoing {
 }
 
 impl Outgoing {
-    /// A sender of these octets in pieces of `size` octets, which is at least 1, of which nothing was sent. Its first
-    /// window is one piece.
+    /// A new sender of these octets, in pieces of `size` octets, at least 1. Its first window has one piece.
     pub fn new(octets: Vec<u8>, size: usize) -> Outgoing
         requires { 1 ≤ size }
         ensures start { result ≡ outgoing (pieces_of size octets.items) }
@@ -90,7 +89,7 @@ impl Outgoing {
         }
     }
 
-    /// The octets, whole.
+    /// The octets of the whole transfer.
     pub fn octets(&self) -> &[u8]
         ensures { result.now ≡ join self.now.pieces }
     {
@@ -104,7 +103,7 @@ impl Outgoing {
         self.count
     }
 
-    /// Where the sender stands.
+    /// The current state.
     pub fn position(&self) -> Position
         ensures first { result.first ≡ self.now.first }
         ensures window { result.window.size ≡ self.now.window }
@@ -114,7 +113,7 @@ impl Outgoing {
         self.at
     }
 
-    /// The numbers of the pieces in the window, from the first unacknowledged one on.
+    /// The indexes of the pieces in the window, from the first unacknowledged one on.
     pub fn window(&self) -> Range<usize>
         ensures start { result.start ≡ self.now.first }
         ensures end { result.end ≡ self.now.first + in_window self.now }
@@ -136,7 +135,7 @@ impl Outgoing {
         window.end - window.start
     }
 
-    /// Piece `n`, counted from 0; there are more than `n`.
+    /// Piece `n`, counted from 0. The caller guarantees that there are more than `n` pieces.
     pub fn piece(&self, n: usize) -> &[u8]
         requires { n < length self.now.pieces }
         ensures { result.now ≡ piece_at self.now.pieces n }
@@ -152,9 +151,9 @@ impl Outgoing {
         self.count <= self.at.first
     }
 
-    /// A SegmentACK comes, of either kind: its number, its actual window, and the greatest window of the node itself.
-    /// Where its number is one of the window, the pieces up to that one are acknowledged, the window is the lesser
-    /// of the two, and the retries are full.
+    /// Handles a SegmentACK, positive or negative: its sequence number, its actual window size, and the greatest window size of this node.
+    /// If its number is in the window, the pieces up to that one become acknowledged, the window size becomes the lesser of the
+    /// two, and all retries are available again.
     pub fn on_ack(&mut self, number: u8, window: Window, own: Window) -> Progress
         ensures moves { Moves (acknowledged own.size self.old number window.size) self.old result self.new }
         ensures forward { self.old.first ≤ self.new.first }
@@ -181,7 +180,7 @@ impl Outgoing {
         self.at.retries > 0
     }
 
-    /// The time for a SegmentACK is over. It takes a retry, where one is left.
+    /// Handles a segment timeout: uses a retry if one is left.
     pub fn on_timeout(&mut self) -> Timeout
         ensures { TimesOut (again self.old) self.old result self.new }
     {
@@ -192,21 +191,21 @@ impl Outgoing {
         Timeout::Again
     }
 
-    /// The transfer begins again with piece 0, a window of one piece and full retries.
+    /// Restarts the transfer with piece 0, a window of one piece and all retries.
     pub fn restart(&mut self)
         ensures { self.new ≡ restart self.old }
     {
         self.at = Position::START;
     }
 
-    /// The transfer goes on where it stands, with full retries.
+    /// Continues the transfer from its current state, with all retries.
     pub fn resume(&mut self)
         ensures { self.new ≡ resume self.old }
     {
         self.at.retries = N_RETRY;
     }
 
-    /// Whether both have the same pieces and stand alike.
+    /// Whether two senders have the same pieces and are in the same state.
     pub fn same(&self, other: &Outgoing) -> bool
         ensures { IsTrue result ↔ (self.now ≡ other.now) }
     {
@@ -216,15 +215,14 @@ impl Outgoing {
         if self.count != other.count {
             return false;
         }
-        // one piece is the same whatever size it might have had
+        // a single piece is the same for every size
         if self.count > 1 && self.size != other.size {
             return false;
         }
         self.octets == other.octets
     }
 
-    /// The sender stands there again, at a position that `position` answered: this undoes a step that the caller could not
-    /// finish.
+    /// Restores a state that `position` returned: this undoes a step that the caller could not finish.
     pub fn go_back(&mut self, to: Position)
         requires { to.first ≤ length self.old.pieces }
         ensures { self.new ≡ record self.old { first = to.first; window = to.window.size; retries = to.retries } }
@@ -233,7 +231,7 @@ impl Outgoing {
     }
 }
 
-/// The octets from that place on, at most so many of them.
+/// At most `size` octets from this offset on.
 fn part(octets: &[u8], from: usize, most: usize) -> &[u8]
     requires { from ≤ length octets.now }
     ensures { result.now ≡ take most (drop from octets.now) }

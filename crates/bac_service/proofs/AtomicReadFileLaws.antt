@@ -87,7 +87,7 @@ boolean_mark b = record { number = 1; class = Application; form = Boolean b }
 abbrev of : ℕ → Class → Form → Mark
 of n c f = record { number = n; class = c; form = f }
 
--- only an application tag of number 1 has a value in place of a length
+-- only an application tag with number 1 has a value in place of a length
 boolean_tag : (n : ℕ) (c : Class) (b : Bool) → IsTrue (tag_fits n c (Boolean b)) → of n c (Boolean b) ≡ boolean_mark b
 boolean_tag n Application b fits = rw (eqb-true n 1 fits) refl
 boolean_tag n Context b fits = absurd cc

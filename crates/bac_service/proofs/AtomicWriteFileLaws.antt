@@ -145,7 +145,7 @@ write_access_only (WriteRecords start count run) =
     enclosed_only 1 (ApplicationSigned start ⨾ (ApplicationUnsigned count ⨾ AreRecords count run))
     (after_only (ApplicationSigned start) (ApplicationUnsigned count ⨾ AreRecords count run) (signed_member_only start) counted)
 
--- what the octets for a file and its records are, of those that are spelled
+-- the octets for a file and the records of a request are those that are spelled
 pub written_is : (w : WriteAccess) (bytes : Octets) → SpellsWriteAccess w bytes → IsWritten w
 written_is (WriteStream start octets) bytes s = let string = s.are.second in subst (λ (xs : Octets). length xs < 2 ^ 32) string.are string.fits
 written_is (WriteRecords start count run) bytes s = ∣ s.are.second.second.strings ∣₁

@@ -1,4 +1,4 @@
--- Contents that are read with their length are exactly those of their kind.
+-- The contents that a reader accepts, together with their length, are exactly those of their kind.
 use Rattle.std.proofs.Common.{◌≡◌, ℕ, ◌+◌, ◌*◌, ◌<◌, ◌/◌, ◌%◌, ◌^◌, [], ◌∷◌, lit<, ◌++◌, length, Ok, refl, sym, ap, subst, ◌∙◌, arith}
 use Rattle.std.specs.Int.{w32, from_be_bytes}
 use Rattle.std.proofs.lemmas.Bool.{eqb-true}
@@ -17,7 +17,7 @@ use Rattle.bac_service.specs.Reading.{application_object, application_signed, ap
 use Rattle.bac_service.proofs.Exact.{IsExact, Anything}
 use Rattle.bac_service.proofs.Heads.{IsContentsLaw, member_exact}
 
--- what contents of a kind are, told from the kind's number
+-- the contents of a kind, by the number of the kind
 long_of : (d : Datum) (xs : Octets) → kind_number d ≡ 2 → IsContents d xs → IsNumber 8 (number_in xs) xs
 long_of null xs e h = absurd cc
 long_of (boolean b) xs e h = absurd cc
@@ -63,7 +63,7 @@ integer_of (date a) xs e h = absurd cc
 integer_of (time a) xs e h = absurd cc
 integer_of (object i) xs e h = absurd cc
 
--- octets of a kind in front
+-- the octets begin with contents of a kind
 pub record IsFront (n k : ℕ) (bytes text rest : Octets) : Type 0 where
   pub is : bytes ≡ text ++ rest
   pub len : length text ≡ k
@@ -122,7 +122,7 @@ four_octets (a ∷ (b ∷ (c ∷ []))) e = absurd (omega arith)
 four_octets (a ∷ (b ∷ (c ∷ (d ∷ [])))) e = omega arith
 four_octets (a ∷ (b ∷ (c ∷ (d ∷ (x ∷ xs))))) e = absurd (omega arith)
 
--- the object that four octets are
+-- the object identifier that four octets encode
 abbrev object_in : Octets → ObjectId
 object_in xs = record { kind = number_in xs / 2 ^ 22; instance = number_in xs % 2 ^ 22 }
 

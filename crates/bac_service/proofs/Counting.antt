@@ -1,4 +1,4 @@
--- Going over octet strings up to the end of some octets.
+-- Counting octet strings up to the end of some octets.
 use Rattle.std.proofs.Common.{◌≡◌, ℕ, zero, suc, ◌+◌, ◌<◌, ◌≤◌, [], ◌∷◌, length, Ok, Err, refl, sym, ap, subst, ◌∙◌, zero-add, add-zero, arith}
 use Rattle.bac_value.proofs.Steps.{ok_is}
 use Rattle.bac_value.specs.Octets.{IsBytes}
@@ -11,7 +11,7 @@ use Rattle.bac_service.proofs.Exact.{left_fits}
 use Rattle.bac_service.proofs.Contents.{string_exact}
 use Rattle.bac_service.proofs.Strings.{strings_len}
 
--- so many strings were passed, and the rest is left
+-- this many strings were passed, and the rest is left
 pub record IsPassed (run : Octets) (count : ℕ) (rest : Octets) : Type 0 where
   pub bytes : IsBytes rest
   pub few : count + length rest ≤ length run
@@ -26,7 +26,7 @@ begins run fits = record {
   backward = λ m s. (m, sym (zero-add m), s);
 }
 
--- what stands before the rest of at least one string
+-- the octets before the rest are at least one string
 string_front : (k : ℕ) (rest : Octets) → 0 < length rest → AreStrings k rest → (j : ℕ) × (back : Octets) × (contents : Octets) × (k ≡ suc j)
     × (application_string rest ≡ Ok (contents, back)) × AreStrings j back
 string_front zero rest some s = absurd (omega (arith, ap length s))

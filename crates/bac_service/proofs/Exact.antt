@@ -1,4 +1,4 @@
--- Readings on lists that take exactly what is spelled, and how they follow each other.
+-- Readers on lists that accept exactly the spellings, and how they combine.
 use Rattle.std.proofs.Common.{◌≡◌, ℕ, ◌+◌, ◌<◌, Bool, true, false, [], ◌∷◌, ◌++◌, length, Option, Some}
 use Rattle.std.proofs.Common.{None, Result, Ok, Err, cond, ◌⊎◌, inl, inr, refl, sym, ap, subst, ◌∙◌}
 use Rattle.std.proofs.Common.{append_assoc}
@@ -12,7 +12,7 @@ use Rattle.bac_service.specs.Stops.{stop}
 use Rattle.bac_value.specs.Steps.{◌>>=◌}
 use Rattle.bac_service.specs.Reading.{Read, both_at, made_at, present, is_next, optional_at, that_at, chosen_at, either_at, ends, whole}
 
--- what is read is spelled so; what is spelled so is read, where what follows it may follow
+-- what was read is a spelling; a spelling is read if what follows it is allowed to follow
 pub record IsExact {A : Type 0} (Follows : Octets → Type 0) (read : Octets → Read A) (Spells : A → Octets → Type 0) : Type 0 where
   pub takes : (bytes : Octets) (x : A × Octets) → IsBytes bytes → read bytes ≡ Ok x → (text : Octets) × (bytes ≡ text ++ x.1) × Spells x.0 text
   pub again : (y : A) (text rest : Octets) → Spells y text → Follows rest → read (text ++ rest) ≡ Ok (y, rest)
@@ -23,14 +23,14 @@ Anything rest = Unit {0}
 pub bytes_behind : (text rest : Octets) → IsBytes (text ++ rest) → IsBytes rest
 bytes_behind text rest fits i = subst (λ (n : ℕ). n < 256) (get_or-append-add text rest i 0) (fits (length text + i))
 
--- what is left of an input is octets
+-- the rest of an input consists of octets
 pub left_fits : {A : Type 0} (read : Octets → Read A) (Spells : A → Octets → Type 0) {Follows : Octets → Type 0} → IsExact Follows read Spells
     → (bytes : Octets) (x : A × Octets) → IsBytes bytes → read bytes ≡ Ok x → IsBytes x.1
 left_fits read Spells law bytes x fits e =
     let t = law.takes bytes x fits e in
     bytes_behind t.0 x.1 (subst IsBytes t.1 fits)
 
--- one after the other
+-- one reader after the other
 pub both_exact : {A B : Type 0} (F G : Octets → Type 0) (first : Octets → Read A) (second : Octets → Read B)
     (P : A → Octets → Type 0) (Q : B → Octets → Type 0)
     → IsExact F first P → IsExact G second Q → ((b : B) (text rest : Octets) → Q b text → G rest → F (text ++ rest))
@@ -53,7 +53,7 @@ both_exact {A = A} {B = B} F G first second P Q one two link = record {
       ) refl;
 }
 
--- a value made of what was read
+-- a value built from what was read
 abbrev pub Made : {A B : Type 0} → (A → B) → (A → Octets → Type 0) → B → Octets → Type 0
 Made {A = A} make P b text = (a : A) × (make a ≡ b) × P a text
 
@@ -68,7 +68,7 @@ made_exact {A = A} {B = B} F make read P law = record {
   again = λ y text rest s follows. rw (law.again s.0 text rest s.2 follows, s.1) refl;
 }
 
--- the same reading, of what is spelled in other words
+-- the same reader for an equivalent relation
 pub same_exact : {A : Type 0} (F : Octets → Type 0) (read : Octets → Read A) (P Q : A → Octets → Type 0) → IsExact F read P
     → ((a : A) (text : Octets) → P a text → Q a text) → ((a : A) (text : Octets) → Q a text → P a text) → IsExact F read Q
 same_exact F read P Q law to back = record {
@@ -76,7 +76,7 @@ same_exact F read P Q law to back = record {
   again = λ y text rest s follows. law.again y text rest (back y text s) follows;
 }
 
--- a value that a test takes
+-- a value that passes a test
 abbrev pub That : {A : Type 0} → (A → Bool) → (A → Octets → Type 0) → A → Octets → Type 0
 That test P a text = (test a ≡ true) × P a text
 
@@ -96,7 +96,7 @@ that_exact {A = A} F why test read P law = record {
   again = λ y text rest s follows. rw (law.again y text rest s.1 follows, s.0) refl;
 }
 
--- one of two, told apart by what comes next
+-- one of two alternatives, chosen by what comes next
 pub record IsOneOf {A : Type 0} (F : Octets → Type 0) (test : Octets → Result Bool Stop) (G H : Octets → Type 0) (P Q Spells : A → Octets → Type 0)
     : Type 0 where
   pub one : (a : A) (text : Octets) → P a text → Spells a text
@@ -124,7 +124,7 @@ either_exact F G H test one other P Q Spells is p q = record {
   ];
 }
 
--- an optional member; after an absent one the next tag is another
+-- an optional member; if it is absent, another tag comes next
 abbrev pub Differs : ℕ → Octets → Type 0
 Differs number rest = is_next number rest ≡ Ok false
 
@@ -156,7 +156,7 @@ optional_exact number read P law begins = record {
   again = optional_again number read P law begins;
 }
 
--- the whole input
+-- a reader of the whole input
 at_end : {A : Type 0} (Spells : A → Octets → Type 0) (bytes : Octets) (y z : A) (text rest : Octets) → bytes ≡ text ++ rest → Spells z text
     → ends z rest ≡ Ok y → Spells y bytes
 at_end Spells bytes y z text [] is s ended = rw (is, append-nil text) (subst (λ a. Spells a text) (ok_is z y ended) s)

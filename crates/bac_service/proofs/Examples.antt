@@ -1,4 +1,4 @@
--- Worked examples of the definitions, by computing.
+-- Worked examples of the definitions, checked by computing.
 use Rattle.std.proofs.Common.{◌≡◌, ℕ, ◌<◌, zero, suc, [], ◌∷◌, ◌++◌, Option, Some, None, Err, true, refl, subst, arith, pos, replicate}
 use Rattle.bac_value.specs.declared.tag.Class.TheVariants.{Application}
 use Rattle.bac_value.specs.declared.tag.Form.TheVariants.{Length}
@@ -27,23 +27,23 @@ use Rattle.bac_service.specs.Requests.{SpellsRequest, request_at, request_spelli
 use Rattle.bac_service.specs.Replies.{SpellsComplex, complex_spelling, IsComplex}
 use Rattle.bac_service.proofs.Wholes.{request_again, request_spelled, complex_spelled}
 
--- octets that are the spelling of a request spell it
+-- octets that are the spelling of a request encode it
 spelled : (r : Request) (bytes : Octets) → IsRequest r → request_spelling r ≡ bytes → SpellsRequest (choice_of r) r bytes
 spelled r bytes is same = subst (SpellsRequest (choice_of r) r) same (request_spelled r is)
 
 spelled_complex : (c : Complex) (bytes : Octets) → IsComplex c → complex_spelling c ≡ bytes → SpellsComplex (complex_choice_of c) c bytes
 spelled_complex c bytes is same = subst (SpellsComplex (complex_choice_of c) c) same (complex_spelled c is)
 
--- the octets are rejected for that reason (clause 18.9), and are no request
+-- the octets are rejected for this reason (clause 18.9), and encode no request
 record Refuses (choice : ℕ) (bytes : Octets) (reason : ℕ) : Type 0 where
   reads : request_at choice bytes ≡ Err reason
   none : (r : Request) → SpellsRequest choice r bytes → ⊥
 
--- octets that are not read are no request
+-- octets that are not read encode no request
 refused : (choice : ℕ) (bytes : Octets) (reason : ℕ) → request_at choice bytes ≡ Err reason → Refuses choice bytes reason
 refused choice bytes reason e = record { reads = e; none = λ r s. let read = request_again choice bytes r s in absurd cc }
 
--- ---- what the requests and the service data below are of
+-- ---- parts of the requests and the service data below
 
 abbrev object : ℕ → ℕ → ObjectId
 object kind instance = record { kind = kind; instance = instance }
@@ -51,7 +51,7 @@ object kind instance = record { kind = kind; instance = instance }
 abbrev present_value : ObjectId → Option ℕ → Reference
 present_value of index = record { object = of; property = 85; index = index }
 
--- of analog-input 5 and of analog-value 1
+-- analog-input 5 and analog-value 1
 abbrev input_5 : Option ℕ → Reference
 input_5 index = present_value (object 0 5) index
 
@@ -97,7 +97,7 @@ real_is_data =
     } in
     (leaf (real_of octets) none, record { within = (record { form = tt; spelled = element }, tt); is = refl })
 
--- so many pairs of tags of number 0, each inside the one before
+-- this many nested pairs of tags with number 0
 nested : ℕ → Forest
 nested zero = none
 nested (suc n) = pair 0 (nested n) none
@@ -153,8 +153,8 @@ eight_pairs = spelled _ _ (is_value_1, eight_pairs_are_data, tt) refl
 
 -- ---- octets that are no request
 
--- two records counted where one is there; an index of five octets; no property; a member of another service; an object of three octets;
--- a value cut short; unbalanced data; priority 0; another service
+-- two records counted but one present; an index of five octets; no property; a member of another service; an object of three octets;
+-- a truncated value; unbalanced data; priority 0; another service
 refused_requests :
     Refuses 7 (0xC4 ∷ 0x02 ∷ 0x80 ∷ 0x00 ∷ 0x01 ∷ 0x1E ∷ 0x31 ∷ 0x00 ∷ 0x21 ∷ 0x02 ∷ 0x62 ∷ 0xAB ∷ 0xCD ∷ 0x1F ∷ []) 2
     × Refuses 12 (0x0C ∷ 0x00 ∷ 0x00 ∷ 0x00 ∷ 0x05 ∷ 0x19 ∷ 0x55 ∷ 0x2D ∷ 0x05 ∷ 0x01 ∷ 0x00 ∷ 0x00 ∷ 0x00 ∷ 0x00 ∷ []) 3

@@ -1,4 +1,4 @@
--- The laws of what both services of files say: the file, an extent of it, and octets at a position.
+-- The laws of what both file services share: the file, a part of it, and octets at a position.
 use Rattle.std.proofs.Common.{◌≡◌, ℕ, ℤ, ◌+◌, ◌<◌, ◌^◌, ◌++◌, length, refl, arith, lit<}
 use Rattle.std.proofs.lemmas.List.{length-append}
 use Rattle.bac_value.specs.declared.tag.Class.TheVariants.{Application}

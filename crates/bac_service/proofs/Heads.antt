@@ -1,4 +1,4 @@
--- The laws of members: a tag of a class and number, with contents after it.
+-- The laws of members: a tag with a class and number, and the contents after it.
 use Rattle.std.proofs.Common.{◌≡◌, ℕ, ◌<◌, ◌^◌, Bool, true, false, cond, nat_eq, ◌++◌, length, []}
 use Rattle.std.proofs.Common.{◌∷◌, Option, Some, None, Result, Ok, Err, IsTrue, refl, sym, ap, subst, ◌∙◌}
 use Rattle.std.proofs.Common.{append_assoc}
@@ -72,12 +72,12 @@ unfolding announced
 announced_again Application number k = rw (eq-eqb number number refl) refl
 announced_again Context number k = rw (eq-eqb number number refl) refl
 
--- the tag of another number is not announced
+-- a tag with another number is not accepted
 pub announced_other : (number n k : ℕ) → nat_eq number n ≡ false → announced Context number (mark_of Context n k) ≡ None
 unfolding announced
 announced_other number n k t = rw t refl
 
--- a tag was taken, with so many octets of contents after it
+-- a tag was read, followed by this many octets of contents
 pub record TookHead (class : Class) (number : ℕ) (bytes : Octets) (k : ℕ) (rest : Octets) : Type 0 where
   pub is : bytes ≡ tag_spelling (mark_of class number k) ++ rest
   pub spelled : SpellsTag (mark_of class number k) (tag_spelling (mark_of class number k))
@@ -106,13 +106,13 @@ head_again class number k rest fits short =
     let next = next_tag_again bytes (mark_of class number k, rest) (tag_exact.again (mark_of class number k) (tag_spelling (mark_of class number k)) rest s) in
     rw (next, announced_again class number k) refl
 
--- contents that are read with their length
+-- contents that are read together with their length
 pub record IsContentsLaw {A : Type 0} (read : ℕ → Octets → Result (A × Octets) FaultKind) (Is : A → Octets → Type 0) : Type 0 where
   pub takes : (k : ℕ) (bytes : Octets) (x : A × Octets) → IsBytes bytes → read k bytes ≡ Ok x → (text : Octets) × (bytes ≡ text ++ x.1) × (length text ≡ k)
       × Is x.0 text
   pub again : (y : A) (text rest : Octets) → Is y text → read (length text) (text ++ rest) ≡ Ok (y, rest)
 
--- each length of contents may stand after a tag of this class and number
+-- a tag of this class and number can announce any length of contents
 abbrev pub Tags : Class → ℕ → Type 0
 Tags class number = (k : ℕ) → IsTrue (tag_fits number class (Length k))
 

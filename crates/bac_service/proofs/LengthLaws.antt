@@ -1,2 +1,2 @@
--- The lengths that are computed are those of the spellings, in one place for crates above.
+-- The computed lengths are those of the spellings, collected for crates above.
 pub use Rattle.bac_service.proofs.Wholes.{length_request, length_complex}

@@ -1,4 +1,4 @@
--- The lengths of members that are computed are those of their spellings.
+-- The computed lengths of members are those of their spellings.
 use Rattle.std.proofs.Common.{◌≡◌, ℕ, ℤ, ◌+◌, ◌<◌, ◌++◌, length, Option, Some, None, refl, ap, ◌∙◌, arith}
 use Rattle.std.proofs.lemmas.List.{length-append}
 use Rattle.std.proofs.lemmas.Bool.{lt-ltb}
@@ -54,6 +54,6 @@ length-optional number (Some n) lt = length-number Context number n lt
 pub length-enclosed : (number : ℕ) (inside : Octets) (k : ℕ) → number < 15 → length inside ≡ k → length (enclosed_spelling number inside) ≡ enclosed_length k
 length-enclosed number inside k lt e = length-pair number inside lt ∙ ap enclosed_length e
 
--- how many octets a number has
+-- how many octets a number takes
 pub unsigned_width : (n : ℕ) → length (unsigned_octets n) ≡ width_of n
 unsigned_width = length-unsigned

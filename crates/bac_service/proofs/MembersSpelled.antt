@@ -1,4 +1,4 @@
--- What writers of members append spells what it is to.
+-- Writers of members append spellings of the members.
 use Rattle.std.proofs.Common.{◌≡◌, ℕ, ℤ, ◌<◌, ◌^◌, OnOk, [], ◌++◌, Result, Ok, Err, refl, sym, ap, subst, ◌∙◌, append_assoc, arith}
 use Rattle.std.proofs.lemmas.List.{append-nil}
 use Rattle.std.proofs.Math.Logic.{∥∥₁_elim}
@@ -15,7 +15,7 @@ use Rattle.bac_value.proofs.Values.{IsContents-of}
 use Rattle.bac_value.proofs.Forests.{data_text, data_found}
 use Rattle.bac_service.specs.Members.{Octets, Enclosed, Tagged, AreData, enclosed_spelling}
 
--- ---- that octets are data is known whole where it is known at all
+-- ---- either all of the octets are known to be data or none
 
 read_prop : (bytes : Octets) → IsProp (data_of bytes ≡ Ok [])
 read_prop bytes = hlevel props

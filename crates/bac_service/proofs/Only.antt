@@ -1,4 +1,4 @@
--- Members that have one spelling.
+-- Members with one spelling.
 use Rattle.std.proofs.Common.{◌≡◌, ℕ, ℤ, ◌++◌, length, Option, Some, None, sym, ap, ◌∙◌}
 use Rattle.bac_value.specs.declared.tag.Class.{Class}
 use Rattle.bac_value.specs.declared.tag.Class.TheVariants.{Application, Context}
@@ -9,7 +9,7 @@ use Rattle.bac_value.proofs.OneSpelling.{unsigned_only, signed_only}
 use Rattle.bac_service.specs.Members.{Octets, ◌⨾◌, Optional, Enclosed, Tagged, mark_of, IsString, ApplicationObject, ApplicationSigned}
 use Rattle.bac_service.specs.Members.{ApplicationUnsigned, ApplicationString, AreData}
 
--- only one list of octets is so
+-- at most one list of octets has this property
 abbrev pub IsOnly : (Octets → Type 0) → Type 0
 IsOnly P = (a b : Octets) → P a → P b → a ≡ b
 

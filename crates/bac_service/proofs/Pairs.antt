@@ -1,4 +1,4 @@
--- The laws of pairs of tags, of data between them, and of what comes next.
+-- The laws of pairs of tags, of data between them, and of looking at the next tag.
 use Rattle.std.proofs.Common.{◌≡◌, ℕ, ◌-◌, ◌<◌, Bool, true, false, cond, ◌&&◌, nat_eq, [], ◌∷◌}
 use Rattle.std.proofs.Common.{◌++◌, length, take, Option, None, Result, Ok, Err, is_some, IsTrue, refl, sym}
 use Rattle.std.proofs.Common.{ap, subst, ◌∙◌, append_assoc, arith, inr, lit<}
@@ -29,7 +29,7 @@ use Rattle.bac_service.proofs.Heads.{next_tag_ok, next_tag_again, announced_agai
 
 -- ---- what comes next
 
--- what comes next is told by the tag in front
+-- the tag in front determines what comes next
 next_of : (number : ℕ) (bytes : Octets) (m : Mark) (rest : Octets) → tag_at bytes ≡ Ok (m, rest)
     → is_next number bytes ≡ Ok (is_some (announced Context number m))
 unfolding is_next tag_at
@@ -67,7 +67,7 @@ unfolding none_left
 no_length true = refl
 no_length false = refl
 
--- before a pair of tags no optional member comes
+-- a pair of tags is not taken for an optional member
 pub next_opening : (number n : ℕ) (rest : Octets) → n < 255 → Differs number (opening n ++ rest)
 unfolding announced none_left
 next_opening number n rest lt =
@@ -82,7 +82,7 @@ next_closing number n rest lt =
     next_of number (closing n ++ rest) (pair_mark Closing n) rest (tag_exact.again (pair_mark Closing n) (closing n) rest tag)
     ∙ ap (λ (b : Bool). Ok b) (no_length (nat_eq number n))
 
--- at the end none comes
+-- at the end no optional member comes next
 pub end_differs : (number : ℕ) → Differs number []
 unfolding is_next
 end_differs number = refl
@@ -206,7 +206,7 @@ values_exact = record {
       rw (data_again spelled.0 text rest (record { spelled = spelled.1; ends = ends }), front_is text rest, s.is) refl;
 }
 
--- data between tags of number 3
+-- data between tags with number 3
 abbrev pub Enclosing : Octets → Octets → Type 0
 Enclosing values = Enclosed 3 (AreData values)
 
@@ -216,7 +216,7 @@ closing_ends n rest lt = inr (n, rest, lt, refl)
 pub enclosing_exact : IsExact Anything (enclosed_at 3 values_at) Enclosing
 enclosing_exact = enclosed_exact 3 (lit< tt) Ends values_at AreData values_exact (λ rest. closing_ends 3 rest (lit< tt))
 
--- an opening tag is no optional member
+-- an opening tag is not taken for an optional member
 pub opened_differs : (number n : ℕ) (P : Octets → Type 0) (text rest : Octets) → n < 255 → Enclosed n P text → Differs number (text ++ rest)
 opened_differs number n P text rest lt s =
     let parts : text ++ rest ≡ opening n ++ ((s.inside ++ closing n) ++ rest) =

@@ -1,4 +1,4 @@
--- The laws of what names a property.
+-- The laws of property references.
 use Rattle.std.proofs.Common.{◌≡◌, ℕ, ◌++◌, length, Option, Some, None, refl, subst, lit<, arith}
 use Rattle.std.proofs.lemmas.List.{length-append}
 use Rattle.bac_value.specs.declared.tag.Class.TheVariants.{Context}

@@ -1,4 +1,4 @@
--- Going over octet strings one by one.
+-- Counting octet strings one by one.
 use Rattle.std.proofs.Common.{◌≡◌, ℕ, zero, suc, ◌+◌, ◌-◌, ◌<◌, ◌≤◌, Bool, true, false, cond}
 use Rattle.std.proofs.Common.{Option, Some, None, Result, Ok, Err, is_some, refl, sym, ap, ◌∙◌, length, take}
 use Rattle.std.proofs.Common.{zero-add, add-zero, arith}
@@ -26,7 +26,7 @@ unfolding one_more
 plus-one_more count (Err e) = refl
 plus-one_more count (Ok t) = let e : count + (t.0 + 1) ≡ count + 1 + t.0 = omega arith in rw e refl
 
--- what a step tells of the reading that begins with it
+-- what one step implies for the reading that begins with it
 stepped : ℕ → Octets → Result (Option Octets) Stop → Read ℕ
 stepped most bytes (Err e) = Err e
 stepped most bytes (Ok None) = Ok (0, bytes)
@@ -57,7 +57,7 @@ strings_step : (most : ℕ) (bytes : Octets) → strings_at (suc most) bytes ≡
 unfolding strings_at
 strings_step most bytes = of_tag most bytes (next_tag bytes)
 
--- where reading goes on from the octets, with enough steps left, and so many strings are after
+-- reading continues from these octets, with enough steps left, and this many strings follow
 pub record IsUnderway (all : Octets) (count : ℕ) (bytes : Octets) : Type 0 where
   pub most : ℕ
   pub enough : length bytes < most

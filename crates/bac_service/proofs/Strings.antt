@@ -1,4 +1,4 @@
--- The laws of octet strings in a row.
+-- The laws of sequences of octet strings.
 use Rattle.std.proofs.Common.{◌≡◌, ℕ, zero, suc, ◌+◌, ◌-◌, ◌<◌, ◌≤◌, Bool, true, false, cond, [], ◌++◌, length, take, is_some}
 use Rattle.std.proofs.Common.{refl, sym, ap, subst, ◌∙◌, append_assoc, arith, add-one, Ok, lit<}
 use Rattle.std.proofs.Math.Logic.{∥∥₁_elim}
@@ -36,7 +36,7 @@ no_string_closing n rest lt =
 one_more : Octets × Octets → ℕ → Read ℕ
 one_more s most = strings_at most s.1 >>= λ n. Ok (n.0 + 1, n.1)
 
--- what strings in a row are, with what is left after them
+-- the strings of a sequence, and the octets after them
 abbrev Strings : ℕ → Octets → Octets → Octets → Type 0
 Strings n bytes text rest = (bytes ≡ text ++ rest) × AreStrings n text
 
@@ -68,7 +68,7 @@ strings_takes (suc most) bytes x fits e =
     (Ok (0, bytes))) x e in
     strings_went most (strings_takes most) bytes x fits (is_some (announced Application 6 t.0.0)) t.2
 
--- strings in a row are at least as many octets
+-- a sequence has at least as many octets as strings
 pub strings_len : (n : ℕ) (text : Octets) → AreStrings n text → n ≤ length text
 unfolding tag_spelling
 strings_len zero text s = omega arith

@@ -1,5 +1,5 @@
--- The laws of whole requests and of the service data of whole ComplexACKs: what is read is exactly what they spell, what is written spells them,
--- and none has two spellings.
+-- The laws of whole requests and of the service data of whole ComplexACKs: readers accept exactly the spellings, writers append a
+-- spelling, and each has only one.
 use Rattle.std.proofs.Common.{◌≡◌, ℕ, ◌<◌, Bool, true, false, cond, nat_eq, [], Option, Some, None, ◌⊎◌, inl, inr, refl, sym, ap, subst, ◌∙◌}
 use Rattle.std.proofs.Common.{lit<, length, ◌^◌, Result, Ok, Err, IfOk, IfErr, ◌↔◌}
 use Rattle.std.proofs.Math.Logic.{∥∥₁_elim}
@@ -233,7 +233,7 @@ one_complex_spelling choice c a b s t = complex_only c a b s.members t.members
 pub one_complex : (choice : ℕ) (c d : Complex) (bytes : Octets) → SpellsComplex choice c bytes → SpellsComplex choice d bytes → c ≡ d
 one_complex choice c d bytes s t = ok_is c d (sym (complex_again choice bytes c s) ∙ complex_again choice bytes d t)
 
--- ---- what a reader in code promises
+-- ---- the guarantees of readers in code
 
 abbrev ReadAs : {X E : Type 0} → (X → Request) → (E → ℕ) → ℕ → Octets → Result X E → Type 0
 ReadAs view number choice bytes result = Gives view number result (request_at choice bytes)

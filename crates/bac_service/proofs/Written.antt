@@ -1,4 +1,4 @@
--- What is written part by part is written as a whole; where a part is refused, there was too little room for the whole.
+-- Writing all parts writes the whole; if writing a part fails, there was too little room for the whole.
 use Rattle.std.proofs.Common.{◌≡◌, ℕ, ◌+◌, ◌<◌, ◌≤◌, List, ◌++◌, length, Result, Ok, Err, IsErr, vec_len, vec_capacity, ap, ◌∙◌, append_assoc, arith}
 use Rattle.std.specs.Global.{Vec}
 use Rattle.std.proofs.lemmas.Bool.{false≢true}

@@ -1,4 +1,4 @@
--- AtomicReadFile (clause 14.1): where a file is read, and what was read of it.
+-- AtomicReadFile (clause 14.1): which part of a file is read, and what was read.
 use Rattle.std.specs.Prelude.{ℕ, ℤ, ◌+◌, Bool, ◌^◌, ◌<◌, ◌++◌, List, length, Ok}
 use Rattle.bac_value.specs.declared.tag.Class.TheVariants.{Application}
 use Rattle.bac_value.specs.declared.tag.Form.TheVariants as form
@@ -31,7 +31,7 @@ SpellsReadAccess (ReadRecords start count) = Enclosed 1 (SpellsExtent start coun
 abbrev pub SpellsReadFile : ObjectId → ReadAccess → Octets → Type 0
 SpellsReadFile file access = ApplicationObject file ⨾ SpellsReadAccess access
 
--- [1] where it comes next, [0] otherwise
+-- the second alternative if tag [1] comes next, otherwise the first
 unfoldable pub read_access_at : Octets → Read ReadAccess
 read_access_at = either_at (is_opened 1) (made_at (λ t. ReadRecords t.0 t.1) (enclosed_at 1 extent_at))
     (made_at (λ t. ReadStream t.0 t.1) (enclosed_at 0 extent_at))
@@ -53,7 +53,7 @@ read_access_length (ReadRecords start count) = enclosed_length (extent_length st
 abbrev pub read_file_length : ReadAccess → ℕ
 read_file_length access = OBJECT_LENGTH + read_access_length access
 
--- what the type in code says of it
+-- the abstract value of the type in code
 abbrev pub IsReadAccess : ReadAccess → Type 0
 IsReadAccess (ReadStream start count) = IsExtent start count
 IsReadAccess (ReadRecords start count) = IsExtent start count
@@ -89,7 +89,7 @@ file_read_spelling end_of_file start octets =
 abbrev pub file_read_length : ℤ → ℕ → ℕ
 file_read_length start k = 1 + content_length start k
 
--- what the type in code says of it
+-- the abstract value of the type in code
 abbrev pub IsFileRead : ℤ → Octets → Type 0
 IsFileRead start octets = (distance start < 2 ^ 63) × (length octets < 2 ^ 32)
 

@@ -1,4 +1,4 @@
--- AtomicWriteFile (clause 14.2): where a file is written, and what, and where it was.
+-- AtomicWriteFile (clause 14.2): what is written to a file, and where it was written.
 use Rattle.std.specs.Prelude.{◌≡◌, ℕ, ℤ, ◌+◌, Bool, ◌==◌, ◌^◌, ◌<◌, ◌++◌, length}
 use Rattle.bac_value.specs.declared.tag.Class.TheVariants.{Context}
 use Rattle.bac_value.specs.Number.{signed_octets, distance}
@@ -27,7 +27,7 @@ use Rattle.bac_service.specs.Sights.{Sight}
 
 -- ---- requests
 
--- a run of octet strings that are as many as the count in front of them says (own rule of this profile)
+-- as many octet strings as the count in front of them (own rule of this profile)
 pub record AreRecords (count : ℕ) (run bytes : Octets) : Type 0 where
   pub strings : AreStrings count run
   pub is : bytes ≡ run
@@ -40,14 +40,14 @@ SpellsWriteAccess (WriteRecords start count run) = Enclosed 1 (ApplicationSigned
 abbrev pub SpellsWriteFile : ObjectId → WriteAccess → Octets → Type 0
 SpellsWriteFile file access = ApplicationObject file ⨾ SpellsWriteAccess access
 
--- a count, and the number of strings after it
+-- a count, and that many strings after it
 unfoldable pub counted_at : Octets → Read (ℤ × (ℕ × (ℕ × Octets)))
 counted_at = both_at application_signed (both_at application_unsigned run_at)
 
 abbrev pub are_counted : ℤ × (ℕ × (ℕ × Octets)) → Bool
 are_counted t = t.1.0 == t.1.1.0
 
--- [1] where it comes next, [0] otherwise
+-- the second alternative if tag [1] comes next, otherwise the first
 unfoldable pub write_access_at : Octets → Read WriteAccess
 write_access_at =
     either_at (is_opened 1) (made_at (λ t. WriteRecords t.0 t.1.0 t.1.1.1) (that_at Inconsistent are_counted (enclosed_at 1 counted_at)))
@@ -73,7 +73,7 @@ write_access_length (WriteRecords start count run) = enclosed_length (extent_len
 abbrev pub write_file_length : WriteAccess → ℕ
 write_file_length access = OBJECT_LENGTH + write_access_length access
 
--- what the type in code says of it
+-- the abstract value of the type in code
 abbrev pub IsWriteAccess : WriteAccess → Type 0
 IsWriteAccess (WriteStream start octets) = (distance start < 2 ^ 63) × (length octets < 2 ^ 32)
 IsWriteAccess (WriteRecords start count run) = IsExtent start count × AreStrings count run
@@ -81,7 +81,7 @@ IsWriteAccess (WriteRecords start count run) = IsExtent start count × AreString
 abbrev pub IsWriteFile : ObjectId → WriteAccess → Type 0
 IsWriteFile file access = IsFile file × IsWriteAccess access
 
--- what the octets for a file and its records are, whatever else is said
+-- all octets for a file and all records of a value have this property
 abbrev pub IsWritten : WriteAccess → Type 0
 IsWritten (WriteStream start octets) = length octets < 2 ^ 32
 IsWritten (WriteRecords start count run) = ∥ AreStrings count run ∥₁
@@ -99,7 +99,7 @@ write_file_view s w = WriteFile (object_identifier_view w.file) (write_access_vi
 abbrev pub SpellsPosition : ℕ → ℤ → Octets → Type 0
 SpellsPosition number start = Tagged Context number (IsInteger 8 start)
 
--- [1] where it comes next, [0] otherwise
+-- the second alternative if tag [1] comes next, otherwise the first
 unfoldable pub file_written_at : Octets → Read Complex
 file_written_at = either_at (is_next 1) (made_at RecordsWritten (member_at Context 1 signed_at)) (made_at StreamWritten (member_at Context 0 signed_at))
 

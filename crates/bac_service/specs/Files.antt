@@ -1,4 +1,4 @@
--- What both services of files say: the file, an extent of it, and octets at a position.
+-- What both file services share: the file, a part of it, and octets at a position.
 use Rattle.std.specs.Prelude.{ℕ, ℤ, ◌+◌, ◌^◌, ◌<◌, ◌++◌}
 use Rattle.bac_value.specs.declared.tag.Class.TheVariants.{Application}
 use Rattle.bac_value.specs.Number.{unsigned_octets, signed_octets, distance}
@@ -9,7 +9,7 @@ use Rattle.bac_service.specs.Members.{Octets, ◌⨾◌, Enclosed, ApplicationSi
 use Rattle.bac_service.specs.Reading.{Read, both_at, made_at, enclosed_at, application_object, application_signed, application_unsigned, application_string}
 use Rattle.bac_service.specs.Lengths.{member_length, signed_length, unsigned_length, enclosed_length}
 
--- ---- the file, and what is done with it
+-- ---- the file and the access to it
 
 abbrev pub file_at : {A : Type 0} → (ObjectId → A → Request) → (Octets → Read A) → Octets → Read Request
 file_at make access = made_at (λ t. make t.0 t.1) (both_at application_object access)
@@ -17,12 +17,12 @@ file_at make access = made_at (λ t. make t.0 t.1) (both_at application_object a
 abbrev pub file_spelling : ObjectId → Octets → Octets
 file_spelling file access = primitive Application 12 (object_octets file) ++ access
 
--- what the type in code says of it
+-- the abstract value of the type in code
 pub record IsFile (file : ObjectId) : Type 0 where
   pub kind_fits : file.kind < 1024
   pub instance_fits : file.instance < 2 ^ 22
 
--- ---- an extent: where it begins, and how many octets or records it has
+-- ---- a part of a file: its start, and its number of octets or records
 
 abbrev pub SpellsExtent : ℤ → ℕ → Octets → Type 0
 SpellsExtent start count = ApplicationSigned start ⨾ ApplicationUnsigned count

@@ -1,4 +1,4 @@
--- The members of a production (clause 21): each is a value's contents after a tag, and they follow each other.
+-- The members of a production (clause 21): each is the contents of a value after a tag, one member after the other.
 use Rattle.std.specs.Prelude.{◌≡◌, ℕ, ℤ, Bool, ◌^◌, ◌<◌, List, [], ◌++◌, length, Option, Some, None}
 use Rattle.bac_value.specs.declared.tag.Class.{Class}
 use Rattle.bac_value.specs.declared.tag.Class.TheVariants.{Application, Context}
@@ -12,7 +12,7 @@ use Rattle.bac_value.specs.Writing.{primitive}
 abbrev pub Octets : Type 0
 Octets = List ℕ
 
--- one after the other
+-- one member after the other
 infixr 15 ◌⨾◌
 pub record ◌⨾◌ (P Q : Octets → Type 0) (bytes : Octets) : Type 0 where
   pub front : Octets
@@ -21,31 +21,31 @@ pub record ◌⨾◌ (P Q : Octets → Type 0) (bytes : Octets) : Type 0 where
   pub second : Q back
   pub is : bytes ≡ front ++ back
 
--- a member that may be absent
+-- an optional member
 abbrev pub Optional : {A : Type 0} → (A → Octets → Type 0) → Option A → Octets → Type 0
 Optional Spells None bytes = bytes ≡ []
 Optional Spells (Some x) bytes = Spells x bytes
 
--- between an opening and a closing tag of that number
+-- a member between an opening and a closing tag with this number
 pub record Enclosed (number : ℕ) (P : Octets → Type 0) (bytes : Octets) : Type 0 where
   pub inside : Octets
   pub are : P inside
   pub is : bytes ≡ opening number ++ (inside ++ closing number)
 
--- such members, as what is written
+-- the same as a function: what writers append
 abbrev pub enclosed_spelling : ℕ → Octets → Octets
 enclosed_spelling number inside = opening number ++ (inside ++ closing number)
 
--- an optional number after a context tag, as what is written
+-- an optional number after a context tag, as a function
 abbrev pub optional_spelling : ℕ → Option ℕ → Octets
 optional_spelling number None = []
 optional_spelling number (Some n) = primitive Context number (unsigned_octets n)
 
--- a tag of that class and number, with so many octets of contents after it
+-- a tag with this class and number, which announces this many octets of contents
 abbrev pub mark_of : Class → ℕ → ℕ → Mark
 mark_of class number len = record { number = number; class = class; form = form.Length len }
 
--- such a tag, and contents of which something is said
+-- such a tag, followed by contents with a property
 pub record Tagged (class : Class) (number : ℕ) (IsContents : Octets → Type 0) (bytes : Octets) : Type 0 where
   pub contents : Octets
   pub are : IsContents contents
@@ -74,7 +74,7 @@ ApplicationBoolean b bytes = bytes ≡ tag_spelling (record { number = 1; class 
 
 -- ---- data
 
--- the octets are data, and they are these
+-- the octets encode data, and are these
 pub record AreData (values bytes : Octets) : Type 0 where
   pub spelled : IsData values
   pub is : bytes ≡ values

@@ -1,4 +1,4 @@
--- Priorities for writing, 1 to 16 (clause 19.2).
+-- Write priorities, 1 to 16 (clause 19.2).
 use Rattle.std.specs.Prelude.{ℕ, Bool, ◌&&◌, nat_lt, nat_le, ◌<◌, ◌≤◌, Option, Some, None}
 use Rattle.bac_value.specs.declared.tag.Class.TheVariants.{Context}
 use Rattle.bac_value.specs.Reading.{number_at}
@@ -7,7 +7,7 @@ use Rattle.bac_service.specs.declared.stop.Why.TheVariants.{OutOfRange}
 use Rattle.bac_service.specs.Members.{Octets}
 use Rattle.bac_service.specs.Reading.{Read, member_at, that_at}
 
--- so many octets of contents are one
+-- this many octets of contents encode a priority
 pub record IsPriority (n : ℕ) (xs : Octets) : Type 0 where
   pub least : 0 < n
   pub most : n ≤ 16
@@ -19,7 +19,7 @@ is_priority n = nat_lt 0 n && nat_le n 16
 unfoldable pub priority_at : Octets → Read ℕ
 priority_at = that_at OutOfRange is_priority (member_at Context 4 (number_at 2))
 
--- what the type in code says of it
+-- the abstract value of the type in code
 abbrev pub IsUrgency : Option ℕ → Type 0
 IsUrgency None = Unit {0}
 IsUrgency (Some n) = (0 < n) × (n ≤ 16)

@@ -1,4 +1,4 @@
--- ReadProperty (clause 15.5): which property, and what it is.
+-- ReadProperty (clause 15.5): which property is read, and its values.
 use Rattle.std.specs.Prelude.{ℕ, ◌+◌, ◌++◌, List}
 use Rattle.bac_value.specs.Data.{IsData}
 use Rattle.bac_service.specs.declared.read_property.PropertyRead as code_reply
@@ -29,7 +29,7 @@ property_read_spelling r values = reference_spelling r ++ enclosed_spelling 3 va
 abbrev pub property_read_length : Reference → ℕ → ℕ
 property_read_length r k = reference_length r + enclosed_length k
 
--- what the type in code says of it
+-- the abstract value of the type in code
 abbrev pub IsPropertyRead : Reference → Octets → Type 0
 IsPropertyRead r values = IsReference r × IsData values
 

@@ -1,5 +1,5 @@
--- Reading members from left to right, on lists alone: the value and what is left after it, or why reading stopped and how many octets were left
--- at the tag where it did. That what is read is exactly what is spelled are laws beside the readers in code.
+-- Readers of members as functions on lists, from left to right: the value and the octets after it, or why reading stopped and how many
+-- octets were left at the tag where it stopped. Laws next to the readers in code state that exactly the spellings are accepted.
 use Rattle.std.specs.Prelude.{ℕ, ℤ, ◌-◌, Bool, true, false, ◌&&◌, ◌==◌, [], ◌∷◌, length, take, Option, Some, None}
 use Rattle.std.specs.Prelude.{is_some, Result, Ok, Err, if◌then◌else◌}
 use Rattle.bac_value.specs.declared.fault.FaultKind.{FaultKind}
@@ -17,7 +17,7 @@ use Rattle.bac_service.specs.declared.stop.Why.TheVariants.{Fault, Missing, Unex
 use Rattle.bac_service.specs.Members.{Octets}
 use Rattle.bac_service.specs.Stops.{stop, told_at}
 
--- what is read in front of octets and what is left after it, or why reading stopped
+-- the value at the front and the octets after it, or why reading stopped
 abbrev pub Read : Type 0 → Type 0
 Read A = Result (A × Octets) Stop
 
@@ -48,14 +48,14 @@ length_of (Boolean b) = None
 length_of Opening = None
 length_of Closing = None
 
--- only an application tag of number 1 has a value in place of a length
+-- only an application tag with number 1 has a value in place of a length
 abbrev pub boolean_of : Form → Option Bool
 boolean_of (Length k) = None
 boolean_of (Boolean b) = Some b
 boolean_of Opening = None
 boolean_of Closing = None
 
--- the length that a tag announces, where it is the tag of that class and number
+-- the length that a tag announces, if it has this class and number
 unfoldable pub announced : Class → ℕ → Mark → Option ℕ
 announced class number m = if same_class class m.class && (number == m.number) then length_of m.form else None
 
@@ -64,25 +64,25 @@ unfoldable pub next_tag : Octets → Read Mark
 next_tag [] = stop Missing []
 next_tag (b ∷ bytes) = told_at (b ∷ bytes) (tag_at (b ∷ bytes))
 
--- what the tag in front of these octets has, where it is the tag that is wanted
+-- what the tag in front of these octets announces, if it is the expected one
 abbrev pub expected : {A : Type 0} → Octets → Option A → Result A Stop
 expected bytes (Some x) = Ok x
 expected bytes None = stop Unexpected bytes
 
--- a tag of that class and number: how many octets of contents are after it
+-- a tag with this class and number: the length of the contents after it
 unfoldable pub head_at : Class → ℕ → Octets → Read ℕ
 head_at class number bytes = do
   t ← next_tag bytes
   k ← expected bytes (announced class number t.0)
   Ok (k, t.1)
 
--- such a tag, and contents that are read with their length
+-- such a tag, and contents that are read together with their length
 unfoldable pub member_at : {A : Type 0} → Class → ℕ → (ℕ → Octets → Result (A × Octets) FaultKind) → Octets → Read A
 member_at class number read bytes = do
   h ← head_at class number bytes
   told_at bytes (read h.0 h.1)
 
--- whether the next tag is that of an optional member, of context class with contents; nothing comes next at the end
+-- whether the next tag is that of an optional member, of context class with contents; false at the end
 unfoldable pub is_next : ℕ → Octets → Result Bool Stop
 is_next number [] = Ok false
 is_next number (b ∷ bytes) = do
@@ -112,13 +112,13 @@ is_closing (Boolean b) = false
 is_closing Opening = false
 is_closing Closing = true
 
--- whether the next tag is the opening tag of that number
+-- whether the next tag is the opening tag with this number
 unfoldable pub is_opened : ℕ → Octets → Result Bool Stop
 is_opened number bytes = do
   t ← next_tag bytes
   Ok (is_opening t.0.form && (number == t.0.number))
 
--- a tag that a test takes
+-- a tag that passes a test
 unfoldable pub tag_that : (Mark → Bool) → Octets → Result Octets Stop
 tag_that test bytes = do
   t ← next_tag bytes
@@ -137,9 +137,9 @@ enclosed_at number read bytes = do
   after ← closing_at number x.1
   Ok (x.0, after)
 
--- ---- what stands between them
+-- ---- the octets between a pair of tags
 
--- what stands before the rest; a fault in data is told at its own place
+-- the octets before the rest; a fault in data is at its own place
 abbrev pub front_or_stop : Octets → Result Octets FaultKind → Read Octets
 front_or_stop bytes (Ok rest) = Ok (take (length bytes - length rest) bytes, rest)
 front_or_stop bytes (Err e) = Err (record { why = Fault e; left = length bytes - fault_place bytes })
@@ -160,7 +160,7 @@ application_unsigned = member_at Application 2 (number_at 2)
 abbrev pub application_string : Octets → Read Octets
 application_string = member_at Application 6 (kind_at 6)
 
--- a value that a test takes; where it does not, reading stops at its first tag for that reason
+-- a value that passes a test; if it does not, reading stops at its first tag for this reason
 unfoldable pub that_at : {A : Type 0} → Why → (A → Bool) → (Octets → Read A) → Octets → Read A
 that_at otherwise test read bytes = do
   x ← read bytes
@@ -170,7 +170,7 @@ abbrev pub chosen_at : {A : Type 0} → Bool → (Octets → Read A) → (Octets
 chosen_at true one other bytes = one bytes
 chosen_at false one other bytes = other bytes
 
--- one where a test of what comes next takes it, otherwise the other
+-- the first reader if what comes next passes a test, otherwise the second
 abbrev pub either_at : {A : Type 0} → (Octets → Result Bool Stop) → (Octets → Read A) → (Octets → Read A) → Octets → Read A
 either_at test one other bytes = do
   b ← test bytes
@@ -178,7 +178,7 @@ either_at test one other bytes = do
 
 -- ---- whole service data
 
--- nothing is left after it
+-- nothing follows
 abbrev pub ends : {A : Type 0} → A → Octets → Result A Stop
 ends x [] = Ok x
 ends x (b ∷ rest) = stop Surplus (b ∷ rest)

@@ -1,4 +1,4 @@
--- What names a property: an object, a property, and an index of an array where one is given.
+-- Property references: an object, a property, and an optional array index.
 use Rattle.std.specs.Prelude.{ℕ, ◌+◌, ◌^◌, ◌<◌, ◌++◌, Option, Some, None}
 use Rattle.bac_value.specs.declared.tag.Class.TheVariants.{Context}
 use Rattle.bac_value.specs.Value.{ObjectId, IsNumber, IsObject}
@@ -12,7 +12,7 @@ use Rattle.bac_service.specs.Members.{Octets, ◌⨾◌, Optional, Tagged, optio
 use Rattle.bac_service.specs.Reading.{Read, both_at, made_at, member_at, optional_at}
 use Rattle.bac_service.specs.Lengths.{OBJECT_LENGTH, unsigned_length, index_length}
 
--- [0] ObjectIdentifier, [1] Enumerated property, [2] Unsigned index of an array, where one is given; an index has at most 4 octets (own rule of this profile)
+-- [0] ObjectIdentifier, [1] Enumerated property, [2] optional Unsigned array index; an index has at most 4 octets (own rule of this profile)
 abbrev pub SpellsReference : Reference → Octets → Type 0
 SpellsReference r = Tagged Context 0 (IsObject r.object) ⨾ (Tagged Context 1 (IsNumber 4 r.property) ⨾ Optional (λ i. Tagged Context 2 (IsNumber 4 i)) r.index)
 
@@ -34,7 +34,7 @@ abbrev pub IsIndex : Option ℕ → Type 0
 IsIndex None = Unit {0}
 IsIndex (Some i) = i < 2 ^ 32
 
--- what the type in code says of it
+-- the abstract value of the type in code
 pub record IsReference (r : Reference) : Type 0 where
   pub kind_fits : r.object.kind < 1024
   pub instance_fits : r.object.instance < 2 ^ 22

@@ -1,4 +1,4 @@
--- The numbers of reasons, and what is said of a refusal, out of memory aside.
+-- The numbers of Reject reasons, and what contracts state about refusals, apart from failed allocations.
 use Rattle.std.specs.Prelude.{◌≡◌, ℕ, Result, Ok, Err}
 use Rattle.bac_service.specs.declared.reject.Reject.{Reject}
 use Rattle.bac_service.specs.declared.reject.Reject.TheVariants as reject
@@ -15,12 +15,12 @@ IfNoMemory (Ok x) P = Unit {0}
 IfNoMemory (Err (Refused e)) P = Unit {0}
 IfNoMemory (Err NoMemory) P = P
 
--- what a call answered, seen by views of values and of refusals, is this
+-- seen by views of values and of refusals, the result of a call is this
 abbrev pub Gives : {X E Y F : Type 0} → (X → Y) → (E → F) → Result X E → Result Y F → Type 0
 Gives value refusal (Ok x) expected = expected ≡ Ok (value x)
 Gives value refusal (Err e) expected = expected ≡ Err (refusal e)
 
--- the same, where memory did not run out
+-- the same, unless an allocation failed
 abbrev pub GivesInMemory : {X E Y F : Type 0} → (X → Y) → (E → F) → Result X (code.ReadError E) → Result Y F → Type 0
 GivesInMemory value refusal (Ok x) expected = expected ≡ Ok (value x)
 GivesInMemory value refusal (Err (Refused e)) expected = expected ≡ Err (refusal e)

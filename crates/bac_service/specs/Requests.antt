@@ -1,4 +1,4 @@
--- Whole requests: what spells them, how they are read and written, and how contracts see those in code.
+-- Whole requests: their spellings, readers and writers, and their abstract values.
 use Rattle.std.specs.Prelude.{◌≡◌, ◌≢◌, ℕ, ◌<◌, List, length, Option, Some, None, Result, Err}
 use Rattle.bac_value.specs.declared.data.Data.{Data}
 use Rattle.bac_value.specs.declared.data.DataBuf.{DataBuf}
@@ -29,7 +29,7 @@ use Rattle.bac_service.specs.ReadProperty.{read_property_at}
 use Rattle.bac_service.specs.WriteProperty.{SpellsWriteProperty, write_property_at, write_property_spelling, write_property_length, IsWriteProperty}
 use Rattle.bac_service.specs.WriteProperty.{write_property_view}
 
--- ---- what spells them
+-- ---- spellings
 
 abbrev pub SpellsMembers : Request → Octets → Type 0
 SpellsMembers (ReadFile file access) = SpellsReadFile file access
@@ -37,22 +37,22 @@ SpellsMembers (WriteFile file access) = SpellsWriteFile file access
 SpellsMembers (ReadProperty r) = SpellsReference r
 SpellsMembers (WriteProperty r values priority) = SpellsWriteProperty r values priority
 
--- the octets are the service data of this request, whose choice is this
+-- the octets are the service data of this request, which has this choice
 pub record SpellsRequest (choice : ℕ) (r : Request) (bytes : Octets) : Type 0 where
   pub choice_is : choice ≡ choice_of r
   pub members : SpellsMembers r bytes
 
--- the octets spell no request of this choice
+-- the octets encode no request with this choice
 abbrev pub IsNoRequest : ℕ → Octets → Type 0
 IsNoRequest choice bytes = (r : Request) → SpellsRequest choice r bytes → ⊥
 
--- the octets are a request that holds some of them, so that a copy of it needs memory
+-- the octets encode a request with octets of its own, so that a copy allocates
 pub record NeedsMemory (choice : ℕ) (bytes : Octets) : Type 0 where
   pub request : Request
   pub spelled : SpellsRequest choice request bytes
   pub holds : 0 < length (held request)
 
--- a choice of another service
+-- the choice of another service
 pub record IsUnknown (choice : ℕ) : Type 0 where
   pub no_read_file : choice ≢ ATOMIC_READ_FILE
   pub no_write_file : choice ≢ ATOMIC_WRITE_FILE
@@ -76,20 +76,20 @@ abbrev pub request_of : Option Service → Octets → Result Request ℕ
 request_of None bytes = Err UNRECOGNIZED_SERVICE
 request_of (Some s) bytes = or_reason (whole (request_members s) bytes)
 
--- the request that the octets spell for a choice, or the number of the reason for rejecting them: what is wrong first, from left to right
+-- the request that the octets encode for a choice, or the number of the reason for rejecting them: the first fault from left to right
 unfoldable pub request_at : ℕ → List ℕ → Result Request ℕ
 request_at choice bytes = request_of (service_at choice) bytes
 
 -- ---- writing
 
--- the one spelling of each request, as a function: what writers append
+-- the one spelling of each request as a function: what writers append
 abbrev pub request_spelling : Request → Octets
 request_spelling (ReadFile file access) = read_file_spelling file access
 request_spelling (WriteFile file access) = write_file_spelling file access
 request_spelling (ReadProperty r) = reference_spelling r
 request_spelling (WriteProperty r values priority) = write_property_spelling r values priority
 
--- how many octets it has
+-- the length of that spelling
 abbrev pub request_length : Request → ℕ
 request_length (ReadFile file access) = read_file_length access
 request_length (WriteFile file access) = write_file_length access
@@ -98,21 +98,21 @@ request_length (WriteProperty r values priority) = write_property_length r (leng
 
 -- ---- those in code
 
--- what the type in code says of a request
+-- the abstract value of a request
 abbrev pub IsRequest : Request → Type 0
 IsRequest (ReadFile file access) = IsReadFile file access
 IsRequest (WriteFile file access) = IsWriteFile file access
 IsRequest (ReadProperty r) = IsReference r
 IsRequest (WriteProperty r values priority) = IsWriteProperty r values priority
 
--- what a request's strings and data are, whatever else it says
+-- the strings and data of a request have this property
 abbrev pub IsMade : Request → Type 0
 IsMade (ReadFile file access) = Unit {0}
 IsMade (WriteFile file access) = IsWritten access
 IsMade (ReadProperty r) = Unit {0}
 IsMade (WriteProperty r values priority) = ∥ IsData values ∥₁
 
--- a request over types that hold data, the octets for a file, and records for one
+-- a request, generic over types that hold data, the octets for a file, and records for a file
 abbrev pub RequestOver : Type 0 → Type 0 → Type 0 → Type 0
 RequestOver D C R = code.AnyRequest read_file.ReadFile (write_file.WriteFile C R) PropertyReference (write_property.WriteProperty D)
 
@@ -126,6 +126,6 @@ request_over_view s (variant.WriteProperty w) = write_property_view s.values w
 abbrev pub request_view : RequestOver Data Content Records → Request
 request_view r = request_over_view lent r
 
--- a request with its own memory
+-- a request that owns its octets
 abbrev pub owned_request_view : RequestOver DataBuf OctetString OwnedRecords → Request
 owned_request_view r = request_over_view owned r

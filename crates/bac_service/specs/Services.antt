@@ -1,4 +1,4 @@
--- What reading whole service data answers, in one place for crates above.
+-- The results of reading whole service data, collected for crates above.
 pub use Rattle.bac_service.specs.Choices.{service_at}
 unfoldable pub use Rattle.bac_service.specs.Requests.{request_at}
 unfoldable pub use Rattle.bac_service.specs.Replies.{complex_at}

@@ -1,4 +1,4 @@
--- Why reading stopped: the reason with which a request is rejected, and the fault that is told of the service data of a ComplexACK.
+-- Why reading stopped: the reason for rejecting a request, and the fault of the service data of a ComplexACK.
 use Rattle.std.specs.Prelude.{ℕ, ◌-◌, length, Result, Ok, Err}
 use Rattle.bac_value.specs.declared.fault.Fault.{Fault}
 use Rattle.bac_value.specs.declared.fault.FaultKind.{FaultKind}
@@ -15,7 +15,7 @@ use Rattle.bac_service.specs.Refusals.{reason_number}
 abbrev pub stop : {A : Type 0} → Why → Octets → Result A Stop
 stop w bytes = Err (record { why = w; left = length bytes })
 
--- a fault of contents is told at their tag, the first of these octets
+-- a fault of contents is reported at their tag, the first of these octets
 abbrev pub told_at : {A : Type 0} → Octets → Result A FaultKind → Result A Stop
 told_at bytes (Ok x) = Ok x
 told_at bytes (Err e) = stop (cause.Fault e) bytes
@@ -49,7 +49,7 @@ or_reason (Err s) = Err (reason_number (reason_of s.why))
 
 -- ---- service data of ComplexACKs
 
--- the kind of fault that is told of what was found first (own rule of this profile)
+-- the kind of fault for what was found first (own rule of this profile)
 abbrev pub kind_of : Why → FaultKind
 kind_of (cause.Fault e) = e
 kind_of cause.Missing = kind.ReservedTag
@@ -58,7 +58,7 @@ kind_of cause.OutOfRange = kind.BadLength
 kind_of cause.Inconsistent = kind.BadLength
 kind_of cause.Surplus = kind.BadLength
 
--- its place is counted from the front of so many octets
+-- the place of the fault, counted from the front of this many octets
 abbrev pub fault_of : ℕ → Stop → Fault
 fault_of all s = record { kind = kind_of s.why; at = all - s.left }
 

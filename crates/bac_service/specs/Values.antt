@@ -3,18 +3,18 @@ use Rattle.std.specs.Prelude.{ℕ, ℤ, Bool, List, [], Option}
 use Rattle.bac_value.specs.Value.{ObjectId}
 use Rattle.bac_service.specs.Choices.{ATOMIC_READ_FILE, ATOMIC_WRITE_FILE, READ_PROPERTY, WRITE_PROPERTY}
 
--- which property of which object, and which element of it
+-- a property of an object, and optionally one element of it
 pub record Reference : Type 0 where
   pub object : ObjectId
   pub property : ℕ
   pub index : Option ℕ
 
--- where a file is read: from an octet on, or from a record on, and how many of them
+-- the part of a file to read: a count of octets from a position on, or of records from a record on
 pub data ReadAccess : Type 0 where
   ReadStream : (start : ℤ) (count : ℕ) → ReadAccess
   ReadRecords : (start : ℤ) (count : ℕ) → ReadAccess
 
--- where a file is written, and what; a run is octet strings, each spelled with its application tag, joined
+-- what is written to a file, and where; a run is octet strings, each spelled with its application tag, joined
 pub data WriteAccess : Type 0 where
   WriteStream : (start : ℤ) (octets : List ℕ) → WriteAccess
   WriteRecords : (start : ℤ) (count : ℕ) (run : List ℕ) → WriteAccess
@@ -33,19 +33,19 @@ pub data Complex : Type 0 where
   RecordsWritten : (start : ℤ) → Complex
   PropertyRead : (reference : Reference) (values : List ℕ) → Complex
 
--- the octets for a file that a request holds, or its records with their tags
+-- the octets for a file that a request contains, or its records with their tags
 abbrev pub for_file : WriteAccess → List ℕ
 for_file (WriteStream start octets) = octets
 for_file (WriteRecords start count run) = run
 
--- the octets of data, for a file or of records that a request holds: what a copy needs memory for
+-- the octets of data, for a file or of records that a request contains: what a copy allocates
 abbrev pub held : Request → List ℕ
 held (ReadFile file access) = []
 held (WriteFile file access) = for_file access
 held (ReadProperty reference) = []
 held (WriteProperty reference values priority) = values
 
--- the octets of data or of a file that the service data of a ComplexACK hold
+-- the octets of data or of a file that the service data of a ComplexACK contain
 abbrev pub held_in : Complex → List ℕ
 held_in (FileRead end_of_file start octets) = octets
 held_in (StreamWritten start) = []

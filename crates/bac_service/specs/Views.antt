@@ -1,4 +1,4 @@
--- What contracts see of the types in code, in one place for crates above.
+-- The abstract values of the types in code, collected for crates above.
 pub use Rattle.bac_service.specs.Sights.{lent, owned}
 pub use Rattle.bac_service.specs.References.{property_reference_view}
 pub use Rattle.bac_service.specs.AtomicReadFile.{read_access_view}

@@ -1,4 +1,4 @@
--- WriteProperty (clause 15.9): which property, what it is to be, and a priority where one is given.
+-- WriteProperty (clause 15.9): which property, its new values, and an optional priority.
 use Rattle.std.specs.Prelude.{ℕ, ◌+◌, ◌++◌, List, Option, Some, None}
 use Rattle.bac_value.specs.declared.tag.Class.TheVariants.{Context}
 use Rattle.bac_value.specs.Data.{IsData}
@@ -34,7 +34,7 @@ write_property_spelling r values priority = reference_spelling r ++ (enclosed_sp
 abbrev pub write_property_length : Reference → ℕ → Option ℕ → ℕ
 write_property_length r k priority = reference_length r + enclosed_length k + index_length priority
 
--- what the type in code says of it
+-- the abstract value of the type in code
 abbrev pub IsWriteProperty : Reference → Octets → Option ℕ → Type 0
 IsWriteProperty r values priority = IsReference r × IsData values × IsUrgency priority
 

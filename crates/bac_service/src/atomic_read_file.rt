@@ -21,26 +21,26 @@ use bac_value::{
     Class, Form, NoMemory, ObjectIdentifier, Octets, kinds, write_boolean, write_object_identifier,
 };
 
-/// Where a file is read, and how much of it (clause 14.1): octets from a position on, or records from a record on.
+/// Which part of a file is read (clause 14.1): a count of octets from a position on, or of records from a record on.
 #[derive(Clone, Copy, Debug, PartialEq, Eq)]
 pub enum ReadAccess {
     Stream { start: i64, count: u64 },
     Records { start: i64, count: u64 },
 }
 
-/// Which file is read, and where (clause 14.1).
+/// A request to read a file (clause 14.1).
 #[derive(Clone, Copy, Debug, PartialEq, Eq)]
 pub struct ReadFile {
     /// The file.
     pub file: ObjectIdentifier,
-    /// Where, and how much.
+    /// Which part of it.
     pub access: ReadAccess,
 }
 
-/// What was read of a file (clause 14.1): octets from a position on, and whether they reach the file's end.
+/// Octets that were read from a file (clause 14.1).
 #[derive(Clone, Copy, Debug, Drop)]
 pub struct FileRead<C> {
-    /// Whether the file ends with these octets.
+    /// Whether these octets reach the end of the file.
     pub end_of_file: bool,
     /// The position of the first octet.
     pub start: i64,
@@ -48,7 +48,7 @@ pub struct FileRead<C> {
     pub content: C,
 }
 
-/// The members of a request, and what is after them.
+/// Reads the members of a request, and returns them and the octets after them.
 #[tactic(auto, unfolding(crate::specs::AtomicReadFile::read_access_at))]
 pub(crate) fn take_read_file<O: Octets>(octets: O) -> Result<(ReadFile, O), Stop>
     ensures { Reads read_file_view O.octets (O.octets octets) result read_file_at }
@@ -65,7 +65,7 @@ pub(crate) fn take_read_file<O: Octets>(octets: O) -> Result<(ReadFile, O), Stop
     }
 }
 
-/// The members of the service data, and what is after them.
+/// Reads the members of the service data, and returns them and the octets after them.
 #[tactic(auto, unfolding(crate::specs::AtomicReadFile::end_of_file_at, crate::specs::AtomicReadFile::file_read_at))]
 pub(crate) fn take_file_read<O: Octets>(octets: O) -> Result<(FileRead<O>, O), Stop>
     ensures { Reads (file_read_view O.octets) O.octets (O.octets octets) result file_read_at }
@@ -84,7 +84,7 @@ pub(crate) fn take_file_read<O: Octets>(octets: O) -> Result<(FileRead<O>, O), S
     Ok((read, rest))
 }
 
-/// Appends an extent between a pair of tags of that number.
+/// Appends a start and a count between a pair of tags with this number.
 fn put_enclosed_extent(
     number: u8,
     start: i64,
@@ -118,7 +118,7 @@ pub(crate) fn put_file_read(read: FileRead<Content<'_>>, out: &mut Vec<u8>) -> R
     put_content(read.start, read.content, out)
 }
 
-/// How many octets the members of a request have.
+/// The length in octets of the members of a request.
 pub(crate) fn read_file_len(read: ReadFile) -> usize
     ensures len { result ≡ read_file_length (read_access_view read.access) }
     ensures is { IsReadFile (object_identifier_view read.file) (read_access_view read.access) }
@@ -130,7 +130,7 @@ pub(crate) fn read_file_len(read: ReadFile) -> usize
     OBJECT_LEN + extent + PAIR_LEN
 }
 
-/// How many octets the members of the service data have.
+/// The length in octets of the members of the service data.
 pub(crate) fn file_read_len(read: FileRead<Content<'_>>) -> usize
     ensures len { result ≡ file_read_length read.entry.start (length read.entry.content.octets.now) }
     ensures is { IsFileRead read.entry.start read.entry.content.octets.now }

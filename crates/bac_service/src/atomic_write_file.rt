@@ -28,48 +28,48 @@ use bac_value::{
 };
 use std::alloc::Global;
 
-/// Octets of a file from a position on; position -1 appends.
+/// Octets for a file, from a position on; position -1 appends.
 #[derive(Clone, Copy, Debug, Drop)]
 pub struct WriteStream<C> {
-    /// The position of the first octet, or -1 for the file's end.
+    /// The position of the first octet, or -1 for the end of the file.
     pub start: i64,
     /// The octets.
     pub content: C,
 }
 
-/// Records of a file from a record on; record -1 appends.
+/// Records for a file, from a record on; record -1 appends.
 #[derive(Clone, Copy, Debug, Drop)]
 pub struct WriteRecords<R> {
-    /// The number of the first record, or -1 for the file's end.
+    /// The number of the first record, or -1 for the end of the file.
     pub start: i64,
     /// The records.
     pub records: R,
 }
 
-/// Where a file is written, and what (clause 14.2).
+/// What is written, and to which part of a file (clause 14.2).
 #[derive(Clone, Copy, Debug, Drop)]
 pub enum WriteAccess<C, R> {
     Stream(WriteStream<C>),
     Records(WriteRecords<R>),
 }
 
-/// Which file is written, where, and what (clause 14.2).
+/// A request to write to a file (clause 14.2).
 #[derive(Clone, Copy, Debug, Drop)]
 pub struct WriteFile<C, R> {
     /// The file.
     pub file: ObjectIdentifier,
-    /// Where, and what.
+    /// What is written, and where.
     pub access: WriteAccess<C, R>,
 }
 
-/// Where a file was written (clause 14.2): a position in octets, or a record.
+/// Where the file was written (clause 14.2): a position in octets, or the number of a record.
 #[derive(Clone, Copy, Debug, PartialEq, Eq)]
 pub enum FileWritten {
     Stream(i64),
     Records(i64),
 }
 
-/// Where a file's records are written, their count, and the octet strings that they are, between tags of number 1.
+/// Reads records to write: the first record, their count, and as many octet strings between tags with number 1.
 #[tactic(auto, unfolding(crate::specs::Reading::enclosed_at, crate::specs::AtomicWriteFile::counted_at))]
 fn counted<O: Octets>(octets: O) -> Result<((i64, u64, u64, O), O), Stop>
     ensures { Reads (λ t. (t.0, (t.1, (t.2, O.octets t.3)))) O.octets (O.octets octets) result (enclosed_at 1 counted_at) }
@@ -100,7 +100,7 @@ fn write_access<O: Octets>(octets: O) -> Result<(WriteAccess<O, Run<O>>, O), Sto
     }
 }
 
-/// The members of a request, and what is after them.
+/// Reads the members of a request, and returns them and the octets after them.
 pub(crate) fn take_write_file<O: Octets>(octets: O) -> Result<(WriteFile<O, Run<O>>, O), Stop>
     ensures { Reads (write_file_view (left O.octets)) O.octets (O.octets octets) result write_file_at }
 {
@@ -109,7 +109,7 @@ pub(crate) fn take_write_file<O: Octets>(octets: O) -> Result<(WriteFile<O, Run<
     Ok((WriteFile { file, access }, rest))
 }
 
-/// The members of the service data, and what is after them.
+/// Reads the members of the service data, and returns them and the octets after them.
 #[tactic(auto, unfolding(crate::specs::AtomicWriteFile::file_written_at))]
 pub(crate) fn take_file_written<O: Octets>(octets: O) -> Result<(FileWritten, O), Stop>
     ensures { Reads file_written_view O.octets (O.octets octets) result file_written_at }
@@ -123,7 +123,7 @@ pub(crate) fn take_file_written<O: Octets>(octets: O) -> Result<(FileWritten, O)
     }
 }
 
-/// Appends where records are written, their count, and the octet strings that they are, between tags of number 1.
+/// Appends records to write: the first record, their count, and the octet strings between tags with number 1.
 fn put_records(write: WriteRecords<Records<'_>>, out: &mut Vec<u8>) -> Result<(), NoMemory>
     ensures { Writes result out.old out.new (records_spelling write.entry.start write.entry.records.count write.entry.records.run.now) }
 {
@@ -162,7 +162,7 @@ fn records_len(write: WriteRecords<Records<'_>>) -> usize
     extent_len(write.start, write.records.count) + run + PAIR_LEN
 }
 
-/// How many octets the members of a request have.
+/// The length in octets of the members of a request.
 pub(crate) fn write_file_len(write: WriteFile<Content<'_>, Records<'_>>) -> usize
     ensures len { result ≡ write_file_length (write_access_view lent write.entry.access) }
     ensures is { IsWriteFile (object_identifier_view write.entry.file) (write_access_view lent write.entry.access) }
@@ -173,7 +173,7 @@ pub(crate) fn write_file_len(write: WriteFile<Content<'_>, Records<'_>>) -> usiz
     }
 }
 
-/// What was read of a slice borrows it.
+/// Borrows what was read from a slice.
 pub(crate) fn access_of<'a>(
     access: WriteAccess<&'a [u8], Run<&'a [u8]>>,
 ) -> WriteAccess<Content<'a>, Records<'a>>
@@ -199,7 +199,7 @@ pub(crate) fn access_of<'a>(
     }
 }
 
-/// Lends what has its own memory.
+/// Borrows an owned value.
 pub(crate) fn lent_access(
     access: &WriteAccess<OctetString, OwnedRecords>,
 ) -> WriteAccess<Content<'_>, Records<'_>>
@@ -224,7 +224,7 @@ pub(crate) fn lent_access(
     }
 }
 
-/// A copy with its own memory.
+/// Copies an owned value.
 pub(crate) fn access_copy<O: Octets>(
     alloc: Global,
     access: WriteAccess<O, Run<O>>,
@@ -250,7 +250,7 @@ pub(crate) fn access_copy<O: Octets>(
     }
 }
 
-/// A copy with its own memory, of what borrows its octets.
+/// Copies a borrowed value to an owned one.
 pub(crate) fn access_to_owned(
     alloc: Global,
     access: WriteAccess<Content<'_>, Records<'_>>,

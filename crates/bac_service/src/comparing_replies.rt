@@ -1,4 +1,4 @@
-//! Whether two replies are the same.
+//! Comparison of replies.
 ghost use Rattle.std.specs.Prelude.{◌≡◌, ◌↔◌, IsTrue};
 ghost use Rattle.bac_service.specs.Views.{file_written_view, owned_complex_view, owned_reply_view};
 
@@ -46,7 +46,7 @@ fn same_complex(one: &OwnedComplex, other: &OwnedComplex) -> bool
     }
 }
 
-/// Whether contracts see one reply in both.
+/// Whether two replies are equal, as contracts see them.
 pub fn same_reply(one: &OwnedReply, other: &OwnedReply) -> bool
     ensures { IsTrue result ↔ (owned_reply_view one.now ≡ owned_reply_view other.now) }
 {

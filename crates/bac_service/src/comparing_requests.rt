@@ -1,4 +1,4 @@
-//! Whether two requests are the same.
+//! Comparison of requests.
 ghost use Rattle.std.specs.Prelude.{◌≡◌, ◌↔◌, IsTrue};
 ghost use Rattle.bac_value.specs.Views.{object_identifier_view};
 ghost use Rattle.bac_service.specs.Views.{owned, owned_request_view, priority_view, property_reference_view, read_access_view, write_access_view};
@@ -9,14 +9,14 @@ use crate::{
 };
 use bac_value::{DataBuf, ObjectIdentifier, OctetString};
 
-/// Whether both name one object.
+/// Whether both identify the same object.
 pub fn same_object(one: ObjectIdentifier, other: ObjectIdentifier) -> bool
     ensures { IsTrue result ↔ (object_identifier_view one ≡ object_identifier_view other) }
 {
     one.kind == other.kind && one.instance == other.instance
 }
 
-/// Whether both name one property of one object, and the same element of it.
+/// Whether both identify the same property of the same object, and the same element of it.
 pub(crate) fn same_reference(one: &PropertyReference, other: &PropertyReference) -> bool
     ensures { IsTrue result ↔ (property_reference_view one.now ≡ property_reference_view other.now) }
 {
@@ -83,7 +83,7 @@ fn same_priority(one: Option<Priority>, other: Option<Priority>) -> bool
     }
 }
 
-/// Whether contracts see one request in both.
+/// Whether two requests are equal, as contracts see them.
 pub fn same_request(one: &OwnedRequest, other: &OwnedRequest) -> bool
     ensures { IsTrue result ↔ (owned_request_view one.now ≡ owned_request_view other.now) }
 {

@@ -1,4 +1,4 @@
-//! What both services of files say: an extent of a file, and octets at a position.
+//! What both file services share: a part of a file, and octets at a position.
 ghost use Rattle.std.specs.Prelude.{◌≡◌, ◌+◌, ◌++◌, ◌<◌, ◌≤◌, ◌^◌, ◌↔◌, IsSome, IfOk, IfSome, OnOk, OnErr, length, vec_len, vec_capacity};
 ghost use Rattle.bac_value.specs.Number.{distance};
 ghost use Rattle.bac_value.specs.Steps.{Reads};
@@ -17,7 +17,7 @@ use bac_value::{
 };
 use std::alloc::Global;
 
-/// What a file is to hold: at most `2^32 - 1` octets.
+/// Octets for a file, at most `2^32 - 1` of them.
 #[derive(Clone, Copy, Debug)]
 pub struct Content<'a> {
     /// The octets.
@@ -26,7 +26,7 @@ pub struct Content<'a> {
 }
 
 impl<'a> Content<'a> {
-    /// None exactly where there are too many octets.
+    /// The content; None exactly if there are too many octets.
     pub fn new(octets: &'a [u8]) -> Option<Content<'a>>
         ensures some { IsSome result ↔ (length octets.entry.now < 2 ^ 32) }
         ensures same { IfSome result (λ c. c.octets.now ≡ octets.entry.now) }
@@ -39,7 +39,7 @@ impl<'a> Content<'a> {
     }
 }
 
-/// Where a file is read, and how much of it, between a pair of tags of that number.
+/// Reads a start and a count between a pair of tags with this number.
 #[tactic(auto, unfolding(crate::specs::Reading::enclosed_at))]
 #[inline(always)]
 pub(crate) fn take_extent<O: Octets>(octets: O, number: u8) -> Result<((i64, u64), O), Stop>
@@ -52,7 +52,7 @@ pub(crate) fn take_extent<O: Octets>(octets: O, number: u8) -> Result<((i64, u64
     Ok(((start, count), rest))
 }
 
-/// Where a file's octets are written, and which, between tags of number 0.
+/// Reads a position, and the octets to write there, between tags with number 0.
 #[tactic(auto, unfolding(crate::specs::Reading::enclosed_at))]
 #[inline(always)]
 pub(crate) fn take_content<O: Octets>(octets: O) -> Result<((i64, O), O), Stop>
@@ -73,7 +73,7 @@ pub(crate) fn put_extent(start: i64, count: u64, out: &mut Vec<u8>) -> Result<()
     write_unsigned(Class::Application, kinds::UNSIGNED, count, out)
 }
 
-/// Appends a Signed and an OctetString with application tags, between a pair of tags of number 0.
+/// Appends a Signed and an OctetString with application tags, between a pair of tags with number 0.
 #[inline(always)]
 pub(crate) fn put_content(
     start: i64,
@@ -88,7 +88,7 @@ pub(crate) fn put_content(
     put_closing(0, out)
 }
 
-/// How many octets a Signed and an Unsigned have with their tags.
+/// The length in octets of a Signed and an Unsigned with their tags.
 pub(crate) fn extent_len(start: i64, count: u64) -> usize
     ensures len { result ≡ extent_length start count }
     ensures is { IsExtent start count }
@@ -97,7 +97,7 @@ pub(crate) fn extent_len(start: i64, count: u64) -> usize
     signed_member_len(start) + unsigned_member_len(count)
 }
 
-/// How many octets a position and octets at it have, between tags of number 0.
+/// The length in octets of a position and the octets at it, between tags with number 0.
 pub(crate) fn content_len(start: i64, content: Content<'_>) -> usize
     ensures len { result ≡ content_length start (length content.entry.octets.now) }
     ensures start_fits { distance start < 2 ^ 63 }
@@ -107,7 +107,7 @@ pub(crate) fn content_len(start: i64, content: Content<'_>) -> usize
     signed_member_len(start) + member_len(content.octets.len()) + PAIR_LEN
 }
 
-/// A copy of octets with its own memory, in one allocation where there are some.
+/// Copies octets, in one allocation if there are any.
 pub(crate) fn string_copy<O: Octets>(alloc: Global, octets: O) -> Result<OctetString, NoMemory>
     requires { length (O.octets octets) < 2 ^ 32 }
     ensures same { IfOk result (λ s. s.octets.items ≡ O.octets octets) }

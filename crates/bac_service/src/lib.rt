@@ -1,6 +1,6 @@
-//! Requests and replies of the four services (clauses 14 and 15), read from and written as service data (clause 21).
+//! Requests and replies of the four services (clauses 14 and 15), decoded from and encoded as service data (clause 21).
 //!
-//! Each service has a file: its types, how they are read and written, and how long they are. `request` and `reply` go by service.
+//! Each service has a file with its types, readers, writers and lengths. `request` and `reply` cover all four services.
 #![tactic(auto)]
 
 mod atomic_read_file;

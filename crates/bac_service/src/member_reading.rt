@@ -1,4 +1,4 @@
-//! Members that several services have: a value after its tag, and data between a pair of tags.
+//! Readers of members that several services have: a value after its tag, and data between a pair of tags.
 ghost use Rattle.std.specs.Prelude.{◌<◌, ◌-◌, IfOk, length};
 ghost use Rattle.bac_value.specs.Views.{object_identifier_view};
 ghost use Rattle.bac_value.specs.Reading.{number_at, signed_at, object_at, kind_at};
@@ -12,7 +12,7 @@ use bac_value::{
     take_object_identifier, take_signed, take_unsigned,
 };
 
-/// An ObjectIdentifier after a tag of that class and number.
+/// Reads an ObjectIdentifier after a tag with this class and number.
 #[tactic(auto, unfolding(crate::specs::Reading::member_at))]
 #[inline(always)]
 pub(crate) fn object<O: Octets>(
@@ -30,7 +30,7 @@ pub(crate) fn object<O: Octets>(
     }
 }
 
-/// A number of at most 4 octets after a context tag: an Enumerated, or the index of an array.
+/// Reads a number of at most 4 octets after a context tag: an Enumerated, or an array index.
 #[tactic(auto, unfolding(crate::specs::Reading::member_at))]
 #[inline(always)]
 pub(crate) fn short<O: Octets>(octets: O, number: u8) -> Result<(u32, O), Stop>
@@ -44,7 +44,7 @@ pub(crate) fn short<O: Octets>(octets: O, number: u8) -> Result<(u32, O), Stop>
     }
 }
 
-/// An Unsigned after a tag of that class and number.
+/// Reads an Unsigned after a tag with this class and number.
 #[tactic(auto, unfolding(crate::specs::Reading::member_at))]
 #[inline(always)]
 pub(crate) fn unsigned<O: Octets>(octets: O, class: Class, number: u8) -> Result<(u64, O), Stop>
@@ -58,7 +58,7 @@ pub(crate) fn unsigned<O: Octets>(octets: O, class: Class, number: u8) -> Result
     }
 }
 
-/// A Signed after a tag of that class and number.
+/// Reads a Signed after a tag with this class and number.
 #[tactic(auto, unfolding(crate::specs::Reading::member_at))]
 #[inline(always)]
 pub(crate) fn signed<O: Octets>(octets: O, class: Class, number: u8) -> Result<(i64, O), Stop>
@@ -72,7 +72,7 @@ pub(crate) fn signed<O: Octets>(octets: O, class: Class, number: u8) -> Result<(
     }
 }
 
-/// The octets of an application OctetString.
+/// Reads the octets of an application OctetString.
 #[tactic(auto, unfolding(crate::specs::Reading::member_at))]
 #[inline(always)]
 pub(crate) fn string<O: Octets>(octets: O) -> Result<(O, O), Stop>
@@ -87,7 +87,7 @@ pub(crate) fn string<O: Octets>(octets: O) -> Result<(O, O), Stop>
     }
 }
 
-/// Data between a pair of tags of number 3.
+/// Reads data between a pair of tags with number 3.
 #[tactic(auto, unfolding(crate::specs::Reading::enclosed_at, crate::specs::Reading::values_at))]
 #[inline(always)]
 pub(crate) fn enclosed_values<O: Octets>(octets: O) -> Result<(O, O), Stop>

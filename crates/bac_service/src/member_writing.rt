@@ -1,4 +1,4 @@
-//! Writing members that several services have.
+//! Writers of members that several services have.
 ghost use Rattle.std.specs.Prelude.{◌≡◌, ◌+◌, ◌++◌, ◌<◌, ◌≤◌, OnOk, OnErr, length, vec_len, vec_capacity};
 ghost use Rattle.bac_value.specs.Data.{opening, closing};
 ghost use Rattle.bac_service.specs.Members.{enclosed_spelling, optional_spelling};
@@ -6,7 +6,7 @@ ghost use Rattle.bac_service.specs.Writing.{Writes};
 
 use bac_value::{Class, Form, NoMemory, Tag, write_tag, write_unsigned};
 
-/// Appends the opening tag of a number.
+/// Appends an opening tag with this number.
 pub(crate) fn put_opening(number: u8, out: &mut Vec<u8>) -> Result<(), NoMemory>
     requires { number < 255 }
     ensures { Writes result out.old out.new (opening number) }
@@ -19,7 +19,7 @@ pub(crate) fn put_opening(number: u8, out: &mut Vec<u8>) -> Result<(), NoMemory>
     write_tag(&tag, out)
 }
 
-/// Appends the closing tag of a number.
+/// Appends a closing tag with this number.
 pub(crate) fn put_closing(number: u8, out: &mut Vec<u8>) -> Result<(), NoMemory>
     requires { number < 255 }
     ensures { Writes result out.old out.new (closing number) }
@@ -32,7 +32,7 @@ pub(crate) fn put_closing(number: u8, out: &mut Vec<u8>) -> Result<(), NoMemory>
     write_tag(&tag, out)
 }
 
-/// Appends a number after a context tag, where there is one.
+/// Appends an optional number after a context tag.
 pub(crate) fn put_optional(tag: u8, number: Option<u32>, out: &mut Vec<u8>) -> Result<(), NoMemory>
     requires { tag < 255 }
     ensures { Writes result out.old out.new (optional_spelling tag number) }
@@ -43,7 +43,7 @@ pub(crate) fn put_optional(tag: u8, number: Option<u32>, out: &mut Vec<u8>) -> R
     }
 }
 
-/// Appends data between a pair of tags of number 3.
+/// Appends data between a pair of tags with number 3.
 pub(crate) fn put_values(values: &[u8], out: &mut Vec<u8>) -> Result<(), NoMemory>
     ensures { Writes result out.old out.new (enclosed_spelling 3 values.now) }
 {

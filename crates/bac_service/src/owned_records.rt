@@ -1,12 +1,12 @@
-//! Records of a file with memory of their own.
+//! Owned records of a file.
 ghost use Rattle.bac_service.specs.Runs.{AreStrings};
 
-/// Records of a file with their memory.
+/// Records of a file that own their octets.
 #[derive(Debug, Drop)]
 pub struct OwnedRecords {
-    /// The octet strings, each with its tag, one after the other.
+    /// The octet strings, each with its application tag, one after the other.
     pub run: Vec<u8>,
-    /// How many there are.
+    /// How many octet strings there are.
     pub count: u64,
     pub ghost counted: { ∥ AreStrings count run.items ∥₁ },
 }

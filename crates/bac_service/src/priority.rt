@@ -1,4 +1,4 @@
-//! Priorities for writing (clause 19.2).
+//! Write priorities (clause 19.2).
 ghost use Rattle.std.specs.Prelude.{◌≡◌, ◌<◌, ◌≤◌, ◌↔◌, IsSome, IfSome, MatchOption, true, false};
 ghost use Rattle.bac_value.specs.Steps.{Reads};
 ghost use Rattle.bac_service.specs.Priorities.{is_priority, priority_at};
@@ -7,7 +7,7 @@ use crate::member_reading::unsigned;
 use crate::stop::{Stop, Why};
 use bac_value::{Class, Octets};
 
-/// A priority for writing, 1 (highest) to 16 (clause 19.2).
+/// A write priority, 1 (highest) to 16 (lowest) (clause 19.2).
 #[derive(Clone, Copy, Debug, PartialEq, Eq)]
 pub struct Priority {
     /// 1 (highest) to 16 (lowest).
@@ -17,7 +17,7 @@ pub struct Priority {
 }
 
 impl Priority {
-    /// None exactly where the number is not 1 to 16.
+    /// The priority; None exactly if the number is not 1 to 16.
     pub fn new(number: u8) -> Option<Priority>
         ensures some { IsSome result ↔ (0 < number) × (number ≤ 16) }
         ensures same { IfSome result (λ p. p.number ≡ number) }
@@ -42,7 +42,7 @@ fn in_range(number: u64) -> Option<Priority>
     }
 }
 
-/// A priority, 1 to 16.
+/// The number of the priority, 1 to 16.
 #[tactic(auto, unfolding(crate::specs::Priorities::priority_at, crate::specs::Reading::that_at))]
 pub(crate) fn take_priority<O: Octets>(octets: O) -> Result<(Priority, O), Stop>
     ensures { Reads (λ p. p.number) O.octets (O.octets octets) result priority_at }

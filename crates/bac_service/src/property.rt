@@ -1,4 +1,4 @@
-//! What names a property.
+//! References to properties.
 ghost use Rattle.std.specs.Prelude.{◌≡◌, ◌+◌, ◌++◌, ◌<◌, ◌≤◌, OnOk, OnErr, length, vec_len, vec_capacity};
 ghost use Rattle.bac_value.specs.Steps.{Reads};
 ghost use Rattle.bac_service.specs.References.{IsReference, property_reference_view, reference_at, reference_length, reference_spelling};
@@ -13,21 +13,21 @@ use bac_value::{
     Class, NoMemory, ObjectIdentifier, Octets, write_object_identifier, write_unsigned,
 };
 
-/// Which property of which object (clause 15.5), and which element of it where an index is given.
+/// A property of an object, or one element of an array property (clause 15.5).
 ///
-/// Property and index have at most 32 bits each (for the index an own limit of this profile). Index 0 is how many elements an
-/// array has (clause 15.5).
+/// Property and index have at most 32 bits each (for the index an own limit of this profile). Index 0 is the number of elements
+/// of the array (clause 15.5).
 #[derive(Clone, Copy, Debug, PartialEq, Eq)]
 pub struct PropertyReference {
     /// The object.
     pub object: ObjectIdentifier,
     /// The property's number (BACnetPropertyIdentifier).
     pub property: u32,
-    /// Which element of an array; None for the whole property.
+    /// The element of an array; None for the whole property.
     pub index: Option<u32>,
 }
 
-/// What names a property: an object, a property, and an index where one is given.
+/// Reads an object, a property, and an optional index.
 #[tactic(auto, unfolding(crate::specs::References::reference_at, crate::specs::Reading::optional_at))]
 #[inline(always)]
 pub(crate) fn property_reference<O: Octets>(octets: O) -> Result<(PropertyReference, O), Stop>
@@ -49,7 +49,7 @@ pub(crate) fn property_reference<O: Octets>(octets: O) -> Result<(PropertyRefere
     Ok((reference, rest))
 }
 
-/// Appends what names a property.
+/// Appends an object, a property, and an optional index.
 #[inline(always)]
 pub(crate) fn put_reference(to: PropertyReference, out: &mut Vec<u8>) -> Result<(), NoMemory>
     ensures { Writes result out.old out.new (reference_spelling (property_reference_view to)) }
@@ -59,7 +59,7 @@ pub(crate) fn put_reference(to: PropertyReference, out: &mut Vec<u8>) -> Result<
     put_optional(2, to.index, out)
 }
 
-/// How many octets it has.
+/// The length in octets of a reference.
 pub(crate) fn reference_len(to: PropertyReference) -> usize
     ensures len { result ≡ reference_length (property_reference_view to) }
     ensures is { IsReference (property_reference_view to) }

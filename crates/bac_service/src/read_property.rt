@@ -1,4 +1,4 @@
-//! ReadProperty (clause 15.5). A request is a reference alone.
+//! ReadProperty (clause 15.5). A request is just a property reference.
 ghost use Rattle.std.specs.Prelude.{◌≡◌, ◌+◌, ◌++◌, ◌<◌, ◌≤◌, OnOk, OnErr, length, vec_len, vec_capacity};
 ghost use Rattle.bac_value.specs.Steps.{Reads};
 ghost use Rattle.bac_service.specs.ReadProperty.{IsPropertyRead, property_read_at, property_read_length, property_read_spelling, property_read_view};
@@ -12,7 +12,7 @@ use crate::property::{PropertyReference, property_reference, put_reference, refe
 use crate::stop::Stop;
 use bac_value::{Data, NoMemory, Octets};
 
-/// What a property is (clause 15.5).
+/// The values of a property that was read (clause 15.5).
 #[derive(Clone, Copy, Debug, Drop)]
 pub struct PropertyRead<D> {
     /// The property that was read.
@@ -21,7 +21,7 @@ pub struct PropertyRead<D> {
     pub values: D,
 }
 
-/// The members of the service data, and what is after them.
+/// Reads the members of the service data, and returns them and the octets after them.
 #[tactic(auto, unfolding(crate::specs::ReadProperty::property_read_at))]
 pub(crate) fn take_property_read<O: Octets>(octets: O) -> Result<(PropertyRead<O>, O), Stop>
     ensures { Reads (property_read_view O.octets) O.octets (O.octets octets) result property_read_at }
@@ -42,7 +42,7 @@ pub(crate) fn put_property_read(
     put_values(read.values.octets, out)
 }
 
-/// How many octets the members of the service data have.
+/// The length in octets of the members of the service data.
 #[tactic(auto, using(crate::proofs::MembersSpelled::whole_data))]
 pub(crate) fn property_read_len(read: PropertyRead<Data<'_>>) -> usize
     ensures len { result ≡ property_read_length (property_reference_view read.entry.reference) (length read.entry.values.octets.now) }

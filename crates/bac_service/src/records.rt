@@ -1,4 +1,4 @@
-//! Records of a file: octet strings one after the other, each with its application tag.
+//! Records of a file: a sequence of octet strings, each with its application tag.
 ghost use Rattle.std.specs.Prelude.{◌≡◌, ◌<◌, ◌+◌, ◌-◌, ◌↔◌, ℕ, IsSome, IfOk, IfSome, MatchOption, Some, None, length, suc};
 ghost use Rattle.bac_value.specs.Steps.{Reads};
 ghost use Rattle.bac_service.specs.Runs.{AreStrings, IsCount, StringStep, run_at, strings_at};
@@ -8,21 +8,21 @@ use crate::stop::Stop;
 use crate::tag_reading::{announced_by, tag};
 use bac_value::{Class, Octets, kinds};
 
-/// Records of a file: so many octet strings, each spelled with its application tag, one after the other.
+/// Borrowed records of a file: octet strings, each encoded with its application tag, one after the other.
 #[derive(Clone, Copy, Debug)]
 pub struct Records<'a> {
     /// The octet strings, each with its tag, one after the other.
     pub run: &'a [u8],
-    /// How many there are.
+    /// How many octet strings there are.
     pub count: u64,
     pub ghost counted: { ∥ AreStrings count run.now ∥₁ },
 }
 
-/// How many octet strings some octets are, with their application tags, one after the other; None where they are none such.
+/// Counts the octet strings with application tags that the octets consist of; None if the octets are anything else.
 fn strings_in(run: &[u8]) -> Option<u64>
     ensures { MatchOption result ((n : ℕ) → AreStrings n run.now → ⊥) (λ count. IsCount run.now count) }
 {
-    // there are no more strings than octets, and so their number fits
+    // there are no more strings than octets, so the count fits
     let _all = Octets::len(run);
     let mut count: u64 = 0;
     let mut rest = run;
@@ -37,7 +37,7 @@ fn strings_in(run: &[u8]) -> Option<u64>
 }
 
 impl<'a> Records<'a> {
-    /// None exactly where the octets are not so many octet strings, with their application tags, one after the other.
+    /// Records; None exactly if the octets are not this many octet strings with application tags.
     pub fn new(run: &'a [u8], count: u64) -> Option<Records<'a>>
         ensures some { IsSome result ↔ ∥ AreStrings count run.entry.now ∥₁ }
         ensures same { IfSome result (λ r. (r.run.now ≡ run.entry.now) × (r.count ≡ count)) }
@@ -49,14 +49,14 @@ impl<'a> Records<'a> {
     }
 }
 
-/// Octet strings one after the other, and how many they are.
+/// Octet strings one after the other, and how many there are.
 #[derive(Clone, Copy)]
 pub(crate) struct Run<O> {
     pub octets: O,
     pub count: u64,
 }
 
-/// What is after the next octet string, or None where none comes next.
+/// Passes the next octet string and returns the octets after it, or None if no octet string comes next.
 fn next_string<O: Octets>(octets: O) -> Result<Option<O>, Stop>
     ensures step { StringStep O.octets (O.octets octets) result }
     ensures onward { IfOk result (λ o. IfSome o (λ rest. length (O.octets rest) < length (O.octets octets))) }
@@ -69,11 +69,11 @@ fn next_string<O: Octets>(octets: O) -> Result<Option<O>, Stop>
     Ok(Some(rest))
 }
 
-/// How many octet strings stand one after the other, and what is after them.
+/// Counts the octet strings at the front, and returns the count and the octets after them.
 fn strings<O: Octets>(octets: O) -> Result<(u64, O), Stop>
     ensures { Reads (λ n. n) O.octets (O.octets octets) result (λ bytes. strings_at (suc (length bytes)) bytes) }
 {
-    // there are no more strings than octets, and so their number fits
+    // there are no more strings than octets, so the count fits
     let _all = octets.len();
     let mut count: u64 = 0;
     let mut rest = octets;
@@ -84,7 +84,7 @@ fn strings<O: Octets>(octets: O) -> Result<(u64, O), Stop>
     Ok((count, rest))
 }
 
-/// Octet strings one after the other: how many there are, their octets, and what is after them.
+/// Reads the octet strings at the front, and returns their count, their octets and the octets after them.
 #[tactic(auto, unfolding(crate::specs::Runs::run_at))]
 pub(crate) fn take_run<O: Octets>(octets: O) -> Result<((u64, O), O), Stop>
     ensures { Reads (λ t. (t.0, O.octets t.1)) O.octets (O.octets octets) result run_at }

@@ -4,35 +4,35 @@ ghost use Rattle.bac_service.specs.Refusals.{reason_number};
 
 use thiserror::Error;
 
-/// Why a request is rejected (clause 18.9). The number of each is its place in this list, from 0.
+/// Why a request is rejected (clause 18.9). The number of each reason is its position in this list, from 0.
 #[derive(Clone, Copy, Debug, PartialEq, Eq, Error)]
 pub enum Reject {
-    /// No reader of this crate answers it.
+    /// Never returned by the readers of this crate.
     #[error("other")]
     Other,
-    /// No reader of this crate answers it.
+    /// Never returned by the readers of this crate.
     #[error("buffer overflow")]
     BufferOverflow,
-    /// A count that is not the number of what it counts.
+    /// A count that differs from the number of items that follow it.
     #[error("inconsistent parameters")]
     InconsistentParameters,
-    /// A tag whose number or length is in a longer form than it needs, or whose low bits no tag of its number has; contents that
-    /// no value of their type has.
+    /// A tag whose number or length takes more octets than it needs, or whose low bits are invalid for its number; contents that
+    /// are invalid for their type.
     #[error("invalid parameter data type")]
     InvalidParameterDataType,
-    /// A tag that is not the member's, a reserved tag, tags that are not balanced, or a ninth tag opened.
+    /// A tag other than the expected member's, a reserved tag, unbalanced tags, or more than eight open tags.
     #[error("invalid tag")]
     InvalidTag,
-    /// The octets end before the request does.
+    /// The octets end before the request is complete.
     #[error("missing required parameter")]
     MissingRequiredParameter,
     /// A priority outside 1 to 16.
     #[error("parameter out of range")]
     ParameterOutOfRange,
-    /// Octets after the last member.
+    /// More octets after the last member.
     #[error("too many arguments")]
     TooManyArguments,
-    /// No reader of this crate answers it.
+    /// Never returned by the readers of this crate.
     #[error("undefined enumeration")]
     UndefinedEnumeration,
     /// A service choice other than 6, 7, 12 and 15.

@@ -1,4 +1,4 @@
-//! Replies of the four services, over whatever holds their octets.
+//! Replies of the four services, generic over what holds their octets.
 ghost use Rattle.std.specs.Prelude.{◌≡◌, ◌+◌, ◌++◌, ◌<◌, ◌≤◌, ◌↔◌, true, IfOk, IfErr, OnOk, OnErr, length, vec_len, vec_capacity};
 ghost use Rattle.bac_value.specs.Appending.{Appends, Keeps, NeedsRoom};
 ghost use Rattle.bac_value.specs.Steps.{Reads};
@@ -24,7 +24,7 @@ use crate::stop::{Stop, Why};
 use bac_value::{Class, Data, DataBuf, Fault, NoMemory, OctetString, Octets, Parts, write_signed};
 use std::alloc::Global;
 
-/// The service data of a ComplexACK, over what each service answers.
+/// The service data of a ComplexACK, with one type parameter for each service.
 #[derive(Clone, Copy, Debug, Drop)]
 pub enum AnyComplex<A, B, C> {
     /// AtomicReadFile, service choice 6.
@@ -35,37 +35,37 @@ pub enum AnyComplex<A, B, C> {
     PropertyRead(C),
 }
 
-/// The service data of a ComplexACK whose octets are held by these types: data, and the octets of a file.
+/// The service data of a ComplexACK, where these types hold data and the octets of a file.
 pub type ComplexOver<D, C> = AnyComplex<FileRead<C>, FileWritten, PropertyRead<D>>;
 
 /// The service data of a ComplexACK that borrow their octets.
 pub type Complex<'a> = ComplexOver<Data<'a>, Content<'a>>;
 
-/// A reply, over what holds the service data of a ComplexACK.
+/// A reply, where `C` is the service data of a ComplexACK.
 #[derive(Clone, Copy, Debug, Drop)]
 pub enum AnyReply<C> {
-    /// It was done, and there is nothing to tell.
+    /// SimpleACK: the request was performed, and there are no results.
     Simple,
     Complex(C),
-    /// It was not done; class and code say why (clause 18).
+    /// Error: the request failed; class and code say why (clause 18).
     Error { class: u32, code: u32 },
-    /// It was not looked at; the reason is any octet.
+    /// Reject: the request was not performed; the reason is any octet.
     Reject(u8),
 }
 
 /// A reply that borrows its octets.
 pub type Reply<'a> = AnyReply<Complex<'a>>;
 
-/// The service data of a ComplexACK with their memory.
+/// The service data of a ComplexACK that own their octets.
 pub type OwnedComplex = ComplexOver<DataBuf, OctetString>;
 
-/// A reply with its memory.
+/// A reply that owns its octets.
 pub type OwnedReply = AnyReply<OwnedComplex>;
 
-/// Service data of a ComplexACK whose content and data are still the octets that they are read from.
+/// Service data of a ComplexACK whose content and data are still the octets that they were read from.
 pub(crate) type Told<O> = ComplexOver<O, O>;
 
-/// The members of the service data, from left to right, and what is after them.
+/// Reads the members of the service data from left to right, and returns them and the octets after them.
 fn members<O: Octets>(choice: u8, octets: O) -> Result<(Told<O>, O), Stop>
     ensures { Reads (complex_over_view O.octets O.octets) O.octets (O.octets octets) result (complex_members (service_at choice)) }
 {
@@ -101,7 +101,7 @@ fn complex_read<O: Octets>(choice: u8, octets: O) -> Result<Told<O>, Fault>
     }
 }
 
-/// The service data of a ComplexACK of a service choice that all of the octets spell, or what is wrong with them, and where.
+/// Reads the whole octets as service data of a ComplexACK with this service choice, or returns what is wrong, and where.
 fn complex_in<O: Octets>(choice: u8, octets: O) -> Result<Told<O>, Fault>
     ensures spelled { IfOk result (λ c. SpellsComplex choice (complex_over_view O.octets O.octets c) (O.octets octets)) }
     ensures made { IfOk result (λ c. IsMadeOf (complex_over_view O.octets O.octets c)) }
@@ -109,7 +109,7 @@ fn complex_in<O: Octets>(choice: u8, octets: O) -> Result<Told<O>, Fault>
     ensures read { Gives (complex_over_view O.octets O.octets) (λ e. e) result (complex_at choice (O.octets octets)) }
     ensures place { IfErr result (λ e. e.at ≤ length (O.octets octets)) }
 {
-    // from here on each of them is known to be an octet
+    // each of the octets is known to be below 256 from here on
     let _count = octets.len();
     complex_read(choice, octets)
 }
@@ -142,7 +142,7 @@ fn complex_of(told: Told<&[u8]>) -> Complex<'_>
     }
 }
 
-/// A copy of the service data of a ComplexACK, in one allocation where they have octets of data or of a file.
+/// Copies the service data of a ComplexACK, in one allocation if they have octets of data or of a file.
 fn complex_copy<O: Octets>(alloc: Global, told: Told<O>) -> Result<OwnedComplex, NoMemory>
     requires { IsMadeOf (complex_over_view O.octets O.octets told) }
     ensures same { IfOk result (λ c. owned_complex_view c ≡ complex_over_view O.octets O.octets told) }
@@ -168,11 +168,11 @@ fn complex_copy<O: Octets>(alloc: Global, told: Told<O>) -> Result<OwnedComplex,
     }
 }
 
-/// The service data of a ComplexACK to a request of a service choice that the whole of the octets spells (clause 21).
+/// Reads the whole octets as the service data of a ComplexACK to a request with this service choice (clause 21).
 ///
-/// Choices are 6, 7 and 12; for another choice the fault is `ReservedTag` at 0. The members are read from left to right, and a
-/// fault's place is the offset of the tag where reading stopped: `ReservedTag` at a member that is missing or is another,
-/// `BadLength` at octets left over, otherwise what is wrong with a tag, contents or data (own rule of this profile).
+/// Choices are 6, 7 and 12; for all others the fault is `ReservedTag` at 0. Members are read from left to right, and the place
+/// of a fault is the offset of the tag where reading stopped. It is `ReservedTag` for a missing or an unexpected member,
+/// `BadLength` for octets left over, otherwise what is wrong with a tag, contents or data (own rule of this profile).
 pub fn read_reply(choice: u8, octets: &[u8]) -> Result<Complex<'_>, Fault>
     ensures found { IfOk result (λ c. SpellsComplex choice (complex_view c) octets.now) }
     ensures refused { IfErr result (λ e. IsNoComplex choice octets.now) }
@@ -185,11 +185,11 @@ pub fn read_reply(choice: u8, octets: &[u8]) -> Result<Complex<'_>, Fault>
     }
 }
 
-/// What `read_reply` answers for the joined octets of some pieces, as a copy with its own memory.
+/// Reads the joined octets of some pieces as `read_reply` does, and returns an owned copy.
 ///
-/// The pieces are not joined, and a fault's place counts from the front of the first. A copy takes one allocation where the
-/// value has octets of data or of a file, otherwise none. `NoMemory` comes last, after every fault: it is told
-/// only of octets that spell one.
+/// The pieces are not joined, and the place of a fault counts from the front of the first. The copy takes one allocation if the
+/// value has octets of data or of a file, otherwise none. `NoMemory` is returned only if the octets are valid and that
+/// allocation fails.
 pub fn read_reply_parts(
     alloc: Global,
     choice: u8,
@@ -216,12 +216,12 @@ fn is_read<O: Octets>(choice: u8, octets: O) -> bool
     complex_read(choice, octets).is_ok()
 }
 
-/// Whether `read_reply_parts` can read the joined octets of some pieces. It takes no memory.
+/// Whether `read_reply_parts` can read the joined octets of some pieces. It does not allocate.
 pub fn reads_reply_parts(choice: u8, parts: Parts<'_>) -> bool
     ensures read { result ≡ reads_reply choice (parts_view parts.entry) }
     ensures spelled { (result ≡ true) ↔ ∥ IsReply choice (parts_view parts.entry) ∥₁ }
 {
-    // from here on each of them is known to be an octet
+    // each of the octets is known to be below 256 from here on
     let _count = parts.len();
     is_read(choice, parts)
 }
@@ -241,7 +241,8 @@ fn put_complex(reply: Complex<'_>, out: &mut Vec<u8>) -> Result<(), NoMemory>
     }
 }
 
-/// Appends the service data of a ComplexACK in their one spelling (clause 21), or answers `NoMemory` and changes nothing.
+/// Appends the service data of a ComplexACK in their one spelling (clause 21). Returns `NoMemory` and changes nothing if the
+/// vector cannot grow.
 pub fn write_reply(reply: Complex<'_>, out: &mut Vec<u8>) -> Result<(), NoMemory>
     ensures ok { Appends result out.old out.new (complex_spelling (complex_view reply.entry)) }
     ensures err { Keeps result out.old out.new }
@@ -265,7 +266,7 @@ fn complex_len(reply: Complex<'_>) -> usize
     }
 }
 
-/// How many octets the service data of a ComplexACK have. It takes no memory.
+/// The length in octets of the service data of a ComplexACK. It does not allocate.
 #[tactic(auto, using(crate::proofs::Wholes::length_complex, crate::proofs::Wholes::complex_spelled))]
 pub fn reply_len(reply: Complex<'_>) -> usize
     ensures len { result ≡ length (complex_spelling (complex_view reply.entry)) }
@@ -275,7 +276,7 @@ pub fn reply_len(reply: Complex<'_>) -> usize
 }
 
 impl Complex<'_> {
-    /// A copy with its own memory, in one allocation where the value has octets of data or of a file, otherwise in none.
+    /// Copies the value, in one allocation if it has octets of data or of a file and in none otherwise.
     pub fn to_owned(self, alloc: Global) -> Result<OwnedComplex, NoMemory>
         ensures same { IfOk result (λ c. owned_complex_view c ≡ complex_view self.entry) }
         ensures full { OnErr result (0 < length (held_in (complex_view self.entry))) }
@@ -302,7 +303,7 @@ impl Complex<'_> {
 }
 
 impl Reply<'_> {
-    /// A copy with its own memory, in one allocation where the value has octets of data or of a file, otherwise in none.
+    /// Copies the value, in one allocation if it has octets of data or of a file and in none otherwise.
     pub fn to_owned(self, alloc: Global) -> Result<OwnedReply, NoMemory>
         ensures same { IfOk result (λ r. owned_reply_view r ≡ reply_view self.entry) }
         ensures full { OnErr result (0 < length (held_by (reply_view self.entry))) }
@@ -320,7 +321,7 @@ impl Reply<'_> {
 }
 
 impl OwnedComplex {
-    /// Lends the value. It takes no memory.
+    /// Borrows the value. It does not allocate.
     pub fn as_complex(&self) -> Complex<'_>
         ensures { complex_view result ≡ owned_complex_view self.now }
     {
@@ -348,7 +349,7 @@ impl OwnedComplex {
 }
 
 impl OwnedReply {
-    /// Lends the value. It takes no memory.
+    /// Borrows the value. It does not allocate.
     pub fn as_reply(&self) -> Reply<'_>
         ensures { reply_view result ≡ owned_reply_view self.now }
     {

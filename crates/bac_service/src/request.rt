@@ -1,4 +1,4 @@
-//! Requests of the four services, over whatever holds their octets.
+//! Requests of the four services, generic over what holds their octets.
 ghost use Rattle.std.specs.Prelude.{◌≡◌, ◌+◌, ◌++◌, ◌<◌, ◌≤◌, ◌↔◌, IfOk, IfErr, IsErrOf, OnOk, OnErr, length, vec_len, vec_capacity};
 ghost use Rattle.bac_value.specs.Appending.{Appends, Keeps, NeedsRoom};
 ghost use Rattle.bac_value.specs.Steps.{Reads};
@@ -29,7 +29,7 @@ use crate::write_property::{
 use bac_value::{Data, DataBuf, NoMemory, OctetString, Octets, Parts};
 use std::alloc::Global;
 
-/// A request of one of the four services, over what each of them says.
+/// A request of one of the four services, with one type parameter for each service.
 #[derive(Clone, Copy, Debug, Drop)]
 pub enum AnyRequest<A, B, C, D> {
     /// AtomicReadFile, service choice 6.
@@ -42,7 +42,7 @@ pub enum AnyRequest<A, B, C, D> {
     WriteProperty(D),
 }
 
-/// A request whose octets are held by these types: data, the octets for a file, and records for one.
+/// A request, where these types hold data, octets for a file, and records for a file.
 pub type RequestOver<D, C, R> = AnyRequest<
     ReadFile,
     WriteFile<C, R>,
@@ -53,13 +53,13 @@ pub type RequestOver<D, C, R> = AnyRequest<
 /// A request that borrows its octets.
 pub type Request<'a> = RequestOver<Data<'a>, Content<'a>, Records<'a>>;
 
-/// A request with its memory.
+/// A request that owns its octets.
 pub type OwnedRequest = RequestOver<DataBuf, OctetString, OwnedRecords>;
 
-/// A request whose strings and data are still the octets that it is read from.
+/// A request whose strings and data are still the octets that it was read from.
 pub(crate) type Found<O> = RequestOver<O, O, Run<O>>;
 
-/// The members of a request, from left to right, and what is after them.
+/// Reads the members of a request from left to right, and returns them and the octets after them.
 fn members<O: Octets>(service: Service, octets: O) -> Result<(Found<O>, O), Stop>
     ensures { Reads (request_over_view (left O.octets)) O.octets (O.octets octets) result (request_members service) }
 {
@@ -100,7 +100,7 @@ fn request_read<O: Octets>(choice: u8, octets: O) -> Result<Found<O>, Reject>
     }
 }
 
-/// The request of a service choice that all of the octets spell, or the reason for rejecting them.
+/// Reads the whole octets as a request with this service choice, or returns the reason for rejecting it.
 fn request_in<O: Octets>(choice: u8, octets: O) -> Result<Found<O>, Reject>
     ensures spelled { IfOk result (λ f. SpellsRequest choice (request_over_view (left O.octets) f) (O.octets octets)) }
     ensures made { IfOk result (λ f. IsMade (request_over_view (left O.octets) f)) }
@@ -108,7 +108,7 @@ fn request_in<O: Octets>(choice: u8, octets: O) -> Result<Found<O>, Reject>
     ensures read { Gives (request_over_view (left O.octets)) reason_number result (request_at choice (O.octets octets)) }
     ensures unknown { IsErrOf result Reject.UnrecognizedService ↔ IsUnknown choice }
 {
-    // from here on each of them is known to be an octet
+    // each of the octets is known to be below 256 from here on
     let _count = octets.len();
     request_read(choice, octets)
 }
@@ -138,7 +138,7 @@ fn request_of(found: Found<&[u8]>) -> Request<'_>
     }
 }
 
-/// A copy of a request, in one allocation where it has octets.
+/// Copies a request, in one allocation if it has octets.
 fn request_copy<O: Octets>(alloc: Global, found: Found<O>) -> Result<OwnedRequest, NoMemory>
     requires { IsMade (request_over_view (left O.octets) found) }
     ensures same { IfOk result (λ r. owned_request_view r ≡ request_over_view (left O.octets) found) }
@@ -163,14 +163,14 @@ fn request_copy<O: Octets>(alloc: Global, found: Found<O>) -> Result<OwnedReques
     }
 }
 
-/// The request of a service choice that the whole of the octets spells (clause 21).
+/// Reads the whole octets as a request with this service choice (clause 21).
 ///
-/// `UnrecognizedService` comes exactly where the choice is not 6, 7, 12 or 15. Otherwise the members are read from left to right:
-/// `MissingRequiredParameter` where the octets end too early, `InvalidTag` at a tag that is not the member's, is reserved, is not
-/// balanced, or is the ninth opened, `InvalidParameterDataType` at a tag whose number or length is in a longer form than it needs
-/// or whose low bits no tag of its number has, and at contents that their type has not, `ParameterOutOfRange` at a priority
-/// outside 1 to 16, `InconsistentParameters` at a count that is not the number of octet strings, `TooManyArguments` at octets left
-/// over.
+/// Returns `UnrecognizedService` exactly if the choice is not 6, 7, 12 or 15. Otherwise members are read from left to right, and
+/// the first fault is returned: `MissingRequiredParameter` if the octets end too early; `InvalidTag` for an unexpected, reserved
+/// or unbalanced tag, or a ninth open tag; `InvalidParameterDataType` for a tag whose number or length takes more octets than
+/// it needs, for low bits that are invalid for a tag's number, and for contents that are invalid for their type;
+/// `ParameterOutOfRange` for a priority outside 1 to 16; `InconsistentParameters` for a count that differs from the number of
+/// octet strings; `TooManyArguments` for octets left over.
 pub fn read_request(choice: u8, octets: &[u8]) -> Result<Request<'_>, Reject>
     ensures found { IfOk result (λ r. SpellsRequest choice (request_view r) octets.now) }
     ensures refused { IfErr result (λ e. IsNoRequest choice octets.now) }
@@ -183,10 +183,10 @@ pub fn read_request(choice: u8, octets: &[u8]) -> Result<Request<'_>, Reject>
     }
 }
 
-/// What `read_request` answers for the joined octets of some pieces, as a copy with its own memory.
+/// Reads the joined octets of some pieces as `read_request` does, and returns an owned copy.
 ///
-/// The pieces are not joined. A copy takes one allocation where the request has octets of data, of a file or of records,
-/// otherwise none. `NoMemory` comes last, after every reason to refuse the request: it is told only of octets that spell one.
+/// The pieces are not joined. The copy takes one allocation if the request has octets of data, of a file or of records, otherwise
+/// none. `NoMemory` is returned only if the octets are a valid request and that allocation fails.
 pub fn read_request_parts(
     alloc: Global,
     choice: u8,
@@ -218,7 +218,8 @@ fn put_request(request: Request<'_>, out: &mut Vec<u8>) -> Result<(), NoMemory>
     }
 }
 
-/// Appends the service data of a request in their one spelling (clause 21), or answers `NoMemory` and changes nothing.
+/// Appends the service data of a request in their one spelling (clause 21). Returns `NoMemory` and changes nothing if the vector
+/// cannot grow.
 pub fn write_request(request: Request<'_>, out: &mut Vec<u8>) -> Result<(), NoMemory>
     ensures ok { Appends result out.old out.new (request_spelling (request_view request.entry)) }
     ensures err { Keeps result out.old out.new }
@@ -241,7 +242,7 @@ fn members_len(request: Request<'_>) -> usize
     }
 }
 
-/// How many octets the service data of a request have. It takes no memory.
+/// The length in octets of the service data of a request. It does not allocate.
 #[tactic(auto, using(crate::proofs::Wholes::length_request))]
 pub fn request_len(request: Request<'_>) -> usize
     ensures len { result ≡ length (request_spelling (request_view request.entry)) }
@@ -251,7 +252,7 @@ pub fn request_len(request: Request<'_>) -> usize
 }
 
 impl Request<'_> {
-    /// A copy with its own memory, in one allocation where the request has octets, otherwise in none.
+    /// Copies the request, in one allocation if it has octets and in none otherwise.
     pub fn to_owned(self, alloc: Global) -> Result<OwnedRequest, NoMemory>
         ensures same { IfOk result (λ r. owned_request_view r ≡ request_view self.entry) }
         ensures full { OnErr result (0 < length (held (request_view self.entry))) }
@@ -277,7 +278,7 @@ impl Request<'_> {
 }
 
 impl OwnedRequest {
-    /// Lends the request. It takes no memory.
+    /// Borrows the request. It does not allocate.
     pub fn as_request(&self) -> Request<'_>
         ensures { request_view result ≡ owned_request_view self.now }
     {

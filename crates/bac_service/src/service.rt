@@ -1,4 +1,4 @@
-//! The four services by their choices (clause 21, BACnetConfirmedServiceChoice).
+//! The four services and their choices (clause 21, BACnetConfirmedServiceChoice).
 ghost use Rattle.std.specs.Prelude.{◌≡◌};
 ghost use Rattle.bac_service.specs.Choices.{choice_number, has_complex_ack, has_simple_ack, service_at};
 
@@ -24,7 +24,7 @@ pub enum Service {
 }
 
 impl Service {
-    /// The service of a choice; None where this stack has no service of that choice.
+    /// The service with this choice; None if this stack does not implement it.
     pub fn of(choice: u8) -> Option<Service>
         ensures { result ≡ service_at choice }
     {
@@ -37,7 +37,7 @@ impl Service {
         }
     }
 
-    /// The service choice.
+    /// The service choice of the service.
     pub fn choice(self) -> u8
         ensures { result ≡ choice_number self }
     {
@@ -49,14 +49,14 @@ impl Service {
         }
     }
 
-    /// Whether a request that was performed is answered by a SimpleACK: WriteProperty alone.
+    /// Whether a successful request is answered by a SimpleACK: WriteProperty only.
     pub fn has_simple_ack(self) -> bool
         ensures { result ≡ has_simple_ack (choice_number self) }
     {
         matches!(self, Service::WriteProperty)
     }
 
-    /// Whether a request that was performed is answered by a ComplexACK: all but WriteProperty.
+    /// Whether a successful request is answered by a ComplexACK: all services but WriteProperty.
     pub fn has_complex_ack(self) -> bool
         ensures { result ≡ has_complex_ack (choice_number self) }
     {

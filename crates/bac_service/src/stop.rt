@@ -1,4 +1,4 @@
-//! Why reading stopped, as a reason for rejecting a request and as a fault of the service data of a ComplexACK.
+//! Why reading stopped, and how that maps to a Reject reason and to a fault of the service data of a ComplexACK.
 ghost use Rattle.std.specs.Prelude.{◌≡◌, ◌≢◌, ◌≤◌};
 ghost use Rattle.bac_service.specs.Stops.{reason_of, kind_of, fault_of};
 
@@ -10,19 +10,19 @@ use bac_value::{Fault, FaultKind};
 pub(crate) enum Why {
     /// A tag, contents or data with a fault.
     Fault(FaultKind),
-    /// No octets are left for a required member.
+    /// The octets end before a required member.
     Missing,
-    /// The next tag is not the one of a required member.
+    /// The next tag is not that of the required member.
     Unexpected,
     /// A priority outside 1 to 16.
     OutOfRange,
-    /// A count that is not the number of what it counts.
+    /// A count that differs from the number of items that follow it.
     Inconsistent,
     /// Octets after the last member.
     Surplus,
 }
 
-/// Why reading stopped, and how many octets were left at the tag where it did.
+/// Why reading stopped, and how many octets were left at the tag where it stopped.
 #[derive(Clone, Copy, Debug)]
 pub(crate) struct Stop {
     pub why: Why,
@@ -36,7 +36,7 @@ impl Stop {
         Stop { why, left }
     }
 
-    /// The reason with which a request is rejected (own rule of this profile, see docs/PROTOCOL.md).
+    /// The reason for rejecting the request (own rule of this profile, see docs/PROTOCOL.md).
     pub(crate) fn reject(self) -> Reject
         ensures same { result ≡ reason_of self.why }
         ensures known { result ≢ Reject.UnrecognizedService }
@@ -57,8 +57,8 @@ impl Stop {
         }
     }
 
-    /// The fault of service data of a ComplexACK that had `all` octets (own rule of this profile: a member that is missing or
-    /// another is `ReservedTag` at its place, octets after the last member are `BadLength` at theirs).
+    /// The fault of the service data of a ComplexACK that had `all` octets (own rule of this profile: a missing or unexpected member
+    /// is `ReservedTag` at its place, octets after the last member are `BadLength` at theirs).
     pub(crate) fn fault_in(self, all: usize) -> Fault
         ensures same { result ≡ fault_of all self }
         ensures place { result.at ≤ all }

@@ -1,4 +1,4 @@
-//! Tags of members: which comes next, and what each announces.
+//! Tags of members: which one comes next, and what each announces.
 ghost use Rattle.std.specs.Prelude.{◌≡◌, ◌≤◌, ◌<◌, ◌==◌, ◌&&◌, ◌-◌, length, IfOk, MatchResult, Some, None, Ok, Err};
 ghost use Rattle.bac_value.specs.Views.{tag_view};
 ghost use Rattle.bac_value.specs.Steps.{Reads};
@@ -7,7 +7,7 @@ ghost use Rattle.bac_service.specs.Reading.{announced, next_tag, head_at, is_nex
 use crate::stop::{Stop, Why};
 use bac_value::{Class, Form, Octets, Tag, take_tag};
 
-/// The next tag.
+/// Reads the next tag.
 #[tactic(auto, unfolding(crate::specs::Reading::next_tag))]
 #[inline(always)]
 pub(crate) fn tag<O: Octets>(octets: O) -> Result<(Tag, O), Stop>
@@ -38,7 +38,7 @@ pub(crate) fn announced_by(tag: Tag, class: Class, number: u8) -> Option<usize>
     }
 }
 
-/// The tag of a class and number: how many octets of contents it announces.
+/// Reads a tag with this class and number, and returns the length of the contents that it announces.
 #[tactic(auto, unfolding(crate::specs::Reading::head_at))]
 #[inline(always)]
 pub(crate) fn head<O: Octets>(octets: O, class: Class, number: u8) -> Result<(usize, O), Stop>
@@ -53,7 +53,7 @@ pub(crate) fn head<O: Octets>(octets: O, class: Class, number: u8) -> Result<(us
     }
 }
 
-/// Whether the next tag is that of an optional member; at the end none comes.
+/// Whether the next tag is that of an optional member; false at the end.
 #[tactic(auto, unfolding(crate::specs::Reading::is_next))]
 #[inline(always)]
 pub(crate) fn comes_next<O: Octets>(octets: O, number: u8) -> Result<bool, Stop>
@@ -66,7 +66,7 @@ pub(crate) fn comes_next<O: Octets>(octets: O, number: u8) -> Result<bool, Stop>
     Ok(announced_by(tag, Class::Context, number).is_some())
 }
 
-/// Whether the next tag is the opening tag of a number.
+/// Whether the next tag is the opening tag with this number.
 #[tactic(auto, unfolding(crate::specs::Reading::is_opened))]
 #[inline(always)]
 pub(crate) fn opens_next<O: Octets>(octets: O, number: u8) -> Result<bool, Stop>
@@ -76,7 +76,7 @@ pub(crate) fn opens_next<O: Octets>(octets: O, number: u8) -> Result<bool, Stop>
     Ok(matches!(tag.form, Form::Opening) && number == tag.number)
 }
 
-/// What comes after the opening tag of a number.
+/// Returns the octets after the opening tag with this number.
 #[tactic(auto, unfolding(crate::specs::Reading::tag_that))]
 #[inline(always)]
 pub(crate) fn opening<O: Octets>(octets: O, number: u8) -> Result<O, Stop>
@@ -91,7 +91,7 @@ pub(crate) fn opening<O: Octets>(octets: O, number: u8) -> Result<O, Stop>
     }
 }
 
-/// What comes after the closing tag of a number.
+/// Returns the octets after the closing tag with this number.
 #[tactic(auto, unfolding(crate::specs::Reading::tag_that))]
 #[inline(always)]
 pub(crate) fn closing<O: Octets>(octets: O, number: u8) -> Result<O, Stop>

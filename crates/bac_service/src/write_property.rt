@@ -17,18 +17,18 @@ use crate::stop::Stop;
 use crate::tag_reading::comes_next;
 use bac_value::{Data, NoMemory, Octets};
 
-/// What a property is to be (clause 15.9). The priority is for commandable properties.
+/// A request to write a property (clause 15.9). The priority is used for commandable properties.
 #[derive(Clone, Copy, Debug, Drop)]
 pub struct WriteProperty<D> {
     /// The property.
     pub reference: PropertyReference,
-    /// What it is to be.
+    /// The new values.
     pub values: D,
-    /// The priority, where one is given.
+    /// The priority, if any.
     pub priority: Option<Priority>,
 }
 
-/// A priority, where one is given.
+/// Reads an optional priority.
 #[tactic(auto, unfolding(crate::specs::Reading::optional_at))]
 fn take_optional_priority<O: Octets>(octets: O) -> Result<(Option<Priority>, O), Stop>
     ensures { Reads priority_view O.octets (O.octets octets) result (optional_at 4 priority_at) }
@@ -40,7 +40,7 @@ fn take_optional_priority<O: Octets>(octets: O) -> Result<(Option<Priority>, O),
     Ok((Some(priority), rest))
 }
 
-/// The members of a request, and what is after them.
+/// Reads the members of a request, and returns them and the octets after them.
 #[tactic(auto, unfolding(crate::specs::WriteProperty::write_property_at))]
 pub(crate) fn take_write_property<O: Octets>(octets: O) -> Result<(WriteProperty<O>, O), Stop>
     ensures { Reads (write_property_view O.octets) O.octets (O.octets octets) result write_property_at }
@@ -77,7 +77,7 @@ pub(crate) fn put_write_property(
     put_optional(4, level(write.priority), out)
 }
 
-/// How many octets the members of a request have.
+/// The length in octets of the members of a request.
 #[tactic(auto, using(crate::proofs::MembersSpelled::whole_data))]
 pub(crate) fn write_property_len(write: WriteProperty<Data<'_>>) -> usize
     ensures len { result ≡ write_property_length (property_reference_view write.entry.reference) (length write.entry.values.octets.now)

@@ -1,4 +1,4 @@
--- What is told, one entry after the other.
+-- What is printed, one entry after the other.
 use Rattle.std.proofs.Common.{◌≡◌, ℕ, zero, suc, ◌+◌, List, [], ◌∷◌, ◌++◌, map, drop, Option, Some, None, Result, Ok, Err, OnOk}
 use Rattle.std.proofs.Common.{sym, ap, ◌∙◌, arith, slice_get, append-nil}
 use Rattle.std.proofs.lemmas.List.{append_assoc}

@@ -1,4 +1,4 @@
--- What is told in words, one line after the other.
+-- What is printed in words, one line after the other.
 use Rattle.std.proofs.Common.{◌≡◌, ◌↔◌, ℕ, ◌+◌, ◌-◌, ◌<◌, ◌≤◌, nat_le, true, false, Bool, List, [], ◌++◌, length, map, drop, reverse, Option, Some, None, IsErrOf, inl}
 use Rattle.std.proofs.Common.{refl, sym, ap, subst, ◌∙◌, slice_get, append-nil}
 use Rattle.std.proofs.lemmas.List.{append_assoc, drop_all, length-map, reverse-reverse}
@@ -23,7 +23,7 @@ use Rattle.bac_text.specs.Texts.{AppendsText}
 use Rattle.bac_world.specs.Once as once
 use Rattle.bac_world.specs.World as world
 use Rattle.bac_world.specs.World.{count_of, later, WorldStep}
-use Rattle.bac_simulate.specs.Runs.{Runs, Steps, Telling, change_fault_in}
+use Rattle.bac_simulate.specs.Runs.{Runs, Steps, Printing, change_fault_in}
 use Rattle.bac_simulate.specs.Scripts.{ScriptLine, Happens, Lost}
 use Rattle.bac_simulate.specs.Views.{line_view}
 use Rattle.bac_simulate.specs.Worded.{Adds, AreFactLines, AreFactWords, AreNews, IsEventLine, IsOutcome, in_words, lose_text, news_line, refused_news, sent_lines, sent_words, why_copy, why_delivered, why_nothing}
@@ -180,7 +180,7 @@ no_copy_told line copy w number a b none is printed =
 
 -- ---- no line more
 
-pub no_line_told : (t : Telling ℕ) (line : ℕ) (lines : List script.ScriptLine) (i : ℕ) → length lines ≤ i → (w : WorldView) (a : Option (List ℕ))
+pub no_line_told : (t : Printing ℕ) (line : ℕ) (lines : List script.ScriptLine) (i : ℕ) → length lines ≤ i → (w : WorldView) (a : Option (List ℕ))
     → AppendsText a a (Runs t line (drop i (map line_view lines)) true w w)
 no_line_told t line lines i all w a = (
   [],

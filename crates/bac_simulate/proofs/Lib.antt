@@ -6,6 +6,7 @@ pub mod News
 pub mod Parting
 pub mod Reading
 pub mod Reported
+mod Separated
 pub mod Settings
 pub mod Stepping
 pub mod Showing

@@ -1,8 +1,8 @@
 -- The nodes of a script all take the most, so its asks go by that.
 use Rattle.std.proofs.Common.{◌≡◌, ℕ, zero, suc, ◌+◌, Bool, List, [], ◌∷◌, Option, Some, None, refl, ap, ◌∙◌}
 use Rattle.std.specs.Option.{option_map}
-use Rattle.bac_script.specs.Lines.{Step, step_at}
-use Rattle.bac_script.specs.Lines.Step.{Ask, Deliver, Lose, Noise, Tick, Advance, SetProperty, SetFile, Restart}
+use Rattle.bac_simulate.specs.Lines.{Step, step_at}
+use Rattle.bac_simulate.specs.Lines.Step.{Ask, Deliver, Lose, Noise, Tick, Advance, SetProperty, SetFile, Restart}
 use Rattle.bac_apdu.specs.Apdu as plain
 use Rattle.bac_world.specs.World as world
 use Rattle.bac_simulate.specs.Houses.{house_nodes}

@@ -14,7 +14,7 @@ use Rattle.bac_network.specs.Histories.{WorldView}
 use Rattle.bac_store.specs.House.{house}
 use Rattle.bac_store.specs.Stores.{Store}
 use Rattle.bac_world.specs.Node.{Node}
-use Rattle.bac_script.specs.Lines.{Setting}
+use Rattle.bac_simulate.specs.Lines.{Setting}
 use Rattle.bac_simulate.specs.Houses.{house_node, house_nodes, houses, maker_at, makers_from, world_set}
 use Rattle.bac_simulate.specs.Scripts.{most_limits}
 

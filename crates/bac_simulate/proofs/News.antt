@@ -1,4 +1,4 @@
--- What is told of new facts and copies, one after the other.
+-- What is printed of new facts and copies, one after the other.
 use Rattle.std.proofs.Common.{◌≡◌, ℕ, ◌+◌, ◌≤◌, false, List, length, map, drop, reverse, Option, Some, Result, OnOk, sym, ap, subst, ◌∙◌, slice_get}
 use Rattle.std.proofs.lemmas.List.{drop_all, length-map, length-reverse, reverse-reverse}
 use Rattle.std.specs.Io.KnownBytes.{Appends}
@@ -11,7 +11,7 @@ use Rattle.bac_network.specs.declared.fact.Fact as fact
 use Rattle.bac_world.specs.Once as once
 use Rattle.bac_world.specs.World as world
 use Rattle.bac_simulate.specs.Captures.{record_of, records_of}
-use Rattle.bac_simulate.specs.Told.{copies_text, fact_text, facts_text, news_text}
+use Rattle.bac_simulate.specs.Printed.{copies_text, fact_text, facts_text, news_text}
 use Rattle.bac_simulate.proofs.Appending.{before, drop_seen, joined, nothing_more}
 use Rattle.bac_commands.specs.Facts.{sent_line}
 

@@ -37,7 +37,7 @@ one_line : (text : List ℕ) → length text ≡ first_end text → 0 < length t
 one_line [] all some = absurd (search (arith, some))
 one_line (x ∷ xs) all some = last_step (is_line_end x) x xs (first_end xs) (one_line xs) all
 
--- what a search for the first end tells
+-- what a search for the first end says
 pub no_end : (text : List ℕ) → position is_line_end text ≡ None → 0 < length text → lines_of text ≡ text ∷ []
 no_end text none some = go (nat_lt (first_end text) (length text)) refl none where
   go : (b : Bool) → nat_lt (first_end text) (length text) ≡ b → cond b (Some (first_end text)) None ≡ None → lines_of text ≡ text ∷ []

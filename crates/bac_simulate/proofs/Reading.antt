@@ -1,6 +1,6 @@
 -- The events of a script's lines, one after the other.
 use Rattle.std.proofs.Common.{◌≡◌, ℕ, ◌+◌, Bool, List, [], ◌∷◌, ◌++◌, Option, Some, None, Result, Ok, Err, refl, sym, ap, ◌∙◌, append_assoc, append-nil}
-use Rattle.bac_script.specs.Lines.{Setting, setting_at}
+use Rattle.bac_simulate.specs.Lines.{Setting, setting_at}
 use Rattle.bac_text.specs.Notes.{read_of}
 use Rattle.bac_simulate.specs.Scripts.{NodeLimits, Script, ScriptLine, before_others, most_limits, said_at, said_from, script_by, script_from, with_setting}
 

@@ -3,8 +3,8 @@ use Rattle.std.proofs.Common.{◌≡◌, ℕ, ◌+◌, ◌*◌, ◌≤◌, nat_l
 use Rattle.std.proofs.Common.{if◌then◌else◌, refl, subst, arith}
 use Rattle.std.proofs.lemmas.Bool.Decides.{nat_tests}
 use Rattle.bac_value_text.specs.Numbers.{◌>>=◌, number_of, number_up_to, at_most}
-use Rattle.bac_script.specs.Words.{words_of}
-use Rattle.bac_script.specs.Lines.{Setting, not_none, number_from_one, bounded, setting_with, usual_setting, setting_of, setting_at}
+use Rattle.bac_simulate.specs.LineWords.{words_of}
+use Rattle.bac_simulate.specs.Lines.{Setting, not_none, number_from_one, bounded, setting_with, usual_setting, setting_of, setting_at}
 use Rattle.bac_simulate.specs.Scripts.{IsModest}
 
 some_is : {A : Type 0} → (x y : A) → Some x ≡ Some y → x ≡ y

@@ -4,8 +4,8 @@ use Rattle.std.specs.Io.KnownBytes.{Appends, Keeps}
 use Rattle.bac_chart.specs.Views.{mark_view}
 use Rattle.bac_chart.specs.declared.mark.Mark as code
 use Rattle.bac_network.specs.Histories.{WorldView}
-use Rattle.bac_script.specs.Lines.{Setting}
-use Rattle.bac_script.specs.Views.{setting_view}
+use Rattle.bac_simulate.specs.Lines.{Setting}
+use Rattle.bac_simulate.specs.Views.{setting_view}
 use Rattle.bac_text.specs.Lines.{lines_of}
 use Rattle.bac_text.specs.Statuses.{IsFailure}
 use Rattle.bac_text.specs.Texts.{AppendsText}
@@ -153,7 +153,7 @@ run_shown v nodes first lines all world last marks a b traced printed = (
   ),
 )
 
--- ---- a run that is told in words
+-- ---- a run that is printed in words
 
 pub run_told : {E : Type 0} (run : Result Bool E) (first : ℕ) (held lines : List ScriptLine) (world last : WorldView) (a b : Option (List ℕ)) → held ≡ lines
     → IfOk run (λ all. AppendsText a b (Runs in_words first held all world last)) → IfOk run (λ all. AppendsText a b (IsWorded first lines all world))

@@ -1,4 +1,4 @@
--- Events, one after the other, and what is told of them.
+-- Events, one after the other, and what is printed of them.
 use Rattle.std.proofs.Common.{◌≡◌, ◌↔◌, ℕ, ◌+◌, ◌<◌, ◌≤◌, true, false, Bool, List, [], ◌∷◌, ◌++◌, length, map, drop, Option, Some, None, Result, Err, IsErrOf, inl, inr}
 use Rattle.std.proofs.Common.{refl, sym, ap, subst, ◌∙◌, slice_get}
 use Rattle.std.specs.Io.KnownBytes.{Appends}
@@ -18,8 +18,8 @@ use Rattle.bac_network.specs.declared.fault.WorldFault.{WorldFault}
 use Rattle.bac_network.specs.declared.fault.WorldFault.TheVariants as fault
 use Rattle.bac_commands.specs.Facts.{fault_line, refused_line}
 use Rattle.bac_text.specs.Texts.{AppendsText}
-use Rattle.bac_simulate.specs.Told.{lost_line, outcome_text}
-use Rattle.bac_simulate.specs.Runs.{IsStep, Passed, Runs, Steps, Telling, change_fault_in, in_text}
+use Rattle.bac_simulate.specs.Printed.{lost_line, outcome_text}
+use Rattle.bac_simulate.specs.Runs.{IsStep, Passed, Runs, Steps, Printing, change_fault_in, in_text}
 use Rattle.bac_simulate.proofs.Appending.{drop_seen, joined, nothing_more}
 
 -- ---- one event
@@ -44,7 +44,7 @@ happened line e told old new facts copies a b fs cs went tells same printed = (
 abbrev pub the_err : WorldFault → Result (Option AskFault) WorldFault
 the_err f = Err f
 
-pub fails : {A : Type 0} (t : Telling A) (line : ℕ) (e : world.Event) (f : WorldFault) (old new : WorldView) (said : List A) → change_fault_in f ≡ None
+pub fails : {A : Type 0} (t : Printing A) (line : ℕ) (e : world.Event) (f : WorldFault) (old new : WorldView) (said : List A) → change_fault_in f ≡ None
     → (IsErrOf (the_err f) fault.NoSuchNode ↔ NamesNoNode old.world e)
     → (IsErrOf (the_err f) fault.NoSuchDatagram ↔ NamesNoCopy old.world e)
     → (IsErrOf (the_err f) fault.ClockEnd ↔ PassesClock old.world e)
@@ -79,7 +79,7 @@ bad_change fault.ClockEnd why e = absurd cc
 bad_change (fault.BadChange other) why e = ap (λ (w : ChangeFault). the_err (fault.BadChange w)) (let same : Some other ≡ Some why = e in cc)
 bad_change fault.NoMemory why e = absurd cc
 
-pub refuses : {A : Type 0} (t : Telling A) (line : ℕ) (e : world.Event) (f : WorldFault) (why : ChangeFault) (old new : WorldView) (said : List A)
+pub refuses : {A : Type 0} (t : Printing A) (line : ℕ) (e : world.Event) (f : WorldFault) (why : ChangeFault) (old new : WorldView) (said : List A)
     → change_fault_in f ≡ Some why → ((w : ChangeFault) → (IsErrOf (the_err f) (fault.BadChange w) ↔ RefusesChange old.world e w))
     → new ≡ old → t.refused why e old said → Steps t line true (Happens e) old new said
 refuses t line e f why old new said bad change same is =
@@ -110,20 +110,20 @@ noted line w a = ([], ((refl, refl), nothing_more a))
 
 -- ---- one line more
 
-more_true : {A : Type 0} (t : Telling A) (line : ℕ) (e : ScriptLine) (lines : List ScriptLine) (old mid new : WorldView) (first rest : List A)
+more_true : {A : Type 0} (t : Printing A) (line : ℕ) (e : ScriptLine) (lines : List ScriptLine) (old mid new : WorldView) (first rest : List A)
     → Passed t e old mid first → Runs t (line + 1) lines true mid new rest → Runs t line (e ∷ lines) true old new (first ++ rest)
 more_true t line e lines old mid new first rest h r = (mid, first, rest, h, r, refl)
 
-more_false : {A : Type 0} (t : Telling A) (line : ℕ) (e : ScriptLine) (lines : List ScriptLine) (old mid new : WorldView) (first rest : List A)
+more_false : {A : Type 0} (t : Printing A) (line : ℕ) (e : ScriptLine) (lines : List ScriptLine) (old mid new : WorldView) (first rest : List A)
     → Passed t e old mid first → Runs t (line + 1) lines false mid new rest → Runs t line (e ∷ lines) false old new (first ++ rest)
 more_false t line e lines old mid new first rest h r = inr (mid, first, rest, h, r, refl)
 
-pub more : {A : Type 0} (t : Telling A) (all : Bool) (line : ℕ) (e : ScriptLine) (lines : List ScriptLine) (old mid new : WorldView) (first rest : List A)
+pub more : {A : Type 0} (t : Printing A) (all : Bool) (line : ℕ) (e : ScriptLine) (lines : List ScriptLine) (old mid new : WorldView) (first rest : List A)
     → Passed t e old mid first → Runs t (line + 1) lines all mid new rest → Runs t line (e ∷ lines) all old new (first ++ rest)
 more t true line e lines old mid new first rest h r = more_true t line e lines old mid new first rest h r
 more t false line e lines old mid new first rest h r = more_false t line e lines old mid new first rest h r
 
-pub goes_on : (t : Telling ℕ) (all : Bool) (line : ℕ) (lines : List code.ScriptLine) (i : ℕ) (e : code.ScriptLine) → slice_get lines i ≡ Some e
+pub goes_on : (t : Printing ℕ) (all : Bool) (line : ℕ) (lines : List code.ScriptLine) (i : ℕ) (e : code.ScriptLine) → slice_get lines i ≡ Some e
     → (old mid new : WorldView) (a b c : Option (List ℕ)) → (went : Bool) → went ≡ true → AppendsText a b (Steps t line went (line_view e) old mid)
     → (next : ℕ) → next ≡ line + 1 → AppendsText b c (Runs t next (drop (i + 1) (map line_view lines)) all mid new)
     → AppendsText a c (Runs t line (drop i (map line_view lines)) all old new)
@@ -138,7 +138,7 @@ goes_on t all line lines i e at old mid new a b c went is stepped next on ran =
       ),
     )
 
-pub stops : (t : Telling ℕ) (line : ℕ) (lines : List code.ScriptLine) (i : ℕ) (e : code.ScriptLine) → slice_get lines i ≡ Some e → (old new : WorldView)
+pub stops : (t : Printing ℕ) (line : ℕ) (lines : List code.ScriptLine) (i : ℕ) (e : code.ScriptLine) → slice_get lines i ≡ Some e → (old new : WorldView)
     (a b : Option (List ℕ)) → (went : Bool) → went ≡ false → AppendsText a b (Steps t line went (line_view e) old new)
     → AppendsText a b (Runs t line (drop i (map line_view lines)) false old new)
 stops t line lines i e at old new a b went is stepped =

@@ -5,7 +5,7 @@ use Rattle.bac_chart.specs.Drawings.{drawing_text}
 use Rattle.bac_chart.specs.Marks.{Mark}
 use Rattle.bac_chart.specs.declared.drawing.Form.TheVariants as form
 use Rattle.bac_network.specs.Histories.{WorldView}
-use Rattle.bac_script.specs.Views.{setting_view}
+use Rattle.bac_simulate.specs.Views.{setting_view}
 use Rattle.bac_text.specs.Lines.{lines_of}
 use Rattle.bac_text.specs.Texts.{AppendsText}
 use Rattle.bac_text.specs.declared.status.Status.{Status}
@@ -13,7 +13,7 @@ use Rattle.bac_text.specs.declared.status.Status.TheVariants as status
 use Rattle.bac_world.specs.World.{World}
 use Rattle.bac_simulate.specs.Captures.{capture_of}
 use Rattle.bac_simulate.specs.Houses.{world_set}
-use Rattle.bac_simulate.specs.Runs.{IsUnread, Runs, Telling}
+use Rattle.bac_simulate.specs.Runs.{IsUnread, Runs, Printing}
 use Rattle.bac_simulate.specs.Scripts.{Script, ScriptLine, most_limits, said_from, script_of, with_setting}
 use Rattle.bac_simulate.specs.Traces.{change_marks, event_marks}
 use Rattle.bac_simulate.specs.Views.{line_view}
@@ -24,7 +24,7 @@ use Rattle.bac_simulate.specs.declared.view.View.{View}
 use Rattle.bac_simulate.specs.declared.view.View.TheVariants as view
 
 -- a lost copy and a fault are drawn as nothing
-abbrev pub in_marks : Telling Mark
+abbrev pub in_marks : Printing Mark
 in_marks =
     record {
       went = λ told event old new marks. marks ≡ event_marks told event old new;
@@ -33,7 +33,7 @@ in_marks =
       ended = λ line fault marks. marks ≡ [];
     }
 
--- a drawing of what came of the lines in a network of so many nodes, or the copies that there are in the end; what is told in words is no drawing
+-- a drawing of what came of the lines in a network of so many nodes, or the copies that there are in the end; what is printed in words is no drawing
 abbrev pub shown_text : View → (nodes : ℕ) → List Mark → (last : World) → List ℕ
 shown_text view.Text nodes marks last = []
 shown_text view.Chart nodes marks last = drawing_text form.Chart nodes marks
@@ -47,7 +47,7 @@ pub record IsDrawn (v : View) (nodes first : ℕ) (lines : List ScriptLine) (all
   pub ran : Runs in_marks first lines all world last marks
   pub is : text ≡ shown_text v nodes marks last.world
 
--- likewise, and that is told in words
+-- likewise, and that is printed in words
 abbrev pub IsWorded : (first : ℕ) → List ScriptLine → (all : Bool) → (world : WorldView) → (text : List ℕ) → Type 0
 IsWorded first lines all world text = (last : WorldView) × Runs in_words first lines all world last text
 

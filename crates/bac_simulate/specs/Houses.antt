@@ -4,7 +4,7 @@ use Rattle.bac_apdu.specs.Apdu as plain
 use Rattle.bac_apdu.specs.declared.limits.Limits.{Limits}
 use Rattle.bac_network.specs.Fresh.{Maker}
 use Rattle.bac_network.specs.Histories.{WorldView}
-use Rattle.bac_script.specs.Lines.{Setting}
+use Rattle.bac_simulate.specs.Lines.{Setting}
 use Rattle.bac_store.specs.House.{house}
 use Rattle.bac_store.specs.Stores.{Store}
 use Rattle.bac_world.specs.Node.{Node}

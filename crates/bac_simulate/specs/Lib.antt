@@ -1,8 +1,10 @@
 pub mod Captures
 pub mod Houses
 pub mod Runs
+pub mod LineWords
+pub mod Lines
 pub mod Scripts
-pub mod Told
+pub mod Printed
 pub mod Traces
 pub mod Worded
 pub mod Drawn

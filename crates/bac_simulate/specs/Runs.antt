@@ -18,43 +18,43 @@ use Rattle.bac_text.specs.declared.status.Status.{Status}
 use Rattle.bac_text.specs.declared.status.Status.TheVariants as status
 use Rattle.bac_simulate.specs.Houses.{world_set}
 use Rattle.bac_simulate.specs.Scripts.{Script, ScriptLine, Happens, Lost, Note, limits_in, said_from, script_of}
-use Rattle.bac_simulate.specs.Told.{lost_line, outcome_text}
+use Rattle.bac_simulate.specs.Printed.{lost_line, outcome_text}
 use Rattle.bac_simulate.specs.declared.script.ScriptFault.{ScriptFault}
 use Rattle.bac_simulate.specs.declared.script.ScriptFault.TheVariants as fault
 
 -- ---- events
 
--- which lists tell what comes of a line: of an event that happens, of a change that its node's store refuses, of a copy that counts as lost, and of a fault that
+-- which lists say what comes of a line: of an event that happens, of a change that its node's store refuses, of a copy that counts as lost, and of a fault that
 -- ends the script at a line
-pub record Telling (A : Type 0) : Type 1 where
+pub record Printing (A : Type 0) : Type 1 where
   pub went : Option AskFault → Event → (old new : WorldView) → List A → Type 0
   pub refused : ChangeFault → Event → (old : WorldView) → List A → Type 0
   pub lost : (old : WorldView) → (copy : ℕ) → List A → Type 0
   pub ended : (line fault : ℕ) → List A → Type 0
 
--- an event happened, and this is told of it
-pub record Happened {A : Type 0} (t : Telling A) (event : Event) (old new : WorldView) (said : List A) : Type 0 where
+-- an event happened, and this is printed of it
+pub record Happened {A : Type 0} (t : Printing A) (event : Event) (old new : WorldView) (said : List A) : Type 0 where
   pub told : Option AskFault
   pub went : WorldStep old.overtake old.world event new.world
   pub tells : Tells told old.world event new.world
   pub overtake : new.overtake ≡ old.overtake
   pub is : t.went told event old new said
 
--- the event was a change with that fault, which is told; nothing changed
-pub record TurnedDown {A : Type 0} (t : Telling A) (event : Event) (old new : WorldView) (said : List A) : Type 0 where
+-- the event was a change with that fault, which is printed; nothing changed
+pub record TurnedDown {A : Type 0} (t : Printing A) (event : Event) (old new : WorldView) (said : List A) : Type 0 where
   pub fault : ChangeFault
   pub why : RefusesChange old.world event fault
   pub same : new ≡ old
   pub is : t.refused fault event old said
 
--- a copy that was sent counts as lost: that is told, and nothing changed
-pub record CountedLost {A : Type 0} (t : Telling A) (copy : ℕ) (old new : WorldView) (said : List A) : Type 0 where
+-- a copy that was sent counts as lost: that is printed, and nothing changed
+pub record CountedLost {A : Type 0} (t : Printing A) (copy : ℕ) (old new : WorldView) (said : List A) : Type 0 where
   pub sent : copy < length old.world.copies
   pub same : new ≡ old
   pub is : t.lost old copy said
 
 -- the script goes on after the line
-abbrev pub Passed : {A : Type 0} → Telling A → ScriptLine → (old new : WorldView) → List A → Type 0
+abbrev pub Passed : {A : Type 0} → Printing A → ScriptLine → (old new : WorldView) → List A → Type 0
 Passed t (Happens event) old new said = Happened t event old new said ⊎ TurnedDown t event old new said
 Passed t (Lost copy) old new said = CountedLost t copy old new said
 Passed t Note old new said = (new ≡ old) × (said ≡ [])
@@ -67,8 +67,8 @@ change_fault_in world_fault.ClockEnd = None
 change_fault_in (world_fault.BadChange why) = Some why
 change_fault_in world_fault.NoMemory = None
 
--- the event of that line did not happen, nothing changed, and the number of the fault is told
-pub record Failed {A : Type 0} (t : Telling A) (line : ℕ) (event : Event) (old new : WorldView) (said : List A) : Type 0 where
+-- the event of that line did not happen, nothing changed, and the number of the fault is printed
+pub record Failed {A : Type 0} (t : Printing A) (line : ℕ) (event : Event) (old new : WorldView) (said : List A) : Type 0 where
   pub fault : WorldFault
   pub ends : change_fault_in fault ≡ None
   pub why : IsFault fault old.overtake old.world event
@@ -76,23 +76,23 @@ pub record Failed {A : Type 0} (t : Telling A) (line : ℕ) (event : Event) (old
   pub is : t.ended line (fault_number fault) said
 
 -- there is no such copy that could count as lost
-pub record NotSent {A : Type 0} (t : Telling A) (line copy : ℕ) (old new : WorldView) (said : List A) : Type 0 where
+pub record NotSent {A : Type 0} (t : Printing A) (line copy : ℕ) (old new : WorldView) (said : List A) : Type 0 where
   pub none : length old.world.copies ≤ copy
   pub same : new ≡ old
   pub is : t.ended line (fault_number world_fault.NoSuchDatagram) said
 
 -- the script ends at that line
-abbrev pub Stopped : {A : Type 0} → Telling A → (line : ℕ) → ScriptLine → (old new : WorldView) → List A → Type 0
+abbrev pub Stopped : {A : Type 0} → Printing A → (line : ℕ) → ScriptLine → (old new : WorldView) → List A → Type 0
 Stopped t line (Happens event) old new said = Failed t line event old new said
 Stopped t line (Lost copy) old new said = NotSent t line copy old new said
 Stopped t line Note old new said = ⊥
 
-abbrev pub Steps : {A : Type 0} → Telling A → (line : ℕ) → (passed : Bool) → ScriptLine → (old new : WorldView) → List A → Type 0
+abbrev pub Steps : {A : Type 0} → Printing A → (line : ℕ) → (passed : Bool) → ScriptLine → (old new : WorldView) → List A → Type 0
 Steps t line true said old new told = Passed t said old new told
 Steps t line false said old new told = Stopped t line said old new told
 
--- what lines say, of which the first has that number, came one after the other, all of it or up to the first that could not; and that was told
-abbrev pub Runs : {A : Type 0} → Telling A → (line : ℕ) → List ScriptLine → (all : Bool) → (old new : WorldView) → List A → Type 0
+-- what lines say, of which the first has that number, came one after the other, all of it or up to the first that could not; and that was printed
+abbrev pub Runs : {A : Type 0} → Printing A → (line : ℕ) → List ScriptLine → (all : Bool) → (old new : WorldView) → List A → Type 0
 Runs t line [] true old new told = (new ≡ old) × (told ≡ [])
 Runs t line [] false old new told = ⊥
 Runs {A} t line (said ∷ lines) true old new told = (mid : WorldView) × (first : List A) × (rest : List A) × Passed t said old mid first
@@ -103,7 +103,7 @@ Runs {A} t line (said ∷ lines) false old new told = Stopped t line said old ne
 
 -- ---- in lines of text
 
-abbrev pub in_text : Telling ℕ
+abbrev pub in_text : Printing ℕ
 in_text =
     record {
       went = λ told event old new text. text ≡ outcome_text told (length old.world.log) (length old.world.copies) new.world;

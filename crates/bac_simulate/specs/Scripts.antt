@@ -2,11 +2,11 @@
 use Rattle.std.specs.Prelude.{◌≡◌, ◌≤◌, ℕ, ◌+◌, ◌*◌, Bool, true, List, [], ◌∷◌, ⊤, Option, Some, None, Result, Ok, Err, slice_get}
 use Rattle.std.specs.Option.{option_map}
 use Rattle.bac_apdu.specs.Apdu.{Limits}
-use Rattle.bac_script.specs.Lines as line
-use Rattle.bac_script.specs.Lines.{setting_at, step_at}
+use Rattle.bac_simulate.specs.Lines as line
+use Rattle.bac_simulate.specs.Lines.{setting_at, step_at}
 use Rattle.bac_text.specs.Notes.{read_of}
-use Rattle.bac_script.specs.declared.form_fault.FormFault.{FormFault}
-use Rattle.bac_script.specs.declared.form_fault.FormFault.TheVariants as form_fault
+use Rattle.bac_service_text.specs.declared.form_fault.FormFault.{FormFault}
+use Rattle.bac_service_text.specs.declared.form_fault.FormFault.TheVariants as form_fault
 use Rattle.bac_world.specs.Node.{Node}
 use Rattle.bac_store.specs.AtNode as at_node
 use Rattle.bac_world.specs.World as world

@@ -1,10 +1,11 @@
--- What is told in words of what comes of a script's lines.
+-- What is printed in words of what comes of a script's lines.
 use Rattle.std.specs.Prelude.{◌≡◌, ℕ, codes, decimal, ◌+◌, ◌-◌, nat_le, Bool, true, false, List, [], ◌∷◌, ◌++◌, length, drop, reverse, Option, Some, None, slice_get}
 use Rattle.bac_chart.specs.Labels.{datagram_words}
 use Rattle.bac_commands.specs.Facts.{fault_line}
-use Rattle.bac_commands.specs.Words.{AreEndingWords, AreReplyWords}
+use Rattle.bac_commands.specs.Words.{AreEndingWords}
 use Rattle.bac_transaction.specs.Meanings.{Ending}
-use Rattle.bac_explain_report.specs.Requests.{AreRequestWords}
+use Rattle.bac_service_text.specs.Answers.{AreReplyWords}
+use Rattle.bac_service_text.specs.Dispatch.{AreRequestWords}
 use Rattle.bac_network.specs.Histories.{WorldView}
 use Rattle.bac_protocol.specs.declared.times.TheConstants.{LIFE}
 use Rattle.bac_requester.specs.Faults.{ask_fault_number}
@@ -20,8 +21,8 @@ use Rattle.bac_world.specs.Once.{Fact}
 use Rattle.bac_world.specs.Once.Fact.{Asked, Performed, Ended, Changed, Restarted}
 use Rattle.bac_world.specs.World.{World, Copy, Event, later}
 use Rattle.bac_world.specs.World.Event.{Ask, Deliver, Noise, Tick, Advance, Change, Restart}
-use Rattle.bac_simulate.specs.Runs.{Telling}
-use Rattle.bac_simulate.specs.Told.{is_as_before}
+use Rattle.bac_simulate.specs.Runs.{Printing}
+use Rattle.bac_simulate.specs.Printed.{is_as_before}
 use Rattle.bac_simulate.specs.declared.nothing.Why.{Why}
 use Rattle.bac_simulate.specs.declared.nothing.Why.TheVariants as why
 
@@ -163,7 +164,7 @@ lose_text now copy = decimal now ++ (codes " lose " ++ (decimal copy ++ codes "\
 
 -- ---- runs
 
-abbrev pub in_words : Telling ℕ
+abbrev pub in_words : Printing ℕ
 in_words =
     record {
       went = IsEventText;

@@ -1,6 +1,6 @@
-//! What is told in words of a line that is none of a script.
+//! What is printed in words of a line that is none of a script.
 use crate::script::next_line;
-use bac_script::bad_word;
+use bac_service_text::bad_word;
 use bac_text::read_of;
 use bac_value_text::parts_at;
 use std::alloc::{AllocError, Global};
@@ -63,14 +63,14 @@ fn reason_of(
 }
 
 /// Complains of the line with that number, and names the bad word of what it asks, where memory suffices for that.
-pub(crate) fn tell_bad_line<E: Write>(
+pub(crate) fn print_bad_line<E: Write>(
     alloc: Global,
     notes: bool,
     text: &[u8],
     number: u64,
     err: &mut E,
 ) {
-    // where even that fails, the status alone tells
+    // if that fails too, only the status is left
     let _ = write!(err, "line {number}: not a script line");
     if let Ok(Some(reason)) = reason_of(alloc, notes, text, number) {
         let _ = err.write_all(b": ");

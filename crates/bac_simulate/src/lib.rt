@@ -3,17 +3,22 @@
 
 mod bad_line;
 mod capture;
+mod line;
+mod line_reading;
+mod line_words;
 mod marks;
 mod nothing;
+mod printing;
 mod read_script;
 mod script;
 mod simulate;
-mod telling;
 mod trace;
 mod view;
 mod wording;
 mod words;
 mod world_of;
 
+pub use line::{Ask, Noise, SetFile, SetProperty, Setting, Step};
+pub use line_reading::{read_setting, read_step};
 pub use simulate::{simulate_in, simulate_lines_over, simulate_over};
 pub use view::{View, show_over};

@@ -1,16 +1,18 @@
 //! A script, read from its octets.
 ghost use Rattle.std.specs.Prelude.{◌≡◌, ◌<◌, ◌≤◌, ◌+◌, ◌^◌, [], ◌∷◌, length, map, IfOk, MatchOption, MatchResult, Some};
 ghost use Rattle.std.specs.List.{position};
-ghost use Rattle.bac_script.specs.Lines.{setting_at};
-ghost use Rattle.bac_script.specs.Views.{setting_view};
+ghost use Rattle.bac_simulate.specs.Lines.{setting_at};
+ghost use Rattle.bac_simulate.specs.Views.{setting_view};
 ghost use Rattle.bac_text.specs.Lines.{is_line_end, lines_of};
 ghost use Rattle.bac_simulate.specs.Scripts.{IsModest, IsNotRead, Reads, ReadsAt, fault_at, limits_in, most_limits, said_at, said_from, script_of};
 ghost use Rattle.bac_simulate.specs.Scripts.{with_setting};
 ghost use Rattle.bac_simulate.specs.Views.{line_view};
 
+use crate::line::Setting;
+use crate::line_reading::{read_setting, read_step};
 use crate::world_of::said_by;
 use bac_network::{Event, World};
-use bac_script::{FormFault, Setting, read_setting, read_step};
+use bac_service_text::FormFault;
 use bac_text::read_of;
 use bac_value::NoMemory;
 use std::alloc::Global;

@@ -1,19 +1,19 @@
 //! `bac simulate`, over any reader and writers.
 ghost use Rattle.std.specs.Prelude.{◌≡◌, ◌+◌, ◌<◌, ◌^◌, length, map, IfOk, IfSome, Ok, Some};
 ghost use Rattle.bac_network.specs.Views.{event_view};
-ghost use Rattle.bac_script.specs.Views.{setting_view};
+ghost use Rattle.bac_simulate.specs.Views.{setting_view};
 ghost use Rattle.bac_text.specs.Lines.{lines_of};
 ghost use Rattle.bac_text.specs.Texts.{AppendsText};
 ghost use Rattle.bac_simulate.specs.Runs.{Goes, IsEnd, IsRun, IsStep, IsUnread, Reports, Simulates, SimulatesAs, SimulatesIn, change_fault_in, status_for, status_of};
 ghost use Rattle.bac_simulate.specs.Scripts.{Happens, IsModest, Lost, limits_in, most_limits, said_from, script_of, with_setting};
 ghost use Rattle.bac_simulate.specs.Views.{line_view};
 
+use crate::line::Setting;
+use crate::printing::{Seen, print_lost, print_outcome};
 use crate::script::{ScriptFault, ScriptLine, lines_in, read_first};
-use crate::telling::{Seen, print_lost, print_outcome};
 use crate::world_of::world_of;
 use bac_commands::{print_fault, print_refused};
 use bac_network::{Event, World, WorldFault};
-use bac_script::Setting;
 use bac_store::ChangeFault;
 use bac_text::{Status, complain, no_memory, output_failed};
 use bac_value::NoMemory;
@@ -160,7 +160,7 @@ pub(crate) fn no_script<E: Write>(fault: ScriptFault, err: &mut E) -> Status
 {
     match fault {
         ScriptFault::Line(number) => {
-            // where even that fails, the status alone tells
+            // if that fails too, only the status is left
             let _ = writeln!(err, "line {number}: not a script line");
             Status::CommandLine
         }

@@ -12,9 +12,9 @@ ghost use Rattle.bac_simulate.specs.Traces.{facts_marks, news_marks, optional_ma
 ghost use Rattle.bac_simulate.specs.Views.{line_view};
 
 use crate::marks::{add, arrow_of, coming_in, fact_mark, refused_mark};
+use crate::printing::Seen;
 use crate::script::ScriptLine;
 use crate::simulate::change_fault_in;
-use crate::telling::Seen;
 use bac_chart::Mark;
 use bac_commands::print_fault;
 use bac_journal::{Copy, Note};
@@ -95,7 +95,7 @@ fn add_refused(
     Ok(())
 }
 
-/// Tells the fault that ends a script; where even that fails, the status alone tells.
+/// Prints the fault that ends a script; if that fails too, only the status is left.
 fn stops<E: Write>(line: u64, fault: WorldFault, err: &mut E) -> bool
     ensures { result ≡ false }
 {
@@ -103,7 +103,7 @@ fn stops<E: Write>(line: u64, fault: WorldFault, err: &mut E) -> bool
     false
 }
 
-/// One event. Answers whether the script goes on; where not, `err` is told why.
+/// One event. Answers whether the script goes on; where not, `err` says why.
 fn trace_event<E: Write>(
     alloc: Global,
     world: &mut World,

@@ -2,7 +2,7 @@
 ghost use Rattle.std.specs.Prelude.{◌≡◌, ◌<◌, ◌+◌, ◌^◌, length, map, IfOk, MatchResult, OnOk};
 ghost use Rattle.std.specs.Io.KnownBytes.{Appends};
 ghost use Rattle.bac_chart.specs.Views.{mark_view};
-ghost use Rattle.bac_script.specs.Views.{setting_view};
+ghost use Rattle.bac_simulate.specs.Views.{setting_view};
 ghost use Rattle.bac_simulate.specs.Drawn.{rest_of, shown_text, IsDrawn, IsRead, IsShown, IsWorded, Shows, ShowsAs};
 ghost use Rattle.bac_simulate.specs.Runs.{status_for};
 ghost use Rattle.bac_simulate.specs.Scripts.{IsModest, IsNotRead, script_of};
@@ -10,13 +10,13 @@ ghost use Rattle.bac_simulate.specs.Views.{line_view};
 ghost use Rattle.bac_text.specs.Lines.{lines_of};
 ghost use Rattle.bac_text.specs.Texts.{AppendsText};
 
-use crate::bad_line::tell_bad_line;
+use crate::bad_line::print_bad_line;
 use crate::capture::print_capture;
 use crate::read_script::ReadScript;
 use crate::script::{FirstLine, ScriptFault, lines_in, read_first};
 use crate::simulate::{ended, no_script, octets_of, unread};
 use crate::trace::trace_lines;
-use crate::wording::tell_lines;
+use crate::wording::print_lines;
 use crate::world_of::world_of;
 use bac_chart::{Form, Mark, print_drawing};
 use bac_network::World;
@@ -38,7 +38,7 @@ pub enum View {
     Capture,
 }
 
-/// Prints what a run is drawn as, by what came of its lines and the world in which it ended; what is told in words is no drawing.
+/// Prints what a run is drawn as, by what came of its lines and the world in which it ended; what is printed in words is no drawing.
 fn print_view<W: Write>(
     alloc: Global,
     view: View,
@@ -84,8 +84,8 @@ fn read_script(alloc: Global, notes: bool, text: &[u8]) -> Result<ReadScript, Sc
     read_rest(alloc, notes, first)
 }
 
-/// Runs a script, and tells each event in words. Answers whether all lines passed.
-fn run_and_tell<O: Write>(alloc: Global, script: ReadScript, out: &mut O) -> io::Result<bool>
+/// Runs a script, and prints each event in words. Answers whether all lines passed.
+fn run_in_words<O: Write>(alloc: Global, script: ReadScript, out: &mut O) -> io::Result<bool>
     ensures { IfOk result (λ all. AppendsText (O.contents out.old) (O.contents out.new)
         (IsWorded (script.before + 1) (map line_view script.lines.items) all script.world)) }
 {
@@ -95,10 +95,10 @@ fn run_and_tell<O: Write>(alloc: Global, script: ReadScript, out: &mut O) -> io:
         lines,
         ..
     } = script;
-    tell_lines(alloc, &mut world, before, &lines, out)
+    print_lines(alloc, &mut world, before, &lines, out)
 }
 
-/// Runs a script, and then prints what its run is drawn as. Answers whether all lines passed; `err` is told which did not.
+/// Runs a script, and then prints what its run is drawn as. Answers whether all lines passed; `err` says which did not.
 fn run_and_draw<O: Write, E: Write>(
     alloc: Global,
     view: View,
@@ -134,7 +134,7 @@ fn run_and_show<O: Write, E: Write>(
         (IsShown view script.nodes (script.before + 1) (map line_view script.lines.items) all script.world)) }
 {
     match view {
-        View::Text => run_and_tell(alloc, script, out),
+        View::Text => run_in_words(alloc, script, out),
         View::Chart => run_and_draw(alloc, View::Chart, script, out, err),
         View::Mermaid => run_and_draw(alloc, View::Mermaid, script, out, err),
         View::Capture => run_and_draw(alloc, View::Capture, script, out, err),
@@ -157,7 +157,7 @@ fn refuse<E: Write>(
     };
     match view {
         View::Text => {
-            tell_bad_line(alloc, notes, text, number, err);
+            print_bad_line(alloc, notes, text, number, err);
             Status::CommandLine
         }
         View::Chart | View::Mermaid | View::Capture => no_script(fault, err),
@@ -186,7 +186,7 @@ fn show<O: Write, E: Write>(
 }
 
 /// Runs a script of events in a network of nodes, as [`simulate_lines_over`](crate::simulate_lines_over) does, and prints what its run is shown as in place of
-/// what comes of each event. It answers what that does; what ends the run stands on `err`, behind the events before it in what is shown, and where it is told in
+/// what comes of each event. It answers what that does; what ends the run stands on `err`, behind the events before it in what is shown, and where it is printed in
 /// words on `out`.
 pub fn show_over<R: Read, O: Write, E: Write>(
     alloc: Global,

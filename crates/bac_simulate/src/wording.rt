@@ -1,4 +1,4 @@
-//! The run of a script, told in words.
+//! The run of a script, printed in words.
 ghost use Rattle.std.specs.Prelude.{◌+◌, ◌<◌, ◌^◌, length, map, IfOk, OnOk};
 ghost use Rattle.std.specs.Io.KnownBytes.{Appends};
 ghost use Rattle.bac_network.specs.Views.{event_view};
@@ -9,9 +9,9 @@ ghost use Rattle.bac_simulate.specs.Views.{line_view};
 ghost use Rattle.bac_simulate.specs.Worded.{in_words, lose_text};
 
 use crate::nothing::why_nothing;
+use crate::printing::Seen;
 use crate::script::ScriptLine;
 use crate::simulate::change_fault_in;
-use crate::telling::Seen;
 use crate::words::{add_outcome, add_refused, event_line};
 use bac_commands::print_fault;
 use bac_network::{Event, World, WorldFault};
@@ -20,7 +20,7 @@ use std::io;
 use std::io::Write;
 
 /// One event. Answers whether the script goes on.
-fn tell_event<W: Write>(
+fn print_event<W: Write>(
     alloc: Global,
     world: &mut World,
     line: u64,
@@ -61,7 +61,7 @@ fn print_lose<W: Write>(now: u64, copy: u64, out: &mut W) -> io::Result<()>
 }
 
 /// That a copy counts as lost, or that there is none. Answers whether there is one.
-fn tell_lost<W: Write>(world: &World, line: u64, copy: u64, out: &mut W) -> io::Result<bool>
+fn print_lost_copy<W: Write>(world: &World, line: u64, copy: u64, out: &mut W) -> io::Result<bool>
     ensures { IfOk result (λ passed. AppendsText (W.contents out.old) (W.contents out.new)
         (Steps in_words line passed (Lost copy) world.now world.now)) }
 {
@@ -75,7 +75,7 @@ fn tell_lost<W: Write>(world: &World, line: u64, copy: u64, out: &mut W) -> io::
 }
 
 /// What a line says. Answers whether the script goes on.
-fn tell_line<W: Write>(
+fn print_line<W: Write>(
     alloc: Global,
     world: &mut World,
     line: u64,
@@ -86,14 +86,14 @@ fn tell_line<W: Write>(
         (Steps in_words line passed (line_view said.now) world.old world.new)) }
 {
     match said {
-        ScriptLine::Happens(event) => tell_event(alloc, world, line, event, out),
-        ScriptLine::Lost(copy) => tell_lost(world, line, *copy, out),
+        ScriptLine::Happens(event) => print_event(alloc, world, line, event, out),
+        ScriptLine::Lost(copy) => print_lost_copy(world, line, *copy, out),
         ScriptLine::Note => Ok(true),
     }
 }
 
 /// What all lines say, up to the first that ends the script; so many lines stand before the first. Answers whether none did.
-pub(crate) fn tell_lines<W: Write>(
+pub(crate) fn print_lines<W: Write>(
     alloc: Global,
     world: &mut World,
     before: u64,
@@ -105,7 +105,7 @@ pub(crate) fn tell_lines<W: Write>(
         (Runs in_words (before + 1) (map line_view lines.now) all world.old world.new)) }
 {
     for (place, said) in lines.iter().enumerate() {
-        if !tell_line(alloc, world, before + 1 + place as u64, said, out)? {
+        if !print_line(alloc, world, before + 1 + place as u64, said, out)? {
             return Ok(false);
         }
     }

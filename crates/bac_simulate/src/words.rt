@@ -9,14 +9,14 @@ ghost use Rattle.bac_simulate.specs.Worded.{AreAskWords, AreEndedWords, AreEvent
 ghost use Rattle.bac_simulate.specs.Worded.{Adds, change_words, news_line, refused_news, sent_lines, sent_words};
 
 use crate::nothing::{Why, why_words};
-use crate::telling::{Seen, is_as_before};
+use crate::printing::{Seen, is_as_before};
 use bac_chart::datagram_words;
-use bac_commands::{ending_words, reply_words};
-use bac_explain_report::request_in_words;
+use bac_commands::ending_words;
 use bac_journal::Copy;
 use bac_network::{Event, Fact, World};
 use bac_requester::{AskFault, Ending};
 use bac_service::{OwnedReply, OwnedRequest};
+use bac_service_text::{reply_words, request_words};
 use bac_store::Change;
 use bac_value_text::{object_text, property_text};
 use std::alloc::{AllocError, Global};
@@ -33,7 +33,7 @@ fn ask_words(
 ) -> io::Result<Vec<u8>>
     ensures { IfOk result (λ t. AreAskWords client server (owned_request_view request.now) t.items) }
 {
-    let Ok(asked) = request_in_words(alloc, request.as_request()) else {
+    let Ok(asked) = request_words(alloc, request.as_request()) else {
         return Err(io::Error::from(ErrorKind::OutOfMemory));
     };
     let mut words = format!(in alloc; "ask {client} {server} ")?.into_bytes();
@@ -103,7 +103,9 @@ pub(crate) fn event_line(alloc: Global, now: u64, event: &Event) -> io::Result<V
 fn performed_words(alloc: Global, ask: usize, reply: &OwnedReply) -> io::Result<Vec<u8>>
     ensures { IfOk result (λ t. ArePerformedWords ask (owned_reply_view reply.now) t.items) }
 {
-    let answer = reply_words(alloc, reply.as_reply())?;
+    let Ok(answer) = reply_words(alloc, reply.as_reply()) else {
+        return Err(io::Error::from(ErrorKind::OutOfMemory));
+    };
     let mut words = format!(in alloc; "performed {ask}: ")?.into_bytes();
     words.extend_from_slice(answer.as_slice())?;
     Ok(words)
@@ -112,7 +114,9 @@ fn performed_words(alloc: Global, ask: usize, reply: &OwnedReply) -> io::Result<
 fn ended_words(alloc: Global, ask: usize, how: &Ending) -> io::Result<Vec<u8>>
     ensures { IfOk result (λ t. AreEndedWords ask (ending_view how.now) t.items) }
 {
-    let ending = ending_words(alloc, how)?;
+    let Ok(ending) = ending_words(alloc, how) else {
+        return Err(io::Error::from(ErrorKind::OutOfMemory));
+    };
     let mut words = format!(in alloc; "ended {ask}: ")?.into_bytes();
     words.extend_from_slice(ending.as_slice())?;
     Ok(words)

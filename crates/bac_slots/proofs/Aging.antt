@@ -1,4 +1,4 @@
--- What is known of the ages of slots stays so, whatever comes, goes on or is due; so those that are not alive are not young.
+-- What is known of ages stays true when values are added, change or are due; so slots that are not alive are not young.
 use Rattle.std.proofs.Common.{◌≡◌, ℕ, ◌<◌, ◌≤◌, Bool, true, false, ◌&&◌, nat_eq, nat_le, nat_lt, min, if◌then◌else◌, List, [], ◌∷◌, ◌++◌, map, filter}
 use Rattle.std.proofs.Common.{Option, Some, None, MatchOption, refl, ap, sym, subst, ◌∙◌, arith}
 use Rattle.std.proofs.lemmas.Bool.Decides.{nat_tests}
@@ -12,11 +12,11 @@ use Rattle.bac_slots.specs.declared.ages.Ages.{Ages}
 pub between : (from due now : ℕ) → nat_le from now && nat_lt now due ≡ true → (from ≤ now) × (now < due)
 between from due now h = (grind (arith, nat_tests), grind (arith, nat_tests))
 
--- from a moment on, up to the last one of all
+-- from a moment on, up to the greatest
 pub from_then_on : (from due now : ℕ) → nat_le from now && nat_eq due 18446744073709551615 ≡ true → (from ≤ now) × (due ≡ 18446744073709551615)
 from_then_on from due now h = (grind (arith, nat_tests), grind (arith, nat_tests))
 
--- the latest moment stays known when a value comes
+-- the latest moment stays known when a value is added
 pub stays_known : (now : ℕ) (old new : Option ℕ) → MatchOption old (new ≡ None) (λ l. l ≤ now → new ≡ Some now) → IsKnownBy now old → IsKnownBy now new
 stays_known now None new h known = absurd known
 stays_known now (Some l) new h known = subst (IsKnownBy now) (sym (h known)) (omega arith)
@@ -25,7 +25,7 @@ module _ (K V : Type 0) (began : V → ℕ) (Quiet : ℕ → ℕ → V → Type 
   abbrev Slots : Type 0
   Slots = List (Slot K V)
 
-  -- the law that a value which has nothing to do before a moment has nothing to do before an earlier one
+  -- the law that nothing to do before a moment means nothing to do before an earlier one
   abbrev pub Earlier : Type 0
   Earlier = (from due sooner : ℕ) (v : V) → sooner ≤ due → Quiet from due v → Quiet from sooner v
 
@@ -33,7 +33,7 @@ module _ (K V : Type 0) (began : V → ℕ) (Quiet : ℕ → ℕ → V → Type 
   quiet_earlier law from due sooner slots le q =
       each_more (λ s. Quiet from due s.value) (λ s. Quiet from sooner s.value) slots (λ s h. law from due sooner s.value le h) q
 
-  -- The value at a key goes on.
+  -- The value of a key changes.
 
   set_in_order : (eq : K → K → Bool) (l : ℕ) (key : K) (x y : V) (slots : Slots) → value_at eq key slots ≡ Some x → began y ≡ began x
       → AreInOrder K V began l slots → AreInOrder K V began l (with_value eq key y slots)
@@ -64,7 +64,7 @@ module _ (K V : Type 0) (began : V → ℕ) (Quiet : ℕ → ℕ → V → Type 
         order = still_in_order eq old.latest key x y slots at same h.order;
       }))
 
-  -- Those that are not alive go, and a new one comes.
+  -- Values that are not alive are removed, and a new one is added.
   module _ (lives : V → Bool) where
     abbrev pub swept : Slots → Slots
     swept slots = filter (λ s. lives s.value) slots
@@ -108,7 +108,7 @@ module _ (K V : Type 0) (began : V → ℕ) (Quiet : ℕ → ℕ → V → Type 
           order = entered_later old.latest now key x slots begins h.order;
         }))
 
-    -- what began less than its life ago is alive
+    -- a value younger than its lifetime is alive
     pub young_alive : (l bound : ℕ) (slots : Slots) → ((v : V) → bound < began v → lives v ≡ true) → AreInOrder K V began l slots → YoungPass lives bound slots
     young_alive l bound slots law h =
         each_more (HasBegun began l) (λ s. bound < s.begin → lives s.value ≡ true) slots
@@ -128,11 +128,11 @@ module _ (K V : Type 0) (began : V → ℕ) (Quiet : ℕ → ℕ → V → Type 
     ascends_ticked [] a = tt
     ascends_ticked (s ∷ slots) a = (each_ticked (λ t. s.begin ≤ t.begin) slots (λ t le. le) a.0, ascends_ticked slots a.1)
 
-    -- a tick leaves the moment at which a value began
+    -- a tick keeps the moment at which a value began
     abbrev pub Begins : Type 0
     Begins = (c : C) (now : ℕ) (key : K) (v : V) → began (ticked c now key v) ≡ began v
 
-    -- one that finds nothing to do changes nothing
+    -- a tick with nothing to do changes nothing
     abbrev pub Rests : Type 0
     Rests = (c : C) (now from due : ℕ) (key : K) (v : V) → from ≤ now → now < due → Quiet from due v → ticked c now key v ≡ v
 

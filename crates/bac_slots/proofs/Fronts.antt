@@ -1,4 +1,4 @@
--- The first slots of a list: changed each by its own, or seen so far in a walk.
+-- The first slots of a list: each changed on its own, or visited so far.
 use Rattle.std.proofs.Common.{◌≡◌, ℕ, zero, suc, ◌+◌, ◌<◌, ◌≤◌, true, false, Bool, List, [], ◌∷◌, map, length, take, Some, min, nat_le, slice_get, refl, ap, sym, subst, ◌∙◌, arith}
 use Rattle.std.proofs.lemmas.Bool.Decides.{nat_tests}
 use Rattle.std.specs.Prelude.{MatchOption}
@@ -26,7 +26,7 @@ module _ {K T : Type 0} (h : Slot K T → T) where
   front_at (suc n) [] = refl
   front_at (suc n) (s ∷ slots) = front_at n slots
 
-  -- it stays as it is, if it is there
+  -- the slot is unchanged, if it exists
   front_past : (n : ℕ) (slots : List (Slot K T)) → ((s : Slot K T) → slice_get slots n ≡ Some s → h s ≡ s.value) → front (suc n) slots ≡ front n slots
   front_past zero [] e = refl
   front_past (suc n) [] e = refl
@@ -45,7 +45,7 @@ module _ {K T : Type 0} (h : Slot K T → T) where
     apart_at key zero (x ∷ slots) s a e = let same : x ≡ s = cc in ap (λ (y : Slot K T). eq key y.key) (sym same) ∙ a.0
     apart_at key (suc n) (x ∷ slots) s a e = apart_at key n slots s a.1 e
 
-    -- the n-th is found in what has changed so far, as it was
+    -- the n-th slot is found among those changed so far, unchanged
     front_value : (n : ℕ) (slots : List (Slot K T)) (s : Slot K T) → IsDistinct eq slots → slice_get slots n ≡ Some s
         → value_at eq s.key (front n slots) ≡ Some s.value
     front_value n [] s d e = absurd cc
@@ -74,7 +74,7 @@ module _ {K T : Type 0} (h : Slot K T → T) where
         let found : value_at eq s.key now ≡ Some s.value = ap (λ l. value_at eq s.key l) e ∙ front_value n old s d at in
         g found ∙ ap (λ l. with_value eq s.key (h s) l) e ∙ front_more n old s d at ∙ ap (λ k. front k old) (one_more n)
 
--- one more slot of a walk of which a fact holds
+-- one more visited slot has the property
 pub each_next : {K T : Type 0} (P Q R : Slot K T → Type 0) (n : ℕ) (slots : List (Slot K T)) → ((s : Slot K T) → P s → R s) → ((s : Slot K T) → Q s → R s)
     → EachSlot P (take n slots) → ((s : Slot K T) → slice_get slots n ≡ Some s → Q s) → EachSlot R (take (n + 1) slots)
 each_next {K} {T} P Q R n slots f g e h = subst (λ k. EachSlot R (take k slots)) (one_more n) (go n slots e h)
@@ -84,7 +84,7 @@ each_next {K} {T} P Q R n slots f g e h = subst (λ k. EachSlot R (take k slots)
     go zero (s ∷ slots) e h = (g s (h s refl), tt)
     go (suc n) (s ∷ slots) e h = (f s e.0, go n slots e.1 h)
 
--- one more slot of a walk that seeks the first moment at which one is due
+-- one more visited slot in the search for the first due moment
 pub first_next : {K V : Type 0} (due : V → ℕ) (n : ℕ) (slots : List (Slot K V)) (now at least : ℕ) → now ≡ first_due due (take n slots)
     → MatchOption (slice_get slots n) (at ≡ 18446744073709551615) (λ s. at ≡ due s.value) → at ≤ 18446744073709551615 → least ≡ min now at
     → least ≡ first_due due (take (n + 1) slots)
@@ -98,7 +98,7 @@ first_next {K} {V} due n slots now at least is h most e =
     go zero (s ∷ slots) h = omega (arith, h, most)
     go (suc n) (s ∷ slots) h = let e = go n slots h in omega (arith, e)
 
--- Slots that stay or change when one is due.
+-- Slots that are unchanged, or changed when due.
 
 pub all_rest : {K V : Type 0} (f : Slot K V → Slot K V) (slots : List (Slot K V)) → EachSlot (λ s. f s ≡ s) slots → map f slots ≡ slots
 all_rest f [] e = refl

@@ -1,4 +1,4 @@
--- What the calls of a table make of its index, and what a search in it knows.
+-- The index after the calls of a table, and what a search in it knows.
 use Rattle.std.proofs.Common.{◌≡◌, ℕ, zero, suc, ◌+◌, ◌-◌, ◌/◌, ◌<◌, ◌≤◌, Bool, true, false, List, [], ◌∷◌, ◌++◌, map, length, Option, Some}
 use Rattle.std.proofs.Common.{None, slice_get}
 use Rattle.std.proofs.Common.{if◌then◌else◌, nat_lt, ◌^◌, inl, inr, refl, sym, ap, subst, ◌∙◌, arith, cond}
@@ -51,7 +51,7 @@ module _ (X : Type 0) where
       let same : q ≡ p = cc in slice_get_within xs p y (ap (λ k. slice_get xs k) (sym same) ∙ head_is _ _ _ _ e)
   names_within xs (y ∷ ys) (q ∷ places) (suc n) p e f = names_within xs ys places n p (tail_is _ _ _ _ e) f
 
-  -- one more at the end
+  -- one more slot at the end
 
   get_more : (xs more : List X) (n : ℕ) (x : X) → slice_get xs n ≡ Some x → slice_get (xs ++ more) n ≡ Some x
   get_more [] more n x e = absurd cc
@@ -94,7 +94,7 @@ module _ (X : Type 0) where
       ap (λ a. a ∷ map (λ n. slice_get (map f xs) n) places) (slice_get-map f xs p ∙ ap (option_map f) (head_is _ _ _ _ e))
       ∙ ap (λ l. Some (f y) ∷ l) (names_changed f xs ys places (tail_is _ _ _ _ e))
 
-  -- one taken out
+  -- one slot removed
 
   names_remove : (xs ys : List X) (places : List ℕ) (n : ℕ) → Names xs places ys → Names xs (remove places n) (remove ys n)
   names_remove xs [] [] n e = none n
@@ -227,7 +227,7 @@ module _ (K T : Type 0) (cmp : K → K → Ordering) (total : IsTotalOrder cmp) 
       ∙ ap (λ n. cond (is_less (cmp s.key j)) 1 0 + n) (rank_alike k j slots e)
       ∙ sym (rank_more K T cmp total j s slots)
 
-  -- the slot at a key is the one at its place by key, and none of the others
+  -- the slot of a key is the one at its place by key, and no other
   key_in_order : (key : K) (slots : List Item) (n p : ℕ) → IsDistinct eq slots → n ≡ rank cmp key slots → IsAt eq key p slots
       → IsDistinct eq (in_order cmp slots) × IsAt eq key n (in_order cmp slots)
   key_in_order key slots n p d ranked at =
@@ -345,14 +345,14 @@ digits_grow m n l =
     subst (λ x. x < 2 ^ length ds) (number_digits_of 2 n (omega arith)) (number_lt 2 ds (all_below_base_digits_of 2 n (omega arith))) in
     length-digits_of-le 2 (length ds) m (omega arith) (omega (arith, bound, l))
 
--- half of a number has a digit less
+-- half of a number has one digit less
 pub digits_halve : (m n : ℕ) → 0 < n → m ≤ n / 2 → digits m + 1 ≤ digits n
 digits_halve m n l h =
     let step = length-digits_of_step 2 n (omega arith) l in
     let less = digits_grow m (n / 2) h in
     omega (arith, step, less)
 
--- comparisons so far, and those that what is left can cost: d after one more than c, the part from f to e, o and n at the start
+-- comparisons so far, and how many more there can be: d after one more than c, the part from f to e, o and n at the start
 
 pub few_first : (c e n : ℕ) → e ≡ n → c + digits (e - 0) ≤ c + digits n
 few_first c e n same = let less = digits_grow (e - 0) n (omega (arith, same)) in omega (arith, less)

@@ -1,4 +1,4 @@
--- The slots in order of their keys: they are sorted, have the same slots, and the n-th of them is the n-th by key.
+-- The slots in key order: they are sorted, have the same slots, and the n-th of them is the n-th by key.
 use Rattle.std.proofs.Common.{◌≡◌, ℕ, zero, suc, ◌+◌, ◌⊎◌, Bool, true, false, List, [], ◌∷◌, ◌++◌, map, length, Option, Some, None, slice_get}
 use Rattle.std.proofs.Common.{if◌then◌else◌, nat_eq, refl, sym, ap, subst, inl, inr, ◌∙◌, arith, cond}
 use Rattle.std.specs.Ordering.{ordering_reverse, is_gt, is_eq}
@@ -16,7 +16,7 @@ module _ (K T : Type 0) (cmp : K → K → Ordering) (total : IsTotalOrder cmp) 
   abbrev pub Item : Type 0
   Item = Slot K T
 
-  -- each of these slots has that
+  -- each of these slots has the property
   abbrev pub Each : (K → Type 0) → List Item → Type 0
   Each P [] = Unit {0}
   Each P (s ∷ slots) = P s.key × Each P slots
@@ -42,7 +42,7 @@ module _ (K T : Type 0) (cmp : K → K → Ordering) (total : IsTotalOrder cmp) 
   each_at P (t ∷ slots) zero s h e = let same : t ≡ s = cc in subst (λ (u : Item). P u.key) same h.0
   each_at P (t ∷ slots) (suc n) s h e = each_at P slots n s h.1 e
 
-  -- no two have one key; each has a lesser key than those after it
+  -- all keys differ; each is less than those after it
   abbrev pub AreApart : List Item → Type 0
   AreApart [] = Unit {0}
   AreApart (s ∷ slots) = Each (λ k. cmp s.key k ≡ Equal → ⊥) slots × AreApart slots
@@ -125,7 +125,7 @@ module _ (K T : Type 0) (cmp : K → K → Ordering) (total : IsTotalOrder cmp) 
       rank_more s.key t slots ∙ ap (λ o. cond (is_less o) 1 0 + rank cmp s.key slots) less
       ∙ (let f : 1 + rank cmp s.key slots ≡ suc n = omega (arith, again) in f)
 
-  -- which slots there are
+  -- the same set of slots
 
   abbrev pub IsIn : Item → List Item → Type 0
   IsIn s [] = ⊥
@@ -179,7 +179,7 @@ module _ (K T : Type 0) (cmp : K → K → Ordering) (total : IsTotalOrder cmp) 
   in_place (t ∷ slots) zero s e = let same : t ≡ s = cc in inl same
   in_place (t ∷ slots) (suc n) s e = inr (in_place slots n s e)
 
-  -- the first slot of a rank, where all that have it are one
+  -- the first slot with a rank, if all slots with that rank are equal
 
   of_rank_found : (n : ℕ) (all slots : List Item) (s : Item) → IsIn s slots → rank cmp s.key all ≡ n
       → ((t : Item) → IsIn t slots → rank cmp t.key all ≡ n → t ≡ s) → of_rank cmp n all slots ≡ Some s
@@ -202,7 +202,7 @@ module _ (K T : Type 0) (cmp : K → K → Ordering) (total : IsTotalOrder cmp) 
       go true f again = absurd (never t (inl refl) (grind (arith, nat_tests)))
       go false f again = again
 
-  -- a slot's place among the slots in order is its rank
+  -- a slot's place in key order is its rank
   pub place_ranked : (slots : List Item) (t : Item) → AreApart slots → IsIn t slots → slice_get (in_order cmp slots) (rank cmp t.key slots) ≡ Some t
   place_ranked slots t apart i =
       let there = place_in t (in_order cmp slots) (in_in_order t slots i) in
@@ -210,7 +210,7 @@ module _ (K T : Type 0) (cmp : K → K → Ordering) (total : IsTotalOrder cmp) 
       sym (rank_sorted (in_order cmp slots) there.0 t (sorted_in_order slots apart) there.1) ∙ rank_in_order t.key slots in
       ap (slice_get (in_order cmp slots)) (sym m) ∙ there.1
 
-  -- the n-th slot in key order is the n-th of the slots in order
+  -- the n-th slot in key order is the n-th of the sorted slots
   pub nth_is : (slots : List Item) → AreApart slots → (n : ℕ) → nth_by_key cmp n slots ≡ slice_get (in_order cmp slots) n
   nth_is slots apart n = go (slice_get (in_order cmp slots) n) refl
     where
@@ -225,7 +225,7 @@ module _ (K T : Type 0) (cmp : K → K → Ordering) (total : IsTotalOrder cmp) 
           let same : Some t ≡ Some s = sym at ∙ e in
           cc)
 
-  -- distinct keys, by equality as by order
+  -- keys that differ, by equality and by order
 
   module _ (eq : K → K → Bool) (matches : (x y : K) → eq x y ≡ is_eq (cmp x y)) where
     apart_by_order : (key : K) (slots : List Item) → IsApart eq key slots → Each (λ k. cmp key k ≡ Equal → ⊥) slots
@@ -318,7 +318,7 @@ module _ (K T : Type 0) (cmp : K → K → Ordering) (total : IsTotalOrder cmp) 
         ∙ inserted_at x (in_order cmp slots) (sorted_in_order slots (are_apart slots d)) (each_in_order (λ k. cmp x.key k ≡ Equal → ⊥) slots a)
         ∙ ap (λ n. insert (in_order cmp slots) n x) (rank_in_order x.key slots)
 
-    -- one slot less
+    -- one slot fewer
 
     pub tied : (a b : K) → eq a b ≡ true → cmp a b ≡ Equal
     tied a b e = go (cmp a b) (sym (matches a b) ∙ e)
@@ -339,7 +339,7 @@ module _ (K T : Type 0) (cmp : K → K → Ordering) (total : IsTotalOrder cmp) 
         go Equal e = ap is_eq (reversed b a Equal e)
         go Greater e = ap is_eq (reversed b a Greater e)
 
-    -- a key that is apart from one is apart from each that equals it
+    -- a key that differs from another differs from each that equals it
     away : (a b k : K) → eq a b ≡ true → eq a k ≡ false → eq k b ≡ false
     away a b k e f = turned k b ∙ sym (same_right a b k e) ∙ f
 
@@ -394,7 +394,7 @@ module _ (K T : Type 0) (cmp : K → K → Ordering) (total : IsTotalOrder cmp) 
         apart_at (u ∷ slots) zero s a e = let same : u ≡ s = cc in ap (λ (v : Item). eq t.key v.key) (sym same) ∙ a.0
         apart_at (u ∷ slots) (suc n) s a e = apart_at slots n s a.1 e
 
-    -- another value at a key
+    -- another value for a key
 
     abbrev pub changed : K → T → Item → Item
     changed key v s = if eq s.key key then record s { value = v } else s

@@ -1,4 +1,4 @@
--- Places that stand as numbers from one number on.
+-- Places that are kept as numbers with an offset.
 use Rattle.std.proofs.Common.{◌≡◌, ℕ, zero, suc, ◌+◌, ◌-◌, ◌<◌, ◌≤◌, Bool, true, false, List, [], ◌∷◌, map, length, Some, slice_get}
 use Rattle.std.proofs.Common.{if◌then◌else◌, nat_lt, refl, ap, sym, subst, ◌∙◌, arith}
 use Rattle.std.specs.List.{insert, remove}
@@ -80,7 +80,7 @@ settled first p (m ∷ numbers) =
     let e : lowered p (m - first) - 0 ≡ lowered p (m - first) = omega arith in
     ap (λ k. k ∷ places_of 0 (map (λ n. lowered p (n - first)) numbers)) e ∙ ap (λ l. lowered p (m - first) ∷ l) (settled first p numbers)
 
--- ---- what taking one out makes of all
+-- ---- all places after one was removed
 
 pub took_first : (first : ℕ) (numbers after : List ℕ) (n place : ℕ) → AllFrom first numbers → after ≡ remove numbers n → place ≡ 0
     → Avoids place (remove (places_of first numbers) n)

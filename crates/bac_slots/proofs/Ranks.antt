@@ -1,4 +1,4 @@
--- How many slots have a lesser key: the slot of that place, and the next key.
+-- How many slots have a lesser key: the slot at that place, and the next key.
 use Rattle.std.proofs.Common.{◌≡◌, ℕ, ◌+◌, Bool, true, false, List, [], ◌∷◌, Option, Some, None, slice_get}
 use Rattle.std.proofs.Common.{if◌then◌else◌, refl, sym, ap, inl, inr, ◌∙◌, arith, cond}
 use Rattle.std.specs.Ordering.{is_eq}
@@ -14,7 +14,7 @@ module _ (K T : Type 0) (cmp : K → K → Ordering) (total : IsTotalOrder cmp) 
   abbrev Item : Type 0
   Item = Slot K T
 
-  -- where a key has a value, a slot has both
+  -- if a key has a value, a slot has both
   held : (key : K) (v : T) (slots : List Item) → value_at eq key slots ≡ Some v
       → (s : Item) × IsIn K T cmp total s slots × (eq s.key key ≡ true) × (s.value ≡ v)
   held key v [] e = absurd cc
@@ -26,7 +26,7 @@ module _ (K T : Type 0) (cmp : K → K → Ordering) (total : IsTotalOrder cmp) 
       go true f e again = let same : s.value ≡ v = cc in (s, inl refl, f, same)
       go false f e again = let t = again e in (t.0, inr t.1, t.2, t.3)
 
-  -- a key that is present has the slot of its place
+  -- a present key is in the slot at its place
   pub present : (key : K) (v : T) (slots : List Item) → IsDistinct eq slots → value_at eq key slots ≡ Some v
       → (s : Item) × (nth_by_key cmp (rank cmp key slots) slots ≡ Some s) × (eq s.key key ≡ true) × (s.value ≡ v)
   present key v slots d e =
@@ -42,7 +42,7 @@ module _ (K T : Type 0) (cmp : K → K → Ordering) (total : IsTotalOrder cmp) 
         found.3,
       )
 
-  -- the slot of a place has the value at its key
+  -- the slot at a place has the value of its key
   value_in : (key : K) (slots : List Item) (s : Item) → IsDistinct eq slots → IsIn K T cmp total s slots → eq s.key key ≡ true
       → value_at eq key slots ≡ Some s.value
   value_in key [] s d i f = absurd i
@@ -67,7 +67,7 @@ module _ (K T : Type 0) (cmp : K → K → Ordering) (total : IsTotalOrder cmp) 
       let at : slice_get (in_order cmp slots) n ≡ Some s = sym (nth_is K T cmp total slots (are_apart K T cmp total eq matches slots d) n) ∙ e in
       value_in key slots s d (out_in_order K T cmp total s slots (in_place K T cmp total (in_order cmp slots) n s at)) f
 
-  -- a key is absent where the slot of its place has another, or none stands there
+  -- a key is absent if the slot at its place has another key, or does not exist
   pub other : (key : K) (slots : List Item) (s : Item) → IsDistinct eq slots → nth_by_key cmp (rank cmp key slots) slots ≡ Some s
       → eq s.key key ≡ false → value_at eq key slots ≡ None
   other key slots s d e f = go (value_at eq key slots) refl

@@ -1,4 +1,4 @@
--- What holds of each slot, slots that ascend by the moments at which they began, and a walk from the oldest on.
+-- Facts about each slot, slots in the order in which they began, and visiting them from the oldest on.
 use Rattle.std.proofs.Common.{◌≡◌, ℕ, zero, suc, ◌+◌, ◌<◌, ◌≤◌, Bool, true, false, List, [], ◌∷◌, ◌++◌, length, Option, Some, None}
 use Rattle.std.proofs.Common.{slice_get, filter, count_by, cond, if◌then◌else◌, nat_lt, refl, ap, sym, subst, ◌∙◌, arith}
 use Rattle.std.specs.Cmp.{IsEquivalence}
@@ -35,7 +35,7 @@ module _ {K T : Type 0} where
       go true again = e.1
       go false again = (e.0, again)
 
-  -- the slot at that key, with the value that was there, goes on with another value
+  -- the slot of that key, with its value, changes to another value
   pub each_set : (P : Slot K T → Type 0) (eq : K → K → Bool) (key : K) (v : T) (slots : List (Slot K T)) → EachSlot P slots
       → ((s : Slot K T) → P s → value_at eq key slots ≡ Some s.value → P (record s { value = v })) → EachSlot P (with_value eq key v slots)
   each_set P eq key v [] e f = tt
@@ -88,7 +88,7 @@ module _ {K T : Type 0} where
     abbrev p : Slot K T → Bool
     p s = test s.value
 
-    -- those before that place pass
+    -- those before that place pass the test
     abbrev pub PassBefore : ℕ → List (Slot K T) → Type 0
     PassBefore zero slots = Unit {0}
     PassBefore (suc n) [] = Unit {0}
@@ -111,7 +111,7 @@ module _ {K T : Type 0} where
     all_pass (s ∷ slots) zero b l = absurd (omega (arith, l))
     all_pass (s ∷ slots) (suc n) b l = (b.0, all_pass slots n b.1 (omega (arith, l)))
 
-    -- from a young one on all are young
+    -- from a young slot on all are young
     young_pass : (bound : ℕ) (slots : List (Slot K T)) (n : ℕ) (s : Slot K T) → PassBefore n slots → Ascends slots → YoungPass test bound slots
         → slice_get slots n ≡ Some s → bound < s.begin → EachSlot (λ t. p t ≡ true) slots
     young_pass bound [] n s b a y e l = tt
@@ -158,7 +158,7 @@ module _ {K T : Type 0} where
         go true e l = omega (arith, e, l)
         go false e l = omega (arith, e, l)
 
-    -- one that fails is taken out: the others that pass stay, and those before it
+    -- one that fails is removed: the others that pass stay, and those before it
     module _ (eq : K → K → Bool) (equal : IsEquivalence eq) where
       apart_at : (key : K) (n : ℕ) (slots : List (Slot K T)) (s : Slot K T) → IsApart eq key slots → slice_get slots n ≡ Some s → eq key s.key ≡ false
       apart_at key n [] s a e = absurd cc
@@ -203,7 +203,7 @@ module _ {K T : Type 0} where
     pub swept_all : (old now : List (Slot K T)) (n : ℕ) → filter p now ≡ filter p old → PassBefore n now → length now ≤ n → now ≡ filter p old
     swept_all old now n e b l = sym (pass_filter now (all_pass now n b l)) ∙ e
 
-    -- what stands at a place did not begin by the bound, or nothing stands there
+    -- the slot at this place did not begin by the bound, or does not exist
     abbrev pub IsYoung : ℕ → ℕ → List (Slot K T) → Bool → Type 0
     IsYoung bound n slots b = MatchOption (slice_get slots n) (b ≡ true) (λ s. b ≡ nat_lt bound s.begin)
 
@@ -236,6 +236,6 @@ module _ {K T : Type 0} where
         → true ≡ nat_lt (count_by p slots) (length slots)
     count_failing slots n s e f = let less = fail_count slots n s e f in grind (arith, nat_tests, less)
 
-    -- in a table with room a slot is free
+    -- in a table that is not full a slot is free
     pub count_room : (slots : List (Slot K T)) (capacity : ℕ) → length slots < capacity → true ≡ nat_lt (count_by p slots) capacity
     count_room slots capacity l = let within = count_within slots in grind (arith, nat_tests, within, l)

@@ -1,4 +1,4 @@
--- What the calls of a table make of the list of its slots.
+-- The list of slots after the calls of a table.
 use Rattle.std.proofs.Common.{◌≡◌, ℕ, zero, suc, Bool, true, false, List, [], ◌∷◌, ◌++◌, length, Option, Some, None, refl, ap, sym, subst, ◌∙◌, arith}
 use Rattle.std.proofs.Common.{if◌then◌else◌, ◌<◌, ◌≤◌, ◌+◌, not, cond, nat_lt, nat_eq, drop, get_or}
 use Rattle.std.specs.Prelude.{MatchOption}
@@ -40,7 +40,7 @@ without-IsAt eq key n [] at = absurd at
 without-IsAt eq key zero (s ∷ slots) at = rw at refl
 without-IsAt eq key (suc n) (s ∷ slots) at = rw at.0 (ap (λ l. s ∷ l) (without-IsAt eq key n slots at.1))
 
--- the slot there, written anew with another value
+-- the slot there, rebuilt with another value
 pub set_is : {K T : Type 0} (eq : K → K → Bool) (key : K) (v w : T) (n : ℕ) (slots : List (Slot K T)) (d : Slot K T) → IsAt eq key n slots
     → d ≡ get_or slots n d → w ≡ v → slice_set slots n (record d { value = w }) ≡ with_value eq key v slots
 set_is eq key v w n slots d at is same =
@@ -78,7 +78,7 @@ place_of {K} {T} eq key slots o e =
       | false ↦ λ k. value_at-prefix eq key slots (grind (arith, nat_tests))
     ]) refl)
 
--- a key that is somewhere has a value
+-- a key that is present has a value
 pub value_at-some : {K T : Type 0} (eq : K → K → Bool) (key : K) (n : ℕ) (slots : List (Slot K T)) → IsAt eq key n slots → value_at eq key slots ≡ None → ⊥
 value_at-some eq key n [] at e = at
 value_at-some eq key zero (s ∷ slots) at e = let some = rw at at e in cc
@@ -130,7 +130,7 @@ IsDistinct-push eq (s ∷ slots) x d e =
 nat_eq-refl : (n : ℕ) → nat_eq n n ≡ true
 nat_eq-refl n = grind (arith, nat_tests)
 
--- the walk has come to the slot whose place is n
+-- the visit has come to the slot whose place is n
 pub of_rank-here : {K T : Type 0} (cmp : K → K → Ordering) (n i : ℕ) (all xs : List (Slot K T)) (s : Slot K T) → xs ≡ all → i < length xs
     → s ≡ get_or xs i s → rank cmp s.key all ≡ n → of_rank cmp n all all ≡ of_rank cmp n all (drop i all) → of_rank cmp n all all ≡ Some s
 of_rank-here cmp n i all xs s same lt is here walked =

@@ -1,4 +1,4 @@
--- A sweep goes from the last slot to the first: those before a place are as they were, and of the others those that pass.
+-- A sweep goes from the last slot to the first: slots before a place are unchanged, and of the others those remain that pass.
 use Rattle.std.proofs.Common.{◌≡◌, ℕ, zero, suc, ◌+◌, ◌-◌, ◌<◌, ◌≤◌, Bool, true, false, List, [], ◌∷◌, length, Option, Some, None, slice_get, take}
 use Rattle.std.proofs.Common.{filter, count_by, cond, map}
 use Rattle.std.specs.Option.{option_map}
@@ -29,7 +29,7 @@ module _ (K T : Type 0) (eq : K → K → Bool) (equal : IsEquivalence eq) (p : 
   slice_get-back zero (s ∷ slots) = refl
   slice_get-back (suc n) (s ∷ slots) = slice_get-back n slots
 
-  -- that one passes, or there is none
+  -- that slot passes, or does not exist
   back_keeps : (n : ℕ) (slots : List Item) → ((s : Item) → slice_get slots n ≡ Some s → p s ≡ true) → back p (suc n) slots ≡ back p n slots
   back_keeps zero [] h = refl
   back_keeps (suc n) [] h = refl
@@ -41,7 +41,7 @@ module _ (K T : Type 0) (eq : K → K → Bool) (equal : IsEquivalence eq) (p : 
   apart_at key zero (t ∷ slots) s a e = let same : t ≡ s = cc in ap (λ (u : Item). eq key u.key) (sym same) ∙ a.0
   apart_at key (suc n) (t ∷ slots) s a e = apart_at key n slots s a.1 e
 
-  -- that one fails and is taken out
+  -- that slot fails and is removed
   back_drops : (n : ℕ) (slots : List Item) (s : Item) → IsDistinct eq slots → slice_get slots n ≡ Some s → p s ≡ false
       → without eq s.key (back p (suc n) slots) ≡ back p n slots
   back_drops n [] s d e f = absurd cc

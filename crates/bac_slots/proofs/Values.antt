@@ -1,4 +1,4 @@
--- Which values are found after a slot was set, put or taken out, and after a sweep.
+-- Which values are found after a slot was set, added or removed, and after a sweep.
 use Rattle.std.proofs.Common.{◌≡◌, suc, ◌+◌, Bool, true, false, List, [], ◌∷◌, ◌++◌, map, length, Option, Some, None, filter}
 use Rattle.std.proofs.Common.{if◌then◌else◌, refl, ap, sym, ◌∙◌, arith}
 use Rattle.std.specs.Cmp.{IsEquivalence}
@@ -17,7 +17,7 @@ module _ (K T : Type 0) (eq : K → K → Bool) (equal : IsEquivalence eq) where
   passed_if true v o e = absurd cc
   passed_if false v o e = refl
 
-  -- a key apart from one is apart from what equals it
+  -- a key that differs from another differs from what equals it
   away : (a b k : K) → eq a b ≡ true → eq a k ≡ false → eq k b ≡ false
   away a b k e f = equal.symm k b ∙ sym (equal.congr a b k e) ∙ f
 

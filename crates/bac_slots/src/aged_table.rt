@@ -1,4 +1,4 @@
-//! A table with what is known of its slots' ages.
+//! A table together with what is known of the ages of its slots.
 ghost use Rattle.std.specs.Prelude.{◌≡◌, [], IfOk, Some};
 ghost use Rattle.bac_slots.specs.Ages.{IsAged};
 
@@ -8,18 +8,18 @@ use crate::ages::Ages;
 use std::alloc::{AllocError, Global};
 use std::marker::PhantomData;
 
-/// A table of slots whose values age by the rules of the end E, with what is known of their ages.
+/// A table of slots whose values age by the rules of the end E, together with what is known of their ages.
 #[derive(Drop)]
 pub struct AgedTable<E, S> {
-    /// The slots, in the order in which their values came.
+    /// The slots, in the order in which their values were added.
     pub table: S,
     /// What is known of their ages.
     pub ages: Ages,
-    /// Whose rules.
+    /// The end whose rules apply.
     pub end: PhantomData<E>,
 }
 
-/// An empty table with room for so many slots; an Err where the memory for them is refused. Nothing takes memory for slots later.
+/// An empty table for up to `capacity` slots. Returns an `Err` if the allocation fails. Nothing allocates for slots later.
 pub fn empty_table<E, K: Ord + Copy, V: Aged<E>, S: SlotTable<K, V>>(
     alloc: Global,
     room: usize,

@@ -1,4 +1,4 @@
-//! Whether contracts see a difference between two tables.
+//! Comparison of tables as contracts see them.
 ghost use Rattle.std.specs.Prelude.{◌≡◌, ◌↔◌, IsTrue, map, slice_get};
 ghost use Rattle.std.specs.Option.{option_map};
 ghost use Rattle.bac_slots.specs.Slots.{slot_seen};
@@ -7,17 +7,17 @@ use crate::slot_table::SlotTable;
 
 /// A value that can be compared with another as contracts see both.
 pub trait Same {
-    // What contracts see of a value.
+    // The abstract value, as contracts see it.
     ghost Seen: { Type 0 };
 
     ghost seen: { Self → Seen };
 
-    /// Whether the two are one value to contracts.
+    /// Whether the abstract values are equal.
     fn same(&self, other: &Self) -> bool
         ensures { IsTrue result ↔ (seen self.now ≡ seen other.now) };
 }
 
-/// Whether two tables have the same slots in the same order of putting, and can have as many.
+/// Whether two tables have the same slots, in the same order of insertion, and the same capacity.
 pub fn same_tables<K: Ord + Copy + Drop + Same, T: Same, S: SlotTable<K, T>>(
     one: &S,
     other: &S,

@@ -1,21 +1,21 @@
-//! A fact of each value in a table.
+//! A fact about each value of a table.
 ghost use Rattle.std.specs.Prelude.{◌≡◌, Some, slice_get};
 ghost use Rattle.bac_slots.specs.declared.slot.Slot.{Slot};
 ghost use Rattle.bac_slots.specs.Slots.{EachSlot};
 
 use crate::SlotTable;
 
-/// A fact that holds of each value of a type.
+/// A fact that is true of every value of a type.
 pub trait Fact<V> {
-    // What holds.
+    // The fact.
     ghost Holds: { V → Type 0 };
 
-    /// It holds. It changes nothing.
+    /// States the fact for a value. It changes nothing.
     fn holds(&self, value: &V)
         ensures { Holds value.now };
 }
 
-// It holds of the n-th slot in order of putting.
+// States the fact for the n-th slot in order of insertion.
 fn holds_at<K: Ord + Copy, V, S: SlotTable<K, V>, F: Fact<V>>(table: &S, n: usize, fact: &F)
     ensures { (s : Slot K V) → slice_get (S.slots table.now) n ≡ Some s → F.Holds s.value }
 {
@@ -25,7 +25,7 @@ fn holds_at<K: Ord + Copy, V, S: SlotTable<K, V>, F: Fact<V>>(table: &S, n: usiz
     fact.holds(value);
 }
 
-/// It holds of each slot. It goes over the table, and changes nothing.
+/// States the fact for each slot. It passes over the table, and changes nothing.
 pub fn each_slot<K: Ord + Copy, V, S: SlotTable<K, V>, F: Fact<V>>(table: &S, fact: &F)
     ensures { EachSlot (λ s. F.Holds s.value) (S.slots table.now) }
 {

@@ -1,4 +1,4 @@
-//! A value comes, and those that are not alive go.
+//! Adding a value, and removing those that are no longer alive.
 ghost use Rattle.std.specs.Prelude.{◌≡◌, ◌+◌, ◌-◌, ◌<◌, ◌≤◌, ◌∷◌, [], ◌++◌, Some, None, MatchOption, filter, count_by, length, nat_lt};
 ghost use Rattle.bac_slots.specs.Slots.{keep, value_at};
 ghost use Rattle.bac_slots.specs.Ages.{AreInOrderIf, IsAged};
@@ -10,7 +10,7 @@ use crate::{
 };
 use std::marker::PhantomData;
 
-/// Values pass that are alive at that moment.
+/// The test whether a value is alive at this moment.
 #[derive(Drop)]
 struct AliveAt<E> {
     moment: u64,
@@ -25,7 +25,7 @@ impl<E, V: Aged<E>> Test<V> for AliveAt<E> {
     }
 }
 
-/// A value with that life that began after this moment is alive.
+/// A value with this lifetime that began after this moment is alive.
 fn last_dead(life: u64, now: u64) -> u64
     ensures { result ≡ now - (life + 1) }
 {
@@ -46,7 +46,7 @@ pub fn count_alive<E, K: Ord + Copy + Drop, V: Aged<E>, S: SlotTable<K, V>>(
     count_passing(&aged.table, &alive)
 }
 
-/// Whether a slot has no value that is alive. Where the slots are in order, none is looked at but the oldest, and it only where all slots are used.
+/// Whether there is a slot without a live value. If slots are in order, only the oldest is looked at, and only if all slots are used.
 pub fn has_room<E, K: Ord + Copy + Drop, V: Aged<E>, S: SlotTable<K, V>>(
     aged: &AgedTable<E, S>,
     now: u64,
@@ -65,7 +65,7 @@ pub fn has_room<E, K: Ord + Copy + Drop, V: Aged<E>, S: SlotTable<K, V>>(
     }
 }
 
-/// The values that are not alive go. Where the slots are in order, the young ones are not looked at.
+/// Removes the values that are not alive. If slots are in order, the young ones are not looked at.
 fn sweep_dead<E, K: Ord + Copy + Drop, V: Aged<E>, S: SlotTable<K, V>>(
     table: &mut S,
     latest: Option<u64>,
@@ -86,7 +86,7 @@ fn sweep_dead<E, K: Ord + Copy + Drop, V: Aged<E>, S: SlotTable<K, V>>(
     }
 }
 
-/// A value takes a slot of its own.
+/// Adds a value in a new slot.
 fn put<K: Ord + Copy + Drop, V, S: SlotTable<K, V>>(table: &mut S, key: K, now: u64, value: V)
     requires absent { value_at K.eq key (S.slots table.old) ≡ None }
     requires room { length (S.slots table.old) < S.capacity table.old }
@@ -99,7 +99,7 @@ fn put<K: Ord + Copy + Drop, V, S: SlotTable<K, V>>(table: &mut S, key: K, now: 
     }
 }
 
-/// The values that are not alive go, and one that begins now comes, last. While moments never go back, the slots stay in order.
+/// Removes the values that are not alive, and adds one that begins now, as the last. As long as moments never go back, slots stay in order.
 pub fn enter<E, K: Ord + Copy + Drop, V: Aged<E>, S: SlotTable<K, V>>(
     aged: &mut AgedTable<E, S>,
     key: K,
@@ -116,7 +116,7 @@ pub fn enter<E, K: Ord + Copy + Drop, V: Aged<E>, S: SlotTable<K, V>>(
     ensures known { MatchOption aged.old.ages.latest (aged.new.ages.latest ≡ None) (λ l. l ≤ now → aged.new.ages.latest ≡ Some now) }
 {
     V::ages();
-    // that the key is absent after the sweep, and how many slots are left
+    // the key is absent after the sweep, and how many slots are left
     sweeping_slots::<K, V>();
     let _len = aged.table.len();
     let due = value.due(aged.ages.from);

@@ -12,13 +12,13 @@ use std::cmp::Ordering;
 use std::collections::VecDeque;
 use std::marker::Model;
 
-/// A table whose slots stand in order of putting, with an index of their places that is sorted by key: a key is found by halving the index.
+/// A table whose slots are in order of insertion, with an index of their places that is sorted by key. Look-ups are binary searches.
 #[derive(Drop)]
 pub struct IndexSlots<K: Ord, T> {
     slots: VecDeque<Slot<K, T>>,
     places: Places,
     capacity: usize,
-    /// Where the last key that a loan was asked for in vain would stand in the order of the keys: the next `put` looks there first.
+    /// The place in key order of the last key that was looked up in vain for a mutable borrow: the next `put` tries it first.
     gap: Option<usize>,
 }
 
@@ -42,7 +42,7 @@ impl<K: Ord + Copy + Drop, T: Drop> SlotTable<K, T> for IndexSlots<K, T> {
 
     ghost capacity = { λ t. t.1 };
 
-    /// A table has at most 2^31 slots; more are refused as memory is.
+    /// The greatest number of slots, 2^31. A request for more fails like an allocation.
     fn new(alloc: Global, room: usize) -> Result<Self, AllocError> {
         if room > MOST_PLACES as usize {
             return Err(AllocError);
@@ -140,14 +140,14 @@ impl<K: Ord + Copy + Drop, T: Drop> SlotTable<K, T> for IndexSlots<K, T> {
     }
 }
 
-/// Where a key stands: in the order of the keys, and in order of putting.
+/// The place of a key: in key order, and in order of insertion.
 #[derive(Clone, Copy)]
 struct Found {
     rank: usize,
     place: usize,
 }
 
-/// The n-th slot in the order of the keys.
+/// The n-th slot in key order.
 fn nth<'a, K: Ord, T>(slots: &'a VecDeque<Slot<K, T>>, places: &Places, n: usize) -> &'a Slot<K, T>
     requires distinct { IsDistinct K.eq slots.now.items }
     requires index { IsIndex K.cmp places.now.0 slots.now.items }
@@ -157,7 +157,7 @@ fn nth<'a, K: Ord, T>(slots: &'a VecDeque<Slot<K, T>>, places: &Places, n: usize
     &slots[places.at(n)]
 }
 
-/// Compares two keys and counts it.
+/// Compares two keys and counts the comparison.
 fn compare<K: Ord>(one: &K, other: &K, count: &mut Count) -> Ordering
     ensures value { result ≡ K.cmp one.now other.now }
     ensures counted { count.new.comparisons ≡ min (count.old.comparisons + 1) u64.MAX }
@@ -166,7 +166,7 @@ fn compare<K: Ord>(one: &K, other: &K, count: &mut Count) -> Ordering
     one.cmp(other)
 }
 
-/// Halves the part of the index where the key can be, until it is found or the part is empty.
+/// Halves the part of the index in which the key can be, until the key is found or the part is empty.
 fn search<K: Ord, T>(
     slots: &VecDeque<Slot<K, T>>,
     places: &Places,
@@ -197,7 +197,7 @@ fn search<K: Ord, T>(
     Err(first)
 }
 
-/// Where the key stands, or None where it is absent.
+/// The place of the key, or None if it is absent.
 fn look_up<K: Ord, T>(slots: &VecDeque<Slot<K, T>>, places: &Places, key: &K) -> Option<Found>
     requires distinct { IsDistinct K.eq slots.now.items }
     requires index { IsIndex K.cmp places.now.0 slots.now.items }
@@ -210,7 +210,7 @@ fn look_up<K: Ord, T>(slots: &VecDeque<Slot<K, T>>, places: &Places, key: &K) ->
     }
 }
 
-/// Where the key stands, or None where it is absent; then the gap is where it would stand in the order of the keys.
+/// The place of the key, or None if it is absent; then `gap` is the place in key order at which it would be inserted.
 fn look_up_or_gap<K: Ord, T>(
     slots: &VecDeque<Slot<K, T>>,
     places: &Places,
@@ -245,7 +245,7 @@ fn rank_of<K: Ord, T>(slots: &VecDeque<Slot<K, T>>, places: &Places, key: &K) ->
     }
 }
 
-/// Whether the keys before that place are less; the last of them tells.
+/// Whether all keys before this place are less; the last of them decides.
 fn is_above<K: Ord, T>(slots: &VecDeque<Slot<K, T>>, places: &Places, n: usize, key: &K) -> bool
     requires distinct { IsDistinct K.eq slots.now.items }
     requires index { IsIndex K.cmp places.now.0 slots.now.items }
@@ -261,7 +261,7 @@ fn is_above<K: Ord, T>(slots: &VecDeque<Slot<K, T>>, places: &Places, n: usize, 
     }
 }
 
-/// Whether the keys from that place on are greater; the first of them tells.
+/// Whether all keys from this place on are greater; the first of them decides.
 fn is_below<K: Ord, T>(slots: &VecDeque<Slot<K, T>>, places: &Places, n: usize, key: &K) -> bool
     requires distinct { IsDistinct K.eq slots.now.items }
     requires index { IsIndex K.cmp places.now.0 slots.now.items }
@@ -276,7 +276,7 @@ fn is_below<K: Ord, T>(slots: &VecDeque<Slot<K, T>>, places: &Places, n: usize, 
     }
 }
 
-/// Whether the keys before that place are less, and the others greater.
+/// Whether all keys before this place are less, and all others greater.
 fn is_gap<K: Ord, T>(slots: &VecDeque<Slot<K, T>>, places: &Places, n: usize, key: &K) -> bool
     requires distinct { IsDistinct K.eq slots.now.items }
     requires index { IsIndex K.cmp places.now.0 slots.now.items }
@@ -309,7 +309,7 @@ fn rank_near<K: Ord, T>(
     }
 }
 
-/// Where a gap is once the slot of that rank has left.
+/// Where a gap is after the slot with this rank was removed.
 fn gap_without(gap: Option<usize>, rank: usize) -> Option<usize>
     ensures { result ≡ option_map (lowered rank) gap }
 {

@@ -1,10 +1,10 @@
-//! Laws of the lists of slots: each function's contract is one.
+//! Laws of lists of slots: empty functions whose contracts are the laws.
 ghost use Rattle.std.specs.Prelude.{◌≡◌, ℕ, ◌+◌, ◌≤◌, Bool, true, false, List, [], ◌∷◌, ◌++◌, length, map, filter, count_by, Some, None, slice_get};
 ghost use Rattle.std.specs.declared.cmp.Ordering.TheVariants.{Less};
 ghost use Rattle.bac_slots.specs.declared.slot.Slot.{Slot};
 ghost use Rattle.bac_slots.specs.Slots.{value_at, with_value, without, rank, nth_by_key, in_order, keep, EachSlot, Ascends, IsDistinct};
 
-/// The slots in order of their keys are as many, ascend strictly, and have the same values; the n-th slot by key is the n-th of them.
+/// Sorted by key, the slots are as many, have strictly ascending keys and the same values; the n-th slot by key is the n-th of them.
 pub fn slots_in_order<K: Ord, T>()
     ensures nth { (slots : List (Slot K T)) (n : ℕ) → IsDistinct K.eq slots → nth_by_key K.cmp n slots ≡ slice_get (in_order K.cmp slots) n }
     ensures ascending { (slots : List (Slot K T)) (n : ℕ) (s t : Slot K T) → IsDistinct K.eq slots → slice_get (in_order K.cmp slots) n ≡ Some s
@@ -13,8 +13,8 @@ pub fn slots_in_order<K: Ord, T>()
     ensures values { (slots : List (Slot K T)) (key : K) → IsDistinct K.eq slots → value_at K.eq key (in_order K.cmp slots) ≡ value_at K.eq key slots }
 {}
 
-/// The slot whose place in the order of keys is the rank of a key has that key where it is present, and no other slot has it. Where a
-/// key is present, the rank of the next is one more.
+/// A key that is present is in the slot whose place in key order is the rank of the key, and in no other slot. If a key is present,
+/// the rank of the next key is one greater.
 pub fn ranks_of_keys<K: Ord, T>()
     ensures present { (slots : List (Slot K T)) (key : K) (v : T) → IsDistinct K.eq slots → value_at K.eq key slots ≡ Some v
         → (s : Slot K T) × (nth_by_key K.cmp (rank K.cmp key slots) slots ≡ Some s) × (K.eq s.key key ≡ true) × (s.value ≡ v) }
@@ -29,7 +29,7 @@ pub fn ranks_of_keys<K: Ord, T>()
         → rank K.cmp after slots ≡ rank K.cmp key slots + 1 }
 {}
 
-/// Setting a value keeps the keys in their places; what is set is found there, and nothing changes at other keys.
+/// Setting a value keeps the keys in their places; the new value is found there, and nothing changes at other keys.
 pub fn setting_a_value<K: Ord, T>()
     ensures keys { (slots : List (Slot K T)) (key : K) (v : T) → map (λ s. s.key) (with_value K.eq key v slots) ≡ map (λ s. s.key) slots }
     ensures length { (slots : List (Slot K T)) (key : K) (v : T) → length (with_value K.eq key v slots) ≡ length slots }
@@ -40,13 +40,13 @@ pub fn setting_a_value<K: Ord, T>()
         → value_at K.eq other (with_value K.eq key v slots) ≡ value_at K.eq other slots }
 {}
 
-/// Setting twice is setting once; setting the value that is there changes nothing.
+/// Setting a value twice is the same as setting it once; setting the value that is there changes nothing.
 pub fn setting_again<K: Ord, T>()
     ensures twice { (slots : List (Slot K T)) (key : K) (a b : T) → with_value K.eq key b (with_value K.eq key a slots) ≡ with_value K.eq key b slots }
     ensures back { (slots : List (Slot K T)) (key : K) (v : T) → value_at K.eq key slots ≡ Some v → with_value K.eq key v slots ≡ slots }
 {}
 
-/// A slot that is put where its key is absent is found, and nothing changes at other keys.
+/// A slot that is added with an absent key is found, and nothing changes at other keys.
 pub fn putting_a_slot<K: Ord, T>()
     ensures distinct { (slots : List (Slot K T)) (x : Slot K T) → IsDistinct K.eq slots → value_at K.eq x.key slots ≡ None → IsDistinct K.eq (slots ++ x ∷ []) }
     ensures found { (slots : List (Slot K T)) (x : Slot K T) → value_at K.eq x.key slots ≡ None → value_at K.eq x.key (slots ++ x ∷ []) ≡ Some x.value }
@@ -54,7 +54,7 @@ pub fn putting_a_slot<K: Ord, T>()
         → value_at K.eq other (slots ++ x ∷ []) ≡ value_at K.eq other slots }
 {}
 
-/// The key of a slot that is taken out is absent then, and nothing changes at other keys.
+/// After a slot is removed its key is absent, and nothing changes at other keys.
 pub fn removing_a_slot<K: Ord, T>()
     ensures distinct { (slots : List (Slot K T)) (key : K) → IsDistinct K.eq slots → IsDistinct K.eq (without K.eq key slots) }
     ensures absent { (slots : List (Slot K T)) (key : K) → IsDistinct K.eq slots → value_at K.eq key (without K.eq key slots) ≡ None }
@@ -63,7 +63,7 @@ pub fn removing_a_slot<K: Ord, T>()
     ensures length { (slots : List (Slot K T)) (key : K) (v : T) → value_at K.eq key slots ≡ Some v → length (without K.eq key slots) + 1 ≡ length slots }
 {}
 
-/// After a sweep there are as many slots as have a value that passes; at each key is the value that was there, if it passes.
+/// After a sweep there are as many slots as have a value that passes; each key has its old value if that passes.
 pub fn sweeping_slots<K: Ord, T>()
     ensures distinct { (slots : List (Slot K T)) (test : T → Bool) → IsDistinct K.eq slots → IsDistinct K.eq (filter (λ s. test s.value) slots) }
     ensures values { (slots : List (Slot K T)) (test : T → Bool) (key : K) → IsDistinct K.eq slots
@@ -71,8 +71,8 @@ pub fn sweeping_slots<K: Ord, T>()
     ensures length { (slots : List (Slot K T)) (test : T → Bool) → length (filter (λ s. test s.value) slots) ≡ count_by (λ s. test s.value) slots }
 {}
 
-/// Slots of which none began after one that was put later stay so where one is put that began before none, where one is set or
-/// taken out, and after a sweep.
+/// Slots in the order in which they began stay so if one is added that began before none of them, if one is set or removed, and
+/// after a sweep.
 pub fn ascending_slots<K: Ord, T>()
     ensures put { (slots : List (Slot K T)) (x : Slot K T) → Ascends slots → EachSlot (λ s. s.begin ≤ x.begin) slots → Ascends (slots ++ x ∷ []) }
     ensures set { (slots : List (Slot K T)) (key : K) (v : T) → Ascends slots → Ascends (with_value K.eq key v slots) }

@@ -1,10 +1,10 @@
-//! Tables of slots with distinct keys, which take all their memory when they are made.
+//! Tables of slots with distinct keys, which allocate all their memory when they are created, and tables of values that age.
 //!
-//! A table of values that age: what both ends of a node keep of their transactions.
+//! Both ends of a node keep their transactions in such tables.
 //!
-//! A client's tickets and a server's entries stand in slots in the order in which they began. A value is alive for a time at least, and a tick finds
-//! something to do for it no earlier than it says. So a sweep looks from the oldest slot on, no further than it must, and a tick before anything can be
-//! due looks at no slot.
+//! The slots of a client's and a server's transactions are in the order in which they began. A value is alive for a guaranteed time, and has
+//! a moment before which a tick has nothing to do for it. So a sweep starts at the oldest slot and stops as early as possible, and a
+//! tick before the first due moment looks at no slot.
 #![tactic(auto)]
 
 mod aged;

@@ -1,4 +1,4 @@
-//! Places of slots, in an order, of which the first can leave without a walk over the others.
+//! Places of slots, kept in an order; the first place can be removed without passing over the others.
 ghost use Rattle.std.specs.Prelude.{◌≡◌, ◌-◌, ◌^◌, ◌+◌, ◌<◌, ◌≤◌, [], length, map, Some, IfOk, slice_get};
 ghost use Rattle.std.specs.Prelude.{vec_capacity};
 ghost use Rattle.std.specs.List.{insert, remove};
@@ -7,10 +7,10 @@ ghost use Rattle.bac_slots.specs.Indexes.{lowered, Avoids};
 use std::alloc::{AllocError, Global};
 use std::marker::Model;
 
-/// So many places there are at most, and so often the first one leaves without a walk: 2^31.
+/// The greatest number of places, and how often the first one is removed without passing over the others: 2^31.
 pub(crate) const MOST_PLACES: u32 = 2_147_483_648;
 
-/// Places of slots, and for how many there is room. Each place stands as a number that is greater by how often the first place left.
+/// Places of slots, with a capacity. Each place is kept as a number that is greater by how often the first place was removed.
 #[derive(Drop)]
 pub(crate) struct Places {
     numbers: Vec<u32>,
@@ -29,7 +29,7 @@ impl Model for Places {
 }
 
 impl Places {
-    /// No place, and room for so many; an Err where the memory for them is refused.
+    /// No places, with room for `capacity` of them. Returns an `Err` if the allocation fails.
     pub(crate) fn new(alloc: Global, room: usize) -> Result<Self, AllocError>
         ensures { IfOk result (λ p. (p.0 ≡ []) × (room ≤ p.1)) }
     {
@@ -54,7 +54,7 @@ impl Places {
         (self.numbers[n] - self.gone) as usize
     }
 
-    /// Adds a place before the n-th.
+    /// Inserts a place before the n-th.
     pub(crate) fn insert(&mut self, n: usize, place: usize)
         requires within { n ≤ length self.old.0 }
         requires room { length self.old.0 < self.old.1 }
@@ -68,7 +68,7 @@ impl Places {
         }
     }
 
-    /// Takes out the n-th place, which is none of the others; those that are greater are one less then.
+    /// Removes the n-th place, which differs from all others; places greater than it become one less.
     pub(crate) fn take(&mut self, n: usize, place: usize)
         requires within { n < length self.old.0 }
         requires once { Avoids place (remove self.old.0 n) }
@@ -85,7 +85,7 @@ impl Places {
     }
 }
 
-/// Each number is its place then, and those of places that are greater than one are one less.
+/// Makes each number the place itself; places greater than `gone` become one less.
 fn settle(numbers: &mut Vec<u32>, first: u32, gone: usize)
     ensures numbers { numbers.new.items ≡ map (λ n. lowered gone (n - first)) numbers.old.items }
     ensures capacity { vec_capacity numbers.new ≡ vec_capacity numbers.old }
@@ -106,7 +106,7 @@ fn settled(number: u32, first: u32, gone: usize) -> u32
     }
 }
 
-/// A place, once one is gone.
+/// A place after another place was removed.
 pub(crate) fn lowered(number: usize, gone: usize) -> usize
     ensures { result ≡ lowered gone number }
 {

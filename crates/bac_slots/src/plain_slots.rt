@@ -126,7 +126,7 @@ fn rank_of<K: Ord, T>(slots: &Vec<Slot<K, T>>, key: &K) -> usize
     slots.iter().filter(|s| is_less(s.key.cmp(key))).count()
 }
 
-/// Where the key stands in order of putting.
+/// The place of the key in order of insertion.
 fn place<K: Ord, T>(slots: &Vec<Slot<K, T>>, key: &K) -> Option<usize>
     ensures { MatchOption result (value_at K.eq key.now slots.now.items ≡ None) (λ n. (n < length slots.now.items) × IsAt K.eq key.now n slots.now.items) }
 {

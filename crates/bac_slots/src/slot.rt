@@ -1,5 +1,5 @@
 //! One slot of a table.
-/// A key with the moment at which its life began, in milliseconds, and its value.
+/// A key, the moment at which its transaction began (in milliseconds), and its value.
 #[derive(Drop)]
 pub struct Slot<K, T> {
     pub key: K,

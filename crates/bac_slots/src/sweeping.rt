@@ -1,4 +1,4 @@
-//! Slots whose value passes a test: how many there are, and taking out the others.
+//! Counting the slots whose value passes a test, and removing the others.
 ghost use Rattle.std.specs.Prelude.{◌≡◌, ◌<◌, Bool, true, false, filter, count_by, length, MatchOption, Some, nat_lt, slice_get};
 ghost use Rattle.bac_slots.specs.declared.slot.Slot.{Slot};
 ghost use Rattle.bac_slots.specs.Slots.{without, Ascends, YoungPass};
@@ -9,12 +9,12 @@ use crate::slot_table::SlotTable;
 pub trait Test<T> {
     ghost passes: { Self → T → Bool };
 
-    /// Whether the value passes.
+    /// Whether the value passes the test.
     fn passes(&self, value: &T) -> bool
         ensures { result ≡ passes self.now value.now };
 }
 
-/// Takes out each slot whose value fails the test; the others stay as they are, in their order.
+/// Removes each slot whose value fails the test; the others are unchanged and stay in order.
 pub fn sweep<K: Ord + Copy + Drop, T: Drop, S: SlotTable<K, T>, P: Test<T>>(table: &mut S, test: &P)
     ensures slots { S.slots table.new ≡ filter (λ s. P.passes test.now s.value) (S.slots table.old) }
     ensures same { S.capacity table.new ≡ S.capacity table.old }
@@ -28,8 +28,8 @@ pub fn sweep<K: Ord + Copy + Drop, T: Drop, S: SlotTable<K, T>, P: Test<T>>(tabl
     }
 }
 
-/// Does what `sweep` does, looking only at the slots that began at the bound or before: none began after one that was put later,
-/// and each that began after the bound passes.
+/// Does the same as `sweep`, but looks only at slots that began at the bound or before. The caller guarantees that slots are in the
+/// order in which they began, and that values that began after the bound pass.
 pub fn sweep_oldest<K: Ord + Copy + Drop, T: Drop, S: SlotTable<K, T>, P: Test<T>>(
     table: &mut S,
     test: &P,
@@ -53,8 +53,8 @@ pub fn sweep_oldest<K: Ord + Copy + Drop, T: Drop, S: SlotTable<K, T>, P: Test<T
     }
 }
 
-/// Whether a slot is free, or would be after a sweep; in a full table it looks from the oldest slot on, no further than the first that
-/// fails the test or began after the bound. None began after one that was put later, and each that began after the bound passes.
+/// Whether a slot is free, or would be after a sweep. If the table is full it looks from the oldest slot on, up to the first that fails
+/// the test or began after the bound. The caller guarantees that slots are in order, and that values that began after the bound pass.
 pub fn has_room_once_swept<K: Ord + Copy + Drop, T, S: SlotTable<K, T>, P: Test<T>>(
     table: &S,
     test: &P,
@@ -89,7 +89,7 @@ fn has_failing<K: Ord + Copy + Drop, T, S: SlotTable<K, T>, P: Test<T>>(
     false
 }
 
-// Whether the n-th slot in order of putting began after the bound, or there is none.
+// Whether the n-th slot in order of insertion began after the bound, or does not exist.
 fn is_young<K: Ord + Copy + Drop, T, S: SlotTable<K, T>>(table: &S, n: usize, bound: u64) -> bool
     ensures { MatchOption (slice_get (S.slots table.now) n) (result ≡ true) (λ s. result ≡ nat_lt bound s.begin) }
 {
@@ -117,7 +117,7 @@ pub fn count_passing<K: Ord + Copy + Drop, T, S: SlotTable<K, T>, P: Test<T>>(
     total - failing
 }
 
-// The key of the n-th slot in order of putting, where its value fails the test.
+// The key of the n-th slot in order of insertion, if its value fails the test.
 fn failing_at<K: Ord + Copy + Drop, T, S: SlotTable<K, T>, P: Test<T>>(
     table: &S,
     n: usize,

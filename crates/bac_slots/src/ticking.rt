@@ -1,4 +1,4 @@
-//! Time goes on for all values of a table.
+//! Ticks: time passes for all values of a table.
 ghost use Rattle.std.specs.Prelude.{◌≡◌, ◌+◌, map, MatchOption, Some, slice_get};
 ghost use Rattle.bac_slots.specs.declared.slot.Slot.{Slot};
 ghost use Rattle.bac_slots.specs.Slots.{value_at, with_value};
@@ -8,7 +8,7 @@ use crate::SlotTable;
 use crate::aged::{Aged, Ticks};
 use crate::aged_table::AgedTable;
 
-/// The key of the n-th slot in order of putting, where a tick at that moment finds something to do for its value.
+/// The key of the n-th slot in order of insertion, if a tick at this moment has something to do for its value.
 fn due_key_at<E, K: Ord + Copy, V: Aged<E>, S: SlotTable<K, V>>(
     table: &S,
     now: u64,
@@ -27,7 +27,7 @@ fn due_key_at<E, K: Ord + Copy, V: Aged<E>, S: SlotTable<K, V>>(
     Some(key)
 }
 
-/// The value at a key goes on in its slot.
+/// Applies a tick to the value of a key, in its slot.
 fn tick_at<E, K: Ord + Copy, C, V: Ticks<E, K, C>, S: SlotTable<K, V>>(
     table: &mut S,
     settings: &C,
@@ -45,7 +45,7 @@ fn tick_at<E, K: Ord + Copy, C, V: Ticks<E, K, C>, S: SlotTable<K, V>>(
     *slot = value.tick(settings, now, key);
 }
 
-/// Each value goes on; those for which a tick finds nothing to do are left alone.
+/// Applies a tick to each value; those for which it has nothing to do are not touched.
 fn tick_each<E, K: Ord + Copy, C, V: Ticks<E, K, C>, S: SlotTable<K, V>>(
     table: &mut S,
     settings: &C,
@@ -63,7 +63,7 @@ fn tick_each<E, K: Ord + Copy, C, V: Ticks<E, K, C>, S: SlotTable<K, V>>(
     }
 }
 
-/// The first moment at which a tick can find something to do for the n-th slot in order of putting, looked at from a moment on.
+/// The first moment, at or after a given one, at which a tick can have something to do for the n-th slot in order of insertion.
 fn due_at<E, K: Ord + Copy, V: Aged<E>, S: SlotTable<K, V>>(table: &S, from: u64, n: usize) -> u64
     ensures due { MatchOption (slice_get (S.slots table.now) n) (result ≡ 18446744073709551615) (λ s. result ≡ V.due_of from s.value) }
     ensures quiet { (s : Slot K V) → slice_get (S.slots table.now) n ≡ Some s → V.IsQuiet from result s.value }
@@ -74,8 +74,8 @@ fn due_at<E, K: Ord + Copy, V: Aged<E>, S: SlotTable<K, V>>(table: &S, from: u64
     }
 }
 
-/// The first moment at which a tick finds something to do for any slot, looked at from a moment on; the last moment of all where none does. It looks at
-/// each slot.
+/// The first moment, at or after a given one, at which a tick has something to do for any slot; the greatest moment if there is none.
+/// It looks at each slot.
 pub fn first_due<E, K: Ord + Copy, V: Aged<E>, S: SlotTable<K, V>>(table: &S, from: u64) -> u64
     ensures due { result ≡ first_due (V.due_of from) (S.slots table.now) }
     ensures quiet { AreQuiet V.IsQuiet from result (S.slots table.now) }
@@ -88,7 +88,7 @@ pub fn first_due<E, K: Ord + Copy, V: Aged<E>, S: SlotTable<K, V>>(table: &S, fr
     due
 }
 
-/// All values after a tick. It takes no memory. From the latest tick on and before the first moment at which anything can be due no slot is looked at.
+/// Applies a tick to all values. It does not allocate. After the latest tick and before the first due moment it looks at no slot.
 pub fn tick<E, K: Ord + Copy, C, V: Ticks<E, K, C>, S: SlotTable<K, V>>(
     aged: &mut AgedTable<E, S>,
     settings: &C,

@@ -1,4 +1,4 @@
--- Lists whose keys differ, in whatever order.
+-- Lists whose keys all differ, in any order.
 use Rattle.std.proofs.Common.{◌≡◌, ◌≢◌, ℕ, zero, suc, ◌+◌, ◌-◌, ◌<◌, ◌≤◌, Bool, true, false, eqb, List, [], ◌∷◌, length, map, get_or, Option}
 use Rattle.std.proofs.Common.{Some, None, if◌then◌else◌, refl, sym, ap, subst, arith, ◌∙◌}
 use Rattle.std.specs.List.{All, AllPairs, AllAdjacentBelow, Contains}
@@ -52,7 +52,7 @@ module _ {A : Type 0} (key : A → ℕ) where
   pub apart_from_rise : (xs : List A) → AllPairs (λ a b. key a < key b) xs → AllPairs (λ a b. key a ≢ key b) xs
   apart_from_rise xs rise i j d l within e = omega (arith, rise i j d l within, e)
 
-  -- neighbours with one key, and the next step of a list that rises
+  -- neighbours with the same key, and the next step of an ascending list
   pub equal_neighbours : (xs : List A) (at : ℕ) (x y : A) → 1 ≤ at → at < length xs → key (get_or xs (at - 1) x) ≡ key (get_or xs at y)
       → AllPairs (λ a b. key a ≢ key b) xs → ⊥
   equal_neighbours xs at x y first within e apart = apart (at - 1) at x (omega arith) within (e ∙ ap key (get_or_default xs at y x within))

@@ -1,4 +1,4 @@
--- Lists that are equal, seen by a view.
+-- Equality of lists whose elements are seen through a view.
 use Rattle.std.specs.Bool.{IsTrue}
 use Rattle.std.specs.Prelude.{◌↔◌, MatchBool}
 use Rattle.std.proofs.Common.{◌≡◌, Bool, true, false, ℕ, suc, ◌+◌, ◌<◌, ◌≤◌, ◌⊎◌, inl, inr, List, [], ◌∷◌, length, map, get_or, refl, ap, sym, ◌∙◌, arith}
@@ -7,7 +7,7 @@ use Rattle.std.proofs.lemmas.List.{length-map, get_or_default}
 use Rattle.std.proofs.lemmas.Bool.{cases_lt}
 
 module _ {A B : Type 0} (view : A → B) where
-  -- so many places are equal
+  -- this many places are equal
   abbrev pub AreSameUpTo : ℕ → List A → List A → Type 0
   AreSameUpTo at xs ys = (j : ℕ) (d : A) → j < at → view (get_or xs j d) ≡ view (get_or ys j d)
 
@@ -39,7 +39,7 @@ module _ {A B : Type 0} (view : A → B) where
           ap (λ n. view (get_or xs n d)) same ∙ ap view (get_or_default xs at d x within) ∙ here
           ∙ ap view (get_or_default ys at y d inside) ∙ ap (λ n. view (get_or ys n d)) (sym same)
 
--- where one case holds and the other is its opposite, the answer decides it
+-- if one case is true and the other is its opposite, the result decides which
 pub decided : {A : Type 0} (b : Bool) → MatchBool b A (A → ⊥) → IsTrue b ↔ A
 decided true holds = (λ t. holds, λ a. refl)
 decided false other = (λ never. absurd cc, λ a. absurd (other a))

@@ -1,4 +1,4 @@
--- The tables' rows, computed on the definitions.
+-- The rows of the reply tables, computed from the definitions.
 use Rattle.std.specs.Prelude.{◌≡◌, ℕ, pos, negsuc, true, false, List, [], ◌∷◌, Option, Some, None}
 use Rattle.std.specs.Option.{option_map}
 use Rattle.std.proofs.Common.{refl}

@@ -1,4 +1,4 @@
--- What the network may write, the node may set: a granted WriteProperty of data makes a change that has no fault.
+-- What may be written over the network can be set by the node: a granted WriteProperty with data is a change without fault.
 use Rattle.std.proofs.Common.{◌≡◌, ℕ, Bool, true, false, not, ◌&&◌, ◌||◌, ◌==◌, nat_lt, List, length, Option, Some, None, is_some, refl, ap}
 use Rattle.std.proofs.Common.{◌∙◌, if◌then◌else◌}
 use Rattle.std.specs.Option.{option_map}
@@ -19,11 +19,11 @@ use Rattle.bac_store.specs.Stores.{File, Object, Property, Store, computed, is_s
 use Rattle.bac_store.proofs.WriteLaws.{where_done}
 
 module _ (r : Reference) (values : List ℕ) where
-  -- the answer for the property that was found is no Error
+  -- the reply for the property that was found is not an Error
   abbrev Grants : Option Property → Type 0
   Grants x = is_done (at_property x (write_reply r values)) ≡ true
 
-  -- the cases of a WriteProperty, and what the change looks at
+  -- the cases of a WriteProperty, and what the change tests
   abbrev fault_of : (right kind binary state long : Bool) → Option ChangeFault
   fault_of right kind binary state long =
       if right && kind && (not binary || state) then (if long then Some fault.TooLong else None) else Some fault.BadValue

@@ -1,4 +1,4 @@
--- The house is in order.
+-- The example store is in order.
 use Rattle.std.proofs.Common.{◌≡◌, ◌<◌, List, [], ◌∷◌, Some, refl, arith}
 use Rattle.std.specs.List.{All, AllPairs}
 use Rattle.std.proofs.lemmas.List.Elements.{All-nil, All-cons}
@@ -28,7 +28,7 @@ pub kind_of_pump : kind_of (value_spelling (enumerated 0)) ≡ Some 9
 unfolding tag_spelling unsigned_octets element_at tag_at tag_number_at form_at length_at contents_at class_at kind_at raw_at
 kind_of_pump = refl
 
--- facts on each element of a list that is written out
+-- facts about each element of an explicit list
 
 abbrev Each : {A : Type 0} → (A → Type 0) → List A → Type 0
 Each P [] = Unit {0}

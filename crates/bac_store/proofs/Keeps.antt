@@ -1,4 +1,4 @@
--- Changes keep what a store's fields keep.
+-- Changes preserve the invariant of a store's fields.
 use Rattle.std.proofs.Common.{◌≡◌, ℕ, ◌+◌, ◌<◌, ◌≤◌, Bool, true, false, List, length, map, get_or, Option, Some, None}
 use Rattle.std.proofs.Common.{sym, subst, refl, arith, if◌then◌else◌}
 use Rattle.std.specs.List.{All, AllPairs}
@@ -107,7 +107,7 @@ effect_in_order (Effect.Octets id at new) f s o = record {
   each = All-where_that (with_octets (overwritten at new)) (is_object id) IsKept (octets_kept at new f) s o.each;
 }
 
--- what a change of the objects in their vector leaves
+-- the vector of objects after a change
 pub vector_in_order : (v : Vec StoredObject) (ws : List StoredObject) (c : Effect) → Fits c → IsInOrder (map entry_view v.items) → length ws ≡ v.len
     → map entry_view ws ≡ with_effect c (map entry_view v.items) → IsInOrder (map entry_view (with_items v ws).items)
 vector_in_order v ws c f o kept is =

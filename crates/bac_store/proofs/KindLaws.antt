@@ -1,4 +1,4 @@
--- The kind of octets is that of the one value that they are.
+-- The kind of octets is that of the one value that they encode.
 use Rattle.std.proofs.Common.{◌≡◌, ◌≢◌, ℕ, ◌<◌, ◌^◌, true, List, [], ◌∷◌, ◌++◌, length, Some, Result, Ok, Err, refl, sym, ap, subst, arith, ◌∙◌}
 use Rattle.std.proofs.lemmas.Bool.Decides.{nat_tests}
 use Rattle.std.proofs.lemmas.List.{append-nil}
@@ -28,7 +28,7 @@ kind_of_value values k one =
     let read = element_again (part_of d v.contents) values [] spelled in
     ap kind_read (rw append-nil at read) ∙ ap Some one.1
 
--- a length stands in the tag of each value but a Boolean
+-- every tag but that of a Boolean contains a length
 length_form : (d : Datum) (n k : ℕ) → kind_number d ≡ n → n ≢ 1 → form_of d k ≡ form.Length k
 length_form null n k e ne = refl
 length_form (boolean b) n k e ne = absurd (ne (sym e))
@@ -51,7 +51,7 @@ record IsMeant (n : ℕ) (f : Form) (xs : List ℕ) : Type 0 where
   form_is : f ≡ form_of meant (length xs)
   few : length xs < 2 ^ 32
 
--- what an application tag announces is a value's contents
+-- the contents after an application tag are those of a value
 value_in : (n : ℕ) (f : Form) (xs : List ℕ) → tag_fits n Application f ≡ true → length_fits f → IsAnnounced Application n f xs → IsMeant n f xs
 value_in n (form.Length j) xs fits few h =
     let ne : n ≢ 1 = grind (arith, nat_tests) in

@@ -1,4 +1,4 @@
--- What is found in a store after a request, and that replies rest on what is found alone.
+-- What is found in a store after a request; and replies depend only on what is found.
 use Rattle.std.proofs.Common.{◌≡◌, ◌∙◌, ℕ, Bool, true, false, List, [], ◌∷◌, map, Option, Some, None, refl, sym, ap, subst, if◌then◌else◌}
 use Rattle.std.specs.Option.{option_map}
 use Rattle.bac_value.specs.Value.{ObjectId}
@@ -15,7 +15,7 @@ use Rattle.bac_store.specs.Stores.{listed_in, object_in, property_in}
 -- ---- look-ups in a list with changes
 
 module _ {A : Type 0} (test : A → Bool) where
-  -- where a change is none to a test, what is found is what was found, changed
+  -- if a change does not affect a test, what is found is the changed element that was found before
   first_that-map : (g : A → A) → ((x : A) → test (g x) ≡ test x) → (xs : List A) → first_that test (map g xs) ≡ option_map g (first_that test xs)
   first_that-map g same [] = refl
   first_that-map g same (x ∷ xs) = go (test x) refl (first_that-map g same xs)

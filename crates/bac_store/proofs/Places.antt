@@ -1,4 +1,4 @@
--- What a binary search finds in a list that rises, and what is there.
+-- What a binary search finds in an ascending list, and what the list has there.
 use Rattle.std.proofs.Common.{◌≡◌, ℕ, zero, suc, ◌<◌, ◌≤◌, ◌≢◌, Bool, false, ◌==◌, List, [], ◌∷◌, length, map, get_or, set}
 use Rattle.std.proofs.Common.{Some, None, Result, Ok, Err, ◌∙◌, refl, sym, ap, arith}
 use Rattle.std.specs.List.{All, AllPairs, slice_get}
@@ -38,7 +38,7 @@ module _ {A B : Type 0} (view : A → B) (test : B → Bool) where
   first_that-only (x ∷ xs) zero d o = rw (o.passes d) refl
   first_that-only (x ∷ xs) (suc i) d o = rw (only_head x xs i d o) (first_that-only xs i d (only_tail x xs i o))
 
-  -- the same, with no default
+  -- the same without a default
   pub first_that-place : (xs : List A) (i : ℕ) → IsOnly view test xs i
       → IsSome (slice_get (map view xs) i) × (first_that test (map view xs) ≡ slice_get (map view xs) i)
   first_that-place [] i o = absurd (omega (arith, o.within))
@@ -68,7 +68,7 @@ module _ {A B : Type 0} (view : A → B) (key : B → ℕ) (test : B → Bool) (
       grind (arith, rises i j d, λ (same : i ≡ j). ap (λ n. key (view (get_or xs n d))) same) in
       grind (arith, nat_tests)
 
-  -- a binary search by key ends at the one place, or finds that there is none
+  -- a binary search by key ends at the only place with the key, or finds that there is none
   pub placed : (r : Result ℕ ℕ) → IsSearchInRange r (length xs) → IsBinarySearchResult (λ x. nat_cmp (key (view x)) k) xs r
       → IsPlaceOf view test xs (result_ok r)
   placed (Ok at) within equal = record {

@@ -1,4 +1,4 @@
--- Plans do what requests do.
+-- The effects of plans are the effects of requests.
 use Rattle.std.proofs.Common.{◌≡◌, ℕ, ℤ, suc, ◌<◌, Bool, true, false, List, [], ◌∷◌}
 use Rattle.std.proofs.Common.{Some, Result, Ok, Err, IfOk, sym, ap, refl, arith, if◌then◌else◌, ◌∙◌}
 use Rattle.std.specs.List.{All, AllPairs}

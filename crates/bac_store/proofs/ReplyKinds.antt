@@ -1,4 +1,4 @@
--- Each reply fits its request's service choice.
+-- Each reply fits the service choice of its request.
 use Rattle.std.proofs.Common.{ℕ, pos, Bool, true, false, not, ◌&&◌, nat_lt, length, List, [], ◌∷◌, Option, Some, None, is_some, if◌then◌else◌, refl}
 use Rattle.bac_service.specs.declared.service.TheConstants.{ATOMIC_READ_FILE, ATOMIC_WRITE_FILE, READ_PROPERTY, WRITE_PROPERTY}
 use Rattle.bac_service.specs.Values.{Reference, Request, ReadAccess, WriteAccess, choice_of}
@@ -16,7 +16,7 @@ use Rattle.bac_store.specs.Replies.{read_reply, write_reply, read_file_reply, wr
 use Rattle.bac_store.specs.Replies.{is_no_write_start, written, write_start, is_of_kind, is_binary_state, reply_to}
 use Rattle.bac_store.specs.Stores.{Store, Object, Property, File, is_state, object_in, property_in}
 
--- each of some answers fits
+-- each of some replies fits
 abbrev Fit : ℕ → List (Bool × Reply) → Type 0
 Fit choice [] = Unit {0}
 Fit choice (c ∷ cs) = FitsChoice choice c.1 × Fit choice cs

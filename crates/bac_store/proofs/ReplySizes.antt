@@ -113,7 +113,7 @@ property_few o k n =
 
 -- ---- replies
 
--- each of some answers can be sent
+-- each of some replies can be sent
 abbrev CanBeSent : List (Bool × Reply) → Type 0
 CanBeSent [] = Unit {0}
 CanBeSent (c ∷ cs) = (reply_length c.1 ≤ DATA_LIMIT) × CanBeSent cs

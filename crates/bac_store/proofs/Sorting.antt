@@ -1,4 +1,4 @@
--- What a sort of an object's properties says of the object.
+-- What sorting an object's properties means for the object.
 use Rattle.std.proofs.Common.{◌≡◌, ◌≢◌, ◌⊎◌, inl, inr, ◌∙◌, ◌+◌, set, get_or, ℕ, ◌<◌, ◌≤◌, Bool, true, false, List, length, map, refl, sym, subst, ap, arith}
 use Rattle.std.specs.Bool.{IsTrue}
 use Rattle.std.specs.List.{All, AllPairs}

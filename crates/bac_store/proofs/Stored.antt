@@ -1,4 +1,4 @@
--- Objects that were put in order are a store.
+-- Objects that were sorted are a store.
 use Rattle.std.proofs.Common.{◌≡◌, ◌≢◌, ℕ, suc, ◌+◌, ◌*◌, ◌^◌, ◌<◌, ◌≤◌, Bool, true, false, List, [], ◌∷◌, length, map, get_or}
 use Rattle.std.proofs.Common.{Option, Some, None, Result, Ok, Err, MatchResult, refl, sym, ap, subst, arith}
 use Rattle.std.specs.Bool.{IsTrue}
@@ -38,7 +38,7 @@ same_id a b e =
     let p = same_parts a.kind a.instance b.kind b.instance a.instance_fits b.instance_fits e in
     λ i. record { kind = p.kind i; instance = p.instance i }
 
--- ---- what is right is kept
+-- ---- valid objects satisfy the invariant
 
 right_is_short : (k : ℕ) (p : Property) → IsTrue (is_right_property k p) → IsShort p
 right_is_short k p h = grind (arith, nat_tests)
@@ -149,7 +149,7 @@ module _ (old sorted : List thing.Object) (moved : IsPermutation old sorted) whe
     pub made : IsMadeOf (map object_view old) (map object_view new)
     made = record { distinct = good.distinct; right = good.right; store = store_of }
 
--- out of memory comes last
+-- a failed allocation is reported last
 pub refused : (objects : List Object) (r : Result Store StoreFault) → IsErrAnd r (λ e. e ≡ fault.NoMemory) → IsGood objects
     → MatchResult r (IsMadeOf objects) (IsRefused objects)
 refused objects (Ok s) h g = absurd h

@@ -1,4 +1,4 @@
--- A write changes one thing.
+-- A write changes one thing only.
 use Rattle.std.proofs.Common.{◌≡◌, ◌≢◌, ◌∙◌, ℕ, ℤ, Bool, true, false, List, [], ◌∷◌, Option, Some, None, refl, sym, ap, subst, arith, if◌then◌else◌}
 use Rattle.std.specs.Option.{option_map}
 use Rattle.std.proofs.lemmas.Bool.Decides.{nat_tests}
@@ -24,7 +24,7 @@ found_changed test change (x ∷ xs) = go (test x) refl (found_changed test chan
     go true e rest = rw (e, e) refl
     go false e rest = rw e rest
 
--- what was found by a test that excludes another does not pass the other
+-- what was found by a test that excludes another test does not pass the other
 found_kept : {A : Type 0} (test other : A → Bool) (change : A → A) → ((x : A) → other x ≡ true → test x ≡ false) → (xs : List A)
     → option_map (λ x. if test x then change x else x) (first_that other xs) ≡ first_that other xs
 found_kept test other change apart [] = refl
@@ -48,7 +48,7 @@ module _ (id : ObjectId) (change : Object → Object) (keeps : (o : Object) → 
   elsewhere : (q : ObjectId) → is_same id q ≡ false → object_in (with_object id change s) q ≡ object_in s q
   elsewhere q apart = object_in-with_object id q change keeps s ∙ found_kept (is_object id) (is_object q) change (other_id id q apart) s
 
--- a part of what is found
+-- a component of what is found
 part : {A B : Type 0} (f : A → B) (change : A → A) → ((x : A) → f (change x) ≡ f x) → (o : Option A) → option_map f (option_map change o) ≡ option_map f o
 part f change same None = refl
 part f change same (Some x) = ap Some (same x)

@@ -1,4 +1,4 @@
--- Which Error a refusal in code is answered with.
+-- The Error for each refusal in code.
 use Rattle.std.specs.Prelude.{Option, Some, None}
 use Rattle.bac_service.specs.Replies.{Reply}
 use Rattle.bac_store.specs.declared.refusal.Refusal.{Refusal}
@@ -17,7 +17,7 @@ refused case.InvalidFileAccessMethod = reply.INVALID_FILE_ACCESS_METHOD
 refused case.FileAccessDenied = reply.FILE_ACCESS_DENIED
 refused case.InvalidFileStartPosition = reply.INVALID_FILE_START_POSITION
 
--- the Error of a refusal, or this reply where there is none
+-- the Error of a refusal, or this reply if there is none
 abbrev pub refused_or : Reply → Option Refusal → Reply
 refused_or reply None = reply
 refused_or reply (Some r) = refused r

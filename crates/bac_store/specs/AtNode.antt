@@ -1,4 +1,4 @@
--- Changes that are made at the node itself, by no request: the values of one listed property, or all octets of one file.
+-- Local changes, which no request makes: new values of one listed property, or new octets of one file.
 use Rattle.std.specs.Prelude.{◌≡◌, ℕ, ◌≤◌, Bool, true, false, not, ◌&&◌, ◌||◌, nat_lt, List, [], ◌∷◌, length, Option, Some, None, Result, Ok, Err}
 use Rattle.std.specs.Prelude.{if◌then◌else◌}
 use Rattle.bac_value.specs.declared.fault.FaultKind.{FaultKind}
@@ -16,7 +16,7 @@ pub data Change : Type 0 where
   Value : (object : ObjectId) (property : ℕ) (octets : List ℕ) → Change
   File : (object : ObjectId) (octets : List ℕ) → Change
 
--- the store with a change made: marks and kinds stay
+-- the store after a change: flags and kinds stay
 abbrev pub changed : Change → Store → Store
 changed (Change.Value id n octets) s = with_object id (with_values n octets) s
 changed (Change.File id octets) s = with_object id (with_octets (λ old. octets)) s
@@ -28,31 +28,31 @@ reads_all (Ok []) = true
 reads_all (Ok (x ∷ xs)) = false
 reads_all (Err e) = false
 
--- the octets are data, all of them
+-- the octets as a whole are data
 abbrev pub is_data : List ℕ → Bool
 is_data octets = reads_all (data_of octets)
 
--- the property as a whole
+-- the reference to the property as a whole
 abbrev pub whole : ObjectId → ℕ → Reference
 whole id n = record { object = id; property = n; index = None }
 
--- the octets are data of the kind that a property has, and a state as present-value of a binary-value
+-- the octets are data of the property's kind, and a state if they are the present-value of a binary-value
 abbrev pub is_value_for : Reference → List ℕ → Property → Bool
 is_value_for r octets p = is_data octets && is_of_kind p.kind octets && (not (is_binary_state r) || is_state octets)
 
--- the fault where there is none of these, otherwise what is found of the one that is there
+-- the fault if there is no such object or property, otherwise the fault of the one that was found
 abbrev pub or_fault : {A : Type 0} → ChangeFault → Option A → (A → Option ChangeFault) → Option ChangeFault
 or_fault e None find = Some e
 or_fault e (Some x) find = find x
 
--- the fault where the octets are more than a limit
+-- the fault if there are more octets than a limit
 abbrev pub length_fault : ℕ → List ℕ → Option ChangeFault
 length_fault most octets = if nat_lt most (length octets) then Some fault.TooLong else None
 
 abbrev pub value_fault : Reference → List ℕ → Property → Option ChangeFault
 value_fault r octets p = if is_value_for r octets p then length_fault VALUE_LIMIT octets else Some fault.BadValue
 
--- the first fault of a change; None where it is made, if there is memory
+-- the first fault of a change; None if it is made, unless an allocation fails
 abbrev pub change_fault : Store → Change → Option ChangeFault
 change_fault s (Change.Value id n octets) =
     or_fault fault.NoSuchObject (object_in s id) (λ o. or_fault fault.NoSuchProperty (listed_in o n) (value_fault (whole id n) octets))
@@ -62,7 +62,7 @@ abbrev pub octets_of : Change → List ℕ
 octets_of (Change.Value id n octets) = octets
 octets_of (Change.File id octets) = octets
 
--- a fault, which the change has, or memory for its octets was refused
+-- a fault that the change has, or a failed allocation for its octets
 abbrev pub IsFaultOf : Store → Change → ChangeFault → Type 0
 IsFaultOf s c fault.NoSuchObject = change_fault s c ≡ Some fault.NoSuchObject
 IsFaultOf s c fault.NoSuchProperty = change_fault s c ≡ Some fault.NoSuchProperty

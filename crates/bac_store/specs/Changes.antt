@@ -1,4 +1,4 @@
--- What a request makes of a store.
+-- The store after a request.
 use Rattle.std.specs.Prelude.{◌≡◌, ℕ, ◌+◌, ◌≤◌, Bool, true, false, List, length, map, IfSome, if◌then◌else◌}
 use Rattle.std.specs.Option.{option_map}
 use Rattle.bac_value.specs.Value.{ObjectId}
@@ -10,22 +10,22 @@ use Rattle.bac_service.specs.Replies.Reply.{Simple, Complex, Error, Reject}
 use Rattle.bac_store.specs.Stores.{Store, Object, Property, File, is_object, is_number, object_in}
 use Rattle.bac_store.specs.Replies.{file_of, reply_to, written}
 
--- the list with a change to each element that a test takes
+-- the list, with a change to each element that passes a test
 abbrev pub where_that : {A : Type 0} → (A → Bool) → (A → A) → List A → List A
 where_that test change xs = map (λ x. if test x then change x else x) xs
 
--- that object changed, the others as they are
+-- that object changed, the others unchanged
 abbrev pub with_object : ObjectId → (Object → Object) → Store → Store
 with_object id change s = where_that (is_object id) change s
 
--- other values for a listed property
+-- new values for a listed property
 abbrev pub with_own_values : List ℕ → Property → Property
 with_own_values values p = record p { values = values }
 
 abbrev pub with_values : ℕ → List ℕ → Object → Object
 with_values n values o = record o { properties = where_that (is_number n) (with_own_values values) o.properties }
 
--- other octets for a file
+-- new octets for a file
 abbrev pub with_contents : (List ℕ → List ℕ) → File → File
 with_contents change f = record f { octets = change f.octets }
 
@@ -39,18 +39,18 @@ is_done (Complex c) = true
 is_done (Error class code) = false
 is_done (Reject reason) = false
 
--- no case of the tables holds for the request: its reply is no Error
+-- no case of the tables applies to the request: its reply is not an Error
 abbrev pub IsGranted : Store → Request → Type 0
 IsGranted s r = is_done (reply_to s r) ≡ true
 
--- the reply to the request, or the change that it makes, holds octets: only then it takes memory
+-- the reply to the request, or its change, contains octets: only then it allocates
 abbrev pub HoldsOctets : Store → Request → Type 0
 HoldsOctets s (ReadFile id access) = 1 ≤ length (held_by (reply_to s (ReadFile id access)))
 HoldsOctets s (WriteFile id access) = IfSome (file_of (object_in s id)) (λ f. 1 ≤ length f.octets + length (for_file access))
 HoldsOctets s (ReadProperty r) = 1 ≤ length (held_by (reply_to s (ReadProperty r)))
 HoldsOctets s (WriteProperty r values priority) = 1 ≤ length values
 
--- what a request is for, where it is done
+-- the effect of a request that is performed
 abbrev pub done : Request → Store → Store
 done (ReadFile id access) s = s
 done (WriteFile id (WriteRecords start count run)) s = s

@@ -1,4 +1,4 @@
--- The house store: a device, an analog input, an analog value, a binary value and a file.
+-- The example store: a device, an analog input, an analog value, a binary value and a file.
 use Rattle.std.specs.Prelude.{ℕ, true, false, [], ◌∷◌, Some, None}
 use Rattle.bac_value.specs.Value.{ObjectId, real, characters, enumerated}
 use Rattle.bac_value.specs.Writing.{value_spelling}
@@ -8,7 +8,7 @@ use Rattle.bac_store.specs.Stores.{Store, Object}
 abbrev id_of : ℕ → ℕ → ObjectId
 id_of kind instance = record { kind = kind; instance = instance }
 
--- `flow`: present-value 72.3, which cannot be written
+-- `flow`: present-value 72.3, read-only
 abbrev pub flow : Object
 flow = record {
   id = id_of ANALOG_INPUT 5;
@@ -18,7 +18,7 @@ flow = record {
   file = None;
 }
 
--- `setpoint`: an empty description and present-value 0, which can be written
+-- `setpoint`: an empty description and present-value 0, both writable
 abbrev pub setpoint : Object
 setpoint = record {
   id = id_of ANALOG_VALUE 1;
@@ -29,7 +29,7 @@ setpoint = record {
   file = None;
 }
 
--- `pump`: present-value 0, which can be written
+-- `pump`: present-value 0, writable
 abbrev pub pump : Object
 pump = record {
   id = id_of BINARY_VALUE 1;
@@ -38,11 +38,11 @@ pump = record {
   file = None;
 }
 
--- `house`: the device, with nothing listed
+-- `house`: the device, without listed properties
 abbrev pub house_device : Object
 house_device = record { id = id_of DEVICE 1; name = 0x68 ∷ 0x6F ∷ 0x75 ∷ 0x73 ∷ 0x65 ∷ []; properties = []; file = None }
 
--- `log`: the octets of `OK`, which can be written
+-- `log`: the octets of `OK`, writable
 abbrev pub log : Object
 log = record {
   id = id_of FILE 1;

@@ -1,4 +1,4 @@
--- What the fields of a store keep, beside what contracts see of them.
+-- The invariant of the fields of a store.
 use Rattle.std.specs.Prelude.{ℕ, ◌+◌, ◌*◌, ◌^◌, ◌<◌, ◌≤◌, length, IfSome}
 use Rattle.std.specs.List.{All, AllPairs}
 use Rattle.bac_value.specs.Value.{ObjectId}
@@ -13,7 +13,7 @@ object_number id = id.kind * 2 ^ 22 + id.instance
 abbrev pub IsShort : Property → Type 0
 IsShort p = length p.values ≤ VALUE_LIMIT
 
--- its properties rise, so that they can be searched, and all of it is short enough
+-- the properties are ascending, for binary searches, and everything is short enough
 pub record IsKept (o : Object) : Type 0 where
   pub kind_fits : o.id.kind < 1024
   pub instance_fits : o.id.instance < 2 ^ 22
@@ -22,7 +22,7 @@ pub record IsKept (o : Object) : Type 0 where
   pub short : All IsShort o.properties
   pub file_fits : IfSome o.file (λ f. length f.octets ≤ FILE_LIMIT)
 
--- objects rise too
+-- the objects are ascending too
 pub record IsInOrder (s : Store) : Type 0 where
   pub rise : AllPairs (λ a b. object_number a.id < object_number b.id) s
   pub each : All IsKept s

@@ -1,23 +1,23 @@
--- Numbers of the store's tables (clauses 12 and 21), and its own limits, as the code states them.
+-- The numbers of object types and properties (clauses 12 and 21), and the store's own limits, as constants in code.
 use Rattle.std.specs.Prelude.{ℕ}
 use Rattle.bac_value.specs.declared.kinds.TheConstants as kinds
 use Rattle.bac_store.specs.declared.limits.TheConstants as code
 
--- own limit: the most octets of a property's values
+-- own limit: the greatest length of a property's values in octets
 abbrev pub VALUE_LIMIT : ℕ
 VALUE_LIMIT = code.VALUE_LIMIT
 
--- own limit: the most octets of a file
+-- own limit: the greatest length of a file in octets
 abbrev pub FILE_LIMIT : ℕ
 FILE_LIMIT = code.FILE_LIMIT
 
--- clause 20.2.14: the greatest of 22 bits, which stands for any instance
+-- clause 20.2.14: the greatest number of 22 bits, which is a wildcard for any instance
 abbrev pub ANY_INSTANCE : ℕ
 ANY_INSTANCE = code.ANY_INSTANCE
 
 -- ---- object types (BACnetObjectType)
 
--- vendors' own (clause 23.1)
+-- proprietary (clause 23.1)
 abbrev pub FIRST_VENDOR_TYPE : ℕ
 FIRST_VENDOR_TYPE = code.FIRST_VENDOR_TYPE
 
@@ -41,7 +41,7 @@ FILE = code.FILE
 
 -- ---- properties (BACnetPropertyIdentifier)
 
--- vendors' own (clause 23.1)
+-- proprietary (clause 23.1)
 abbrev pub FIRST_VENDOR_PROPERTY : ℕ
 FIRST_VENDOR_PROPERTY = code.FIRST_VENDOR_PROPERTY
 
@@ -84,6 +84,6 @@ CHARACTER_STRING = kinds.CHARACTER_STRING
 abbrev pub ENUMERATED : ℕ
 ENUMERATED = kinds.ENUMERATED
 
--- the octet of a tag for an Enumerated of one octet of contents
+-- the first octet of an Enumerated with one octet of contents: its tag
 abbrev pub STATE_TAG : ℕ
 STATE_TAG = code.STATE_TAG

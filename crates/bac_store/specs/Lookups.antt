@@ -1,4 +1,4 @@
--- What look-ups in code give: the one place whose element a test takes.
+-- The results of look-ups in code: the only place whose element passes a test.
 use Rattle.std.specs.Prelude.{◌≡◌, ◌≢◌, ℕ, ◌<◌, Bool, true, false, List, length, Option, Some, slice_get, slice_index_or}
 use Rattle.std.specs.Option.{MatchOption}
 use Rattle.std.specs.List.{All}
@@ -10,13 +10,13 @@ use Rattle.bac_store.specs.declared.lookups.Found.TheVariants as found
 use Rattle.bac_store.specs.Limits.{FILE_ACCESS_METHOD, FILE_SIZE, OBJECT_IDENTIFIER, OBJECT_NAME, OBJECT_TYPE, STREAM_ACCESS}
 use Rattle.bac_store.specs.Stores.{Object, Property, computed}
 
--- seen by a view, the element at a place passes the test, and no other does
+-- seen through a view, the element at a place passes the test, and no other does
 pub record IsOnly {A B : Type 0} (view : A → B) (test : B → Bool) (xs : List A) (i : ℕ) : Type 0 where
   pub within : i < length xs
   pub passes : (d : A) → test (view (slice_index_or xs i d)) ≡ true
   pub others : (j : ℕ) (d : A) → j < length xs → j ≢ i → test (view (slice_index_or xs j d)) ≡ false
 
--- a search answered the one place, or that there is none
+-- a search found the only such place, or found that there is none
 abbrev pub IsPlaceOf : {A B : Type 0} → (A → B) → (B → Bool) → List A → Option ℕ → Type 0
 IsPlaceOf view test xs result = MatchOption result (All (λ x. test (view x) ≡ false) xs) (IsOnly view test xs)
 
@@ -35,7 +35,7 @@ computed_value o own.Type = enumerated o.id.kind
 computed_value o own.AccessMethod = enumerated STREAM_ACCESS
 computed_value o (own.Size len) = unsigned len
 
--- the property that code found in an object
+-- the property that the code found in an object
 abbrev pub found_in : Object → Found → Option Property
 found_in o (found.Computed c) = Some (computed (computed_number c) (computed_value o c))
 found_in o (found.Listed at) = slice_get o.properties at

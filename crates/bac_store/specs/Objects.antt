@@ -1,4 +1,4 @@
--- Which lists of objects a store is made of, and which store that is.
+-- Which lists of objects a store is created from, and which store that is.
 use Rattle.std.specs.Prelude.{◌≡◌, ◌≢◌, ◌≤◌, ℕ, Bool, true, not, ◌==◌, ◌&&◌, ◌||◌, nat_le, IsTrue, List, length, Option, Some, None}
 use Rattle.std.specs.Prelude.{if◌then◌else◌}
 use Rattle.std.specs.List.{All, AllPairs}
@@ -9,27 +9,27 @@ use Rattle.bac_store.specs.Limits.{FILE_LIMIT, ANY_INSTANCE, FIRST_VENDOR_TYPE, 
 use Rattle.bac_store.specs.Stores.{Store, Object, Property, File, object_in, listed_in, is_state}
 use Rattle.bac_store.specs.Replies.{is_of_kind}
 
--- no two objects have one identifier
+-- no two objects have the same identifier
 abbrev pub AreDistinct : List Object → Type 0
 AreDistinct = AllPairs (λ a b. a.id ≢ b.id)
 
 -- ---- right objects; the limits are this profile's own
 
--- five types of the standard, and vendors' own
+-- five standard types, and proprietary ones
 abbrev pub is_right_type : ℕ → Bool
 is_right_type k =
     (k == ANALOG_INPUT) || (k == ANALOG_VALUE) || (k == BINARY_VALUE) || (k == DEVICE) || (k == FILE)
     || (nat_le FIRST_VENDOR_TYPE k && nat_le k LAST_VENDOR_TYPE)
 
--- the greatest instance stands for any, and no object has it
+-- the greatest instance is a wildcard, and no object has it
 abbrev pub is_right_id : ObjectId → Bool
 is_right_id id = is_right_type id.kind && not (id.instance == ANY_INSTANCE)
 
--- two properties of the standard, and vendors' own
+-- two standard properties, and proprietary ones
 abbrev pub is_right_number : ℕ → Bool
 is_right_number n = (n == DESCRIPTION) || (n == PRESENT_VALUE) || (nat_le FIRST_VENDOR_PROPERTY n && nat_le n LAST_VENDOR_PROPERTY)
 
--- a description is a CharacterString; the present-value is a Real of the analog types, a state of a binary-value
+-- a description is a CharacterString; the present-value is a Real for the analog types, a state for a binary-value
 abbrev pub are_right_values : (kind number : ℕ) → List ℕ → Bool
 are_right_values k n values =
     if n == DESCRIPTION then is_of_kind (Some CHARACTER_STRING) values else
@@ -39,7 +39,7 @@ are_right_values k n values =
 abbrev pub is_right_property : ℕ → Property → Bool
 is_right_property k p = is_right_number p.number && nat_le (length p.values) VALUE_LIMIT && are_right_values k p.number p.values
 
--- a file has octets, and nothing else has
+-- exactly files have octets
 abbrev pub is_right_file : ℕ → Option File → Bool
 is_right_file k None = not (k == FILE)
 is_right_file k (Some f) = (k == FILE) && nat_le (length f.octets) FILE_LIMIT
@@ -51,7 +51,7 @@ pub record IsRight (o : Object) : Type 0 where
   pub distinct : AllPairs (λ a b. a.number ≢ b.number) o.properties
   pub file : IsTrue (is_right_file o.id.kind o.file)
 
--- ---- the store of some objects: whatever is looked up is what the objects say
+-- ---- the store of some objects: look-ups find what the objects state
 
 pub record IsLike (a b : Object) : Type 0 where
   pub id : a.id ≡ b.id

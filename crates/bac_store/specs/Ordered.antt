@@ -1,4 +1,4 @@
--- Objects and properties put in order.
+-- Sorted objects and properties.
 use Rattle.std.specs.Prelude.{◌≡◌, ℕ, ◌<◌, Bool, List, length, map, MatchBool, slice_index_or}
 use Rattle.std.specs.List.{All, AllPairs}
 use Rattle.std.specs.List.Sorted.{IsPermutation}
@@ -19,7 +19,7 @@ pub record IsSorting (old new : Object) : Type 0 where
   pub right : IsRight old
   pub rise : AllPairs (λ p q. p.number < q.number) new.properties
 
--- whether an object is right; where it is, its properties are in order now
+-- whether an object is valid; if it is, its properties are sorted now
 abbrev pub SortsObject : Bool → Object → Object → Type 0
 SortsObject sorted old new = MatchBool sorted (IsSorting old new) (IsRight old → ⊥)
 
@@ -27,6 +27,6 @@ pub record AreSorted (old new : List thing.Object) : Type 0 where
   pub same_length : length new ≡ length old
   pub each : (i : ℕ) (d : thing.Object) → i < length old → IsSorting (object_view (slice_index_or old i d)) (object_view (slice_index_or new i d))
 
--- whether all objects are right
+-- whether all objects are valid
 abbrev pub SortsObjects : Bool → List thing.Object → List thing.Object → Type 0
 SortsObjects sorted old new = MatchBool sorted (AreSorted old new) (All IsRight (map object_view old) → ⊥)

@@ -1,4 +1,4 @@
--- A plan: the reply to a request, and the effect that it has.
+-- Plans: the reply to a request, and its effect.
 use Rattle.std.specs.Prelude.{◌≡◌, ℕ, ℤ, List, if◌then◌else◌}
 use Rattle.bac_value.specs.Value.{ObjectId}
 use Rattle.bac_service.specs.Values.{Request}
@@ -7,7 +7,7 @@ use Rattle.bac_store.specs.Stores.{Store, File}
 use Rattle.bac_store.specs.Replies.{overwritten, reply_to, write_start, write_stream_reply}
 use Rattle.bac_store.specs.Changes.{with_object, with_values, with_octets, is_done, after}
 
--- nothing, the values of one listed property, new octets of one file from a place on, or other octets in the place of all of a file
+-- none, new values of one listed property, new octets of one file from a position on, or new contents that replace all of a file
 pub data Effect : Type 0 where
   Nothing : Effect
   Values : (object : ObjectId) (property : ℕ) (values : List ℕ) → Effect
@@ -30,7 +30,7 @@ pub record IsPlanFor (s : Store) (r : Request) (p : Plan) : Type 0 where
   pub reply : p.reply ≡ reply_to s r
   pub effect : with_effect p.effect s ≡ after s r
 
--- a plan for a write of octets to this file: an Error has no effect
+-- a plan for writing octets to this file: an Error has no effect
 pub record IsStreamPlan (id : ObjectId) (start : ℤ) (new : List ℕ) (f : File) (p : Plan) : Type 0 where
   pub reply : p.reply ≡ write_stream_reply start new f
   pub effect : p.effect ≡ (if is_done p.reply then Effect.Octets id (write_start start f.octets) new else Effect.Nothing)

@@ -1,4 +1,4 @@
--- What a store answers to a request: clauses 14.1, 14.2, 15.5 and 15.9, and this profile's table of errors.
+-- The reply of a store to a request: clauses 14.1, 14.2, 15.5 and 15.9, and this profile's table of errors.
 use Rattle.std.specs.Prelude.{ℕ, zero, suc, ◌+◌, ℤ, pos, negsuc, Bool, true, false, not, ◌==◌, ◌&&◌, nat_lt, nat_le, List, [], ◌∷◌, ◌++◌}
 use Rattle.std.specs.Prelude.{length, take, drop, Option}
 use Rattle.std.specs.Prelude.{Some, None, is_some, if◌then◌else◌}
@@ -45,12 +45,12 @@ FILE_ACCESS_DENIED = Error 5 5
 abbrev pub INVALID_FILE_START_POSITION : Reply
 INVALID_FILE_START_POSITION = Error 5 11
 
--- a case of a table, and its answer
+-- a case of a table, and its reply
 infixr 12 ◌⟶◌
 abbrev pub ◌⟶◌ : Bool → Reply → Bool × Reply
 case ⟶ answer = (case, answer)
 
--- the answer of the first case that holds, otherwise the last one
+-- the reply of the first case that applies, otherwise the last one
 abbrev pub first_case : List (Bool × Reply) → Reply → Reply
 first_case [] otherwise = otherwise
 first_case (c ∷ cs) otherwise = if c.0 then c.1 else first_case cs otherwise
@@ -65,7 +65,7 @@ abbrev pub at_object : Option Object → (Object → Reply) → Reply
 at_object None answer = UNKNOWN_OBJECT
 at_object (Some o) answer = answer o
 
--- where there is no such object or no such property, that is the answer
+-- the reply if there is no such object or no such property
 abbrev pub of_property : Store → Reference → (Property → Reply) → Reply
 of_property s r answer = at_object (object_in s r.object) (λ o. at_property (property_in o r.property) answer)
 
@@ -76,7 +76,7 @@ abbrev pub is_tag : ℕ → Option ℕ → Bool
 is_tag k None = false
 is_tag k (Some n) = k == n
 
--- the values are of the kind that a property has
+-- the values are of the property's kind
 abbrev pub is_of_kind : Option ℕ → List ℕ → Bool
 is_of_kind None values = true
 is_of_kind (Some k) values = is_tag k (kind_of values)
@@ -106,21 +106,21 @@ abbrev pub at_file : Option File → (File → Reply) → Reply
 at_file None answer = UNKNOWN_OBJECT
 at_file (Some f) answer = answer f
 
--- where there is no such object, or it is no file, that is the answer
+-- the reply if there is no such object, or it is not a file
 abbrev pub of_file : Store → ObjectId → (File → Reply) → Reply
 of_file s id answer = at_file (file_of (object_in s id)) answer
 
--- a position to read from: none below 0, none after the end
+-- a start position of a read: none below 0, none after the end
 abbrev pub is_no_read_start : ℤ → List ℕ → Bool
 is_no_read_start (pos n) octets = nat_lt (length octets) n
 is_no_read_start (negsuc n) octets = true
 
--- the octet that a position to read from is
+-- the octet at which a read starts
 abbrev pub read_start : ℤ → ℕ
 read_start (pos n) = n
 read_start (negsuc n) = 0
 
--- so many octets from a place on, or what is left there
+-- this many octets from a position on, or as many as are left
 abbrev pub octets_from : ℕ → ℕ → List ℕ → List ℕ
 octets_from start count octets = take count (drop start octets)
 
@@ -135,18 +135,18 @@ read_file_reply (ReadRecords start count) f = INVALID_FILE_ACCESS_METHOD
 read_file_reply (ReadStream start count) f =
     first_case ((is_no_read_start start f.octets ⟶ INVALID_FILE_START_POSITION) ∷ []) (file_read (read_start start) count f.octets)
 
--- a position to write at: -1 is the end; none below -1, none after the end
+-- a start position of a write: -1 is the end; none below -1, none after the end
 abbrev pub is_no_write_start : ℤ → List ℕ → Bool
 is_no_write_start (pos n) octets = nat_lt (length octets) n
 is_no_write_start (negsuc zero) octets = false
 is_no_write_start (negsuc (suc n)) octets = true
 
--- the octet that a position to write at is
+-- the octet at which a write starts
 abbrev pub write_start : ℤ → List ℕ → ℕ
 write_start (pos n) octets = n
 write_start (negsuc n) octets = length octets
 
--- the first of the octets, the new ones, and what comes after those
+-- the octets before the start, the new ones, and the old ones after those
 abbrev pub overwritten : ℕ → List ℕ → List ℕ → List ℕ
 overwritten start new octets = take start octets ++ (new ++ drop (start + length new) octets)
 

@@ -10,7 +10,7 @@ use Rattle.bac_value.specs.Value.{ObjectId, Datum, kind_number, object, characte
 use Rattle.bac_value.specs.Writing.{value_spelling}
 use Rattle.bac_store.specs.Limits.{FILE_ACCESS_METHOD, FILE_SIZE, OBJECT_IDENTIFIER, OBJECT_NAME, OBJECT_TYPE, STREAM_ACCESS, STATE_TAG}
 
--- values are octets of data; the kind is the application tag that they must have, or None where any data will do
+-- values are encoded data; the kind is the application tag that they must have, or None if any data are valid
 pub record Property : Type 0 where
   pub number : ℕ
   pub values : List ℕ
@@ -21,14 +21,14 @@ pub record File : Type 0 where
   pub octets : List ℕ
   pub writable : Bool
 
--- the name is a text of character set 0; the properties are those that are not computed; only a file has octets
+-- the name is a text in character set 0; the properties are those that are not computed; only a file has octets
 pub record Object : Type 0 where
   pub id : ObjectId
   pub name : List ℕ
   pub properties : List Property
   pub file : Option File
 
--- no two objects have one identifier, and no two properties of an object have one number; their order says nothing
+-- no two objects have the same identifier, and no two properties of an object the same number; their order is irrelevant
 abbrev pub Store : Type 0
 Store = List Object
 
@@ -58,14 +58,14 @@ listed_in o n = first_that (is_number n) o.properties
 abbrev pub computed : ℕ → Datum → Property
 computed n d = record { number = n; values = value_spelling d; writable = false; kind = Some (kind_number d) }
 
--- the access method of every file is a stream of octets (BACnetFileAccessMethod)
+-- the access method of every file: a stream of octets (BACnetFileAccessMethod)
 abbrev pub access_method : File → Property
 access_method f = computed FILE_ACCESS_METHOD (enumerated STREAM_ACCESS)
 
 abbrev pub file_size : File → Property
 file_size f = computed FILE_SIZE (unsigned (length f.octets))
 
--- clause 12: the identifier, the name and the type of every object, access method and size of every file; all else is listed
+-- clause 12: identifier, name and type of every object, access method and size of every file; all other properties are listed
 abbrev pub property_in : Object → ℕ → Option Property
 property_in o n =
     if n == OBJECT_IDENTIFIER then Some (computed n (object o.id)) else
@@ -88,7 +88,7 @@ abbrev pub kind_read : Result (Part × List ℕ) FaultKind → Option ℕ
 kind_read (Ok r) = kind_before r.0 r.1
 kind_read (Err e) = None
 
--- the tag of values that are one application element; None where they are not one
+-- the tag of values that are one application element; None if they are not
 abbrev pub kind_of : List ℕ → Option ℕ
 kind_of values = kind_read (element_at values)
 

@@ -1,4 +1,4 @@
--- What contracts see of the types in code.
+-- The abstract values of the types in code.
 use Rattle.std.specs.Prelude.{map}
 use Rattle.std.specs.Option.{option_map}
 use Rattle.std.specs.String.{string_bytes}
@@ -19,7 +19,7 @@ use Rattle.bac_store.specs.Stores.{Object, Property, File, kind_of}
 abbrev pub file_view : contents.File → File
 file_view f = record { octets = f.octets.items; writable = f.writable }
 
--- the kind of a property is fixed by its values when the store is made
+-- the kind of a property is determined by its values when the store is created
 abbrev pub property_view : listed.Property → Property
 property_view p = record { number = p.number; values = p.values.octets.items; writable = p.writable; kind = kind_of p.values.octets.items }
 

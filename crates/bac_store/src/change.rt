@@ -1,4 +1,4 @@
-//! Changes that are made at the node itself.
+//! Local changes, which the node makes itself.
 ghost use Rattle.std.specs.Prelude.{◌≡◌, IfOk};
 ghost use Rattle.bac_store.specs.Views.{change_view};
 
@@ -6,30 +6,30 @@ use crate::copying::copied_octets;
 use bac_value::{NoMemory, ObjectIdentifier};
 use std::alloc::Global;
 
-/// A change that is made at the node itself, by no request: a sensor measures another value, say. It does not look at the marks
-/// that say what the network may write.
+/// A local change, made by the node itself and not by a request: for example a sensor has a new reading. It ignores the flags
+/// that say what may be written over the network.
 #[derive(Debug, Drop)]
 pub enum Change {
-    /// A listed property has other values.
+    /// A listed property gets new values.
     Value {
         /// The object.
         object: ObjectIdentifier,
         /// The number of the property (clause 21, BACnetPropertyIdentifier).
         property: u32,
-        /// Its values as octets of data (clause 20.2).
+        /// The new values, encoded as data (clause 20.2).
         octets: Vec<u8>,
     },
-    /// A file has other octets, in the place of all that it had.
+    /// A file gets new contents, which replace all of its octets.
     File {
         /// The file.
         object: ObjectIdentifier,
-        /// What it holds then.
+        /// The new contents.
         octets: Vec<u8>,
     },
 }
 
 impl Change {
-    /// An equal change, with its own memory.
+    /// Copies the change, including its octets.
     pub fn copy(&self, alloc: Global) -> Result<Change, NoMemory>
         ensures { IfOk result (λ c. change_view c ≡ change_view self.now) }
     {

@@ -1,4 +1,4 @@
-//! Why a change is not made.
+//! Why a local change is not made.
 ghost use Rattle.std.specs.Prelude.{◌≡◌};
 ghost use Rattle.bac_store.specs.AtNode.{change_fault_number};
 ghost use Rattle.bac_store.specs.declared.change_fault.ChangeFault.TheVariants as fault;
@@ -6,29 +6,29 @@ ghost use Rattle.bac_store.specs.declared.change_fault.ChangeFault.TheVariants a
 use bac_value::NoMemory;
 use thiserror::Error;
 
-/// Why a change at the node itself is not made. They are tested in this order.
+/// Why a local change is not made. The faults are tested in this order.
 #[derive(Clone, Copy, Debug, PartialEq, Eq, Error)]
 pub enum ChangeFault {
-    /// No object has the identifier, or the change is one of a file and the object is none.
+    /// No object has this identifier, or the change is for a file and the object is not a file.
     #[error("no such object")]
     NoSuchObject = 1,
-    /// The object lists no such property. Computed ones are not listed: they follow from what is.
+    /// The object does not list this property. Computed properties are not listed, as they follow from the object.
     #[error("no such property")]
     NoSuchProperty = 2,
-    /// The octets are no data, not of the kind that the property has, or not Enumerated 0 or 1 for the present-value of a
+    /// The octets are not data, or not of the property's kind, or not Enumerated 0 or 1 for the present-value of a
     /// binary-value.
     #[error("a value that the property cannot have")]
     BadValue = 3,
     /// More octets than [`VALUE_LIMIT`](crate::VALUE_LIMIT) for a property, or [`FILE_LIMIT`](crate::FILE_LIMIT) for a file.
     #[error("too many octets")]
     TooLong = 4,
-    /// The change could be made, and the allocation for its octets was refused. Tested last.
+    /// The change is valid, but an allocation failed. This is tested last.
     #[error("no memory")]
     NoMemory = 5,
 }
 
 impl ChangeFault {
-    /// The number of the fault, 1 to 5 (own numbers of this profile).
+    /// The number of the fault, 1 to 5, by which it is printed (own numbers of this profile).
     pub fn number(self) -> u8
         ensures { result ≡ change_fault_number self }
     {

@@ -1,4 +1,4 @@
-//! Changes, made in place.
+//! Changes of objects in place.
 ghost use Rattle.std.specs.Prelude.{◌≡◌, ◌+◌, ◌<◌, ◌≤◌, map, length};
 ghost use Rattle.std.specs.List.{AllPairs};
 ghost use Rattle.bac_value.specs.Views.{object_identifier_view};
@@ -41,7 +41,7 @@ pub(crate) fn set_values(
     }
 }
 
-/// Writes new octets of a file.
+/// Writes new octets to a file.
 pub(crate) fn set_octets(objects: &mut [StoredObject], object: ObjectIdentifier, splice: Splice)
     requires order { IsInOrder (map entry_view objects.old) }
     requires short { splice.at + length splice.new.items ≤ FILE_LIMIT }
@@ -57,7 +57,7 @@ pub(crate) fn set_octets(objects: &mut [StoredObject], object: ObjectIdentifier,
     }
 }
 
-/// Sets all octets of a file.
+/// Replaces all octets of a file.
 pub(crate) fn set_contents(objects: &mut [StoredObject], object: ObjectIdentifier, octets: Vec<u8>)
     requires { IsInOrder (map entry_view objects.old) }
     ensures { map entry_view objects.new

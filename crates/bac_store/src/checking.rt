@@ -1,4 +1,4 @@
-//! Which objects a store can have.
+//! The objects that a store can contain.
 ghost use Rattle.std.specs.Prelude.{◌≡◌, ◌≤◌, ◌↔◌, true, IsTrue, length};
 ghost use Rattle.std.specs.List.{All};
 ghost use Rattle.std.specs.Option.{option_map};
@@ -19,10 +19,10 @@ use crate::limits::{
 use crate::object::{File, Property};
 use bac_value::{ObjectIdentifier, kinds};
 
-/// The octets of a name's spelling beside the text: a tag, a long length and the character set.
+/// How many octets the spelling of a name takes beside the text: a tag, a long length and the character set.
 const NAME_OVERHEAD: usize = 5;
 
-/// Whether an object may have the identifier: a type of the profile, and an instance that does not stand for any.
+/// Whether an object may have this identifier: a type of the profile, and an instance other than the wildcard.
 pub(crate) fn is_right_id(id: ObjectIdentifier) -> bool
     ensures { result ≡ id_in (object_identifier_view id) }
 {
@@ -41,7 +41,7 @@ pub(crate) fn is_right_name(name: &str) -> bool
     name.len() <= VALUE_LIMIT - NAME_OVERHEAD
 }
 
-/// Whether the values are those that a type of object has at a property.
+/// Whether these values are valid for a property of an object of this type.
 fn are_right_values(kind: u16, number: u32, values: &[u8]) -> bool
     ensures { result ≡ values_in kind number values.now }
 {
@@ -53,7 +53,7 @@ fn are_right_values(kind: u16, number: u32, values: &[u8]) -> bool
     }
 }
 
-/// Whether a type of object may have the property, with these values.
+/// Whether an object of this type may have the property, with these values.
 fn is_right_property(kind: u16, property: &Property) -> bool
     ensures { result ≡ property_in kind (property_view property.now) }
 {
@@ -67,7 +67,7 @@ fn is_right_property(kind: u16, property: &Property) -> bool
         && are_right_values(kind, property.number, values)
 }
 
-/// Whether a type of object may have each of these properties.
+/// Whether an object of this type may have all of these properties.
 pub(crate) fn are_right_properties(kind: u16, properties: &[Property]) -> bool
     ensures { IsTrue result ↔ All (λ p. IsTrue (property_in kind (property_view p))) properties.now }
 {
@@ -76,7 +76,7 @@ pub(crate) fn are_right_properties(kind: u16, properties: &[Property]) -> bool
         .all(|property| is_right_property(kind, property))
 }
 
-/// Whether a type of object may have the octets of a file, or none.
+/// Whether an object of this type may have these contents of a file, or none.
 pub(crate) fn is_right_file(kind: u16, file: &Option<File>) -> bool
     ensures { result ≡ file_in kind (option_map file_view file.now) }
 {

@@ -1,4 +1,4 @@
-//! Whether the objects of two stores are equal.
+//! Comparison of the objects of two stores.
 ghost use Rattle.std.specs.Prelude.{◌≡◌, map, MatchBool};
 ghost use Rattle.std.specs.Option.{option_map};
 ghost use Rattle.bac_store.specs.Views.{entry_view, file_view, slot_view};
@@ -44,7 +44,7 @@ fn is_same_file(file: &File, other: &File) -> bool
     file.octets == other.octets
 }
 
-/// Whether neither object is a file, or both have equal octets and marks.
+/// Whether neither object is a file, or both have equal contents and flags.
 fn are_same_files(file: &Option<File>, other: &Option<File>) -> bool
     ensures { MatchBool result (option_map file_view file.now ≡ option_map file_view other.now)
         (option_map file_view file.now ≡ option_map file_view other.now → ⊥) }

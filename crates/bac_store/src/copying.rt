@@ -1,4 +1,4 @@
-//! Copies.
+//! Copies of objects.
 ghost use Rattle.std.specs.Prelude.{◌≡◌, ◌≤◌, length, map, IfOk, OnErr};
 ghost use Rattle.std.specs.Option.{option_map};
 ghost use Rattle.bac_store.specs.Views.{entry_view, file_view, slot_view};
@@ -8,7 +8,7 @@ use crate::object::File;
 use bac_value::NoMemory;
 use std::alloc::Global;
 
-/// A copy of octets, in one allocation where there are any, otherwise in none.
+/// Copies octets, in one allocation if there are any and in none otherwise.
 pub(crate) fn copied_octets(alloc: Global, octets: &[u8]) -> Result<Vec<u8>, NoMemory>
     ensures same { IfOk result (λ v. v.items ≡ octets.now) }
     ensures held { OnErr result (1 ≤ length octets.now) }
@@ -68,7 +68,7 @@ fn copied_entry(alloc: Global, entry: &StoredObject) -> Result<StoredObject, NoM
     })
 }
 
-/// Equal objects.
+/// Copies objects.
 pub(crate) fn copied(alloc: Global, objects: &[StoredObject]) -> Result<Vec<StoredObject>, NoMemory>
     ensures same { IfOk result (λ v. map entry_view v.items ≡ map entry_view objects.now) }
     ensures some { OnErr result (1 ≤ length objects.now) }

@@ -1,8 +1,8 @@
-//! Objects as a store holds them.
+//! Objects as a store keeps them.
 use crate::object::File;
 use bac_value::{DataBuf, ObjectIdentifier};
 
-/// A listed property, with the application tag that its values must have, if they must have one.
+/// A listed property, with the application tag that its values must have, if any.
 #[derive(Debug, Drop)]
 pub(crate) struct StoredProperty {
     pub number: u32,
@@ -11,7 +11,7 @@ pub(crate) struct StoredProperty {
     pub kind: Option<u8>,
 }
 
-/// An object whose properties stand in ascending order.
+/// An object whose properties are in ascending order.
 #[derive(Debug, Drop)]
 pub(crate) struct StoredObject {
     pub id: ObjectIdentifier,

@@ -19,7 +19,7 @@ use bac_service::{AnyComplex, AnyReply, FileRead, OwnedReply, ReadAccess};
 use bac_value::{NoMemory, OctetString};
 use std::alloc::Global;
 
-/// The reply with the octets of a file from a place on, so many or as many as are left, and whether they reach the end.
+/// The reply with at most `count` octets of a file from a position on, and whether they reach the end of the file.
 fn stream_reply(
     alloc: Global,
     octets: &[u8],
@@ -43,7 +43,7 @@ fn stream_reply(
     Ok(AnyReply::Complex(AnyComplex::FileRead(read)))
 }
 
-/// The reply to a read of this file.
+/// The reply to a request to read this file.
 pub(crate) fn read_file(
     alloc: Global,
     file: &File,
@@ -65,7 +65,7 @@ pub(crate) fn read_file(
     }
 }
 
-/// The octet that a position to write at is; None where it is below -1 or after the end.
+/// The position that a start position of a write stands for; None if it is below -1 or after the end.
 fn start_place(octets: &[u8], start: i64) -> Option<usize>
     ensures { MatchOption result (is_no_write_start start octets.now ≡ true)
         (λ at. (is_no_write_start start octets.now ≡ false) × (at ≡ write_start start octets.now) × (at ≤ length octets.now)) }
@@ -79,7 +79,7 @@ fn start_place(octets: &[u8], start: i64) -> Option<usize>
     Some(start as usize)
 }
 
-/// The octet that a write to this file begins with, or why it is refused.
+/// The position at which a write to this file begins, or why the write is refused.
 pub(crate) fn write_place(file: &File, start: i64, new: &[u8]) -> Result<usize, Refusal>
     requires { length file.now.octets.items ≤ FILE_MOST }
     ensures { MatchResult result

@@ -1,4 +1,4 @@
-//! The house store.
+//! The example store of a house.
 ghost use Rattle.std.specs.Prelude.{◌≡◌, List, ℕ, IfOk};
 ghost use Rattle.bac_value.specs.Value.{Datum};
 ghost use Rattle.bac_value.specs.Views.{value_view};
@@ -16,7 +16,7 @@ use crate::store::Store;
 use bac_value::{CharacterString, NoMemory, ObjectIdentifier, Value};
 use std::alloc::Global;
 
-/// A property of one application value.
+/// A property with one application value.
 fn listed(alloc: Global, number: u32, value: &Value, writable: bool) -> Result<Property, NoMemory>
     ensures { IfOk result (λ p. property_view p
         ≡ record {
@@ -118,8 +118,8 @@ fn log(alloc: Global) -> Result<Object, NoMemory>
     })
 }
 
-/// The house: device 1 `house`, analog-input 5 `flow`, analog-value 1 `setpoint`, binary-value 1 `pump` and file 1 `log`. `NoMemory` where memory is
-/// refused.
+/// The example store: device 1 `house`, analog-input 5 `flow`, analog-value 1 `setpoint`, binary-value 1 `pump` and file 1 `log`. Returns
+/// `NoMemory` if an allocation fails.
 pub fn house(alloc: Global) -> Result<Store, NoMemory>
     ensures { IfOk result (λ s. s ≡ house_view) }
 {

@@ -1,4 +1,4 @@
-//! What the values of a property may be.
+//! The kinds of values that properties accept.
 ghost use Rattle.std.specs.Prelude.{◌≡◌};
 ghost use Rattle.bac_service.specs.Views.{property_reference_view};
 ghost use Rattle.bac_store.specs.Stores.{kind_of as kind_in, is_state as is_state_in};
@@ -8,7 +8,7 @@ use crate::limits::{BINARY_VALUE, PRESENT_VALUE, STATE_TAG};
 use bac_service::PropertyReference;
 use bac_value::{Class, take_element};
 
-/// The application tag of data that are one element; None where they are not one.
+/// The application tag of data that consist of one element; None for all other data.
 pub(crate) fn kind_of(values: &[u8]) -> Option<u8>
     ensures { result ≡ kind_in values.now }
 {
@@ -21,7 +21,7 @@ pub(crate) fn kind_of(values: &[u8]) -> Option<u8>
     }
 }
 
-/// Whether data are of the kind that a property asks for.
+/// Whether data are of the kind that a property requires.
 pub(crate) fn is_of_kind(kind: Option<u8>, values: &[u8]) -> bool
     ensures { result ≡ is_of_kind_in kind values.now }
 {

@@ -1,4 +1,4 @@
-//! Laws of the definitions: functions that do nothing, whose contracts are the laws.
+//! Laws of the definitions: empty functions whose contracts are the laws.
 ghost use Rattle.std.specs.Prelude.{◌≡◌, ◌≤◌, ℕ, ℤ, false, List, None, Option, Some};
 ghost use Rattle.bac_service.specs.Values.{choice_of, ReadAccess, Reference, Request};
 ghost use Rattle.bac_service.specs.Values.Request.{ReadFile, ReadProperty, WriteFile, WriteProperty};
@@ -18,21 +18,21 @@ ghost use Rattle.bac_store.specs.Writes.{IsFileChange, IsFileWrite, IsValueWrite
 
 use crate::store::Store;
 
-/// The kind of octets is the number in the tag of the one application value that they are; octets that are none have no kind.
+/// The kind of octets that encode one application value is the number in its tag; other octets have no kind.
 pub fn kinds_are_values()
     ensures value { (values : List ℕ) (k : ℕ) → IsOneValue k values → kind_of values ≡ Some k }
     ensures only { (values : List ℕ) (k : ℕ) → IsBytes values → kind_of values ≡ Some k → IsOneValue k values }
 {}
 
-/// Replies and what follows rest on what is found by identifier and number alone: the order of objects and of their properties
-/// says nothing.
+/// Replies, and the store after a request, depend only on what is found by identifier and number: the order of objects and of
+/// their properties is irrelevant.
 pub fn order_says_nothing()
     ensures replies { (objects s : Objects) → IsStoreOf objects s → (r : Request) → reply_to s r ≡ reply_to objects r }
     ensures after { (objects s : Objects) → IsStoreOf objects s → (r : Request) → IsStoreOf (after objects r) (after s r) }
 {}
 
-/// A write whose reply is no Error changes the values of one listed property, or the octets of one file, and nothing else. An
-/// Error and a read change nothing.
+/// A write whose reply is not an Error changes the values of one listed property, or the octets of one file, and nothing else. A
+/// read, and a request whose reply is an Error, change nothing.
 pub fn writes_change_one_thing()
     ensures values { (s : Objects) (r : Reference) (values : List ℕ) (priority : Option ℕ) → IsGranted s (WriteProperty r values priority)
         → IsValueWrite r values s (after s (WriteProperty r values priority)) }
@@ -43,8 +43,8 @@ pub fn writes_change_one_thing()
     ensures file_read { (s : Objects) (id : ObjectId) (access : ReadAccess) → after s (ReadFile id access) ≡ s }
 {}
 
-/// A change at the node itself gives one listed property other values, or one file other octets, and changes nothing else: marks
-/// and kinds stay. What the network may write of data, the node may set, and it is the same change.
+/// A local change gives one listed property new values, or one file new octets, and changes nothing else: flags and kinds stay.
+/// Data that may be written over the network can also be set by the node, with the same effect.
 pub fn changes_change_one_thing()
     ensures value { (s : Objects) (id : ObjectId) (n : ℕ) (octets : List ℕ)
         → IsValueWrite (whole id n) octets s (changed (Change.Value id n octets) s) }
@@ -55,8 +55,8 @@ pub fn changes_change_one_thing()
         → after s (WriteProperty r values priority) ≡ changed (Change.Value r.object r.property values) s }
 {}
 
-/// A reply of a store is no Reject and fits the service choice of its request: a SimpleACK to WriteProperty, a ComplexACK of that
-/// choice to the other three, or an Error.
+/// A reply of a store is never a Reject, and fits the service choice of its request: a SimpleACK to WriteProperty, a ComplexACK with
+/// that choice to the other three, or an Error.
 pub fn replies_fit_requests()
     ensures { (s : Objects) (r : Request) → FitsChoice (choice_of r) (reply_to s r) }
 {}
@@ -65,6 +65,6 @@ pub fn replies_fit_requests()
 pub fn replies_can_be_sent(store: &Store)
     ensures { (r : Request) → reply_length (reply_to store.now r) ≤ DATA_LIMIT }
 {
-    // the law rests on what the fields of a store keep
+    // the law depends on the invariant of the store's fields
     let _objects = &store.objects;
 }

@@ -1,7 +1,7 @@
 //! The store of a device: objects, properties and files, read and written by the four services (clauses 12, 14 and 15).
 //!
-//! A request is performed in two steps. [`Store::prepare`] makes a plan: the reply, and the change with all its memory.
-//! [`Store::commit`] makes the change; it takes no memory and always succeeds. [`Store::change`] makes a change at the node itself.
+//! A request is performed in two steps. [`Store::prepare`] returns a plan, which contains the reply and the change with all its memory.
+//! [`Store::commit`] makes the change; it does not allocate and always succeeds. [`Store::change`] makes a local change.
 #![tactic(auto)]
 
 mod change;

@@ -1,24 +1,24 @@
-//! The store's limits, and the numbers of its tables (clause 21).
+//! The store's own limits, and the numbers of object types and properties that it knows (clause 21).
 
-/// The most octets of a property's values, and of a name's spelling (own limit).
+/// The greatest length in octets of a property's values, and of an encoded name (own limit).
 pub const VALUE_LIMIT: usize = 4096;
 
-/// The most octets of a file (own limit).
+/// The greatest length of a file in octets (own limit).
 pub const FILE_LIMIT: usize = 60_000;
 
-/// How many instances a type has, that for any instance among them: 22 bits (clause 20.2.14).
+/// How many instance numbers there are, including the wildcard: 22 bits (clause 20.2.14).
 pub(crate) const INSTANCES: u32 = 0x40_0000;
 
-/// The instance that stands for any; no object has it.
+/// The instance number that is a wildcard for any instance; no object has it.
 pub(crate) const ANY_INSTANCE: u32 = 4_194_303;
 
-// the first and the last object type of vendors' own (clause 23.1)
+// the first and the last proprietary object type (clause 23.1)
 
 pub(crate) const FIRST_VENDOR_TYPE: u16 = 128;
 
 pub(crate) const LAST_VENDOR_TYPE: u16 = 1023;
 
-// the first and the last property of vendors' own (clause 23.1)
+// the first and the last proprietary property (clause 23.1)
 
 pub(crate) const FIRST_VENDOR_PROPERTY: u32 = 512;
 
@@ -55,5 +55,5 @@ pub(crate) const PRESENT_VALUE: u32 = 85;
 /// Stream access, the access method of every file (BACnetFileAccessMethod).
 pub(crate) const STREAM_ACCESS: u32 = 1;
 
-/// The octet of a tag for an Enumerated of one octet of contents.
+/// The first octet of an Enumerated with one octet of contents: its tag.
 pub(crate) const STATE_TAG: u8 = 0x91;

@@ -1,5 +1,4 @@
-//! Look-ups: the place of an object and of a listed property, each by halving what is left, and which property of an object a
-//! number is, with a copy of its values.
+//! Look-ups of objects and of listed properties by binary search, the property of an object by its number, and copies of values.
 ghost use Rattle.std.specs.Prelude.{◌≡◌, ◌<◌, ◌≤◌, ◌+◌, ◌*◌, ◌^◌, Some, None, IsSome, IfOk, IfSome, OnErr, MatchOption, map, length};
 ghost use Rattle.std.specs.List.{AllPairs};
 ghost use Rattle.std.specs.Option.{option_map};
@@ -25,21 +24,21 @@ pub(crate) enum Computed {
     Identifier,
     Name,
     Type,
-    /// Of a file.
+    /// A computed property of a file.
     AccessMethod,
-    /// Of a file with so many octets.
+    /// The file-size of a file with this many octets.
     Size(u64),
 }
 
-/// Where the values of a property are.
+/// Where the values of a property come from.
 #[derive(Clone, Copy, Debug, PartialEq, Eq)]
 pub(crate) enum Found {
     Computed(Computed),
-    /// At a place of the object's slots.
+    /// From this place among the object's listed properties.
     Listed(usize),
 }
 
-/// Type and instance as one number (clause 20.2.14).
+/// Type and instance of an identifier as one number (clause 20.2.14).
 pub(crate) fn number_of(id: ObjectIdentifier) -> u32
     ensures { result ≡ object_number (object_identifier_view id) }
 {
@@ -57,7 +56,7 @@ pub(crate) fn place_of(objects: &[StoredObject], id: ObjectIdentifier) -> Option
         .ok()
 }
 
-/// The object of an identifier.
+/// The object with this identifier.
 pub(crate) fn entry_of(objects: &[StoredObject], id: ObjectIdentifier) -> Option<&StoredObject>
     requires { IsInOrder (map entry_view objects.now) }
     ensures found { option_map (λ e. entry_view e.now) result ≡ object_in (map entry_view objects.now) (object_identifier_view id) }
@@ -77,7 +76,7 @@ pub(crate) fn slot_place(slots: &[StoredProperty], number: u32) -> Option<usize>
     slots.binary_search_by_key(&number, |slot| slot.number).ok()
 }
 
-/// The property of a number, if the object has one.
+/// The property with this number, if the object has one.
 pub(crate) fn find(entry: &StoredObject, number: u32) -> Option<Found>
     requires { IsKept (entry_view entry.now) }
     ensures { MatchOption result (property_in (entry_view entry.now) number ≡ None)
@@ -102,7 +101,7 @@ pub(crate) fn find(entry: &StoredObject, number: u32) -> Option<Found>
     }
 }
 
-/// A copy of a computed value.
+/// An owned copy of a computed value.
 fn computed_values(alloc: Global, entry: &StoredObject, own: Computed) -> Result<DataBuf, NoMemory>
     requires { IsKept (entry_view entry.now) }
     ensures { IfOk result (λ d. d.octets.items ≡ value_spelling (computed_value (entry_view entry.now) own)) }
@@ -116,7 +115,7 @@ fn computed_values(alloc: Global, entry: &StoredObject, own: Computed) -> Result
     }
 }
 
-/// A copy of a property's values.
+/// An owned copy of a property's values.
 #[tactic(auto, using(crate::proofs::ReplySizes::value_some))]
 pub(crate) fn values_of(
     alloc: Global,

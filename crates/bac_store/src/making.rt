@@ -1,4 +1,4 @@
-//! A store's objects, made of objects in order.
+//! Making the objects of a store.
 ghost use Rattle.std.specs.Prelude.{◌≡◌, map, IfOk};
 ghost use Rattle.bac_store.specs.Views.{entry_view, object_view, property_view, slot_view};
 

@@ -1,4 +1,4 @@
-//! The order of objects and of their properties.
+//! Sorting objects and their properties.
 ghost use Rattle.std.specs.Prelude.{◌≡◌, ◌≢◌, ◌<◌, map, length, MatchBool};
 ghost use Rattle.std.specs.List.{AllPairs};
 ghost use Rattle.std.specs.List.Sorted.{IsNonDecreasingBy, IsPermutation};
@@ -11,7 +11,7 @@ use crate::checking::{are_right_properties, is_right_file, is_right_id, is_right
 use crate::lookups::number_of;
 use crate::object::{Object, Property};
 
-/// Puts objects in the order of their identifiers.
+/// Sorts objects by identifier.
 pub(crate) fn sort_objects(objects: &mut [Object])
     ensures same { IsPermutation objects.old objects.new }
     ensures sorted { IsNonDecreasingBy (λ o. object_number (object_identifier_view o.id)) objects.new }
@@ -19,7 +19,7 @@ pub(crate) fn sort_objects(objects: &mut [Object])
     objects.sort_unstable_by_key(|object| number_of(object.id));
 }
 
-/// Whether objects in order have each an identifier of their own.
+/// Whether sorted objects all have different identifiers.
 pub(crate) fn are_distinct(objects: &[Object]) -> bool
     requires { IsNonDecreasingBy (λ o. object_number (object_identifier_view o.id)) objects.now }
     ensures { MatchBool result (AllPairs (λ a b. object_number (object_identifier_view a.id) < object_number (object_identifier_view b.id)) objects.now)
@@ -33,7 +33,7 @@ pub(crate) fn are_distinct(objects: &[Object]) -> bool
     true
 }
 
-/// Puts properties in the order of their numbers.
+/// Sorts properties by number.
 fn sort_properties(properties: &mut [Property])
     ensures same { IsPermutation properties.old properties.new }
     ensures sorted { IsNonDecreasingBy (λ p. p.number) properties.new }
@@ -41,7 +41,7 @@ fn sort_properties(properties: &mut [Property])
     properties.sort_unstable_by_key(|property| property.number);
 }
 
-/// Whether properties in order have each a number of their own.
+/// Whether sorted properties all have different numbers.
 fn are_listed_once(properties: &[Property]) -> bool
     requires { IsNonDecreasingBy (λ p. p.number) properties.now }
     ensures { MatchBool result (AllPairs (λ p q. p.number < q.number) properties.now)
@@ -55,7 +55,7 @@ fn are_listed_once(properties: &[Property]) -> bool
     true
 }
 
-/// Puts the properties of an object in order and checks the object: whether a store can have it.
+/// Sorts the properties of an object and checks whether a store can contain the object.
 fn sort_and_check(object: &mut Object) -> bool
     ensures { SortsObject result (object_view object.old) (object_view object.new) }
 {
@@ -75,7 +75,7 @@ fn sort_and_check(object: &mut Object) -> bool
     are_right_properties(object.id.kind, &object.properties)
 }
 
-/// Puts the properties of each object in order and checks the object, up to the first that no store can have; whether there is none.
+/// Sorts and checks each object, up to the first that a store can't contain. Returns whether a store can contain all of them.
 pub(crate) fn sort_and_check_each(objects: &mut [Object]) -> bool
     ensures { SortsObjects result objects.old objects.new }
 {

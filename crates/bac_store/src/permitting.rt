@@ -1,4 +1,4 @@
-//! Which changes may be made at the node itself.
+//! Which local changes are valid.
 ghost use Rattle.std.specs.Prelude.{◌≡◌, ◌≤◌, true, false, None, Some, length, map, MatchOption, MatchResult};
 ghost use Rattle.bac_service.specs.Views.{property_reference_view};
 ghost use Rattle.bac_store.specs.AtNode.{change_fault, is_data, value_fault, Change as ChangeView};
@@ -16,7 +16,7 @@ use crate::preparing::file_of;
 use bac_service::PropertyReference;
 use bac_value::{Data, ObjectIdentifier, take_data};
 
-/// Octets that are data, all of them.
+/// The octets as data, if all of them are data.
 fn whole_data(octets: &[u8]) -> Option<Data<'_>>
     ensures { MatchOption result (is_data octets.now ≡ false) (λ d. (is_data octets.now ≡ true) × (d.octets.now ≡ octets.now)) }
 {
@@ -26,7 +26,7 @@ fn whole_data(octets: &[u8]) -> Option<Data<'_>>
     }
 }
 
-/// The octets as values of a listed property, or why they are none.
+/// The octets as values of a listed property, or why they are not valid.
 fn values_for<'a>(
     slot: &StoredProperty,
     reference: PropertyReference,
@@ -50,7 +50,7 @@ fn values_for<'a>(
     Ok(data)
 }
 
-/// The octets as other values of a listed property of an object, or why they are none.
+/// The octets as new values of a listed property of an object, or why they are not valid.
 pub(crate) fn permitted_values<'a>(
     objects: &[StoredObject],
     object: ObjectIdentifier,
@@ -77,7 +77,7 @@ pub(crate) fn permitted_values<'a>(
     values_for(&entry.slots[at], reference, octets)
 }
 
-/// Whether other octets may be those of a file, or why not.
+/// Whether the octets are valid new contents of a file, or why not.
 pub(crate) fn permit_contents(
     objects: &[StoredObject],
     object: ObjectIdentifier,

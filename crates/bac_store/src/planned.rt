@@ -1,4 +1,4 @@
-//! A plan: the reply to a request, and the effect that it has.
+//! Plans: the reply to a request, and its effect.
 ghost use Rattle.std.specs.Prelude.{◌≡◌};
 ghost use Rattle.bac_service.specs.Views.{reply_view};
 
@@ -7,8 +7,8 @@ use bac_service::{OwnedReply, Reply};
 use bac_value::{DataBuf, ObjectIdentifier};
 use std::marker::Model;
 
-/// What becomes of the objects: nothing, or other values of one listed property, new octets of one file from a place on, or other
-/// octets in the place of all of a file.
+/// The effect on the objects: none, new values of one listed property, new octets of one file from a position on, or new contents
+/// that replace all of a file.
 #[derive(Debug, Drop)]
 pub(crate) enum Effect {
     Nothing,
@@ -27,8 +27,7 @@ pub(crate) enum Effect {
     },
 }
 
-/// What a store does on a request, before it is done: the reply, and the effect with all its memory. A plan that is dropped
-/// changes nothing.
+/// What a store will do for a request: the reply, and the effect with all its memory. Dropping a plan changes nothing.
 #[derive(Drop)]
 pub struct Planned {
     pub(crate) reply: OwnedReply,
@@ -50,7 +49,7 @@ impl Model for Planned {
 }
 
 impl Planned {
-    /// Lends the reply. It takes no memory.
+    /// Borrows the reply. It does not allocate.
     pub fn reply(&self) -> Reply<'_>
         ensures { reply_view result ≡ self.now.reply }
     {

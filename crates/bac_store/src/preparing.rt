@@ -39,7 +39,7 @@ fn answered(reply: OwnedReply) -> Planned
     }
 }
 
-/// A plan for a read of a property (clause 15.5).
+/// A plan for reading a property (clause 15.5).
 pub(crate) fn plan_read_property(
     alloc: Global,
     objects: &[StoredObject],
@@ -59,7 +59,7 @@ pub(crate) fn plan_read_property(
     }
 }
 
-/// A plan for a write of a property (clause 15.9).
+/// A plan for writing a property (clause 15.9).
 pub(crate) fn plan_write_property(
     alloc: Global,
     objects: &[StoredObject],
@@ -91,7 +91,7 @@ pub(crate) fn plan_write_property(
     })
 }
 
-/// The file of an identifier.
+/// The file with this identifier.
 pub(crate) fn file_of(objects: &[StoredObject], id: ObjectIdentifier) -> Option<&File>
     requires { IsInOrder (map entry_view objects.now) }
     ensures found { option_map (λ f. file_view f.now) result ≡ file_in (object_in (map entry_view objects.now) (object_identifier_view id)) }
@@ -103,7 +103,7 @@ pub(crate) fn file_of(objects: &[StoredObject], id: ObjectIdentifier) -> Option<
     }
 }
 
-/// A plan for a read of a file (clause 14.1).
+/// A plan for reading a file (clause 14.1).
 pub(crate) fn plan_read_file(
     alloc: Global,
     objects: &[StoredObject],
@@ -123,7 +123,7 @@ pub(crate) fn plan_read_file(
     }
 }
 
-/// A plan for a write of octets to a file that is there.
+/// A plan for writing octets to a file that exists.
 fn plan_write_stream(
     alloc: Global,
     id: ObjectIdentifier,
@@ -147,7 +147,7 @@ fn plan_write_stream(
     }
 }
 
-/// A plan for a write of a file (clause 14.2).
+/// A plan for writing to a file (clause 14.2).
 pub(crate) fn plan_write_file(
     alloc: Global,
     objects: &[StoredObject],

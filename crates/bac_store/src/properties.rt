@@ -20,7 +20,7 @@ use bac_service::{AnyComplex, AnyReply, OwnedReply, PropertyRead, PropertyRefere
 use bac_value::NoMemory;
 use std::alloc::Global;
 
-/// The reply to a read of a property of this object.
+/// The reply to a request to read a property of this object.
 pub(crate) fn read_property(
     alloc: Global,
     entry: &StoredObject,
@@ -44,7 +44,7 @@ pub(crate) fn read_property(
     Ok(AnyReply::Complex(AnyComplex::PropertyRead(PropertyRead { reference, values })))
 }
 
-/// Why a listed property is not written; None where it is.
+/// Why a listed property is not written; None if it is written.
 fn slot_refusal(
     slot: &StoredProperty,
     reference: PropertyReference,
@@ -81,7 +81,7 @@ fn computed_refusal(reference: PropertyReference) -> Refusal
     }
 }
 
-/// Why a property of this object is not written; None where it is.
+/// Why a property of this object is not written; None if it is written.
 pub(crate) fn write_refusal(
     entry: &StoredObject,
     reference: PropertyReference,

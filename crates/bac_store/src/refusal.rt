@@ -1,11 +1,11 @@
-//! Why a request is answered with an Error.
+//! Why the reply to a request is an Error.
 ghost use Rattle.std.specs.Prelude.{◌≡◌};
 ghost use Rattle.bac_service.specs.Views.{owned_reply_view};
 ghost use Rattle.bac_store.specs.Answers.{refused};
 
 use bac_service::{AnyReply, OwnedReply};
 
-/// Why a request is answered with an Error (clause 18).
+/// Why the reply to a request is an Error (clause 18).
 #[derive(Clone, Copy, Debug, PartialEq, Eq)]
 pub(crate) enum Refusal {
     UnknownObject,
@@ -21,7 +21,7 @@ pub(crate) enum Refusal {
 }
 
 impl Refusal {
-    /// The Error's class and code.
+    /// The error class and the error code.
     pub(crate) fn reply(self) -> OwnedReply
         ensures { owned_reply_view result ≡ refused self }
     {

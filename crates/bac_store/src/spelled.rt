@@ -1,4 +1,4 @@
-//! Computed values as data.
+//! Computed values, encoded as data.
 ghost use Rattle.std.specs.Prelude.{◌≡◌, ◌<◌, ◌+◌, ◌^◌, length, IfOk};
 ghost use Rattle.std.specs.String.{string_bytes};
 ghost use Rattle.bac_value.specs.Value.{characters};
@@ -9,7 +9,7 @@ ghost use Rattle.bac_store.specs.Limits.{VALUE_LIMIT};
 use bac_value::{CharacterString, DataBuf, NoMemory, Value, write_value};
 use std::alloc::Global;
 
-/// A value as data: its one spelling.
+/// A value encoded as data.
 pub(crate) fn spelled(alloc: Global, value: &Value) -> Result<DataBuf, NoMemory>
     ensures { IfOk result (λ d. d.octets.items ≡ value_spelling (value_view value.now)) }
 {
@@ -18,7 +18,7 @@ pub(crate) fn spelled(alloc: Global, value: &Value) -> Result<DataBuf, NoMemory>
     Ok(DataBuf { octets })
 }
 
-/// A text of character set 0 as data.
+/// A text in character set 0, encoded as data.
 pub(crate) fn spelled_text(alloc: Global, text: &str) -> Result<DataBuf, NoMemory>
     requires { length text.now < VALUE_LIMIT }
     ensures { IfOk result (λ d. d.octets.items ≡ value_spelling (characters 0 text.now)) }

@@ -1,4 +1,4 @@
-//! New octets of a file, with all the memory that a write of them takes.
+//! New octets for a file, with all the memory that writing them takes.
 ghost use Rattle.std.specs.Prelude.{◌≡◌, ◌+◌, ◌*◌, ◌<◌, ◌≤◌, ◌++◌, [], length, take, IfOk, OnErr, vec_capacity};
 ghost use Rattle.bac_store.specs.Limits.{FILE_LIMIT as FILE_MOST};
 ghost use Rattle.bac_store.specs.Replies.{overwritten};
@@ -8,8 +8,8 @@ use crate::limits::FILE_LIMIT;
 use bac_value::NoMemory;
 use std::alloc::Global;
 
-/// New octets of a file, and the place that they begin at. The file's own vector may have no room for those after its end: so
-/// there is room for the new ones and all in front of them. Where they begin the file none is needed: they can be the file's.
+/// New octets for a file, and the position at which they begin. The file's own vector may have no room for octets after its end, so
+/// there is room for the new ones and all that precede them. At position 0 no more is needed, as they can become the file's vector.
 #[derive(Debug, Drop)]
 pub(crate) struct Splice {
     pub at: usize,
@@ -19,7 +19,7 @@ pub(crate) struct Splice {
     ghost wide: { 1 ≤ at → at + length new.items ≤ vec_capacity room },
 }
 
-/// For how many octets there is room: twice as many as it takes, so that a file that grows is seldom copied.
+/// How many octets to reserve: twice as many as needed, so that a growing file is seldom copied.
 fn room_for(at: usize, new: &[u8]) -> usize
     requires short { at + length new.now ≤ FILE_MOST }
     ensures wide { 1 ≤ at → at + length new.now ≤ result }
@@ -31,7 +31,7 @@ fn room_for(at: usize, new: &[u8]) -> usize
     FILE_LIMIT.min(2 * (at + new.len()))
 }
 
-/// Appends octets for which there is room.
+/// Appends octets, for which there is room.
 fn put(out: &mut Vec<u8>, octets: &[u8])
     requires { length out.old.items + length octets.now ≤ vec_capacity out.old }
     ensures items { out.new.items ≡ out.old.items ++ octets.now }
@@ -43,7 +43,7 @@ fn put(out: &mut Vec<u8>, octets: &[u8])
     }
 }
 
-/// Puts new octets in the place of all from one on, in the file's own vector where it has the room.
+/// Replaces all octets from a position on, in the file's own vector if that has room.
 fn write_end(octets: &mut Vec<u8>, at: usize, new: &[u8], room: Vec<u8>)
     requires empty { room.items ≡ [] }
     requires wide { at + length new.now ≤ vec_capacity room }
@@ -59,7 +59,7 @@ fn write_end(octets: &mut Vec<u8>, at: usize, new: &[u8], room: Vec<u8>)
 }
 
 impl Splice {
-    /// Copies the new octets, and makes the room.
+    /// Copies the new octets and reserves the room.
     pub(crate) fn new(alloc: Global, at: usize, new: &[u8]) -> Result<Splice, NoMemory>
         requires short { at + length new.now ≤ FILE_MOST }
         ensures at { IfOk result (λ s. s.at ≡ at) }
@@ -71,7 +71,7 @@ impl Splice {
         Ok(Splice { at, new, room })
     }
 
-    /// Writes the new octets over those of a file, and after them; what comes after those stays. It takes no memory.
+    /// Overwrites octets of a file with the new ones, possibly beyond its end; octets after those stay. It does not allocate.
     pub(crate) fn write(self, octets: &mut Vec<u8>)
         requires short { self.at + length self.new.items ≤ FILE_MOST }
         ensures { octets.new.items ≡ overwritten self.at self.new.items octets.old.items }

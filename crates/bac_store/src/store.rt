@@ -29,7 +29,7 @@ use bac_value::{NoMemory, ObjectIdentifier};
 use std::alloc::Global;
 use std::marker::Model;
 
-/// Objects, their properties and their files, in ascending order of object and property, so that look-ups halve what is left.
+/// The objects of a device with their properties and files, in ascending order of object and property for binary searches.
 #[derive(Drop)]
 pub struct Store {
     pub(crate) objects: Vec<StoredObject>,
@@ -50,18 +50,18 @@ impl Model for Store {
 }
 
 impl Store {
-    /// The store of some objects, in any order.
+    /// Creates a store from some objects, in any order.
     ///
-    /// `Duplicate` exactly where two objects have one identifier; otherwise `BadObject` exactly where one has
+    /// Returns `Duplicate` exactly if two objects have the same identifier; otherwise `BadObject` exactly if an object has
     ///
     /// - a type other than 0, 2, 5, 8, 10 and 128 to 1,023, or instance 4,194,303;
-    /// - a name or values whose spelling is longer than [`VALUE_LIMIT`](crate::VALUE_LIMIT);
-    /// - a listed property other than 28, 85 and 512 to 4,194,303, or one that is listed twice;
-    /// - a 28 that is not one CharacterString, an 85 of types 0 and 2 that is not one Real, an 85 of type 5 that is not Enumerated
-    ///   0 or 1;
-    /// - a file where its type is not 10, none where it is, or more than [`FILE_LIMIT`](crate::FILE_LIMIT) octets of one.
+    /// - a name or values whose encoding is longer than [`VALUE_LIMIT`](crate::VALUE_LIMIT);
+    /// - a listed property other than 28, 85 and 512 to 4,194,303, or the same one twice;
+    /// - a property 28 that is not one CharacterString, an 85 of types 0 and 2 that is not one Real, or an 85 of type 5 that is not
+    ///   Enumerated 0 or 1;
+    /// - contents of a file although its type is not 10, none although it is, or more than [`FILE_LIMIT`](crate::FILE_LIMIT) octets.
     ///
-    /// `NoMemory` is tested last.
+    /// Returns `NoMemory` if the objects are valid and an allocation fails.
     pub fn new(alloc: Global, objects: Vec<Object>) -> Result<Store, StoreFault>
         ensures { MatchResult result (λ s. IsMadeOf (map object_view objects.items) s) (λ e. IsRefused (map object_view objects.items) e) }
     {
@@ -76,7 +76,7 @@ impl Store {
         Ok(Store::of_ordered(alloc, objects)?)
     }
 
-    /// The store of objects that are right and in order.
+    /// The store of valid objects that are in order.
     pub(crate) fn of_ordered(alloc: Global, objects: Vec<Object>) -> Result<Store, NoMemory>
         requires { IsInOrder (map object_view objects.items) }
         ensures { IfOk result (λ s. s ≡ map object_view objects.items) }
@@ -85,10 +85,10 @@ impl Store {
         Ok(Store { objects })
     }
 
-    /// The plan for a request, with all the memory that its reply and its effect take. The store is as before.
+    /// The plan for a request, with all the memory that its reply and its effect need. The store is unchanged.
     ///
-    /// The reply is an Error in the cases of docs/PROTOCOL.md, "Replies"; then, and on a read, the plan changes nothing. `NoMemory`
-    /// comes last, only where the reply is no Error, and only where the reply or the effect holds octets.
+    /// The reply is an Error in the cases of docs/PROTOCOL.md, "Replies". If it is an Error, and for a read, the plan changes nothing.
+    /// `NoMemory` is tested last; it is returned only if the reply is not an Error and the reply or the effect contains octets.
     pub fn prepare(&self, alloc: Global, request: &Request<'_>) -> Result<Planned, NoMemory>
         ensures plan { IfOk result (λ p. IsPlanFor self.now (request_view request.now) p) }
         ensures last { OnErr result (IsGranted self.now (request_view request.now)) }
@@ -103,7 +103,7 @@ impl Store {
         }
     }
 
-    /// Makes the effect of a plan that was prepared on the store as it now is, and hands the plan's reply out. It takes no memory.
+    /// Applies the effect of a plan that was prepared on the store in its current state, and returns the reply. It does not allocate.
     pub fn commit(&mut self, plan: Planned) -> OwnedReply
         requires prepared { IsPlanOn self.old plan }
         ensures reply { owned_reply_view result ≡ plan.reply }
@@ -115,7 +115,7 @@ impl Store {
         reply
     }
 
-    /// Makes an effect.
+    /// Applies an effect.
     fn make(&mut self, effect: Effect)
         requires { Fits (effect_view effect) }
         ensures { self.new ≡ with_effect (effect_view effect) self.old }
@@ -132,8 +132,8 @@ impl Store {
         }
     }
 
-    /// Prepares a request and makes the effect of its plan; the plan's reply. It takes the memory of the plan alone. After an Err
-    /// the store is as before; `NoMemory` comes last, as of [`Store::prepare`].
+    /// Prepares a request, applies the effect of its plan, and returns the reply. Only the plan allocates. After an `Err` the store is
+    /// unchanged; `NoMemory` is tested last, as in [`Store::prepare`].
     pub fn perform(&mut self, alloc: Global, request: &Request<'_>) -> Result<OwnedReply, NoMemory>
         ensures reply { IfOk result (λ r. owned_reply_view r ≡ reply_to self.old (request_view request.now)) }
         ensures after { OnOk result (self.new ≡ after self.old (request_view request.now)) }
@@ -146,12 +146,12 @@ impl Store {
         Ok(reply)
     }
 
-    /// Sets the values of a listed property at the node itself, whether or not the network may write them. The octets are data
-    /// (clause 20.2) as WriteProperty takes them: of the kind that the property has (a property without a kind takes any data),
-    /// Enumerated 0 or 1 for the present-value of a binary-value, and at most [`VALUE_LIMIT`](crate::VALUE_LIMIT) of them.
+    /// Sets the values of a listed property locally, whether or not it may be written over the network. The octets are data
+    /// (clause 20.2) as WriteProperty takes them: of the property's kind (a property without a kind takes any data), Enumerated
+    /// 0 or 1 for the present-value of a binary-value, and at most [`VALUE_LIMIT`](crate::VALUE_LIMIT) of them.
     ///
-    /// The faults are tested in the order of their numbers, and memory last: one copy of the octets. After an Err the store is as
-    /// before.
+    /// The faults are tested in the order of their numbers, and the allocation of one copy of the octets last. After an `Err` the store
+    /// is unchanged.
     pub fn set_value(
         &mut self,
         alloc: Global,
@@ -174,11 +174,11 @@ impl Store {
         Ok(())
     }
 
-    /// Sets all octets of a file at the node itself, whether or not the network may write it: at most
-    /// [`FILE_LIMIT`](crate::FILE_LIMIT).
+    /// Replaces all octets of a file locally, whether or not it may be written over the network: by at most
+    /// [`FILE_LIMIT`](crate::FILE_LIMIT) octets.
     ///
-    /// `NoSuchObject` where no object has the identifier, or it is no file; `TooLong`; and `NoMemory` last, for one copy of the
-    /// octets. After an Err the store is as before.
+    /// Returns `NoSuchObject` if no object has this identifier, or it is not a file; `TooLong`; and last `NoMemory`, if the allocation
+    /// of one copy of the octets fails. After an `Err` the store is unchanged.
     pub fn set_file(
         &mut self,
         alloc: Global,
@@ -196,7 +196,7 @@ impl Store {
         Ok(())
     }
 
-    /// Makes a change at the node itself: [`Store::set_value`] or [`Store::set_file`].
+    /// Makes a local change: [`Store::set_value`] or [`Store::set_file`].
     pub fn change(&mut self, alloc: Global, change: &Change) -> Result<(), ChangeFault>
         ensures may { OnOk result (change_fault self.old (change_view change.now) ≡ None) }
         ensures made { OnOk result (self.new ≡ changed (change_view change.now) self.old) }
@@ -213,8 +213,8 @@ impl Store {
         }
     }
 
-    /// Why a change at the node itself would not be made, were there memory: the first fault of those of [`Store::change`]. It takes
-    /// no memory.
+    /// Why a local change would not be made, apart from failed allocations: the first fault of [`Store::change`]. It does not
+    /// allocate.
     pub fn fault_of(&self, change: &Change) -> Option<ChangeFault>
         ensures { result ≡ change_fault self.now (change_view change.now) }
     {
@@ -232,14 +232,14 @@ impl Store {
         }
     }
 
-    /// How many objects it has.
+    /// The number of objects.
     pub fn object_count(&self) -> usize
         ensures { result ≡ length self.now }
     {
         self.objects.len()
     }
 
-    /// An equal store. An Err where memory ran out, which it cannot for a store without objects; this store is as before.
+    /// Copies the store. Returns an `Err` if an allocation fails, which can't happen for a store without objects.
     pub fn copy(&self, alloc: Global) -> Result<Store, NoMemory>
         ensures same { IfOk result (λ s. s ≡ self.now) }
         ensures some { OnErr result (1 ≤ length self.now) }
@@ -248,7 +248,7 @@ impl Store {
         Ok(Store { objects })
     }
 
-    /// Whether both stores are equal: the same objects, with equal names, properties, marks and files. It goes over both once.
+    /// Whether two stores are equal: the same objects, with equal names, properties, flags and files. It passes over both once.
     pub fn same(&self, other: &Store) -> bool
         ensures { IsTrue result ↔ (self.now ≡ other.now) }
     {

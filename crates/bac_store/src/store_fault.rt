@@ -1,21 +1,21 @@
-//! Why no store was made.
+//! Why a store is not created.
 ghost use Rattle.std.specs.Prelude.{◌≡◌};
 ghost use Rattle.bac_store.specs.declared.store_fault.StoreFault.TheVariants as fault;
 
 use bac_value::NoMemory;
 use thiserror::Error;
 
-/// Why no store was made of some objects.
+/// Why a store is not created from some objects.
 #[derive(Clone, Copy, Debug, PartialEq, Eq, Error)]
 pub enum StoreFault {
-    /// Two objects have one identifier: the same type and instance. Tested first, whatever else the objects are.
+    /// Two objects have the same identifier, that is, the same type and instance. This is tested first, whatever the objects are.
     #[error("two objects have one identifier")]
     Duplicate,
-    /// An object has a type, an instance, a name, a property (or one twice), a value or a file that it may not have, or is a file
-    /// without octets, and no two have one identifier. [`Store::new`](crate::Store::new) lists the cases.
+    /// An object has an invalid type, instance, name, property, value or contents of a file, the same property twice, or is a file
+    /// without contents; and no two have the same identifier. [`Store::new`](crate::Store::new) lists the cases.
     #[error("an object that no store can have")]
     BadObject,
-    /// The objects could be a store, and an allocation was refused. Tested last.
+    /// The objects are valid, but an allocation failed. This is tested last.
     #[error("no memory")]
     NoMemory,
 }

@@ -1,4 +1,3 @@
-mod Appending
 mod HexDigits
 mod Moments
 pub mod LineFronts
@@ -7,4 +6,3 @@ mod Printed
 pub mod SoFar
 mod ShownLines
 mod Gaps
-pub mod TakenStrings

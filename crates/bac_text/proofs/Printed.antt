@@ -1,6 +1,5 @@
 -- The lines of a layer, and of what is in it.
-use Rattle.std.proofs.Common.{◌≡◌, ℕ, Bool, true, false, List, [], ◌++◌, Option, Some, None, Result, Ok, Err, OnOk, refl, sym}
-use Rattle.std.proofs.lemmas.List.{append-nil}
+use Rattle.std.proofs.Common.{ℕ, Bool, true, false, List, [], ◌++◌, Option, Some, None, Result, Ok, Err, OnOk, refl}
 use Rattle.std.specs.Io.KnownBytes.{Appends, Keeps}
 use Rattle.bac_service.specs.Members.{◌⨾◌}
 use Rattle.bac_service.specs.Values.{Request, Complex}
@@ -8,43 +7,9 @@ use Rattle.std.proofs.KnownBytes.{Appends-kept}
 use Rattle.bac_text.specs.Decoded.{IsLayer, AreRequestLines, AreComplexLines, AreLayerLines, fault_line, AreLines}
 use Rattle.bac_text.specs.declared.fault.LayerFault.{LayerFault}
 use Rattle.bac_text.specs.Layers.{Service, IsRequestIn, IsComplexIn, HasNoRequest, HasNoComplex, IsFine, IsAtFault}
-use Rattle.bac_text.specs.Outcome.{IsTold, IsShown, shown_status}
+use Rattle.bac_text.specs.Outcome.{IsPrinted, IsShown, shown_status}
 use Rattle.bac_text.specs.Texts.{Is, line_end, IsRequestText, IsComplexText, AppendsText, AppendsLine}
-use Rattle.bac_text.proofs.Appending.{joined}
-
-pub nothing : (a : Option (List ℕ)) → Appends a a []
-nothing None = tt
-nothing (Some xs) = sym (append-nil xs)
-
-pub no_line : (a : Option (List ℕ)) → AppendsText a a (Is [])
-no_line a = ([], (refl, nothing a))
-
-pub line_is : (a b : Option (List ℕ)) (line : List ℕ) → Appends a b line → AppendsText a b (Is line)
-line_is a b line p = (line, (refl, p))
-
-pub both : (a b c : Option (List ℕ)) (P Q : List ℕ → Type 0) → AppendsText a b P → AppendsText b c Q → AppendsText a c (P ⨾ Q)
-both a b c P Q p q =
-    (p.0 ++ q.0, (record { front = p.0; back = q.0; first = p.1.0; second = q.1.0; is = refl }, joined a b c p.0 q.0 p.1.1 q.1.1))
-
-pub then_both : {T E : Type 0} (r : Result T E) (a b c : Option (List ℕ)) (P Q : List ℕ → Type 0) → AppendsText a b P
-    → OnOk r (AppendsText b c Q) → OnOk r (AppendsText a c (P ⨾ Q))
-then_both (Ok t) a b c P Q p q = both a b c P Q p q
-then_both (Err e) a b c P Q p q = tt
-
--- a line was printed, and what comes after it where that succeeded
-pub and_then : {T E : Type 0} (r : Result T E) (a b c : Option (List ℕ)) (line : List ℕ) (Q : List ℕ → Type 0) → Appends a b line
-    → OnOk r (AppendsText b c Q) → OnOk r (AppendsText a c (Is line ⨾ Q))
-and_then r a b c line Q p q = then_both r a b c (Is line) Q (line_is a b line p) q
-
-pub last_line : {T E : Type 0} (r : Result T E) (a b : Option (List ℕ)) (line : List ℕ) → OnOk r (Appends a b line) → OnOk r (AppendsText a b (Is line))
-last_line (Ok t) a b line p = line_is a b line p
-last_line (Err e) a b line p = tt
-
--- one of these texts was printed
-pub text_of : {T E : Type 0} (r : Result T E) (a b : Option (List ℕ)) (P : List ℕ → Type 0) (text : List ℕ) → P text → OnOk r (Appends a b text)
-    → OnOk r (AppendsText a b P)
-text_of (Ok t) a b P text is p = (text, (is, p))
-text_of (Err e) a b P text is p = tt
+use Rattle.bac_service_text.proofs.Appending.{both, line_is, no_line, nothing}
 
 pub no_layer : {A : Type 0} (Spells : A → List ℕ → Type 0) (IsText : A → List ℕ → Type 0) (octets : List ℕ) (a : Option (List ℕ))
     → ((x : A) → Spells x octets → ⊥) → AppendsText a a (IsLayer Spells IsText octets)
@@ -101,14 +66,14 @@ complex_refused in_words None a none = absurd none
 complex_refused in_words (Some s) a none = ([], (record { layer = None; is = (none, refl) }, nothing a))
 
 -- the layers were printed
-pub told_fine : (in_words : Bool) (datagram : List ℕ) (a b : Option (List ℕ)) → AppendsText a b (AreLayerLines in_words datagram) → IsFine datagram
-    → IsTold in_words true datagram a b
-told_fine in_words datagram a b p fine = (fine, both a b b (AreLayerLines in_words datagram) (Is []) p (no_line b))
+pub printed_fine : (in_words : Bool) (datagram : List ℕ) (a b : Option (List ℕ)) → AppendsText a b (AreLayerLines in_words datagram) → IsFine datagram
+    → IsPrinted in_words true datagram a b
+printed_fine in_words datagram a b p fine = (fine, both a b b (AreLayerLines in_words datagram) (Is []) p (no_line b))
 
 -- the layers were printed, and then the fault
-pub told_faulty : (in_words : Bool) (datagram : List ℕ) (fault : LayerFault) (a b c : Option (List ℕ)) → AppendsText a b (AreLayerLines in_words datagram)
-    → IsAtFault datagram fault → Appends b c (fault_line in_words datagram fault) → IsTold in_words false datagram a c
-told_faulty in_words datagram fault a b c p at q = record {
+pub printed_faulty : (in_words : Bool) (datagram : List ℕ) (fault : LayerFault) (a b c : Option (List ℕ)) → AppendsText a b (AreLayerLines in_words datagram)
+    → IsAtFault datagram fault → Appends b c (fault_line in_words datagram fault) → IsPrinted in_words false datagram a c
+printed_faulty in_words datagram fault a b c p at q = record {
   fault = fault;
   at_fault = at;
   printed = both a b c (AreLayerLines in_words datagram) (Is (fault_line in_words datagram fault)) p (line_is b c (fault_line in_words datagram fault) q);
@@ -118,7 +83,7 @@ told_faulty in_words datagram fault a b c p at q = record {
 kept : (a b c : Option (List ℕ)) (P : List ℕ → Type 0) → AppendsText a b P → Keeps b c → AppendsText a c P
 kept a b c P p keeps = (p.0, (p.1.0, Appends-kept a b c p.0 p.1.1 keeps))
 
-pub flushed : (in_words fine : Bool) (datagram : List ℕ) (a b c : Option (List ℕ)) → IsTold in_words fine datagram a b → Keeps b c
+pub flushed : (in_words fine : Bool) (datagram : List ℕ) (a b c : Option (List ℕ)) → IsPrinted in_words fine datagram a b → Keeps b c
     → IsShown in_words datagram a c (shown_status fine)
 flushed in_words true datagram a b c told keeps = (told.0, kept a b c (AreLines in_words datagram None) told.1 keeps)
 flushed in_words false datagram a b c told keeps = record {

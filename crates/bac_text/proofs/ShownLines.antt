@@ -1,19 +1,18 @@
--- Lines of datagrams that were told, one after the other.
-use Rattle.std.proofs.Common.{◌≡◌, ◌+◌, ℕ, Bool, true, false, ◌&&◌, List, [], ◌∷◌, ◌++◌, Option, Some, None, Result, Ok, Err, OnOk, refl, sym, ap, subst, ◌∙◌}
+-- Lines of datagrams that were printed, one after the other.
+use Rattle.std.proofs.Common.{◌≡◌, ◌+◌, ℕ, Bool, true, false, ◌&&◌, List, [], ◌∷◌, ◌++◌, Option, Some, None, refl, sym, ap, subst, ◌∙◌}
 use Rattle.std.proofs.Common.{append_assoc, append-nil}
 use Rattle.std.proofs.KnownBytes.{Appends-nil, Appends-trans, Appends-kept}
 use Rattle.std.specs.Option.{option_map}
-use Rattle.std.specs.Io.KnownBytes.{Appends, Keeps}
+use Rattle.std.specs.Io.KnownBytes.{Keeps}
 use Rattle.std.specs.Io.BufRead.{drop_through}
 use Rattle.bac_text.specs.declared.decode_lines.Shown.{Shown}
-use Rattle.bac_text.specs.declared.status.Status.{Status}
-use Rattle.bac_text.specs.DecodedLines.{DatagramLine, AreDecoded, AreFrontTold, AreLineTexts, AreTold, IsDatagramText, IsFirstText, IsFrontTold, IsLineText, IsLineTold, IsNextTold, IsTaken}
+use Rattle.bac_text.specs.DecodedLines.{DatagramLine, AreDecoded, AreFrontPrinted, AreLineTexts, ArePrinted, IsDatagramText, IsLineText, IsLinePrinted, IsNextPrinted, IsTaken}
 use Rattle.bac_text.specs.DecodedLines.{datagram_line_at}
 use Rattle.bac_text.specs.Groups.{octets_in}
 use Rattle.bac_text.specs.Lines.{lines_of, line_in, LINE_END}
 use Rattle.bac_text.specs.NextLine.{kept, IsNextLine}
 use Rattle.bac_text.specs.Notes.{read_of}
-use Rattle.bac_text.specs.Outcome.{IsTold, shown_status}
+use Rattle.bac_text.specs.Outcome.{IsPrinted, shown_status}
 use Rattle.bac_text.specs.Texts.{AppendsText}
 use Rattle.bac_text.proofs.LineFronts.{first_line, kept_line}
 
@@ -28,7 +27,7 @@ and_true false = refl
 -- ---- one line
 
 -- what was printed of a datagram
-pub datagram_text : (in_words fine : Bool) (datagram : List ℕ) (a b : Option (List ℕ)) → IsTold in_words fine datagram a b
+pub datagram_text : (in_words fine : Bool) (datagram : List ℕ) (a b : Option (List ℕ)) → IsPrinted in_words fine datagram a b
     → AppendsText a b (IsDatagramText in_words fine datagram)
 datagram_text in_words true datagram a b told = (told.1.0, ((told.0, told.1.1.0), told.1.1.1))
 datagram_text in_words false datagram a b told = (told.printed.0, ((told.fault, (told.at_fault, told.printed.1.0)), told.printed.1.1))
@@ -37,7 +36,7 @@ kept_datagram : (line : List ℕ) → datagram_line_at (kept line) ≡ datagram_
 kept_datagram line = kept_line (Some None) (λ (l : List ℕ). option_map octets_in (read_of true l)) line
 
 pub line_taken : (in_words : Bool) (octets new a b : Option (List ℕ)) (line : List ℕ) (before after : Shown)
-    → IsNextLine octets new line true → IsLineTold in_words line a b before after → IsTaken in_words octets new a b before (Some after)
+    → IsNextLine octets new line true → IsLinePrinted in_words line a b before after → IsTaken in_words octets new a b before (Some after)
 line_taken in_words None new a b line before after next told = tt
 line_taken in_words (Some xs) new a b line before after next told =
     let same : datagram_line_at line ≡ datagram_line_at (line_in xs) = ap datagram_line_at next.1.1 ∙ kept_datagram (line_in xs) in
@@ -57,16 +56,16 @@ line_taken in_words (Some xs) new a b line before after next told =
     }
 
 pub line_taken_at : (in_words : Bool) (octets new a b : Option (List ℕ)) (line shown : List ℕ) (before after : Shown) (found : Bool) → shown ≡ line → found ≡ true
-    → IsNextLine octets new line found → IsLineTold in_words shown a b before after → IsTaken in_words octets new a b before (Some after)
+    → IsNextLine octets new line found → IsLinePrinted in_words shown a b before after → IsTaken in_words octets new a b before (Some after)
 line_taken_at in_words octets new a b line shown before after found same is next told =
     line_taken in_words octets new a b line before after (subst (λ (x : Bool). IsNextLine octets new line x) is next)
-    (subst (λ (l : List ℕ). IsLineTold in_words l a b before after) same told)
+    (subst (λ (l : List ℕ). IsLinePrinted in_words l a b before after) same told)
 
 -- ---- all lines
 
-pub none_told : (in_words : Bool) (input out : Option (List ℕ)) (shown : Shown) → shown.lines ≡ 0 → shown.fine ≡ true → AreFrontTold in_words input input out out shown
-none_told in_words None out shown lines fine = tt
-none_told in_words (Some xs) out shown lines fine = record {
+pub none_printed : (in_words : Bool) (input out : Option (List ℕ)) (shown : Shown) → shown.lines ≡ 0 → shown.fine ≡ true → AreFrontPrinted in_words input input out out shown
+none_printed in_words None out shown lines fine = tt
+none_printed in_words (Some xs) out shown lines fine = record {
   text = [];
   rest = xs;
   is = refl;
@@ -75,11 +74,11 @@ none_told in_words (Some xs) out shown lines fine = record {
 }
 
 next_at : (in_words : Bool) (here : List ℕ) (left new a b : Option (List ℕ)) (before after : Shown) → left ≡ Some here
-    → IsTaken in_words left new a b before (Some after) → IsNextTold in_words here new a b before after
+    → IsTaken in_words left new a b before (Some after) → IsNextPrinted in_words here new a b before after
 next_at in_words here left new a b before after e taken = subst (λ (o : Option (List ℕ)). IsTaken in_words o new a b before (Some after)) e taken
 
-pub one_more : (in_words : Bool) (input left new a b c : Option (List ℕ)) (before after : Shown) → AreFrontTold in_words input left a b before
-    → IsTaken in_words left new b c before (Some after) → AreFrontTold in_words input new a c after
+pub one_more : (in_words : Bool) (input left new a b c : Option (List ℕ)) (before after : Shown) → AreFrontPrinted in_words input left a b before
+    → IsTaken in_words left new b c before (Some after) → AreFrontPrinted in_words input new a c after
 one_more in_words None left new a b c before after front taken = tt
 one_more in_words (Some xs) left new a b c before after front taken =
     let next = next_at in_words front.rest left new b c before after front.is taken in
@@ -114,10 +113,10 @@ end_at : (in_words : Bool) (here : List ℕ) (left new a b : Option (List ℕ)) 
     → IsTaken in_words left new a b before None → (here ≡ []) × Keeps a b
 end_at in_words here left new a b before e taken = subst (λ (o : Option (List ℕ)). IsTaken in_words o new a b before None) e taken
 
-pub all_told : (in_words : Bool) (input left new a b c : Option (List ℕ)) (shown : Shown) → AreFrontTold in_words input left a b shown
-    → IsTaken in_words left new b c shown None → AreTold in_words shown.fine input a c
-all_told in_words None left new a b c shown front taken = tt
-all_told in_words (Some xs) left new a b c shown front taken =
+pub all_printed : (in_words : Bool) (input left new a b c : Option (List ℕ)) (shown : Shown) → AreFrontPrinted in_words input left a b shown
+    → IsTaken in_words left new b c shown None → ArePrinted in_words shown.fine input a c
+all_printed in_words None left new a b c shown front taken = tt
+all_printed in_words (Some xs) left new a b c shown front taken =
     let end = end_at in_words front.rest left new b c shown front.is taken in
     let none : AreLineTexts in_words shown.lines (lines_of front.rest) true [] =
     subst (λ (l : List ℕ). AreLineTexts in_words shown.lines (lines_of l) true []) (sym end.0) (refl, refl) in
@@ -128,16 +127,16 @@ all_told in_words (Some xs) left new a b c shown front taken =
     (front.text, (texts, Appends-kept a b c _ front.printed end.1))
 
 pub one_more_at : (in_words : Bool) (input left new a b c : Option (List ℕ)) (before : Shown) (r : Option Shown) (after : Shown)
-    → AreFrontTold in_words input left a b before → IsTaken in_words left new b c before r → r ≡ Some after → AreFrontTold in_words input new a c after
+    → AreFrontPrinted in_words input left a b before → IsTaken in_words left new b c before r → r ≡ Some after → AreFrontPrinted in_words input new a c after
 one_more_at in_words input left new a b c before r after front taken is =
     one_more in_words input left new a b c before after front (subst (λ (o : Option Shown). IsTaken in_words left new b c before o) is taken)
 
-pub all_told_at : (in_words : Bool) (input left new a b c : Option (List ℕ)) (shown : Shown) (r : Option Shown)
-    → AreFrontTold in_words input left a b shown → IsTaken in_words left new b c shown r → r ≡ None → AreTold in_words shown.fine input a c
-all_told_at in_words input left new a b c shown r front taken is =
-    all_told in_words input left new a b c shown front (subst (λ (o : Option Shown). IsTaken in_words left new b c shown o) is taken)
+pub all_printed_at : (in_words : Bool) (input left new a b c : Option (List ℕ)) (shown : Shown) (r : Option Shown)
+    → AreFrontPrinted in_words input left a b shown → IsTaken in_words left new b c shown r → r ≡ None → ArePrinted in_words shown.fine input a c
+all_printed_at in_words input left new a b c shown r front taken is =
+    all_printed in_words input left new a b c shown front (subst (λ (o : Option Shown). IsTaken in_words left new b c shown o) is taken)
 
-pub flushed : (in_words fine : Bool) (input a b c : Option (List ℕ)) → AreTold in_words fine input a b → Keeps b c
+pub flushed : (in_words fine : Bool) (input a b c : Option (List ℕ)) → ArePrinted in_words fine input a b → Keeps b c
     → AreDecoded in_words input a c (shown_status fine)
 flushed in_words true None a b c told keeps = tt
 flushed in_words false None a b c told keeps = tt

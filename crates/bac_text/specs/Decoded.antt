@@ -8,7 +8,7 @@ use Rattle.bac_service.specs.Values.{Request, Complex}
 use Rattle.bac_service.specs.Requests.{SpellsRequest}
 use Rattle.bac_service.specs.Replies.{SpellsComplex}
 use Rattle.bac_text.specs.declared.fault.LayerFault.{LayerFault}
-use Rattle.bac_text.specs.Faults.{told_fault}
+use Rattle.bac_text.specs.Faults.{printed_fault}
 use Rattle.bac_text.specs.Layers.{Service, request_data_in, complex_data_in}
 use Rattle.bac_text.specs.Texts.{Is, optional, line_end, bvll_text, npdu_text, apdu_text, IsRequestText, IsComplexText}
 
@@ -67,7 +67,7 @@ abbrev pub AreLayerLines : (in_words : Bool) → List ℕ → List ℕ → Type 
 AreLayerLines in_words datagram = IsLayer SpellsBvll (AreBvllLines in_words (length datagram)) datagram
 
 abbrev pub fault_line : (in_words : Bool) → (datagram : List ℕ) → LayerFault → List ℕ
-fault_line in_words datagram fault = told_fault in_words datagram fault ++ line_end
+fault_line in_words datagram fault = printed_fault in_words datagram fault ++ line_end
 
 -- these lines, and then that of the fault, if there is one
 abbrev pub AreLines : (in_words : Bool) → List ℕ → Option LayerFault → List ℕ → Type 0

@@ -52,22 +52,22 @@ AreLineTexts in_words before (line ∷ lines) fine text =
     IsFirstText (IsLineText in_words before (datagram_line_at line)) (AreLineTexts in_words (before + 1) lines) fine text
 
 -- where the octets of the input are known
-abbrev pub AreTold : (in_words fine : Bool) → (input : Option (List ℕ)) → (old new : Option (List ℕ)) → Type 0
-AreTold in_words fine None old new = ⊤
-AreTold in_words fine (Some input) old new = AppendsText old new (AreLineTexts in_words 0 (lines_of input) fine)
+abbrev pub ArePrinted : (in_words fine : Bool) → (input : Option (List ℕ)) → (old new : Option (List ℕ)) → Type 0
+ArePrinted in_words fine None old new = ⊤
+ArePrinted in_words fine (Some input) old new = AppendsText old new (AreLineTexts in_words 0 (lines_of input) fine)
 
--- where the command ends with 0 or 1, each line was told; the other statuses say nothing of it
+-- where the command ends with 0 or 1, each line was printed; the other statuses say nothing of it
 abbrev pub AreDecoded : (in_words : Bool) → (input : Option (List ℕ)) → (old new : Option (List ℕ)) → Status → Type 0
-AreDecoded in_words input old new status.Done = AreTold in_words true input old new
-AreDecoded in_words input old new status.Faulty = AreTold in_words false input old new
+AreDecoded in_words input old new status.Done = ArePrinted in_words true input old new
+AreDecoded in_words input old new status.Faulty = ArePrinted in_words false input old new
 AreDecoded in_words input old new status.CommandLine = ⊤
 AreDecoded in_words input old new status.Output = ⊤
 AreDecoded in_words input old new status.Memory = ⊤
 
 -- ---- the steps
 
--- a line was told
-pub record IsLineTold (in_words : Bool) (line : List ℕ) (old new : Option (List ℕ)) (before after : Shown) : Type 0 where
+-- a line was printed
+pub record IsLinePrinted (in_words : Bool) (line : List ℕ) (old new : Option (List ℕ)) (before after : Shown) : Type 0 where
   pub fine : Bool
   pub text : List ℕ
   pub text_of : IsLineText in_words before.lines (datagram_line_at line) fine text
@@ -75,22 +75,22 @@ pub record IsLineTold (in_words : Bool) (line : List ℕ) (old new : Option (Lis
   pub lines : after.lines ≡ before.lines + 1
   pub all : after.fine ≡ before.fine && fine
 
--- the first line was taken and told
-pub record IsNextTold (in_words : Bool) (octets : List ℕ) (left old new : Option (List ℕ)) (before after : Shown) : Type 0 where
+-- the first line was taken and printed
+pub record IsNextPrinted (in_words : Bool) (octets : List ℕ) (left old new : Option (List ℕ)) (before after : Shown) : Type 0 where
   pub line : List ℕ
   pub rest : List ℕ
   pub lines : lines_of octets ≡ line ∷ lines_of rest
   pub is : left ≡ Some rest
-  pub told : IsLineTold in_words line old new before after
+  pub told : IsLinePrinted in_words line old new before after
 
 -- the input goes from the first to the second, the output from the third to the fourth
 abbrev pub IsTaken : (in_words : Bool) → (input left old new : Option (List ℕ)) → Shown → Option Shown → Type 0
 IsTaken in_words None left old new before after = ⊤
 IsTaken in_words (Some octets) left old new before None = (octets ≡ []) × Keeps old new
-IsTaken in_words (Some octets) left old new before (Some after) = IsNextTold in_words octets left old new before after
+IsTaken in_words (Some octets) left old new before (Some after) = IsNextPrinted in_words octets left old new before after
 
--- some lines were told, and the others stand before
-pub record IsFrontTold (in_words : Bool) (octets : List ℕ) (left old new : Option (List ℕ)) (shown : Shown) : Type 0 where
+-- some lines were printed, and the others stand before
+pub record IsFrontPrinted (in_words : Bool) (octets : List ℕ) (left old new : Option (List ℕ)) (shown : Shown) : Type 0 where
   pub text : List ℕ
   pub rest : List ℕ
   pub is : left ≡ Some rest
@@ -98,6 +98,6 @@ pub record IsFrontTold (in_words : Bool) (octets : List ℕ) (left old new : Opt
   pub told : (there : Bool) (back : List ℕ) → AreLineTexts in_words shown.lines (lines_of rest) there back
       → AreLineTexts in_words 0 (lines_of octets) (shown.fine && there) (text ++ back)
 
-abbrev pub AreFrontTold : (in_words : Bool) → (input left old new : Option (List ℕ)) → Shown → Type 0
-AreFrontTold in_words None left old new shown = ⊤
-AreFrontTold in_words (Some octets) left old new shown = IsFrontTold in_words octets left old new shown
+abbrev pub AreFrontPrinted : (in_words : Bool) → (input left old new : Option (List ℕ)) → Shown → Type 0
+AreFrontPrinted in_words None left old new shown = ⊤
+AreFrontPrinted in_words (Some octets) left old new shown = IsFrontPrinted in_words octets left old new shown

@@ -87,6 +87,6 @@ fault_words datagram (Apdu fault) = fault_because (Apdu fault) (apdu_reason faul
 fault_words datagram (Request reason) = codes "fault reject " ++ reject_text (reason_number reason)
 fault_words datagram (ComplexAck kind) = fault_because (ComplexAck kind) (kind_reason kind)
 
-abbrev pub told_fault : (in_words : Bool) → (datagram : List ℕ) → LayerFault → List ℕ
-told_fault false datagram fault = fault_text fault
-told_fault true datagram fault = fault_words datagram fault
+abbrev pub printed_fault : (in_words : Bool) → (datagram : List ℕ) → LayerFault → List ℕ
+printed_fault false datagram fault = fault_text fault
+printed_fault true datagram fault = fault_words datagram fault

@@ -1,5 +1,5 @@
 -- Octets as people copy them: groups of hexadecimal digits with blanks or colons between them; 0x may stand before a group.
-use Rattle.std.specs.Prelude.{ℕ, Bool, ◌==◌, ◌&&◌, ◌||◌, List, [], ◌∷◌, ◌++◌, if◌then◌else◌, Option, Some, None}
+use Rattle.std.specs.Prelude.{ℕ, Bool, ◌==◌, ◌&&◌, ◌||◌, List, [], ◌∷◌, ◌++◌, if◌then◌else◌, Option, Some}
 use Rattle.bac_text.specs.Capture.{◌>>=◌, decoded_at}
 use Rattle.bac_value_text.specs.Splits.{split_by}
 

@@ -11,6 +11,7 @@ pub mod Lines
 pub mod NextLine
 pub mod Notes
 pub mod Outcome
+pub mod Peers
 pub mod Statuses
 pub mod Stops
 pub mod Texts

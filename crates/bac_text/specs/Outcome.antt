@@ -19,9 +19,9 @@ pub record IsShownFaulty (in_words : Bool) (datagram : List ℕ) (old new : Opti
   pub at_fault : IsAtFault datagram fault
   pub printed : AppendsText old new (AreLines in_words datagram (Some fault))
 
-abbrev pub IsTold : (in_words fine : Bool) → List ℕ → Option (List ℕ) → Option (List ℕ) → Type 0
-IsTold in_words true datagram old new = IsShownFine in_words datagram old new
-IsTold in_words false datagram old new = IsShownFaulty in_words datagram old new
+abbrev pub IsPrinted : (in_words fine : Bool) → List ℕ → Option (List ℕ) → Option (List ℕ) → Type 0
+IsPrinted in_words true datagram old new = IsShownFine in_words datagram old new
+IsPrinted in_words false datagram old new = IsShownFaulty in_words datagram old new
 
 abbrev pub shown_status : (fine : Bool) → Status
 shown_status true = status.Done

@@ -1,47 +1,16 @@
 -- The texts that are printed, each as the octets of its characters.
-use Rattle.std.specs.Prelude.{◌≡◌, ℕ, ℤ, Bool, true, false, List, [], ◌∷◌, ◌++◌, codes, decimal, Option, Some, None}
-use Rattle.std.specs.Fmt.{signed_decimal}
-use Rattle.std.specs.Int.{from_bool}
-use Rattle.std.specs.Io.KnownBytes.{Appends}
+use Rattle.std.specs.Prelude.{ℕ, Bool, true, false, List, [], ◌++◌, codes, decimal, Option}
 use Rattle.hex.specs.Hex.{encode_upper}
 use Rattle.bac_apdu.specs.Apdu.{Limits, Acknowledgement, Segment, Apdu, ConfirmedRequest, UnconfirmedRequest, SimpleAck, ComplexAck, SegmentAck}
 use Rattle.bac_apdu.specs.Apdu.{Error, Reject, Abort}
-use Rattle.bac_service.specs.Members.{◌⨾◌, ApplicationString}
-use Rattle.bac_service.specs.Values.{Reference, ReadAccess, Request, Complex}
-use Rattle.bac_service.specs.Values.ReadAccess.{ReadStream, ReadRecords}
-use Rattle.bac_service.specs.Values.WriteAccess.{WriteStream, WriteRecords}
-use Rattle.bac_service.specs.declared.atomic_write_file.FileWritten.{FileWritten}
-use Rattle.bac_service.specs.declared.atomic_write_file.FileWritten.TheVariants as place
-use Rattle.bac_service.specs.Values.Request.{ReadFile, WriteFile, ReadProperty, WriteProperty}
-use Rattle.bac_service.specs.Values.Complex.{FileRead, StreamWritten, RecordsWritten, PropertyRead}
-use Rattle.bac_value.specs.Value.{ObjectId}
 use Rattle.bac_npdu.specs.Npdu.{NpduView, DestinationView, MessageView}
 use Rattle.bac_npdu.specs.Peers.{RouteView}
-use Rattle.bac_value_text.specs.DataTexts.{IsDataText}
 use Rattle.bac_value_text.specs.Reasons as reasons
-use Rattle.bac_value_text.specs.Texts as names
+pub use Rattle.bac_service_text.specs.Dispatch.{IsComplexText, IsRequestText}
+pub use Rattle.bac_service_text.specs.Members.{AppendsLine, AppendsText, Is, bit_text, line_end, octets_text, optional}
 use Rattle.bac_text.specs.declared.fault.LineFault.{LineFault}
 use Rattle.bac_text.specs.declared.fault.LineFault.TheVariants.{NoCaptureLine, MomentGoesBack, Datagram}
 use Rattle.bac_text.specs.Faults.{fault_text}
-
-abbrev pub line_end : List ℕ
-line_end = 10 ∷ []
-
--- a member that is left out where there is none
-abbrev pub optional : {A : Type 0} → (A → List ℕ) → Option A → List ℕ
-optional text None = []
-optional text (Some x) = text x
-
-abbrev pub bit_text : Bool → List ℕ
-bit_text b = decimal (from_bool b)
-
--- a number after a name
-abbrev pub number_text : List ℕ → ℕ → List ℕ
-number_text name number = codes " " ++ (name ++ (codes "=" ++ decimal number))
-
--- octets in hexadecimal, after a name
-abbrev pub octets_text : List ℕ → List ℕ → List ℕ
-octets_text name octets = codes " " ++ (name ++ (codes "=" ++ encode_upper octets))
 
 -- a network and an address on it, after a name
 abbrev pub place_text : List ℕ → ℕ → List ℕ → List ℕ
@@ -148,124 +117,6 @@ members_text in_words apdu = plain_members_text in_words apdu
 
 unfoldable pub apdu_text : (in_words : Bool) → Apdu → List ℕ
 apdu_text in_words a = members_text in_words a ++ line_end
-
--- ---- the line of a request, or of the service data of a ComplexACK
-
--- these octets, and none else
-abbrev pub Is : List ℕ → List ℕ → Type 0
-Is line text = text ≡ line
-
--- in words: an object and a property by their names
-abbrev pub object_name : (in_words : Bool) → ObjectId → List ℕ
-object_name false o = decimal o.kind ++ (codes ":" ++ decimal o.instance)
-object_name true o = names.object_text o
-
-abbrev pub object_text : (in_words : Bool) → ObjectId → List ℕ
-object_text in_words o = codes " object=" ++ object_name in_words o
-
-abbrev pub property_name : (in_words : Bool) → ℕ → List ℕ
-property_name false property = decimal property
-property_name true property = names.property_text property
-
-abbrev pub property_text : (in_words : Bool) → ℕ → List ℕ
-property_text in_words property = codes " property=" ++ property_name in_words property
-
--- a property of an object, after the name of the line
-abbrev pub reference_text : (in_words : Bool) → List ℕ → Reference → List ℕ
-reference_text in_words name r =
-    name ++ (object_text in_words r.object ++ (property_text in_words r.property ++ optional (number_text (codes "index")) r.index))
-
--- in words: each value by its kind
-abbrev pub IsValuesText : (in_words : Bool) → (values text : List ℕ) → Type 0
-IsValuesText false values = Is (octets_text (codes "values") values)
-IsValuesText true values = Is (codes " values=") ⨾ IsDataText values
-
-abbrev pub IsWritePropertyText : (in_words : Bool) → Reference → List ℕ → Option ℕ → List ℕ → Type 0
-IsWritePropertyText in_words r values priority =
-    Is (reference_text in_words (codes "write-property") r)
-    ⨾ (IsValuesText in_words values ⨾ Is (optional (number_text (codes "priority")) priority))
-
-abbrev pub IsPropertyReadText : (in_words : Bool) → Reference → List ℕ → List ℕ → Type 0
-IsPropertyReadText in_words r values = Is (reference_text in_words (codes "read-property-ack") r) ⨾ IsValuesText in_words values
-
-abbrev pub count_text : ℕ → List ℕ
-count_text count = codes " count=" ++ decimal count
-
-abbrev pub position_text : ℤ → List ℕ
-position_text start = codes " position=" ++ signed_decimal start
-
-abbrev pub record_text : ℤ → List ℕ
-record_text start = codes " record=" ++ signed_decimal start
-
-abbrev pub read_name : ReadAccess → List ℕ
-read_name (ReadStream start count) = codes "read-file"
-read_name (ReadRecords start count) = codes "read-records"
-
-abbrev pub read_access_text : ReadAccess → List ℕ
-read_access_text (ReadStream start count) = position_text start ++ count_text count
-read_access_text (ReadRecords start count) = record_text start ++ count_text count
-
-abbrev pub read_file_text : (in_words : Bool) → ObjectId → ReadAccess → List ℕ
-read_file_text in_words file access = read_name access ++ (object_text in_words file ++ read_access_text access)
-
-abbrev pub write_stream_text : (in_words : Bool) → ObjectId → ℤ → List ℕ → List ℕ
-write_stream_text in_words file start octets = codes "write-file" ++ (object_text in_words file ++ (position_text start ++ octets_text (codes "octets") octets))
-
--- octet strings in hexadecimal, each after a comma
-abbrev pub more_strings_text : List (List ℕ) → List ℕ
-more_strings_text [] = []
-more_strings_text (string ∷ strings) = (codes "," ++ encode_upper string) ++ more_strings_text strings
-
--- octet strings in hexadecimal, with commas between them
-abbrev pub strings_text : List (List ℕ) → List ℕ
-strings_text [] = []
-strings_text (string ∷ strings) = encode_upper string ++ more_strings_text strings
-
-abbrev pub records_start_text : ℤ → ℕ → List ℕ
-records_start_text start count = record_text start ++ count_text count
-
-abbrev pub write_records_text : (in_words : Bool) → ObjectId → ℤ → ℕ → List (List ℕ) → List ℕ
-write_records_text in_words file start count strings =
-    codes "write-records" ++ (object_text in_words file ++ (records_start_text start count ++ (codes " octets=" ++ strings_text strings)))
-
--- these octets are the spellings of these octet strings, each with its application tag, one after the other (clause 20.2.8)
-abbrev pub AreTheStrings : List (List ℕ) → List ℕ → Type 0
-AreTheStrings [] run = run ≡ []
-AreTheStrings (string ∷ strings) run = (ApplicationString string ⨾ AreTheStrings strings) run
-
--- the text of a request, without the end of its line
-abbrev pub IsRequestText : (in_words : Bool) → Request → List ℕ → Type 0
-IsRequestText in_words (ReadFile file access) text = text ≡ read_file_text in_words file access
-IsRequestText in_words (WriteFile file (WriteStream start octets)) text = text ≡ write_stream_text in_words file start octets
-IsRequestText in_words (WriteFile file (WriteRecords start count run)) text =
-    (strings : List (List ℕ)) × (AreTheStrings strings run × (text ≡ write_records_text in_words file start count strings))
-IsRequestText in_words (ReadProperty r) text = text ≡ reference_text in_words (codes "read-property") r
-IsRequestText in_words (WriteProperty r values priority) text = IsWritePropertyText in_words r values priority text
-
-abbrev pub end_of_file_text : Bool → List ℕ
-end_of_file_text end_of_file = codes "read-file-ack end=" ++ bit_text end_of_file
-
-abbrev pub file_read_text : Bool → ℤ → List ℕ → List ℕ
-file_read_text end_of_file start octets = end_of_file_text end_of_file ++ (position_text start ++ octets_text (codes "octets") octets)
-
-abbrev pub place_written_text : FileWritten → List ℕ
-place_written_text (place.Stream start) = position_text start
-place_written_text (place.Records start) = record_text start
-
--- the text of the service data of a ComplexACK, without the end of its line
-abbrev pub IsComplexText : (in_words : Bool) → Complex → List ℕ → Type 0
-IsComplexText in_words (FileRead end_of_file start octets) text = text ≡ file_read_text end_of_file start octets
-IsComplexText in_words (StreamWritten start) text = text ≡ codes "write-file-ack" ++ position_text start
-IsComplexText in_words (RecordsWritten start) text = text ≡ codes "write-file-ack" ++ record_text start
-IsComplexText in_words (PropertyRead r values) text = IsPropertyReadText in_words r values text
-
--- one of these texts was appended
-abbrev pub AppendsText : Option (List ℕ) → Option (List ℕ) → (List ℕ → Type 0) → Type 0
-AppendsText old new IsText = (text : List ℕ) × (IsText text × Appends old new text)
-
--- a line with one of these texts was appended
-abbrev pub AppendsLine : Option (List ℕ) → Option (List ℕ) → (List ℕ → Type 0) → Type 0
-AppendsLine old new IsText = (text : List ℕ) × (IsText text × Appends old new (text ++ line_end))
 
 -- ---- what is wrong with a line of a capture
 

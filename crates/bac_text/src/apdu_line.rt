@@ -7,8 +7,8 @@ ghost use Rattle.bac_text.specs.Texts.{optional, segment_text, service_text, req
 ghost use Rattle.bac_text.specs.Texts.{segment_ack_text, unconfirmed_text, simple_ack_text, complex_ack_head_text, body_text};
 ghost use Rattle.bac_text.specs.Texts.{error_text, abort_text, reject_text, plain_members_text, members_text, apdu_text};
 
-use crate::words::{print_end, print_octets};
 use bac_apdu::{Apdu, Limits, Segment, Window};
+use bac_service_text::{print_end, print_octets};
 use bac_value_text::{abort_text, error_text, reject_text};
 use std::alloc::Global;
 use std::io;
@@ -257,7 +257,7 @@ fn print_members<W: Write>(
     }
 }
 
-/// Prints an APDU: its kind and its members, as docs/PROTOCOL.md lists them, an Error and the reasons of a Reject and an Abort in words or not.
+/// Prints an APDU: its kind and its members, as docs/COMMANDS.md ("Decode") lists them, an Error and the reasons of a Reject and an Abort in words or not.
 #[tactic(auto, unfolding(crate::specs::Texts::apdu_text))]
 pub(crate) fn print_apdu<W: Write>(
     alloc: Global,

@@ -17,7 +17,7 @@ use crate::lines::{LINE_LIMIT, next_line};
 use crate::notes::read_of;
 use crate::status::{Status, input_failed, no_memory, output_failed};
 use crate::tally::Tally;
-use crate::words::print_end;
+use bac_service_text::print_end;
 use std::alloc::{AllocError, Global};
 use std::io;
 use std::io::{BufRead, ErrorKind, Write};

@@ -7,7 +7,7 @@ ghost use Rattle.bac_npdu.specs.Npdu.{SpellsNpdu};
 ghost use Rattle.bac_npdu.specs.Views.{message_view};
 ghost use Rattle.bac_text.specs.Decoded.{IsLayer, AreRequestLines, AreComplexLines, AreApduLines, AreApduLinesAs, AreContentLines, AreNpduLines, AreLayerLines};
 ghost use Rattle.bac_text.specs.Layers.{request_data_in, complex_data_in};
-ghost use Rattle.bac_text.specs.Outcome.{IsTold, IsShown, IsDecoded, IsDecodedAs, shown_status};
+ghost use Rattle.bac_text.specs.Outcome.{IsPrinted, IsShown, IsDecoded, IsDecodedAs, shown_status};
 ghost use Rattle.bac_text.specs.Texts.{AppendsText};
 
 use crate::apdu_line::print_apdu;
@@ -15,10 +15,10 @@ use crate::fault_words::print_fault;
 use crate::frame_lines::{print_bvll, print_npdu};
 use crate::groups::octets_in;
 use crate::layers::{check_datagram, complex_in, request_in};
-use crate::service_line::{print_complex, print_request};
 use crate::status::{Status, complain, no_memory, output_failed};
 use bac_apdu::Apdu;
 use bac_npdu::{Message, read_bvll, read_npdu};
+use bac_service_text::{print_complex, print_request};
 use std::alloc::Global;
 use std::io;
 use std::io::Write;
@@ -151,7 +151,7 @@ pub(crate) fn show_datagram<W: Write>(
     datagram: &[u8],
     out: &mut W,
 ) -> io::Result<bool>
-    ensures { IfOk result (λ fine. IsTold in_words fine datagram.now (W.contents out.old) (W.contents out.new)) }
+    ensures { IfOk result (λ fine. IsPrinted in_words fine datagram.now (W.contents out.old) (W.contents out.new)) }
 {
     print_layers(alloc, in_words, datagram, out)?;
     match check_datagram(datagram) {

@@ -2,7 +2,7 @@
 ghost use Rattle.std.specs.Prelude.{◌≡◌, ◌+◌, ◌-◌, ◌^◌, ◌<◌, true, IfOk, IfSome, OnOk};
 ghost use Rattle.std.specs.Option.{option_map};
 ghost use Rattle.std.specs.Io.KnownBytes.{Appends};
-ghost use Rattle.bac_text.specs.DecodedLines.{AreDecoded, AreTold, IsLineText, IsLineTold, IsTaken, bad_line, datagram_line_at};
+ghost use Rattle.bac_text.specs.DecodedLines.{AreDecoded, ArePrinted, IsLineText, IsLinePrinted, IsTaken, bad_line, datagram_line_at};
 ghost use Rattle.bac_text.specs.Groups.{octets_in};
 ghost use Rattle.bac_text.specs.Notes.{read_of};
 ghost use Rattle.bac_text.specs.Texts.{AppendsText};
@@ -13,12 +13,12 @@ use crate::groups::octets_in;
 use crate::lines::{LINE_LIMIT, next_line};
 use crate::notes::read_of;
 use crate::status::Status;
-use crate::words::print_end;
+use bac_service_text::print_end;
 use std::alloc::Global;
 use std::io;
 use std::io::{BufRead, ErrorKind, Write};
 
-/// The lines that were told so far.
+/// The lines that were printed so far.
 #[derive(Clone, Copy)]
 pub(crate) struct Shown {
     pub(crate) lines: u64,
@@ -33,7 +33,7 @@ fn print_bad_line<W: Write>(number: u64, out: &mut W) -> io::Result<()>
     print_end(out)
 }
 
-/// Tells what is to be read of a line whose octets are not too many. Answers whether it has no fault.
+/// Prints what is to be read of a line whose octets are not too many. Answers whether it has no fault.
 fn show_short<W: Write>(
     alloc: Global,
     in_words: bool,
@@ -58,7 +58,7 @@ fn show_short<W: Write>(
     show_datagram(alloc, in_words, &datagram, out)
 }
 
-/// Tells a line. Answers whether it has no fault.
+/// Prints a line. Answers whether it has no fault.
 fn show_line<W: Write>(
     alloc: Global,
     in_words: bool,
@@ -84,7 +84,7 @@ fn decode_line<W: Write>(
     shown: Shown,
     out: &mut W,
 ) -> Result<Shown, CheckError>
-    ensures told { IfOk result (λ s. IsLineTold in_words line.now (W.contents out.old) (W.contents out.new) shown s) }
+    ensures told { IfOk result (λ s. IsLinePrinted in_words line.now (W.contents out.old) (W.contents out.new) shown s) }
     ensures fits { OnOk result (shown.lines < 2 ^ 64 - 1) }
 {
     if shown.lines == u64::MAX {
@@ -99,7 +99,7 @@ fn decode_line<W: Write>(
     }
 }
 
-/// Takes the next line and tells it; None at the end of the input.
+/// Takes the next line and prints it; None at the end of the input.
 fn decode_next<R: BufRead, W: Write>(
     alloc: Global,
     in_words: bool,
@@ -121,14 +121,14 @@ fn decode_next<R: BufRead, W: Write>(
     }
 }
 
-/// Tells all lines. Answers whether none of them has a fault.
+/// Prints all lines. Answers whether none of them has a fault.
 fn decode_lines<R: BufRead, W: Write>(
     alloc: Global,
     in_words: bool,
     input: &mut R,
     out: &mut W,
 ) -> Result<bool, CheckError>
-    ensures { IfOk result (λ fine. AreTold in_words fine (R.remaining input.old) (W.contents out.old) (W.contents out.new)) }
+    ensures { IfOk result (λ fine. ArePrinted in_words fine (R.remaining input.old) (W.contents out.old) (W.contents out.new)) }
 {
     let mut shown = Shown {
         lines: 0,

@@ -4,19 +4,20 @@ ghost use Rattle.std.specs.Io.KnownBytes.{Appends};
 ghost use Rattle.bac_value_text.specs.Reasons.{reject_text};
 ghost use Rattle.bac_text.specs.Decoded.{fault_line};
 ghost use Rattle.bac_text.specs.Faults.{apdu_reason, bvll_words, fault_because, fault_words, frame_reason, function_digits, function_reason, kind_reason};
-ghost use Rattle.bac_text.specs.Faults.{told_fault};
+ghost use Rattle.bac_text.specs.Faults.{printed_fault};
 
 use crate::fault::LayerFault;
-use crate::words::print_end;
 use bac_apdu::ApduFault;
 use bac_npdu::FrameFault;
+use bac_service_text::print_end;
 use bac_value::FaultKind;
 use bac_value_text::reject_text;
 use std::alloc::{AllocError, Global};
 use std::io;
 use std::io::Write;
 
-fn frame_reason(fault: FrameFault) -> &'static str
+/// Why a BVLL or an NPDU cannot be read, in words.
+pub fn frame_reason(fault: FrameFault) -> &'static str
     ensures { result.now ≡ frame_reason fault }
 {
     match fault {
@@ -120,14 +121,14 @@ fn fault_words(alloc: Global, datagram: &[u8], fault: LayerFault) -> Result<Stri
     }
 }
 
-fn print_told<W: Write>(
+fn print_fault_text<W: Write>(
     alloc: Global,
     in_words: bool,
     datagram: &[u8],
     fault: LayerFault,
     out: &mut W,
 ) -> io::Result<()>
-    ensures { OnOk result (Appends (W.contents out.old) (W.contents out.new) (told_fault in_words datagram.now fault)) }
+    ensures { OnOk result (Appends (W.contents out.old) (W.contents out.new) (printed_fault in_words datagram.now fault)) }
 {
     if !in_words {
         return write!(out, "{fault}");
@@ -146,6 +147,6 @@ pub(crate) fn print_fault<W: Write>(
 ) -> io::Result<()>
     ensures { OnOk result (Appends (W.contents out.old) (W.contents out.new) (fault_line in_words datagram.now fault)) }
 {
-    print_told(alloc, in_words, datagram, fault, out)?;
+    print_fault_text(alloc, in_words, datagram, fault, out)?;
     print_end(out)
 }

@@ -6,8 +6,8 @@ ghost use Rattle.bac_npdu.specs.Addresses.{address_view};
 ghost use Rattle.bac_npdu.specs.Views.{destination_view, route_view, message_view, npdu_view};
 ghost use Rattle.bac_text.specs.Texts.{optional, place_text, destination_text, source_text, message_text, bvll_text, npdu_head_text, npdu_text};
 
-use crate::words::{print_end, print_octets};
 use bac_npdu::{Address, Destination, Message, Npdu, Route};
+use bac_service_text::{print_end, print_octets};
 use std::alloc::Global;
 use std::io;
 use std::io::Write;

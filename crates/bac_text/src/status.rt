@@ -31,7 +31,7 @@ impl Status {
     }
 }
 
-/// Prints a complaint; where even that fails, the status alone tells.
+/// Prints a complaint; if that fails too, only the status is left.
 pub fn complain<E: Write>(err: &mut E, message: &str, status: Status) -> Status
     ensures { result ≡ status }
 {
@@ -46,7 +46,7 @@ pub fn no_memory<E: Write>(err: &mut E) -> Status
     complain(err, "no memory", Status::Memory)
 }
 
-/// The status of a command whose input cannot be read: out of memory is told apart.
+/// The status of a command whose input cannot be read: out of memory has a status of its own.
 pub(crate) fn input_failed<E: Write>(err: &mut E, error: &io::Error) -> Status
     ensures memory { error_kind error.now ≡ ErrorKind.OutOfMemory → result ≡ Memory }
     ensures input { error_kind error.now ≢ ErrorKind.OutOfMemory → result ≡ CommandLine }
@@ -58,7 +58,7 @@ pub(crate) fn input_failed<E: Write>(err: &mut E, error: &io::Error) -> Status
     }
 }
 
-/// The status of a command whose output failed: out of memory is told apart from what could not be written.
+/// The status of a command whose output failed: out of memory has a status of its own.
 pub fn output_failed<E: Write>(err: &mut E, error: &io::Error) -> Status
     ensures memory { error_kind error.now ≡ ErrorKind.OutOfMemory → result ≡ Memory }
     ensures output { error_kind error.now ≢ ErrorKind.OutOfMemory → result ≡ Output }

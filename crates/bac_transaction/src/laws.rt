@@ -3,6 +3,8 @@ ghost use Rattle.std.specs.Prelude.{◌≡◌, ℕ};
 ghost use Rattle.bac_apdu.specs.Apdu.{Limits};
 ghost use Rattle.bac_npdu.specs.Peers.{PeerView};
 ghost use Rattle.bac_protocol.specs.Context.{Settings};
+ghost use Rattle.bac_segment.specs.Limits.{DATA};
+ghost use Rattle.bac_store.specs.ReplyLengths.{DATA_LIMIT};
 ghost use Rattle.bac_protocol.specs.Service.{Octets};
 ghost use Rattle.bac_transaction.specs.Ends.{ClientEnd};
 ghost use Rattle.std.specs.Cmp.{IsTotalOrder};
@@ -57,4 +59,9 @@ pub fn server_tables_stay_in_order()
 #[tactic(auto, using(crate::proofs::TurnedAway::turns_away))]
 pub fn full_tables_turn_requests_away()
     ensures { TurnsAway }
+{}
+
+/// The store's limit for the service data of replies is the limit of a segmented transfer, so that every reply of a store can be sent.
+pub fn replies_fit_transfers()
+    ensures { DATA_LIMIT ≡ DATA }
 {}

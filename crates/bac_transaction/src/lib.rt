@@ -23,7 +23,7 @@ pub use datagram::{Datagram, datagram_of};
 pub use invoke_id::invoke_id_of;
 pub use laws::{
     asks_take_the_least_invoke_id, client_tables_stay_in_order, full_tables_turn_requests_away,
-    keys_in_order, server_tables_stay_in_order, slots_are_held_as_tickets,
+    keys_in_order, replies_fit_transfers, server_tables_stay_in_order, slots_are_held_as_tickets,
 };
 pub use peer_key::PeerKey;
 pub use restart::is_waiting;

@@ -1,4 +1,4 @@
--- Reading the contents of a kind takes exactly the contents that values of that kind have.
+-- The readers of contents accept exactly the contents that values of the kind have.
 use Rattle.std.proofs.Common.{◌≡◌, ◌<◌, ℕ, ◌+◌, ◌*◌, ◌/◌, ◌%◌, ◌^◌, List, ◌++◌, length, Ok, refl, ap, subst, ◌∙◌, arith}
 use Rattle.std.specs.Int.{w32, from_be_bytes}
 use Rattle.std.proofs.lemmas.Bool.{eqb-true}
@@ -27,7 +27,7 @@ signed_right_of xs fits h = let k = between 0 9 (length xs) h.len in signed_of x
 object_right_of : (xs : List ℕ) → IsBytes xs → IsRight 12 xs → IsContents (object (object_in xs)) xs
 object_right_of xs fits h = object_meant xs fits (eqb-true _ _ h.len)
 
--- ---- what a value's contents give
+-- ---- reading the contents of a value
 
 pub object_again : (i : ObjectId) (xs : List ℕ) → IsObject i xs → object_in xs ≡ i
 object_again i xs h =
@@ -72,7 +72,7 @@ pub object_exact : (k : ℕ) → IsExact (object_at k) (HasContents object k)
 unfolding object_at
 object_exact k = exact_kind 12 k object_in object (λ y. refl) object_right_of object_again
 
--- contents of a kind, read as octets
+-- contents of a kind, returned as octets
 pub kind_exact : (n k : ℕ) → n < 13 → IsExact (kind_at n k) (AreOfKind n k)
 kind_exact n k lt = record {
   takes = λ bytes x fits e.

@@ -1,4 +1,4 @@
--- Reading elements takes exactly the spellings.
+-- The element reader accepts exactly the spellings of elements.
 use Rattle.std.proofs.Common.{◌≡◌, ℕ, ◌<◌, true, ltb, List, [], ◌++◌, length, take, drop, Ok, Option, Some}
 use Rattle.std.proofs.Common.{None, refl, sym, ap, subst, ◌∙◌, append_assoc, arith, IsTrue}
 use Rattle.std.proofs.lemmas.Bool.{ltb-false, le-ltb}

@@ -1,4 +1,4 @@
--- Worked examples of the definitions, by computing.
+-- Worked examples of the definitions, checked by computing.
 use Rattle.std.proofs.Common.{◌≡◌, ℕ, ◌<◌, List, [], ◌∷◌, ◌++◌, Result, Ok, Err, refl, arith, pos, neg_ℤ, ◌-◌, ◌^◌, zero, suc, replicate}
 use Rattle.bac_value.specs.declared.fault.FaultKind.{FaultKind}
 use Rattle.bac_value.specs.declared.fault.FaultKind.TheVariants.{Truncated, ReservedTag, LongForm, BadLength, NotShortest, Unbalanced}

@@ -1,4 +1,4 @@
--- Reading data takes exactly the spellings of trees that stand at the end or before a closing tag.
+-- The data reader accepts exactly the spellings of trees that are followed by the end or by a closing tag.
 use Rattle.std.proofs.Common.{◌≡◌, ℕ, zero, suc, ◌+◌, ◌-◌, ◌<◌, ◌≤◌, ltb, eqb, List, [], ◌∷◌, ◌++◌, length, take, drop, Result, Ok, Err}
 use Rattle.std.proofs.Common.{Option, Some, None, refl, sym, ap, subst, ◌∙◌, append_assoc, arith, inl, inr}
 use Rattle.std.proofs.lemmas.Bool.{ltb-true, lt-ltb, eqb-true, eq-eqb}
@@ -23,9 +23,9 @@ use Rattle.bac_value.proofs.Turns.{at_more, at_stop}
 abbrev made : ℕ → Class → Form → List ℕ → Part
 made n c f xs = record { mark = record { number = n; class = c; form = f }; contents = xs }
 
--- ---- what closes the tags that are open
+-- ---- octets that close the open tags
 
--- the closing tag of the innermost, the trees after it, and so on
+-- the closing tag of the innermost open tag, the trees after it, and so on outwards
 Tail : List ℕ → List ℕ → Type 0
 Tail [] rest = rest ≡ []
 Tail (n ∷ o) rest = (f : Forest) × (after : List ℕ) × IsWithin (8 - length o) f × (rest ≡ closing n ++ (spelling f ++ after)) × Tail o after
@@ -156,7 +156,7 @@ data_takes (suc m) (n ∷ o) [] rest fits e = absurd cc
 data_takes (suc m) [] (b ∷ bytes) rest fits e = bound_more m [] (b ∷ bytes) rest (λ p x. data_takes m p x rest) fits e
 data_takes (suc m) (n ∷ o) (b ∷ bytes) rest fits e = bound_more m (n ∷ o) (b ∷ bytes) rest (λ p x. data_takes m p x rest) fits e
 
--- ---- what is spelled so is read
+-- ---- each spelling is read
 
 tag_some : (t : Mark) → 0 < length (tag_spelling t)
 unfolding tag_spelling
@@ -205,7 +205,7 @@ turn_primitive (Boolean b) n o h = refl
 turn_primitive Opening n o h = absurd h
 turn_primitive Closing n o h = absurd h
 
--- the steps that are left after some octets
+-- the steps that remain after some octets
 Left : ℕ → List ℕ → List ℕ → List ℕ → List ℕ → Type 0
 Left steps o bytes p rest = (m : ℕ) × (length rest < m) × (data_at m p rest ≡ data_at steps o bytes)
 

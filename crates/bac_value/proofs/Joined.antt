@@ -1,4 +1,4 @@
--- Pieces joined, one more at a time.
+-- Joined pieces, by induction on the pieces.
 use Rattle.std.proofs.Common.{◌≡◌, ℕ, zero, suc, min, ◌+◌, ◌-◌, ◌<◌, ◌≤◌, List, [], ◌∷◌, ◌++◌, length, get_or, take, drop, refl, sym, ap}
 use Rattle.std.proofs.Common.{◌∙◌, append_assoc, arith, subst, inl, inr}
 use Rattle.std.specs.Global.{Vec}
@@ -79,7 +79,7 @@ copied ps i d old new total skip left over here lt o h is same =
     ap (λ (l : List ℕ). l ++ take (left - here) (drop (skip - over) r)) is
     ∙ append_assoc old (take here (drop over p)) (take (left - here) (drop (skip - over) r)) ∙ ap (λ (l : List ℕ). old ++ l) (sym e) ∙ same
 
--- a piece that is passed
+-- a piece that is skipped
 pub passed : (ps behind : List (Vec ℕ)) (v : Vec ℕ) (text total : List ℕ) (skip k len : ℕ) → ps ≡ v ∷ behind → text ≡ v.items → k ≡ length text → k ≤ skip
     → drop skip (joined ps) ≡ total → skip + len ≤ length (joined ps) → IsBytes (joined ps)
     → (drop (skip - k) (joined behind) ≡ total) × (skip - k + len ≤ length (joined behind)) × IsBytes (joined behind)
@@ -101,7 +101,7 @@ front_more xs skip (suc m) d lt some =
     let less : suc m - 1 ≡ m = omega arith in
     rw less (ap (take (suc m)) (drop_more xs skip d lt))
 
--- the first octet of what is left, and the rest of it
+-- the first of the remaining octets, and the rest
 pub first_of : (ps behind next : List (Vec ℕ)) (v : Vec ℕ) (skip len first next_skip next_len : ℕ) → ps ≡ v ∷ behind → skip < length v.items → 0 < len
     → first ≡ get_or v.items skip first
     → next_len ≡ len - 1 → drop next_skip (joined next) ≡ drop (skip + 1) (joined ps)

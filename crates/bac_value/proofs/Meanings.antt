@@ -1,4 +1,4 @@
--- Elements with right contents of a kind are one value.
+-- An element with correct contents of a kind has exactly one value.
 use Rattle.std.proofs.Common.{◌≡◌, ℕ, false, List, length, Option, Some, None, Result, Ok, Err, refl, sym, ap, subst, ◌∙◌, IsTrue, not, ltb, eqb}
 use Rattle.std.specs.Prelude.{is_some, OnErr}
 use Rattle.std.proofs.lemmas.Bool.{and_parts, not-true, eqb-false}

@@ -1,16 +1,17 @@
--- Numbers in octets, the highest first.
-use Rattle.std.proofs.Common.{◌≡◌, ℕ, zero, suc, ◌+◌, ◌-◌, ◌*◌, ◌/◌, ◌%◌, ◌^◌, ◌<◌, ◌≤◌, List, [], ◌∷◌, length, get_or, refl, sym, ap, ◌∙◌}
+-- Unsigned numbers in octets, most significant first.
+use Rattle.std.proofs.Common.{◌≡◌, ℕ, zero, suc, ◌+◌, ◌-◌, ◌*◌, ◌/◌, ◌%◌, ◌^◌, ◌<◌, ◌≤◌, List, [], replicate, ◌∷◌, length, get_or, refl, sym, ap, ◌∙◌}
 use Rattle.std.proofs.Common.{arith, inl, inr}
 use Rattle.std.proofs.Math.Nat.{pow-suc, pow-succ', pow-le-pow_right, one-le-pow, mul_assoc, mul-le-mul_right, add-mul, add_assoc}
 use Rattle.std.proofs.Math.Nat.{mul-add-mod_self_right, div-add-mod', mod-eq_of_lt, mod-lt, div-div-eq-div-mul}
 use Rattle.std.proofs.lemmas.Nat.{pow-add, mul-add-lt, le-div, div_below}
-use Rattle.std.proofs.lemmas.Grind.{pow_more}
 use Rattle.std.proofs.lemmas.Bool.{cases_lt, lt-ltb, le-ltb}
-use Rattle.std.specs.Int.{byte_at}
-use Rattle.byteorder.specs.Endian.{big_bytes}
+use Rattle.std.specs.Int.{byte_at, w64, from_be_bytes}
+use Rattle.byteorder.specs.Endian.{big_bytes, big_from}
+use Rattle.byteorder.proofs.Bytes.{from_be_bytes-put_mid8}
 use Rattle.bac_value.specs.Octets.{IsBytes}
 use Rattle.bac_value.specs.Number.{number_in, IsUnsigned, width_of, half_width_of, unsigned_octets}
 use Rattle.bac_value.proofs.Steps.{IsBytes-rest}
+use borrow.Rule.Slice.PartMut.{put_mid}
 
 pow_pos256 : (n : ℕ) → 0 < 256 ^ n
 pow_pos256 n = let h = one-le-pow n 256 (omega arith) in omega arith
@@ -22,25 +23,20 @@ number_in-lt (x ∷ xs) h =
     let fits : x * 256 ^ length xs + number_in xs < 256 ^ length xs * 256 = mul-add-lt x (256 ^ length xs) (number_in xs) 256 (h 0) below in
     rw (pow-suc 256 (length xs)) fits
 
--- ---- a turn of the loop that reads
+-- ---- octets that are read
 
-pub number_turn : (number x : ℕ) (bytes next : List ℕ) (all : ℕ) → bytes ≡ x ∷ next → number * 256 ^ length bytes + number_in bytes ≡ all
-    → (number * 256 + x) * 256 ^ length next + number_in next ≡ all
-number_turn number x bytes next all is same =
-    let p = 256 ^ length next in
-    let power : 256 ^ length (x ∷ next) ≡ p * 256 = pow-suc 256 (length next) in
-    let opened : number * 256 ^ length (x ∷ next) + (x * p + number_in next) ≡ all = ap (λ (xs : List ℕ). number * 256 ^ length xs + number_in xs) (sym is)
-    ∙ same in
-    omega (arith, ap (λ n. number * n) power, opened)
+-- leaving out the first octet of a list moves each place by one
+big_from-rest : (i n x : ℕ) (xs : List ℕ) → big_from (suc i) n (x ∷ xs) ≡ big_from i n xs
+big_from-rest i zero x xs = refl
+big_from-rest i (suc n) x xs = rw (big_from-rest (suc i) n x xs) refl
 
-pub turn_small : (number k x : ℕ) → number < 256 ^ k → x < 256 → number * 256 + x < 256 ^ (k + 1)
-turn_small number k x small lt = rw (pow_more 256 k) (omega (arith, mul-add-lt number 256 x (256 ^ k) small lt))
+big_from-all : (xs : List ℕ) → big_from 0 (length xs) xs ≡ number_in xs
+big_from-all [] = refl
+big_from-all (x ∷ xs) = rw (big_from-rest 0 (length xs) x xs, big_from-all xs) refl
 
--- room for one octet more
-pub turn_room : (number k : ℕ) → number < 256 ^ k → k < 8 → number < 2 ^ 56
-turn_room number k small few =
-    let two : 256 ^ k ≤ 256 ^ 7 = pow-le-pow_right {n = 256} (omega arith) {i = k} {j = 7} (omega arith) in
-    omega (arith, small, two)
+-- at most eight octets, preceded by zeros
+pub number_in_eight : (xs : List ℕ) → length xs ≤ 8 → from_be_bytes w64 (put_mid (8 - length xs) (8 - (8 - length xs)) (replicate 8 0) xs) ≡ number_in xs
+number_in_eight xs few = from_be_bytes-put_mid8 xs (length xs) few refl ∙ big_from-all xs
 
 pub few_octets : (xs : List ℕ) (k n : ℕ) → length xs ≤ k → n < 256 ^ length xs → n < 256 ^ k
 few_octets xs k n few lt =
@@ -85,7 +81,7 @@ width_is n lt = elim (cases_lt n 0x100) [
   ])
 ]
 
--- the same of a number that stands in the lower half of its range
+-- the same for a number in the lower half of its range
 pub record IsHalfWidth (n w : ℕ) : Type 0 where
   pub some : 0 < w
   pub most : w ≤ 8

@@ -1,4 +1,4 @@
--- No value has two spellings, and none begins another's.
+-- A value has one spelling, and no spelling is the beginning of another.
 use Rattle.std.proofs.Common.{◌≡◌, ℕ, zero, suc, ◌+◌, ◌-◌, ◌*◌, ◌^◌, ◌<◌, ◌≤◌, ℤ, pos, negsuc, ◌-ℤ◌, List, [], ◌∷◌, ◌++◌, length, get_or}
 use Rattle.std.proofs.Common.{refl, sym, ap, subst, ◌∙◌, arith, inl, inr, IsTrue}
 use Rattle.std.proofs.Math.Nat.{pow-suc, pow-le-pow_right, mul-le-mul_right}
@@ -23,7 +23,7 @@ use Rattle.bac_value.proofs.ContentLaws.{object_again}
 use Rattle.bac_value.proofs.Numbers.{number_in-lt}
 use Rattle.bac_value.proofs.Signs.{half_power, whole_power}
 
--- two lists of one length with one number are one
+-- two lists of octets with the same length and the same number are equal
 same_octets : (xs ys : List ℕ) → length xs ≡ length ys → IsBytes xs → IsBytes ys → number_in xs ≡ number_in ys → xs ≡ ys
 same_octets [] [] len p q e = refl
 same_octets [] (y ∷ ys) len p q e = absurd (omega arith)
@@ -62,12 +62,12 @@ unsigned_only n xs ys p q =
 
 -- ---- signed numbers
 
--- the number whose k octets a signed number has
+-- the unsigned number with the same k octets as a signed number
 placed : ℤ → ℕ → ℕ
 placed (pos m) k = m
 placed (negsuc m) k = 256 ^ k - 1 - m
 
--- k octets, and no fewer, are those of the signed number
+-- k octets, and no fewer, are the contents of the signed number
 record IsPlaced (z : ℤ) (n k : ℕ) : Type 0 where
   some : 0 < k
   fits : distance z < 128 * 256 ^ (k - 1)
@@ -84,7 +84,7 @@ signed_high : (xs : List ℕ) (j : ℕ) → length xs ≡ suc j → 128 * 256 ^ 
     → signed_in xs ≡ negsuc (256 * 256 ^ j - 1 - number_in xs)
 signed_high xs j len le lt = rw (len, half_power j, whole_power j, le-ltb (number_in xs) (128 * 256 ^ j) le) (below_zero (number_in xs) (256 * 256 ^ j) lt)
 
--- what the first two octets say of a number with more octets after them
+-- what the first two octets must be if more octets follow
 front_low : (x y p r : ℕ) → (x ≡ 0 → 128 ≤ y) → 128 * p ≤ x * (p * 256) + (y * p + r)
 front_low zero y p r h = let two : 128 * p ≤ y * p = mul-le-mul_right p (h refl) in omega (arith, two)
 front_low (suc x) y p r h = let one : 1 * (p * 256) ≤ suc x * (p * 256) =
@@ -104,7 +104,7 @@ front_high x y p r xlt ylt rlt h =
           omega (arith, one, two, rlt)
     ]
 
--- the number in octets is between these where nothing can be left out
+-- bounds of the number if no octet is redundant
 record IsBetween (n j : ℕ) : Type 0 where
   low : (i : ℕ) → j ≡ suc i → 128 * 256 ^ i ≤ n
   high : (i : ℕ) → j ≡ suc i → n < 65408 * 256 ^ i
@@ -267,7 +267,7 @@ value_element d a s = record {
   is = s.is;
 }
 
--- the value that a tag and contents are
+-- the value that a tag and contents encode
 value_by : Form → ℕ → List ℕ → Datum
 value_by (Length k) n xs = datum_in n xs
 value_by (Boolean b) n xs = boolean b

@@ -1,4 +1,4 @@
--- What reading finds right in contents is what values of that kind have as contents.
+-- Contents that the reader accepts are exactly the contents of values of that kind.
 use Rattle.std.proofs.Common.{◌≡◌, ℕ, zero, suc, ◌+◌, ◌*◌, ◌/◌, ◌%◌, ◌^◌, ◌<◌, ◌≤◌, Bool, true, false, cond, ltb, eqb, List, [], ◌∷◌}
 use Rattle.std.proofs.Common.{length, get_or, Some, None, refl, sym, ap, ◌∙◌, arith, IsTrue, ◌&&◌}
 use Rattle.std.specs.Int.{w32, to_be_bytes, from_be_bytes}
@@ -22,7 +22,7 @@ empty : (xs : List ℕ) → length xs ≡ 0 → xs ≡ []
 empty [] e = refl
 empty (x ∷ xs) e = absurd (omega arith)
 
--- a test that gives a fault where it holds
+-- a test that returns a fault if it holds
 pub no_fault : (b : Bool) (e : FaultKind) → cond b (Some e) None ≡ None → b ≡ false
 no_fault true e h = absurd cc
 no_fault false e h = refl
@@ -37,7 +37,7 @@ between low high k h = let p = and_parts (ltb low k) (ltb k high) h in (ltb-true
 pub between_from : (low high k : ℕ) → low < k → k < high → ltb low k && ltb k high ≡ true
 between_from low high k p q = and_from (ltb low k) (ltb k high) (lt-ltb low k p) (lt-ltb k high q)
 
--- ---- what is found right is a value's
+-- ---- accepted contents are those of a value
 
 not_longer : (xs : List ℕ) → is_longer_unsigned xs ≡ false → 1 < length xs → 0 < get_or xs 0 0
 not_longer xs e more = grind (arith, nat_tests)
@@ -84,7 +84,7 @@ object_in xs = record { kind = number_in xs / 2 ^ 22; instance = number_in xs % 
 pub object_meant : (xs : List ℕ) → IsBytes xs → length xs ≡ 4 → IsObject (object_in xs) xs
 object_meant xs fits len = rw (four xs len) (object_of xs fits len)
 
--- the value that right contents mean
+-- the value of correct contents
 abbrev pub IsMeant : ℕ → List ℕ → Type 0
 IsMeant n xs = (kind_number (datum_in n xs) ≡ n) × IsContents (datum_in n xs) xs
 
@@ -116,7 +116,7 @@ kind_meant (suc (suc (suc (suc (suc (suc (suc (suc (suc (suc (suc (suc (suc n)))
 pub kind_takes : (n : ℕ) (xs : List ℕ) → n < 13 → IsBytes xs → IsTrue (length_in n (length xs)) → flaw n xs ≡ None → IsOfKind n xs
 kind_takes n xs lt fits len e = let h = kind_meant n xs lt fits len e in (datum_in n xs, h.0, h.1)
 
--- ---- what a value has is found right
+-- ---- the contents of a value are accepted
 
 unsigned_right : (most n : ℕ) (xs : List ℕ) → IsNumber most n xs → is_longer_unsigned xs ≡ false
 unsigned_right most n xs h = let s = h.spelled.shortest in grind (arith, nat_tests)

@@ -25,11 +25,11 @@ half_power j =
 pub whole_power : (j : ℕ) → 2 ^ (8 * suc j) ≡ 256 * 256 ^ j
 whole_power j = bits_power (suc j) ∙ rw (pow-suc 256 j) (omega arith)
 
--- j + 1 octets of n, read in two's complement
+-- j + 1 octets of n, read as two's complement
 signed_in-big : (j n : ℕ) → n < 256 ^ suc j → signed_in (big_bytes (suc j) n) ≡ cond (ltb n (128 * 256 ^ j)) (pos n) (pos n -ℤ pos (256 * 256 ^ j))
 signed_in-big j n lt = rw (length-big (suc j) n, number_in_big (suc j) n lt, half_power j, whole_power j) refl
 
--- what the first two octets of a number need
+-- what the first two octets of a number must be
 pub record IsSignedFront (x y : ℕ) : Type 0 where
   pub zeros : x ≡ 0 → 128 ≤ y
   pub ones : x ≡ 255 → y < 128

@@ -1,4 +1,4 @@
--- What a chain of readings on lists took.
+-- What a chain of list readers consumed.
 use Rattle.std.specs.Prelude.{IfOk, IfErr}
 use Rattle.std.proofs.Common.{◌≡◌, ℕ, suc, ◌+◌, ◌-◌, Bool, true, false, cond, List, [], ◌∷◌, ◌++◌, ◌<◌, length, take, drop, Result, Ok, Err, refl}
 use Rattle.std.proofs.Common.{sym, ap, subst, ◌∙◌, append_assoc, arith, inl, inr, ◌⊎◌}
@@ -21,17 +21,17 @@ IsBytes-take n bytes h i =
 pub IsBytes-rest : (b : ℕ) (bytes : List ℕ) → IsBytes (b ∷ bytes) → IsBytes bytes
 IsBytes-rest b bytes h i = h (suc i)
 
--- the value of a step that did not fail
+-- the value of a step that succeeded
 pub bind_ok : {A B E : Type 0} (r : Result A E) (f : A → Result B E) (y : B) → (r >>= f) ≡ Ok y → (x : A) × (r ≡ Ok x) × (f x ≡ Ok y)
 bind_ok (Ok x) f y e = (x, refl, e)
 bind_ok (Err d) f y e = absurd cc
 
--- which way a test went
+-- the two outcomes of a test
 pub chosen : {A : Type 0} (b : Bool) (x y z : A) → cond b x y ≡ z → ((b ≡ true) × (x ≡ z)) ⊎ ((b ≡ false) × (y ≡ z))
 chosen true x y z e = inl (refl, e)
 chosen false x y z e = inr (refl, e)
 
--- a test that refuses where it holds, and one that refuses where it does not
+-- a test that refuses if it holds, and one that refuses if it does not
 pub unless_ok : {A E : Type 0} (b : Bool) (d : E) (x : Result A E) (y : A) → cond b (Err d) x ≡ Ok y → (b ≡ false) × (x ≡ Ok y)
 unless_ok true d x y e = absurd cc
 unless_ok false d x y e = (refl, e)
@@ -40,14 +40,14 @@ pub where_ok : {A E : Type 0} (b : Bool) (d : E) (x : Result A E) (y : A) → co
 where_ok true d x y e = (refl, e)
 where_ok false d x y e = absurd cc
 
--- a value that was read, beside faults of this type
+-- a value that was read, where faults have this type
 abbrev pub done : {A : Type 0} (E : Type 0) → A → Result A E
 done E x = Ok x
 
 pub ok_is : {A E : Type 0} (x y : A) → done E x ≡ done E y → x ≡ y
 ok_is x y e = cc
 
--- one side of what a reader of all that is left answered
+-- one component of the result of a reader of everything that is left
 pub ok_by : {X Y E : Type 0} (view : X → Y) (r : Result X E) (read : Result Y E) (R : X → Type 0) → ReadsAll view r read
     → ((x : X) → read ≡ Ok (view x) → R x) → IfOk r R
 ok_by view (Ok x) read R h f = f x h
@@ -58,7 +58,7 @@ pub err_by : {X Y E : Type 0} (view : X → Y) (r : Result X E) (read : Result Y
 err_by view (Ok x) read R h f = tt
 err_by view (Err e) read R h f = f e h
 
--- what a reader took from the front
+-- what a reader consumed from the front
 pub record Takes (bytes text rest : List ℕ) : Type 0 where
   pub parts : bytes ≡ text ++ rest
   pub rest_fits : IsBytes rest
@@ -66,7 +66,7 @@ pub record Takes (bytes text rest : List ℕ) : Type 0 where
 pub Takes-then : (a x b y c : List ℕ) → Takes a x b → Takes b y c → Takes a (x ++ y) c
 Takes-then a x b y c p q = record { parts = p.parts ∙ ap (λ (t : List ℕ). x ++ t) q.parts ∙ sym (append_assoc x y c); rest_fits = q.rest_fits }
 
--- an octet that was read
+-- an octet that was consumed
 pub octet_takes : {E : Type 0} (e : E) (bytes : List ℕ) (x : ℕ × List ℕ) → IsBytes bytes → octet_at e bytes ≡ Ok x
     → Takes bytes (x.0 ∷ []) x.1 × (x.0 < 256)
 octet_takes e [] x fits h = absurd cc

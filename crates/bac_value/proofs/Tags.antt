@@ -1,4 +1,4 @@
--- The two laws of tags: what is read is spelled so, and what is spelled so is read.
+-- The two laws of tags: what is read is a spelling of the tag, and each spelling is read as its tag.
 use Rattle.std.proofs.Common.{◌≡◌, ℕ, zero, suc, ◌+◌, ◌*◌, ◌/◌, ◌%◌, ◌^◌, ◌<◌, ◌≤◌, Bool, true, false, cond, ltb, eqb, List, [], ◌∷◌, ◌++◌}
 use Rattle.std.proofs.Common.{length, take, drop, Result, Ok, Err, refl, sym, ap, subst, ◌∙◌, append_assoc, arith, inl, inr, IsTrue, not}
 use Rattle.std.proofs.Common.{◌⊎◌}

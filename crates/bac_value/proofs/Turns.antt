@@ -1,4 +1,4 @@
--- Reading data, an element at a time.
+-- Reading data, one element at a time.
 use Rattle.std.proofs.Common.{◌≡◌, ℕ, zero, suc, ◌+◌, ◌-◌, ◌<◌, List, [], ◌∷◌, ◌++◌, length, take, drop, Result, Ok, Err, Option, Some, None}
 use Rattle.std.proofs.Common.{refl, sym, ap, subst, ◌∙◌, append_assoc, arith}
 use Rattle.std.proofs.lemmas.List.{length-append, take-append-drop, drop-append-le, drop_at, drop-drop}
@@ -95,7 +95,7 @@ pub onward_step : (p rest q more : List ℕ) → length more < length rest → s
 onward_step p rest q more less e steps enough =
     on_more steps p rest q more (data_at steps p rest) (fault_rest steps p rest) less enough e refl refl
 
--- an element at the front of some octets is read in the same way with more octets behind them
+-- an element at the front is read in the same way if more octets follow
 element_on : (e : Part) (xs rest behind : List ℕ) → IsBytes xs → element_at xs ≡ Ok (e, rest) → element_at (xs ++ behind) ≡ Ok (e, rest ++ behind)
 element_on e xs rest behind bytes is =
     let t = element_exact.takes xs (e, rest) bytes is in
@@ -138,7 +138,7 @@ over_at e o run p rest next behind bytes so_far is turned less =
       step_on e p (rest ++ behind) (next ++ behind) None (element_on e rest next behind fits is) turned,
     )
 
--- the same of a run at the front of some octets
+-- the same for a run of octets at the front
 pub passed_in : (o xs run q left after : List ℕ) → run ≡ take (length run) xs → IsPassed o run q left → after ≡ drop (length run - length left) xs
     → after ≡ left ++ drop (length run) xs
 passed_in o xs run q left after is passed at =

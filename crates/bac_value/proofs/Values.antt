@@ -1,4 +1,4 @@
--- Each value's spelling spells it.
+-- The function that spells a value agrees with the relation.
 use Rattle.std.proofs.Common.{ℕ, ◌<◌, ◌≤◌, ◌^◌, length, refl, arith}
 use Rattle.bac_value.specs.Number.{unsigned_octets, width_of, distance}
 use Rattle.bac_value.specs.Value.{Datum, null, boolean, unsigned, signed, real, double, octets, characters, bits, enumerated, date, time}

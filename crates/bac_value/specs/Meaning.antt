@@ -1,23 +1,23 @@
--- The value that an element is.
+-- The value that an element encodes.
 use Rattle.std.specs.Prelude.{◌≡◌, ℕ, ◌/◌, ◌%◌, ◌^◌, true, ◌==◌, if◌then◌else◌, List, [], length, drop, slice_index}
 use Rattle.bac_value.specs.Number.{number_in, signed_in}
 use Rattle.bac_value.specs.Value.{Datum, null, boolean, unsigned, signed, real, double, octets, characters, bits, enumerated, date, time}
 use Rattle.bac_value.specs.Value.{object, mark_for, IsContents}
 use Rattle.bac_value.specs.Element.{Part}
 
--- the element is the value: its tag is that of the value's kind, and its contents are the value's
+-- the element encodes the value: its tag is that of the value's kind, and its contents are the value's
 pub record IsValueOf (d : Datum) (p : Part) : Type 0 where
   pub tag : p.mark ≡ mark_for d (length p.contents)
   pub contents : IsContents d p.contents
 
--- the octets that a value holds in memory of its own
+-- the octets that a value owns
 abbrev pub copied : Datum → List ℕ
 copied (octets a) = a
 copied (characters set text) = text
 copied (bits unused text) = text
 copied _ = []
 
--- the value in contents of a kind that are right
+-- the value with these contents, which are correct for the kind
 abbrev pub datum_in : ℕ → List ℕ → Datum
 datum_in n xs =
     if n == 0 then null else

@@ -1,5 +1,5 @@
--- Reading from left to right, on lists alone: what a reader answers, and which fault it finds first.
--- That these answers are exactly the spellings are laws beside the readers in code.
+-- Readers as functions on lists, from left to right: what is read, and which fault is found first.
+-- Laws next to the readers in code state that exactly the spellings are accepted.
 use Rattle.std.specs.Prelude.{◌≡◌, ℕ, zero, suc, ◌-◌, ◌/◌, ◌%◌, ◌<◌, ◌≤◌, ◌^◌, ℤ, slice_index, List, [], ◌∷◌, ◌++◌, length, take, drop, Option, Some}
 use Rattle.std.specs.Prelude.{None, Result, Ok, Err, Bool, true, false, nat_lt, ◌==◌, ◌&&◌, ◌||◌, if◌then◌else◌}
 use Rattle.std.specs.Int.{Width, w16, w32, byte_len, from_be_bytes}
@@ -27,7 +27,7 @@ tag_number_at high bytes =
       n ← octet_at Truncated bytes
       if nat_lt n.0 15 then Err LongForm else (if nat_lt n.0 255 then Ok (n.0, n.1) else Err ReservedTag))
 
--- a length in several octets, not below the least that stands in so many
+-- a length in several octets, which must need that many
 unfoldable pub wide_at : Width → ℕ → List ℕ → Result (ℕ × List ℕ) FaultKind
 wide_at w least bytes =
     if nat_lt (length bytes) (byte_len w) then Err Truncated else
@@ -52,7 +52,7 @@ form_at low false n bytes =
       k ← length_at low bytes
       Ok (record { number = n; class = Application; form = Length k.0 }, k.1))))
 
--- the whole tag is read before anything after it is looked at
+-- the whole tag is read before anything after it
 unfoldable pub tag_at : List ℕ → Result (Mark × List ℕ) FaultKind
 tag_at bytes = do
   b ← octet_at Truncated bytes
@@ -61,7 +61,7 @@ tag_at bytes = do
 
 -- ---- contents (clause 20.2)
 
--- how many octets the contents of a kind may have; a Boolean has none after an application tag
+-- the allowed lengths of contents of a kind; a Boolean has none after an application tag
 abbrev pub length_in : ℕ → ℕ → Bool
 length_in n k =
     if n == 0 || n == 1 then k == 0 else
@@ -71,7 +71,7 @@ length_in n k =
     (if n == 7 || n == 8 then nat_lt 0 k else
     (if n == 9 then (nat_lt 0 k && nat_lt k 5) else k == 4)))))
 
--- a first octet that could be left out
+-- whether the first octet is redundant
 abbrev pub is_longer_unsigned : List ℕ → Bool
 is_longer_unsigned xs = nat_lt 1 (length xs) && slice_index xs 0 == 0
 
@@ -79,7 +79,7 @@ abbrev pub is_longer_signed : List ℕ → Bool
 is_longer_signed xs =
     nat_lt 1 (length xs) && ((slice_index xs 0 == 0 && nat_lt (slice_index xs 1) 128) || (slice_index xs 0 == 255 && nat_lt 127 (slice_index xs 1)))
 
--- what is wrong with contents of a kind whose length is right
+-- what is wrong with contents of a kind, if their length is correct
 abbrev pub flaw : ℕ → List ℕ → Option FaultKind
 flaw n xs =
     if n == 2 || n == 9 then (if is_longer_unsigned xs then Some NotShortest else None) else
@@ -90,11 +90,11 @@ abbrev pub unless_flaw : {A : Type 0} → Option FaultKind → A → Result A Fa
 unless_flaw None x = Ok x
 unless_flaw (Some e) x = Err e
 
--- so many octets
+-- this many octets
 unfoldable pub raw_at : ℕ → List ℕ → Result (List ℕ × List ℕ) FaultKind
 raw_at k bytes = if nat_lt (length bytes) k then Err Truncated else Ok (take k bytes, drop k bytes)
 
--- contents of a kind: their length is tested, then that they are there, then their octets
+-- contents of a kind: first the length is tested, then whether all octets are present, then the octets
 unfoldable pub kind_at : ℕ → ℕ → List ℕ → Result (List ℕ × List ℕ) FaultKind
 kind_at n k bytes =
     if length_in n k then (do
@@ -118,19 +118,19 @@ element_at bytes = do
   c ← contents_at t.0 t.0.form t.1
   Ok (record { mark = t.0; contents = c.0 }, c.1)
 
--- the number in so many octets of an Unsigned (2) or an Enumerated (9)
+-- the number in this many octets of an Unsigned (2) or an Enumerated (9)
 unfoldable pub number_at : ℕ → ℕ → List ℕ → Result (ℕ × List ℕ) FaultKind
 number_at n k bytes = do
   c ← kind_at n k bytes
   Ok (number_in c.0, c.1)
 
--- the number in so many octets of a Signed
+-- the number in this many octets of a Signed
 unfoldable pub signed_at : ℕ → List ℕ → Result (ℤ × List ℕ) FaultKind
 signed_at k bytes = do
   c ← kind_at 3 k bytes
   Ok (signed_in c.0, c.1)
 
--- the type and the instance in so many octets of an ObjectIdentifier
+-- the type and the instance in this many octets of an ObjectIdentifier
 unfoldable pub object_at : ℕ → List ℕ → Result (ObjectId × List ℕ) FaultKind
 object_at k bytes = do
   c ← kind_at 12 k bytes
@@ -138,7 +138,7 @@ object_at k bytes = do
 
 -- ---- data (clause 20.2.1.3.2)
 
--- the tags that are open after an element, or None where the data end before it
+-- the tags that are open after an element, or None if the data end before it
 unfoldable pub turn : Form → ℕ → List ℕ → Result (Option (List ℕ)) FaultKind
 turn (Length k) n opened = Ok (Some opened)
 turn (Boolean b) n opened = Ok (Some opened)
@@ -150,7 +150,7 @@ abbrev pub with_rest : List ℕ → Option (List ℕ) → Option (List ℕ × Li
 with_rest rest None = None
 with_rest rest (Some opened) = Some (opened, rest)
 
--- one element more: the tags that are open then, and what is left
+-- one more element: the tags that are open then, and the octets after it
 unfoldable pub step_at : List ℕ → List ℕ → Result (Option (List ℕ × List ℕ)) FaultKind
 step_at opened bytes = do
   e ← element_at bytes
@@ -165,7 +165,7 @@ abbrev pub rest_of_step : {A : Type 0} → Result (Option (List ℕ × List ℕ)
 rest_of_step (Ok s) stop on = goes_on s stop on
 rest_of_step (Err e) stop on = stop
 
--- what is left after data, with so many elements at most; data that end inside an opened tag are Truncated
+-- the octets after data of at most this many elements; data that end inside an opened tag are Truncated
 unfoldable pub data_at : ℕ → List ℕ → List ℕ → Result (List ℕ) FaultKind
 data_at zero opened bytes = Err Truncated
 data_at (suc steps) [] [] = Ok []
@@ -177,63 +177,63 @@ data_at (suc steps) opened (b ∷ bytes) = do
 abbrev pub data_of : List ℕ → Result (List ℕ) FaultKind
 data_of bytes = data_at (suc (length bytes)) [] bytes
 
--- what is left where reading data finds a fault: the octets from the faulty element on, or none for data that end inside an opened tag
+-- the octets from the faulty element on, or none for data that end inside an opened tag
 unfoldable pub fault_rest : ℕ → List ℕ → List ℕ → List ℕ
 fault_rest zero opened bytes = bytes
 fault_rest (suc steps) opened [] = []
 fault_rest (suc steps) opened (b ∷ bytes) = rest_of_step (step_at opened (b ∷ bytes)) (b ∷ bytes) (λ o rest. fault_rest steps o rest)
 
--- how many octets are before a fault in data
+-- how many octets precede a fault in data
 abbrev pub fault_place : List ℕ → ℕ
 fault_place bytes = length bytes - length (fault_rest (suc (length bytes)) [] bytes)
 
--- what a turn of the code did
+-- the result of one element in the code's loop
 abbrev pub Turns : List ℕ → Result Bool FaultKind → Result (Option (List ℕ)) FaultKind → Type 0
 Turns new (Ok true) t = t ≡ Ok (Some new)
 Turns new (Ok false) t = t ≡ Ok None
 Turns new (Err e) t = t ≡ Err e
 
--- where it opened or closed no tag, the open tags stay
+-- the open tags are unchanged if no tag was opened or closed
 abbrev pub StaysUnlessTurned : Result Bool FaultKind → List ℕ → List ℕ → Type 0
 StaysUnlessTurned (Ok true) old new = Unit {0}
 StaysUnlessTurned (Ok false) old new = new ≡ old
 StaysUnlessTurned (Err e) old new = new ≡ old
 
--- what a step of the code did
+-- the result of one step of the code
 abbrev pub Steps : {R : Type 0} → (R → List ℕ) → List ℕ → Result (Option R) FaultKind → Result (Option (List ℕ × List ℕ)) FaultKind → Type 0
 Steps rest new (Ok (Some next)) r = r ≡ Ok (Some (new, rest next))
 Steps rest new (Ok None) r = r ≡ Ok None
 Steps rest new (Err e) r = r ≡ Err e
 
--- with these tags open, reading the rest gives what reading all the octets gave, so that it lies some elements further on
+-- reading the rest with these tags open has the same result as reading all the octets, so that it is some elements further on
 abbrev pub Onward : List ℕ → List ℕ → List ℕ → List ℕ → Type 0
 Onward old bytes new rest =
     (steps : ℕ) → length bytes < steps
     → (m : ℕ) × (length rest < m) × (data_at m new rest ≡ data_at steps old bytes) × (fault_rest m new rest ≡ fault_rest steps old bytes)
 
--- the data end before the first of these octets, which begin with a closing tag
+-- the data end before these octets, which begin with a closing tag
 abbrev pub IsOver : List ℕ → List ℕ → Type 0
 IsOver opened bytes = (0 < length bytes) × (step_at opened bytes ≡ Ok None)
 
--- what is left of a run of octets after some elements at its front, whatever comes behind it
+-- the rest of a run of octets after some elements at its front, whatever follows the run
 pub record IsPassed (old run new left : List ℕ) : Type 0 where
   pub within : length left ≤ length run
   pub end : drop (length run - length left) run ≡ left
   pub onward : (behind : List ℕ) → Onward old (run ++ behind) new (left ++ behind)
 
--- what reading data answered, with a place among the octets
+-- the result of reading data, with a place among the octets
 abbrev pub ReadsData : {R : Type 0} → (R → List ℕ) → List ℕ → Result R Fault → Result (List ℕ) FaultKind → Type 0
 ReadsData rest bytes (Ok r) read = (length (rest r) ≤ length bytes) × (read ≡ Ok (rest r))
 ReadsData rest bytes (Err e) read = (e.at ≤ length bytes) × (read ≡ Err e.kind) × (e.at ≡ fault_place bytes)
 
--- data stand in front, up to the end or a closing tag
+-- the octets begin with data, followed by the end or a closing tag
 pub record IsDataTaken (bytes text rest : List ℕ) : Type 0 where
   pub parts : bytes ≡ text ++ rest
   pub whole : IsData text
   pub ends : Ends rest
   pub exact : data_of bytes ≡ Ok rest
 
--- no data stand in front; which fault is found first, and where, among the octets or at their end
+-- the octets do not begin with data; which fault is found first, and where: among the octets or at their end
 pub record IsDataRefused (bytes : List ℕ) (e : Fault) : Type 0 where
   pub none : (k : ℕ) → IsDataFront bytes k → ⊥
   pub exact : data_of bytes ≡ Err e.kind

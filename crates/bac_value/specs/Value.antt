@@ -13,7 +13,7 @@ pub record ObjectId : Type 0 where
   pub kind : ℕ
   pub instance : ℕ
 
--- a value, without where it lies in memory
+-- an abstract value, independent of its place in memory
 pub data Datum : Type 0 where
   null : Datum
   boolean : Bool → Datum
@@ -45,7 +45,7 @@ kind_number (date a) = 10
 kind_number (time a) = 11
 kind_number (object i) = 12
 
--- a number of at most so many octets
+-- a number of at most this many octets
 pub record IsNumber (most n : ℕ) (xs : List ℕ) : Type 0 where
   pub spelled : IsUnsigned n xs
   pub few : length xs ≤ most
@@ -54,7 +54,7 @@ pub record IsInteger (most : ℕ) (z : ℤ) (xs : List ℕ) : Type 0 where
   pub spelled : IsSigned z xs
   pub few : length xs ≤ most
 
--- so many raw octets
+-- this many raw octets
 pub record IsRaw (size : ℕ) (a xs : List ℕ) : Type 0 where
   pub is : xs ≡ a
   pub sized : length a ≡ size
@@ -70,7 +70,7 @@ pub record IsObject (i : ObjectId) (xs : List ℕ) : Type 0 where
   pub instance_fits : i.instance < 2 ^ 22
   pub is : xs ≡ to_be_bytes w32 (i.kind * 2 ^ 22 + i.instance)
 
--- the contents of a value (clauses 20.2.2 to 20.2.14); numbers have at most 8 octets, and an Enumerated 4 (own rule of this profile)
+-- the contents of a value (clauses 20.2.2 to 20.2.14); numbers have at most 8 octets, an Enumerated 4 (own rule of this profile)
 abbrev pub IsContents : Datum → List ℕ → Type 0
 IsContents null xs = xs ≡ []
 IsContents (boolean b) xs = xs ≡ []
@@ -86,23 +86,23 @@ IsContents (date a) xs = IsRaw 4 a xs
 IsContents (time a) xs = IsRaw 4 a xs
 IsContents (object i) xs = IsObject i xs
 
--- clause 20.2.3: a Boolean stands in its tag; all others have a length there
+-- clause 20.2.3: the tag holds the value of a Boolean, and the length of all others
 abbrev pub form_of : Datum → ℕ → Form
 form_of (boolean b) k = form.Boolean b
 form_of _ k = form.Length k
 
--- the application tag of a value whose contents have so many octets
+-- the application tag of a value whose contents have this many octets
 abbrev pub mark_for : Datum → ℕ → Mark
 mark_for d k = record { number = kind_number d; class = Application; form = form_of d k }
 
--- the octets are a value: its tag, then its contents
+-- the octets encode a value: its tag, then its contents
 pub record SpellsValue (d : Datum) (bytes : List ℕ) : Type 0 where
   pub contents : List ℕ
   pub are : IsContents d contents
   pub fits : length contents < 2 ^ 32
   pub is : bytes ≡ tag_spelling (mark_for d (length contents)) ++ contents
 
--- the values that have a spelling (own rule of this profile: numbers of at most 64 bits, an Enumerated of at most 32)
+-- the values that can be encoded (own rule of this profile: numbers of at most 64 bits, an Enumerated of at most 32)
 abbrev pub IsValue : Datum → Type 0
 IsValue null = Unit {0}
 IsValue (boolean b) = Unit {0}

@@ -1,4 +1,4 @@
--- What contracts see of the types in code.
+-- The abstract values of the types in code, as contracts use them.
 use Rattle.std.specs.Prelude.{ℕ, List, take, drop}
 use Rattle.bac_value.specs.declared.tag.Tag.{Tag}
 use Rattle.bac_value.specs.declared.value.Value.{Value}
@@ -36,6 +36,6 @@ value_view (value.Date a) = date a
 value_view (value.Time a) = time a
 value_view (value.ObjectIdentifier i) = object (object_identifier_view i)
 
--- the octets that are left in pieces
+-- the octets that are left of pieces
 abbrev pub parts_view : Parts → List ℕ
 parts_view p = take p.len (drop p.skip (joined p.parts.now))

@@ -1,4 +1,4 @@
--- The one spelling of each value, as a function of it: what writers append.
+-- The one spelling of each value as a function: what writers append.
 use Rattle.std.specs.Prelude.{◌≡◌, ℕ, ◌+◌, ◌*◌, ◌^◌, List, [], ◌∷◌, ◌++◌, length}
 use Rattle.std.specs.Int.{w32, to_be_bytes}
 use Rattle.bac_value.specs.declared.tag.Class.{Class}
@@ -38,7 +38,7 @@ contents_of (object i) = object_octets i
 abbrev pub value_spelling : Datum → List ℕ
 value_spelling d = tag_spelling (mark_for d (length (contents_of d))) ++ contents_of d
 
--- new is old with the spelling of a value after it
+-- new is old followed by the spelling of a value
 pub record AppendsValue (d : Datum) (old new : List ℕ) : Type 0 where
   pub spelled : SpellsValue d (value_spelling d)
   pub is : new ≡ old ++ value_spelling d

@@ -1,4 +1,4 @@
-//! Contents of tags: their length, then the octets (clauses 20.2.2 to 20.2.14).
+//! The contents octets of a tag: their length, then the octets themselves (clauses 20.2.2 to 20.2.14).
 ghost use Rattle.std.specs.Prelude.{◌≡◌, ℕ, ◌<◌, ◌≤◌, ◌+◌, ◌-◌, ◌%◌, ◌^◌, ◌==◌, ◌&&◌, ◌∷◌, length, drop, take, slice_index, MatchOption, IfOk};
 ghost use Rattle.std.specs.Prelude.{IsTrue, true};
 ghost use Rattle.bac_value.specs.Element.{AreOfKind, HasContents};
@@ -73,7 +73,7 @@ fn last_octet<O: Octets>(octets: O) -> u8
     }
 }
 
-/// Whether a bit string may have so many unused bits and these octets of bits (clause 20.2.10; own rule of this profile).
+/// Whether a bit string may consist of this number of unused bits and these octets (clause 20.2.10; own rule of this profile).
 pub(crate) fn are_bits_fit<O: Octets>(unused: u8, octets: O) -> bool
     ensures { result ≡ bits_fit unused (O.octets octets) }
 {
@@ -119,10 +119,10 @@ fn take_raw<O: Octets>(octets: O, len: usize) -> Result<(O, O), FaultKind>
     Ok(octets.split(len))
 }
 
-/// `len` octets of contents of a kind (one of `kinds`), and what is left after them.
+/// Reads `len` octets of contents of a kind (one of `kinds`), and returns them and the octets after them.
 ///
-/// This is how the contents of a context tag are read whose type is known. The length is tested first (`BadLength`), then that
-/// the octets are there (`Truncated`), then the octets themselves (`NotShortest`, `ReservedBits`).
+/// Call it for the contents of a context tag whose type is known. The length is tested first (`BadLength`), then whether all
+/// octets are present (`Truncated`), then the octets themselves (`NotShortest`, `ReservedBits`).
 #[tactic(auto, unfolding(crate::specs::Reading::kind_at))]
 #[inline(always)]
 pub fn take_contents<O: Octets>(octets: O, kind: u8, len: usize) -> Result<(O, O), FaultKind>
@@ -140,10 +140,10 @@ pub fn take_contents<O: Octets>(octets: O, kind: u8, len: usize) -> Result<(O, O
     }
 }
 
-/// What reading contents takes: octets that values of a kind have as contents, and no others (clauses 20.2.2 to 20.2.14).
+/// Law: the contents readers accept exactly the contents that values of a kind have (clauses 20.2.2 to 20.2.14).
 ///
-/// `take_contents` is `kinds`; `take_unsigned`, `take_enumerated`, `take_signed` and `take_object_identifier` are the others,
-/// which give the value that has these contents.
+/// Clause `kinds` is about `take_contents`; the others are about `take_unsigned`, `take_enumerated`, `take_signed` and
+/// `take_object_identifier`, which return the value with these contents.
 pub fn exact_contents()
     ensures kinds { (n len : ℕ) → n < 13 → IsExact (kind_at n len) (AreOfKind n len) }
     ensures unsigned { (len : ℕ) → IsExact (number_at 2 len) (HasContents unsigned len) }
@@ -169,7 +169,7 @@ fn contents_of_class<O: Octets>(
     }
 }
 
-/// The contents after a tag, and what is left after them.
+/// Reads the contents after a tag, and returns them and the octets after them.
 #[tactic(auto, unfolding(crate::specs::Reading::contents_at))]
 #[inline(always)]
 pub(crate) fn contents_after<O: Octets>(octets: O, tag: Tag) -> Result<(O, O), FaultKind>

@@ -1,4 +1,4 @@
-//! Octets that are data, lent or with their memory.
+//! Encoded data, borrowed (`Data`) or owned (`DataBuf`).
 ghost use Rattle.std.specs.Prelude.{◌≡◌, ◌<◌, length, IfOk, OnErr};
 ghost use Rattle.bac_value.specs.Data.{IsData};
 
@@ -7,24 +7,24 @@ use crate::memory::NoMemory;
 use crate::octets::{Octets, copy_of};
 use std::alloc::Global;
 
-/// Octets that are data: whole elements, each opened tag closed by its own number, at most 8 open at once. May be empty.
+/// Borrowed data: whole elements, where each opening tag is closed by its own number and at most 8 are open at once. May be empty.
 #[derive(Clone, Copy, Debug)]
 pub struct Data<'a> {
-    /// The spellings of the elements, one after the other.
+    /// The encoded elements, one after the other.
     pub octets: &'a [u8],
     pub ghost whole: { ∥ IsData octets.now ∥₁ },
 }
 
-/// Octets that are data, with their memory.
+/// Data that own their octets.
 #[derive(Debug, Drop)]
 pub struct DataBuf {
-    /// The spellings of the elements, one after the other.
+    /// The encoded elements, one after the other.
     pub octets: Vec<u8>,
     pub ghost whole: { ∥ IsData octets.items ∥₁ },
 }
 
 impl DataBuf {
-    /// A copy of octets that are data, in one allocation where there are octets, otherwise in none. `NoMemory` where it is refused.
+    /// Copies data, in one allocation if there are octets and in none otherwise. Returns `NoMemory` if that allocation fails.
     pub fn copied<O: Octets>(alloc: Global, octets: O) -> Result<DataBuf, NoMemory>
         requires { ∥ IsData (O.octets octets) ∥₁ }
         ensures same { IfOk result (λ copy. copy.octets.items ≡ O.octets octets) }
@@ -34,7 +34,7 @@ impl DataBuf {
         Ok(DataBuf { octets })
     }
 
-    /// Lends the data.
+    /// Borrows the data.
     pub fn as_data(&self) -> Data<'_>
         ensures { result.octets.now ≡ self.now.octets.items }
     {
@@ -43,7 +43,7 @@ impl DataBuf {
         }
     }
 
-    /// The octets, without taking memory.
+    /// The encoded octets, borrowed; it does not allocate.
     pub fn into_vec(self) -> Vec<u8>
         ensures { result ≡ self.octets }
     {
@@ -52,7 +52,7 @@ impl DataBuf {
 }
 
 impl<'a> Data<'a> {
-    /// All elements, from the first on.
+    /// The elements in order, starting at the first.
     pub fn elements(self) -> DataElements<'a>
         ensures { result.octets.now ≡ self.entry.octets.now }
     {
@@ -61,7 +61,7 @@ impl<'a> Data<'a> {
         }
     }
 
-    /// A copy with its own memory, in one allocation where there are octets, otherwise in none.
+    /// Copies the data, in one allocation if there are octets and in none otherwise. Returns `NoMemory` if that allocation fails.
     pub fn to_owned(self, alloc: Global) -> Result<DataBuf, NoMemory>
         ensures same { IfOk result (λ copy. copy.octets.items ≡ self.entry.octets.now) }
         ensures full { OnErr result (0 < length self.entry.octets.now) }

@@ -1,4 +1,4 @@
-//! Reading data, up to their end or a closing tag (clauses 20.2.1.3.2 and 20.2.19).
+//! Reading data, up to their end or an unmatched closing tag (clauses 20.2.1.3.2 and 20.2.19).
 ghost use Rattle.std.specs.Prelude.{◌≡◌, ◌<◌, ◌≤◌, ◌+◌, ◌-◌, ◌++◌, length, drop, take, reverse, IfOk, IfErr, IfSome, Err, IsTrue, ℕ, List};
 ghost use Rattle.arrayvec.specs.ArrayVec.{array_vec_len};
 ghost use Rattle.bac_value.specs.Reading.{turn, Turns, StaysUnlessTurned, ReadsData, Steps, step_at, data_of, fault_place, IsDataTaken, IsDataRefused};
@@ -12,7 +12,7 @@ use crate::octets::Octets;
 use crate::tag::Form;
 use arrayvec::ArrayVec;
 
-/// Opens or closes a tag; false where the data end before this tag. A fault changes nothing.
+/// Opens or closes a tag. Returns false if the data end before this tag. A fault changes nothing.
 #[tactic(auto, unfolding(crate::specs::Reading::turn))]
 fn turn_at(opened: &mut ArrayVec<u8, 8>, form: Form, number: u8) -> Result<bool, FaultKind>
     ensures turned { Turns (reverse opened.new.items) result (turn form number (reverse opened.old.items)) }
@@ -38,7 +38,7 @@ fn turn_at(opened: &mut ArrayVec<u8, 8>, form: Form, number: u8) -> Result<bool,
     }
 }
 
-/// Goes over one element: what is left after it, or None where the data end before it.
+/// Passes one element and returns what follows it, or None if the data end before it.
 #[tactic(auto, unfolding(crate::specs::Reading::step_at))]
 fn step<O: Octets>(octets: O, opened: &mut ArrayVec<u8, 8>) -> Result<Option<O>, FaultKind>
     ensures reads { Steps O.octets (reverse opened.new.items) result (step_at (reverse opened.old.items) (O.octets octets)) }
@@ -49,7 +49,7 @@ fn step<O: Octets>(octets: O, opened: &mut ArrayVec<u8, 8>) -> Result<Option<O>,
     if goes_on { Ok(Some(next)) } else { Ok(None) }
 }
 
-/// Goes over the elements at the front of a run of octets that lie whole in it: what is left of it, and whether the data end there.
+/// Passes the elements that lie whole within a run of octets. Returns the rest of the run, and whether the data end there.
 fn pass_run<'a>(run: &'a [u8], opened: &mut ArrayVec<u8, 8>) -> (&'a [u8], bool)
     ensures passed { IsPassed (reverse opened.old.items) run.now (reverse opened.new.items) result.0.now }
     ensures over { IsTrue result.1 → (behind : List ℕ) → IsOver (reverse opened.new.items) (result.0.now ++ behind) }
@@ -65,7 +65,7 @@ fn pass_run<'a>(run: &'a [u8], opened: &mut ArrayVec<u8, 8>) -> (&'a [u8], bool)
     (rest, false)
 }
 
-/// Goes over elements at the front as far as they lie in one piece: what is left after them, and whether the data end there.
+/// Passes elements as long as they lie in one piece. Returns what follows them, and whether the data end there.
 fn pass<O: Octets>(octets: O, opened: &mut ArrayVec<u8, 8>) -> (O, bool)
     ensures fewer { length (O.octets result.0) ≤ length (O.octets octets) }
     ensures onward { Onward (reverse opened.old.items) (O.octets octets) (reverse opened.new.items) (O.octets result.0) }
@@ -77,7 +77,7 @@ fn pass<O: Octets>(octets: O, opened: &mut ArrayVec<u8, 8>) -> (O, bool)
     (rest, is_over)
 }
 
-/// What is left after the data at the front.
+/// Returns what follows the data at the front.
 fn data_end<O: Octets>(octets: O) -> Result<O, Fault>
     ensures { ReadsData O.octets (O.octets octets) result (data_of (O.octets octets)) }
 {
@@ -109,10 +109,10 @@ fn data_end<O: Octets>(octets: O) -> Result<O, Fault>
     }
 }
 
-/// The data at the front of any octets, up to their end or to a closing tag whose opening tag is not among them; and what is
-/// left after them.
+/// Reads the data at the front of any octets, up to their end or to a closing tag whose opening tag is not among them.
+/// Returns the data and the octets after them.
 ///
-/// A fault's place is the offset of the faulty element; data that end inside an opened tag are `Truncated` at their end.
+/// The place of a fault is the offset of the faulty element; data that end inside an opened tag are `Truncated` at their end.
 pub fn take_data<O: Octets>(octets: O) -> Result<(O, O), Fault>
     ensures found { IfOk result (λ r. IsDataTaken (O.octets octets) (O.octets r.0) (O.octets r.1)) }
     ensures refused { IfErr result (λ e. IsDataRefused (O.octets octets) e) }
@@ -124,9 +124,10 @@ pub fn take_data<O: Octets>(octets: O) -> Result<(O, O), Fault>
     }
 }
 
-/// The data at the front, up to the end or to a closing tag whose opening tag is not among them; and how many octets they have.
+/// Reads the data at the front, up to the end or to a closing tag whose opening tag is not among them. Returns the data and their
+/// length in octets.
 ///
-/// A fault's place is the offset of the faulty element; data that end inside an opened tag are `Truncated` at their end.
+/// The place of a fault is the offset of the faulty element; data that end inside an opened tag are `Truncated` at their end.
 pub fn read_data(octets: &[u8]) -> Result<(Data<'_>, usize), Fault>
     ensures found { IfOk result (λ r. (r.1 ≤ length octets.now) × IsDataFront octets.now r.1 × (r.0.octets.now ≡ take r.1 octets.now)) }
     ensures refused { IfErr result (λ e. (k : ℕ) → IsDataFront octets.now k → ⊥) }
@@ -137,7 +138,7 @@ pub fn read_data(octets: &[u8]) -> Result<(Data<'_>, usize), Fault>
     Ok((Data { octets: data }, data.len()))
 }
 
-/// No octets have two fronts that are data before an end.
+/// Law: octets have at most one front that is data before an end.
 pub fn one_data_front()
     ensures { (bytes : List ℕ) (j k : ℕ) → j ≤ length bytes → k ≤ length bytes → IsDataFront bytes j → IsDataFront bytes k → j ≡ k }
 {}

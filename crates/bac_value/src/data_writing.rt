@@ -7,7 +7,7 @@ use crate::data::Data;
 use crate::memory::NoMemory;
 use crate::octets::Octets;
 
-/// Appends the octets of data, or answers `NoMemory` and changes nothing, where the vector has too little room and cannot grow.
+/// Appends the octets of data. Returns `NoMemory` and changes nothing if the vector has too little room and cannot grow.
 pub fn write_data(elements: Data<'_>, out: &mut Vec<u8>) -> Result<(), NoMemory>
     ensures spelled { ∥ IsData elements.entry.octets.now ∥₁ }
     ensures ok { Appends result out.old out.new elements.entry.octets.now }

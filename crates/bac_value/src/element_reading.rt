@@ -11,10 +11,10 @@ use crate::fault::{Fault, FaultKind};
 use crate::octets::Octets;
 use crate::tag_reading::take_tag;
 
-/// The element at the front, and what is left after it.
+/// Reads the element at the front, and returns it and the octets after it.
 ///
-/// The whole tag is read first; then a fault in the length of its contents is found, then that they are not there, then faults
-/// in them.
+/// The whole tag is read first. Then the length of its contents is tested, then whether all of them are present, then the
+/// contents themselves.
 #[tactic(auto, unfolding(crate::specs::Reading::element_at))]
 #[inline(always)]
 pub fn take_element<O: Octets>(octets: O) -> Result<(Element<O>, O), FaultKind>
@@ -26,7 +26,7 @@ pub fn take_element<O: Octets>(octets: O) -> Result<(Element<O>, O), FaultKind>
     Ok((Element { tag, contents }, rest))
 }
 
-/// The element at the front of any octets, and how many octets it has.
+/// Reads the element at the front of any octets, and returns it and its length in octets.
 pub(crate) fn element_in<O: Octets>(octets: O) -> Result<(Element<O>, usize), FaultKind>
     ensures { MatchResult result
         (λ r. IsFound element_at SpellsElement (O.octets octets) (element_view O.octets r.0) r.1)
@@ -39,7 +39,7 @@ pub(crate) fn element_in<O: Octets>(octets: O) -> Result<(Element<O>, usize), Fa
     }
 }
 
-/// The element at the front, and how many octets it has. A fault is at 0.
+/// Reads the element at the front, and returns it and its length in octets. The place of a fault is 0.
 pub fn read_element(octets: &[u8]) -> Result<(Element<&[u8]>, usize), Fault>
     ensures found { IfOk result (λ r. (r.1 ≤ length octets.now) × SpellsElement (element_view (λ s. s.now) r.0) (take r.1 octets.now)) }
     ensures refused { IfErr result (λ e. (p : Part) (k : ℕ) → SpellsElement p (take k octets.now) → ⊥) }
@@ -53,7 +53,7 @@ pub fn read_element(octets: &[u8]) -> Result<(Element<&[u8]>, usize), Fault>
     }
 }
 
-/// No element has two spellings, and no spelling of one begins another's.
+/// Law: an element has one spelling, and no spelling is the beginning of another element's.
 pub fn one_element_spelling()
     ensures { (p q : Part) (a b c d : List ℕ) → SpellsElement p a → SpellsElement q b → a ++ c ≡ b ++ d → (p ≡ q) × (a ≡ b) }
 {}

@@ -1,10 +1,10 @@
-//! Tags, values and data of BACnet (clause 20.2), read from and written as octets.
+//! Encoding of BACnet tags, values and data (clause 20.2): types, readers and writers.
 //!
-//! Each tag, value and element has exactly one spelling. Readers accept exactly the spellings and name a [`FaultKind`] for all
-//! else. Memory is taken only by calls that are given an allocator, and by a vector that is written to and has to grow.
+//! Each tag, value and element has exactly one spelling. Readers accept these spellings only, and return a [`FaultKind`] for all
+//! other octets. Only two things allocate: calls that take an allocator, and an output vector that has to grow.
 //!
-//! Writers append the one spelling, or answer [`NoMemory`]. A `write_` call changes nothing then; after an `Err` of a `put_`
-//! call the old octets are a front of what is there, so that a caller who appends more than once cuts off only once.
+//! Writers append the one spelling, or return [`NoMemory`] if an allocation fails. A `write_` call then leaves the output unchanged.
+//! A `put_` call then leaves the old octets as a prefix of the output, so that a caller of several of them truncates only once.
 #![tactic(auto)]
 
 mod contents;

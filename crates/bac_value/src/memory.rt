@@ -1,8 +1,8 @@
-//! Out of memory.
+//! The error of a failed allocation.
 use std::alloc::{AllocError, AllocFailed};
 use thiserror::Error;
 
-/// An allocation was refused.
+/// An allocation failed.
 #[derive(Clone, Copy, Debug, PartialEq, Eq, Error)]
 #[error("no memory")]
 pub struct NoMemory;

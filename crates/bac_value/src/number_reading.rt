@@ -9,34 +9,21 @@ use crate::contents::take_contents;
 use crate::fault::FaultKind;
 use crate::kinds;
 use crate::number_width::greatest_in;
-use crate::octets::Octets;
+use crate::octets::{Octets, copy_to};
 use crate::value::ObjectIdentifier;
 
-/// A number with one octet more after it.
-fn with_octet(number: u64, octet: u8) -> u64
-    requires { number < 2 ^ 56 }
-    ensures is { result ≡ number * 256 + octet }
-    ensures octet { octet < 256 }
-{
-    number * 256 + u64::from(octet)
-}
-
-/// The number in at most 8 octets, the highest first.
+/// The number in at most 8 octets, most significant first.
 pub(crate) fn number_of<O: Octets>(octets: O) -> u64
     requires { length (O.octets octets) ≤ 8 }
     ensures is { result ≡ number_in (O.octets octets) }
     ensures small { result < 256 ^ length (O.octets octets) }
 {
-    let mut number: u64 = 0;
-    let mut rest = octets;
-    while let Some(read) = rest.first() {
-        number = with_octet(number, read.0);
-        rest = read.1;
-    }
-    number
+    let mut eight = [0u8; 8];
+    copy_to(octets, &mut eight[8 - octets.len()..]);
+    u64::from_be_bytes(eight)
 }
 
-/// The number in 1 to 8 octets in two's complement.
+/// The number in 1 to 8 octets of two's complement.
 pub(crate) fn signed_of<O: Octets>(octets: O) -> i64
     requires some { 0 < length (O.octets octets) }
     requires most { length (O.octets octets) ≤ 8 }
@@ -51,7 +38,7 @@ pub(crate) fn signed_of<O: Octets>(octets: O) -> i64
     }
 }
 
-/// The number in `len` octets of contents of an Unsigned (clause 20.2.4), and what is left after them; the fault where they are none.
+/// Reads an Unsigned from `len` octets of contents (clause 20.2.4), and returns it and the octets after it.
 #[tactic(auto, unfolding(crate::specs::Reading::number_at))]
 pub fn take_unsigned<O: Octets>(octets: O, len: usize) -> Result<(u64, O), FaultKind>
     ensures { Reads (λ n. n) O.octets (O.octets octets) result (number_at 2 len) }
@@ -60,7 +47,7 @@ pub fn take_unsigned<O: Octets>(octets: O, len: usize) -> Result<(u64, O), Fault
     Ok((number_of(contents), rest))
 }
 
-/// The number in `len` octets of contents of an Enumerated (clause 20.2.11), and what is left after them; the fault where they are none.
+/// Reads an Enumerated from `len` octets of contents (clause 20.2.11), and returns it and the octets after it.
 #[tactic(auto, unfolding(crate::specs::Reading::number_at))]
 pub fn take_enumerated<O: Octets>(octets: O, len: usize) -> Result<(u32, O), FaultKind>
     ensures { Reads (λ n. n) O.octets (O.octets octets) result (number_at 9 len) }
@@ -70,7 +57,7 @@ pub fn take_enumerated<O: Octets>(octets: O, len: usize) -> Result<(u32, O), Fau
     Ok((number as u32, rest))
 }
 
-/// The number in `len` octets of contents of a Signed (clause 20.2.5), and what is left after them; the fault where they are none.
+/// Reads a Signed from `len` octets of contents (clause 20.2.5), and returns it and the octets after it.
 #[tactic(auto, unfolding(crate::specs::Reading::signed_at))]
 pub fn take_signed<O: Octets>(octets: O, len: usize) -> Result<(i64, O), FaultKind>
     ensures { Reads (λ z. z) O.octets (O.octets octets) result (signed_at len) }
@@ -79,7 +66,7 @@ pub fn take_signed<O: Octets>(octets: O, len: usize) -> Result<(i64, O), FaultKi
     Ok((signed_of(contents), rest))
 }
 
-/// The object in 4 octets.
+/// The object identifier in 4 octets.
 pub(crate) fn object_of<O: Octets>(octets: O) -> ObjectIdentifier
     requires { length (O.octets octets) ≡ 4 }
     ensures kind { result.kind ≡ number_in (O.octets octets) / 2 ^ 22 }
@@ -92,7 +79,7 @@ pub(crate) fn object_of<O: Octets>(octets: O) -> ObjectIdentifier
     }
 }
 
-/// The object in `len` octets of contents of an ObjectIdentifier (clause 20.2.14), and what is left after them; the fault where they are none.
+/// Reads an ObjectIdentifier from `len` octets of contents (clause 20.2.14), and returns it and the octets after it.
 #[tactic(auto, unfolding(crate::specs::Reading::object_at))]
 pub fn take_object_identifier<O: Octets>(
     octets: O,

@@ -1,8 +1,8 @@
-//! How many octets a number needs.
+//! How many octets a number takes.
 ghost use Rattle.std.specs.Prelude.{length, ◌≡◌, ◌<◌, ◌≤◌, ◌+◌, ◌-◌, ◌*◌, ◌/◌, ◌^◌};
 ghost use Rattle.bac_value.specs.Number.{width_of, half_width_of, distance, complement, unsigned_octets, signed_octets};
 
-/// How many octets a number needs, and at least one.
+/// How many octets an unsigned number takes, at least one.
 pub(crate) fn octets_of(number: u64) -> usize
     ensures is { result ≡ width_of number }
     ensures few { result ≤ 8 }
@@ -26,7 +26,7 @@ pub(crate) fn octets_of(number: u64) -> usize
     }
 }
 
-/// How many octets a signed number needs, and at least one, by its distance from 0, or from -1 below 0.
+/// How many octets a signed number takes, at least one. `distance` is its distance from 0, or from -1 if it is negative.
 pub(crate) fn signed_octets_of(distance: u64) -> usize
     ensures is { result ≡ half_width_of distance }
     ensures few { result ≤ 8 }
@@ -50,7 +50,7 @@ pub(crate) fn signed_octets_of(distance: u64) -> usize
     }
 }
 
-/// How far a number is from 0, or from -1 below 0.
+/// The distance of a number from 0, or from -1 if it is negative.
 pub(crate) fn distance_of(number: i64) -> u64
     ensures is { result ≡ distance number }
     ensures small { result < 2 ^ 63 }
@@ -62,7 +62,7 @@ pub(crate) fn distance_of(number: i64) -> u64
     }
 }
 
-/// The greatest number in 1 to 8 octets.
+/// The greatest unsigned number in 1 to 8 octets.
 pub(crate) fn greatest_in(len: usize) -> u64
     requires some { 0 < len }
     requires most { len ≤ 8 }
@@ -81,7 +81,7 @@ pub(crate) fn greatest_in(len: usize) -> u64
     }
 }
 
-/// The number whose octets a signed number has.
+/// The unsigned number with the same octets as a signed number.
 pub(crate) fn complement_of(number: i64) -> u64
     ensures is { result ≡ complement number }
     ensures fits { result < 256 ^ half_width_of (distance number) }
@@ -95,7 +95,7 @@ pub(crate) fn complement_of(number: i64) -> u64
     }
 }
 
-/// How many octets the contents of an Unsigned or an Enumerated have (clause 20.2.4).
+/// The length in octets of the contents of an Unsigned or an Enumerated (clause 20.2.4).
 pub fn unsigned_len(number: u64) -> usize
     ensures len { result ≡ length (unsigned_octets number) }
     ensures few { result ≤ 8 }
@@ -103,7 +103,7 @@ pub fn unsigned_len(number: u64) -> usize
     octets_of(number)
 }
 
-/// How many octets the contents of a Signed have (clause 20.2.5).
+/// The length in octets of the contents of a Signed (clause 20.2.5).
 pub fn signed_len(number: i64) -> usize
     ensures len { result ≡ length (signed_octets number) }
     ensures few { result ≤ 8 }

@@ -1,4 +1,4 @@
-//! Octets that are read from the front.
+//! Octets that are read from the front, in one slice or in pieces.
 ghost use Rattle.std.specs.Prelude.{◌≡◌, ◌<◌, ◌≤◌, ◌+◌, ◌++◌, ◌∷◌, ℕ, List, [], length, take, drop, MatchOption, OnOk, OnErr, IfOk, vec_len, vec_capacity};
 ghost use Rattle.bac_value.specs.Appending.{Appends, Keeps, NeedsRoom};
 ghost use Rattle.bac_value.specs.Octets.{IsBytes};
@@ -9,35 +9,35 @@ use crate::fault::FaultKind;
 use crate::memory::NoMemory;
 use std::alloc::Global;
 
-/// Octets that are read from the front: a slice, or pieces seen as joined. A value is a place among them, and a copy keeps it.
+/// Octets that are read from the front: a slice, or pieces that are read as if joined. A value is a position; a copy keeps it.
 pub trait Octets: Copy {
     ghost octets: { Self → List ℕ };
 
-    /// How many are left.
+    /// How many octets are left.
     fn len(self) -> usize
         ensures count { result ≡ length (octets self) }
         ensures each { IsBytes (octets self) };
 
-    /// Octets at the front that lie in one piece.
+    /// Octets at the front that are contiguous in memory.
     fn run(&self) -> &[u8]
         ensures { result.now ≡ take (length result.now) (octets self.now) };
 
-    /// The first octet, and what is left after it.
+    /// The first octet and the octets after it; None at the end.
     fn first(self) -> Option<(u8, Self)>
         ensures { MatchOption result (octets self ≡ []) (λ r. octets self ≡ r.0 ∷ octets r.1) };
 
-    /// The first `count` octets, in one step: what comes after them is not looked for.
+    /// The first `count` octets, in one step; it does not look for what follows them.
     fn front(self, count: usize) -> Self
         requires { count ≤ length (octets self) }
         ensures { octets result ≡ take count (octets self) };
 
-    /// The first `count` octets, and what is left after them.
+    /// The first `count` octets, and the octets after them.
     fn split(self, count: usize) -> (Self, Self)
         requires { count ≤ length (octets self) }
         ensures front { octets result.0 ≡ take count (octets self) }
         ensures after { octets result.1 ≡ drop count (octets self) };
 
-    /// Appends them, or changes nothing.
+    /// Appends all octets, or changes nothing and returns `NoMemory`.
     fn append_to(self, out: &mut Vec<u8>) -> Result<(), NoMemory>
         ensures ok { Appends result out.old out.new (octets self) }
         ensures err { Keeps result out.old out.new }
@@ -76,7 +76,7 @@ impl Octets for &[u8] {
     }
 }
 
-/// A copy of the octets with its own memory, in one allocation where there are octets, otherwise in none.
+/// Copies the octets to a new vector, in one allocation if there are octets and in none otherwise.
 pub fn copy_of<O: Octets>(alloc: Global, octets: O) -> Result<Vec<u8>, NoMemory>
     ensures same { IfOk result (λ copy. copy.items ≡ O.octets octets) }
     ensures full { OnErr result (0 < length (O.octets octets)) }
@@ -86,6 +86,20 @@ pub fn copy_of<O: Octets>(alloc: Global, octets: O) -> Result<Vec<u8>, NoMemory>
     Ok(copy)
 }
 
+/// Copies all octets to a slice of the same length.
+pub(crate) fn copy_to<O: Octets>(octets: O, out: &mut [u8])
+    requires { length (O.octets octets) ≡ length out.old }
+    ensures { out.new ≡ O.octets octets }
+{
+    let mut at = 0;
+    let mut rest = octets;
+    while let Some(read) = rest.first() {
+        out[at] = read.0;
+        at += 1;
+        rest = read.1;
+    }
+}
+
 pub(crate) fn slice_len(octets: &[u8]) -> usize
     ensures count { result ≡ length octets.now }
     ensures each { IsBytes octets.now }
@@ -93,7 +107,7 @@ pub(crate) fn slice_len(octets: &[u8]) -> usize
     octets.len()
 }
 
-/// The first octet, and what is left after it.
+/// Reads the first octet, and returns it and the octets after it.
 pub(crate) fn octet<O: Octets>(octets: O) -> Result<(u8, O), FaultKind>
     ensures reads { Reads (λ x. x) O.octets (O.octets octets) result (octet_at Truncated) }
     ensures onward { IfOk result (λ r. length (O.octets r.1) < length (O.octets octets)) }

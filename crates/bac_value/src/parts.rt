@@ -1,4 +1,4 @@
-//! Octets in pieces, seen as joined.
+//! Octets in pieces, read as if joined.
 ghost use Rattle.std.specs.Prelude.{◌≡◌, ◌<◌, ◌≤◌, ◌+◌, ◌-◌, ◌++◌, ◌^◌, ◌↔◌, IsTrue, length, take, drop, min, IsSome, IfSome, IfOk, OnOk, OnErr};
 ghost use Rattle.std.specs.Prelude.{vec_len, vec_capacity};
 ghost use Rattle.bac_value.specs.Appending.{Appends, Keeps};
@@ -7,10 +7,10 @@ ghost use Rattle.bac_value.specs.Octets.{IsBytes, joined, begins_in_first};
 use crate::memory::NoMemory;
 use crate::octets::{Octets, slice_len};
 
-/// Octets in pieces, seen as joined, from a place among them on. Pieces may be empty.
+/// Octets in pieces, read as if joined, from a position on. Pieces may be empty.
 ///
-/// Beside what the octets joined cost, counting goes over the pieces once, reading a small constant number of times (a tag that
-/// is looked at first is read again), copying once more.
+/// Compared with joined octets, counting passes the pieces once, reading passes them a small constant number of times (a tag that
+/// is looked at first is read again), and copying passes them once more.
 #[derive(Clone, Copy)]
 pub struct Parts<'a> {
     pub(crate) parts: &'a [Vec<u8>],
@@ -22,7 +22,7 @@ pub struct Parts<'a> {
     ghost settled: { IsTrue (begins_in_first parts.now skip) },
 }
 
-/// `len` octets after the first `skip`, without the pieces that end before them.
+/// Leaves out the pieces before the position `skip`; `len` octets are left.
 pub(crate) fn settled(parts: &[Vec<u8>], skip: usize, len: usize) -> Parts<'_>
     requires counted { skip + len ≤ length (joined parts.now) }
     requires each { IsBytes (joined parts.now) }
@@ -46,7 +46,7 @@ pub(crate) fn settled(parts: &[Vec<u8>], skip: usize, len: usize) -> Parts<'_>
     }
 }
 
-/// How many octets some pieces have; None where they are more than `2^64 - 1`.
+/// How many octets some pieces have; None if there are more than `2^64 - 1`.
 fn total_of(parts: &[Vec<u8>]) -> Option<usize>
     ensures some { IsSome result ↔ (length (joined parts.now) < 2 ^ 64) }
     ensures all { IfSome result (λ n. (n ≡ length (joined parts.now)) × IsBytes (joined parts.now)) }
@@ -61,7 +61,7 @@ fn total_of(parts: &[Vec<u8>]) -> Option<usize>
 impl<'a> Parts<'a> {
     ghost use Rattle.bac_value.specs.Views.{parts_view};
 
-    /// All octets of some pieces. A caller knows that there are fewer than `2^64`.
+    /// All octets of some pieces. The caller guarantees that there are fewer than `2^64`.
     pub fn new(parts: &'a [Vec<u8>]) -> Parts<'a>
         requires { length (joined parts.now) < 2 ^ 64 }
         ensures { parts_view result ≡ joined parts.now }
@@ -82,7 +82,7 @@ impl<'a> Parts<'a> {
     }
 }
 
-/// Appends what a piece has of the octets that are left, and tells how many.
+/// Appends those of the remaining octets that are in this piece, and returns their number.
 fn append_piece(part: &[u8], skip: usize, left: usize, out: &mut Vec<u8>) -> Result<usize, NoMemory>
     requires { skip ≤ length part.now }
     ensures count { IfOk result (λ here. here ≡ min left (length part.now - skip)) }
@@ -97,7 +97,7 @@ fn append_piece(part: &[u8], skip: usize, left: usize, out: &mut Vec<u8>) -> Res
     Ok(here)
 }
 
-/// Appends `len` of the pieces' octets, from the place `at` on.
+/// Appends `len` of the pieces' octets, starting at the offset `at`.
 fn append_pieces(
     parts: &[Vec<u8>],
     at: usize,

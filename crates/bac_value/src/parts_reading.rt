@@ -1,4 +1,4 @@
-//! Reading and copying octets in pieces, from a place on.
+//! Reading and copying octets in pieces, starting at an offset.
 ghost use Rattle.std.specs.Prelude.{◌≡◌, ◌<◌, ◌≤◌, ◌+◌, ◌++◌, ℕ, length, take, drop, IfOk, IfErr, OnOk, OnErr, MatchResult, Ok, Err, vec_len, vec_capacity};
 ghost use Rattle.bac_value.specs.Appending.{Appends, Keeps};
 ghost use Rattle.bac_value.specs.Data.{IsDataFront};
@@ -14,7 +14,7 @@ use crate::parts::Parts;
 use crate::tag::Tag;
 use crate::tag_reading::tag_in;
 
-/// What `read_tag` answers for the octets from a place on. A fault's place counts from the front of the parts.
+/// Reads the tag at an offset, as `read_tag` does. The place of a fault counts from the front of the parts.
 pub fn read_tag_at(parts: &Parts<'_>, at: usize) -> Result<(Tag, usize), Fault>
     requires { at ≤ length (parts_view parts.now) }
     ensures found { IfOk result (λ r. (at + r.1 ≤ length (parts_view parts.now)) × SpellsTag (tag_view r.0) (take r.1 (drop at (parts_view parts.now)))) }
@@ -30,7 +30,7 @@ pub fn read_tag_at(parts: &Parts<'_>, at: usize) -> Result<(Tag, usize), Fault>
     }
 }
 
-/// How many octets the data have that `read_data` finds from a place on. A fault's place counts from the front of the parts.
+/// The length in octets of the data at an offset, as `read_data` finds them. The place of a fault counts from the front of the parts.
 pub fn check_data_at(parts: &Parts<'_>, at: usize) -> Result<usize, Fault>
     requires { at ≤ length (parts_view parts.now) }
     ensures found { IfOk result (λ k. (at + k ≤ length (parts_view parts.now)) × IsDataFront (drop at (parts_view parts.now)) k) }
@@ -48,7 +48,7 @@ pub fn check_data_at(parts: &Parts<'_>, at: usize) -> Result<usize, Fault>
     }
 }
 
-/// Appends `len` octets from a place on, or answers `NoMemory` and changes nothing, where the vector has too little room and cannot grow.
+/// Appends `len` octets from an offset on. Returns `NoMemory` and changes nothing if the vector has too little room and cannot grow.
 pub fn copy_out(parts: &Parts<'_>, at: usize, len: usize, out: &mut Vec<u8>) -> Result<(), NoMemory>
     requires { at + len ≤ length (parts_view parts.now) }
     ensures ok { Appends result out.old out.new (take len (drop at (parts_view parts.now))) }

@@ -7,39 +7,39 @@ use crate::kinds;
 /// The class of a tag (clause 20.2.1.1).
 #[derive(Clone, Copy, Debug, PartialEq, Eq)]
 pub enum Class {
-    /// The number is a kind of application value.
+    /// The tag number is a kind of application value.
     Application,
-    /// The number is the place of a member in what is spelled.
+    /// The tag number identifies a member of a service or a construct.
     Context,
 }
 
-/// What a tag says beside its number and class (clause 20.2.1.3).
+/// The rest of a tag beside its number and class (clause 20.2.1.3).
 #[derive(Clone, Copy, Debug, PartialEq, Eq)]
 pub enum Form {
-    /// So many octets of contents follow.
+    /// Contents of this many octets follow.
     Length(u32),
-    /// The value of an application Boolean, which has no contents.
+    /// The value of an application Boolean, which has empty contents.
     Boolean(bool),
-    /// Opens a pair of context tags around elements.
+    /// An opening tag: it opens a pair of context tags around elements.
     Opening,
-    /// Closes it.
+    /// A closing tag: it closes the pair.
     Closing,
 }
 
-/// A tag that has a spelling: application tags have numbers 0 to 12, of which 1 is the Boolean; context tags 0 to 254.
+/// A tag that can be encoded: application tags have numbers 0 to 12, where 1 is the Boolean; context tags 0 to 254.
 #[derive(Clone, Copy, Debug, PartialEq, Eq)]
 pub struct Tag {
-    /// Of an application tag the kind of value, 0 to 12; of a context tag 0 to 254.
+    /// The tag number: for an application tag the kind of value, 0 to 12; for a context tag 0 to 254.
     pub number: u8,
-    /// Whether the number is a kind of value, or has the meaning that the service gives it.
+    /// Whether the number is a kind of value, or identifies a member of a service.
     pub class: Class,
-    /// How many octets of contents follow, or that there are none.
+    /// The length of the contents, or a form without contents.
     pub form: Form,
     pub ghost fits: { IsTrue (tag_fits number class form) },
 }
 
 impl Tag {
-    /// None exactly where such a tag has no spelling.
+    /// A tag; None exactly if such a tag cannot be encoded.
     pub fn new(number: u8, class: Class, form: Form) -> Option<Tag>
         ensures some { IsSome result ↔ IsTrue (tag_fits number class form) }
         ensures same { IfSome result (λ t. (t.number ≡ number) × (t.class ≡ class) × (t.form ≡ form)) }

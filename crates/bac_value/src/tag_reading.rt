@@ -12,9 +12,9 @@ use crate::kinds;
 use crate::octets::{Octets, octet};
 use crate::tag::{Class, Form, Tag};
 
-/// Bit 3 of the first octet: the class is context (clause 20.2.1.1).
+/// Bit 3 of the first octet is set for the context class (clause 20.2.1.1).
 const CONTEXT_CLASS: u8 = 0x08;
-/// Bits 2 to 0 of the first octet: a length, a Boolean's value or a type (clause 20.2.1.3).
+/// Bits 2 to 0 of the first octet hold a length, a Boolean's value or a form (clause 20.2.1.3).
 const LOW_BITS: u8 = 0x07;
 
 #[tactic(auto, unfolding(crate::specs::Reading::tag_number_at))]
@@ -161,7 +161,7 @@ fn is_context(first: u8) -> bool
     first & CONTEXT_CLASS != 0
 }
 
-/// The tag at the front (clause 20.2.1), and what is left after it; the fault where there is none.
+/// Reads the tag at the front (clause 20.2.1), and returns it and the octets after it.
 #[tactic(auto, unfolding(crate::specs::Reading::tag_at))]
 #[inline(always)]
 pub fn take_tag<O: Octets>(octets: O) -> Result<(Tag, O), FaultKind>
@@ -177,7 +177,7 @@ pub fn take_tag<O: Octets>(octets: O) -> Result<(Tag, O), FaultKind>
     }
 }
 
-/// The tag at the front of any octets, and how many octets it has.
+/// Reads the tag at the front of any octets, and returns it and its length in octets.
 pub(crate) fn tag_in<O: Octets>(octets: O) -> Result<(Tag, usize), FaultKind>
     ensures { MatchResult result (λ r. IsFound tag_at SpellsTag (O.octets octets) (tag_view r.0) r.1)
         (λ e. IsRefused tag_at SpellsTag (O.octets octets) e) }
@@ -189,7 +189,7 @@ pub(crate) fn tag_in<O: Octets>(octets: O) -> Result<(Tag, usize), FaultKind>
     }
 }
 
-/// The tag at the front, and how many octets it has. A fault is at 0.
+/// Reads the tag at the front, and returns it and its length in octets. The place of a fault is 0.
 pub fn read_tag(octets: &[u8]) -> Result<(Tag, usize), Fault>
     ensures found { IfOk result (λ r. (r.1 ≤ length octets.now) × SpellsTag (tag_view r.0) (take r.1 octets.now)) }
     ensures refused { IfErr result (λ e. (t : Mark) (k : ℕ) → SpellsTag t (take k octets.now) → ⊥) }
@@ -203,7 +203,7 @@ pub fn read_tag(octets: &[u8]) -> Result<(Tag, usize), Fault>
     }
 }
 
-/// No tag has two spellings, and no spelling of one begins another's.
+/// Law: a tag has one spelling, and no spelling is the beginning of another tag's.
 pub fn one_tag_spelling()
     ensures { (t u : Mark) (a b c d : List ℕ) → SpellsTag t a → SpellsTag u b → a ++ c ≡ b ++ d → (t ≡ u) × (a ≡ b) }
 {}

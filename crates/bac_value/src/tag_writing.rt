@@ -43,7 +43,7 @@ fn put_length(len: u32, out: &mut Vec<u8>) -> Result<(), NoMemory>
     Ok(())
 }
 
-/// Appends the one spelling of a tag. After an `Err` the old octets are a front of what is there.
+/// Appends the one spelling of a tag. After an `Err` the old octets are a prefix of the output.
 #[tactic(auto, unfolding(crate::specs::Spelling::tag_spelling))]
 #[inline(always)]
 pub(crate) fn put_tag(tag: &Tag, out: &mut Vec<u8>) -> Result<(), NoMemory>
@@ -69,7 +69,7 @@ pub(crate) fn put_tag(tag: &Tag, out: &mut Vec<u8>) -> Result<(), NoMemory>
     Ok(())
 }
 
-/// What a writer answers that appended behind so many octets: what it has appended is cut off where it was refused.
+/// Passes on the result of a writer that appended after `before` octets; if it failed, cuts off what it appended.
 #[inline(always)]
 pub(crate) fn whole_or_undone(
     before: usize,
@@ -88,7 +88,7 @@ pub(crate) fn whole_or_undone(
     written
 }
 
-/// Appends the one spelling of a tag, or answers `NoMemory` and changes nothing, where the vector has too little room and cannot grow.
+/// Appends the one spelling of a tag. Returns `NoMemory` and changes nothing if the vector has too little room and cannot grow.
 #[inline(always)]
 pub fn write_tag(tag: &Tag, out: &mut Vec<u8>) -> Result<(), NoMemory>
     ensures spelled { SpellsTag (tag_view tag.now) (tag_spelling (tag_view tag.now)) }

@@ -4,7 +4,7 @@ ghost use Rattle.bac_value.specs.Limits.{bits_fit};
 
 use crate::contents::are_bits_fit;
 
-/// At most `2^32 - 1` octets (clause 20.2.8).
+/// An octet string of at most `2^32 - 1` octets (clause 20.2.8).
 #[derive(Debug, Drop)]
 pub struct OctetString {
     /// The octets of the string.
@@ -12,7 +12,8 @@ pub struct OctetString {
     pub ghost fits: { length octets.items < 2 ^ 32 },
 }
 
-/// The octet of a character set (0 is UTF-8) and a text of at most `2^32 - 2` octets, which are not looked at (clause 20.2.9).
+/// A character string: the octet of a character set (0 is UTF-8) and at most `2^32 - 2` octets of text (clause 20.2.9).
+/// The text is not checked against the character set.
 #[derive(Debug, Drop)]
 pub struct CharacterString {
     /// The number of the character set.
@@ -22,20 +23,20 @@ pub struct CharacterString {
     pub ghost fits: { length text.items + 1 < 2 ^ 32 },
 }
 
-/// A number of unused bits, and at most `2^32 - 2` octets of bits, the first bit in bit 7 of the first octet (clause 20.2.10).
+/// A bit string: at most `2^32 - 2` octets, where the first bit is bit 7 of the first octet (clause 20.2.10).
 ///
-/// The unused bits are the lowest of the last octet. There are 0 to 7, all 0, and none where there are no octets.
+/// The unused bits are the lowest of the last octet: 0 to 7 of them, all 0, and none if there are no octets.
 #[derive(Debug, Drop)]
 pub struct BitString {
-    /// How many bits of the last octet are no part of the string, 0 to 7.
+    /// How many bits of the last octet do not belong to the string, 0 to 7.
     pub unused: u8,
-    /// The bits, eight in an octet.
+    /// The bits, eight in each octet.
     pub octets: Vec<u8>,
     pub ghost fits: { length octets.items + 1 < 2 ^ 32 },
     pub ghost unused_fits: { IsTrue (bits_fit unused octets.items) },
 }
 
-/// An object's type, 0 to 1,023, and its instance, 0 to 4,194,303 (clause 20.2.14).
+/// An object identifier: the object's type, 0 to 1,023, and its instance, 0 to 4,194,303 (clause 20.2.14).
 #[derive(Clone, Copy, Debug, PartialEq, Eq)]
 pub struct ObjectIdentifier {
     /// The object's type, 0 to 1,023 (BACnetObjectType).
@@ -46,7 +47,7 @@ pub struct ObjectIdentifier {
     pub ghost instance_fits: { instance < 2 ^ 22 },
 }
 
-/// A value of one of the thirteen application kinds (clause 20.2.1.4). Real, Double, Date and Time are raw octets.
+/// A value of one of the thirteen application kinds (clause 20.2.1.4). Real, Double, Date and Time hold their raw octets.
 #[derive(Debug, Drop)]
 pub enum Value {
     Null,
@@ -65,7 +66,7 @@ pub enum Value {
 }
 
 impl OctetString {
-    /// None exactly where there are too many octets.
+    /// An octet string; None exactly if there are too many octets.
     pub fn new(octets: Vec<u8>) -> Option<OctetString>
         ensures some { IsSome result ↔ (length octets.items < 2 ^ 32) }
         ensures same { IfSome result (λ s. s.octets ≡ octets) }
@@ -79,7 +80,7 @@ impl OctetString {
 }
 
 impl CharacterString {
-    /// None exactly where the text is too long.
+    /// A character string; None exactly if the text is too long.
     pub fn new(set: u8, text: Vec<u8>) -> Option<CharacterString>
         ensures some { IsSome result ↔ (length text.items + 1 < 2 ^ 32) }
         ensures same { IfSome result (λ s. (s.set ≡ set) × (s.text ≡ text)) }
@@ -93,7 +94,7 @@ impl CharacterString {
 }
 
 impl BitString {
-    /// None exactly where there are too many octets, or the unused bits are not as said of the type.
+    /// A bit string; None exactly if there are too many octets, or the unused bits break the rules of this type.
     pub fn new(unused: u8, octets: Vec<u8>) -> Option<BitString>
         ensures some { IsSome result ↔ ((length octets.items + 1 < 2 ^ 32) × IsTrue (bits_fit unused octets.items)) }
         ensures same { IfSome result (λ s. (s.unused ≡ unused) × (s.octets ≡ octets)) }
@@ -107,7 +108,7 @@ impl BitString {
 }
 
 impl ObjectIdentifier {
-    /// None exactly where a number is too great.
+    /// An object identifier; None exactly if a number is out of range.
     pub fn new(kind: u16, instance: u32) -> Option<ObjectIdentifier>
         ensures some { IsSome result ↔ ((kind < 1024) × (instance < 2 ^ 22)) }
         ensures same { IfSome result (λ i. (i.kind ≡ kind) × (i.instance ≡ instance)) }

@@ -1,4 +1,4 @@
-//! The value that an element is.
+//! The application value of an element.
 ghost use Rattle.std.specs.Prelude.{◌≡◌, ◌<◌, ◌≤◌, ◌+◌, ◌∷◌, ◌^◌, ◌≢◌, length, slice_index, drop, IsTrue, None, IfOk, OnErr, MatchOption};
 ghost use Rattle.bac_value.specs.Element.{IsOfKind};
 ghost use Rattle.bac_value.specs.Meaning.{IsValueOf, copied, datum_in};
@@ -11,24 +11,18 @@ use crate::element::Element;
 use crate::kinds;
 use crate::memory::NoMemory;
 use crate::number_reading::{number_of, object_of, signed_of};
-use crate::octets::{Octets, copy_of};
+use crate::octets::{Octets, copy_of, copy_to};
 use crate::tag::{Class, Form};
 use crate::value::{BitString, CharacterString, OctetString, Value};
 use std::alloc::Global;
 
-/// The octets as an array.
+/// Copies the octets to an array.
 fn array_of<O: Octets, const N: usize>(octets: O) -> [u8; N]
     requires { length (O.octets octets) ≡ N }
     ensures { result ≡ O.octets octets }
 {
     let mut array = [0u8; N];
-    let mut at = 0;
-    let mut rest = octets;
-    while let Some(read) = rest.first() {
-        array[at] = read.0;
-        at += 1;
-        rest = read.1;
-    }
+    copy_to(octets, &mut array);
     array
 }
 
@@ -68,7 +62,7 @@ fn bit_string<O: Octets>(alloc: Global, contents: O) -> Result<Value, NoMemory>
     Ok(Value::BitString(BitString { unused, octets }))
 }
 
-/// The value in contents of a kind that are right.
+/// The value with these contents, which are correct for the kind.
 fn value_of_kind<O: Octets>(alloc: Global, kind: u8, contents: O) -> Result<Value, NoMemory>
     requires kind { kind < 13 }
     requires no_boolean { kind ≢ 1 }
@@ -94,9 +88,10 @@ fn value_of_kind<O: Octets>(alloc: Global, kind: u8, contents: O) -> Result<Valu
     }
 }
 
-/// The application value that an element is; None exactly where it is none.
+/// The application value of an element; None exactly if it has none.
 ///
-/// An element that was read is a value exactly where its tag is of the application class. `NoMemory` where the memory for a string is refused.
+/// An element that was read has a value exactly if its tag is of the application class. Returns `NoMemory` if the allocation for
+/// a string fails.
 pub fn value_of<O: Octets>(alloc: Global, element: Element<O>) -> Result<Option<Value>, NoMemory>
     ensures value { IfOk result (λ o. MatchOption o ((d : Datum) → IsValueOf d (element_view O.octets element) → ⊥)
         (λ v. IsValueOf (value_view v) (element_view O.octets element))) }

@@ -1,4 +1,4 @@
-//! Writing values, and contents under any tag (clause 20.2).
+//! Writing application values, and contents under any tag (clause 20.2).
 ghost use Rattle.std.specs.Prelude.{◌≡◌, ◌<◌, ◌≤◌, ◌+◌, ◌*◌, ◌++◌, ◌^◌, ◌∷◌, ℕ, List, [], length, IsTrue, OnOk, OnErr, vec_len, vec_capacity};
 ghost use Rattle.bac_value.specs.Appending.{Appends, Lengthens, Keeps, NeedsRoom};
 ghost use Rattle.byteorder.specs.Endian.{big_bytes};
@@ -18,8 +18,8 @@ use crate::tag_writing::{put_tag, whole_or_undone};
 use crate::value::{ObjectIdentifier, Value};
 use byteorder::{BigEndian, ByteOrder};
 
-/// Appends a tag with the length of some contents, and the contents. After an `Err` the old octets are a front of what is there, as of all that is named
-/// `put_` here.
+/// Appends a tag with the length of the contents, and the contents. As after all `put_` calls, after an `Err` the old octets are a
+/// prefix of the output.
 #[inline(always)]
 fn put_primitive(
     class: Class,
@@ -46,7 +46,7 @@ fn put_primitive(
     Ok(())
 }
 
-/// Appends a tag, and a number in so many octets.
+/// Appends a tag, and a number in `count` octets.
 #[inline(always)]
 fn put_number(
     class: Class,
@@ -70,10 +70,10 @@ fn put_number(
     put_primitive(class, tag, &buffer[..count], out)
 }
 
-/// Appends a tag, and a number in the fewest octets (clause 20.2.4): an Unsigned or an Enumerated.
+/// Appends a tag, and an Unsigned or Enumerated number in the fewest octets (clause 20.2.4).
 ///
-/// Tag numbers: application 0 to 12 but 1, context 0 to 254; that an Enumerated has at most 32 bits is the caller's to know.
-/// After an `Err` the old octets are a front of what is there.
+/// Tag numbers are 0 to 12 except 1 for the application class, and 0 to 254 for the context class. The caller guarantees that
+/// an Enumerated has at most 32 bits. After an `Err` the old octets are a prefix of the output.
 #[tactic(auto, unfolding(crate::specs::Number::unsigned_octets))]
 #[inline(always)]
 fn put_unsigned(class: Class, tag: u8, number: u64, out: &mut Vec<u8>) -> Result<(), NoMemory>
@@ -89,7 +89,8 @@ fn put_unsigned(class: Class, tag: u8, number: u64, out: &mut Vec<u8>) -> Result
 
 /// Appends a tag, and a number in the fewest octets of two's complement (clause 20.2.5).
 ///
-/// Tag numbers: application 0 to 12 but 1, context 0 to 254. After an `Err` the old octets are a front of what is there.
+/// Tag numbers are 0 to 12 except 1 for the application class, and 0 to 254 for the context class. After an `Err` the old octets
+/// are a prefix of the output.
 #[tactic(auto, unfolding(crate::specs::Number::signed_octets))]
 #[inline(always)]
 fn put_signed(class: Class, tag: u8, number: i64, out: &mut Vec<u8>) -> Result<(), NoMemory>
@@ -104,9 +105,10 @@ fn put_signed(class: Class, tag: u8, number: i64, out: &mut Vec<u8>) -> Result<(
     put_number(class, tag, count, complement_of(number), out)
 }
 
-/// Appends a tag, and the octets of an object's type and instance (clause 20.2.14).
+/// Appends a tag, and the 4 octets of an object's type and instance (clause 20.2.14).
 ///
-/// Tag numbers: application 0 to 12 but 1, context 0 to 254. After an `Err` the old octets are a front of what is there.
+/// Tag numbers are 0 to 12 except 1 for the application class, and 0 to 254 for the context class. After an `Err` the old octets
+/// are a prefix of the output.
 #[inline(always)]
 fn put_object_identifier(
     class: Class,
@@ -125,9 +127,9 @@ fn put_object_identifier(
     put_primitive(class, tag, &number.to_be_bytes(), out)
 }
 
-/// Appends an application Boolean, whose value stands in its tag (clause 20.2.3).
+/// Appends an application Boolean, whose value is part of its tag (clause 20.2.3).
 ///
-/// After an `Err` the old octets are a front of what is there.
+/// After an `Err` the old octets are a prefix of the output.
 fn put_boolean(value: bool, out: &mut Vec<u8>) -> Result<(), NoMemory>
     ensures ok { Appends result out.old out.new (tag_spelling (mark_for (boolean value) 0)) }
     ensures len { Lengthens result out.old out.new (tag_spelling (mark_for (boolean value) 0)) }
@@ -143,7 +145,7 @@ fn put_boolean(value: bool, out: &mut Vec<u8>) -> Result<(), NoMemory>
     put_tag(&tag, out)
 }
 
-/// Appends an application tag, an octet and more octets: a character set and its text, or a number of unused bits and the bits.
+/// Appends an application tag, one octet and more octets: a character set and its text, or a number of unused bits and the bits.
 fn put_with_octet(kind: u8, octet: u8, octets: &[u8], out: &mut Vec<u8>) -> Result<(), NoMemory>
     requires tag { IsTrue (length_tag_fits kind Class.Application) }
     requires fits { length octets.now + 1 < 2 ^ 32 }
@@ -164,7 +166,7 @@ fn put_with_octet(kind: u8, octet: u8, octets: &[u8], out: &mut Vec<u8>) -> Resu
     Ok(())
 }
 
-/// Appends the one spelling of a value. After an `Err` the old octets are a front of what is there.
+/// Appends the one spelling of a value. After an `Err` the old octets are a prefix of the output.
 fn put_value(value: &Value, out: &mut Vec<u8>) -> Result<(), NoMemory>
     ensures ok { Appends result out.old out.new (value_spelling (value_view value.now)) }
     ensures len { Lengthens result out.old out.new (value_spelling (value_view value.now)) }
@@ -201,7 +203,7 @@ fn put_value(value: &Value, out: &mut Vec<u8>) -> Result<(), NoMemory>
     }
 }
 
-/// Appends the one spelling of a value, or answers `NoMemory` and changes nothing, where the vector has too little room and cannot grow.
+/// Appends the one spelling of a value. Returns `NoMemory` and changes nothing if the vector has too little room and cannot grow.
 pub fn write_value(value: &Value, out: &mut Vec<u8>) -> Result<(), NoMemory>
     ensures ok { OnOk result (AppendsValue (value_view value.now) out.old.items out.new.items) }
     ensures err { Keeps result out.old out.new }
@@ -212,9 +214,10 @@ pub fn write_value(value: &Value, out: &mut Vec<u8>) -> Result<(), NoMemory>
     whole_or_undone(before, written, out)
 }
 
-/// Appends a tag with the length of some contents, and the contents, or answers `NoMemory` and changes nothing.
+/// Appends a tag with the length of the contents, and the contents. Returns `NoMemory` and changes nothing if the vector cannot grow.
 ///
-/// Tag numbers: application 0 to 12 but 1, context 0 to 254. That the contents are of the tag's kind is the caller's to know.
+/// Tag numbers are 0 to 12 except 1 for the application class, and 0 to 254 for the context class. The caller guarantees that
+/// the contents are of the tag's kind.
 #[inline(always)]
 pub fn write_primitive(
     class: Class,
@@ -236,9 +239,11 @@ pub fn write_primitive(
     whole_or_undone(before, written, out)
 }
 
-/// Appends a tag, and a number in the fewest octets (clause 20.2.4), an Unsigned or an Enumerated, or answers `NoMemory` and changes nothing.
+/// Appends a tag, and an Unsigned or Enumerated number in the fewest octets (clause 20.2.4). Returns `NoMemory` and changes nothing
+/// if the vector cannot grow.
 ///
-/// Tag numbers: application 0 to 12 but 1, context 0 to 254; that an Enumerated has at most 32 bits is the caller's to know.
+/// Tag numbers are 0 to 12 except 1 for the application class, and 0 to 254 for the context class. The caller guarantees that
+/// an Enumerated has at most 32 bits.
 #[inline(always)]
 pub fn write_unsigned(class: Class, tag: u8, number: u64, out: &mut Vec<u8>) -> Result<(), NoMemory>
     requires { IsTrue (length_tag_fits tag class) }
@@ -254,9 +259,10 @@ pub fn write_unsigned(class: Class, tag: u8, number: u64, out: &mut Vec<u8>) -> 
     whole_or_undone(before, written, out)
 }
 
-/// Appends a tag, and a number in the fewest octets of two's complement (clause 20.2.5), or answers `NoMemory` and changes nothing.
+/// Appends a tag, and a number in the fewest octets of two's complement (clause 20.2.5). Returns `NoMemory` and changes nothing if
+/// the vector cannot grow.
 ///
-/// Tag numbers: application 0 to 12 but 1, context 0 to 254.
+/// Tag numbers are 0 to 12 except 1 for the application class, and 0 to 254 for the context class.
 #[inline(always)]
 pub fn write_signed(class: Class, tag: u8, number: i64, out: &mut Vec<u8>) -> Result<(), NoMemory>
     requires { IsTrue (length_tag_fits tag class) }
@@ -272,9 +278,10 @@ pub fn write_signed(class: Class, tag: u8, number: i64, out: &mut Vec<u8>) -> Re
     whole_or_undone(before, written, out)
 }
 
-/// Appends a tag, and the octets of an object's type and instance (clause 20.2.14), or answers `NoMemory` and changes nothing.
+/// Appends a tag, and the 4 octets of an object's type and instance (clause 20.2.14). Returns `NoMemory` and changes nothing if the
+/// vector cannot grow.
 ///
-/// Tag numbers: application 0 to 12 but 1, context 0 to 254.
+/// Tag numbers are 0 to 12 except 1 for the application class, and 0 to 254 for the context class.
 #[inline(always)]
 pub fn write_object_identifier(
     class: Class,
@@ -295,7 +302,8 @@ pub fn write_object_identifier(
     whole_or_undone(before, written, out)
 }
 
-/// Appends an application Boolean, whose value stands in its tag (clause 20.2.3), or answers `NoMemory` and changes nothing.
+/// Appends an application Boolean, whose value is part of its tag (clause 20.2.3). Returns `NoMemory` and changes nothing if the
+/// vector cannot grow.
 #[inline(always)]
 pub fn write_boolean(value: bool, out: &mut Vec<u8>) -> Result<(), NoMemory>
     ensures ok { Appends result out.old out.new (tag_spelling (mark_for (boolean value) 0)) }
@@ -310,7 +318,7 @@ pub fn write_boolean(value: bool, out: &mut Vec<u8>) -> Result<(), NoMemory>
     whole_or_undone(before, written, out)
 }
 
-/// No value has two spellings; a spelling means one value, and begins no other.
+/// Law: a value has one spelling; a spelling belongs to one value, and is not the beginning of another value's.
 pub fn one_value_spelling()
     ensures only { (d : Datum) (a b : List ℕ) → SpellsValue d a → SpellsValue d b → a ≡ b }
     ensures apart { (d e : Datum) (a b c f : List ℕ) → SpellsValue d a → SpellsValue e b → a ++ c ≡ b ++ f → (d ≡ e) × (a ≡ b) }

@@ -1,4 +1,4 @@
--- Look-ups in a table of two parts.
+-- Look-ups in a table that consists of two parts.
 use Rattle.std.proofs.Common.{◌≡◌, ℕ, Bool, true, false, ◌==◌, List, [], ◌∷◌, ◌++◌, Option, Some, None, refl}
 use Rattle.std.specs.List.{find}
 use Rattle.std.specs.Option.{option_map, option_or}

@@ -1,4 +1,4 @@
--- Bits as digits, and the octets that they are.
+-- Bits as digits, and their octets.
 use Rattle.std.proofs.Common.{◌≡◌, ℕ, zero, suc, ◌+◌, ◌-◌, ◌*◌, ◌/◌, ◌%◌, ◌^◌, ◌<◌, nat_lt, true, false, ◌==◌, List, [], ◌∷◌, ◌++◌, length, take, drop, slice_index, Some}
 use Rattle.std.proofs.Common.{arith, refl, ◌∙◌, ap, if◌then◌else◌, length-drop}
 use Rattle.std.specs.List.{list_all}
@@ -12,7 +12,7 @@ use Rattle.bac_value_text.specs.Reading.{octet_in, octets_for, is_bit, bits_in}
 use Rattle.bac_value_text.specs.Texts.{bit_digits, all_bits, bits_text}
 use Rattle.bac_value_text.proofs.Parts.{both}
 
--- the first octet of some bits, and those after it
+-- the first octet of some bits, and the other octets
 pub more_octets : (word : List ℕ) → 0 < length word → octets_for word ≡ octet_in word ∷ octets_for (drop 8 word)
 more_octets word some =
     let count : (length word + 7) / 8 ≡ suc ((length (drop 8 word) + 7) / 8) = omega (arith, length-drop 8 word) in
@@ -29,7 +29,7 @@ bit_is n = grind (arith, nat_tests)
 octet_back : (o : ℕ) (rest : List ℕ) → o < 256 → octet_in (bit_digits o ++ rest) ≡ o
 octet_back o rest small = simp bit_back (omega arith)
 
--- the last octet, of which some bits are not there
+-- the last octet, in which some bits are missing
 last_back : (unused o : ℕ) → unused < 8 → o < 256 → o % 2 ^ unused ≡ 0 → octets_for (take (8 - unused) (bit_digits o)) ≡ o ∷ []
 last_back zero o few small zeros = ap (λ (n : ℕ). n ∷ []) (simp bit_back (omega arith))
 last_back (suc zero) o few small zeros = ap (λ (n : ℕ). n ∷ []) (simp bit_back (omega arith))

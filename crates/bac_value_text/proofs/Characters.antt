@@ -1,4 +1,4 @@
--- Texts that are escaped, and read again.
+-- Escaped texts read as themselves.
 use Rattle.std.proofs.Common.{◌≡◌, ◌≢◌, ℕ, suc, ◌<◌, nat_lt, true, false, Bool, ◌||◌, ◌==◌, List, [], ◌∷◌, ◌++◌, Result, Ok, Err, is_ok, MatchResult}
 use Rattle.std.proofs.Common.{rules, refl, sym, ◌∙◌, ap, if◌then◌else◌}
 use Rattle.std.specs.Str.{IsUtf8, is_utf8}
@@ -8,7 +8,7 @@ use Rattle.percent_encoding.proofs.PercentLemmas.{percent_decode-nil, percent_de
 use Rattle.bac_value.specs.Octets.{IsBytes}
 use Rattle.bac_value_text.specs.Texts.{escaped, escaped_octet}
 
--- what a test for UTF-8 tells
+-- what a test for UTF-8 means
 pub utf8_told : {A E : Type 0} (P : A → Type 0) (Q : E → Type 0) (bs : List ℕ) (r : Result A E)
     → MatchResult r (λ s. P s × IsUtf8 bs) (λ e. ¬ (IsUtf8 bs) × Q e) → is_ok r ≡ is_utf8 bs
 utf8_told P Q bs (Ok s) h = sym (is_utf8-from_IsUtf8 bs h.1)

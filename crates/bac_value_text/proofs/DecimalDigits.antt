@@ -1,4 +1,4 @@
--- Decimal digits: what is parsed is the number that they are, and what is printed is parsed.
+-- Decimal digits are parsed as their number, and a printed number is parsed as itself.
 use Rattle.std.proofs.Common.{◌≡◌, ℕ, ℤ, pos, negsuc, suc, ◌-◌, ◌^◌, ◌<◌, ◌≤◌, nat_lt, nat_le, true, false, Bool, ◌&&◌, ◌==◌, List, [], ◌∷◌, length, Option, Some, None, Result, Ok, Err}
 use Rattle.std.proofs.Common.{rules, arith, refl, ap, if◌then◌else◌}
 use Rattle.std.specs.Char.{is_ascii_digit}
@@ -18,7 +18,7 @@ own = numerals_by_fold _ (search rules) number_on (search rules)
 abbrev kept : Bool → ℕ → Option ℕ
 kept b n = if b then Some n else None
 
--- what is answered where two tests decide
+-- the result if two tests decide it
 told : {E : Type 0} (r : Result ℕ E) (l n : ℕ) → OkIff r ((0 < l) × (n < 2 ^ 64)) n → result_ok r ≡ kept (nat_lt 0 l && nat_lt n (2 ^ 64)) n
 told (Ok x) l n h =
     let some : nat_lt 0 l ≡ true = grind (arith, nat_tests, h) in

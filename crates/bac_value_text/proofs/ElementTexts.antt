@@ -1,10 +1,10 @@
--- The texts of elements that are taken from the front.
+-- The texts of elements, one element at a time.
 use Rattle.std.proofs.Common.{◌≡◌, ◌<◌, ℕ, List, [], ◌∷◌, ◌++◌, length, arith, ap, refl, sym, subst, append_assoc, append-nil, length-append}
 use Rattle.bac_value.specs.Element.{Part, part_spelling, SpellsElement}
 use Rattle.bac_value.specs.Spelling.{tag_spelling}
 use Rattle.bac_value_text.specs.DataTexts.{AreElementTexts, IsElementText}
 
--- an element has some octets
+-- an element has at least one octet
 pub some_octets : (p : Part) → SpellsElement p (part_spelling p) → 0 < length (part_spelling p)
 unfolding tag_spelling
 some_octets p s = omega (arith, ap length s.is)
@@ -14,7 +14,7 @@ shorter p rest next s is =
     let some = some_octets p s in
     omega (arith, some, ap length is, length-append (part_spelling p) next)
 
--- with the texts of what is left, these are the texts of all
+-- together with the texts of the remaining elements, these are the texts of all
 abbrev pub AreTaken : List (List ℕ) → (rest run : List ℕ) → Type 0
 AreTaken texts rest run = (more : List (List ℕ)) → AreElementTexts more rest → AreElementTexts (texts ++ more) run
 

@@ -1,4 +1,4 @@
--- Dates and times that are printed, and read again.
+-- Printed dates and times read as themselves.
 use Rattle.std.proofs.Common.{◌≡◌, ℕ, ◌+◌, ◌-◌, ◌^◌, ◌<◌, nat_lt, nat_le, true, false, Bool, ◌&&◌, ◌==◌, not, List, [], ◌∷◌, ◌++◌, length, Some}
 use Rattle.std.proofs.Common.{rules, arith, refl, ap, if◌then◌else◌}
 use Rattle.std.specs.Char.{is_ascii_digit}
@@ -40,7 +40,7 @@ field_back base o small octet = go (o == 255) refl where
       let below : nat_lt o 255 ≡ true = grind (arith, nat_tests, e, octet) in
       rw (no_star (decimal (base + o)) (decimal_digits (base + o) small), decimal_read (base + o) small, above, less, below) refl
 
--- a separator is no digit and no star
+-- a separator is neither a digit nor a star
 abbrev parts_fields : ℕ → Bool
 parts_fields octet = not (is_ascii_digit octet) && not (42 == octet)
 

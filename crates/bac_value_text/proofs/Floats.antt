@@ -1,4 +1,4 @@
--- Floats that are printed, and read again.
+-- Printed floats read as themselves.
 use Rattle.std.proofs.Common.{◌≡◌, ℕ, ◌%◌, ◌^◌, ◌<◌, ◌≤◌, true, false, Bool, not, T, List, [], ◌∷◌, length, Some}
 use Rattle.std.proofs.Common.{arith, refl, ap, subst}
 use Rattle.std.specs.Int.{w32, w64, from_be_bytes}

@@ -1,4 +1,4 @@
--- In a table in which no name and no number stands twice, look-ups are inverse.
+-- Look-ups by name and by number are inverse in a table in which each name and each number appears once.
 use Rattle.std.proofs.Common.{◌≡◌, ℕ, Bool, true, false, not, ◌&&◌, ◌==◌, List, [], ◌∷◌, Option, Some, refl, ap, subst, arith}
 use Rattle.std.specs.List.{find}
 use Rattle.std.specs.Option.{option_map}
@@ -9,14 +9,14 @@ use Rattle.bac_value_text.specs.Names.{AreInverse, Row}
 
 module _ {R A B : Type 0} (f : R → A) (g : R → B) (same_a : A → A → Bool) (same_b : B → B → Bool)
     (sound : (x y : A) → same_a x y ≡ true → x ≡ y) (whole : (x : B) → same_b x x ≡ true) where
-  -- what is looked up by the one part is the other
+  -- what is found by one column is in the other column of the same row
   abbrev pub look : List R → A → Option B
   look rows a = option_map g (find (λ r. same_a (f r) a) rows)
 
   abbrev pub back : List R → B → Option A
   back rows b = option_map f (find (λ r. same_b (g r) b) rows)
 
-  -- no row has the same other part
+  -- no row has the same value in the other column
   abbrev pub is_apart : R → List R → Bool
   is_apart r [] = true
   is_apart r (q ∷ rows) = not (same_b (g r) (g q)) && is_apart r rows
@@ -77,7 +77,7 @@ name_sound x y h = grind (arith, nat_tests, bytes_eq-Decides)
 pub name_whole : (x : List ℕ) → bytes_eq x x ≡ true
 name_whole x = grind (arith, nat_tests, bytes_eq-Decides)
 
--- no number stands twice, and no name
+-- each number and each name appears once
 abbrev pub numbers_apart : List Row → Bool
 numbers_apart rows = are_apart {R = Row} (λ r. r.0) (λ r. r.1) bytes_eq (λ x y. x == y) name_sound number_whole rows
 

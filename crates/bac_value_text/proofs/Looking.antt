@@ -1,4 +1,4 @@
--- A look-up that goes from row to row.
+-- A look-up that passes from row to row.
 use Rattle.std.proofs.Common.{◌≡◌, ℕ, ◌+◌, ◌<◌, Bool, true, false, ◌==◌, List, ◌∷◌, length, map, drop, get_or, Option, Some, refl}
 use Rattle.std.proofs.Common.{if◌then◌else◌, Bor}
 use Rattle.std.specs.List.{find}

@@ -1,4 +1,4 @@
--- Objects that are printed, and read again.
+-- Printed objects read as themselves.
 use Rattle.std.proofs.Common.{◌≡◌, ℕ, ◌^◌, ◌<◌, nat_le, true, false, Bool, ◌&&◌, ◌==◌, not, List, [], ◌∷◌, Option, Some, None}
 use Rattle.std.proofs.Common.{arith, refl, ◌∙◌, ap}
 use Rattle.std.specs.Char.{is_ascii_digit}
@@ -15,7 +15,7 @@ use Rattle.bac_value_text.specs.Texts.{named_or_number, type_text, object_text}
 use Rattle.bac_value_text.proofs.DecimalDigits.{decimal_digits, decimal_read, decimal_up_to}
 use Rattle.bac_value_text.proofs.Parts.{both, lacks, parted, digits_lack}
 
--- a name in a table is as all names in it are
+-- a name in a table has a property that all its names have
 named_has : (p : List ℕ → Bool) (rows : List Row) (n : ℕ) (name : List ℕ) → list_all (λ r. p r.0) rows ≡ true → name_in rows n ≡ Some name → p name ≡ true
 named_has p [] n name all h = cc
 named_has p (r ∷ rows) n name all h =
@@ -31,7 +31,7 @@ named_has p (r ∷ rows) n name all h =
         let below : name_in rows n ≡ Some name = rw e at h in
         rest below
 
--- no colon stands in a name, and it is no number
+-- a name contains no colon, and is not a number
 abbrev is_name : List ℕ → Bool
 is_name name = lacks 58 name && not (list_all is_ascii_digit name)
 

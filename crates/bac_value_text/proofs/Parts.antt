@@ -1,4 +1,4 @@
--- The parts round the first octet of a kind.
+-- The parts before and after the first octet with a value.
 use Rattle.std.proofs.Common.{◌≡◌, ℕ, suc, ◌+◌, nat_lt, true, false, Bool, ◌&&◌, ◌==◌, not, List, [], ◌∷◌, ◌++◌, length, take, drop, Some}
 use Rattle.std.proofs.Common.{arith, refl, ap, length-append}
 use Rattle.std.specs.List.{list_all, position_or_len}
@@ -6,7 +6,7 @@ use Rattle.std.specs.Char.{is_ascii_digit}
 use Rattle.std.proofs.lemmas.Bool.Decides.{nat_tests}
 use Rattle.bac_value_text.specs.Numbers.{is_octet, parts_at}
 
--- none of the octets is that one
+-- none of the octets has this value
 abbrev pub lacks : ℕ → List ℕ → Bool
 lacks octet xs = list_all (λ x. not (x == octet)) xs
 
@@ -37,7 +37,7 @@ parted octet xs ys h =
     let next : length xs + 1 ≡ suc (length xs) = omega arith in
     rw (first_place octet xs ys h, within, next, taken xs (octet ∷ ys), dropped xs octet ys) refl
 
--- digits lack what is no digit
+-- digits do not contain an octet that is not a digit
 pub digits_lack : (octet : ℕ) (xs : List ℕ) → is_ascii_digit octet ≡ false → list_all is_ascii_digit xs ≡ true → lacks octet xs ≡ true
 digits_lack octet [] none h = refl
 digits_lack octet (x ∷ xs) none h =

@@ -1,4 +1,4 @@
--- The first part of a text, and the parts after it.
+-- The first part of a text, and the other parts.
 use Rattle.std.proofs.Common.{◌≡◌, ℕ, suc, ◌+◌, ◌<◌, nat_lt, Bool, true, false, not, cond, List, [], ◌∷◌, length, Some, None, take, drop}
 use Rattle.std.proofs.Common.{rules, refl, arith, if◌then◌else◌}
 use Rattle.std.proofs.lemmas.Bool.Decides.{nat_tests}
@@ -23,7 +23,7 @@ module _ (is_separator : ℕ → Bool) where
       let two : suc n + 1 ≡ suc (n + 1) = search arith in
       rw (one, two, others (search arith)) refl
 
-  -- a separator parts the first part from the others
+  -- a separator separates the first part from the others
   pub part_before : (text : List ℕ) → first text < length text → parts text ≡ take (first text) text ∷ parts (drop (first text + 1) text)
   part_before [] within = absurd (search (arith, within))
   part_before (x ∷ xs) within = before_step (is_separator x) x xs (first xs) (part_before xs) within
@@ -39,7 +39,7 @@ module _ (is_separator : ℕ → Bool) where
   one_part [] all = refl
   one_part (x ∷ xs) all = last_step (is_separator x) x xs (first xs) (one_part xs) all
 
-  -- what a search for the first separator tells
+  -- what a search for the first separator means
   pub no_separator : (text : List ℕ) → position is_separator text ≡ None → parts text ≡ text ∷ []
   no_separator text none = go (nat_lt (first text) (length text)) refl none where
     go : (b : Bool) → nat_lt (first text) (length text) ≡ b → cond b (Some (first text)) None ≡ None → parts text ≡ text ∷ []

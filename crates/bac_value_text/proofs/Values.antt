@@ -1,4 +1,4 @@
--- What is printed of a value reads as that value.
+-- The printed text of a value reads as that value.
 use Rattle.std.proofs.Common.{◌≡◌, ◌≢◌, ℕ, ◌+◌, ◌-◌, ◌*◌, ◌^◌, ◌<◌, nat_lt, true, false, Bool, ◌&&◌, ◌==◌, List, ◌∷◌, ◌++◌, length, Option, Some, None}
 use Rattle.std.proofs.Common.{arith, refl, ◌∙◌, ap, if◌then◌else◌}
 use Rattle.std.specs.Fmt.{decimal}
@@ -27,7 +27,7 @@ use Rattle.bac_value_text.proofs.Floats.{real_read, double_read}
 use Rattle.bac_value_text.proofs.Objects.{object_read}
 use Rattle.bac_value_text.proofs.Parts.{both, lacks, parted, digits_lack}
 
--- ---- what stands between name and separator
+-- ---- the part before the separator
 
 abbrev is_word : List ℕ → Bool
 is_word name = lacks 58 name && lacks 32 name
@@ -162,7 +162,7 @@ pub values_read : AreInverse OBJECT_TYPES → AreRead
 values_read inverse s null text valid each is = ap (value_in (separator_octet s)) is ∙ null_read s
 values_read inverse s d text valid each is = with_name inverse s d text (λ e. cc e) valid each is
 
--- a text with a name is what is printed of a value that is no Null
+-- a text with a name is the printed text of a value other than Null
 pub named_is : (s : ℕ) (d : Datum) (text : List ℕ) → d ≢ null → IsNamed s d text → IsTextOf s d text
 named_is s null text some is = absurd (some refl)
 named_is s d text some is = is

@@ -1,4 +1,4 @@
--- Reasons of an Abort of the standard, as in code.
+-- The Abort reasons of the standard: the table in code.
 use Rattle.std.specs.Prelude.{List, map}
 use Rattle.bac_value_text.specs.Names.{Row}
 use Rattle.bac_value_text.specs.declared.abort_reasons.TheConstants as code

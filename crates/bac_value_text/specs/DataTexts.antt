@@ -1,4 +1,4 @@
--- What is printed of data: each element, with commas between them.
+-- The text of data: the elements, separated by commas.
 use Rattle.std.specs.Prelude.{◌≡◌, ◌⊎◌, ℕ, List, [], ◌∷◌, ◌++◌, codes, decimal}
 use Rattle.std.specs.List.{flat_map}
 use Rattle.hex.specs.Hex.{encode_upper}
@@ -9,7 +9,7 @@ use Rattle.bac_value.specs.Meaning.{IsValueOf}
 use Rattle.bac_value.specs.Value.{Datum}
 use Rattle.bac_value_text.specs.Texts.{IsTextOf}
 
--- what has a context tag: the tag's number, and raw contents in hexadecimal
+-- an element with a context tag: the tag number, and raw contents in hexadecimal
 abbrev pub context_text : ℕ → List ℕ → List ℕ
 context_text number contents = codes "context " ++ decimal number ++ codes " " ++ encode_upper contents
 
@@ -25,13 +25,13 @@ tagged_text Closing number contents = closing_text number
 tagged_text (Length length) number contents = context_text number contents
 tagged_text (Boolean b) number contents = context_text number contents
 
--- a value, behind the name of its kind and a space
+-- a value, after the name of its kind and a space
 pub record IsValueText (p : Part) (text : List ℕ) : Type 0 where
   pub value : Datum
   pub is : IsValueOf value p
   pub text_of : IsTextOf 32 value text
 
--- or what is no value
+-- or an element that is not a value
 pub record IsTaggedText (p : Part) (text : List ℕ) : Type 0 where
   pub no_value : (d : Datum) → IsValueOf d p → ⊥
   pub is : text ≡ tagged_text p.mark.form p.mark.number p.contents
@@ -39,7 +39,7 @@ pub record IsTaggedText (p : Part) (text : List ℕ) : Type 0 where
 abbrev pub IsElementText : Part → List ℕ → Type 0
 IsElementText p text = IsValueText p text ⊎ IsTaggedText p text
 
--- the text of the first element, and so of the others
+-- the text of the first element, followed by those of the others
 pub record IsFirstText (text : List ℕ) (AreOthers : List ℕ → Type 0) (run : List ℕ) : Type 0 where
   pub element : Part
   pub others : List ℕ
@@ -48,7 +48,7 @@ pub record IsFirstText (text : List ℕ) (AreOthers : List ℕ → Type 0) (run 
   pub text_of : IsElementText element text
   pub more : AreOthers others
 
--- the texts of the elements that stand one after the other
+-- the texts of consecutive elements
 abbrev pub AreElementTexts : List (List ℕ) → List ℕ → Type 0
 AreElementTexts [] run = run ≡ []
 AreElementTexts (text ∷ texts) run = IsFirstText text (AreElementTexts texts) run

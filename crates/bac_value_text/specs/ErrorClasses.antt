@@ -1,4 +1,4 @@
--- Error classes of the standard, as in code.
+-- The error classes of the standard: the table in code.
 use Rattle.std.specs.Prelude.{List, map}
 use Rattle.bac_value_text.specs.Names.{Row}
 use Rattle.bac_value_text.specs.declared.error_classes.TheConstants as code

@@ -1,4 +1,4 @@
--- The error codes of the standard: the tables in code, one after the other.
+-- The error codes of the standard: the tables in code, joined.
 use Rattle.std.specs.Prelude.{List, ◌++◌, map}
 use Rattle.bac_value_text.specs.Names.{Row}
 use Rattle.bac_value_text.specs.declared.error_codes.a_to_c.TheConstants as a_to_c

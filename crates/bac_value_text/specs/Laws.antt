@@ -1,4 +1,4 @@
--- What is printed of a value reads as that value.
+-- The printed text of a value reads as that value.
 use Rattle.std.specs.Prelude.{◌≡◌, ◌<◌, ℕ, List, Some}
 use Rattle.bac_value.specs.Octets.{IsBytes}
 use Rattle.bac_value.specs.Value.{Datum, IsValue, real, double, octets, characters, bits, date, time}
@@ -7,7 +7,7 @@ use Rattle.bac_value_text.specs.Reading.{value_in}
 use Rattle.bac_value_text.specs.Texts.{IsTextOf}
 use Rattle.bac_value_text.specs.declared.separator.Separator.{Separator}
 
--- what a value holds is octets
+-- the parts of a value are octets
 abbrev pub HasOctets : Datum → Type 0
 HasOctets (real a) = IsBytes a
 HasOctets (double a) = IsBytes a

@@ -12,15 +12,15 @@ Row = List ℕ × ℕ
 abbrev pub plain : List (Bor (List ℕ) × ℕ) → List Row
 plain rows = map (λ r. (r.0.now, r.1)) rows
 
--- the number of the first row with the name
+-- the number in the first row with this name
 abbrev pub number_in : List Row → List ℕ → Option ℕ
 number_in rows name = option_map (λ r. r.1) (find (λ r. bytes_eq r.0 name) rows)
 
--- the name of the first row with the number
+-- the name in the first row with this number
 abbrev pub name_in : List Row → ℕ → Option (List ℕ)
 name_in rows number = option_map (λ r. r.0) (find (λ r. r.1 == number) rows)
 
--- a name has a number exactly where the number has the name
+-- a name has a number exactly if that number has the name
 abbrev pub AreInverse : List Row → Type 0
 AreInverse rows =
     ((name : List ℕ) (number : ℕ) → number_in rows name ≡ Some number → name_in rows number ≡ Some name)

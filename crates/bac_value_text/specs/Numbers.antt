@@ -1,4 +1,4 @@
--- Numbers, octets and objects in words.
+-- Numbers, octets and objects as words.
 use Rattle.std.specs.Prelude.{ℕ, ℤ, pos, neg_ℤ, ◌+◌, ◌-◌, ◌*◌, ◌^◌, nat_le, nat_lt, Bool, false, ◌==◌, ◌&&◌, List, [], ◌∷◌, length, take, drop, if◌then◌else◌}
 use Rattle.std.specs.Prelude.{Option, Some, None, Result, Ok, Err}
 use Rattle.std.specs.List.{list_all, position}
@@ -15,12 +15,12 @@ Some x >>= f = f x
 
 -- ---- numbers
 
--- the number that decimal digits are, where a number stands before them
+-- the number of decimal digits that follow a number
 abbrev pub number_on : ℕ → List ℕ → ℕ
 number_on before [] = before
 number_on before (digit ∷ digits) = number_on (10 * before + (digit - 48)) digits
 
--- decimal digits alone, at least one, whose number has at most 64 bits
+-- one or more decimal digits and nothing else, whose number has at most 64 bits
 abbrev pub is_number : List ℕ → Bool
 is_number word = list_all is_ascii_digit word && (nat_lt 0 (length word) && nat_lt (number_on 0 word) (2 ^ 64))
 
@@ -37,7 +37,7 @@ abbrev pub is_minus : List ℕ → Bool
 is_minus [] = false
 is_minus (octet ∷ octets) = octet == 45
 
--- a number, or one with a minus before it, of 64 bits with its sign
+-- a number with an optional minus before it, of 64 bits with its sign
 unfoldable pub negative_of : (digits : List ℕ) → Option ℤ
 negative_of digits = do
   number ← number_up_to (2 ^ 63) digits
@@ -57,17 +57,17 @@ abbrev pub decoded : Result (List ℕ) FromHexError → Option (List ℕ)
 decoded (Ok octets) = Some octets
 decoded (Err e) = None
 
--- octets in hexadecimal, in either case; a word without octets is none
+-- octets in hexadecimal, in upper or lower case; an empty word has no octets
 abbrev pub octets_of : List ℕ → Option (List ℕ)
 octets_of word = decoded (decode_of word)
 
--- so many octets in hexadecimal
+-- this many octets in hexadecimal
 abbrev pub array_of : (count : ℕ) → List ℕ → Option (List ℕ)
 array_of count word = decoded (decode_sized word count)
 
 -- ---- parts
 
--- what stands between the name of a kind and a value: a colon or a space
+-- the separator between the name of a kind and a value: a colon or a space
 abbrev pub separator_octet : Separator → ℕ
 separator_octet Colon = 58
 separator_octet Space = 32
@@ -75,11 +75,11 @@ separator_octet Space = 32
 abbrev pub is_octet : (wanted : ℕ) → ℕ → Bool
 is_octet wanted octet = octet == wanted
 
--- what stands before that place, and after it
+-- the parts before and after this place
 abbrev pub separated : List ℕ → Option ℕ → Option (List ℕ × List ℕ)
 separated word None = None
 separated word (Some place) = Some (take place word, drop (place + 1) word)
 
--- what stands before the first such octet, and after it
+-- the parts before and after the first such octet
 abbrev pub parts_at : ℕ → List ℕ → Option (List ℕ × List ℕ)
 parts_at octet word = separated word (position (is_octet octet) word)

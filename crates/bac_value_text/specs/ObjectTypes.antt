@@ -1,4 +1,4 @@
--- The object types of the standard, as in code.
+-- The object types of the standard: the table in code.
 use Rattle.std.specs.Prelude.{List, map}
 use Rattle.bac_value_text.specs.Names.{Row}
 use Rattle.bac_value_text.specs.declared.object_types.TheConstants as code

@@ -1,4 +1,4 @@
--- The properties of the standard: the tables in code, one after the other.
+-- The properties of the standard: the tables in code, joined.
 use Rattle.std.specs.Prelude.{List, ◌++◌, map}
 use Rattle.bac_value_text.specs.Names.{Row}
 use Rattle.bac_value_text.specs.declared.properties.a_to_b.TheConstants as a_to_b

@@ -1,4 +1,4 @@
--- The value that a text is.
+-- The value that a text reads as.
 use Rattle.std.specs.Prelude.{◌≡◌, ⊤, ℕ, ◌+◌, ◌-◌, ◌*◌, ◌/◌, ◌%◌, ◌^◌, suc, zero, nat_le, nat_lt, Bool, true, false, ◌==◌, ◌&&◌, ◌||◌, List, [], ◌∷◌, length, drop, slice_index, codes, if◌then◌else◌}
 use Rattle.std.specs.Prelude.{Option, Some, None, Result, Ok, Err, is_nan, to_bits}
 use Rattle.std.specs.Float.{Float, binary32, binary64}
@@ -23,7 +23,7 @@ use Rattle.bac_value_text.specs.declared.value_fault.ValueFault.TheVariants.{NoV
 abbrev pub boolean_in : List ℕ → Option Bool
 boolean_in body = if bytes_eq body (codes "true") then Some true else (if bytes_eq body (codes "false") then Some false else None)
 
--- a number, and not what is none
+-- a number that is not NaN
 abbrev pub real_of : Float → Option (List ℕ)
 real_of x = if is_nan x then None else Some (to_be_bytes w32 (to_bits binary32 x))
 
@@ -36,7 +36,7 @@ real_in body = parse_float binary32 body >>= real_of
 abbrev pub double_in : List ℕ → Option (List ℕ)
 double_in body = parse_float binary64 body >>= double_of
 
--- a field of a date or a time, counted from a number on; 255 is not specified
+-- a field of a date or a time, which counts from a number on; 255 means not specified
 abbrev pub field_from : (base number : ℕ) → Option ℕ
 field_from base number = if nat_le base number && nat_lt (number - base) 255 then Some (number - base) else None
 
@@ -54,11 +54,11 @@ fields_in base separators word = do
   z ← field_in 0 third.1
   Some (w ∷ x ∷ y ∷ z ∷ [])
 
--- an object type, by its number or its name in the standard
+-- an object type: its number or its name in the standard
 abbrev pub type_of : List ℕ → Option ℕ
 type_of word = option_or (number_of word) (number_in OBJECT_TYPES word) >>= at_most 1023
 
--- an object, as its type and its instance with a colon between them (clause 20.2.14: 10 bits and 22 bits)
+-- an object: its type and its instance with a colon between them (clause 20.2.14: 10 bits and 22 bits)
 unfoldable pub object_of : List ℕ → Option ObjectId
 object_of word = do
   halves ← parts_at 58 word
@@ -66,15 +66,15 @@ object_of word = do
   instance ← number_up_to 4194303 halves.1
   Some (record { kind = kind; instance = instance })
 
--- a property, by its number or its name in the standard
+-- a property: its number or its name in the standard
 abbrev pub property_of : List ℕ → Option ℕ
 property_of word = option_or (number_of word) (number_in PROPERTIES word) >>= at_most (2 ^ 32 - 1)
 
--- octets, where an octet string can have so many (clause 20.2.8)
+-- octets, if an octet string can have this many (clause 20.2.8)
 abbrev pub octets_fit : List ℕ → Option Datum
 octets_fit a = if nat_lt (length a) (2 ^ 32) then Some (octets a) else None
 
--- characters, where a character string can have so many (clause 20.2.9)
+-- characters, if a character string can have this many (clause 20.2.9)
 abbrev pub characters_fit : ℕ → List ℕ → Option Datum
 characters_fit set text = if nat_lt (length text + 1) (2 ^ 32) then Some (characters set text) else None
 
@@ -93,13 +93,13 @@ is_bit digit = digit == 48 || digit == 49
 abbrev pub bit_in : List ℕ → ℕ → ℕ
 bit_in word i = if slice_index word i == 49 then 1 else 0
 
--- the octet that the first eight bits are; what is not there is 0
+-- the octet of the first eight bits; missing bits are 0
 abbrev pub octet_in : List ℕ → ℕ
 octet_in word =
     bit_in word 7 + 2 * (bit_in word 6 + 2 * (bit_in word 5 + 2 * (bit_in word 4
     + 2 * (bit_in word 3 + 2 * (bit_in word 2 + 2 * (bit_in word 1 + 2 * bit_in word 0))))))
 
--- so many octets of bits
+-- this many octets of bits
 abbrev pub octets_from : (count : ℕ) → List ℕ → List ℕ
 octets_from zero word = []
 octets_from (suc count) word = octet_in word ∷ octets_from count (drop 8 word)
@@ -107,7 +107,7 @@ octets_from (suc count) word = octet_in word ∷ octets_from count (drop 8 word)
 abbrev pub octets_for : List ℕ → List ℕ
 octets_for word = octets_from ((length word + 7) / 8) word
 
--- the bits, where a bit string can have so many (clause 20.2.10)
+-- the bits, if a bit string can have this many (clause 20.2.10)
 abbrev pub bits_fitting : (unused : ℕ) → List ℕ → Option Datum
 bits_fitting unused a = if bits_fit unused a && nat_lt (length a + 1) (2 ^ 32) then Some (bits unused a) else None
 
@@ -154,11 +154,11 @@ abbrev pub parted_value : (text : List ℕ) → Option (List ℕ × List ℕ) �
 parted_value text None = bare_value text
 parted_value text (Some parts) = named_value parts.0 parts.1
 
--- the value that a text is
+-- the value that a text reads as
 abbrev pub value_in : (separator : ℕ) → List ℕ → Option Datum
 value_in separator text = parted_value text (parts_at separator text)
 
--- ---- what a call answers that reads a text: the value that is wanted; or a fault: there is none, or memory ran out
+-- ---- the result of reading a text: the value, or a fault: the text is not a value, or an allocation failed
 abbrev pub Reads : {A B : Type 0} → (A → B) → Result A ValueFault → (wanted : Option B) → Type 0
 Reads view (Ok x) wanted = wanted ≡ Some (view x)
 Reads view (Err NoValue) wanted = wanted ≡ None

@@ -1,4 +1,4 @@
--- Errors, and the reasons of Rejects and Aborts (clauses 18 and 21).
+-- Errors, and the reasons of Rejects and Aborts, as text (clauses 18 and 21).
 use Rattle.std.specs.Prelude.{ℕ, List, ◌++◌, codes, decimal}
 use Rattle.bac_value_text.specs.Names.{name_in}
 use Rattle.bac_value_text.specs.AbortReasons.{ABORT_REASONS}
@@ -7,7 +7,7 @@ use Rattle.bac_value_text.specs.ErrorCodes.{ERROR_CODES}
 use Rattle.bac_value_text.specs.RejectReasons.{REJECT_REASONS}
 use Rattle.bac_value_text.specs.Texts.{named_or_number}
 
--- each by its name where the standard has one
+-- each by its name if the standard has one
 abbrev pub class_text : ℕ → List ℕ
 class_text class = named_or_number (name_in ERROR_CLASSES class) class
 

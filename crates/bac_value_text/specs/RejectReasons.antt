@@ -1,4 +1,4 @@
--- Reasons of a Reject of the standard, as in code.
+-- The Reject reasons of the standard: the table in code.
 use Rattle.std.specs.Prelude.{List, map}
 use Rattle.bac_value_text.specs.Names.{Row}
 use Rattle.bac_value_text.specs.declared.reject_reasons.TheConstants as code

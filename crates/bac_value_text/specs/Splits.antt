@@ -1,12 +1,12 @@
--- What stands between the separators of a text.
+-- The parts of a text between separators.
 use Rattle.std.specs.Prelude.{ℕ, Bool, List, [], ◌∷◌, if◌then◌else◌}
 
--- an octet in front of the first of some parts
+-- an octet before the first of some parts
 abbrev pub onto_first : ℕ → List (List ℕ) → List (List ℕ)
 onto_first octet [] = (octet ∷ []) ∷ []
 onto_first octet (part ∷ parts) = (octet ∷ part) ∷ parts
 
--- the parts of a text; where two separators stand side by side, a part without octets is between them
+-- the parts of a text; between two adjacent separators there is an empty part
 abbrev pub split_by : (is_separator : ℕ → Bool) → List ℕ → List (List ℕ)
 split_by is_separator [] = [] ∷ []
 split_by is_separator (octet ∷ octets) =

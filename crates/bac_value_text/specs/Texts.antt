@@ -1,4 +1,4 @@
--- What is printed of a value.
+-- The printed texts of values.
 use Rattle.std.specs.Prelude.{◌≡◌, ℕ, ◌+◌, ◌-◌, ◌/◌, ◌%◌, nat_lt, nat_le, ◌==◌, ◌&&◌, ◌||◌, Bool, true, false, List, [], ◌∷◌, ◌++◌, length, take, slice_index, codes, decimal, if◌then◌else◌, Option, Some, None, from_bits}
 use Rattle.std.specs.Fmt.{signed_decimal}
 use Rattle.std.specs.Float.{binary32, binary64}
@@ -16,14 +16,14 @@ use Rattle.bac_value.specs.Value.{date, time, object}
 
 -- ---- floats (clauses 20.2.6 and 20.2.7): a number as decimal text, all else as its octets
 
--- the octets are no NaN's
+-- the octets encode a number, not NaN
 abbrev pub is_real_number : List ℕ → Bool
 is_real_number a = nat_le (from_be_bytes w32 a % 0x8000_0000) 0x7f80_0000
 
 abbrev pub is_double_number : List ℕ → Bool
 is_double_number a = nat_le (from_be_bytes w64 a % 0x8000_0000_0000_0000) 0x7ff0_0000_0000_0000
 
--- where it is a number, any text that reads as that number
+-- for a number, any text that reads as that number
 abbrev pub IsRealText : (is_number : Bool) → List ℕ → List ℕ → Type 0
 IsRealText true a text = parse_float binary32 text ≡ Some (from_bits binary32 (from_be_bytes w32 a))
 IsRealText false a text = text ≡ encode_upper a
@@ -32,12 +32,12 @@ abbrev pub IsDoubleText : (is_number : Bool) → List ℕ → List ℕ → Type 
 IsDoubleText true a text = parse_float binary64 text ≡ Some (from_bits binary64 (from_be_bytes w64 a))
 IsDoubleText false a text = text ≡ encode_upper a
 
--- ---- character strings (clause 20.2.9): text of set 0, which is UTF-8, as it stands, all else as its set and its octets
+-- ---- character strings (clause 20.2.9): text in set 0, which is UTF-8, unchanged; all others as their set and their octets
 
 abbrev pub is_text : ℕ → List ℕ → Bool
 is_text set text = set == 0 && is_utf8 text
 
--- control characters and the percent sign are escaped: a line stays one line
+-- control characters and the percent sign are escaped, so that a text stays on one line
 abbrev pub escaped_octet : ℕ → List ℕ
 escaped_octet octet = if nat_lt octet 32 || (octet == 37 || octet == 127) then percent_encode_byte octet else octet ∷ []
 
@@ -62,13 +62,13 @@ all_bits a = flat_map bit_digits a
 abbrev pub bits_text : (unused : ℕ) → List ℕ → List ℕ
 bits_text unused a = take (length (all_bits a) - unused) (all_bits a)
 
--- ---- dates and times (clauses 20.2.12 and 20.2.13): four fields, * where one is not specified
+-- ---- dates and times (clauses 20.2.12 and 20.2.13): four fields, * for one that is not specified
 
--- a field, counted from a number on
+-- a field, which counts from a number on
 abbrev pub field_text : (base : ℕ) → ℕ → List ℕ
 field_text base octet = if octet == 255 then codes "*" else decimal (base + octet)
 
--- with the separators between them
+-- fields with separators between them
 abbrev pub fields_text : (base : ℕ) → (separators fields : List ℕ) → List ℕ
 fields_text base separators fields =
     field_text base (slice_index fields 0)
@@ -76,17 +76,17 @@ fields_text base separators fields =
     ++ (slice_index separators 1 ∷ (field_text 0 (slice_index fields 2)
     ++ (slice_index separators 2 ∷ field_text 0 (slice_index fields 3))))))
 
--- the year, the month, the day and the day of the week, with - between them
+-- year, month, day and day of the week, separated by -
 abbrev pub date_text : List ℕ → List ℕ
 date_text a = fields_text 1900 (codes "---") a
 
--- hours, minutes and seconds with : between them, and hundredths behind a point
+-- hours, minutes and seconds, separated by :, and hundredths after a point
 abbrev pub time_text : List ℕ → List ℕ
 time_text a = fields_text 0 (codes "::.") a
 
 -- ---- objects (clause 20.2.14)
 
--- an object's type, by its name where the standard has one
+-- an object type, by its name if the standard has one
 abbrev pub named_or_number : Option (List ℕ) → ℕ → List ℕ
 named_or_number (Some name) number = name
 named_or_number None number = decimal number
@@ -105,7 +105,7 @@ boolean_text b = if b then codes "true" else codes "false"
 
 -- ---- values
 
--- the name of a kind; of a NaN and of characters that are no text another one
+-- the name of a kind; NaN, and characters that are not text, have other names
 abbrev pub kind_name : Datum → List ℕ
 kind_name null = codes "null"
 kind_name (boolean b) = codes "boolean"
@@ -121,7 +121,7 @@ kind_name (date a) = codes "date"
 kind_name (time a) = codes "time"
 kind_name (object i) = codes "object"
 
--- what stands behind the name and the separator
+-- the text of a value after the name and the separator
 abbrev pub IsBody : Datum → List ℕ → Type 0
 IsBody null text = text ≡ []
 IsBody (boolean b) text = text ≡ boolean_text b
@@ -137,11 +137,11 @@ IsBody (date a) text = text ≡ date_text a
 IsBody (time a) text = text ≡ time_text a
 IsBody (object i) text = text ≡ object_text i
 
--- a name, the separator, and what stands behind it
+-- a name, the separator, and the text after it
 abbrev pub IsNamed : (separator : ℕ) → Datum → List ℕ → Type 0
 IsNamed separator d text = (body : List ℕ) × (IsBody d body × (text ≡ kind_name d ++ (separator ∷ body)))
 
--- the text is what is printed of the value
+-- the text is a printed text of the value
 abbrev pub IsTextOf : (separator : ℕ) → Datum → List ℕ → Type 0
 IsTextOf separator null text = text ≡ codes "null"
 IsTextOf separator d text = IsNamed separator d text

@@ -1,4 +1,4 @@
-//! Reasons of an Abort (BACnetAbortReason).
+//! The reasons of an Abort by number (BACnetAbortReason).
 ghost use Rattle.std.specs.Prelude.{◌≡◌};
 ghost use Rattle.std.specs.Option.{option_map};
 ghost use Rattle.bac_value_text.specs.Names.{name_in as name_of, plain};
@@ -6,7 +6,7 @@ ghost use Rattle.bac_value_text.specs.AbortReasons.{ABORT_REASONS};
 
 use crate::rows::name_in;
 
-/// The rows, in the order of their names.
+/// Names and numbers, sorted by name.
 const ROWS: &[(&str, u32)] = &[
     ("apdu-too-long", 11),
     ("application-exceeded-reply-time", 8),
@@ -22,14 +22,14 @@ const ROWS: &[(&str, u32)] = &[
     ("window-size-out-of-range", 7),
 ];
 
-/// The rows.
+/// Names and numbers, sorted by name.
 fn rows() -> &'static [(&'static str, u32)]
     ensures { plain result.now ≡ ABORT_REASONS }
 {
     ROWS
 }
 
-/// The name of a reason of an Abort by its number; None where the standard has none.
+/// The name of an Abort reason; None if the standard has no reason with this number.
 pub fn abort_reason_name(number: u32) -> Option<&'static str>
     ensures { option_map (λ s. s.now) result ≡ name_of ABORT_REASONS number }
 {

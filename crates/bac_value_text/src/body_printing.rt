@@ -1,4 +1,4 @@
-//! What stands behind the name of a kind, as it is printed.
+//! Printing the part of a value after the name of its kind.
 ghost use Rattle.std.specs.Prelude.{◌≡◌, ◌++◌, ◌<◌, ◌^◌, false, length, decimal, IfOk, OnOk, string_bytes};
 ghost use Rattle.std.specs.Fmt.{signed_decimal};
 ghost use Rattle.hex.specs.Hex.{encode_upper};
@@ -14,7 +14,7 @@ use percent_encoding::percent_encode_byte;
 use ryu::Buffer;
 use std::alloc::{AllocError, Global};
 
-/// The octets are no NaN's.
+/// Whether the octets encode a number, not NaN.
 pub(crate) fn is_real_number(octets: [u8; 4]) -> bool
     ensures { result ≡ is_real_number octets }
 {
@@ -61,7 +61,7 @@ pub(crate) fn enumerated_text(alloc: Global, number: u32) -> Result<Vec<u8>, All
     Ok(text.into_bytes())
 }
 
-/// Octets in hexadecimal, in capitals.
+/// Octets in hexadecimal, in upper case.
 pub(crate) fn hexadecimal(alloc: Global, octets: &[u8]) -> Result<Vec<u8>, AllocError>
     ensures text { IfOk result (λ t. t.items ≡ encode_upper octets.now) }
     ensures each { IsBytes octets.now }
@@ -70,7 +70,7 @@ pub(crate) fn hexadecimal(alloc: Global, octets: &[u8]) -> Result<Vec<u8>, Alloc
     Ok(text.into_bytes())
 }
 
-/// A number in the shortest digits that read as it; of a NaN the octets.
+/// A Real in the fewest digits that read as the same number; the octets in hexadecimal for NaN.
 pub(crate) fn real_text(alloc: Global, octets: [u8; 4]) -> Result<Vec<u8>, AllocError>
     ensures text { IfOk result (λ t. IsRealText (is_real_number octets) octets t.items) }
     ensures len { length octets ≡ 4 }
@@ -84,7 +84,7 @@ pub(crate) fn real_text(alloc: Global, octets: [u8; 4]) -> Result<Vec<u8>, Alloc
     Vec::from_slice(alloc, number.as_bytes())
 }
 
-/// A number in the shortest digits that read as it; of a NaN the octets.
+/// A Double in the fewest digits that read as the same number; the octets in hexadecimal for NaN.
 pub(crate) fn double_text(alloc: Global, octets: [u8; 8]) -> Result<Vec<u8>, AllocError>
     ensures text { IfOk result (λ t. IsDoubleText (is_double_number octets) octets t.items) }
     ensures len { length octets ≡ 8 }
@@ -119,14 +119,14 @@ fn escaped_text(alloc: Global, octets: &[u8]) -> Result<Vec<u8>, AllocError>
     Ok(text)
 }
 
-/// Whether characters of a set are text: set 0 is UTF-8.
+/// Whether these octets in this character set are text: valid UTF-8 in set 0.
 pub(crate) fn is_text(set: u8, text: &[u8]) -> bool
     ensures { result ≡ is_text set text.now }
 {
     set == 0 && std::str::from_utf8(text).is_ok()
 }
 
-/// Characters of a set that is not known as text, in hexadecimal.
+/// Octets in a character set that is not text, in hexadecimal.
 fn raw_characters(alloc: Global, set: u8, text: &[u8]) -> Result<Vec<u8>, AllocError>
     ensures { IfOk result (λ t. t.items ≡ characters_text false set text.now) }
 {
@@ -147,7 +147,7 @@ pub(crate) fn characters_body(alloc: Global, set: u8, text: &[u8]) -> Result<Vec
     }
 }
 
-/// The bits of an octet as digits, the highest first.
+/// The bits of an octet as digits, the most significant first.
 fn bit_digits(octet: u8) -> [u8; 8]
     ensures { result ≡ bit_digits octet }
 {
@@ -190,7 +190,7 @@ pub(crate) fn bits_text(alloc: Global, unused: u8, octets: &[u8]) -> Result<Vec<
     Ok(text)
 }
 
-/// A field of a date or a time, counted from a number on.
+/// A field of a date or a time, which counts from a number on.
 fn field_text(alloc: Global, base: u16, octet: u8) -> Result<String, AllocError>
     ensures { IfOk result (λ t. string_bytes t ≡ field_text base octet) }
 {
@@ -201,7 +201,7 @@ fn field_text(alloc: Global, base: u16, octet: u8) -> Result<String, AllocError>
     format!(in alloc; "{number}")
 }
 
-/// The four fields of a date or a time, with separators between them.
+/// The four fields of a date or a time with separators.
 pub(crate) fn fields_text(
     alloc: Global,
     base: u16,
@@ -222,7 +222,7 @@ pub(crate) fn fields_text(
     Ok(text)
 }
 
-/// The name of an object type, or its number where the standard has no name for it.
+/// The name of an object type, or its number if the standard has no name for it.
 fn type_text(alloc: Global, kind: u16) -> Result<String, AllocError>
     ensures { IfOk result (λ t. string_bytes t ≡ type_text kind) }
 {
@@ -232,7 +232,7 @@ fn type_text(alloc: Global, kind: u16) -> Result<String, AllocError>
     }
 }
 
-/// A property, by its name in the standard, as `present-value`, or its number where there is none.
+/// A property by its name in the standard, for example `present-value`, or by its number if it has no name.
 pub fn property_text(alloc: Global, property: u32) -> Result<String, AllocError>
     ensures { IfOk result (λ t. string_bytes t ≡ property_text property) }
 {
@@ -242,7 +242,7 @@ pub fn property_text(alloc: Global, property: u32) -> Result<String, AllocError>
     }
 }
 
-/// An object, by its type (by name where the standard has one) and its instance, as `analog-input:5`.
+/// An object by its type (by name if the standard has one) and its instance, for example `analog-input:5`.
 pub fn object_text(alloc: Global, object: ObjectIdentifier) -> Result<Vec<u8>, AllocError>
     ensures { IfOk result (λ t. t.items ≡ object_text (object_identifier_view object)) }
 {

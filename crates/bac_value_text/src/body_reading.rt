@@ -1,4 +1,4 @@
-//! What stands behind the name of a kind, as it is read.
+//! Reading the part of a value after the name of its kind.
 ghost use Rattle.std.specs.Prelude.{◌≡◌, IfOk, drop};
 ghost use Rattle.std.specs.Option.{option_map, option_or};
 ghost use Rattle.std.specs.List.{list_all};
@@ -60,7 +60,7 @@ fn field_from(base: u64, number: u64) -> Option<u8>
     }
 }
 
-/// A field of a date or a time, counted from a number on.
+/// A field of a date or a time, which counts from a number on.
 fn field_in(base: u64, word: &[u8]) -> Option<u8>
     ensures { result ≡ field_in base word.now }
 {
@@ -86,7 +86,7 @@ pub(crate) fn fields_in(base: u64, separators: [u8; 3], word: &[u8]) -> Option<[
     ])
 }
 
-/// The number that a word is, or otherwise the number that it names.
+/// The number that a word is, or otherwise the number that it is a name of.
 fn number_or(word: &[u8], named: Option<u32>) -> Option<u64>
     ensures { result ≡ option_or (number_of word.now) named }
 {
@@ -96,7 +96,7 @@ fn number_or(word: &[u8], named: Option<u32>) -> Option<u64>
     }
 }
 
-/// An object type, by its number or its name.
+/// Reads an object type: its number or its name.
 fn type_in(word: &[u8]) -> Option<u16>
     ensures { result ≡ type_of word.now }
 {
@@ -104,7 +104,7 @@ fn type_in(word: &[u8]) -> Option<u16>
     Some(number as u16)
 }
 
-/// A property, by its number (32 bits) or its name in the standard, as `present-value`; None of any other word.
+/// Reads a property: its number (32 bits) or its name in the standard, for example `present-value`. Returns None for all other words.
 pub fn property_in(word: &[u8]) -> Option<u32>
     ensures { result ≡ property_of word.now }
 {
@@ -112,8 +112,8 @@ pub fn property_in(word: &[u8]) -> Option<u32>
     Some(number as u32)
 }
 
-/// An object, as its type (0 to 1,023, or its name in the standard) and its instance (0 to 4,194,303) with a colon between them, as `analog-input:5`;
-/// None of any other word.
+/// Reads an object: its type (0 to 1,023, or its name in the standard), a colon, and its instance (0 to 4,194,303), for example
+/// `analog-input:5`. Returns None for all other words.
 #[tactic(auto, unfolding(crate::specs::Reading::object_of))]
 pub fn object_in(word: &[u8]) -> Option<ObjectIdentifier>
     ensures { option_map object_identifier_view result ≡ object_of word.now }
@@ -145,7 +145,7 @@ pub(crate) fn characters_fitting(set: u8, text: Vec<u8>) -> Result<Value, ValueF
     }
 }
 
-/// Characters as their set and their octets.
+/// Reads characters: their set and their octets.
 #[tactic(auto, unfolding(crate::specs::Reading::characters_in))]
 pub(crate) fn characters_in(alloc: Global, body: &[u8]) -> Result<Value, ValueFault>
     ensures { Reads value_view result (characters_in body.now) }
@@ -176,7 +176,7 @@ fn bit_in(word: &[u8], i: usize) -> u8
     }
 }
 
-/// The octet that the first eight bits are.
+/// The octet of the first eight bits.
 fn octet_in(word: &[u8]) -> u8
     ensures { result ≡ octet_in word.now }
 {
@@ -186,14 +186,14 @@ fn octet_in(word: &[u8]) -> u8
     bit_in(word, 7) + 2 * (bit_in(word, 6) + 2 * six)
 }
 
-/// What is behind the first eight bits.
+/// The bits after the first eight.
 fn behind_octet(word: &[u8]) -> &[u8]
     ensures { result.now ≡ drop 8 word.now }
 {
     &word[word.len().min(8)..]
 }
 
-/// The octets that bits are.
+/// The octets of some bits.
 fn octets_for(alloc: Global, word: &[u8]) -> Result<Vec<u8>, AllocError>
     ensures { IfOk result (λ v. v.items ≡ octets_for word.now) }
 {
@@ -215,7 +215,7 @@ fn bits_fitting(unused: u8, octets: Vec<u8>) -> Result<Value, ValueFault>
     }
 }
 
-/// Bits as digits.
+/// Reads bits as digits.
 pub(crate) fn bits_in(alloc: Global, body: &[u8]) -> Result<Value, ValueFault>
     ensures { Reads value_view result (bits_in body.now) }
 {

@@ -1,4 +1,4 @@
-//! Data as text: each element, with commas between them.
+//! Data as text: the elements, separated by commas.
 ghost use Rattle.std.specs.Prelude.{◌≡◌, ◌++◌, map, IfOk};
 ghost use Rattle.std.specs.List.{flat_map};
 ghost use Rattle.bac_value.specs.Views.{element_view};
@@ -31,7 +31,7 @@ fn closing_text(alloc: Global, number: u8) -> Result<Vec<u8>, AllocError>
     Ok(text.into_bytes())
 }
 
-/// What has a context tag.
+/// The text of an element with a context tag.
 fn tagged_text(alloc: Global, element: Element<&[u8]>) -> Result<Vec<u8>, AllocError>
     ensures { IfOk result (λ t. t.items ≡ tagged_text element.entry.tag.form element.entry.tag.number element.entry.contents.now) }
 {
@@ -65,7 +65,7 @@ fn element_texts(alloc: Global, values: Data<'_>) -> Result<Vec<Vec<u8>>, NoMemo
     Ok(texts)
 }
 
-/// Texts behind commas.
+/// Joins texts with a comma before each.
 fn behind_commas(alloc: Global, texts: &[Vec<u8>]) -> Result<Vec<u8>, AllocError>
     ensures { IfOk result (λ t. t.items ≡ flat_map behind_comma (map (λ u. u.items) texts.now)) }
 {
@@ -95,8 +95,8 @@ fn joined(alloc: Global, texts: &[Vec<u8>]) -> Result<Vec<u8>, AllocError>
     }
 }
 
-/// The text of data: each value behind the name of its kind and a space, as `real 72.3`, with commas between them; what has a context tag as
-/// `context N HEX`, tags that open and close as `opening N` and `closing N`; `no values` where there are none.
+/// The text of data: each value after the name of its kind and a space, for example `real 72.3`, separated by commas; an element with a
+/// context tag as `context N HEX`, an opening or closing tag as `opening N` or `closing N`; `no values` if there are no elements.
 pub fn data_text(alloc: Global, values: Data<'_>) -> Result<Vec<u8>, NoMemory>
     ensures { IfOk result (λ t. IsDataText values.entry.octets.now t.items) }
 {

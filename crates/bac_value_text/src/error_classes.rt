@@ -1,4 +1,4 @@
-//! Error classes (BACnetError, error-class).
+//! The error classes by number (BACnetError, error-class).
 ghost use Rattle.std.specs.Prelude.{◌≡◌};
 ghost use Rattle.std.specs.Option.{option_map};
 ghost use Rattle.bac_value_text.specs.Names.{name_in as name_of, plain};
@@ -6,7 +6,7 @@ ghost use Rattle.bac_value_text.specs.ErrorClasses.{ERROR_CLASSES};
 
 use crate::rows::name_in;
 
-/// The rows, in the order of their names.
+/// Names and numbers, sorted by name.
 const ROWS: &[(&str, u32)] = &[
     ("communication", 7),
     ("device", 0),
@@ -18,14 +18,14 @@ const ROWS: &[(&str, u32)] = &[
     ("vt", 6),
 ];
 
-/// The rows.
+/// Names and numbers, sorted by name.
 fn rows() -> &'static [(&'static str, u32)]
     ensures { plain result.now ≡ ERROR_CLASSES }
 {
     ROWS
 }
 
-/// The name of an error class by its number; None where the standard has none.
+/// The name of an error class; None if the standard has no class with this number.
 pub fn error_class_name(number: u32) -> Option<&'static str>
     ensures { option_map (λ s. s.now) result ≡ name_of ERROR_CLASSES number }
 {

@@ -1,10 +1,10 @@
-//! Application values as text, and text as values: each kind has a name, and a value is printed as the name of its kind, a separator and the value.
+//! Application values as text: each kind has a name, and a value is printed as the name of its kind, a separator and the value itself.
 //!
-//! What is printed of a value reads as that value, and as no other. Data are printed element by element; objects, properties, errors and reasons by
-//! their names. The numbers, octets and objects that a word is are read here for all crates.
+//! The printed text of a value reads as that value and as no other. Data are printed element by element; objects, properties, errors and
+//! reasons are printed by name. This crate also reads the numbers, octets and objects in words for all other crates.
 //!
-//! Object types and properties of the standard (ANSI/ASHRAE 135-2020, clause 21) by their names and by their numbers, and the names of error classes, error
-//! codes and the reasons of Rejects and Aborts.
+//! It has the names and numbers of object types, properties, error classes, error codes, and the reasons of Rejects and Aborts of the
+//! standard (ANSI/ASHRAE 135-2020, clause 21).
 #![tactic(auto)]
 
 mod abort_reasons;

@@ -1,4 +1,4 @@
-//! Laws of the tables: functions that do nothing, whose contracts are the laws.
+//! Laws of the tables of names: empty functions whose contracts are the laws.
 ghost use Rattle.bac_value_text.specs.Names.{AreInverse};
 ghost use Rattle.bac_value_text.specs.AbortReasons.{ABORT_REASONS};
 ghost use Rattle.bac_value_text.specs.ErrorClasses.{ERROR_CLASSES};
@@ -7,7 +7,7 @@ ghost use Rattle.bac_value_text.specs.ObjectTypes.{OBJECT_TYPES};
 ghost use Rattle.bac_value_text.specs.Properties.{PROPERTIES};
 ghost use Rattle.bac_value_text.specs.RejectReasons.{REJECT_REASONS};
 
-/// A name has a number exactly where the number has the name: no name and no number stands twice in a table.
+/// A name has a number exactly if that number has the name: each name and each number appears once in its table.
 pub fn names_and_numbers_are_inverse()
     ensures object_types { AreInverse OBJECT_TYPES }
     ensures properties { AreInverse PROPERTIES }

@@ -1,4 +1,4 @@
-//! Numbers, octets and parts in words.
+//! Reading numbers, octets and parts of words.
 ghost use Rattle.std.specs.Prelude.{◌≡◌};
 ghost use Rattle.std.specs.Option.{option_map};
 ghost use Rattle.std.specs.List.{list_all, position};
@@ -17,7 +17,7 @@ fn are_digits(word: &[u8]) -> bool
     word.iter().all(|digit| digit.is_ascii_digit())
 }
 
-/// The number that a word is: decimal digits alone, at least one, of at most 64 bits; None of any other word.
+/// Reads a number: one or more decimal digits and nothing else, of at most 64 bits. Returns None for all other words.
 pub fn number_in(word: &[u8]) -> Option<u64>
     ensures { result ≡ number_of word.now }
 {
@@ -28,14 +28,14 @@ pub fn number_in(word: &[u8]) -> Option<u64>
     }
 }
 
-/// The number, where it is at most that.
+/// The number, if it is at most `most`.
 pub(crate) fn at_most(most: u64, number: u64) -> Option<u64>
     ensures { result ≡ at_most most number }
 {
     if number <= most { Some(number) } else { None }
 }
 
-/// The same, where it is at most `most`.
+/// Reads a number that is at most `most`.
 pub fn number_up_to(most: u64, word: &[u8]) -> Option<u64>
     ensures { result ≡ number_up_to most word.now }
 {
@@ -67,7 +67,7 @@ fn positive(digits: &[u8]) -> Option<i64>
     Some(number as i64)
 }
 
-/// The number that a word is, of 64 bits with its sign: decimal digits, and a minus before them or not; None of any other word.
+/// Reads a signed number of 64 bits: decimal digits with an optional minus before them. Returns None for all other words.
 pub fn signed_in(word: &[u8]) -> Option<i64>
     ensures { result ≡ signed_of word.now }
 {
@@ -78,7 +78,8 @@ pub fn signed_in(word: &[u8]) -> Option<i64>
     }
 }
 
-/// Octets in hexadecimal, in either case; a word without octets is none. `NoValue` where the word is no hexadecimal.
+/// Reads octets in hexadecimal, in upper or lower case; an empty word has no octets. Returns `NoValue` if the word is not hexadecimal,
+/// and `NoMemory` if an allocation fails.
 pub fn octets_in(alloc: Global, word: &[u8]) -> Result<Vec<u8>, ValueFault>
     ensures { Reads (λ v. v.items) result (octets_of word.now) }
 {
@@ -89,14 +90,14 @@ pub fn octets_in(alloc: Global, word: &[u8]) -> Result<Vec<u8>, ValueFault>
     }
 }
 
-/// Four octets in hexadecimal.
+/// Reads four octets in hexadecimal.
 pub(crate) fn four_in(word: &[u8]) -> Option<[u8; 4]>
     ensures { result ≡ array_of 4 word.now }
 {
     <[u8; 4] as FromHex>::from_hex(word).ok()
 }
 
-/// Eight octets in hexadecimal.
+/// Reads eight octets in hexadecimal.
 pub(crate) fn eight_in(word: &[u8]) -> Option<[u8; 8]>
     ensures { result ≡ array_of 8 word.now }
 {
@@ -109,7 +110,7 @@ fn place_of(octet: u8, word: &[u8]) -> Option<usize>
     word.iter().position(|other| *other == octet)
 }
 
-/// What stands before the first such octet, and after it; None where there is none.
+/// Splits a word at the first such octet, which is in neither part. Returns None if the word has no such octet.
 pub fn parts_at(octet: u8, word: &[u8]) -> Option<(&[u8], &[u8])>
     ensures { option_map (λ r. (r.0.now, r.1.now)) result ≡ parts_at octet word.now }
 {

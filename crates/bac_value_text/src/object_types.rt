@@ -1,4 +1,4 @@
-//! Object types (BACnetObjectType).
+//! The object types by name and by number (BACnetObjectType).
 ghost use Rattle.std.specs.Prelude.{◌≡◌};
 ghost use Rattle.std.specs.Option.{option_map};
 ghost use Rattle.bac_value_text.specs.Names.{name_in as name_of, number_in as number_of, plain};
@@ -6,7 +6,7 @@ ghost use Rattle.bac_value_text.specs.ObjectTypes.{OBJECT_TYPES};
 
 use crate::rows::{name_in, number_in};
 
-/// The rows, in the order of their names. A type that the standard took out (38) has none.
+/// Names and numbers, sorted by name. The type that the standard has removed (38) is not listed.
 const ROWS: &[(&str, u32)] = &[
     ("access-credential", 32),
     ("access-door", 30),
@@ -72,28 +72,28 @@ const ROWS: &[(&str, u32)] = &[
     ("trend-log-multiple", 27),
 ];
 
-/// The rows.
+/// Names and numbers, sorted by name.
 fn rows() -> &'static [(&'static str, u32)]
     ensures { plain result.now ≡ OBJECT_TYPES }
 {
     ROWS
 }
 
-/// The number of an object type by its name, as `analog-input`; None where the standard has no such name.
+/// The number of an object type, for example of `analog-input`; None if the standard has no type with this name.
 pub fn object_type_number(name: &str) -> Option<u32>
     ensures { result ≡ number_of OBJECT_TYPES name.now }
 {
     object_type_named(name.as_bytes())
 }
 
-/// The number of an object type by the octets of its name.
+/// The number of an object type, from the octets of its name.
 pub fn object_type_named(name: &[u8]) -> Option<u32>
     ensures { result ≡ number_of OBJECT_TYPES name.now }
 {
     number_in(rows(), name)
 }
 
-/// The name of an object type by its number; None where the standard has none.
+/// The name of an object type; None if the standard has no type with this number.
 pub fn object_type_name(number: u32) -> Option<&'static str>
     ensures { option_map (λ s. s.now) result ≡ name_of OBJECT_TYPES number }
 {

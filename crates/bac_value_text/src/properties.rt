@@ -1,4 +1,4 @@
-//! Properties (BACnetPropertyIdentifier).
+//! The properties by name and by number (BACnetPropertyIdentifier).
 ghost use Rattle.std.specs.Prelude.{◌≡◌};
 ghost use Rattle.std.specs.Option.{option_map};
 ghost use Rattle.bac_value_text.specs.Names.{name_in as name_of, number_in as number_of};
@@ -15,14 +15,14 @@ mod t_to_z;
 
 use crate::rows::{name_in, number_in};
 
-/// The number of a property by its name, as `present-value`; None where the standard has no such name.
+/// The number of a property, for example of `present-value`; None if the standard has no property with this name.
 pub fn property_number(name: &str) -> Option<u32>
     ensures { result ≡ number_of PROPERTIES name.now }
 {
     property_named(name.as_bytes())
 }
 
-/// The number of a property by the octets of its name.
+/// The number of a property, from the octets of its name.
 #[tactic(auto, using(crate::proofs::Appended::number_in_both))]
 pub fn property_named(name: &[u8]) -> Option<u32>
     ensures { result ≡ number_of PROPERTIES name.now }
@@ -37,7 +37,7 @@ pub fn property_named(name: &[u8]) -> Option<u32>
         .or(number_in(t_to_z::rows(), name))
 }
 
-/// The name of a property by its number; None where the standard has none, as where it took the property out.
+/// The name of a property; None if the standard has no property with this number, or has removed it.
 #[tactic(auto, using(crate::proofs::Appended::name_in_both, crate::proofs::Appended::option_map_or))]
 pub fn property_name(number: u32) -> Option<&'static str>
     ensures { option_map (λ s. s.now) result ≡ name_of PROPERTIES number }

@@ -1,4 +1,4 @@
-//! Errors, and the reasons of Rejects and Aborts: by their names in the standard and by their numbers.
+//! Printing errors and the reasons of Rejects and Aborts: by their names in the standard, and by number.
 ghost use Rattle.std.specs.Prelude.{◌≡◌, IfOk, string_bytes};
 ghost use Rattle.bac_value_text.specs.Reasons.{abort_text, aborting_text, class_text, code_text, error_text, reject_text, rejection_text};
 
@@ -41,7 +41,7 @@ fn aborting_text(alloc: Global, number: u32) -> Result<String, AllocError>
     }
 }
 
-/// An error, as `object unknown-object (1:31)`: its class and its code by name (by number where the standard has no name), and both by number.
+/// An error, for example `object unknown-object (1:31)`: class and code by name (by number if the standard has no name), and by number.
 pub fn error_text(alloc: Global, class: u32, code: u32) -> Result<String, AllocError>
     ensures { IfOk result (λ t. string_bytes t ≡ error_text class code) }
 {
@@ -50,7 +50,7 @@ pub fn error_text(alloc: Global, class: u32, code: u32) -> Result<String, AllocE
     format!(in alloc; "{class_name} {code_name} ({class}:{code})")
 }
 
-/// The reason of a Reject, as `unrecognized-service (9)`.
+/// A Reject reason, for example `unrecognized-service (9)`.
 pub fn reject_text(alloc: Global, reason: u8) -> Result<String, AllocError>
     ensures { IfOk result (λ t. string_bytes t ≡ reject_text reason) }
 {
@@ -58,7 +58,7 @@ pub fn reject_text(alloc: Global, reason: u8) -> Result<String, AllocError>
     format!(in alloc; "{name} ({reason})")
 }
 
-/// The reason of an Abort, as `segmentation-not-supported (4)`.
+/// An Abort reason, for example `segmentation-not-supported (4)`.
 pub fn abort_text(alloc: Global, reason: u8) -> Result<String, AllocError>
     ensures { IfOk result (λ t. string_bytes t ≡ abort_text reason) }
 {

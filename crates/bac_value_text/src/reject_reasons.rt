@@ -1,4 +1,4 @@
-//! Reasons of a Reject (BACnetRejectReason).
+//! The reasons of a Reject by number (BACnetRejectReason).
 ghost use Rattle.std.specs.Prelude.{◌≡◌};
 ghost use Rattle.std.specs.Option.{option_map};
 ghost use Rattle.bac_value_text.specs.Names.{name_in as name_of, plain};
@@ -6,7 +6,7 @@ ghost use Rattle.bac_value_text.specs.RejectReasons.{REJECT_REASONS};
 
 use crate::rows::name_in;
 
-/// The rows, in the order of their names.
+/// Names and numbers, sorted by name.
 const ROWS: &[(&str, u32)] = &[
     ("buffer-overflow", 1),
     ("inconsistent-parameters", 2),
@@ -20,14 +20,14 @@ const ROWS: &[(&str, u32)] = &[
     ("unrecognized-service", 9),
 ];
 
-/// The rows.
+/// Names and numbers, sorted by name.
 fn rows() -> &'static [(&'static str, u32)]
     ensures { plain result.now ≡ REJECT_REASONS }
 {
     ROWS
 }
 
-/// The name of a reason of a Reject by its number; None where the standard has none.
+/// The name of a Reject reason; None if the standard has no reason with this number.
 pub fn reject_reason_name(number: u32) -> Option<&'static str>
     ensures { option_map (λ s. s.now) result ≡ name_of REJECT_REASONS number }
 {

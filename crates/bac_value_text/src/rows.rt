@@ -1,9 +1,9 @@
-//! Look-ups in a table of names and numbers.
+//! Look-ups in tables of names and numbers.
 ghost use Rattle.std.specs.Prelude.{◌≡◌, IfSome};
 ghost use Rattle.std.specs.Option.{option_map};
 ghost use Rattle.bac_value_text.specs.Names.{name_in as name_of, number_in as number_of, plain};
 
-/// The number of a name, of which the octets are given.
+/// The number of the name with these octets.
 #[tactic(auto, using(crate::proofs::Looking::number_next))]
 pub(crate) fn number_in(rows: &[(&str, u32)], name: &[u8]) -> Option<u32>
     ensures { result ≡ number_of (plain rows.now) name.now }

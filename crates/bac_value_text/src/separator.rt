@@ -1,13 +1,13 @@
-//! What stands between the name of a kind and a value.
+//! The separator between the name of a kind and a value.
 ghost use Rattle.std.specs.Prelude.{◌≡◌};
 ghost use Rattle.bac_value_text.specs.Numbers.{separator_octet};
 
-/// What stands between the name of a kind and a value.
+/// The separator between the name of a kind and a value.
 #[derive(Clone, Copy, Debug, PartialEq, Eq)]
 pub enum Separator {
-    /// As in one word of a request: `real:72.5`.
+    /// A colon, as in a word of a request: `real:72.5`.
     Colon,
-    /// As in a printed line: `real 72.5`.
+    /// A space, as in a printed line: `real 72.5`.
     Space,
 }
 

@@ -1,4 +1,4 @@
-//! Why a text is no value.
+//! Why a text is not a value.
 ghost use Rattle.std.specs.Prelude.{◌≡◌};
 ghost use Rattle.bac_value_text.specs.declared.value_fault.ValueFault.TheVariants as fault;
 
@@ -8,10 +8,10 @@ use thiserror::Error;
 /// Why no value was read from a text.
 #[derive(Clone, Copy, Debug, PartialEq, Eq, Error)]
 pub enum ValueFault {
-    /// The text begins with the name of no kind, or what follows is no value of that kind.
+    /// The text does not begin with the name of a kind, or what follows is not a value of that kind.
     #[error("no value")]
     NoValue,
-    /// An allocation was refused.
+    /// An allocation failed.
     #[error("no memory")]
     NoMemory,
 }

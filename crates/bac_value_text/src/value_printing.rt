@@ -1,4 +1,4 @@
-//! Values as text.
+//! Printing values as text.
 ghost use Rattle.std.specs.Prelude.{◌≡◌, ◌∷◌, ◌++◌, Some, IfOk};
 ghost use Rattle.bac_value.specs.Value.{IsValue};
 ghost use Rattle.bac_value.specs.Views.{value_view};
@@ -41,7 +41,7 @@ fn kind_name(value: &Value) -> &'static str
     }
 }
 
-/// What stands behind the name and the separator.
+/// The text of a value after the name and the separator.
 fn body_text(alloc: Global, value: &Value) -> Result<Vec<u8>, AllocError>
     ensures is { IfOk result (λ t. IsBody (value_view value.now) t.items) }
     ensures valid { IsValue (value_view value.now) }
@@ -64,7 +64,7 @@ fn body_text(alloc: Global, value: &Value) -> Result<Vec<u8>, AllocError>
     }
 }
 
-/// The text of a value: the name of its kind, the separator and the value; of a Null the name alone.
+/// The text of a value: the name of its kind, the separator and the value itself; for a Null the name alone.
 pub fn value_text(alloc: Global, separator: Separator, value: &Value) -> Result<Vec<u8>, AllocError>
     ensures is { IfOk result (λ t. IsTextOf (separator_octet separator) (value_view value.now) t.items) }
     ensures reads { IfOk result (λ t. value_in (separator_octet separator) t.items ≡ Some (value_view value.now)) }

@@ -1,4 +1,4 @@
-//! Values from text.
+//! Reading values from text.
 ghost use Rattle.std.specs.Prelude.{◌≡◌};
 ghost use Rattle.std.specs.Option.{option_map, option_or};
 ghost use Rattle.percent_encoding.specs.Percent.{percent_decode};
@@ -17,7 +17,7 @@ use bac_value::Value;
 use percent_encoding::percent_decode;
 use std::alloc::Global;
 
-/// A value of a kind that is a number.
+/// Reads a value of a kind whose values are numbers.
 fn number_value(name: &[u8], body: &[u8]) -> Option<Value>
     ensures { option_map value_view result ≡ number_value name.now body.now }
 {
@@ -38,7 +38,7 @@ fn number_value(name: &[u8], body: &[u8]) -> Option<Value>
     }
 }
 
-/// A value of a kind of so many octets.
+/// Reads a value of a kind with a fixed number of octets.
 fn raw_value(name: &[u8], body: &[u8]) -> Option<Value>
     ensures { option_map value_view result ≡ raw_value name.now body.now }
 {
@@ -57,7 +57,7 @@ fn raw_value(name: &[u8], body: &[u8]) -> Option<Value>
     }
 }
 
-/// Text of set 0.
+/// Reads text in character set 0.
 fn text_in(alloc: Global, body: &[u8]) -> Result<Value, ValueFault>
     ensures { Reads value_view result (characters_fit 0 (percent_decode body.now)) }
 {
@@ -66,7 +66,7 @@ fn text_in(alloc: Global, body: &[u8]) -> Result<Value, ValueFault>
     characters_fitting(0, text)
 }
 
-/// A value of a kind that takes memory.
+/// Reads a value of a kind that allocates.
 fn string_value(alloc: Global, name: &[u8], body: &[u8]) -> Result<Value, ValueFault>
     ensures { Reads value_view result (string_value name.now body.now) }
 {
@@ -105,8 +105,8 @@ fn bare_value(text: &[u8]) -> Result<Value, ValueFault>
     }
 }
 
-/// The value that a text is, as [`value_text`](crate::value_text) prints it; octets in hexadecimal in either case, a character of a text also where
-/// it need not be escaped. `NoValue` where it is none.
+/// Reads a value as [`value_text`](crate::value_text) prints it; hexadecimal digits may be in upper or lower case, and characters of a
+/// text may be escaped without need. Returns `NoValue` if the text is not a value, and `NoMemory` if an allocation fails.
 pub fn read_value(alloc: Global, separator: Separator, text: &[u8]) -> Result<Value, ValueFault>
     ensures { Reads value_view result (value_in (separator_octet separator) text.now) }
 {

@@ -1,5 +1,5 @@
 -- After every run of a fresh world the log of values is right with the stores.
-use Rattle.std.proofs.Common.{◌≡◌, ℕ, ◌+◌, ◌-◌, ◌≤◌, ◌<◌, ◌⊎◌, Bool, true, false, ◌&&◌, List, [], ◌∷◌, length, Option, Some, None, slice_get}
+use Rattle.std.proofs.Common.{◌≡◌, ℕ, ◌+◌, ◌-◌, ◌≤◌, ◌<◌, Bool, true, false, ◌&&◌, List, [], ◌∷◌, length, Option, Some, None, slice_get}
 use Rattle.std.proofs.Common.{nat_le, nat_eq, if◌then◌else◌, refl, sym, ap, subst, inl, inr, ◌∙◌, arith}
 use Rattle.std.proofs.lemmas.Bool.Decides.{nat_tests}
 use Rattle.std.specs.Option.{option_map}
@@ -28,8 +28,7 @@ use Rattle.bac_transaction.specs.Sends.{Pairwise}
 use Rattle.bac_transaction.specs.Ends.{Client}
 use Rattle.bac_transaction.specs.Services.{service_of}
 use Rattle.bac_world.specs.Node.{Node, Outcome, IsDropped, IsHeard, IsHeardBy, NodeOn, with_change}
-use Rattle.bac_world.specs.Once.{Fact, Stores, IsOnce, with_changed}
-use Rattle.bac_world.specs.Once.Fact.{Changed}
+use Rattle.bac_world.specs.Once.{Fact, Stores, IsOnce, MayChange, with_changed}
 use Rattle.bac_world.specs.World.{World, Event, Copy, Note, link_at, stores_of, newest, later, peer_at, Acts, DeliversIf, Delivers, HearsNoise}
 use Rattle.bac_world.specs.World.{IsChanged, WorldStep, WorldRun, IsFresh, IsBounded}
 use Rattle.bac_world.specs.World.Event.{Ask, Deliver, Noise, Tick, Advance, Change, Restart}
@@ -38,7 +37,7 @@ use Rattle.bac_world.proofs.Machines.{passed, changes, starts}
 use Rattle.bac_world.proofs.Pairs.{IsPaired, pairwise_get}
 use Rattle.bac_world.proofs.Logs.{FactMeans}
 use Rattle.bac_world.proofs.Bridge.{IsKnown, NodeFits, IsCopyOf, IsBetween, IsGone, TicketFits, EntryFits, key_of, slot_key, framed_means, later_alike}
-use Rattle.bac_world.proofs.Steps.{Over, Next, decide_number, each_with, linked_with}
+use Rattle.bac_world.proofs.Steps.{Over, Next, each_with, linked_with}
 use Rattle.bac_world.proofs.Serving.{serves}
 use Rattle.bac_world.proofs.Clients.{hears, quiet}
 use Rattle.bac_world.proofs.Asking.{asks_over}
@@ -114,7 +113,7 @@ module _ (links : ℕ → Option Octets) (apart : (i j : ℕ) (l : Octets) → l
     where
       on : NodeOn w.now from octets d.hears.before d.hears.after d.hears.outcome → Next links apart W x w w'
       on (inl z) = dropped w w' n h i d.hears.before d.hears.after d.hears.outcome d.hears.at d.hears.acts from octets z
-      on (inr z) = absurd (d.noise.meaningless z.peer z.apdu z.means)
+      on (inr z) = absurd (d.noise z.peer z.apdu z.means)
 
   -- Time.
 
@@ -214,12 +213,20 @@ module _ (links : ℕ → Option Octets) (apart : (i j : ℕ) (l : Octets) → l
             ap (stores_of w'.nodes) same ∙ ap store s.nodes.here ∙ sym (ap (λ o. option_map (changed c) (store o)) s.at)
         go false e = ap store (s.nodes.others node (λ same. grind (arith, nat_tests)))
 
+    may_change : MayChange i c (stores_of w.nodes) (stores_of w'.nodes)
+    may_change = record {
+      store = s.before.store;
+      at = ap (λ (o : Option Node). option_map (λ (a : Node). a.store) o) s.at;
+      permitted = s.may;
+      stores = stores_changed;
+    }
+
     changed_next : Next links apart W x w w'
     changed_next = (
       notes_change n i [],
       record {
         bridge = changed_over;
-        once = λ opening once. subst (λ (l : List Fact). IsOnce opening l (stores_of w'.nodes)) (sym s.log) (stores_of w.nodes, stores_changed, once);
+        once = λ opening once. subst (λ (l : List Fact). IsOnce opening l (stores_of w'.nodes)) (sym s.log) (stores_of w.nodes, may_change, once);
       },
     )
 

@@ -10,17 +10,16 @@ use Rattle.bac_protocol.specs.Wire.{is_from_client}
 use Rattle.bac_slots.specs.Slots.{value_at}
 use Rattle.bac_transaction.specs.Keys.{PeerKey, same_key}
 use Rattle.bac_transaction.specs.Sends.{Datagram}
-use Rattle.bac_transaction.specs.Meanings.{Finish}
 use Rattle.bac_transaction.specs.Ends.{Client, ClientEnd, TransactionSlot, Accepted, requester_on_apdu_at, requester_on_apdu_in_slot, key_of}
 use Rattle.bac_transaction.specs.Ends.TransactionSlot.{Open, Closed}
-use Rattle.bac_world.specs.Services.{Performed}
 use Rattle.bac_world.specs.Node.{Node, Outcome, IsHeardBy, NodeOn, NodeTick, NodeAsks}
-use Rattle.bac_world.specs.Once.{Fact, HasNoRestart}
-use Rattle.bac_world.specs.World.{World, Event, Copy, Note, IsWithNode, Acts, Hears, AreEnded, AreLogged, DeliversIf, is_deliverable, peer_at}
-use Rattle.bac_world.specs.World.{IsAsked, WorldStep, WorldRun, RunsOn, MakeNoRestart, NeverRestarted, IsFresh}
+use Rattle.bac_world.specs.Once.{HasNoRestart}
+use Rattle.bac_world.specs.World.{World, Event, Copy, IsWithNode, Hears, DeliversIf, is_deliverable, peer_at}
+use Rattle.bac_world.specs.World.{WorldStep, WorldRun, RunsOn, MakeNoRestart, MakeRequestsAlone, NeverRestarted, IsFresh}
 use Rattle.bac_world.specs.World.Event.{Ask, Deliver, Noise, Tick, Advance, Change, Restart}
 use Rattle.bac_world.proofs.Steps.{decide_number}
 use Rattle.bac_world.proofs.Asking.{accepted_is}
+use Rattle.bac_world.proofs.Quiet.{after_step}
 
 -- A call of a node.
 
@@ -154,42 +153,22 @@ each_on i (Restart node store ∷ es) h = absurd h
 
 -- The log of a run without restarts.
 
-quiet_ended : (notes : List Note) (node : ℕ) (fs : List Finish) (old new : List Fact) → AreEnded notes node fs old new → HasNoRestart old → HasNoRestart new
-quiet_ended notes node [] old new h none = subst HasNoRestart (sym h) none
-quiet_ended notes node (f ∷ fs) old new h none = quiet_ended notes node fs (Fact.Ended h.0 f.how ∷ old) new h.2 none
-
-quiet_logged : (nodes : List Node) (notes : List Note) (node : ℕ) (o : Option Performed) (old new : List Fact) → AreLogged nodes notes node o old new
-    → HasNoRestart old → HasNoRestart new
-quiet_logged nodes notes node None old new h none = subst HasNoRestart (sym h) none
-quiet_logged nodes notes node (Some p) old new h none = subst HasNoRestart (sym h.log) none
-
-quiet_acts : (w w' : World) (i : ℕ) (b : Node) (o : Outcome) → Acts w i b o w' → HasNoRestart w.log → HasNoRestart w'.log
-quiet_acts w w' i b o acts none =
-    quiet_logged w.nodes w.notes i o.performed acts.between w'.log acts.logged (quiet_ended w.notes i o.ended w.log acts.between acts.ended none)
-
-quiet_delivered : (b : Bool) (w : World) (c : Copy) (w' : World) → DeliversIf b w c w' → HasNoRestart w.log → HasNoRestart w'.log
-quiet_delivered true w c w' d none = quiet_acts w w' c.to d.hears.after d.hears.outcome d.hears.acts none
-quiet_delivered false w c w' same none = subst (λ (u : World). HasNoRestart u.log) (sym same) none
+quiet_step : (overtake : ℕ) (w w' : World) (e : Event) → MakeRequestsAlone (e ∷ []) → WorldStep overtake w e w' → HasNoRestart w.log → HasNoRestart w'.log
+quiet_step = after_step HasNoRestart (λ n c s r log p. p) (λ n r q log p. p) (λ n how log p. p)
 
 quiet_run : (overtake : ℕ) (events : List Event) (w w' : World) → WorldRun overtake w events w' → MakeNoRestart events → HasNoRestart w.log
     → HasNoRestart w'.log
 quiet_run overtake [] w w' run calm none = subst (λ (u : World). HasNoRestart u.log) (sym run) none
-quiet_run overtake (Ask client server limits r ∷ es) w w' run calm none = quiet_run overtake es run.0 w' run.2 calm (go run.1)
-  where
-    go : WorldStep overtake w (Ask client server limits r) run.0 → HasNoRestart (run.0).log
-    go (inl s) = subst HasNoRestart (sym s.log) none
-    go (inr s) = subst (λ (u : World). HasNoRestart u.log) (sym s.same) none
+quiet_run overtake (Ask client server limits r ∷ es) w w' run calm none = quiet_run overtake es run.0 w' run.2 calm
+    (quiet_step overtake w run.0 (Ask client server limits r) tt run.1 none)
 quiet_run overtake (Deliver number ∷ es) w w' run calm none = quiet_run overtake es run.0 w' run.2 calm
-    (quiet_delivered (is_deliverable overtake w.now number w.copies run.1.copy) w run.1.copy run.0 run.1.goes none)
-quiet_run overtake (Noise node from octets ∷ es) w w' run calm none = quiet_run overtake es run.0 w' run.2 calm (go run.1)
-  where
-    go : WorldStep overtake w (Noise node from octets) run.0 → HasNoRestart (run.0).log
-    go (inl s) = quiet_acts w run.0 node s.hears.after s.hears.outcome s.hears.acts none
-    go (inr s) = subst (λ (u : World). HasNoRestart u.log) (sym s.same) none
+    (quiet_step overtake w run.0 (Deliver number) tt run.1 none)
+quiet_run overtake (Noise node from octets ∷ es) w w' run calm none = quiet_run overtake es run.0 w' run.2 calm
+    (quiet_step overtake w run.0 (Noise node from octets) tt run.1 none)
 quiet_run overtake (Tick node ∷ es) w w' run calm none = quiet_run overtake es run.0 w' run.2 calm
-    (quiet_acts w run.0 node run.1.after run.1.outcome run.1.acts none)
+    (quiet_step overtake w run.0 (Tick node) tt run.1 none)
 quiet_run overtake (Advance by ∷ es) w w' run calm none = quiet_run overtake es run.0 w' run.2 calm
-    (subst (λ (u : World). HasNoRestart u.log) (sym run.1) none)
+    (quiet_step overtake w run.0 (Advance by) tt run.1 none)
 quiet_run overtake (Change node c ∷ es) w w' run calm none = quiet_run overtake es run.0 w' run.2 calm (subst HasNoRestart (sym run.1.log) none)
 quiet_run overtake (Restart node store ∷ es) w w' run calm none = absurd calm
 

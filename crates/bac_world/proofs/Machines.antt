@@ -19,7 +19,6 @@ use Rattle.bac_protocol.specs.Own.{IsOwnEntry}
 use Rattle.bac_protocol.specs.Moves.{arrived, taken_by_client, taken_by_server, ticket_ticked, IsReached, IsInOrder}
 use Rattle.bac_protocol.specs.Moves.Move.{Asks, Arrives, TicksTicket, TicksEntry, Passes, Changes, RestartsClient, RestartsServer}
 use Rattle.bac_protocol.specs.Moves.IsReached.{Still, Moved}
-use Rattle.bac_protocol.proofs.Alone.{one}
 use Rattle.bac_protocol.proofs.Nets.{sound_at}
 use Rattle.bac_protocol.proofs.SingleMoves.{in_order, reached_net}
 

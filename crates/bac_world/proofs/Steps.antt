@@ -70,7 +70,8 @@ enter_same (Performed n r p) log old new new' same h = record {
   stores = λ node. same node ∙ h.stores node;
 }
 enter_same (Ended n how) log old new new' same h = (h.0, h.1, λ node. same node ∙ h.2 node)
-enter_same (Changed i c) log old new new' same h = λ node. same node ∙ h node
+enter_same (Changed i c) log old new new' same h =
+    record { store = h.store; at = h.at; permitted = h.permitted; stores = λ node. same node ∙ h.stores node }
 enter_same (Restarted i o) log old new new' same h = λ node. same node ∙ h node
 
 pub once_same : (opening : Stores) (log : List Fact) (stores stores' : Stores) → AreSame stores stores' → IsOnce opening log stores → IsOnce opening log stores'

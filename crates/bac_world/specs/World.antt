@@ -21,6 +21,7 @@ use Rattle.bac_transaction.specs.Meanings.{Finish}
 use Rattle.bac_transaction.specs.Ends.{Accepted}
 use Rattle.bac_world.specs.Services as service
 use Rattle.bac_world.specs.Node.{Node, Outcome, Refusal, NodeOn, NodeTick, NodeAsks, NodeRefuses, with_change, restarted, store_after_restart}
+use Rattle.bac_world.specs.Laws.{IsMeaningless}
 use Rattle.bac_world.specs.Once.{Fact, Stores}
 use Rattle.bac_world.specs.Once.Fact.{Asked, Performed, Ended, Changed, Restarted}
 
@@ -209,21 +210,16 @@ pub record IsDelivered (overtake : ℕ) (old : World) (number : ℕ) (new : Worl
   pub there : slice_get old.copies number ≡ Some copy
   pub goes : DeliversIf (is_deliverable overtake old.now number old.copies copy) old copy new
 
--- noise: octets that mean no APDU of a peer, from a link of no node
-pub record IsNoise (nodes : List Node) (from octets : Octets) : Type 0 where
-  pub foreign : (j : ℕ) → link_at nodes j ≢ Some from
-  pub meaningless : (peer : PeerView) (a : Apdu) → Means SpellsApdu from octets peer a → ⊥
-
--- it is heard
+-- noise, octets that mean no APDU of a peer, is heard, whatever link it comes from
 pub record HearsNoise (old : World) (i : ℕ) (from octets : Octets) (new : World) : Type 0 where
-  pub noise : IsNoise old.nodes from octets
+  pub noise : IsMeaningless from octets
   pub hears : Hears old i from octets new
 
 -- other octets are lost: only nodes send what means something
 pub record LosesOctets (old : World) (i : ℕ) (from octets : Octets) (new : World) : Type 0 where
   pub node : Node
   pub at : slice_get old.nodes i ≡ Some node
-  pub no_noise : IsNoise old.nodes from octets → ⊥
+  pub no_noise : IsMeaningless from octets → ⊥
   pub same : new ≡ old
 
 pub record Ticks (old : World) (i : ℕ) (new : World) : Type 0 where
@@ -280,6 +276,13 @@ abbrev pub MakeNoRestart : List Event → Type 0
 MakeNoRestart [] = Unit {0}
 MakeNoRestart (Restart i store ∷ es) = ⊥
 MakeNoRestart (e ∷ es) = MakeNoRestart es
+
+-- these events are asks, deliveries, noise, ticks and steps of the clock: no node changes its own store, and none restarts
+abbrev pub MakeRequestsAlone : List Event → Type 0
+MakeRequestsAlone [] = Unit {0}
+MakeRequestsAlone (Change i change ∷ es) = ⊥
+MakeRequestsAlone (Restart i store ∷ es) = ⊥
+MakeRequestsAlone (e ∷ es) = MakeRequestsAlone es
 
 -- no node waits, nor ever did
 abbrev pub NeverRestarted : List Node → Type 0

@@ -6,10 +6,12 @@
 pub mod examples;
 pub mod node;
 
-ghost use Rattle.std.specs.Prelude.{ℕ, List};
-ghost use Rattle.bac_world.specs.Claims.{AreEndedOnce, ArePerformedOnce, AreReplayed};
-ghost use Rattle.bac_world.specs.Once.{Fact, HasNoChange, HasNoRestart, IsOnce, IsOnceByRequests, IsOnceInOneLife, Stores};
-ghost use Rattle.bac_world.specs.World.{World, Event, WorldRun, IsFresh, IsBounded, MakeNoRestart, NeverRestarted, stores_of};
+ghost use Rattle.std.specs.Prelude.{ℕ, List, [], ◌∷◌};
+ghost use Rattle.bac_world.specs.Claims.{AreChangesPermitted, AreEndedOnce, ArePerformedOnce, AreReplayed};
+ghost use Rattle.bac_world.specs.Once.{Fact, HasNoChange, HasNoRestart, HasRequestsAlone, IsOnce, IsOnceByRequests};
+ghost use Rattle.bac_world.specs.Once.{IsOnceByRequestsAlone, IsOnceInOneLife, Stores};
+ghost use Rattle.bac_world.specs.World.{World, Event, WorldRun, WorldStep, IsFresh, IsBounded, MakeNoRestart, MakeRequestsAlone, NeverRestarted};
+ghost use Rattle.bac_world.specs.World.{stores_of};
 
 /// After every run of a fresh world each accepted ask takes effect at most once, and exactly once where a service answer reached its client; the
 /// request performed and the answer are its own, whole; and each server's store is that of its last start, after the performed requests and the changes
@@ -35,13 +37,27 @@ pub fn requests_alone_change_stores()
     ensures { (opening : Stores) (log : List Fact) (stores : Stores) → HasNoChange log → IsOnce opening log stores → IsOnceByRequests opening log stores }
 {}
 
-/// A log is right with the stores exactly where three claims hold of it, each of which can be read by itself: of what was performed, of what was asked and how
-/// it ended, and of what the stores are.
-#[tactic(auto, using(crate::proofs::Claims::performed_once, crate::proofs::Claims::ended_once, crate::proofs::Claims::replayed, crate::proofs::Claims::together))]
+/// Where the log has asks, performed requests and endings alone, every accepted ask takes effect at most once, and exactly once where a service answer reached
+/// its client; the request performed and the answer are its own, whole; and each server's store is its opening store after the performed requests in their
+/// order. Events among which is no change of a node's own store and no restart keep a log so.
+#[tactic(auto, using(crate::proofs::Claims::by_requests_alone, crate::proofs::Quiet::alone_after_step, crate::proofs::Quiet::alone_after_run))]
+pub fn requests_alone()
+    ensures log { (opening : Stores) (log : List Fact) (stores : Stores) → HasRequestsAlone log → IsOnce opening log stores
+        → IsOnceByRequestsAlone opening log stores }
+    ensures step { (overtake : ℕ) (w w' : World) (e : Event) → MakeRequestsAlone (e ∷ []) → WorldStep overtake w e w' → HasRequestsAlone w.log
+        → HasRequestsAlone w'.log }
+    ensures run { (overtake : ℕ) (events : List Event) (w w' : World) → MakeRequestsAlone events → WorldRun overtake w events w' → HasRequestsAlone w.log
+        → HasRequestsAlone w'.log }
+{}
+
+/// A log is right with the stores exactly where four claims hold of it, each of which can be read by itself: of what was performed, of what was asked and how
+/// it ended, of the changes that nodes made in their own stores, and of what the stores are.
+#[tactic(auto, using(crate::proofs::Claims::performed_once, crate::proofs::Claims::ended_once, crate::proofs::Claims::changes_permitted, crate::proofs::Claims::replayed, crate::proofs::Claims::together))]
 pub fn once_is_its_claims()
     ensures performed { (opening : Stores) (log : List Fact) (stores : Stores) → IsOnce opening log stores → ArePerformedOnce opening log }
     ensures ended { (opening : Stores) (log : List Fact) (stores : Stores) → IsOnce opening log stores → AreEndedOnce log }
+    ensures permitted { (opening : Stores) (log : List Fact) (stores : Stores) → IsOnce opening log stores → AreChangesPermitted opening log }
     ensures stores { (opening : Stores) (log : List Fact) (stores : Stores) → IsOnce opening log stores → AreReplayed opening log stores }
     ensures together { (opening : Stores) (log : List Fact) (stores : Stores) → ArePerformedOnce opening log → AreEndedOnce log
-        → AreReplayed opening log stores → IsOnce opening log stores }
+        → AreChangesPermitted opening log → AreReplayed opening log stores → IsOnce opening log stores }
 {}

@@ -1,11 +1,11 @@
-//! How the end of a ticket is told.
+//! How the end of a ticket is printed.
 ghost use Rattle.std.specs.Prelude.{OnOk};
 ghost use Rattle.std.specs.Io.KnownBytes.{Appends};
 ghost use Rattle.bac_requester.specs.TransactionViews.{ending_view};
 ghost use Rattle.bac_commands.specs.Facts.{ending_line, ending_text};
 
-use super::reply::print_reply;
 use bac_requester::Ending;
+use bac_service_text::print_reply;
 use std::alloc::Global;
 use std::io;
 use std::io::Write;

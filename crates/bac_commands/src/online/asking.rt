@@ -2,12 +2,12 @@
 ghost use Rattle.std.specs.Prelude.{IfOk};
 ghost use Rattle.bac_driver.specs.Runs.{timed};
 ghost use Rattle.bac_driver.specs.Views.{question_view};
-ghost use Rattle.bac_commands.specs.Told.{Asked, ReportsAsking};
+ghost use Rattle.bac_commands.specs.AskEnds.{Asked, ReportsAsking};
 
+use super::ask_end::print_ask_end;
 use super::command_error::CommandError;
 use super::output_format::OutputFormat;
 use super::progress::Progress;
-use super::telling::tell_end;
 use bac_driver::{BoundNode, Clock, Link, Question, WaitLimit};
 use bac_text::Status;
 use std::alloc::Global;
@@ -17,7 +17,7 @@ use std::io::Write;
 pub const TURNS: u64 = 100_000;
 
 /// Whether the ask succeeded.
-fn ask_and_tell<L: Link, C: Clock, O: Write, E: Write>(
+fn ask_and_print<L: Link, C: Clock, O: Write, E: Write>(
     alloc: Global,
     bound_node: &mut BoundNode<L>,
     clock: &mut C,
@@ -35,12 +35,12 @@ fn ask_and_tell<L: Link, C: Clock, O: Write, E: Write>(
     let ended = bound_node.ask_observed(clock, question, wait_limit, TURNS, &mut progress, err);
     progress.end(err);
     let end = ended?;
-    let succeeded = tell_end(alloc, output_format, &question.request, &end, out, err)?;
+    let succeeded = print_ask_end(alloc, output_format, &question.request, &end, out, err)?;
     Ok(succeeded)
 }
 
-/// A node asks, and takes at most 100,000 turns on its link, each with that wait_limit, until the ask has ended; how it did is told in that output_format, as
-/// [`tell_end`](crate::tell_end) does. Ends with `Faulty` where the ask did not succeed. Where progress is shown, one line of `err`, a terminal, has how many octets
+/// A node asks, and takes at most 100,000 turns on its link, each with that wait_limit, until the ask has ended; how it did is printed in that format, as
+/// [`print_ask_end`](crate::print_ask_end) does. Ends with `Faulty` where the ask did not succeed. Where progress is shown, one line of `err`, a terminal, has how many octets
 /// its turns have sent and received, from the first quarter of a second on, until it has ended.
 ///
 /// `link fault` on `err` where the link can't receive, `clock fault` where the clock goes back, both with status `Output`; `no memory` where memory is
@@ -59,7 +59,7 @@ pub fn ask<L: Link, C: Clock, O: Write, E: Write>(
     ensures { ReportsAsking result output_format (question_view question.now) wait_limit.now
         (timed bound_node.old (C.told clock.old)) (timed bound_node.new (C.told clock.new)) (O.contents out.old) (O.contents out.new) }
 {
-    match ask_and_tell(
+    match ask_and_print(
         alloc,
         bound_node,
         clock,
@@ -72,6 +72,6 @@ pub fn ask<L: Link, C: Clock, O: Write, E: Write>(
     ) {
         Ok(true) => Status::Done,
         Ok(false) => Status::Faulty,
-        Err(command_error) => command_error.tell(err),
+        Err(command_error) => command_error.report(err),
     }
 }

@@ -2,7 +2,7 @@
 ghost use Rattle.std.specs.Prelude.{◌≡◌};
 ghost use Rattle.bac_text.specs.Statuses.{IsFailure};
 ghost use Rattle.bac_text.specs.declared.status.Status.TheVariants as status;
-ghost use Rattle.bac_commands.specs.CommandErrors.{IsToldBy, trouble_of};
+ghost use Rattle.bac_commands.specs.CommandErrors.{IsPrintedBy, trouble_of};
 ghost use Rattle.bac_commands.specs.declared.online.command_error.CommandError.TheVariants as command_error;
 
 use bac_driver::TurnFault;
@@ -20,7 +20,7 @@ pub enum CommandError {
     Clock,
     /// Memory was refused.
     Memory,
-    /// What is told could not be written.
+    /// What is printed could not be written.
     Output(io::Error),
 }
 
@@ -40,8 +40,8 @@ pub fn clock_fault<E: Write>(err: &mut E) -> Status
 
 impl CommandError {
     /// Complains of it.
-    pub fn tell<E: Write>(self, err: &mut E) -> Status
-        ensures told { IsToldBy self result }
+    pub fn report<E: Write>(self, err: &mut E) -> Status
+        ensures told { IsPrintedBy self result }
         ensures failed { IsFailure result }
     {
         match self {

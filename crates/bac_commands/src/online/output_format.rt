@@ -1,6 +1,6 @@
-//! In which output_format the end of an ask is told.
+//! How the end of an ask is printed.
 
-/// How the end of an ask is told.
+/// How the end of an ask is printed.
 #[derive(Clone, Copy, Debug, PartialEq, Eq)]
 pub enum Style {
     /// By a line of numbers and octets, as in a script.
@@ -12,10 +12,10 @@ pub enum Style {
     Octets,
 }
 
-/// In which output_format the end of an ask is told.
+/// How the end of an ask is printed.
 #[derive(Clone, Copy, Debug, PartialEq, Eq)]
 pub struct OutputFormat {
-    /// How it is told.
+    /// How it is printed.
     pub style: Style,
     /// Whether an Error is no success, nor a reply that names another object, property or index than was asked.
     pub strict: bool,

@@ -5,10 +5,10 @@ ghost use Rattle.bac_driver.specs.Pairs.{paired};
 ghost use Rattle.bac_driver.specs.Views.{question_view};
 ghost use Rattle.bac_commands.specs.Pairs.{ReportsPair, TwoTexts, PairText, append_request, read_request};
 
+use super::ask_end::print_end;
 use super::command_error::CommandError;
 use super::question::{peer_at, question_for};
 use super::success::is_answered;
-use super::telling::print_end;
 use bac_driver::{BoundNode, Clock, Link, Question};
 use bac_service::{
     AnyRequest, OwnedRequest, PropertyReference, WriteAccess, WriteFile, WriteStream,
@@ -116,6 +116,6 @@ pub fn pair<L: Link, C: Clock, O: Write, E: Write>(
     match ask_both(alloc, first, second, clock, out) {
         Ok(true) => Status::Done,
         Ok(false) => Status::Faulty,
-        Err(command_error) => command_error.tell(err),
+        Err(command_error) => command_error.report(err),
     }
 }

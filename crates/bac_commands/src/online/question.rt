@@ -8,8 +8,8 @@ ghost use Rattle.bac_commands.specs.Questions.{ReadsQuestion, peer_at, question_
 use crate::fresh_node::LIMITS;
 use bac_driver::Question;
 use bac_npdu::{LinkAddress, Peer};
-use bac_script::{FormFault, read_request_words};
 use bac_service::OwnedRequest;
+use bac_service_text::{FormFault, read_request_words};
 use std::alloc::Global;
 
 /// The peer at an address, behind no router.

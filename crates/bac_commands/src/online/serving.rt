@@ -29,7 +29,7 @@ fn serve_and_print<L: Link, C: Clock, V: Observer<E>, O: Write, E: Write>(
 }
 
 /// A node takes so many turns on its link, each with that wait_limit, or as many as begin before its last moment, if it has one; and how many requests it performed
-/// is printed. The watcher sees each turn, and may tell of it on `err`.
+/// is printed. The watcher sees each turn, and may print on `err`.
 ///
 /// `link fault` on `err` where the link can't receive, `clock fault` where the clock goes back, both with status `Output`.
 pub fn serve<L: Link, C: Clock, V: Observer<E>, O: Write, E: Write>(
@@ -48,6 +48,6 @@ pub fn serve<L: Link, C: Clock, V: Observer<E>, O: Write, E: Write>(
 {
     match serve_and_print(bound_node, clock, wait_limit, turns, watch, out, err) {
         Ok(()) => Status::Done,
-        Err(command_error) => command_error.tell(err),
+        Err(command_error) => command_error.report(err),
     }
 }

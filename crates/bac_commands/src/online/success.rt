@@ -5,10 +5,10 @@ ghost use Rattle.bac_service.specs.Views.{owned_reply_view, owned_request_view};
 ghost use Rattle.bac_requester.specs.TransactionViews.{ending_view};
 ghost use Rattle.bac_commands.specs.Reports.{is_answered, is_error, is_success, reply_of, reply_of_ending};
 
-use crate::others::names_other;
 use bac_driver::AskEnd;
 use bac_requester::Ending;
 use bac_service::{AnyReply, OwnedReply, OwnedRequest};
+use bac_service_text::names_other;
 
 fn reply_of_ending(ending: &Ending) -> Option<&OwnedReply>
     ensures { option_map (λ r. owned_reply_view r.now) result ≡ reply_of_ending (ending_view ending.now) }
@@ -55,7 +55,8 @@ pub(crate) fn is_success(strict: bool, request: &OwnedRequest, end: &AskEnd) -> 
     ensures { result ≡ is_success strict (owned_request_view request.now) end.now }
 {
     match reply_of(end) {
-        Some(reply) => !(strict && (is_error(reply) || names_other(request, reply))),
+        Some(reply) => !(strict
+            && (is_error(reply) || names_other(request.as_request(), reply.as_reply()))),
         None => false,
     }
 }

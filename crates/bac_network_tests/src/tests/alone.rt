@@ -4,7 +4,7 @@ use super::*;
 use bac_apdu::{Limits, Window, read};
 use bac_npdu::Peer;
 use bac_requester::{AskFault, Client, Ending, Requester};
-use bac_responder::{IdleReaction, Reaction, Responder, ServerTransaction, idle_on_apdu};
+use bac_responder::{Responder, ServerTransaction, idle_on_apdu};
 use bac_service::OwnedRequest;
 use bac_slots::{IndexSlots, Same};
 use bac_store::{Store, house};
@@ -161,35 +161,32 @@ fn context(moment: u64) -> Context {
     }
 }
 
-/// What a read begins at moment 5.
-fn begun(alloc: Global) -> Option<Reaction> {
+/// The entry that a read begins.
+fn begun(alloc: Global, moment: u64) -> Option<ServerTransaction> {
     let Ok(apdu) = read(READ) else {
         return None;
     };
     let Ok(mut store) = house(alloc) else {
         return None;
     };
-    match idle_on_apdu(alloc, &context(5), true, &apdu, &mut store) {
-        Ok(IdleReaction::Begins(reaction)) => Some(reaction),
-        _ => None,
+    match idle_on_apdu(alloc, &context(moment), true, &apdu, &mut store) {
+        Ok((_, begun)) => begun,
+        Err(_) => None,
     }
 }
 
-/// Whether an entry began at moment 5, is live for 65,000 ms, has no timer, and is as itself alone.
-fn is_entry(entry: &ServerTransaction) -> bool {
+/// Whether an entry began at moment 5, is live for 65,000 ms, has no timer, and is as itself and not as another.
+fn is_entry(entry: &ServerTransaction, other: &ServerTransaction) -> bool {
     let is_timed = entry.begin() == 5 && entry.is_live(65_005) && !entry.is_live(65_006);
-    is_timed
-        && entry.due(5) == u64::MAX
-        && entry.same(entry)
-        && !entry.same(&ServerTransaction::placeholder())
+    is_timed && entry.due(5) == u64::MAX && entry.same(entry) && !entry.same(other)
 }
 
 #[test]
 fn an_entry(rt: HostRuntime) -> Result<(), Fail> {
-    let Some(reaction) = begun(rt.alloc()) else {
+    let (Some(entry), Some(other)) = (begun(rt.alloc(), 5), begun(rt.alloc(), 6)) else {
         return Err(Fail::from("no entry"));
     };
-    assert!(rt; is_entry(&reaction.entry));
+    assert!(rt; is_entry(&entry, &other));
     Ok(())
 }
 

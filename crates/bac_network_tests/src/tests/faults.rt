@@ -1,7 +1,7 @@
-//! Worlds that are not made, and runs that stop.
+//! Worlds that are not made.
 use super::scene::put;
 use super::*;
-use bac_network::{Event, NewWorldFault, RunFault, World, WorldFault};
+use bac_network::{NewWorldFault, World, WorldFault};
 use bac_node::Config;
 use bac_store::Store;
 
@@ -78,35 +78,8 @@ fn made_otherwise(alloc: Global) -> Option<Option<usize>> {
     Some(None)
 }
 
-/// Events of which the third can't happen.
-fn events(alloc: Global) -> Option<Vec<Event>> {
-    let mut events = Vec::new(alloc);
-    put(&mut events, Event::Advance { by: 2 })?;
-    put(&mut events, Event::Tick { node: 2 })?;
-    put(&mut events, Event::Tick { node: 3 })?;
-    put(&mut events, Event::Advance { by: 5 })?;
-    Some(events)
-}
-
-/// A run stops at the first fault and tells its place: what happened before it stands.
-fn stops_at_the_third(world: &mut World, events: &[Event]) -> Option<bool> {
-    let whole = world.run(events.get(..2)?);
-    let stopped = world.run(events);
-    let fault = RunFault {
-        place: 2,
-        fault: WorldFault::NoSuchNode,
-    };
-    Some(whole == Ok(()) && stopped == Err(fault) && world.now() == 4)
-}
-
-fn stops(alloc: Global) -> Option<bool> {
-    let events = events(alloc)?;
-    stops_at_the_third(&mut LARGE_ONES.world(alloc)?, &events)
-}
-
 #[test]
-fn worlds_and_runs_that_fail(rt: HostRuntime) {
+fn worlds_that_are_not_made(rt: HostRuntime) {
     assert!(rt; matches!(made_otherwise(rt.alloc()), Some(None)));
-    assert!(rt; matches!(stops(rt.alloc()), Some(true)));
     assert!(rt; NewWorldFault::NoMemory.number() == 4 && WorldFault::NoMemory.number() == 4);
 }

@@ -2,7 +2,7 @@
 ghost use Rattle.std.specs.Prelude.{◌≡◌, length, IfOk};
 
 use super::*;
-use bac_journal::{Journal, Note, Transaction};
+use bac_journal::{Journal, Note, Transaction, is_meaningless};
 
 fn journal(alloc: Global) -> Result<Journal, NoMemory>
     ensures { IfOk result (λ j. length j.links ≡ 2) }
@@ -31,7 +31,7 @@ fn a_journal_is_made_and_its_clock_goes_on(rt: HostRuntime) -> Result<(), Fail> 
 fn finds(journal: &Journal) -> bool {
     let are_links = journal.link_of(0) == Some(link(0)) && journal.link_of(2) == None;
     let are_nodes = journal.node_of(link(1)) == Some(1) && journal.node_of(link(2)) == None;
-    are_links && are_nodes && !journal.is_noise(link(0), &[]) && journal.is_noise(link(2), &[])
+    are_links && are_nodes
 }
 
 #[test]
@@ -39,6 +39,11 @@ fn nodes_are_found_by_their_links(rt: HostRuntime) -> Result<(), Fail> {
     let journal = journal(rt.alloc())?;
     assert!(rt; finds(&journal));
     Ok(())
+}
+
+#[test]
+fn no_octets_mean_nothing(rt: HostRuntime) {
+    assert!(rt; is_meaningless(link(0), &[]) && is_meaningless(link(2), &[]));
 }
 
 const ASKED: Transaction = Transaction {

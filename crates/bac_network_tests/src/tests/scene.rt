@@ -1,16 +1,18 @@
-//! Worlds that tests are run in.
+//! Worlds for tests.
 use super::link;
 use bac_apdu::{Apdu, Limits, read};
 use bac_network::World;
 use bac_node::Config;
 use bac_rows::octets_of;
 use bac_rows::script::plain;
-use bac_script::read_request_words;
+use bac_rows::stores::store_of;
 use bac_service::OwnedRequest;
+use bac_service_text::read_request_words;
 use bac_store::{Store, house};
+use bac_value::ObjectIdentifier;
 use std::alloc::Global;
 
-/// Puts an item behind the others; None where memory is refused.
+/// Appends an item; None where memory is refused.
 pub(super) fn put<T: Drop>(items: &mut Vec<T>, item: T) -> Option<()> {
     match items.push(item) {
         Ok(()) => Some(()),
@@ -26,8 +28,8 @@ pub(super) struct Member {
     pub(super) window: u8,
     pub(super) client_slots: usize,
     pub(super) reply_slots: usize,
-    /// The request, in words, after which the house store is its store; none for the house store as it is.
-    pub(super) after: &'static str,
+    /// The octets of a description: the node has a store of analog-input 7 alone, with that. Where there are none it has the house store.
+    pub(super) description: &'static str,
 }
 
 /// What a world is made of.
@@ -65,24 +67,20 @@ pub(super) fn request_of(alloc: Global, text: &str) -> Option<OwnedRequest> {
     }
 }
 
-/// A store performs the request of some words.
-fn performs(alloc: Global, store: &mut Store, words: &str) -> Option<()> {
-    let request = request_of(alloc, words)?;
-    match store.perform(alloc, &request.as_request()) {
-        Ok(_) => Some(()),
-        Err(_) => None,
-    }
+/// A store of analog-input 7, with a description of these octets.
+fn described(alloc: Global, description: &str) -> Option<Store> {
+    let octets = octets_of(alloc, plain(alloc, description).ok()?.as_str()).ok()?;
+    store_of(alloc, ObjectIdentifier::new(0, 7)?, 28, &octets)
 }
 
-/// The house store, after a request where there is one.
-fn house_after(alloc: Global, after: &str) -> Option<Store> {
-    let Ok(mut store) = house(alloc) else {
-        return None;
-    };
-    if after.is_empty() || performs(alloc, &mut store, after).is_some() {
-        Some(store)
-    } else {
-        None
+/// The store of a node with that description, the house store where it is empty.
+fn store_with(alloc: Global, description: &str) -> Option<Store> {
+    if !description.is_empty() {
+        return described(alloc, description);
+    }
+    match house(alloc) {
+        Ok(store) => Some(store),
+        Err(_) => None,
     }
 }
 
@@ -96,12 +94,12 @@ impl Member {
             client_slots: self.client_slots,
             reply_slots: self.reply_slots,
         };
-        Some((config, house_after(alloc, self.after)?))
+        Some((config, store_with(alloc, self.description)?))
     }
 }
 
 impl Scene {
-    /// A world in which nothing has happened.
+    /// A new world.
     pub(super) fn world(&self, alloc: Global) -> Option<World> {
         let mut nodes = Vec::new(alloc);
         for (number, member) in self.members.iter().enumerate() {

@@ -1,4 +1,4 @@
-//! Fronts of datagrams that come between the datagrams themselves: log, copies, stores and nodes are the same with noise and without.
+//! Prefixes of datagrams arrive between the datagrams themselves: log, copies, stores and nodes are the same with this noise as without.
 use super::*;
 use bac_network::{Event, World};
 use bac_rows::script::{ranged, spelled};
@@ -15,11 +15,11 @@ deliver 8";
 /// A read whose reply goes in 90 segments is aborted for a client that takes none and for one that takes two. A third gets it: one segment is lost, and the
 /// window is sent again from it on, three times more by ticks; then the transfer stops, until the request comes again.
 const READS: &str = "\
-ask 2 1 read 2:1 28
+ask 2 1 read 0:7 28
 0,1..1: deliver #
-ask 3 1 read 2:1 28
+ask 3 1 read 0:7 28
 2,3..3: deliver #
-ask 0 1 read 2:1 28
+ask 0 1 read 0:7 28
 4,5..47: deliver #
 deliver 49
 deliver 72
@@ -34,15 +34,15 @@ tick 1
 tick 0
 deliver 201";
 
-/// The octets lose their last one.
+/// Drops the last octet of noise.
 fn shorten(noise: &mut Event) {
     if let Event::Noise { octets, .. } = noise {
         let _ = octets.pop();
     }
 }
 
-/// Each proper front of these octets comes to a node from a link of no node, the longest first.
-fn fronts(alloc: Global, world: &mut World, node: usize, whole: &[u8]) -> Option<()> {
+/// Each proper prefix of these octets arrives at a node from a link of no node, the longest first.
+fn prefixes(alloc: Global, world: &mut World, node: usize, whole: &[u8]) -> Option<()> {
     let mut noise = Event::Noise {
         node,
         from: link(9),
@@ -57,10 +57,10 @@ fn fronts(alloc: Global, world: &mut World, node: usize, whole: &[u8]) -> Option
     Some(())
 }
 
-/// Each proper front of these octets comes to each node.
-fn fronts_for_all(alloc: Global, world: &mut World, whole: &[u8]) -> Option<()> {
+/// Each proper prefix of these octets arrives at each node.
+fn prefixes_for_all(alloc: Global, world: &mut World, whole: &[u8]) -> Option<()> {
     for node in 0..world.nodes().len() {
-        fronts(alloc, world, node, whole)?;
+        prefixes(alloc, world, node, whole)?;
     }
     Some(())
 }
@@ -73,16 +73,16 @@ fn octets_of(alloc: Global, world: &World, number: usize) -> Option<Vec<u8>> {
     }
 }
 
-/// Each proper front of each datagram that was sent comes to each node.
+/// Each proper prefix of each datagram that was sent arrives at each node.
 fn noise(alloc: Global, world: &mut World) -> Option<()> {
     for number in 0..world.copies().len() {
         let whole = octets_of(alloc, world, number)?;
-        fronts_for_all(alloc, world, &whole)?;
+        prefixes_for_all(alloc, world, &whole)?;
     }
     Some(())
 }
 
-/// A line happens, for each of its numbers, with noise before each copy that comes where that is so; nothing is refused.
+/// Plays a line for each of its numbers, in a noisy world with noise before each delivery; nothing is refused.
 fn happens(alloc: Global, world: &mut World, line: &str, is_noisy: bool) -> Option<()> {
     let (numbers, line) = ranged(line).ok()?;
     let is_noisy = is_noisy && line.starts_with("deliver");
@@ -99,13 +99,13 @@ fn happens(alloc: Global, world: &mut World, line: &str, is_noisy: bool) -> Opti
     Some(())
 }
 
-/// The world after all lines. At last each node hears noise, so that all know the same latest moment.
+/// The world after all lines. At last noise arrives at each node, so that all have the same latest moment.
 fn after(alloc: Global, scene: &Scene, lines: &str, is_noisy: bool) -> Option<World> {
     let mut world = scene.world(alloc)?;
     for line in lines.lines() {
         happens(alloc, &mut world, line, is_noisy)?;
     }
-    fronts_for_all(alloc, &mut world, &[0])?;
+    prefixes_for_all(alloc, &mut world, &[0])?;
     Some(world)
 }
 
@@ -128,7 +128,7 @@ const FOUR_READERS: Scene = Scene {
     members: &[
         SMALL,
         Member {
-            after: "write 2:1 28 75FE0FA0{4000*00}",
+            description: "75FE0FA0{4000*00}",
             ..LARGE
         },
         Member {

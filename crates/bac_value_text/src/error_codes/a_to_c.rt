@@ -3,7 +3,7 @@ ghost use Rattle.std.specs.Prelude.{◌≡◌};
 ghost use Rattle.bac_value_text.specs.Names.{plain};
 ghost use Rattle.bac_value_text.specs.ErrorCodes.{A_TO_C};
 
-/// The rows, in the order of their names.
+/// Names and numbers, sorted by name.
 const ROWS: &[(&str, u32)] = &[
     ("abort-apdu-too-long", 123),
     ("abort-application-exceeded-reply-time", 124),
@@ -38,7 +38,7 @@ const ROWS: &[(&str, u32)] = &[
     ("cov-subscription-failed", 43),
 ];
 
-/// The rows.
+/// Names and numbers, sorted by name.
 pub(crate) fn rows() -> &'static [(&'static str, u32)]
     ensures { plain result.now ≡ A_TO_C }
 {

@@ -3,7 +3,7 @@ ghost use Rattle.std.specs.Prelude.{◌≡◌};
 ghost use Rattle.bac_value_text.specs.Names.{plain};
 ghost use Rattle.bac_value_text.specs.ErrorCodes.{D_TO_K};
 
-/// The rows, in the order of their names.
+/// Names and numbers, sorted by name.
 const ROWS: &[(&str, u32)] = &[
     ("datatype-not-supported", 47),
     ("delete-fdt-entry-failed", 120),
@@ -66,7 +66,7 @@ const ROWS: &[(&str, u32)] = &[
     ("key-update-in-progress", 100),
 ];
 
-/// The rows.
+/// Names and numbers, sorted by name.
 pub(crate) fn rows() -> &'static [(&'static str, u32)]
     ensures { plain result.now ≡ D_TO_K }
 {

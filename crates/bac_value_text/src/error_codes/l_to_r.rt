@@ -3,7 +3,7 @@ ghost use Rattle.std.specs.Prelude.{◌≡◌};
 ghost use Rattle.bac_value_text.specs.Names.{plain};
 ghost use Rattle.bac_value_text.specs.ErrorCodes.{L_TO_R};
 
-/// The rows, in the order of their names.
+/// Names and numbers, sorted by name.
 const ROWS: &[(&str, u32)] = &[
     ("list-element-not-found", 81),
     ("list-item-not-numbered", 140),
@@ -58,7 +58,7 @@ const ROWS: &[(&str, u32)] = &[
     ("router-busy", 111),
 ];
 
-/// The rows.
+/// Names and numbers, sorted by name.
 pub(crate) fn rows() -> &'static [(&'static str, u32)]
     ensures { plain result.now ≡ L_TO_R }
 {

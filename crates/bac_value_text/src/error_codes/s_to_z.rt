@@ -3,7 +3,7 @@ ghost use Rattle.std.specs.Prelude.{◌≡◌};
 ghost use Rattle.bac_value_text.specs.Names.{plain};
 ghost use Rattle.bac_value_text.specs.ErrorCodes.{S_TO_Z};
 
-/// The rows, in the order of their names.
+/// Names and numbers, sorted by name.
 const ROWS: &[(&str, u32)] = &[
     ("security-error", 114),
     ("security-not-configured", 103),
@@ -65,7 +65,7 @@ const ROWS: &[(&str, u32)] = &[
     ("write-bdt-failed", 116),
 ];
 
-/// The rows.
+/// Names and numbers, sorted by name.
 pub(crate) fn rows() -> &'static [(&'static str, u32)]
     ensures { plain result.now ≡ S_TO_Z }
 {

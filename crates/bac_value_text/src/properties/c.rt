@@ -3,7 +3,7 @@ ghost use Rattle.std.specs.Prelude.{◌≡◌};
 ghost use Rattle.bac_value_text.specs.Names.{plain};
 ghost use Rattle.bac_value_text.specs.Properties.{C};
 
-/// The rows, in the order of their names.
+/// Names and numbers, sorted by name.
 const ROWS: &[(&str, u32)] = &[
     ("car-assigned-direction", 448),
     ("car-door-command", 449),
@@ -43,7 +43,7 @@ const ROWS: &[(&str, u32)] = &[
     ("current-command-priority", 431),
 ];
 
-/// The rows.
+/// Names and numbers, sorted by name.
 pub(crate) fn rows() -> &'static [(&'static str, u32)]
     ensures { plain result.now ≡ C }
 {

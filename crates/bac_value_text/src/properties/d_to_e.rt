@@ -3,7 +3,7 @@ ghost use Rattle.std.specs.Prelude.{◌≡◌};
 ghost use Rattle.bac_value_text.specs.Names.{plain};
 ghost use Rattle.bac_value_text.specs.Properties.{D_TO_E};
 
-/// The rows, in the order of their names.
+/// Names and numbers, sorted by name.
 const ROWS: &[(&str, u32)] = &[
     ("database-revision", 155),
     ("date-list", 23),
@@ -63,7 +63,7 @@ const ROWS: &[(&str, u32)] = &[
     ("extended-time-enable", 271),
 ];
 
-/// The rows.
+/// Names and numbers, sorted by name.
 pub(crate) fn rows() -> &'static [(&'static str, u32)]
     ensures { plain result.now ≡ D_TO_E }
 {

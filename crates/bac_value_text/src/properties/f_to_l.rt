@@ -3,7 +3,7 @@ ghost use Rattle.std.specs.Prelude.{◌≡◌};
 ghost use Rattle.bac_value_text.specs.Names.{plain};
 ghost use Rattle.bac_value_text.specs.Properties.{F_TO_L};
 
-/// The rows, in the order of their names.
+/// Names and numbers, sorted by name.
 const ROWS: &[(&str, u32)] = &[
     ("failed-attempt-events", 272),
     ("failed-attempts", 273),
@@ -105,7 +105,7 @@ const ROWS: &[(&str, u32)] = &[
     ("lower-deck", 473),
 ];
 
-/// The rows.
+/// Names and numbers, sorted by name.
 pub(crate) fn rows() -> &'static [(&'static str, u32)]
     ensures { plain result.now ≡ F_TO_L }
 {

@@ -1,4 +1,4 @@
--- One option after the other.
+-- One more option.
 use Rattle.std.proofs.Common.{◌≡◌, ◌-◌, ◌+◌, ◌∙◌, sym, ap, arith}
 use Rattle.bac_capture.specs.Moments.{resolution_in}
 use Rattle.bac_capture.proofs.Resolutions.{none_left, one_left, is_code, no_code, no_more}

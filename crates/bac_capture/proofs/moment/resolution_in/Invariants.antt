@@ -1,4 +1,4 @@
--- The options that are left tell what all tell.
+-- The remaining options have the same result as all options.
 use Rattle.std.proofs.Common.{◌≡◌, ◌-◌}
 use Rattle.bac_capture.specs.Moments.{resolution_in}
 use Rattle.bac_capture.proofs.moment.resolution_in.Given as goal

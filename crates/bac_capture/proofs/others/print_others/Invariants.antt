@@ -1,4 +1,4 @@
--- The kinds before this place are told.
+-- The kinds before this index are printed.
 use Rattle.std.specs.Io.KnownBytes.{Appends}
 use Rattle.bac_capture.specs.Checked.{others_text}
 use Rattle.bac_capture.proofs.others.print_others.Given as goal

@@ -1,4 +1,4 @@
--- The sum of the words from here on, added to the sum so far, is that of all.
+-- The sum of the remaining words, added to the sum so far, is the sum of all.
 use Rattle.std.proofs.Common.{◌≡◌, ◌-◌, ◌≤◌, length, drop}
 use Rattle.bac_capture.specs.Sums.{sum_from}
 use Rattle.bac_capture.proofs.sum.sum_of.Given as goal

@@ -248,6 +248,27 @@ fn performs_or_refuses(rt: HostRuntime) -> Result<(), Fail> {
     all_performed_at_last(rt.alloc(), &mut store, READS)
 }
 
+/// Whether a house that commits its plan for a request is the house that has performed it; None where memory was refused before that.
+fn is_committed(alloc: Global, choice: u8, octets: &[u8]) -> Option<bool> {
+    let request = read_request(choice, octets).ok()?;
+    let mut wanted = house(alloc).ok()?;
+    let _ = wanted.perform(alloc, &request).ok()?;
+    let mut store = house(alloc).ok()?;
+    let plan = store.prepare(alloc, &request).ok()?;
+    let _ = store.commit(plan);
+    Some(store.same(&wanted))
+}
+
+/// A plan is committed, also where every allocation from then on is refused. Where one is refused before, the test fails as `not prepared`.
+#[test]
+fn commits_without_memory(rt: HostRuntime) -> Result<(), Fail> {
+    for (choice, octets, _) in REQUESTS {
+        let is = is_committed(rt.alloc(), *choice, octets).ok_or("not prepared")?;
+        holds(is, "a commit")?;
+    }
+    Ok(())
+}
+
 /// Sets the present-value of flow, where one allocation alone is refused; whether a refused call leaves the store as it was.
 fn is_set(alloc: Global, store: &mut Store, object: ObjectIdentifier) -> Result<bool, Fail> {
     let before = copied(alloc, store)?;

@@ -1,11 +1,11 @@
--- What was told of the reader was told of the file.
+-- What was printed of the reader was printed of the file.
 use Rattle.std.proofs.Common.{List, ℕ, Option, true}
 use Rattle.bac_text.specs.Checked.{IsReportAs}
-use Rattle.bac_command_line.proofs.CheckedFiles.{told_file}
+use Rattle.bac_command_line.proofs.CheckedFiles.{printed_file}
 use Rattle.bac_command_line.proofs.lines.check_lines.Goals as goal
 
 pub returns-in-Ok : goal.returns-in-Ok
 returns-in-Ok g c =
-    told_file _ c.args.path.now _
+    printed_file _ c.args.path.now _
     (λ (content : Option (List ℕ)). IsReportAs true content (g.O.Write.contents c.args.out.now) (g.O.Write.contents c.check_lines_over.new.out) c.check_lines_over.result)
     c.check_lines_over.result c.in-Ok.ensures.at c.check_lines_over.ensures

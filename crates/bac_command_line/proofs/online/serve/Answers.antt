@@ -1,4 +1,4 @@
--- The bound_node is on a link that was bound, the clock was made, and it told when serving began.
+-- The bound_node is on a link that was bound, the clock was made, and it printed when serving began.
 use Rattle.std.proofs.Common.{refl}
 use Rattle.bac_command_line.specs.Online.{OnClock, OnPort}
 use Rattle.bac_command_line.proofs.Served.{served_so}

@@ -1,4 +1,4 @@
--- The round began at the moment that the clock told.
+-- The round began at the moment that the clock printed.
 use Rattle.bac_driver.specs.Runs.{timed}
 use Rattle.bac_command_line.specs.Asked.{AsksAll}
 use Rattle.bac_command_line.proofs.InRounds.{round_begun}

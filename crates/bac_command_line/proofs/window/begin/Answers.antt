@@ -1,4 +1,4 @@
--- The clock told when the ask is waited for from, and then the node refused it.
+-- The clock printed when the ask is waited for from, and then the node refused it.
 use Rattle.std.proofs.Common.{rules, subst}
 use Rattle.bac_driver.specs.Moments.{Told}
 use Rattle.bac_driver.specs.Asking.{IsRefused}

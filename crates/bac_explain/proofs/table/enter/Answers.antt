@@ -1,4 +1,4 @@
--- The key is absent then.
+-- The key is absent at this point.
 use Rattle.bac_explain.proofs.Seen.{seen_none}
 use Rattle.bac_explain.proofs.table.enter.Goals as goal
 

@@ -1,4 +1,4 @@
--- One transaction less, or there was room.
+-- One transaction fewer, or there was room.
 use Rattle.std.proofs.Common.{◌≤◌, ◌∙◌, length, ap, arith}
 use Rattle.bac_explain.specs.declared.table.TheConstants.{OPEN_LIMIT}
 use Rattle.bac_explain.specs.KeyViews.{key_view}

@@ -1,4 +1,4 @@
--- The transaction of the first key is the first one.
+-- The transaction with the first key is the first one.
 use Rattle.std.proofs.Common.{◌∙◌}
 use Rattle.bac_explain.proofs.Seen.{first_seen}
 use Rattle.bac_explain.proofs.table.take_oldest.Goals as goal

@@ -5,7 +5,7 @@ use Rattle.std.proofs.lemmas.List.{take_all}
 use Rattle.std.proofs.lemmas.Option.{slice_get-get_or}
 use Rattle.bac_requester.specs.TransactionViews.{ending_view}
 use Rattle.bac_network.specs.Views.{log_view}
-use Rattle.bac_completion.specs.StraightRuns.{ending_in}
+use Rattle.bac_liveness.specs.StraightRuns.{ending_in}
 use Rattle.bac_network.proofs.Logs.{none_before, one_more}
 use Rattle.bac_network.proofs.ended.ending_of.Goals as goal
 

@@ -3,7 +3,7 @@ use Rattle.std.proofs.Common.{◌≡◌, ◌≤◌, length, take, Some, None}
 use Rattle.std.specs.Prelude.{MatchOption}
 use Rattle.bac_requester.specs.TransactionViews.{ending_view}
 use Rattle.bac_network.specs.Views.{log_view}
-use Rattle.bac_completion.specs.StraightRuns.{ending_in}
+use Rattle.bac_liveness.specs.StraightRuns.{ending_in}
 use Rattle.bac_network.proofs.ended.ending_of.Given as goal
 
 abbrev pub invariant-loop-at : goal.invariant-loop-at

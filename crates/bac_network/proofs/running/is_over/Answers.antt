@@ -1,6 +1,6 @@
 -- The log tells whether the ask has ended.
 use Rattle.std.proofs.Common.{◌∙◌, sym, ap, subst, inl, arith}
-use Rattle.bac_completion.specs.StraightRuns.{ending_in}
+use Rattle.bac_liveness.specs.StraightRuns.{ending_in}
 use Rattle.bac_network.specs.Logs.{IsSince}
 use Rattle.bac_network.proofs.StraightGoing.{copies_many, some_none}
 use Rattle.bac_network.proofs.running.is_over.Goals as goal

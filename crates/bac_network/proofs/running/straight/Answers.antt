@@ -3,7 +3,7 @@ use Rattle.std.proofs.Common.{refl, inl}
 use Rattle.bac_apdu.specs.Views.{limits_view}
 use Rattle.bac_service.specs.Views.{owned_request_view}
 use Rattle.bac_network.specs.Logs.{ending_by}
-use Rattle.bac_network.proofs.StraightGoing.{either_way, fails_at, fails_went, goes_at, goes_went, tells, told_as, went_at}
+use Rattle.bac_network.proofs.StraightGoing.{alone_by, either_way, fails_at, fails_went, goes_at, goes_went, tells, told_as, went_at}
 use Rattle.bac_network.proofs.running.straight.Goals as goal
 
 pub returns-clause-run : goal.returns-clause-run
@@ -56,3 +56,16 @@ returns-clause-answered c = λ a b can.
 
 pub returns-in_default-clause-stopped : goal.returns-in_default-clause-stopped
 returns-in_default-clause-stopped c = inl (record { fault_is = refl; lacks = c.in_default.ensures; same = refl })
+
+pub returns-clause-requests_alone : goal.returns-clause-requests_alone
+returns-clause-requests_alone c = λ before.
+    let w = c.args.world.now in
+    let new = c.ask_and_deliver-run.new.world.world in
+    let r = owned_request_view c.args.request in
+    let limits = limits_view c.in-Some.limits in
+    c.is_once-2.ensures.requests_alone
+    (alone_by w.overtake w.world c.args.client c.args.server limits r new
+    (either_way c.ask_and_deliver-run.result
+    (λ s g. goes_went w.overtake w.world c.args.client c.args.server limits r new (ending_by s.ask new.log) s.deliveries g)
+    (λ f g. fails_went w.overtake w.world c.args.client c.args.server limits r new f g)
+    c.ask_and_deliver-run.ensures.goes) before)

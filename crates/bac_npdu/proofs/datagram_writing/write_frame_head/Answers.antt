@@ -3,7 +3,7 @@ use Rattle.bac_npdu.specs.Views.{peer_view}
 use Rattle.bac_npdu.proofs.Writing.{members_length, head_written}
 use Rattle.bac_npdu.proofs.datagram_writing.write_frame_head.Goals as goal
 
--- after the room was reserved nothing fails
+-- after the room is reserved, nothing fails
 pub returns-in_err-extend_from_slice-clause-full : goal.returns-in_err-extend_from_slice-clause-full
 returns-in_err-extend_from_slice-clause-full c =
     absurd (omega (

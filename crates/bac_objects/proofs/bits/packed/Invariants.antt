@@ -1,4 +1,4 @@
--- What is packed so far goes on with the digits that are left.
+-- Packing the remaining digits, starting from what is packed so far.
 use Rattle.std.proofs.Common.{◌≡◌, [], drop}
 use Rattle.bac_objects.specs.Bits.{fresh, packed}
 use Rattle.bac_objects.specs.Views.{packing_view}

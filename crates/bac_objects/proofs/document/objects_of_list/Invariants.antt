@@ -1,4 +1,4 @@
--- The objects so far, which a store can have, go on with the items that are left.
+-- The objects so far can be in a store; the remaining items are read after them.
 use Rattle.std.proofs.Common.{◌≡◌, [], drop, map}
 use Rattle.bac_store.specs.Views.{object_view}
 use Rattle.toml.specs.View.{array_view, items_view}

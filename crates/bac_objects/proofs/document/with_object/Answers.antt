@@ -1,4 +1,4 @@
--- The object that was pushed is right, and no earlier one has its identifier.
+-- The object that was added is valid, and no earlier one has its identifier.
 use Rattle.bac_objects.proofs.RightLaws.{fit_pushed}
 use Rattle.bac_objects.proofs.document.with_object.Goals as goal
 

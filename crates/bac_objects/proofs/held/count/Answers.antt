@@ -1,4 +1,4 @@
--- A map has as many entries as members.
+-- A map has as many entries as the table has members.
 use Rattle.std.proofs.Common.{sym, ◌∙◌}
 use Rattle.bac_objects.proofs.Tables.{count_length}
 use Rattle.bac_objects.proofs.held.count.Goals as goal

@@ -1,4 +1,4 @@
--- What the map finds is what the members have.
+-- A look-up in the map finds what the members have.
 use Rattle.toml.proofs.Views.{table_get}
 use Rattle.bac_objects.proofs.held.member.Goals as goal
 

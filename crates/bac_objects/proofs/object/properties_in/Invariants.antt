@@ -1,4 +1,4 @@
--- The properties so far, which the object can have, go on with the members that are left.
+-- The properties so far are valid for the object; the remaining members are read after them.
 use Rattle.std.proofs.Common.{◌≡◌, [], map}
 use Rattle.bac_value.specs.Views.{object_identifier_view}
 use Rattle.bac_store.specs.Views.{property_view}

@@ -1,4 +1,4 @@
--- The property that was pushed is right, and no earlier one has its number.
+-- The property that was added is valid, and no earlier one has its number.
 use Rattle.bac_objects.proofs.RightLaws.{right_pushed}
 use Rattle.bac_objects.proofs.object.with_property.Goals as goal
 

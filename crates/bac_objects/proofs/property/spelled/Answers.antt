@@ -1,4 +1,4 @@
--- The vector was empty, so that it holds the one spelling.
+-- The vector was empty, so that it has only the spelling.
 use Rattle.std.proofs.Common.{subst, sym, ap, ◌∙◌, ◌++◌}
 use Rattle.bac_value.specs.Data.{IsData}
 use Rattle.bac_value.specs.Views.{value_view}

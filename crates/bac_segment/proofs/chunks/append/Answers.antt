@@ -1,4 +1,4 @@
--- The octets stand after the others, in the last vector or in one more.
+-- The octets follow the others, in the last vector or in a new one.
 use Rattle.std.proofs.Common.{◌≡◌, ◌-◌, ◌++◌, refl, ap, ◌∙◌, arith, vec_len}
 use Rattle.bac_value.specs.Octets.{joined}
 use Rattle.bac_segment.proofs.Joined.{joined-push, joined-set_same, joined-set_last}

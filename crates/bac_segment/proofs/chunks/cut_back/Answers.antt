@@ -1,4 +1,4 @@
--- A vector that is longer than what is left to cut is cut; the others go.
+-- A vector longer than what is left to remove is shortened; the others are removed.
 use Rattle.std.proofs.Common.{◌-◌, take, ap, ◌∙◌, arith}
 use Rattle.bac_segment.proofs.Joined.{cut_last, drop_last}
 use Rattle.bac_segment.proofs.chunks.cut_back.Goals as goal

@@ -1,4 +1,4 @@
--- Both halves stand in proofs/Unique.
+-- Both halves are in proofs/Unique.
 use Rattle.bac_segment.proofs.Unique.{pieces_are}
 use Rattle.bac_segment.proofs.laws.pieces_are_unique.Goals as goal
 

@@ -1,4 +1,4 @@
-use Rattle.bac_script.specs.Views.{setting_view}
+use Rattle.bac_simulate.specs.Views.{setting_view}
 use Rattle.bac_simulate.proofs.Settings.{line_is_modest}
 use Rattle.bac_simulate.proofs.script.read_first.Goals as goal
 

@@ -1,5 +1,5 @@
 use Rattle.bac_text.specs.Lines.{lines_of}
-use Rattle.bac_script.specs.Views.{setting_view}
+use Rattle.bac_simulate.specs.Views.{setting_view}
 use Rattle.bac_simulate.proofs.Reported.{reported, starved}
 use Rattle.bac_simulate.proofs.simulate.run_set.Goals as goal
 

@@ -1,4 +1,4 @@
--- What is told of the facts from here on completes what is told of all.
+-- What is printed of the facts from here on completes what is printed of all.
 use Rattle.std.proofs.Common.{ℕ, List, map, drop}
 use Rattle.bac_network.specs.Views.{fact_view}
 use Rattle.bac_simulate.specs.Worded.{Adds, AreFactLines}

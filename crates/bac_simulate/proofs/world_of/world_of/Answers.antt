@@ -3,7 +3,7 @@ use Rattle.std.proofs.Common.{◌≡◌, refl, ◌≤◌, ◌+◌, ◌*◌, arit
 use Rattle.bac_network.specs.declared.fault.NewWorldFault.{NewWorldFault}
 use Rattle.bac_network.specs.declared.fault.NewWorldFault.TheVariants as fault
 use Rattle.bac_simulate.proofs.Making.{memory_alone, world_made}
-use Rattle.bac_script.specs.Views.{setting_view}
+use Rattle.bac_simulate.specs.Views.{setting_view}
 use Rattle.bac_simulate.proofs.world_of.world_of.Goals as goal
 
 same : (f : NewWorldFault) → f ≡ fault.NoMemory → f ≡ fault.SameLink → ⊥

@@ -1,4 +1,4 @@
--- All slots are the same.
+-- All slots are equal.
 use Rattle.std.proofs.Common.{◌∙◌, refl, sym, arith}
 use Rattle.bac_slots.specs.Slots.{slot_seen}
 use Rattle.bac_slots.proofs.Swept.{same_lists, seen_same}

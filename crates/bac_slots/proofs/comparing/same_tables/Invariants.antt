@@ -1,4 +1,4 @@
--- The first n slots are the same.
+-- The first n slots are equal.
 use Rattle.std.proofs.Common.{◌≡◌, ℕ, ◌<◌, slice_get}
 use Rattle.std.specs.Option.{option_map}
 use Rattle.bac_slots.specs.Slots.{slot_seen}

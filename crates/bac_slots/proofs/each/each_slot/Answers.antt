@@ -1,4 +1,4 @@
--- One slot more.
+-- One more slot.
 use Rattle.bac_slots.proofs.Fronts.{each_next}
 use Rattle.bac_slots.proofs.each.each_slot.Goals as goal
 

@@ -1,4 +1,4 @@
--- It holds of each of the first n slots.
+-- The fact is true of each of the first n slots.
 use Rattle.std.proofs.Common.{◌≡◌, length, take}
 use Rattle.bac_slots.specs.Slots.{EachSlot}
 use Rattle.bac_slots.proofs.each.each_slot.Given as goal

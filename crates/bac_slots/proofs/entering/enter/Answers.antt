@@ -1,4 +1,4 @@
--- What is known of the ages, with one more slot.
+-- What is known of ages, with one more slot.
 use Rattle.std.proofs.Common.{◌∙◌, ◌∷◌, ◌++◌, [], ap}
 use Rattle.bac_slots.specs.Ages.{later_of}
 use Rattle.bac_slots.specs.declared.ages.Ages.{Ages}

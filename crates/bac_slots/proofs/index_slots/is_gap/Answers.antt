@@ -1,4 +1,4 @@
--- Keys that are less stand before the place, and greater ones from it on.
+-- Lesser keys are before the place, and greater ones from it on.
 use Rattle.std.proofs.Common.{◌≤◌, length, arith}
 use Rattle.bac_slots.proofs.Indexes.{index_length, not_found}
 use Rattle.bac_slots.proofs.index_slots.is_gap.Goals as goal

@@ -1,4 +1,4 @@
--- The key is none of those before and none of those from the end on; each step halves what is left.
+-- The key is not among those before the part or after it; each step halves the part.
 use Rattle.std.proofs.Common.{◌-◌, ◌+◌, ◌≤◌, length}
 use Rattle.bac_slots.specs.Slots.{in_order, digits}
 use Rattle.bac_slots.specs.Indexes.{AllBelow, AllAbove}

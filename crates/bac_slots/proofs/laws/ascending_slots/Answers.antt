@@ -1,4 +1,4 @@
--- Slots that ascend still do.
+-- Slots stay in order.
 use Rattle.bac_slots.proofs.SlotAges.{ascends_put, ascends_set, ascends_without, ascends_kept}
 use Rattle.bac_slots.proofs.laws.ascending_slots.Goals as goal
 

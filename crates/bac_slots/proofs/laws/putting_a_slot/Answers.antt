@@ -1,4 +1,4 @@
--- What putting a slot makes of the values at keys.
+-- The values of keys after adding a slot.
 use Rattle.bac_slots.proofs.Slots.{IsDistinct-push}
 use Rattle.bac_slots.proofs.Values.{put_found, put_others}
 use Rattle.bac_slots.proofs.laws.putting_a_slot.Goals as goal

@@ -1,4 +1,4 @@
--- The slot of a key's place, and the next key.
+-- The slot at a key's place, and the next key.
 use Rattle.bac_slots.proofs.Ranks.{present, here, other, past, next}
 use Rattle.bac_slots.proofs.laws.ranks_of_keys.Goals as goal
 

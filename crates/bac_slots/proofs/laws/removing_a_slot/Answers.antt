@@ -1,4 +1,4 @@
--- What taking a slot out makes of the values at keys.
+-- The values of keys after removing a slot.
 use Rattle.bac_slots.proofs.Slots.{IsDistinct-without}
 use Rattle.bac_slots.proofs.Values.{removed_none, removed_others, removed_length}
 use Rattle.bac_slots.proofs.laws.removing_a_slot.Goals as goal

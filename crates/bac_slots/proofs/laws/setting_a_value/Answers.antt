@@ -1,4 +1,4 @@
--- What setting a value makes of the values at keys.
+-- The values of keys after setting a value.
 use Rattle.bac_slots.proofs.Slots.{IsDistinct-with_value}
 use Rattle.bac_slots.proofs.Values.{set_keys, set_length, set_found, set_others}
 use Rattle.bac_slots.proofs.laws.setting_a_value.Goals as goal

@@ -1,4 +1,4 @@
--- Setting twice, and setting what is there.
+-- Setting twice, and setting the value that is there.
 use Rattle.bac_slots.proofs.Values.{set_twice, set_back}
 use Rattle.bac_slots.proofs.laws.setting_again.Goals as goal
 

@@ -1,4 +1,4 @@
--- The slots in order of their keys.
+-- The slots in key order.
 use Rattle.bac_slots.proofs.KeyOrder.{nth_is, are_apart, ascending, length_in_order, value_in_order}
 use Rattle.bac_slots.proofs.laws.slots_in_order.Goals as goal
 

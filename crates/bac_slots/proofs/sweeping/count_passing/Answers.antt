@@ -1,4 +1,4 @@
--- One slot more passes or fails.
+-- One more slot passes or fails.
 use Rattle.std.proofs.Common.{ap, arith, count_by, false}
 use Rattle.std.proofs.lemmas.List.{take_all}
 use Rattle.bac_slots.proofs.Swept.{count_more, count_kept}

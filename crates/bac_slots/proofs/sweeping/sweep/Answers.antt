@@ -1,4 +1,4 @@
--- One slot more, from the last.
+-- One more slot, from the last.
 use Rattle.std.proofs.Common.{◌≡◌, ◌-◌, ◌∙◌, arith, rules, slice_get, Some}
 use Rattle.bac_slots.specs.declared.slot.Slot.{Slot}
 use Rattle.bac_slots.proofs.Swept.{sweep_first, sweep_keeps, sweep_drops}

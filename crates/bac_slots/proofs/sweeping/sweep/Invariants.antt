@@ -1,4 +1,4 @@
--- The slots before the n-th are as they were, and of the others those that pass.
+-- The slots before the n-th are unchanged, and of the others those remain that pass.
 use Rattle.std.proofs.Common.{◌≡◌}
 use Rattle.bac_slots.proofs.Swept.{back}
 use Rattle.bac_slots.proofs.sweeping.sweep.Given as goal

@@ -1,4 +1,4 @@
--- One slot more passes or is taken out, until one is young or none is left.
+-- One more slot passes or is removed, until one is young or none is left.
 use Rattle.std.proofs.Common.{◌≡◌, ◌<◌, ◌∙◌, arith, refl, sym, ap, slice_get, subst, length, Some, List, filter}
 use Rattle.bac_slots.specs.declared.slot.Slot.{Slot}
 use Rattle.bac_slots.specs.Slots.{Ascends, YoungPass}

@@ -1,4 +1,4 @@
--- The first slots pass, and a sweep leaves of all what it left of the old ones.
+-- The first slots pass, and a sweep of all slots now leaves what it would have left at first.
 use Rattle.std.proofs.Common.{◌≡◌, ◌-◌, ◌≤◌, filter, length}
 use Rattle.bac_slots.specs.Slots.{Ascends, YoungPass}
 use Rattle.bac_slots.proofs.SlotAges.{PassBefore}

@@ -1,4 +1,4 @@
--- One slot more is not due before.
+-- One more slot is not due before.
 use Rattle.std.proofs.Common.{◌≤◌, arith}
 use Rattle.bac_slots.proofs.Fronts.{each_next, first_next}
 use Rattle.bac_slots.proofs.ticking.first_due.Goals as goal

@@ -1,4 +1,4 @@
--- Before anything is due nothing changes; after a tick the slots are in the same order, and none is due before.
+-- Before anything is due nothing changes; after a tick slots are in the same order, and none is due before.
 use Rattle.std.proofs.Common.{◌∙◌, sym}
 use Rattle.bac_slots.proofs.Aging.{between, stays, ticked_in_order}
 use Rattle.bac_slots.proofs.ticking.tick.Goals as goal

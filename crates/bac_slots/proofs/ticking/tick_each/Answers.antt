@@ -1,11 +1,11 @@
--- One slot more goes on.
+-- One more slot is ticked.
 use Rattle.std.proofs.Common.{◌≡◌, ◌+◌, ◌∙◌, ap, Some, slice_get, length, arith}
 use Rattle.bac_slots.specs.declared.slot.Slot.{Slot}
 use Rattle.bac_slots.specs.Ages.{ticked_in}
 use Rattle.bac_slots.proofs.Fronts.{front, front_all, passed, set}
 use Rattle.bac_slots.proofs.ticking.tick_each.Goals as goal
 
--- a tick finds nothing to do for it, or it is not there
+-- a tick has nothing to do for the slot, or it does not exist
 pub loop-n-preserved-in_default : goal.loop-n-preserved-in_default
 loop-n-preserved-in_default g c =
     record {

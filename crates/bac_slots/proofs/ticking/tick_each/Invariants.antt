@@ -1,4 +1,4 @@
--- The first n slots have gone on.
+-- The first n slots are ticked.
 use Rattle.std.proofs.Common.{◌≡◌, length}
 use Rattle.bac_slots.specs.Slots.{IsDistinct}
 use Rattle.bac_slots.specs.Ages.{ticked_in}

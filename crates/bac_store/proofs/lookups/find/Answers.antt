@@ -6,7 +6,7 @@ use Rattle.bac_store.specs.Views.{slot_view, entry_view}
 use Rattle.bac_store.proofs.Places.{first_that-none, first_that-place}
 use Rattle.bac_store.proofs.lookups.find.Goals as goal
 
--- any other number is listed
+-- every other number is a listed property
 listed_by : (o : Object) (n : ℕ) → n ≢ OBJECT_IDENTIFIER → n ≢ OBJECT_NAME → n ≢ OBJECT_TYPE → n ≢ FILE_ACCESS_METHOD → n ≢ FILE_SIZE
     → property_in o n ≡ listed_in o n
 listed_by o n a b c d e = grind (arith, nat_tests)

@@ -8,7 +8,7 @@ use Rattle.bac_store.proofs.Orders.{tells_object}
 use Rattle.bac_store.proofs.Places.{placed}
 use Rattle.bac_store.proofs.lookups.place_of.Goals as goal
 
--- the closure gives an object's number, and the number tells objects apart
+-- the closure returns an object's number, and different objects have different numbers
 pub returns : goal.returns
 returns c =
     let facts = c.binary_search_by_key.ensures in

@@ -5,7 +5,7 @@ use Rattle.bac_store.specs.Views.{slot_view}
 use Rattle.bac_store.proofs.Places.{placed}
 use Rattle.bac_store.proofs.lookups.slot_place.Goals as goal
 
--- the closure gives a property's number
+-- the closure returns a property's number
 pub returns : goal.returns
 returns c =
     let facts = c.binary_search_by_key.ensures in

@@ -8,7 +8,7 @@ use Rattle.bac_value.specs.Views.{object_identifier_view}
 use Rattle.bac_store.proofs.Places.{first_that-none, first_that-only}
 use Rattle.bac_store.proofs.permitting.permitted_values.Goals as goal
 
--- the fault, where the object is found and what is listed in it
+-- the fault, if the object is found and the property is listed
 module _ (o : Option Object) (e : Object) (found : Some e ≡ o) (n : ℕ) (fault_for : Property → Option ChangeFault) where
   in_object : (p : Option Property) → listed_in e n ≡ p
       → or_fault fault.NoSuchObject o (λ x. or_fault fault.NoSuchProperty (listed_in x n) fault_for) ≡ or_fault fault.NoSuchProperty p fault_for

@@ -5,7 +5,7 @@ use Rattle.bac_value.specs.Writing.{value_spelling}
 use Rattle.bac_store.proofs.ValueData.{value_is_data}
 use Rattle.bac_store.proofs.spelled.spelled.Goals as goal
 
--- the vector was empty, so that it holds the one spelling
+-- the vector was empty, so it has only the spelling
 pub invariant_of-result : goal.invariant_of-result
 invariant_of-result c =
     let e = c.in_ok-write_value.ensures.ok in

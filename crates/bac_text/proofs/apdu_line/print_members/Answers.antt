@@ -1,4 +1,4 @@
-use Rattle.bac_text.proofs.Appending.{before}
+use Rattle.bac_service_text.proofs.Appending.{before}
 use Rattle.bac_text.proofs.apdu_line.print_members.Goals as goal
 
 pub returns-in_ok-print_request_head-in-ConfirmedRequest : goal.returns-in_ok-print_request_head-in-ConfirmedRequest

@@ -1,4 +1,4 @@
-use Rattle.bac_text.proofs.Appending.{before}
+use Rattle.bac_service_text.proofs.Appending.{before}
 use Rattle.bac_text.proofs.apdu_line.print_unconfirmed.Goals as goal
 
 pub returns : goal.returns

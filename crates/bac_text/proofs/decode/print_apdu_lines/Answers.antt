@@ -1,4 +1,4 @@
-use Rattle.bac_text.proofs.Printed.{and_then, then_both}
+use Rattle.bac_service_text.proofs.Appending.{and_then, then_both}
 use Rattle.bac_text.proofs.decode.print_apdu_lines.Goals as goal
 
 pub returns : goal.returns

@@ -1,7 +1,8 @@
 use Rattle.std.proofs.Common.{length}
 use Rattle.bac_npdu.specs.Npdu.{SpellsBvll}
 use Rattle.bac_text.specs.Decoded.{AreBvllLines}
-use Rattle.bac_text.proofs.Printed.{a_layer, and_then}
+use Rattle.bac_service_text.proofs.Appending.{and_then}
+use Rattle.bac_text.proofs.Printed.{a_layer}
 use Rattle.bac_text.proofs.decode.print_layers.Goals as goal
 
 pub returns : goal.returns

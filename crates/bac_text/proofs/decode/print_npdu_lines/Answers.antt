@@ -1,7 +1,8 @@
 use Rattle.bac_npdu.specs.Npdu.{SpellsNpdu}
 use Rattle.bac_npdu.specs.Views.{npdu_view}
 use Rattle.bac_text.specs.Decoded.{AreNpduLines}
-use Rattle.bac_text.proofs.Printed.{a_layer, and_then}
+use Rattle.bac_service_text.proofs.Appending.{and_then}
+use Rattle.bac_text.proofs.Printed.{a_layer}
 use Rattle.bac_text.proofs.decode.print_npdu_lines.Goals as goal
 
 pub returns : goal.returns

@@ -1,4 +1,4 @@
-use Rattle.bac_text.proofs.Appending.{before}
+use Rattle.bac_service_text.proofs.Appending.{before}
 use Rattle.bac_text.proofs.frame_lines.print_npdu.Goals as goal
 
 pub returns : goal.returns

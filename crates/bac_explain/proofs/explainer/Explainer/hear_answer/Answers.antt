@@ -1,4 +1,4 @@
--- The transaction goes on in its slot; where memory is refused, it stays.
+-- The transaction is updated in its slot; if an allocation fails, it is unchanged.
 use Rattle.std.proofs.Common.{◌≡◌, refl, None, Option, Result, Ok, Err, IfOk, OnErr}
 use Rattle.std.specs.declared.alloc.AllocError.{AllocError}
 use Rattle.bac_slots.specs.Slots.{with_value}

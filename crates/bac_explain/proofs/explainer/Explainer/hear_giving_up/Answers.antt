@@ -1,4 +1,4 @@
--- The transaction goes on in its slot.
+-- The transaction is updated in its slot.
 use Rattle.std.proofs.Common.{refl, None}
 use Rattle.bac_slots.specs.Slots.{with_value}
 use Rattle.bac_explain.specs.Keys.{same_key}

@@ -1,4 +1,4 @@
--- The transaction goes on in its slot.
+-- The transaction is updated in its slot.
 use Rattle.bac_explain.specs.Transactions.{requested}
 use Rattle.bac_explain.proofs.Hearing.{repeat_heard, repeat_none}
 use Rattle.bac_explain.proofs.explainer.Explainer.repeat.Goals as goal

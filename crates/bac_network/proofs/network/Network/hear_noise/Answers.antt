@@ -1,13 +1,16 @@
--- Octets that are no noise are lost.
+-- Octets that mean nothing are heard, and others are lost.
 use Rattle.std.proofs.Common.{◌≡◌, ◌<◌, length, true, false, refl, inr, arith}
-use Rattle.bac_world.specs.World.{IsNoise}
+use Rattle.bac_world.specs.Laws.{IsMeaningless}
 use Rattle.bac_network.proofs.Delivered.{there_is}
 use Rattle.bac_network.proofs.network.Network.hear_noise.Goals as goal
 
-pub returns-else-is_noise-clause-happens : goal.returns-else-is_noise-clause-happens
-returns-else-is_noise-clause-happens c = λ overtake.
+pub returns-else-is_meaningless-clause-happens : goal.returns-else-is_meaningless-clause-happens
+returns-else-is_meaningless-clause-happens c = λ overtake.
     let within : c.args.node < length c.args.self.now.nodes.items = omega arith in
     let a = there_is c.args.self.now.nodes.items c.args.node within in
-    let no : IsNoise c.args.self.now.nodes.items c.args.from c.args.octets.now → ⊥ =
-    λ noise. (let t : false ≡ true = (c.if-is_noise.ensures c.args.self.now.nodes.items c.requires.linked).1 noise in cc) in
+    let no : IsMeaningless c.args.from c.args.octets.now → ⊥ =
+    λ noise. (let t : false ≡ true = c.if-is_meaningless.ensures.1 noise in cc) in
     (inr (record { node = a.0; at = a.1; no_noise = no; same = refl }), λ x. x)
+
+pub drop_noise-requires-clause-noise : goal.drop_noise-requires-clause-noise
+drop_noise-requires-clause-noise c = c.if-is_meaningless.ensures.0 refl

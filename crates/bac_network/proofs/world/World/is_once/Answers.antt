@@ -1,7 +1,8 @@
 -- What is known of how it came to be.
 use Rattle.std.proofs.Common.{subst}
-use Rattle.bac_network.specs.Histories.{AreEndedOnceNow, ArePerformedOnceNow, AreReplayedNow, IsOnceNow, view_of}
-use Rattle.bac_network.proofs.Histories.{ended_now, once_now, performed_now, replayed_now}
+use Rattle.bac_network.specs.Histories.{AreChangesPermittedNow, AreEndedOnceNow, ArePerformedOnceNow, AreReplayedNow, HasRequestsAloneNow, IsOnceNow, view_of}
+use Rattle.bac_network.specs.Histories.{IsOnceByRequestsAloneNow, WorldView}
+use Rattle.bac_network.proofs.Histories.{ended_now, once_now, performed_now, permitted_now, replayed_now, requests_now}
 use Rattle.bac_network.proofs.world.World.is_once.Goals as goal
 
 pub returns-clause-once : goal.returns-clause-once
@@ -21,3 +22,14 @@ pub returns-clause-stores : goal.returns-clause-stores
 returns-clause-stores c =
     let w = view_of c.self.inside.overtake c.self.inside.opening.items c.self.inside.network in
     subst AreReplayedNow c.self.view_is (replayed_now w (once_now c.self.inside.window w c.self.invariant.history))
+
+pub returns-clause-permitted : goal.returns-clause-permitted
+returns-clause-permitted c =
+    let w = view_of c.self.inside.overtake c.self.inside.opening.items c.self.inside.network in
+    subst AreChangesPermittedNow c.self.view_is (permitted_now w (once_now c.self.inside.window w c.self.invariant.history))
+
+pub returns-clause-requests_alone : goal.returns-clause-requests_alone
+returns-clause-requests_alone c =
+    let w = view_of c.self.inside.overtake c.self.inside.opening.items c.self.inside.network in
+    subst (λ (v : WorldView). HasRequestsAloneNow v → IsOnceByRequestsAloneNow v) c.self.view_is
+    (requests_now w (once_now c.self.inside.window w c.self.invariant.history))

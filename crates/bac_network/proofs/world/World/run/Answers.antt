@@ -1,8 +1,10 @@
 -- One event after the other.
-use Rattle.std.proofs.Common.{◌<◌, Err, length, refl, ◌∙◌, arith}
+use Rattle.std.proofs.Common.{◌<◌, Err, length, map, refl, sym, subst, ◌∙◌, arith}
 use Rattle.std.proofs.lemmas.Option.{slice_get_read}
 use Rattle.bac_network.specs.Views.{event_view}
-use Rattle.bac_network.proofs.WorldRunning.{fault_is, goes_on, stops}
+use Rattle.bac_network.specs.Histories.{HasRequestsAloneNow}
+use Rattle.bac_network.proofs.Histories.{requests_now}
+use Rattle.bac_network.proofs.WorldRunning.{alone_so_far, fault_is, goes_on, stops}
 use Rattle.bac_network.proofs.world.World.run.Goals as goal
 
 pub returns-in-Err-clause-stopped : goal.returns-in-Err-clause-stopped
@@ -27,3 +29,15 @@ loop-place-preserved c =
       overtake = c.in_default.ensures.settings.0 ∙ at.invariant.overtake;
       opening = c.in_default.ensures.settings.1 ∙ at.invariant.opening;
     }
+
+pub returns-in-Err-clause-requests_alone : goal.returns-in-Err-clause-requests_alone
+returns-in-Err-clause-requests_alone c = λ before alone.
+    let at = c.loop-place in
+    let so_far = alone_so_far c.args.self.now at.self (map event_view c.args.events.now) at.place at.invariant.done before alone in
+    requests_now c.step.new.self c.step.ensures.once (subst HasRequestsAloneNow (sym c.in-Err.ensures.err) so_far)
+
+pub returns-clause-requests_alone : goal.returns-clause-requests_alone
+returns-clause-requests_alone c = λ before alone.
+    let at = c.loop-place in
+    c.is_once.ensures.requests_alone
+    (alone_so_far c.args.self.now at.self (map event_view c.args.events.now) at.place at.invariant.done before alone)

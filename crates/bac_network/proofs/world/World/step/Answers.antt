@@ -4,7 +4,7 @@ use Rattle.bac_network.specs.Histories.{view_of}
 use Rattle.bac_network.specs.Networks.{world_of}
 use Rattle.bac_network.specs.Views.{event_view}
 use Rattle.bac_network.proofs.Happening.{node_exactly, copy_exactly, clock_exactly, change_exactly, memory_only, step_is, told_is, same_seen}
-use Rattle.bac_network.proofs.Histories.{ended_now, kept_after, once_now, performed_now, ready_now, replayed_now}
+use Rattle.bac_network.proofs.Histories.{alone_after, ended_now, kept_after, once_now, performed_now, permitted_now, ready_now, replayed_now, requests_now}
 use Rattle.bac_network.proofs.world.World.step.Goals as goal
 
 pub step-requires : goal.step-requires
@@ -92,3 +92,21 @@ returns-clause-err c =
 
 pub returns-clause-settings : goal.returns-clause-settings
 returns-clause-settings c = rw (← c.self.view_is) (refl, refl)
+
+pub returns-clause-permitted : goal.returns-clause-permitted
+returns-clause-permitted c =
+    let kept = kept_after c.self.inside.window c.self.inside.overtake c.self.inside.opening.items c.self.inside.network c.step.new.self c.step.ensures.links
+    c.self.invariant (event_view c.args.event.now) c.step.result c.step.ensures.happens in
+    let w = view_of c.self.inside.overtake c.self.inside.opening.items c.step.new.self in
+    permitted_now w (once_now c.self.inside.window w kept.history)
+
+pub returns-clause-requests_alone : goal.returns-clause-requests_alone
+returns-clause-requests_alone c =
+    let kept = kept_after c.self.inside.window c.self.inside.overtake c.self.inside.opening.items c.self.inside.network c.step.new.self c.step.ensures.links
+    c.self.invariant (event_view c.args.event.now) c.step.result c.step.ensures.happens in
+    let w = view_of c.self.inside.overtake c.self.inside.opening.items c.step.new.self in
+    rw (← c.self.view_is)
+    (λ before alone.
+    requests_now w (once_now c.self.inside.window w kept.history)
+    (alone_after c.self.inside.overtake (world_of c.self.inside.network) (world_of c.step.new.self) (event_view c.args.event.now) c.step.result
+    c.step.ensures.happens alone before))

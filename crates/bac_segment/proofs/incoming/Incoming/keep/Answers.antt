@@ -1,4 +1,4 @@
--- The octets of the new part are counted, and so is its length.
+-- The counts include the octets of the new part, and its length.
 use Rattle.std.proofs.Common.{◌∷◌, [], ◌++◌, refl, ap, ◌∙◌, length}
 use Rattle.bac_value.specs.Octets.{joined}
 use Rattle.bac_segment.specs.Pieces.{split}

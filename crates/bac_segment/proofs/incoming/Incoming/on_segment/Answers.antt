@@ -1,4 +1,4 @@
--- One more segment was taken, and one more was not acknowledged.
+-- One more segment was taken, and one more is unacknowledged.
 use Rattle.std.proofs.Common.{length, ap, ◌∙◌, arith}
 use Rattle.std.proofs.lemmas.List.{length_push}
 use Rattle.bac_value.specs.Octets.{joined}

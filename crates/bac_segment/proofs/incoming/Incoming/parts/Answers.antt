@@ -1,4 +1,4 @@
--- What was taken are the octets in the vectors.
+-- The octets that were taken are those in the vectors.
 use Rattle.std.proofs.Common.{ap, sym, subst, ◌∙◌}
 use Rattle.bac_value.specs.Octets.{IsBytes, joined}
 use Rattle.bac_segment.proofs.Joined.{join-split}

@@ -1,4 +1,4 @@
--- The same parts are the same lengths and the same octets.
+-- Equal parts have equal lengths and equal octets.
 use Rattle.std.proofs.Common.{refl, sym, ap, ◌∙◌}
 use Rattle.bac_value.specs.Octets.{joined}
 use Rattle.bac_segment.specs.Pieces.{join}

@@ -1,4 +1,4 @@
--- The last segment is counted no more, and its octets go.
+-- The counts without the last segment, whose octets are removed.
 use Rattle.std.proofs.Common.{refl}
 use Rattle.bac_value.specs.Octets.{joined}
 use Rattle.bac_segment.proofs.Joined.{CountsOctets-pop, split-pop}

@@ -1,4 +1,4 @@
--- As many pieces as were counted.
+-- There are as many pieces as were counted.
 use Rattle.std.proofs.Common.{arith}
 use Rattle.bac_segment.proofs.Cut.{length-pieces_of}
 use Rattle.bac_segment.proofs.Unique.{pieces_are}

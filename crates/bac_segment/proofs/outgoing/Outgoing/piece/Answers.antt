@@ -1,4 +1,4 @@
--- The piece begins within the octets.
+-- The piece starts within the octets.
 use Rattle.std.proofs.Common.{◌*◌, length, arith, ap, take, drop}
 use Rattle.bac_segment.proofs.Cut.{length-pieces_of, begins_within, piece_at-cut}
 use Rattle.bac_segment.proofs.outgoing.Outgoing.piece.Goals as goal

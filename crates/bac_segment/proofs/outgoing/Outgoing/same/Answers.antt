@@ -1,4 +1,4 @@
--- The octets, and where there are several pieces their size, tell the pieces.
+-- The octets, and the size if there are several pieces, determine the pieces.
 use Rattle.std.proofs.Common.{◌≡◌, ◌<◌, ◌⊎◌, inl, inr, length, ap, sym, ◌∙◌, arith}
 use Rattle.std.proofs.lemmas.Slice.Eq.{slice_eq-Decides}
 use Rattle.std.proofs.lemmas.Bool.Decides.{Decides-eqb}

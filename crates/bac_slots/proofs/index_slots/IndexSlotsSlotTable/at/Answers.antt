@@ -1,4 +1,4 @@
--- The n-th of the index is the n-th by key.
+-- The n-th place of the index is that of the n-th slot by key.
 use Rattle.std.proofs.Common.{arith}
 use Rattle.bac_slots.proofs.Indexes.{nth_at, nth_past}
 use Rattle.bac_slots.proofs.index_slots.IndexSlotsSlotTable.at.Goals as goal

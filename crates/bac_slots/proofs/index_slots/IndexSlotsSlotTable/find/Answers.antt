@@ -1,4 +1,4 @@
--- What a search found is the place in the order of keys.
+-- The place that a search found is the place in key order.
 use Rattle.bac_slots.proofs.Slots.{value_at-some}
 use Rattle.bac_slots.proofs.index_slots.IndexSlotsSlotTable.find.Goals as goal
 

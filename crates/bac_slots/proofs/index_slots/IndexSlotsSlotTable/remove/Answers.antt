@@ -1,4 +1,4 @@
--- The slot is taken out, and its place out of the index.
+-- The slot is removed, and its place is removed from the index.
 use Rattle.std.proofs.Common.{◌∙◌, ap, sym, subst, ℕ, List, arith, Some}
 use Rattle.std.specs.List.{remove}
 use Rattle.bac_slots.specs.declared.slot.Slot.{Slot}

@@ -1,4 +1,4 @@
--- Another value there; the index stays.
+-- Another value; the index is unchanged.
 use Rattle.std.proofs.Common.{◌∙◌, ap, sym, subst, List, Some, length-set}
 use Rattle.bac_slots.specs.declared.slot.Slot.{Slot}
 use Rattle.bac_slots.specs.Slots.{IsDistinct}

@@ -1,4 +1,4 @@
--- The number there stands for the place.
+-- The number there encodes the place.
 use Rattle.std.proofs.Common.{refl}
 use Rattle.std.proofs.lemmas.Option.{slice_get_read}
 use Rattle.bac_slots.proofs.Numbers.{from_at, place_at, within_numbers}

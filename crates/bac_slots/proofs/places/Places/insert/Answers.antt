@@ -1,4 +1,4 @@
--- One number more.
+-- One more number.
 use Rattle.std.proofs.Common.{◌+◌, ◌∙◌, ap, sym, subst, arith}
 use Rattle.bac_slots.specs.Indexes.{places_of, AllFrom}
 use Rattle.bac_slots.proofs.Numbers.{from_insert, places_insert}

@@ -1,4 +1,4 @@
--- The first place leaves, or another one.
+-- The first place is removed, or another one.
 use Rattle.std.proofs.Common.{arith}
 use Rattle.bac_slots.proofs.Numbers.{from_zero, took_first, took_other}
 use Rattle.bac_slots.proofs.places.Places.take.Goals as goal

@@ -1,4 +1,4 @@
--- How many keys are lesser is the place in the order of keys.
+-- The number of lesser keys is the place in key order.
 use Rattle.bac_slots.proofs.Slots.{value_at-some}
 use Rattle.bac_slots.proofs.plain_slots.PlainSlotsSlotTable.find.Goals as goal
 

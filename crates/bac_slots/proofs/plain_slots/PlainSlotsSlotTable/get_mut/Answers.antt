@@ -1,4 +1,4 @@
--- Whatever is left behind the loan stands there.
+-- The slot has whatever value the borrow left.
 use Rattle.std.proofs.Common.{◌∙◌, ap, sym, refl, subst, List, Some, length-set}
 use Rattle.bac_slots.specs.declared.slot.Slot.{Slot}
 use Rattle.bac_slots.specs.Slots.{IsDistinct}

@@ -1,4 +1,4 @@
--- The slot is taken out.
+-- The slot is removed.
 use Rattle.std.proofs.Common.{◌∙◌, ap, sym, subst, List, arith, Some}
 use Rattle.bac_slots.specs.declared.slot.Slot.{Slot}
 use Rattle.bac_slots.specs.Slots.{IsDistinct}

@@ -1,4 +1,4 @@
--- Stores are equal where their objects are.
+-- Stores are equal if their objects are.
 use Rattle.bac_store.proofs.Equal.{decided}
 use Rattle.bac_store.proofs.store.Store.same.Goals as goal
 

@@ -1,5 +1,0 @@
-use Rattle.std.proofs.Common.{rules, sym}
-use Rattle.bac_commands.proofs.online.telling.tell_numbers.Goals as goal
-
-pub returns : goal.returns
-returns g c = record { printed = search rules; is = sym c.is_success.ensures }

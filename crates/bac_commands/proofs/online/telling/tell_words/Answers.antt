@@ -1,6 +1,0 @@
-use Rattle.std.proofs.Common.{rules, sym}
-use Rattle.bac_commands.proofs.online.telling.tell_words.Goals as goal
-
-pub returns : goal.returns
-returns g c =
-    record { words = c.in_ok-words.words.items; are = c.in_ok-words.ensures; printed = search rules; is = sym c.is_success.ensures }

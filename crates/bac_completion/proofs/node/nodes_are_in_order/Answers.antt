@@ -1,6 +1,0 @@
--- Each node that was reached is in order.
-use Rattle.bac_completion.proofs.AtNode.{nodes_in_order}
-use Rattle.bac_completion.proofs.node.nodes_are_in_order.Goals as goal
-
-pub returns : goal.returns
-returns c = λ W overtake opening reached fresh bounded events run. nodes_in_order W overtake opening reached fresh bounded events run

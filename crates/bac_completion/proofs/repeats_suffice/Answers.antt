@@ -1,6 +1,0 @@
--- Repeats suffice.
-use Rattle.bac_completion.proofs.Repeating.{repeats_suffice}
-use Rattle.bac_completion.proofs.repeats_suffice.Goals as goal
-
-pub returns : goal.returns
-returns c = λ W overtake opening reached fresh bounded events run. repeats_suffice W overtake opening reached fresh bounded events run

@@ -1,5 +1,0 @@
-use Rattle.bac_completion.proofs.StraightRuns.Reached.{straight_answers}
-use Rattle.bac_completion.proofs.straight.straight_run_answers.Goals as goal
-
-pub returns : goal.returns
-returns c = λ W overtake first old fresh bound events run. straight_answers W overtake first old fresh bound events run

@@ -1,5 +1,0 @@
-use Rattle.bac_completion.proofs.StraightRuns.Loops.{is_run}
-use Rattle.bac_completion.proofs.straight.straight_run_is_run.Goals as goal
-
-pub returns : goal.returns
-returns c = λ overtake old. is_run overtake old

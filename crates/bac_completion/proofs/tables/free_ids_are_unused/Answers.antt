@@ -1,5 +1,0 @@
-use Rattle.bac_completion.proofs.StraightRuns.Reached.{free_unused}
-use Rattle.bac_completion.proofs.tables.free_ids_are_unused.Goals as goal
-
-pub returns : goal.returns
-returns c = λ W overtake first old fresh bound events run. free_unused W overtake first old fresh bound events run

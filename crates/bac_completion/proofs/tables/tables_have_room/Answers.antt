@@ -1,5 +1,0 @@
-use Rattle.bac_completion.proofs.StraightRuns.Room.{have_room}
-use Rattle.bac_completion.proofs.tables.tables_have_room.Goals as goal
-
-pub returns : goal.returns
-returns c = λ overtake first old fresh events run. have_room overtake events first old run fresh

@@ -1,0 +1,23 @@
+-- What APDUs ask for, in words.
+use Rattle.std.specs.Prelude.{◌≡◌, ℕ, List, [], Option, Some, None, Result, Ok, Err}
+use Rattle.bac_apdu.specs.Apdu.{Segment, Apdu, ConfirmedRequest}
+use Rattle.bac_apdu.specs.Reading.{apdu_at}
+use Rattle.bac_apdu.specs.declared.fault.ApduFault.{ApduFault}
+use Rattle.bac_service_text.specs.ServiceData.{AreRequestDataWords, segments_text}
+
+-- of a segment the choice of the service alone
+abbrev pub ArePartWords : Option Segment → (choice : ℕ) → (service words : List ℕ) → Type 0
+ArePartWords None choice service words = AreRequestDataWords choice service words
+ArePartWords (Some s) choice service words = words ≡ segments_text choice
+
+-- an APDU that is no request asks for nothing
+abbrev pub AreAskingWords : Apdu → List ℕ → Type 0
+AreAskingWords (ConfirmedRequest limits invoke_id segment choice service) words = ArePartWords segment choice service words
+AreAskingWords _ words = words ≡ []
+
+abbrev pub AreReadWords : Result Apdu ApduFault → List ℕ → Type 0
+AreReadWords (Ok a) words = AreAskingWords a words
+AreReadWords (Err fault) words = words ≡ []
+
+abbrev pub AreOctetsWords : List ℕ → List ℕ → Type 0
+AreOctetsWords octets words = AreReadWords (apdu_at octets) words

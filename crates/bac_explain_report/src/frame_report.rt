@@ -1,0 +1,96 @@
+//! What there is to print of a frame.
+ghost use Rattle.std.specs.Prelude.{◌≡◌, IfOk};
+ghost use Rattle.std.specs.Option.{option_map};
+ghost use Rattle.bac_explain.specs.Closings.{closed_view};
+ghost use Rattle.bac_explain.specs.KeyViews.{key_view};
+ghost use Rattle.bac_explain_report.specs.AccountViews.{hearing_view, report_view};
+ghost use Rattle.bac_explain_report.specs.FrameReports.{finding_line, unread_line, IsHearing, IsOptionalBlock, IsFrameReport};
+
+use crate::block::block;
+use crate::keys::key_text;
+use crate::unread::Unread;
+use bac_explain::{Closed, Finding, TransactionKey};
+use bac_value::NoMemory;
+use std::alloc::{AllocError, Global};
+
+/// What there is to print of an APDU of a transaction.
+#[derive(Debug, Drop)]
+pub(crate) struct Hearing {
+    /// Its transaction.
+    pub key: TransactionKey,
+    /// A transaction that is over.
+    pub over: Option<Closed>,
+    /// The transaction that it closes.
+    pub closed: Option<Closed>,
+    /// What is wrong with it.
+    pub finding: Option<Finding>,
+}
+
+/// What there is to print of a frame.
+#[derive(Debug, Drop)]
+pub(crate) enum FrameReport {
+    Nothing,
+    /// It cannot be looked at.
+    Unread(Unread),
+    /// It has an APDU of a transaction.
+    Heard(Hearing),
+}
+
+fn unread_line(alloc: Global, number: u64, why: Unread) -> Result<Vec<u8>, AllocError>
+    ensures { IfOk result (λ t. t.items ≡ unread_line number why) }
+{
+    let text = format!(in alloc; "frame {number}: {why}\n")?;
+    Ok(text.into_bytes())
+}
+
+/// What is wrong with an APDU, in which frame and transaction.
+fn finding_line(
+    alloc: Global,
+    number: u64,
+    key: TransactionKey,
+    finding: Option<Finding>,
+) -> Result<Vec<u8>, AllocError>
+    ensures { IfOk result (λ t. t.items ≡ finding_line number (key_view key) finding) }
+{
+    let Some(finding) = finding else {
+        return Ok(Vec::new(alloc));
+    };
+    let key = key_text(alloc, key)?;
+    let text = format!(in alloc; "frame {number}: {finding}, {key}\n")?;
+    Ok(text.into_bytes())
+}
+
+fn optional_block(alloc: Global, closed: &Option<Closed>) -> Result<Vec<u8>, NoMemory>
+    ensures { IfOk result (λ t. IsOptionalBlock (option_map closed_view closed.now) t.items) }
+{
+    match closed {
+        Some(closed) => block(alloc, closed),
+        None => Ok(Vec::new(alloc)),
+    }
+}
+
+fn hearing_text(alloc: Global, number: u64, hearing: &Hearing) -> Result<Vec<u8>, NoMemory>
+    ensures { IfOk result (λ t. IsHearing number (hearing_view hearing.now) t.items) }
+{
+    let closed = optional_block(alloc, &hearing.closed)?;
+    let finding = finding_line(alloc, number, hearing.key, hearing.finding)?;
+    let mut text = optional_block(alloc, &hearing.over)?;
+    text.extend_from_slice(closed.as_slice())?;
+    text.extend_from_slice(finding.as_slice())?;
+    Ok(text)
+}
+
+/// What is printed of the frame of that number, from 1.
+pub(crate) fn report_text(
+    alloc: Global,
+    number: u64,
+    told: &FrameReport,
+) -> Result<Vec<u8>, NoMemory>
+    ensures { IfOk result (λ t. IsFrameReport number (report_view told.now) t.items) }
+{
+    match told {
+        FrameReport::Nothing => Ok(Vec::new(alloc)),
+        FrameReport::Unread(why) => Ok(unread_line(alloc, number, *why)?),
+        FrameReport::Heard(hearing) => hearing_text(alloc, number, hearing),
+    }
+}

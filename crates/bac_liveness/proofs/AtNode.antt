@@ -1,0 +1,300 @@
+-- Each ask ends, at its node.
+use Rattle.std.proofs.Common.{◌≡◌, ◌⊎◌, ℕ, suc, ◌+◌, ◌-◌, ◌<◌, Bool, true, false, List, [], ◌∷◌, ◌++◌, Option, Some, None, slice_get}
+use Rattle.std.proofs.Common.{if◌then◌else◌, nat_eq, refl, sym, ap, subst, inl, inr, ◌∙◌, arith}
+use Rattle.std.proofs.lemmas.Bool.Decides.{nat_tests}
+use Rattle.bac_service.specs.Services.{reads_reply}
+use Rattle.bac_protocol.specs.declared.times.TheConstants.{DEADLINE}
+use Rattle.bac_protocol.specs.Context.{Context}
+use Rattle.bac_protocol.specs.Service as machine
+use Rattle.bac_protocol.specs.Service.{Octets}
+use Rattle.bac_protocol.specs.Client as client
+use Rattle.bac_protocol.specs.Client.{ClientTransaction, Reaction, is_idle, is_expired, client_on_apdu, client_ticks}
+use Rattle.bac_protocol.specs.Client.Reaction.{Stays, Ends}
+use Rattle.bac_protocol.specs.Transaction.{Key, Rules}
+use Rattle.bac_protocol.specs.World.{Net, net_start}
+use Rattle.bac_protocol.specs.Claims as claims
+use Rattle.bac_protocol.proofs.SingleMoves.{reached_net}
+use Rattle.bac_liveness.proofs.Endings.{not_from_client}
+use Rattle.bac_slots.specs.Slots.{value_at, in_order, IsApart, IsDistinct}
+use Rattle.bac_transaction.specs.Keys.{PeerKey, peer_key_cmp, same_key}
+use Rattle.bac_transaction.specs.Sends.{Pairwise}
+use Rattle.bac_transaction.specs.Meanings as plain
+use Rattle.bac_transaction.specs.Meanings.{Finish, IsFinish, MeansEnding}
+use Rattle.bac_transaction.specs.Ends.{Client, TransactionSlot, ClientSlot, Ended, context_of, from_each, client_tick_ends}
+use Rattle.bac_transaction.specs.Ends.{requester_on_apdu_at, key_of, kept, ended_with}
+use Rattle.bac_transaction.specs.Ends.TransactionSlot.{Open, Closed}
+use Rattle.bac_world.specs.Node.{Node, Outcome, NodeTick, IsHeardBy, IsClientTurn}
+use Rattle.bac_world.specs.World.{World, WorldRun, Event, IsFresh, IsBounded, ask_of, peer_at, link_at}
+use Rattle.bac_transaction.proofs.KeyedSlots.{EachSlot, changed_value, value_changed, with_same, slot, decide_slot_key, apart_none, found_first, passed_first}
+use Rattle.bac_transaction.proofs.KeyedSlots.{distinct_in_order, each_in_order, found_in_order, each_at}
+use Rattle.bac_world.proofs.Bridge.{IsKnown, TicketFits, slot_key}
+use Rattle.bac_world.proofs.Bridge.{key_of as node_key}
+use Rattle.bac_world.proofs.Pairs.{IsSplit, pairwise_split, pairwise_none}
+use Rattle.bac_world.proofs.ClientTick.{client_tick}
+use Rattle.bac_world.proofs.Hearing.{ticket_at}
+use Rattle.bac_world.proofs.NodeLaws.{heard_as}
+use Rattle.bac_world.proofs.Steps.{Over}
+use Rattle.bac_liveness.specs.WorldEnds.{IsOpen, finishes_of, expired, HasFinish, HasTicketsApart, TickEnds, AnswerEnds, NodesAreInOrder}
+use Rattle.bac_world.proofs.Headline.{fresh_over, rules_of, rules_bounded}
+use Rattle.bac_liveness.proofs.WorldEndings.{opened, late_gets, tick_leaves, on_run}
+
+-- Lists of endings.
+
+finishes_join : (number : ℕ) (fs gs : List Finish) → finishes_of number (fs ++ gs) ≡ finishes_of number fs + finishes_of number gs
+finishes_join number [] gs = omega arith
+finishes_join number (f ∷ fs) gs = go (nat_eq f.ticket number) (finishes_join number fs gs)
+  where
+    go : (b : Bool) → finishes_of number (fs ++ gs) ≡ finishes_of number fs + finishes_of number gs
+        → (if b then suc (finishes_of number (fs ++ gs)) else finishes_of number (fs ++ gs))
+        ≡ (if b then suc (finishes_of number fs) else finishes_of number fs) + finishes_of number gs
+    go true e = omega (arith, e)
+    go false e = e
+
+has_left : (f : Finish) (fs gs : List Finish) → HasFinish f fs → HasFinish f (fs ++ gs)
+has_left f [] gs h = absurd h
+has_left f (g ∷ fs) gs (inl e) = inl e
+has_left f (g ∷ fs) gs (inr h) = inr (has_left f fs gs h)
+
+has_right : (f : Finish) (fs gs : List Finish) → HasFinish f gs → HasFinish f (fs ++ gs)
+has_right f [] gs h = h
+has_right f (g ∷ fs) gs h = inr (has_right f fs gs h)
+
+abbrev finish : ℕ → plain.Ending → Finish
+finish number how = record { ticket = number; how = how }
+
+-- what has ended as Expired
+pub record IsOnlyExpired (number : ℕ) (fs : List Finish) : Type 0 where
+  pub has : HasFinish (expired number) fs
+  pub once : finishes_of number fs ≡ 1
+
+only_expired : (number choice : ℕ) (fs : List Finish) → Pairwise IsFinish (ended_with number choice (Some machine.Ending.Expired)) fs → IsOnlyExpired number fs
+only_expired number choice [] h = absurd h
+only_expired number choice (f ∷ g ∷ fs) h = absurd h.1
+only_expired number choice (f ∷ []) h = record { has = inl (go f.how h.0.how); once = one (nat_eq f.ticket number) refl }
+  where
+    go : (how : plain.Ending) → MeansEnding choice machine.Ending.Expired how → finish f.ticket how ≡ expired number
+    go plain.Ending.Expired m = ap (λ (k : ℕ). finish k plain.Ending.Expired) h.0.ticket
+    go (plain.Ending.Answered p) m = absurd m
+    go (plain.Ending.Rejected a) m = absurd m
+    go (plain.Ending.Aborted a) m = absurd m
+    go plain.Ending.TimedOut m = absurd m
+
+    one : (b : Bool) → nat_eq f.ticket number ≡ b → (if b then suc 0 else 0) ≡ 1
+    one true e = refl
+    one false e = let same : f.ticket ≡ number = h.0.ticket in absurd (grind (arith, nat_tests))
+
+others_end : (number k choice : ℕ) (o : Option machine.Ending) (fs : List Finish) → (k ≡ number → ⊥) → Pairwise IsFinish (ended_with k choice o) fs
+    → finishes_of number fs ≡ 0
+others_end number k choice None [] ne h = refl
+others_end number k choice None (f ∷ fs) ne h = absurd h
+others_end number k choice (Some how) [] ne h = absurd h
+others_end number k choice (Some how) (f ∷ g ∷ fs) ne h = absurd h.1
+others_end number k choice (Some how) (f ∷ []) ne h = go (nat_eq f.ticket number) refl
+  where
+    go : (b : Bool) → nat_eq f.ticket number ≡ b → (if b then suc 0 else 0) ≡ 0
+    go false e = refl
+    go true e =
+        let same : f.ticket ≡ k = h.0.ticket in
+        let is : f.ticket ≡ number = grind (arith, nat_tests) in
+        absurd (ne (sym same ∙ is))
+
+-- A ticket that is too old.
+
+late_ticks : (c : Context) (t : ClientTransaction) → is_idle t.phase ≡ false → DEADLINE < c.now - t.ask.first → client_ticks c t ≡ Ends [] machine.Ending.Expired
+late_ticks c t going late =
+    ap (λ (b : Bool). if b then Stays else if is_expired c.now t.ask then Ends [] machine.Ending.Expired else client.open_ticks c t t.phase) going
+    ∙ ap (λ (b : Bool). if b then Ends [] machine.Ending.Expired else client.open_ticks c t t.phase) expires
+  where
+    expires : is_expired c.now t.ask ≡ true
+    expires = grind (arith, nat_tests)
+
+-- In a tick.
+
+module _ (now : ℕ) (old : Node) (apart : HasTicketsApart old) (key : PeerKey) (number : ℕ) (t : ClientTransaction) (there : IsOpen old key number t)
+    (late : DEADLINE < now - t.ask.first) where
+  abbrev ends : ClientSlot → List Ended
+  ends = client_tick_ends old.settings now
+
+  -- the slots of the client, each found at its key
+  abbrev Own : PeerKey → Client → Type 0
+  Own q v = value_at same_key q old.clients.slots ≡ Some v
+
+  -- another slot's ticket is another one
+  other_ends : (q : PeerKey) (begin k : ℕ) (y : TransactionSlot) (fs : List Finish) → (q ≡ key → ⊥) → Own q (record { number = k; held = y })
+      → Pairwise IsFinish (ends (slot Client q begin (record { number = k; held = y }))) fs → finishes_of number fs ≡ 0
+  other_ends q begin k (Closed first) fs ne own h = ap (finishes_of number) (pairwise_none IsFinish fs h)
+  other_ends q begin k (Open u) fs ne own h = others_end number k u.ask.choice (client.ending_of (client_ticks (context_of old.settings now q) u)) fs
+      (λ same. ne (apart.apart q key number u t
+      (own ∙ ap (λ (i : ℕ). Some (record { number = i; held = Open u })) same) there)) h
+
+  none_end : (os : List ClientSlot) → IsApart same_key key os → EachSlot Client Own os → (fs : List Finish) → Pairwise IsFinish (from_each ends os) fs
+      → finishes_of number fs ≡ 0
+  none_end [] away own fs h = ap (finishes_of number) (pairwise_none IsFinish fs h)
+  none_end (s ∷ os) away own fs h =
+      let d = pairwise_split IsFinish (ends s) (from_each ends os) fs h in
+      let ne : s.key ≡ key → ⊥ = λ is. (let no : Some s.value ≡ None = sym (found_first Client s.key s.begin s.value [])
+      ∙ ap (λ (q : PeerKey). value_at same_key q (s ∷ [])) is ∙ apart_none Client key (s ∷ []) (away.0, tt) in cc) in
+      let one = other_ends s.key s.begin s.value.number s.value.held d.front ne own.0 d.first in
+      let two = none_end os away.1 own.1 d.rest d.second in
+      ap (finishes_of number) d.is ∙ finishes_join number d.front d.rest ∙ (λ i. one i + two i)
+
+  own_ends : (begin : ℕ) (fs : List Finish) → Pairwise IsFinish (ends (slot Client key begin (record { number = number; held = Open t }))) fs
+      → IsOnlyExpired number fs
+  own_ends begin fs h = only_expired number t.ask.choice fs
+      (subst (λ (r : Reaction). Pairwise IsFinish (ended_with number t.ask.choice (client.ending_of r)) fs)
+      (late_ticks (context_of old.settings now key) t (apart.going key number t there) late) h)
+
+  one_ends : (os : List ClientSlot) → IsDistinct same_key os → EachSlot Client Own os
+      → value_at same_key key os ≡ Some (record { number = number; held = Open t })
+      → (fs : List Finish) → Pairwise IsFinish (from_each ends os) fs → IsOnlyExpired number fs
+  one_ends [] distinct own found fs h = absurd cc
+  one_ends (s ∷ os) distinct own found fs h =
+      go (decide_slot_key s.key key) (λ ne. one_ends os distinct.1 own.1 (sym (passed_first Client s.key key s.begin s.value os ne) ∙ found) d.rest d.second)
+    where
+      d : IsSplit IsFinish (ends s) (from_each ends os) fs
+      d = pairwise_split IsFinish (ends s) (from_each ends os) fs h
+
+      go : ((s.key ≡ key) ⊎ (s.key ≡ key → ⊥)) → ((s.key ≡ key → ⊥) → IsOnlyExpired number d.rest) → IsOnlyExpired number fs
+      go (inl is) again =
+          let value : s.value ≡ record { number = number; held = Open t } =
+          (let e : Some s.value ≡ Some (record { number = number; held = Open t }) =
+          sym (found_first Client s.key s.begin s.value os) ∙ ap (λ (q : PeerKey). value_at same_key q (s ∷ os)) is ∙ found in cc) in
+          let one = own_ends s.begin d.front (subst (λ (q : PeerKey).
+          Pairwise IsFinish (ends (slot Client q s.begin (record { number = number; held = Open t }))) d.front) is
+          (subst (λ (v : Client). Pairwise IsFinish (ends (slot Client s.key s.begin v)) d.front) value d.first)) in
+          let two = none_end os (subst (λ (q : PeerKey). IsApart same_key q os) is distinct.0) own.1 d.rest d.second in
+          record {
+            has = subst (λ (gs : List Finish). HasFinish (expired number) gs) (sym d.is) (has_left (expired number) d.front d.rest one.has);
+            once = ap (finishes_of number) d.is ∙ finishes_join number d.front d.rest ∙ (λ i. (one.once) i + two i);
+          }
+      go (inr ne) again =
+          let one = other_ends s.key s.begin s.value.number s.value.held d.front ne own.0 d.first in
+          let two = again ne in
+          record {
+            has = subst (λ (gs : List Finish). HasFinish (expired number) gs) (sym d.is) (has_right (expired number) d.front d.rest two.has);
+            once = ap (finishes_of number) d.is ∙ finishes_join number d.front d.rest ∙ (λ i. one i + (two.once) i);
+          }
+
+each_own : (slots : List ClientSlot) → IsDistinct same_key slots → EachSlot Client (λ q v. value_at same_key q slots ≡ Some v) slots
+each_own [] d = tt
+each_own (s ∷ slots) d = (found_first Client s.key s.begin s.value slots, rest slots d.0 (each_own slots d.1))
+  where
+    rest : (os : List ClientSlot) → IsApart same_key s.key os → EachSlot Client (λ q v. value_at same_key q slots ≡ Some v) os
+        → EachSlot Client (λ q v. value_at same_key q (s ∷ slots) ≡ Some v) os
+    rest [] away own = tt
+    rest (o ∷ os) away own = (
+      passed_first Client s.key o.key s.begin s.value slots (λ is. (let no : Some o.value ≡ None =
+          sym (found_first Client o.key o.begin o.value []) ∙ ap (λ (q : PeerKey). value_at same_key q (o ∷ [])) (sym is)
+          ∙ apart_none Client s.key (o ∷ []) (away.0, tt) in cc)) ∙ own.0,
+      rest os away.1 own.1,
+    )
+
+tick_closed : (now : ℕ) (old new : Node) (o : Outcome) → NodeTick now old new o → (key : PeerKey) (number : ℕ) (t : ClientTransaction) → IsOpen old key number t
+    → is_idle t.phase ≡ false → DEADLINE < now - t.ask.first
+    → value_at same_key key new.clients.slots ≡ Some (record { number = number; held = Closed t.ask.first })
+tick_closed now old new o tick key number t there going late =
+    ap (λ (n : Node). value_at same_key key n.clients.slots) tick.node
+    ∙ value_changed Client (client_tick old.settings now) key old.clients.slots
+    ∙ ap (changed_value Client (client_tick old.settings now) key) there
+    ∙ ap (λ (r : Reaction). Some (record { number = number; held = kept (client.after now t r) }))
+    (late_ticks (context_of old.settings now key) t going late)
+
+pub tick_ends : TickEnds
+tick_ends = record {
+  leaves = λ now old new o tick key number t is. tick_leaves now old new o tick key number t is;
+  ends = λ now old new o tick apart key number t there late.
+      let slots = in_order peer_key_cmp old.clients.slots in
+      let only = one_ends now old apart key number t there late slots (distinct_in_order Client old.clients.slots apart.keys.clients)
+      (each_in_order Client (λ q v. value_at same_key q old.clients.slots ≡ Some v) old.clients.slots (each_own old.clients.slots apart.keys.clients))
+      (found_in_order Client key old.clients.slots apart.keys.clients ∙ there) o.ended tick.ended in
+      record { has = only.has; once = only.once; closed = tick_closed now old new o tick key number t there (apart.going key number t there) late };
+}
+
+-- As an answer comes.
+
+pub answer_ends : AnswerEnds
+answer_ends now peer a old new o gets from apart number t there late = record { has = only.has; once = only.once; closed = closed }
+  where
+    going : is_idle t.phase ≡ false
+    going = apart.going (key_of peer a) number t there
+
+    turn : IsClientTurn (requester_on_apdu_at old.settings reads_reply now a old.clients (key_of peer a)
+        (Some (record { number = number; held = Open t }))) now old new o
+    turn = subst (λ (v : Option Client). IsClientTurn (requester_on_apdu_at old.settings reads_reply now a old.clients (key_of peer a) v) now old new o) there
+        (subst (λ (b : Bool). IsHeardBy b peer a now old new o) (not_from_client a from) (heard_as now peer a old new o gets))
+
+    reaction : client_on_apdu (context_of old.settings now (key_of peer a)) reads_reply t a ≡ Ends [] machine.Ending.Expired
+    reaction = late_gets reads_reply (context_of old.settings now (key_of peer a)) t a from going late
+
+    only : IsOnlyExpired number o.ended
+    only = only_expired number t.ask.choice o.ended
+        (subst (λ (r : Reaction). Pairwise IsFinish (ended_with number t.ask.choice (client.ending_of r)) o.ended) reaction turn.ended)
+
+    closed : value_at same_key (key_of peer a) new.clients.slots ≡ Some (record { number = number; held = Closed t.ask.first })
+    closed = ap (λ (n : Node). value_at same_key (key_of peer a) n.clients.slots) turn.node
+        ∙ with_same Client (key_of peer a) _ (record { number = number; held = Open t }) old.clients.slots there
+        ∙ ap (λ (r : Reaction). Some (record { number = number; held = kept (client.after now t r) })) reaction
+
+-- Nodes of a world that was reached.
+
+module _ (links : ℕ → Option Octets) (apart : (i j : ℕ) (l : Octets) → links i ≡ Some l → links j ≡ Some l → i ≡ j) (W : ℕ) (x : Rules)
+    (bound : claims.IsBounded W x) (w : World) (n : Net) (over : Over links apart W x w n) (i : ℕ) (a : Node) (at : slice_get w.nodes i ≡ Some a) where
+  pub record IsTicketOf (p : PeerKey) (number : ℕ) (t : ClientTransaction) : Type 0 where
+    pub server : ℕ
+    pub link : Octets
+    pub linked : links server ≡ Some link
+    pub peer : p.peer ≡ peer_at link
+    pub ticket : n.tickets (node_key i server p.invoke_id) ≡ Some t
+    pub number_is : ask_of i number w.notes ≡ Some (n.numbers (node_key i server p.invoke_id))
+    pub going : is_idle t.phase ≡ false
+
+  ticket_of : (p : PeerKey) (number : ℕ) (t : ClientTransaction) → IsOpen a p number t → IsTicketOf p number t
+  ticket_of p number t there =
+      let fits = (over.nodes i a at).clients in
+      let known = (each_at Client (λ q v. IsKnown links apart q × (v.number < a.clients.asked)) p (record { number = number; held = Open t }) a.clients.slots
+      fits.known there).0 in
+      let key_is : slot_key known.link p.invoke_id ≡ p = λ j. record { peer = sym known.peer j; invoke_id = p.invoke_id } in
+      let found : TicketFits (n.asks_from i) n.now w.notes i (n.numbers (node_key i known.node p.invoke_id)) (Some (record { number = number; held = Open t }))
+      (n.tickets (node_key i known.node p.invoke_id)) =
+      subst (λ (v : Option Client). TicketFits (n.asks_from i) n.now w.notes i (n.numbers (node_key i known.node p.invoke_id)) v
+      (n.tickets (node_key i known.node p.invoke_id))) (ap (λ (q : PeerKey). value_at same_key q a.clients.slots) key_is ∙ there)
+      (fits.found known.node known.link p.invoke_id known.at) in
+      let is = ticket_at (n.asks_from i) n.now w.notes i (n.numbers (node_key i known.node p.invoke_id)) number t
+      (n.tickets (node_key i known.node p.invoke_id)) found in
+      let held : TicketFits (n.asks_from i) n.now w.notes i (n.numbers (node_key i known.node p.invoke_id)) (Some (record { number = number; held = Open t })) (Some t) =
+      subst (λ (v : Option ClientTransaction). TicketFits (n.asks_from i) n.now w.notes i (n.numbers (node_key i known.node p.invoke_id))
+      (Some (record { number = number; held = Open t })) v) is.0 found in
+      record {
+        server = known.node;
+        link = known.link;
+        linked = known.at;
+        peer = known.peer;
+        ticket = is.0;
+        number_is = is.1;
+        going = (opened t t (sym held.held)).1;
+      }
+
+  pub tickets_apart : HasTicketsApart a
+  tickets_apart = record {
+    keys = record { clients = (over.nodes i a at).clients.distinct; servers = (over.nodes i a at).servers.distinct };
+    apart = λ p q number t u here there.
+        let one = ticket_of p number t here in
+        let two = ticket_of q number u there in
+        let numbers : n.numbers (node_key i one.server p.invoke_id) ≡ n.numbers (node_key i two.server q.invoke_id) =
+        (let e : Some (n.numbers (node_key i one.server p.invoke_id)) ≡ Some (n.numbers (node_key i two.server q.invoke_id)) =
+        sym one.number_is ∙ two.number_is in cc) in
+        let key = (reached_net W x bound n over.sound).apart (node_key i one.server p.invoke_id) (node_key i two.server q.invoke_id) t u
+        one.ticket two.ticket numbers in
+        let link : one.link ≡ two.link =
+        (let e : Some one.link ≡ Some two.link = sym one.linked ∙ ap (λ (k : Key). links k.server) key ∙ two.linked in cc) in
+        (λ j. record { peer = (one.peer ∙ ap peer_at link ∙ sym two.peer) j; invoke_id = (key j).invoke_id });
+    going = λ p number t there. (ticket_of p number t there).going;
+  }
+
+pub nodes_in_order : (W overtake : ℕ) (opening reached : World) → IsFresh opening → IsBounded W overtake opening
+    → (events : List Event) → WorldRun overtake opening events reached → NodesAreInOrder reached
+nodes_in_order W overtake opening reached fresh bounded events run i a at =
+    let x : Rules = rules_of overtake opening in
+    let bound = rules_bounded W overtake opening bounded in
+    let f = on_run (link_at opening.nodes) fresh.apart W x bound refl events opening reached net_start (fresh_over W overtake opening fresh bounded) run in
+    tickets_apart (link_at opening.nodes) fresh.apart W x bound reached f.net f.over i a at

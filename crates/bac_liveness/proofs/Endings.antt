@@ -1,0 +1,304 @@
+-- Each ask ends, once.
+use Rattle.std.proofs.Common.{◌≡◌, ℕ, zero, suc, ◌-◌, ◌<◌, ◌⊎◌, Bool, true, false, ◌||◌, not, List, [], ◌∷◌, Option, Some, None, if◌then◌else◌}
+use Rattle.std.proofs.Common.{nat_eq, nat_le, nat_lt, ◌+◌, ◌&&◌, refl, sym, ap, subst, inl, inr, ◌∙◌, arith}
+use Rattle.std.proofs.lemmas.Bool.Decides.{nat_tests}
+use Rattle.std.specs.List.{Contains}
+use Rattle.bac_apdu.specs.Apdu.{Apdu}
+use Rattle.bac_apdu.specs.Apdu.Apdu.{ConfirmedRequest, UnconfirmedRequest, SimpleAck, ComplexAck, SegmentAck, Error, Reject, Abort}
+use Rattle.bac_protocol.specs.declared.times.TheConstants.{DEADLINE, REST}
+use Rattle.bac_protocol.specs.Context.{Context}
+use Rattle.bac_protocol.specs.Service.{Ending}
+use Rattle.bac_protocol.specs.Service.Ending.{Expired}
+use Rattle.bac_protocol.specs.Wire.{is_from_client, is_from_server}
+use Rattle.bac_protocol.specs.Client as client
+use Rattle.bac_protocol.specs.Client.{Ask, Phase, ClientTransaction, is_idle, is_held, is_expired, ending_of}
+use Rattle.bac_protocol.specs.Client.Phase.{SegmentedRequest, AwaitConfirmation, SegmentedConf, Idle}
+use Rattle.bac_protocol.specs.Client.Reaction.{Stays, Ends}
+use Rattle.bac_protocol.specs.Log.{Fact, StoreModel, IsUnended, IsOrderly}
+use Rattle.bac_protocol.specs.Log.Fact.{Asked, Performed, Ended, Changed, Restarted}
+use Rattle.bac_protocol.specs.Transaction.{Key, Rules, client_context, ended}
+use Rattle.bac_protocol.specs.World.{Net, World, Event, is_held_since, is_id_held, happens, run, start, ticks_ticket, ticks_as_client, ticks_as_server}
+use Rattle.bac_protocol.specs.World.{takes_at_client, takes_at_server, arrives, delivered}
+use Rattle.bac_protocol.specs.World.Event.{Tick, Deliver}
+use Rattle.bac_protocol.specs.Claims.{IsBounded, ClientStays}
+use Rattle.bac_protocol.proofs.Dead.{ended_is_silent}
+use Rattle.bac_protocol.proofs.Nets.{sound_at}
+use Rattle.bac_protocol.proofs.Sound.{IsOpenIn}
+use Rattle.bac_protocol.proofs.Headline.{Kept, run_kept, event_kept, start_kept, net_log}
+use Rattle.bac_liveness.specs.Runs.{endings_of, IsOnItsWay}
+use Rattle.bac_liveness.specs.Ends.{EndsInTime, EndingsAreLogged}
+use Rattle.bac_liveness.proofs.Paths.{Step, Path, Any, Bounded, bounded_start, step_log, path_log, path_bounded, clients_path, servers_path, ticket_path}
+use Rattle.bac_liveness.proofs.Paths.{event_steps, run_steps}
+use Rattle.bac_liveness.proofs.Paths.Path.{Here, Then}
+use Rattle.bac_liveness.proofs.Changes.{HasEnded, ended_grows, IdleIsLogged, logged_path, stays_before, IsThere, there_step}
+
+-- A log in order has one ending of an ask that has ended.
+
+unended_none : (n : ℕ) (log : List Fact) → IsUnended n log → endings_of n log ≡ 0
+unended_none n [] h = refl
+unended_none n (Asked m c s r ∷ log) h = unended_none n log h
+unended_none n (Performed m r p ∷ log) h = unended_none n log h
+unended_none n (Changed s c ∷ log) h = unended_none n log h
+unended_none n (Restarted s o ∷ log) h = unended_none n log h
+unended_none n (Ended m how ∷ log) h =
+    let other : nat_eq m n ≡ false = go (nat_eq m n) refl in
+    ap (λ b. if b then suc (endings_of n log) else endings_of n log) other ∙ unended_none n log h.1
+  where
+    go : (b : Bool) → nat_eq m n ≡ b → b ≡ false
+    go true e = absurd (h.0 (grind (arith, nat_tests)))
+    go false e = refl
+
+pub ended_once : (n : ℕ) (log : List Fact) → IsOrderly log → HasEnded n log → endings_of n log ≡ 1
+ended_once n [] o h = absurd h.1
+ended_once n (Asked m c s r ∷ log) o (how, inl e) = absurd cc
+ended_once n (Asked m c s r ∷ log) o (how, inr k) = ended_once n log o.1 (how, k)
+ended_once n (Performed m r p ∷ log) o (how, inl e) = absurd cc
+ended_once n (Performed m r p ∷ log) o (how, inr k) = ended_once n log o.2 (how, k)
+ended_once n (Changed s c ∷ log) o (how, inl e) = absurd cc
+ended_once n (Changed s c ∷ log) o (how, inr k) = ended_once n log o (how, k)
+ended_once n (Restarted s q ∷ log) o (how, inl e) = absurd cc
+ended_once n (Restarted s q ∷ log) o (how, inr k) = ended_once n log o (how, k)
+ended_once n (Ended m other ∷ log) o (how, inl e) =
+    let same : m ≡ n = cc in
+    let is : nat_eq m n ≡ true = grind (arith, nat_tests) in
+    ap (λ b. if b then suc (endings_of n log) else endings_of n log) is
+    ∙ ap suc (unended_none n log (subst (λ (k : ℕ). IsUnended k log) same o.1))
+ended_once n (Ended m other ∷ log) o (how, inr k) = go (nat_eq m n) refl (ended_once n log o.2 (how, k))
+  where
+    go : (b : Bool) → nat_eq m n ≡ b → endings_of n log ≡ 1 → (if b then suc (endings_of n log) else endings_of n log) ≡ 1
+    go false e h = h
+    go true e h =
+        let same : m ≡ n = grind (arith, nat_tests) in
+        let none = unended_none n log (subst (λ (k : ℕ). IsUnended k log) same o.1) in
+        absurd (omega arith)
+
+open_unended : (n : ℕ) (log : List Fact) (phase : Phase) → is_idle phase ≡ false → IsOpenIn phase n log → IsUnended n log
+open_unended n log (SegmentedRequest out all_sent) e h = h
+open_unended n log AwaitConfirmation e h = h
+open_unended n log (SegmentedConf inc) e h = h
+open_unended n log Idle e h = absurd cc
+
+-- what comes from a server does not come from a client
+pub not_from_client : (a : Apdu) → is_from_server a ≡ true → is_from_client a ≡ false
+not_from_client (ConfirmedRequest limits i g choice o) e = absurd cc
+not_from_client (UnconfirmedRequest choice o) e = refl
+not_from_client (SimpleAck i choice) e = refl
+not_from_client (ComplexAck i g choice o) e = refl
+not_from_client (SegmentAck true i ack) e = refl
+not_from_client (SegmentAck false i ack) e = absurd cc
+not_from_client (Error i choice class code) e = refl
+not_from_client (Reject i r) e = refl
+not_from_client (Abort true i r) e = refl
+not_from_client (Abort false i r) e = absurd cc
+
+pub contains_tail : (k : Key) (keys : List Key) (key : Key) → Contains (k ∷ keys) key → (k ≡ key) ⊎ Contains keys key
+contains_tail k keys key (zero, lt, e) = inl e
+contains_tail k keys key (suc i, lt, e) = inr (i, omega arith, e)
+
+-- a copy on its way is delivered
+arrives_now : (S : Type 0) (shop : StoreModel S) (x : Rules) (w : World S) (key : Key) (a : Apdu) (number : ℕ) (free : Bool)
+    → IsOnItsWay x w.net key a number → happens S shop x w (Deliver number free) ≡ arrives S shop x w key free a
+arrives_now S shop x w key a number free m =
+    ap (delivered S shop x w number free) m.at
+    ∙ ap (λ b. if b then arrives S shop x w m.post.key free m.post.copy.apdu else w) m.arrives
+    ∙ (λ i. arrives S shop x w (m.key_is i) free (m.apdu_is i))
+
+-- to the server, where it is a client's
+pub request_now : (S : Type 0) (shop : StoreModel S) (x : Rules) (w : World S) (key : Key) (a : Apdu) (number : ℕ) (free : Bool)
+    → is_from_client a ≡ true → IsOnItsWay x w.net key a number
+    → happens S shop x w (Deliver number free) ≡ takes_at_server S shop x w key free a
+request_now S shop x w key a number free up m =
+    arrives_now S shop x w key a number free m
+    ∙ ap (λ b. if b then takes_at_server S shop x w key free a else takes_at_client S x w key a (w.net.tickets key)) up
+
+-- and otherwise to the client
+pub answer_now : (S : Type 0) (shop : StoreModel S) (x : Rules) (w : World S) (key : Key) (a : Apdu) (number : ℕ) (free : Bool)
+    → is_from_client a ≡ false → IsOnItsWay x w.net key a number
+    → happens S shop x w (Deliver number free) ≡ takes_at_client S x w key a (w.net.tickets key)
+answer_now S shop x w key a number free down m =
+    arrives_now S shop x w key a number free m
+    ∙ ap (λ b. if b then takes_at_server S shop x w key free a else takes_at_client S x w key a (w.net.tickets key)) down
+
+-- a ticket that holds its invoke ID no longer, where its client has not restarted since
+unheld : (n : Net) (key : Key) (t : ClientTransaction) → n.tickets key ≡ Some t → ClientStays n key t.ask → is_id_held n key ≡ false → is_held n.now t ≡ false
+unheld n key t at stays free = go (nat_lt n.now (n.asks_from key.client)) (sym free)
+  where
+    since : nat_le (n.asks_from key.client) (t.ask.first + REST) ≡ true
+    since = let le = stays in grind (arith, nat_tests)
+
+    go : (b : Bool) → false ≡ (b || is_held_since (n.asks_from key.client) n.now (n.tickets key)) → is_held n.now t ≡ false
+    go true h = absurd cc
+    go false h =
+        ap (λ (c : Bool). c && is_held n.now t) (sym since) ∙ ap (is_held_since (n.asks_from key.client) n.now) (sym at) ∙ sym h
+
+module _ (x : Rules) (key : Key) (number : ℕ) (ask : Ask) where
+  -- its ticket is there, or it has ended
+  abbrev pub Tracked : Net → Type 0
+  Tracked n = IsThere x Any key number ask n ⊎ HasEnded number n.log
+
+  tracked_step : (n m : Net) → Step x Any n m → ClientStays n key ask → IdleIsLogged n → Tracked n → Tracked m
+  tracked_step n m s stays logged (inr h) = inr (ended_grows number n.log m.log (step_log x Any n m s) h)
+  tracked_step n m s stays logged (inl h) = go (there_step x Any key number ask n m s h)
+    where
+      stays' : ClientStays n key h.ticket.ask
+      stays' = subst (ClientStays n key) (sym h.is) stays
+
+      go : (IsThere x Any key number ask m ⊎ (is_id_held n key ≡ false)) → Tracked m
+      go (inl k) = inl k
+      go (inr free) = inr (ended_grows number n.log m.log (step_log x Any n m s) (subst (λ (k : ℕ). HasEnded k n.log) h.number_is
+          ((logged key h.ticket h.at).1 stays' (ended_is_silent.unheld n.now h.ticket (unheld n key h.ticket h.at stays' free)))))
+
+  pub tracked_path : (n m : Net) → Path x Any n m → Bounded n → ClientStays m key ask → IdleIsLogged n → Tracked n → Tracked m
+  tracked_path n _ Here b stays logged h = h
+  tracked_path n _ (Then l m p s) b stays logged h =
+      let before = stays_before x Any l m s (path_bounded x Any n l p b) key ask stays in
+      tracked_step l m s before (logged_path x Any n l p b logged) (tracked_path n l p b before logged h)
+
+  -- past DEADLINE a client's step ends it
+  module _ (S : Type 0) (shop : StoreModel S) (w : World S) (stays : ClientStays w.net key ask) (logged : IdleIsLogged w.net)
+      (late : DEADLINE < w.net.now - ask.first) where
+    abbrev c : Context
+    c = client_context x key w.net.now
+
+    expired : (t : ClientTransaction) → t.ask ≡ ask → is_expired w.net.now t.ask ≡ true
+    expired t is = ap (is_expired w.net.now) is ∙ grind (arith, nat_tests)
+
+    own_log : IsThere x Any key number ask w.net → (o : Option Ending) → HasEnded number (ended number o w.net.log)
+        → HasEnded number (ended (w.net.numbers key) o w.net.log)
+    own_log h o e = subst (λ (k : ℕ). HasEnded number (ended k o w.net.log)) (sym h.number_is) e
+
+    idle_ended : (h : IsThere x Any key number ask w.net) → is_idle h.ticket.phase ≡ true → HasEnded number w.net.log
+    idle_ended h idle = subst (λ (k : ℕ). HasEnded k w.net.log) h.number_is
+        ((logged key h.ticket h.at).1 (subst (ClientStays w.net key) (sym h.is) stays) idle)
+
+    late_tick : Tracked w.net → HasEnded number (ticks_ticket S x w key (w.net.tickets key)).net.log
+    late_tick (inr h) = let u = ticks_ticket S x w key (w.net.tickets key) in
+        ended_grows number w.net.log u.net.log (path_log x Any w.net u.net (ticket_path x Any S shop w key (w.net.tickets key) refl)) h
+    late_tick (inl h) = subst (λ (o : Option ClientTransaction). HasEnded number (ticks_ticket S x w key o).net.log) (sym h.at)
+        (own_log h (ending_of (client.client_ticks c h.ticket)) (go (is_idle h.ticket.phase) refl (is_expired w.net.now h.ticket.ask) (expired h.ticket h.is)))
+      where
+        go : (b : Bool) → is_idle h.ticket.phase ≡ b → (d : Bool) → d ≡ true
+            → HasEnded number (ended number (ending_of (if b then Stays else if d then Ends [] Expired
+            else client.open_ticks c h.ticket h.ticket.phase)) w.net.log)
+        go true e d f = idle_ended h e
+        go false e true f = (Expired, inl refl)
+        go false e false f = absurd cc
+
+    late_answer : (a : Apdu) → is_from_server a ≡ true → IsThere x Any key number ask w.net
+        → HasEnded number (takes_at_client S x w key a (w.net.tickets key)).net.log
+    late_answer a from h = subst (λ (o : Option ClientTransaction). HasEnded number (takes_at_client S x w key a o).net.log) (sym h.at)
+        (own_log h (ending_of (client.client_on_apdu c x.readable h.ticket a))
+        (go (is_idle h.ticket.phase) refl (is_from_server a) from (is_expired w.net.now h.ticket.ask) (expired h.ticket h.is)))
+      where
+        go : (b : Bool) → is_idle h.ticket.phase ≡ b → (f : Bool) → f ≡ true → (d : Bool) → d ≡ true
+            → HasEnded number (ended number (ending_of (if b || not f then Stays else if d then Ends [] Expired
+            else client.open_on_apdu c x.readable h.ticket.ask h.ticket.phase a)) w.net.log)
+        go true e f g d i = idle_ended h e
+        go false e true g true i = (Expired, inl refl)
+        go false e true g false i = absurd cc
+        go false e false g d i = absurd cc
+
+-- On worlds: the keys before it tick, then its own, then the others.
+module _ (S : Type 0) (shop : StoreModel S) (x : Rules) (key : Key) (number : ℕ) (ask : Ask) where
+  still_now : (w : World S) (k : Key) (o : Option ClientTransaction) → (ticks_ticket S x w k o).net.now ≡ w.net.now
+  still_now w k None = refl
+  still_now w k (Some t) = refl
+
+  ticks_end : (keys : List Key) → Contains keys key → (w : World S) → Bounded w.net → ClientStays w.net key ask → IdleIsLogged w.net
+      → Tracked x key number ask w.net → DEADLINE < w.net.now - ask.first → HasEnded number (ticks_as_client S x keys w).net.log
+  ticks_end [] i w b stays logged t late = let lt = i.1 in absurd (omega arith)
+  ticks_end (k ∷ keys) i w b stays logged t late = go (contains_tail k keys key i) (ticks_end keys)
+    where
+      u : World S
+      u = ticks_ticket S x w k (w.net.tickets k)
+
+      on : Path x Any w.net u.net
+      on = ticket_path x Any S shop w k (w.net.tickets k) refl
+
+      stays_now : (o : Option ClientTransaction) → ClientStays (ticks_ticket S x w k o).net key ask
+      stays_now None = stays
+      stays_now (Some u) = stays
+
+      go : ((k ≡ key) ⊎ Contains keys key) → (Contains keys key → (v : World S) → Bounded v.net → ClientStays v.net key ask → IdleIsLogged v.net
+          → Tracked x key number ask v.net → DEADLINE < v.net.now - ask.first → HasEnded number (ticks_as_client S x keys v).net.log)
+          → HasEnded number (ticks_as_client S x keys u).net.log
+      go (inl is) rest = ended_grows number u.net.log (ticks_as_client S x keys u).net.log
+          (path_log x Any u.net (ticks_as_client S x keys u).net (clients_path x Any S shop keys u))
+          (subst (λ (j : Key). HasEnded number (ticks_ticket S x w j (w.net.tickets j)).net.log) (sym is)
+          (late_tick x key number ask S shop w stays logged late t))
+      go (inr j) rest = rest j u (path_bounded x Any w.net u.net on b) (stays_now (w.net.tickets k)) (logged_path x Any w.net u.net on b logged)
+          (tracked_path x key number ask w.net u.net on b (stays_now (w.net.tickets k)) logged t)
+          (subst (λ (m : ℕ). DEADLINE < m - ask.first) (sym (still_now w k (w.net.tickets k))) late)
+
+  tick_ends : (as_client as_server : List Key) → Contains as_client key → (w : World S) → Bounded w.net → ClientStays w.net key ask → IdleIsLogged w.net
+      → Tracked x key number ask w.net → DEADLINE < w.net.now - ask.first → HasEnded number (happens S shop x w (Tick as_client as_server)).net.log
+  tick_ends as_client as_server i w b stays logged t late =
+      let u = ticks_as_client S x as_client w in
+      ended_grows number u.net.log (ticks_as_server S shop x as_server u).net.log
+      (path_log x Any u.net (ticks_as_server S shop x as_server u).net (servers_path x Any S shop as_server u)) (ticks_end as_client i w b stays logged t late)
+
+  answer_ends_late : (at : ℕ) (free : Bool) (a : Apdu) → is_from_server a ≡ true → (w : World S) → ClientStays w.net key ask → IdleIsLogged w.net
+      → Tracked x key number ask w.net → DEADLINE < w.net.now - ask.first → IsOnItsWay x w.net key a at → HasEnded number (happens S shop x w (Deliver at free)).net.log
+  answer_ends_late at free a from w stays logged (inr h) late m =
+      let u = happens S shop x w (Deliver at free) in
+      ended_grows number w.net.log u.net.log (path_log x Any w.net u.net (event_steps x S shop w (Deliver at free))) h
+  answer_ends_late at free a from w stays logged (inl h) late m =
+      subst (λ (u : World S). HasEnded number u.net.log) (sym (answer_now S shop x w key a at free (not_from_client a from) m))
+      (late_answer x key number ask S shop w stays logged late a from h)
+
+-- In every run.
+module _ (S : Type 0) (shop : StoreModel S) (opening : ℕ → S) (W : ℕ) (x : Rules) (bound : IsBounded W x) where
+  pub bounded_in_run : (events : List Event) → Bounded (run S shop x events (start S opening)).net
+  bounded_in_run events =
+      path_bounded x Any (start S opening).net (run S shop x events (start S opening)).net (run_steps x S shop events (start S opening)) bounded_start
+
+  pub idle_in_run : (events : List Event) → IdleIsLogged (run S shop x events (start S opening)).net
+  idle_in_run events = logged_path x Any (start S opening).net (run S shop x events (start S opening)).net
+      (run_steps x S shop events (start S opening)) bounded_start (λ key t at. absurd cc)
+
+  once_after : (w : World S) → Kept S shop opening W x bound w → (e : Event) (n : ℕ) → HasEnded n (happens S shop x w e).net.log
+      → endings_of n (happens S shop x w e).net.log ≡ 1
+  once_after w s e n h =
+      let u = happens S shop x w e in
+      ended_once n u.net.log (net_log W u.net (event_kept S shop opening W x bound w s e).net).orderly h
+
+  ends_in_time : (w : World S) → Kept S shop opening W x bound w → Bounded w.net → IdleIsLogged w.net → EndsInTime S shop x w
+  ends_in_time w s b logged = record {
+    ticks = λ key t at events as_client as_server stays late there.
+        let v = run S shop x events w in
+        once_after v (run_kept S shop opening W x bound events w s) (Tick as_client as_server) (w.net.numbers key)
+        (tick_ends S shop x key (w.net.numbers key) t.ask as_client as_server there v
+        (path_bounded x Any w.net v.net (run_steps x S shop events w) b) stays (logged_on events) (tracked key t at events stays) late);
+    answers = λ key t at events number free a stays late from m.
+        let v = run S shop x events w in
+        once_after v (run_kept S shop opening W x bound events w s) (Deliver number free) (w.net.numbers key)
+        (answer_ends_late S shop x key (w.net.numbers key) t.ask number free a from v stays (logged_on events)
+        (tracked key t at events stays) late m);
+  }
+    where
+      logged_on : (events : List Event) → IdleIsLogged (run S shop x events w).net
+      logged_on events = logged_path x Any w.net (run S shop x events w).net (run_steps x S shop events w) b logged
+
+      tracked : (key : Key) (t : ClientTransaction) → w.net.tickets key ≡ Some t → (events : List Event)
+          → ClientStays (run S shop x events w).net key t.ask → Tracked x key (w.net.numbers key) t.ask (run S shop x events w).net
+      tracked key t at events stays = tracked_path x key (w.net.numbers key) t.ask w.net (run S shop x events w).net (run_steps x S shop events w) b
+          stays logged
+          (inl (record { ticket = t; at = at; is = refl; number_is = refl }))
+
+  pub all_end : (events : List Event) → EndsInTime S shop x (run S shop x events (start S opening))
+  all_end events = ends_in_time (run S shop x events (start S opening))
+      (run_kept S shop opening W x bound events (start S opening) (start_kept S shop opening W x bound)) (bounded_in_run events) (idle_in_run events)
+
+  pub endings_in_run : (events : List Event) → EndingsAreLogged (run S shop x events (start S opening)).net
+  endings_in_run events key t at stays = go (is_idle t.phase) refl
+    where
+      w : World S
+      w = run S shop x events (start S opening)
+
+      s : Kept S shop opening W x bound (run S shop x events (start S opening))
+      s = run_kept S shop opening W x bound events (start S opening) (start_kept S shop opening W x bound)
+
+      go : (b : Bool) → is_idle t.phase ≡ b → endings_of (w.net.numbers key) w.net.log ≡ (if b then 1 else 0)
+      go true e = ended_once (w.net.numbers key) w.net.log (net_log W w.net s.net).orderly ((idle_in_run events key t at).1 stays e)
+      go false e = unended_none (w.net.numbers key) w.net.log
+          (open_unended (w.net.numbers key) w.net.log t.phase e ((sound_at W w.net key (Some t) at s.net).2).unended)

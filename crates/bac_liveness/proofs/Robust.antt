@@ -1,0 +1,272 @@
+-- Repeats make an ask robust.
+use Rattle.std.proofs.Common.{◌≡◌, ℕ, ◌+◌, ◌-◌, ◌<◌, ◌≤◌, ◌⊎◌, Bool, true, false, List, [], ◌∷◌, ◌++◌, length, Option, Some, None, slice_get}
+use Rattle.std.proofs.Common.{if◌then◌else◌, refl, sym, ap, subst, inl, inr, ◌∙◌, arith}
+use Rattle.std.proofs.lemmas.Bool.Decides.{nat_tests}
+use Rattle.std.specs.List.{Contains}
+use Rattle.bac_apdu.specs.Apdu.{Apdu}
+use Rattle.bac_segment.specs.Pieces.{join}
+use Rattle.bac_protocol.specs.declared.times.TheConstants.{T_OUT, LIFE, KEEP}
+use Rattle.bac_protocol.specs.Service.{Octets, Reply}
+use Rattle.bac_protocol.specs.Service.Ending.{Answered}
+use Rattle.bac_protocol.specs.Client as client
+use Rattle.bac_protocol.specs.Client.{Ask, ClientTransaction, is_idle, request_of}
+use Rattle.bac_protocol.specs.Client.Phase.{AwaitConfirmation}
+use Rattle.bac_protocol.specs.Client.Reaction.{Repeats}
+use Rattle.bac_protocol.specs.Server.{ServerTransaction, is_live, is_none_live}
+use Rattle.bac_protocol.specs.Log.{Fact, Has, StoreModel}
+use Rattle.bac_protocol.specs.Log.Fact.{Asked, Performed, Ended}
+use Rattle.bac_protocol.specs.Transaction.{Key, Rules, client_context}
+use Rattle.bac_protocol.specs.World.{Net, World, Post, Event, is_deliverable, is_id_held, asked_at, ask_made}
+use Rattle.bac_protocol.specs.World.{happens, run, start, post_of, later, copies_of, service_of}
+use Rattle.bac_protocol.specs.World.Event.{MakeAsk, Deliver, Tick, Noise, Advance, Change, RestartClient, RestartServer}
+use Rattle.bac_protocol.specs.Claims.{IsBounded, ClientStays}
+use Rattle.bac_protocol.proofs.Alone.{one}
+use Rattle.bac_protocol.proofs.Asks.{IsSpent}
+use Rattle.bac_protocol.proofs.Facts.{Grows}
+use Rattle.bac_protocol.proofs.Nets.{NetSound}
+use Rattle.bac_protocol.proofs.Calm.{Calm, spent_free}
+use Rattle.bac_protocol.proofs.Headline.{Kept, run_kept, event_kept, start_kept}
+use Rattle.bac_protocol.proofs.Keys.{copy_at, set_same}
+use Rattle.bac_liveness.specs.Runs.{Throughout, IsOnItsWay}
+use Rattle.bac_liveness.specs.RoundTrip.{FitsInOne, CanPerform, HasPerformed, IsServed, request_to, answer_to}
+use Rattle.bac_liveness.specs.Repeats.{PATIENCE, FindsServer, IsAnswered, IsWaiting, IsSentAgain, IsRobust, RepeatsSuffice}
+use Rattle.bac_liveness.proofs.Paths.{some_is, ask_of, Gives, event_steps, run_steps, path_now, path_log, path_posts, run_path}
+use Rattle.bac_liveness.proofs.Paths.{Any}
+use Rattle.bac_liveness.proofs.RoundTrips.{room_is, trip}
+use Rattle.bac_liveness.proofs.Ticking.{tick_sends}
+use Rattle.bac_liveness.proofs.Waits.{IsFine, IsDoneFor, PatientOrOver, Waits, Finds, answered_grows, done_live, repeat_left}
+use Rattle.bac_liveness.proofs.Waits.{waits_path, got, of_map}
+
+pub at_end : (xs : List Post) (q : Post) → slice_get (xs ++ q ∷ []) (length xs) ≡ Some q
+at_end [] q = refl
+at_end (p ∷ xs) q = at_end xs q
+
+module _ (S : Type 0) (shop : StoreModel S) (x : Rules) (key : Key) (ask : Ask) (number : ℕ) (whole : ask.whole ≡ true) where
+  abbrev On : World S → Type 0
+  On w = Waits x key ask number w.net
+
+  abbrev Young : World S → Type 0
+  Young w = w.net.now < ask.first + PATIENCE
+
+  -- what is said of events is what is said of the steps that they are
+  finds_event : (w : World S) (e : Event) → FindsServer S shop x key ask w e → Gives x (Finds x key ask number) S shop w e
+  finds_event w (MakeAsk k choice b front rest) h = tt
+  finds_event w (Deliver i free) h = λ p at up arrives m none.
+      let f = h m none in
+      let same : p.key ≡ key = ap (λ (y : Post). y.key) (some_is p m.post (sym at ∙ m.at)) ∙ m.key_is in
+      (f.0, room_is w key free (f.1).slot (f.1).serving, ap (λ (k : Key). service_of S shop w k ask.choice (join ask.pieces)) same ∙ (f.1).outcome, f.2)
+  finds_event w (Tick as_client as_server) h = tt
+  finds_event w Noise h = tt
+  finds_event w (Advance by) h = tt
+  finds_event w (Change node change) h = tt
+  finds_event w (RestartClient node) h = tt
+  finds_event w (RestartServer node store) h = tt
+
+  finds_run : (events : List Event) (w : World S) → Throughout S shop x (FindsServer S shop x key ask) events w
+      → Throughout S shop x (Gives x (Finds x key ask number) S shop) events w
+  finds_run [] w h = tt
+  finds_run (e ∷ es) w h = (finds_event w e h.0, finds_run es (happens S shop x w e) h.1)
+
+  run_on : (events : List Event) (w : World S) → Throughout S shop x (FindsServer S shop x key ask) events w → On w → Young (run S shop x events w)
+      → On (run S shop x events w)
+  run_on events w served h young = waits_path x key ask number whole w.net (run S shop x events w).net
+      (run_path x (Finds x key ask number) S shop events w (finds_run events w served)) h young
+
+  event_on : (w : World S) (e : Event) → FindsServer S shop x key ask w e → On w → Young (happens S shop x w e) → On (happens S shop x w e)
+  event_on w e served h young = run_on (e ∷ []) w (served, tt) h young
+
+  split : (before : List Event) (e : Event) (between : List Event) (w : World S)
+      → Throughout S shop x (FindsServer S shop x key ask) (before ++ e ∷ between) w
+      → Throughout S shop x (FindsServer S shop x key ask) before w
+      × FindsServer S shop x key ask (run S shop x before w) e
+      × Throughout S shop x (FindsServer S shop x key ask) between (happens S shop x (run S shop x before w) e)
+  split [] e between w h = (tt, h.0, h.1)
+  split (f ∷ before) e between w h = let r = split before e between (happens S shop x w f) h.1 in ((h.0, r.0), r.1, r.2)
+
+  waiting_of : (w : World S) → ClientStays w.net key ask → On w → IsWaiting w.net key ask ⊎ IsAnswered number ask w.net.log
+  waiting_of w stays h = go h.ticket.state
+    where
+      go : PatientOrOver x key ask number (w.net.asks_from key.client) w.net.now h.ticket.ticket w.net.log
+          → IsWaiting w.net key ask ⊎ IsAnswered number ask w.net.log
+      go (inl p) = inl (record { ticket = h.ticket.ticket; at = h.ticket.at; ask_is = h.ticket.is; waits = p.waits })
+      go (inr (idle, inl answered)) = inr answered
+      go (inr (idle, inr lost)) = absurd (omega arith)
+
+  -- a tick that is due
+  sent_again : (v : World S) → On v → Young v → (t : ClientTransaction) → v.net.tickets key ≡ Some t → t.phase ≡ AwaitConfirmation → T_OUT ≤ v.net.now - t.since
+      → (as_client as_server : List Key) → Contains as_client key
+      → IsSentAgain x key ask t v.net (happens S shop x v (Tick as_client as_server)).net
+  sent_again v h young t at awaits due as_client as_server i =
+      go (subst (λ (y : ClientTransaction). PatientOrOver x key ask number (v.net.asks_from key.client) v.net.now y v.net.log) same h.ticket.state)
+    where
+      same : h.ticket.ticket ≡ t
+      same = some_is h.ticket.ticket t (sym h.ticket.at ∙ at)
+
+      go : PatientOrOver x key ask number (v.net.asks_from key.client) v.net.now t v.net.log
+          → IsSentAgain x key ask t v.net (happens S shop x v (Tick as_client as_server)).net
+      go (inr o) = absurd (let z = sym o.0 ∙ ap is_idle awaits in cc)
+      go (inl w) =
+          let sends = tick_sends S shop x key ask number whole v t as_client as_server at
+          (subst (λ (y : ClientTransaction). y.ask ≡ ask) same h.ticket.is) w young due h.entry i in
+          record { left = repeat_left x key ask number v.net.now t w young due; sent = sends.copies_are; ticket = sends.ticket }
+
+  -- where a copy of the request and the answer that it brings get through
+  module _ (opening : ℕ → S) (W : ℕ) (bound : IsBounded W x) where
+    record Brings (v u : World S) : Type 0 where
+      reply : Reply
+      served : IsServed S shop x key ask reply v u
+
+    brings : (v : World S) → Kept S shop opening W x bound v → On v → Young v → (i : ℕ) (free : Bool) → IsOnItsWay x v.net key (request_to x key ask) i
+        → FindsServer S shop x key ask v (Deliver i free) → Brings v (happens S shop x v (Deliver i free))
+    brings v s h young i free m finds = go h.entry
+      where
+        is : h.ticket.ticket.ask ≡ ask
+        is = h.ticket.is
+
+        served : (p : Reply) → FitsInOne x key ask p → CanPerform S shop v key ask free p ⊎ HasPerformed x v.net key ask (Some (join ask.pieces)) p
+            → Brings v (happens S shop x v (Deliver i free))
+        served p fits can = record {
+          reply = p;
+          served = subst (λ (k : Ask). IsServed S shop x key k p v (happens S shop x v (Deliver i free))) is
+              (trip S shop opening W x bound v s key h.ticket.ticket h.ticket.at p (subst (λ (k : Ask). FitsInOne x key k p) (sym is) fits)
+              (ap (λ (k : Ask). k.whole) is ∙ whole) free
+              (subst (λ (k : Ask). CanPerform S shop v key k free p ⊎ HasPerformed x v.net key k (Some (join k.pieces)) p) (sym is) can) i
+              (subst (λ (k : Ask). IsOnItsWay x v.net key (request_to x key k) i) (sym is) m));
+        }
+
+        go : (is_none_live v.net.now (v.net.entries key) ≡ true) ⊎ IsDoneFor x key ask number (v.net.entries key) v.net.log
+            → Brings v (happens S shop x v (Deliver i free))
+        go (inl none) = let f = finds m none in served f.0 f.2 (inl f.1)
+        go (inr d) = served d.reply d.given.0
+            (inr (record { entry = d.entry; at = d.at; live = done_live x key ask number v.net young d; request_is = d.request; state = d.state }))
+
+    through : (v : World S) → Kept S shop opening W x bound v → On v → Young v → (i : ℕ) (free : Bool) → IsOnItsWay x v.net key (request_to x key ask) i
+        → FindsServer S shop x key ask v (Deliver i free) → (between : List Event) (answer : Apdu) (other : Bool)
+        → (let u = run S shop x between (happens S shop x v (Deliver i free)) in
+        On u → ClientStays u.net key ask → Young u → IsOnItsWay x u.net key answer (length v.net.posts)
+        → IsAnswered number ask (happens S shop x u (Deliver (length v.net.posts) other)).net.log)
+    through v s h young i free m finds between answer other on stays young_u m_u = go on.ticket.state
+      where
+        b : World S
+        b = happens S shop x v (Deliver i free)
+
+        u : World S
+        u = run S shop x between (happens S shop x v (Deliver i free))
+
+        z : World S
+        z = happens S shop x (run S shop x between (happens S shop x v (Deliver i free))) (Deliver (length v.net.posts) other)
+
+        r : Brings v (happens S shop x v (Deliver i free))
+        r = brings v s h young i free m finds
+
+        post : Post
+        post = post_of key v.net.now (answer_to x key ask r.reply)
+
+        in_b : slice_get b.net.posts (length v.net.posts) ≡ Some post
+        in_b = ap (λ (ps : List Post). slice_get ps (length v.net.posts)) (r.served).sent ∙ at_end v.net.posts post
+
+        in_u : slice_get u.net.posts (length v.net.posts) ≡ Some post
+        in_u = path_posts x Any b.net u.net (run_steps x S shop between b) (length v.net.posts) post in_b
+
+        arrives : is_deliverable x u.net.now (length v.net.posts) u.net.posts post ≡ true
+        arrives = subst (λ (q : Post). is_deliverable x u.net.now (length v.net.posts) u.net.posts q ≡ true)
+            (some_is m_u.post post (sym m_u.at ∙ in_u)) m_u.arrives
+
+        grown : Grows u.net.log z.net.log
+        grown = path_log x Any u.net z.net (event_steps x S shop u (Deliver (length v.net.posts) other))
+
+        performed : Has (Performed number (request_of ask) r.reply) z.net.log
+        performed = grown (Performed number (request_of ask) r.reply)
+            (path_log x Any b.net u.net (run_steps x S shop between b) (Performed number (request_of ask) r.reply)
+            (subst (λ (k : ℕ). Has (Performed k (request_of ask) r.reply) b.net.log) h.number_is (r.served).performed))
+
+        go : PatientOrOver x key ask number (u.net.asks_from key.client) u.net.now on.ticket.ticket u.net.log → IsAnswered number ask z.net.log
+        go (inr (idle, inl answered)) = answered_grows x key ask number u.net.log z.net.log grown answered
+        go (inr (idle, inr lost)) = absurd (omega arith)
+        go (inl p) =
+            let now = (r.served).answered between
+            (record { ticket = on.ticket.ticket; at = on.ticket.at; going = ap is_idle p.waits; in_time = omega arith }) (length v.net.posts)
+            (record { post = post; at = in_u; key_is = refl; apdu_is = refl; arrives = arrives }) other in (
+              r.reply,
+              performed,
+              subst (λ (l : List Fact). Has (Ended number (Answered r.reply)) l)
+                  (sym (now.log ∙ ap (λ (k : ℕ). Ended k (Answered r.reply) ∷ u.net.log) h.number_is)) (inl refl),
+            )
+
+    robust : (w : World S) → Kept S shop opening W x bound w → On w → IsRobust S shop x key ask number w
+    robust w s h = record {
+      waits = λ events served stays young. waiting_of (run S shop x events w) stays (run_on events w served h young);
+      repeats = λ events as_client as_server served young t at awaits due there.
+          sent_again (run S shop x events w) (run_on events w served h young) young t at awaits due as_client as_server there;
+      answered = λ before between i free other answer served stays young m m_u.
+          let sp = split before (Deliver i free) between w served in
+          let v = run S shop x before w in
+          let b = happens S shop x v (Deliver i free) in
+          let u = run S shop x between b in
+          let le = path_now x Any b.net u.net (run_steps x S shop between b) in
+          let first = path_now x Any v.net b.net (event_steps x S shop v (Deliver i free)) in
+          let on_v = run_on before w sp.0 h (omega arith) in
+          through v (run_kept S shop opening W x bound before w s) on_v (omega arith) i free m sp.1 between answer other
+          (run_on between b sp.2 (event_on v (Deliver i free) sp.1 on_v (omega arith)) young) stays young m_u;
+    }
+
+-- An ask is made.
+pub asked_on : (W : ℕ) (x : Rules) (n : Net) → NetSound W n → (key : Key) (choice : ℕ) (front : Octets) (rest : List Octets)
+    → Calm n → is_id_held n key ≡ false
+    → Waits x key (ask_of n.now choice true front rest) n.asks (asked_at x n key (ask_of n.now choice true front rest))
+asked_on W x n s key choice front rest calm free = record {
+  clock = omega arith;
+  entry = inl (none_live (n.entries key) (λ e at. spent.dead e at));
+  posts = λ i q at is young. posts i q at is young (got n.posts (post_of key n.now (request_to x key ask) ∷ []) i q at);
+  ticket = record {
+    ticket = client.asked_ticket (client_context x key n.now) ask;
+    at = set_same n.tickets key (Some (client.asked_ticket (client_context x key n.now) ask));
+    is = refl;
+    state = inl (record { waits = refl; few = omega arith; since = omega arith; passed = omega arith });
+  };
+  number_is = set_same n.numbers key n.asks;
+}
+  where
+    ask : Ask
+    ask = ask_of n.now choice true front rest
+
+    spent : IsSpent (one n key)
+    spent = spent_free W n s calm key free
+
+    none_live : (o : Option ServerTransaction) → ((e : ServerTransaction) → o ≡ Some e → e.begin + KEEP < n.now) → is_none_live n.now o ≡ true
+    none_live None d = refl
+    none_live (Some e) d =
+        let lt = d e refl in let dead : is_live n.now e ≡ false = grind (arith, nat_tests) in ap (λ b. if b then false else true) dead
+
+    old : (i : ℕ) (q : Post) → slice_get n.posts i ≡ Some q → q.key ≡ key → n.now - q.copy.moment ≤ LIFE → ⊥
+    old i q at is young = spent.old (later q.key i n.posts) q.copy
+        (subst (λ (k : Key). slice_get (copies_of k n.posts) (later q.key i n.posts) ≡ Some q.copy) is (copy_at i n.posts q at)) young
+
+    asked_log : List Fact
+    asked_log = Asked n.asks key.client key.server (request_of ask) ∷ n.log
+
+    posts : (i : ℕ) (q : Post) → slice_get (n.posts ++ post_of key n.now (request_to x key ask) ∷ []) i ≡ Some q → q.key ≡ key
+        → n.now - q.copy.moment ≤ LIFE
+        → (slice_get n.posts i ≡ Some q) ⊎ ((j : ℕ) × (slice_get (post_of key n.now (request_to x key ask) ∷ []) j ≡ Some q))
+        → IsFine x key ask n.asks asked_log q.copy.apdu
+    posts i q at is young (inl was) = absurd (old i q was is young)
+    posts i q at is young (inr new) =
+        of_map (IsFine x key ask n.asks asked_log) key n.now (request_to x key ask ∷ []) (inl refl, tt) new.0 q new.1
+
+module _ (S : Type 0) (shop : StoreModel S) (opening : ℕ → S) (W : ℕ) (x : Rules) (bound : IsBounded W x) where
+  repeats_suffice : (w : World S) → Kept S shop opening W x bound w → RepeatsSuffice S shop x w
+  repeats_suffice w s key choice front rest free =
+      subst (λ (u : World S). IsRobust S shop x key ask w.net.asks u) (sym path)
+      (robust S shop x key ask w.net.asks refl opening W bound (ask_made S x w key ask)
+      (subst (λ (u : World S). Kept S shop opening W x bound u) path (event_kept S shop opening W x bound w s (MakeAsk key choice true front rest)))
+      (asked_on W x w.net s.net key choice front rest s.calm free))
+    where
+      ask : Ask
+      ask = ask_of w.net.now choice true front rest
+
+      path : happens S shop x w (MakeAsk key choice true front rest) ≡ ask_made S x w key ask
+      path = ap (λ b. if b then w else ask_made S x w key ask) free
+
+  pub all_repeats_suffice : (events : List Event) → RepeatsSuffice S shop x (run S shop x events (start S opening))
+  all_repeats_suffice events = repeats_suffice (run S shop x events (start S opening))
+      (run_kept S shop opening W x bound events (start S opening) (start_kept S shop opening W x bound))

@@ -1,0 +1,346 @@
+-- Runs that are computed.
+use Rattle.std.proofs.Common.{◌≡◌, ℕ, zero, suc, List, [], ◌∷◌, Some, None, slice_get, refl, sym, ap, subst, inr, ◌≢◌, IsTrue, true, not, nat_lt, arith}
+use Rattle.std.proofs.lemmas.Bool.Decides.{nat_tests}
+use Rattle.bac_apdu.specs.Apdu.{Apdu}
+use Rattle.bac_apdu.specs.Spelling.{SpellsApdu, apdu_fits, apdu_spelling}
+use Rattle.bac_npdu.specs.Datagram.{Means}
+use Rattle.bac_service.specs.Services.{reads_reply}
+use Rattle.bac_service.proofs.Wholes.{request_again}
+use Rattle.bac_protocol.specs.Context.{Context}
+use Rattle.bac_protocol.specs.Short.{IsShort}
+use Rattle.bac_protocol.specs.Server as server
+use Rattle.bac_protocol.specs.Server.{performs_so, begins}
+use Rattle.bac_protocol.specs.Service as machine
+use Rattle.bac_transaction.specs.Keys.{PeerKey}
+use Rattle.bac_transaction.specs.Meanings.Ending.{Answered, Expired}
+use Rattle.bac_transaction.specs.Ends.{requester_tick, responder_tick, context_of, server_goes, requester_on_apdu}
+use Rattle.bac_transaction.specs.Services.{service_of, outcome_by}
+use Rattle.bac_world.specs.Node.{Node, Outcome, IsServerTurn}
+use Rattle.bac_world.specs.Once.Fact.{Performed, Ended}
+use Rattle.bac_world.specs.World.{World, Copy, Hears, Ticks, IsCopied, link_at, peer_at, transaction_of}
+use Rattle.bac_world.specs.Examples.{REQUEST, REPLY, STORE, ASKED}
+use Rattle.bac_world.specs.AnsweredRun.{LIMITS, SETTINGS, LOG, link, node}
+use Rattle.bac_world.proofs.Answered.{SERVICE_DATA, ASK, ANSWER, apart, spelled, datagram, ASKED_NODE, copy, NOTES, SECOND, THIRD, LAST}
+use Rattle.bac_world.proofs.Answered.{ask_fits, ask_short, sent, means, others_first, asked}
+use Rattle.bac_world.proofs.Answered.{request_delivered, answer_delivered}
+use Rattle.bac_liveness.specs.WorldRoundTrip.{CanPerform, IsRequest}
+use Rattle.bac_liveness.specs.WorldExamples.{LateTick, LateAnswer, OneRoundTrip, SecondSending}
+
+-- node 0 after a tick at that moment
+abbrev ticked_node : ℕ → Node
+ticked_node now =
+    record (ASKED_NODE) {
+      latest = now;
+      clients = (requester_tick SETTINGS now ASKED_NODE.clients).end;
+      servers = (responder_tick SETTINGS now ASKED_NODE.servers).end;
+    }
+
+-- A tick at 60,001.
+
+abbrev LATE : World
+LATE = record (SECOND) { now = 60001 }
+
+abbrev EXPIRED : World
+EXPIRED = record { nodes = ticked_node 60001 ∷ node 1 ∷ []; now = 60001; copies = SECOND.copies; log = Ended 0 Expired ∷ ASKED; notes = NOTES }
+
+abbrev EXPIRES : Outcome
+EXPIRES = record { sends = []; performed = None; ended = record { ticket = 0; how = Expired } ∷ []; dropped = None }
+
+expires : Ticks LATE 0 EXPIRED
+expires = record {
+  before = ASKED_NODE;
+  at = refl;
+  after = ticked_node 60001;
+  outcome = EXPIRES;
+  tick = record { node = refl; sends = tt; ended = (record { ticket = refl; how = tt }, tt); performed = refl; dropped = refl };
+  acts = record {
+    nodes = record { here = refl; others = others_first (ticked_node 60001) ASKED_NODE (node 1) };
+    now = refl;
+    notes = refl;
+    sent = [];
+    copies = refl;
+    copied = tt;
+    between = Ended 0 Expired ∷ ASKED;
+    ended = (0, refl, refl);
+    logged = refl;
+  };
+}
+
+pub late_tick : LateTick
+late_tick = record {
+  second = SECOND;
+  asks = asked;
+  late = LATE;
+  waits = (LATE, refl, refl);
+  passed = omega arith;
+  before = refl;
+  ticked = EXPIRED;
+  ticks = expires;
+  after = refl;
+}
+
+-- A round trip.
+
+-- no moment is before 0
+awake : (now : ℕ) → not (nat_lt now 0) ≡ true
+awake now = grind (arith, nat_tests)
+
+performs : (now : ℕ) → CanPerform now (node 0) (node 1) 0 REQUEST
+performs now = record { none = refl; slot = awake now; reply = machine.Reply.Error 1 31; outcome = refl; way = refl }
+
+is_first : (c : Copy) → c.key ≡ (copy 0 1 ASK).key → c.octets ≡ (copy 0 1 ASK).octets → IsRequest (copy 0 1 ASK ∷ []) c
+is_first c key octets = record { first = copy 0 1 ASK; is = refl; key = key; octets = octets }
+
+pub one_round_trip : OneRoundTrip
+one_round_trip = record {
+  second = SECOND;
+  asks = asked;
+  whole = refl;
+  unended = refl;
+  copy = copy 0 1 ASK;
+  request = record { at = refl; arrives = refl };
+  is_one = is_first (copy 0 1 ASK) refl refl;
+  server = node 1;
+  at = refl;
+  performs = performs 0;
+  third = THIRD;
+  performed = request_delivered;
+  still = refl;
+  answer = copy 1 0 ANSWER;
+  comes = record { at = refl; arrives = refl };
+  last = LAST;
+  answered = answer_delivered;
+  log = refl;
+}
+
+-- A second sending.
+
+abbrev LATER : World
+LATER = record (SECOND) { now = 3000 }
+
+abbrev SECOND_COPY : Copy
+SECOND_COPY = record (copy 0 1 ASK) { moment = 3000 }
+
+abbrev AGAIN : World
+AGAIN = record { nodes = ticked_node 3000 ∷ node 1 ∷ []; now = 3000; copies = copy 0 1 ASK ∷ SECOND_COPY ∷ []; log = ASKED; notes = NOTES }
+
+answer_fits : IsTrue (apdu_fits ANSWER)
+unfolding apdu_fits
+answer_fits = refl
+
+answer_short : IsShort ANSWER
+unfolding apdu_spelling
+answer_short = omega arith
+
+ask_means : Means SpellsApdu (link 0) (datagram (link 1) ASK).octets (peer_at (link 0)) ASK
+ask_means = means (link 0) (link 1) ASK ask_fits ask_short
+
+answer_means : Means SpellsApdu (link 1) (datagram (link 0) ANSWER).octets (peer_at (link 1)) ANSWER
+answer_means = means (link 1) (link 0) ANSWER answer_fits answer_short
+
+-- what node i sends to node j at 3,000 becomes a copy
+copied : (nodes : List Node) (i j : ℕ) (a : Apdu) → link_at nodes i ≡ Some (link i) → link_at nodes j ≡ Some (link j)
+    → (copy i j a).key ≡ transaction_of i j a → Means SpellsApdu (link i) (datagram (link j) a).octets (peer_at (link i)) a
+    → IsCopied nodes 3000 i (datagram (link j) a) (record (copy i j a) { moment = 3000 })
+copied nodes i j a sender receiver key means = record {
+  moment = refl;
+  from = refl;
+  to = receiver;
+  octets = refl;
+  transaction = record { link = link i; sender = sender; peer = peer_at (link i); apdu = a; means = means; key = key };
+}
+
+sends_again : Ticks LATER 0 AGAIN
+sends_again = record {
+  before = ASKED_NODE;
+  at = refl;
+  after = ticked_node 3000;
+  outcome = record { sends = datagram (link 1) ASK ∷ []; performed = None; ended = []; dropped = None };
+  tick = record { node = refl; sends = (sent (link 1) ASK ask_fits ask_short, tt); ended = tt; performed = refl; dropped = refl };
+  acts = record {
+    nodes = record { here = refl; others = others_first (ticked_node 3000) ASKED_NODE (node 1) };
+    now = refl;
+    notes = refl;
+    sent = SECOND_COPY ∷ [];
+    copies = refl;
+    copied = (copied LATER.nodes 0 1 ASK refl refl refl ask_means, tt);
+    between = ASKED;
+    ended = refl;
+    logged = refl;
+  };
+}
+
+others_second : {A : Type 0} (a b c : A) (j : ℕ) → j ≢ 1 → slice_get (c ∷ a ∷ []) j ≡ slice_get (c ∷ b ∷ []) j
+others_second a b c zero ne = refl
+others_second a b c (suc zero) ne = absurd (ne refl)
+others_second a b c (suc (suc j)) ne = refl
+
+abbrev CLIENT_KEY : PeerKey
+CLIENT_KEY = record { peer = peer_at (link 0); invoke_id = 0 }
+
+abbrev CONTEXT : Context
+CONTEXT = context_of SETTINGS 3000 CLIENT_KEY
+
+abbrev done_by : machine.Outcome → server.Reaction
+done_by o = performs_so CONTEXT (begins CONTEXT 12 LIMITS (Some SERVICE_DATA)) [] SERVICE_DATA o
+
+abbrev REPLIES : machine.Outcome
+REPLIES = machine.Outcome.Replies (machine.Reply.Error 1 31)
+
+says : service_of STORE 12 SERVICE_DATA ≡ REPLIES
+says = ap (outcome_by STORE) (request_again 12 SERVICE_DATA REQUEST spelled)
+
+abbrev SERVED_NODE : Node
+SERVED_NODE = record (node 1) { latest = 3000; servers = (server_goes 3000 (node 1).servers CLIENT_KEY (done_by REPLIES)).end }
+
+abbrev SERVED_OUTCOME : Outcome
+SERVED_OUTCOME = record {
+  sends = datagram (link 0) ANSWER ∷ [];
+  performed = Some (record { key = CLIENT_KEY; request = REQUEST; reply = REPLY });
+  ended = [];
+  dropped = None;
+}
+
+abbrev ServerTurn : machine.Outcome → Type 0
+ServerTurn o = IsServerTurn (server_goes 3000 (node 1).servers CLIENT_KEY (done_by o)) 3000 (node 1) SERVED_NODE SERVED_OUTCOME
+
+turn : ServerTurn REPLIES
+turn = record {
+  node = refl;
+  sends = (sent (link 0) ANSWER answer_fits answer_short, tt);
+  ended = refl;
+  performed = record { key = refl; what = record { request = spelled; reply = refl; means = (refl, refl) } };
+  dropped = refl;
+}
+
+abbrev ANSWER_COPY : Copy
+ANSWER_COPY = record (copy 1 0 ANSWER) { moment = 3000 }
+
+abbrev SERVED : World
+SERVED = record {
+  nodes = ticked_node 3000 ∷ SERVED_NODE ∷ [];
+  now = 3000;
+  copies = copy 0 1 ASK ∷ SECOND_COPY ∷ ANSWER_COPY ∷ [];
+  log = Performed 0 REQUEST REPLY ∷ ASKED;
+  notes = NOTES;
+}
+
+serves : Hears AGAIN 1 (link 0) SECOND_COPY.octets SERVED
+serves = record {
+  before = node 1;
+  at = refl;
+  after = SERVED_NODE;
+  outcome = SERVED_OUTCOME;
+  on = inr (record {
+    peer = peer_at (link 0);
+    apdu = ASK;
+    foreign = apart;
+    means = ask_means;
+    heard = subst ServerTurn (sym says) turn;
+  });
+  acts = record {
+    nodes = record { here = refl; others = others_second SERVED_NODE (node 1) (ticked_node 3000) };
+    now = refl;
+    notes = refl;
+    sent = ANSWER_COPY ∷ [];
+    copies = refl;
+    copied = (copied AGAIN.nodes 1 0 ANSWER refl refl refl answer_means, tt);
+    between = ASKED;
+    ended = refl;
+    logged = record { client = 0; number = 0; link = refl; noted = refl; log = refl };
+  };
+}
+
+abbrev ENDED_NODE : Node
+ENDED_NODE = record (ticked_node 3000) { clients = (requester_on_apdu SETTINGS reads_reply 3000 (peer_at (link 1)) ANSWER (ticked_node 3000).clients).end }
+
+abbrev ANSWERED : World
+ANSWERED = record { nodes = ENDED_NODE ∷ SERVED_NODE ∷ []; now = 3000; copies = SERVED.copies; log = LOG; notes = NOTES }
+
+hears : Hears SERVED 0 (link 1) ANSWER_COPY.octets ANSWERED
+hears = record {
+  before = ticked_node 3000;
+  at = refl;
+  after = ENDED_NODE;
+  outcome = record { sends = []; performed = None; ended = record { ticket = 0; how = Answered REPLY } ∷ []; dropped = None };
+  on = inr (record {
+    peer = peer_at (link 1);
+    apdu = ANSWER;
+    foreign = λ e. apart (sym e);
+    means = answer_means;
+    heard = record { node = refl; sends = tt; ended = (record { ticket = refl; how = (refl, refl) }, tt); performed = refl; dropped = refl };
+  });
+  acts = record {
+    nodes = record { here = refl; others = others_first ENDED_NODE (ticked_node 3000) SERVED_NODE };
+    now = refl;
+    notes = refl;
+    sent = [];
+    copies = refl;
+    copied = tt;
+    between = LOG;
+    ended = (0, refl, refl);
+    logged = refl;
+  };
+}
+
+pub second_sending : SecondSending
+second_sending = record {
+  second = SECOND;
+  asks = asked;
+  whole = refl;
+  again = AGAIN;
+  run = (LATER, refl, (AGAIN, sends_again, refl));
+  finds = (tt, (tt, tt));
+  young = omega arith;
+  copy = SECOND_COPY;
+  request = record { at = refl; arrives = refl };
+  is_one = is_first SECOND_COPY refl refl;
+  server = node 1;
+  at = refl;
+  performs = performs 3000;
+  served = SERVED;
+  performed = record { copy = SECOND_COPY; there = refl; goes = record { link = link 0; sender = refl; hears = serves } };
+  answer = ANSWER_COPY;
+  comes = record { at = refl; arrives = refl };
+  from = record { key = refl; from = refl };
+  last = ANSWERED;
+  answered = record { copy = ANSWER_COPY; there = refl; goes = record { link = link 1; sender = refl; hears = hears } };
+  log = refl;
+}
+
+-- An answer at 60,001.
+
+abbrev LATE_NODE : Node
+LATE_NODE = record (ASKED_NODE) {
+  latest = 60001;
+  clients = (requester_on_apdu SETTINGS reads_reply 60001 (peer_at (link 1)) ANSWER ASKED_NODE.clients).end;
+}
+
+pub late_answer : LateAnswer
+late_answer = record {
+  second = SECOND;
+  asks = asked;
+  old = ASKED_NODE;
+  at = refl;
+  apdu = ANSWER;
+  server = refl;
+  new = LATE_NODE;
+  outcome = EXPIRES;
+  gets = record {
+    from = link 1;
+    octets = (datagram (link 0) ANSWER).octets;
+    foreign = λ e. apart (sym e);
+    means = answer_means;
+    on = inr (record {
+      peer = peer_at (link 1);
+      apdu = ANSWER;
+      foreign = λ e. apart (sym e);
+      means = answer_means;
+      heard = record { node = refl; sends = tt; ended = (record { ticket = refl; how = tt }, tt); performed = refl; dropped = refl };
+    });
+  };
+  ticket = _;
+  is_open = refl;
+  late = omega arith;
+  ends = refl;
+}

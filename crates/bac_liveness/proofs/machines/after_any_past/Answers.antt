@@ -1,0 +1,5 @@
+use Rattle.bac_liveness.proofs.Standing.{after_any_past}
+use Rattle.bac_liveness.proofs.machines.after_any_past.Goals as goal
+
+pub returns : goal.returns
+returns g c = λ shop opening W rules bound events. after_any_past _ shop opening W rules bound events

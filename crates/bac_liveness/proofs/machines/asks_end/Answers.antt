@@ -1,0 +1,5 @@
+use Rattle.bac_liveness.proofs.Endings.{all_end}
+use Rattle.bac_liveness.proofs.machines.asks_end.Goals as goal
+
+pub returns : goal.returns
+returns g c = λ shop opening W rules bound events. all_end _ shop opening W rules bound events

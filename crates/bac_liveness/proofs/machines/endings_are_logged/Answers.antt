@@ -1,0 +1,5 @@
+use Rattle.bac_liveness.proofs.Endings.{endings_in_run}
+use Rattle.bac_liveness.proofs.machines.endings_are_logged.Goals as goal
+
+pub returns : goal.returns
+returns g c = λ shop opening W rules bound events. endings_in_run _ shop opening W rules bound events

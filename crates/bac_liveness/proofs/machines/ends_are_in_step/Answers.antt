@@ -1,0 +1,5 @@
+use Rattle.bac_liveness.proofs.Standing.{ends_in_step}
+use Rattle.bac_liveness.proofs.machines.ends_are_in_step.Goals as goal
+
+pub returns : goal.returns
+returns g c = λ shop opening W rules bound events. ends_in_step _ shop opening W rules bound events

@@ -1,0 +1,5 @@
+use Rattle.bac_liveness.proofs.Turning.{turns}
+use Rattle.bac_liveness.proofs.machines.one_turn_suffices.Goals as goal
+
+pub returns : goal.returns
+returns g c = λ shop opening W rules bound events. turns _ shop opening W rules bound events

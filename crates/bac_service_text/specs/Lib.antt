@@ -1,0 +1,14 @@
+pub mod Reading
+pub mod Members
+pub mod References
+pub mod ReadProperty
+pub mod WriteProperty
+pub mod AtomicReadFile
+pub mod AtomicWriteFile
+pub mod Dispatch
+pub mod BadWords
+pub mod Reasons
+pub mod ServiceData
+pub mod Asked
+pub mod Answers
+pub mod Views

@@ -1,0 +1,32 @@
+//! Requests, replies and errors as text, in one place for `decode`, `explain`, charts, the log of `serve`, `ask` and scripts.
+//!
+//! Each service has a file: the words of its requests, read and printed, its labels for charts, its decoded lines and its answers. `dispatch` has every
+//! `match` over the services, so that another service touches its own file and that one, here and in specs/.
+#![tactic(auto)]
+
+mod answer;
+mod asked;
+mod atomic_read_file;
+mod atomic_write_file;
+mod bad_words;
+mod dispatch;
+mod form_fault;
+mod members;
+mod read_property;
+mod reasons;
+mod reference;
+mod service_data;
+mod strings;
+mod write_property;
+
+pub use answer::{answer_words, octets_of_reply, print_reply, reply_words};
+pub use asked::names_other;
+pub use bad_words::{BadWord, Wanted, bad_word};
+pub use dispatch::{
+    print_complex, print_request, property_read, read_request_words, reads_file, request_words,
+};
+pub use form_fault::FormFault;
+pub use members::{print_end, print_octets};
+pub use reasons::{abort_words, aborted_words, error_words, rejected_words};
+pub use reference::{object_or_fault, octets_or_fault};
+pub use service_data::{reply_data_words, request_data_label, request_data_words, segments_text};

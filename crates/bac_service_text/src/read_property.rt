@@ -1,0 +1,76 @@
+//! ReadProperty as text (clause 15.5).
+ghost use Rattle.std.specs.Prelude.{◌≡◌, IfOk, OnOk};
+ghost use Rattle.std.specs.Io.KnownBytes.{Appends};
+ghost use Rattle.bac_service.specs.Views.{owned_request_view, property_reference_view};
+ghost use Rattle.bac_service_text.specs.Members.{AppendsText};
+ghost use Rattle.bac_service_text.specs.Reading.{Reads};
+ghost use Rattle.bac_service_text.specs.ReadProperty.{IsPropertyReadLine, read_of, read_property_line, read_words, values_text};
+ghost use Rattle.bac_value.specs.Views.{object_identifier_view};
+
+use crate::form_fault::FormFault;
+use crate::members::{print_reference, print_values};
+use crate::reference::{reference_in, reference_words};
+use bac_service::{AnyRequest, OwnedRequest, PropertyRead, PropertyReference};
+use bac_value::{Data, ObjectIdentifier};
+use std::alloc::{AllocError, Global};
+use std::io;
+use std::io::Write;
+
+// ---- the request
+
+/// The request in words, as `read analog-input:5 present-value`.
+pub(crate) fn read_words(alloc: Global, reference: PropertyReference) -> Result<Vec<u8>, AllocError>
+    ensures { IfOk result (λ t. t.items ≡ read_words (property_reference_view reference)) }
+{
+    reference_words(alloc, b"read ", reference)
+}
+
+pub(crate) fn print_read_property<W: Write>(
+    alloc: Global,
+    in_words: bool,
+    reference: PropertyReference,
+    out: &mut W,
+) -> io::Result<()>
+    ensures { OnOk result (Appends (W.contents out.old) (W.contents out.new) (read_property_line in_words (property_reference_view reference))) }
+{
+    print_reference(alloc, in_words, "read-property", reference, out)
+}
+
+/// The request that `read OBJECT PROPERTY` means.
+#[tactic(auto, unfolding(crate::specs::ReadProperty::read_of))]
+pub(crate) fn read_property_in(
+    object: ObjectIdentifier,
+    property: &[u8],
+) -> Result<OwnedRequest, FormFault>
+    ensures { Reads owned_request_view result (read_of (object_identifier_view object) property.now) }
+{
+    let reference = reference_in(object, property)?;
+    Ok(AnyRequest::ReadProperty(reference))
+}
+
+// ---- the reply
+
+/// The values in hexadecimal, as `read 44428C0000`.
+pub(crate) fn values_text(
+    alloc: Global,
+    read: PropertyRead<Data<'_>>,
+) -> Result<Vec<u8>, AllocError>
+    ensures { IfOk result (λ t. t.items ≡ values_text read.entry.values.octets.now) }
+{
+    let values = hex::encode_upper(alloc, read.values.octets)?;
+    let text = format!(in alloc; "read {values}")?;
+    Ok(text.into_bytes())
+}
+
+pub(crate) fn print_property_read<W: Write>(
+    alloc: Global,
+    in_words: bool,
+    read: PropertyRead<Data<'_>>,
+    out: &mut W,
+) -> io::Result<()>
+    ensures { OnOk result (AppendsText (W.contents out.old) (W.contents out.new) (IsPropertyReadLine in_words
+        (property_reference_view read.entry.reference) read.entry.values.octets.now)) }
+{
+    print_reference(alloc, in_words, "read-property-ack", read.reference, out)?;
+    print_values(alloc, in_words, read.values, out)
+}

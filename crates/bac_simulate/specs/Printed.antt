@@ -1,0 +1,53 @@
+-- What is printed of an event in a network of nodes.
+use Rattle.std.specs.Prelude.{ℕ, codes, decimal, ◌+◌, Bool, true, false, ◌&&◌, nat_eq, List, [], ◌∷◌, ◌++◌, length, drop, reverse, Option, Some, None, slice_get}
+use Rattle.bac_requester.specs.Faults.{ask_fault_number}
+use Rattle.bac_requester.specs.declared.ask_fault.AskFault.{AskFault}
+use Rattle.bac_world.specs.Once.{Fact}
+use Rattle.bac_world.specs.Once.Fact.{Asked, Performed, Ended, Changed, Restarted}
+use Rattle.bac_world.specs.World.{World, Copy, Note}
+use Rattle.bac_commands.specs.Facts.{asked_line, changed_line, ended_line, nothing_line, performed_line, refused_line, sent_line}
+use Rattle.bac_text.specs.Texts.{line_end}
+
+-- a node restarted
+abbrev pub restarted_line : (node : ℕ) → List ℕ
+restarted_line node = codes "restarted " ++ decimal node ++ line_end
+
+-- an accepted ask, by what is noted of it
+abbrev pub asked_text : (ask : ℕ) → Option Note → List ℕ
+asked_text ask None = []
+asked_text ask (Some note) = asked_line ask note.key.invoke_id
+
+-- a fact, where these notes are of the accepted asks, oldest first
+abbrev pub fact_text : List Note → Fact → List ℕ
+fact_text notes (Asked ask client server request) = asked_text ask (slice_get notes ask)
+fact_text notes (Performed ask request reply) = performed_line ask
+fact_text notes (Ended ask how) = ended_line ask how
+fact_text notes (Changed node change) = changed_line node
+fact_text notes (Restarted node store) = restarted_line node
+
+abbrev pub facts_text : List Note → List Fact → List ℕ
+facts_text notes [] = []
+facts_text notes (f ∷ facts) = fact_text notes f ++ facts_text notes facts
+
+-- copies that were sent, numbered from this number on
+abbrev pub copies_text : (number : ℕ) → List Copy → List ℕ
+copies_text number [] = []
+copies_text number (c ∷ copies) = sent_line number c.from c.to c.octets ++ copies_text (number + 1) copies
+
+-- nothing is new
+abbrev pub is_as_before : (facts copies : ℕ) → World → Bool
+is_as_before facts copies w = nat_eq (length w.log) facts && nat_eq (length w.copies) copies
+
+-- the facts after so many, oldest first, and then the copies after so many
+abbrev pub news_text : (as_before : Bool) → (facts copies : ℕ) → World → List ℕ
+news_text true facts copies w = nothing_line
+news_text false facts copies w = facts_text (reverse w.notes) (drop facts (reverse w.log)) ++ copies_text copies (drop copies w.copies)
+
+-- a copy that counts as lost
+abbrev pub lost_line : (copy : ℕ) → List ℕ
+lost_line copy = (codes "lost " ++ decimal copy) ++ line_end
+
+-- a refused ask, by the number of its fault; or what is new in a world that had so many facts and copies
+abbrev pub outcome_text : Option AskFault → (facts copies : ℕ) → World → List ℕ
+outcome_text (Some fault) facts copies w = refused_line (ask_fault_number fault)
+outcome_text None facts copies w = news_text (is_as_before facts copies w) facts copies w

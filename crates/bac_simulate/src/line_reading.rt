@@ -1,0 +1,238 @@
+//! The lines of a script.
+ghost use Rattle.std.specs.Prelude.{◌≡◌, ◌&&◌, codes, map};
+ghost use Rattle.std.specs.Str.{bytes_eq};
+ghost use Rattle.std.specs.Option.{option_map};
+ghost use Rattle.bac_service_text.specs.Reading.{Reads};
+ghost use Rattle.bac_value_text.specs.Numbers.{number_of};
+ghost use Rattle.bac_value_text.specs.Reading.{property_of};
+ghost use Rattle.bac_simulate.specs.Lines.{number_from_one, bounded, setting_with, usual_setting, setting_of};
+ghost use Rattle.bac_simulate.specs.Lines.{setting_at, ask_of, noise_of, numbered, set_property_of, set_file_of, change_of, step_of, step_at};
+ghost use Rattle.bac_simulate.specs.Views.{setting_view, step_view};
+
+use crate::line::{Ask, Noise, SetFile, SetProperty, Setting, Step};
+use crate::line_words::words_in;
+use bac_service_text::{FormFault, object_or_fault, octets_or_fault, read_request_words};
+use bac_value_text::{number_in, number_up_to, property_in};
+use std::alloc::Global;
+
+/// A number from 1 to that.
+fn number_from_one(most: u8, word: &[u8]) -> Option<u8>
+    ensures { result ≡ number_from_one most word.now }
+{
+    let number = number_up_to(u64::from(most), word)?;
+    if number >= 1 {
+        Some(number as u8)
+    } else {
+        None
+    }
+}
+
+#[tactic(auto, unfolding(crate::specs::Lines::setting_with))]
+fn setting_from(nodes: &[u8], window: &[u8], overtake: &[u8]) -> Option<Setting>
+    ensures { option_map setting_view result ≡ setting_with nodes.now window.now overtake.now }
+{
+    let nodes = number_from_one(16, nodes)?;
+    let window = number_from_one(64, window)?;
+    let overtake = number_up_to(255, overtake)?;
+    if overtake + 2 * u64::from(window) > 255 {
+        return None;
+    }
+    Some(Setting {
+        nodes,
+        window,
+        overtake: overtake as u8,
+    })
+}
+
+#[tactic(auto, unfolding(crate::specs::Lines::usual_setting))]
+fn usual(nodes: &[u8]) -> Option<Setting>
+    ensures { option_map setting_view result ≡ usual_setting nodes.now }
+{
+    let nodes = number_from_one(16, nodes)?;
+    Some(Setting {
+        nodes,
+        window: 32,
+        overtake: 128,
+    })
+}
+
+fn is_full(a: &[u8], b: &[u8], c: &[u8]) -> bool
+    ensures { result ≡ bytes_eq a.now (codes "nodes") && (bytes_eq b.now (codes "window") && bytes_eq c.now (codes "overtake")) }
+{
+    a == b"nodes".as_slice() && b == b"window".as_slice() && c == b"overtake".as_slice()
+}
+
+fn setting_in(words: &[&[u8]]) -> Option<Setting>
+    ensures { option_map setting_view result ≡ setting_of (map (λ w. w.now) words.now) }
+{
+    match words {
+        [a, nodes] => {
+            if *a == b"nodes".as_slice() {
+                usual(*nodes)
+            } else {
+                None
+            }
+        }
+        [a, nodes, b, window, c, overtake] => {
+            if is_full(*a, *b, *c) {
+                setting_from(*nodes, *window, *overtake)
+            } else {
+                None
+            }
+        }
+        _ => None,
+    }
+}
+
+/// The first line of a script, without its end: `nodes N`, or `nodes N window W overtake V`.
+///
+/// N is 1 to 16, W 1 to 64, and V + 2W at most 255; without them W is 32 and V is 128. `NoForm` for any other line.
+pub fn read_setting(alloc: Global, line: &[u8]) -> Result<Setting, FormFault>
+    ensures { Reads setting_view result (setting_at line.now) }
+{
+    let words = words_in(alloc, line)?;
+    match setting_in(words.as_slice()) {
+        Some(setting) => Ok(setting),
+        None => Err(FormFault::NoForm),
+    }
+}
+
+fn number_or_fault(word: &[u8]) -> Result<u64, FormFault>
+    ensures { Reads (λ n. n) result (number_of word.now) }
+{
+    match number_in(word) {
+        Some(number) => Ok(number),
+        None => Err(FormFault::NoForm),
+    }
+}
+
+#[tactic(auto, unfolding(crate::specs::Lines::ask_of))]
+fn ask(alloc: Global, client: &[u8], server: &[u8], request: &[&[u8]]) -> Result<Step, FormFault>
+    ensures { Reads step_view result (ask_of client.now server.now (map (λ w. w.now) request.now)) }
+{
+    let client = number_or_fault(client)?;
+    let server = number_or_fault(server)?;
+    let request = read_request_words(alloc, request)?;
+    Ok(Step::Ask(Ask {
+        client,
+        server,
+        request,
+    }))
+}
+
+#[tactic(auto, unfolding(crate::specs::Lines::noise_of))]
+fn noise(alloc: Global, node: &[u8], octets: &[u8]) -> Result<Step, FormFault>
+    ensures { Reads step_view result (noise_of node.now octets.now) }
+{
+    let node = number_or_fault(node)?;
+    let octets = octets_or_fault(alloc, octets)?;
+    Ok(Step::Noise(Noise { node, octets }))
+}
+
+#[tactic(auto, unfolding(crate::specs::Lines::numbered))]
+fn with_number(word: &[u8], number: &[u8]) -> Result<Step, FormFault>
+    ensures { Reads step_view result (numbered word.now number.now) }
+{
+    let number = number_or_fault(number)?;
+    if word == b"deliver".as_slice() {
+        Ok(Step::Deliver(number))
+    } else if word == b"tick".as_slice() {
+        Ok(Step::Tick(number))
+    } else if word == b"advance".as_slice() {
+        Ok(Step::Advance(number))
+    } else if word == b"lose".as_slice() {
+        Ok(Step::Lose(number))
+    } else if word == b"restart".as_slice() {
+        Ok(Step::Restart(number))
+    } else {
+        Err(FormFault::NoForm)
+    }
+}
+
+fn property_or_fault(word: &[u8]) -> Result<u32, FormFault>
+    ensures { Reads (λ n. n) result (property_of word.now) }
+{
+    match property_in(word) {
+        Some(property) => Ok(property),
+        None => Err(FormFault::NoForm),
+    }
+}
+
+#[tactic(auto, unfolding(crate::specs::Lines::set_property_of))]
+fn set_property(
+    alloc: Global,
+    node: &[u8],
+    object: &[u8],
+    property: &[u8],
+    octets: &[u8],
+) -> Result<Step, FormFault>
+    ensures { Reads step_view result (set_property_of node.now object.now property.now octets.now) }
+{
+    let node = number_or_fault(node)?;
+    let object = object_or_fault(object)?;
+    let property = property_or_fault(property)?;
+    let octets = octets_or_fault(alloc, octets)?;
+    Ok(Step::SetProperty(SetProperty {
+        node,
+        object,
+        property,
+        octets,
+    }))
+}
+
+#[tactic(auto, unfolding(crate::specs::Lines::set_file_of))]
+fn set_file(alloc: Global, node: &[u8], object: &[u8], octets: &[u8]) -> Result<Step, FormFault>
+    ensures { Reads step_view result (set_file_of node.now object.now octets.now) }
+{
+    let node = number_or_fault(node)?;
+    let object = object_or_fault(object)?;
+    let octets = octets_or_fault(alloc, octets)?;
+    Ok(Step::SetFile(SetFile {
+        node,
+        object,
+        octets,
+    }))
+}
+
+/// A change of a node's own store, by the words after the object.
+fn change(
+    alloc: Global,
+    word: &[u8],
+    node: &[u8],
+    object: &[u8],
+    words: &[&[u8]],
+) -> Result<Step, FormFault>
+    ensures { Reads step_view result (change_of word.now node.now object.now (map (λ w. w.now) words.now)) }
+{
+    match words {
+        [octets] if word == b"file".as_slice() => set_file(alloc, node, object, *octets),
+        [property, octets] if word == b"set".as_slice() => {
+            set_property(alloc, node, object, *property, *octets)
+        }
+        _ => Err(FormFault::NoForm),
+    }
+}
+
+fn step_in(alloc: Global, words: &[&[u8]]) -> Result<Step, FormFault>
+    ensures { Reads step_view result (step_of (map (λ w. w.now) words.now)) }
+{
+    match words {
+        [word, number] => with_number(*word, *number),
+        [word, a, b] if *word == b"noise".as_slice() => noise(alloc, *a, *b),
+        [word, a, b, request @ ..] if *word == b"ask".as_slice() && !request.is_empty() => {
+            ask(alloc, *a, *b, request)
+        }
+        [word, a, b, more @ ..] => change(alloc, *word, *a, *b, more),
+        _ => Err(FormFault::NoForm),
+    }
+}
+
+/// A line after the first one, without its end: `ask CLIENT SERVER` and the words of a request, `deliver COPY`, `lose COPY`, `noise NODE HEX`,
+/// `tick NODE`, `advance MILLISECONDS`, `set NODE T:I P HEX`, `file NODE T:I HEX` or `restart NODE`, separated by single spaces. `NoForm` for any other
+/// line.
+pub fn read_step(alloc: Global, line: &[u8]) -> Result<Step, FormFault>
+    ensures { Reads step_view result (step_at line.now) }
+{
+    let words = words_in(alloc, line)?;
+    step_in(alloc, words.as_slice())
+}

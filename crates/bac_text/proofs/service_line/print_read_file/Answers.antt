@@ -1,6 +1,0 @@
-use Rattle.bac_text.proofs.Appending.{before}
-use Rattle.bac_text.proofs.service_line.print_read_file.Goals as goal
-
-pub returns : goal.returns
-returns g c =
-    before _ _ _ _ _ _ c.in_ok-print_read_name.ensures (before _ _ _ _ _ _ c.in_ok-print_object.ensures c.print_read_access.ensures)
