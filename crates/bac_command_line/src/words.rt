@@ -9,20 +9,20 @@ pub(crate) enum Form {
     Several,
     /// By its name alone.
     Flag,
-    /// Behind its name; help calls it so.
+    /// By its name, with a text after it; this is what help calls that text.
     Text(&'static str),
-    /// Likewise, a number from 1 to that one.
+    /// By its name, with a number after it, from 1 to the one given here.
     Number(&'static str, u64),
 }
 
-/// When a word has to be given.
+/// When a word is required.
 #[derive(Clone, Copy)]
 pub(crate) enum Need {
     Always,
-    /// Where that word is not.
+    /// If that word is absent.
     Unless(&'static str),
     Never,
-    /// Never, and it stands beside that word alone.
+    /// Never, and it is allowed only together with that word.
     Beside(&'static str),
 }
 
@@ -31,7 +31,7 @@ pub(crate) struct Word {
     pub(crate) name: &'static str,
     pub(crate) form: Form,
     pub(crate) need: Need,
-    /// The words beside which it cannot stand.
+    /// The words that it conflicts with.
     pub(crate) against: &'static [&'static str],
     pub(crate) help: &'static str,
 }
@@ -40,7 +40,7 @@ pub(crate) struct Word {
 pub(crate) struct Grammar {
     pub(crate) name: &'static str,
     pub(crate) about: &'static str,
-    /// What help says behind them.
+    /// What help prints after the words.
     pub(crate) after: &'static str,
     pub(crate) words: &'static [Word],
 }
@@ -59,11 +59,11 @@ const ANSWER: &[Word] = &[
         form: Form::Text("FILE"),
         need: Need::Never,
         against: &[],
-        help: "A document of the objects that it has, in TOML; without it those of the house",
+        help: "The node's objects, as a TOML document; by default those of the house",
     },
 ];
 
-/// Datagrams that may be decoded.
+/// Examples for `decode`.
 const DECODE_EXAMPLES: &str = "\
 Example: bac decode 810A000801001013
 Example: bac decode --text '81 0a 00 11 01 04 00 05 01 0c 0c 00 00 00 05 19 55'
@@ -76,7 +76,7 @@ const DECODE: &[Word] = &[
         form: Form::Bare,
         need: Need::Always,
         against: &[],
-        help: "The datagram in hexadecimal, in groups with spaces or colons between them or not, and `0x` before a group or not; `-` for datagrams on standard input, one on each line",
+        help: "The datagram in hexadecimal; spaces, tabs or colons may separate groups, and `0x` may begin one. `-` reads datagrams from standard input, one a line",
     },
     Word {
         name: "text",
@@ -87,7 +87,7 @@ const DECODE: &[Word] = &[
     },
 ];
 
-/// Captures that may be checked.
+/// Examples for `check`.
 const CHECK_EXAMPLES: &str = "\
 Example: bac check capture.txt
 Example: bac check capture.pcapng";
@@ -106,25 +106,25 @@ const CHECK: &[Word] = &[
         form: Form::Number("P", 65_535),
         need: Need::Never,
         against: &[],
-        help: "A UDP port that carries BACnet/IP beside 47808 to 47823",
+        help: "One more UDP port that carries BACnet/IP, besides 47808 to 47823",
     },
     Word {
         name: "notes",
         form: Form::Flag,
         need: Need::Never,
         against: &["port"],
-        help: "Takes lines that end in CRLF, and passes over blank lines and those that begin with `#`",
+        help: "Accepts lines that end in CRLF, and skips blank lines and lines that begin with `#`",
     },
     Word {
         name: "text",
         form: Form::Flag,
         need: Need::Never,
         against: &["notes"],
-        help: "Of pcap or pcapng: tells how many frames carry each other function of BVLC, by name",
+        help: "For pcap and pcapng: prints how many frames carry each other BVLC function, by name",
     },
 ];
 
-/// Captures that may be explained.
+/// Examples for `explain`.
 const EXPLAIN_EXAMPLES: &str = "\
 Example: bac explain capture.pcapng
 Example: bac explain --chart capture.pcapng";
@@ -143,37 +143,40 @@ const EXPLAIN: &[Word] = &[
         form: Form::Number("P", 65_535),
         need: Need::Never,
         against: &[],
-        help: "A UDP port that carries BACnet/IP beside 47808 to 47823",
+        help: "One more UDP port that carries BACnet/IP, besides 47808 to 47823",
     },
     Word {
         name: "chart",
         form: Form::Flag,
         need: Need::Never,
         against: &[],
-        help: "Draws a sequence chart in place of that: a column for each peer, 41 characters wide, at most 16",
+        help: "Draws a sequence chart instead, with a column of 41 characters for each peer, at most 16",
     },
     Word {
         name: "mermaid",
         form: Form::Flag,
         need: Need::Never,
         against: &["chart"],
-        help: "Prints that chart for Mermaid, a `sequenceDiagram`",
+        help: "Prints that chart as a Mermaid `sequenceDiagram`",
     },
 ];
 
-/// What its file says, and scripts that may be run.
+/// The form of a script, and examples for `simulate`.
 const SIMULATE_EXAMPLES: &str = "\
 The first line of a script sets the network: `nodes N`, or `nodes N window W overtake V`
-  N  how many nodes there are, 1 to 16, each with a house of its own
-  W  the greatest window in segments, 1 to 64; 32 where it is not given
-  V  how many later datagrams of its transaction may overtake one; 128 where it is not given; V + 2W is at most 255
+  N  the number of nodes, 1 to 16, each with its own house
+  W  the greatest window in segments, 1 to 64; 32 by default
+  V  how many later datagrams of a transaction may overtake one; 128 by default; V + 2W is at most 255
 Each later line is an event; nodes and datagrams count from 0:
   ask C S REQUEST  node C asks node S; the requests are those of `bac ask`
-  deliver K        the datagram of that number comes to its node
-  lose K           the datagram of that number counts as lost
-  noise N HEX      octets that no node sent come to node N
+  deliver K        datagram K arrives at its node
+  lose K           datagram K counts as lost
+  noise N HEX      octets that no node sent arrive at node N
   tick N           node N looks at its timers
-  advance MS       so many milliseconds pass
+  advance MS       MS milliseconds pass
+  set N T:I P HEX  node N gives a property of its store other values
+  file N T:I HEX   node N gives a file of its store other octets
+  restart N        node N restarts with its store
 
 Example: bac simulate script.txt
 Example: bac simulate --chart script.txt
@@ -186,46 +189,46 @@ const SIMULATE: &[Word] = &[
         form: Form::Bare,
         need: Need::Always,
         against: &[],
-        help: "The script: what it sets, and then one event a line",
+        help: "The script: the network, then one event a line",
     },
     Word {
         name: "notes",
         form: Form::Flag,
         need: Need::Never,
         against: &[],
-        help: "Takes lines that end in CRLF, and passes over blank lines and those that begin with `#`",
+        help: "Accepts lines that end in CRLF, and skips blank lines and lines that begin with `#`",
     },
     Word {
         name: "chart",
         form: Form::Flag,
         need: Need::Never,
         against: &[],
-        help: "Draws a sequence chart in place of that: a column for each node, 41 characters wide",
+        help: "Draws a sequence chart instead, with a column of 41 characters for each node",
     },
     Word {
         name: "mermaid",
         form: Form::Flag,
         need: Need::Never,
         against: &["chart"],
-        help: "Draws it as a `sequenceDiagram` of Mermaid",
+        help: "Prints that chart as a Mermaid `sequenceDiagram`",
     },
     Word {
         name: "pcap",
         form: Form::Flag,
         need: Need::Never,
         against: &["chart", "mermaid"],
-        help: "Writes its datagrams as a capture, each at the moment when it was sent",
+        help: "Writes the datagrams as a pcap file, each when it was sent",
     },
     Word {
         name: "text",
         form: Form::Flag,
         need: Need::Never,
         against: &["chart", "mermaid", "pcap"],
-        help: "Tells in words each event at its moment, what came of it, or why nothing did",
+        help: "Prints each event with its moment and what it did, or why it did nothing",
     },
 ];
 
-/// Nodes that may serve.
+/// Examples for `serve`.
 const SERVE_EXAMPLES: &str = "\
 Example: bac serve --port 47808
 Example: bac serve --port 47808 --seconds 3600 --objects plant.toml
@@ -239,70 +242,70 @@ const SERVE: &[Word] = &[
         form: Form::Number("P", 65_535),
         need: Need::Always,
         against: &[],
-        help: "The UDP port that it listens at, 1 to 65535",
+        help: "The UDP port to listen on, 1 to 65535",
     },
     Word {
         name: "turns",
         form: Form::Number("N", 1_000_000),
         need: Need::Never,
         against: &[],
-        help: "How many turns it takes, 1 to 1000000; each waits at most 100 milliseconds for a datagram. Without it, it serves until it is ended",
+        help: "Ends after N turns, 1 to 1000000; each waits at most 100 milliseconds for a datagram. By default it serves until you stop it",
     },
     Word {
         name: "seconds",
         form: Form::Number("S", 1_000_000_000),
         need: Need::Never,
         against: &[],
-        help: "After how many seconds it ends, 1 to 1000000000",
+        help: "Ends after S seconds, 1 to 1000000000",
     },
     Word {
         name: "at",
         form: Form::Text("A.B.C.D"),
         need: Need::Never,
         against: &[],
-        help: "The IPv4 address of this machine that it listens at; 0.0.0.0 is each. Without it 127.0.0.1, which no other machine reaches",
+        help: "The IPv4 address of this machine to listen on; 0.0.0.0 is all of them. By default 127.0.0.1, which other machines cannot reach",
     },
     Word {
         name: "slots",
         form: Form::Number("N", 1_024),
         need: Need::Never,
         against: &[],
-        help: "How many requests it can remember at once, 1 to 1024; without it 64 where it takes so many turns, otherwise 1024",
+        help: "How many requests it can remember at once, 1 to 1024; by default 1024, or 64 with --turns",
     },
     Word {
         name: "restarted",
         form: Form::Flag,
         need: Need::Never,
         against: &[],
-        help: "It served before, and has lost what it remembered: it turns new requests away for 65 seconds, so that none is performed twice",
+        help: "The server ran before and has lost what it remembered: it refuses new requests for 65 seconds, until no repeat of an old one should arrive",
     },
     Word {
         name: "objects",
         form: Form::Text("FILE"),
         need: Need::Never,
         against: &[],
-        help: "A document of the objects that it has, in TOML; without it those of the house",
+        help: "The node's objects, as a TOML document; by default those of the house",
     },
     Word {
         name: "log",
         form: Form::Flag,
         need: Need::Never,
         against: &[],
-        help: "Tells on standard error each datagram that comes, and what is done",
+        help: "Logs each datagram that arrives, and what was done for it, on standard error",
     },
 ];
 
-/// What the words of an ask are.
+/// The requests of `ask`.
 const WORDS_HELP: &str =
     "The request: `read T:I P`, `write T:I P VALUE..`, `append T:I HEX`, `put T:I POS HEX` or `get T:I POS COUNT`";
 
-/// What stands for what in them, and asks that may be made.
+/// The parts of a request, and examples for `ask`.
 const ASK_EXAMPLES: &str = "\
-T:I is an object by its type and instance, P a property, both by number or name, HEX octets
-VALUE is a value by its kind, as real:72.5, null, boolean:true, enumerated:1 or text:Room, or the spelling of data in HEX
-Behind the last VALUE `priority N` may stand, 1 to 16
-POS is the position in a file from which on octets are put or got, COUNT how many are got
-In the place of a last HEX `@FILE` may stand, for the octets of that file
+T:I is an object by type and instance, P a property, each by number or name; HEX is octets in hexadecimal
+VALUE is a value by its kind, such as real:72.5, null, boolean:true, enumerated:1 or text:Room, or encoded data in HEX
+`priority N` (1 to 16) may follow the last VALUE
+POS is a position in a file, COUNT the number of octets to get
+`@FILE` in place of the last HEX means the octets of that file
 
 Example: bac ask --port 47808 read 0:5 85
 Example: bac ask --port 47808 --text read analog-input:5 present-value
@@ -320,77 +323,77 @@ const ASK: &[Word] = &[
         form: Form::Number("P", 65_535),
         need: Need::Unless("to"),
         against: &[],
-        help: "The UDP port of the node that is asked, 1 to 65535",
+        help: "The UDP port of the node to ask, on 127.0.0.1; 1 to 65535",
     },
     Word {
         name: "to",
         form: Form::Text("A.B.C.D[:P]"),
         need: Need::Never,
         against: &["port"],
-        help: "The IPv4 address of the node that is asked, and its UDP port, 47808 where there is none",
+        help: "The IPv4 address of the node to ask, and its UDP port, 47808 by default",
     },
     Word {
         name: "route",
         form: Form::Text("NET:MAC"),
         need: Need::Never,
         against: &[],
-        help: "The node that is asked stands behind a router at that address: its network, 1 to 65534, and its address there, 1 to 8 octets in hexadecimal",
+        help: "The node to ask is behind a router at that address: its network, 1 to 65534, and its address there, 1 to 8 octets in hexadecimal",
     },
     Word {
         name: "timeout",
         form: Form::Number("S", 60),
         need: Need::Never,
         against: &[],
-        help: "After how many seconds it waits no longer, 1 to 60, and prints `no ending`; an ask ends by itself after 60 seconds at the latest",
+        help: "Stops waiting after S seconds, 1 to 60, and prints `no ending`; an ask ends by itself after at most 60 seconds",
     },
     Word {
         name: "text",
         form: Form::Flag,
         need: Need::Never,
         against: &[],
-        help: "Prints values by their kinds, errors and reasons by their names, and which of the WORDS is bad",
+        help: "Prints values by their kinds, errors and reasons by their names, and names a bad word",
     },
     Word {
         name: "fail",
         form: Form::Flag,
         need: Need::Never,
         against: &[],
-        help: "Ends with status 1 also where the answer is an Error, or of another object, property or index",
+        help: "Ends with status 1 also if the answer is an Error, or is for another object, property or index",
     },
     Word {
         name: "raw",
         form: Form::Flag,
         need: Need::Never,
         against: &["text"],
-        help: "Of `get`: writes the octets of the file alone; where there are none, the error output tells how it ended, and the status is 1",
+        help: "For `get`: writes only the octets of the file; if there are none, standard error says how the ask ended, and the status is 1",
     },
     Word {
         name: "lines",
         form: Form::Text("FILE"),
         need: Need::Never,
         against: &["WORDS", "raw"],
-        help: "Asks the requests of a file, one a line, in turn by one node, and prints behind each line's number how it ended; `-` for standard input. Blank lines and those that begin with `#` are passed over; words are separated by single spaces, and none is `@FILE`. A bad line is told before anything is asked",
+        help: "Asks the requests in FILE, one a line, in turn by one node, and prefixes each result with its line number; `-` reads standard input. Skips blank lines and lines that begin with `#`; words are separated by single spaces, and `@FILE` is not allowed. A bad line is reported before anything is asked",
     },
     Word {
         name: "window",
         form: Form::Number("N", 256),
         need: Need::Beside("lines"),
         against: &["WORDS"],
-        help: "Asks up to N of the requests at once, 1 to 256; what is printed stays in the order of the lines. Without it, each is asked once the one before has ended",
+        help: "Has up to N requests outstanding, 1 to 256; results are printed in the order of the lines. By default each waits for the one before",
     },
     Word {
         name: "every",
         form: Form::Number("S", 1_000_000_000),
         need: Need::Never,
         against: &[],
-        help: "Asks the same again by the same node, in rounds: one begins S seconds after the one before began, or at once where that took longer, 1 to 1000000000. A node asks another at most 256 times in 135 seconds",
+        help: "Repeats the requests in rounds: one begins S seconds, 1 to 1000000000, after the one before began, or at once if that took longer. A node asks another at most 256 times in 135 seconds",
     },
     Word {
         name: "times",
         form: Form::Number("N", 1_000_000_000),
         need: Need::Beside("every"),
         against: &[],
-        help: "How many rounds there are, 1 to 1000000000; without it, it asks until it is ended",
+        help: "The number of rounds, 1 to 1000000000; by default it asks until you stop it",
     },
     Word {
         name: "WORDS",
@@ -401,11 +404,11 @@ const ASK: &[Word] = &[
     },
 ];
 
-/// The commands that need no link, in the order of help.
+/// The commands that need no link, in the order in which help lists them.
 pub(crate) const OFFLINE: &[Grammar] = &[
     Grammar {
         name: "answer",
-        about: "Prints the datagrams that answer a datagram, one a line, or `none`",
+        about: "Prints what a server sends back for a datagram, one datagram a line, or `none`",
         after: "Example: bac answer 810A001101040005010C0C000000051955",
         words: ANSWER,
     },
@@ -417,35 +420,35 @@ pub(crate) const OFFLINE: &[Grammar] = &[
     },
     Grammar {
         name: "check",
-        about: "Prints the bad frames of a file of pcap or pcapng, or the bad lines of a capture, and how many are good",
+        about: "Prints the bad frames of a pcap or pcapng file, or the bad lines of a capture, and how many are good",
         after: CHECK_EXAMPLES,
         words: CHECK,
     },
     Grammar {
         name: "explain",
-        about: "Prints the transactions of a file of pcap or pcapng, how they ended, and what was wrong with their datagrams",
+        about: "Lists the transactions in a pcap or pcapng file, how they ended, and what is wrong with their datagrams",
         after: EXPLAIN_EXAMPLES,
         words: EXPLAIN,
     },
     Grammar {
         name: "simulate",
-        about: "Runs a script of events in a network of nodes, and prints what comes of each",
+        about: "Runs a script of events in a simulated network, and prints what each does",
         after: SIMULATE_EXAMPLES,
         words: SIMULATE,
     },
 ];
 
-/// The others, which stand behind them in help.
+/// The other commands, which help lists after those.
 pub(crate) const ONLINE: &[Grammar] = &[
     Grammar {
         name: "serve",
-        about: "Serves a house over UDP on 127.0.0.1, and prints how many requests it performed",
+        about: "Serves a house over UDP, and prints how many requests it performed",
         after: SERVE_EXAMPLES,
         words: SERVE,
     },
     Grammar {
         name: "ask",
-        about: "Asks a node, and prints how that ended",
+        about: "Asks a node, and prints how the ask ended",
         after: ASK_EXAMPLES,
         words: ASK,
     },

@@ -257,7 +257,7 @@ fn print_members<W: Write>(
     }
 }
 
-/// Prints an APDU: its kind and its members, as docs/PROTOCOL.md lists them, an Error and the reasons of a Reject and an Abort in words or not.
+/// Prints an APDU: its kind and its members, as docs/COMMANDS.md ("Decode") lists them, an Error and the reasons of a Reject and an Abort in words or not.
 #[tactic(auto, unfolding(crate::specs::Texts::apdu_text))]
 pub(crate) fn print_apdu<W: Write>(
     alloc: Global,

@@ -40,7 +40,7 @@ fn ask_and_print<L: Link, C: Clock, O: Write, E: Write>(
 }
 
 /// A node asks, and takes at most 100,000 turns on its link, each with that wait_limit, until the ask has ended; how it did is printed in that format, as
-/// [`tell_end`](crate::tell_end) does. Ends with `Faulty` where the ask did not succeed. Where progress is shown, one line of `err`, a terminal, has how many octets
+/// [`print_ask_end`](crate::print_ask_end) does. Ends with `Faulty` where the ask did not succeed. Where progress is shown, one line of `err`, a terminal, has how many octets
 /// its turns have sent and received, from the first quarter of a second on, until it has ended.
 ///
 /// `link fault` on `err` where the link can't receive, `clock fault` where the clock goes back, both with status `Output`; `no memory` where memory is

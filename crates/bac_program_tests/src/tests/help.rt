@@ -79,7 +79,7 @@ const WORDS: &[(&str, &str)] = &[
         "ask --help",
         "Example: bac ask --port 47808 put file:1 0 @log.bin",
     ),
-    ("ask --help", "COUNT how many are got"),
+    ("ask --help", "COUNT the number of octets to get"),
     ("pair --help", "Example: bac pair"),
     (
         "answer --help",
@@ -91,6 +91,9 @@ const WORDS: &[(&str, &str)] = &[
     ("simulate --help", "Usage: bac simulate [OPTIONS] <FILE>"),
     ("simulate --help", "Example: bac simulate script.txt"),
     ("simulate --help", "deliver K"),
+    ("simulate --help", "set N T:I P HEX"),
+    ("simulate --help", "file N T:I HEX"),
+    ("simulate --help", "restart N"),
     ("simulate --help", "nodes and datagrams count from 0"),
 ];
 
@@ -115,14 +118,23 @@ const BEGINNINGS: &[(&str, &str)] = &[
     ("--help", "BACnet confirmed services, proved\n"),
     (
         "answer --help",
-        "Prints the datagrams that answer a datagram",
+        "Prints what a server sends back for a datagram",
     ),
     ("decode --help", "Prints the layers of a datagram"),
-    ("check --help", "Prints the bad frames of a file"),
-    ("explain --help", "Prints the transactions of a file"),
-    ("simulate --help", "Runs a script of events in a network"),
-    ("serve --help", "Serves a house over UDP"),
-    ("ask --help", "Asks a node, and prints how that ended\n"),
+    (
+        "check --help",
+        "Prints the bad frames of a pcap or pcapng file",
+    ),
+    (
+        "explain --help",
+        "Lists the transactions in a pcap or pcapng file",
+    ),
+    (
+        "simulate --help",
+        "Runs a script of events in a simulated network",
+    ),
+    ("serve --help", "Serves a house over UDP, and prints"),
+    ("ask --help", "Asks a node, and prints how the ask ended\n"),
     ("pair --help", "Runs two nodes on free UDP ports"),
 ];
 
