@@ -6,7 +6,7 @@ use Rattle.bac_explain_report.specs.Accounts as plain
 use Rattle.bac_explain_report.specs.Accounts.{HearingView, FrameReportView}
 use Rattle.bac_explain_report.specs.Accounts.FrameReportView.{NothingReported, UnreadReported, HeardReported}
 use Rattle.bac_explain_report.specs.declared.account.Account.{Account}
-use Rattle.bac_explain_report.specs.declared.told.Hearing.{Hearing}
+use Rattle.bac_explain_report.specs.declared.frame_report.Hearing.{Hearing}
 use Rattle.bac_explain_report.specs.declared.frame_report.FrameReport.{FrameReport}
 use Rattle.bac_explain_report.specs.declared.frame_report.FrameReport.TheVariants as told
 
