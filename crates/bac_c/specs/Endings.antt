@@ -3,7 +3,7 @@ use Rattle.std.specs.Prelude.{ℕ, ℤ, pos, Bool, true, false, List, []}
 use Rattle.bac_service.specs.Values.{Complex}
 use Rattle.bac_service.specs.Values.Complex.{FileRead, StreamWritten, RecordsWritten, PropertyRead}
 use Rattle.bac_service.specs.Replies as reply
-use Rattle.bac_transaction.specs.Meanings.{Ending, Finish}
+use Rattle.bac_transaction.specs.Meanings.{Ending, EndedView}
 use Rattle.bac_c.specs.declared.records.End.{End}
 
 abbrev told : (ticket how class code : ℕ) → (position : ℤ) → End
@@ -32,7 +32,7 @@ ending_end t (Ending.Aborted reason) = told t 4 0 reason (pos 0)
 ending_end t Ending.TimedOut = told t 5 0 0 (pos 0)
 ending_end t Ending.Expired = told t 6 0 0 (pos 0)
 
-abbrev pub end_of : Finish → End
+abbrev pub end_of : EndedView → End
 end_of f = ending_end f.ticket f.how
 
 -- the octets of values or of a file that came
@@ -40,5 +40,5 @@ abbrev octets_in : Ending → List ℕ
 octets_in (Ending.Answered r) = reply.held_by r
 octets_in _ = []
 
-abbrev pub octets_of : Finish → List ℕ
+abbrev pub octets_of : EndedView → List ℕ
 octets_of f = octets_in f.how

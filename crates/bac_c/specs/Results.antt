@@ -1,7 +1,7 @@
 -- What a C program reads of what came of a call.
 use Rattle.std.specs.Prelude.{◌≡◌, ◌≤◌, ◌<◌, ◌++◌, ℕ, List, [], Option, Some, None, MatchOption, length, drop, slice_get}
 use Rattle.std.specs.Option.{option_map}
-use Rattle.bac_transaction.specs.Meanings.{Finish}
+use Rattle.bac_transaction.specs.Meanings.{EndedView}
 use Rattle.bac_transaction.specs.Sends.{Datagram}
 use Rattle.bac_requester.specs.Views.{ended_view}
 use Rattle.bac_world.specs.Node.{Node}
@@ -27,11 +27,11 @@ octets_sent None = []
 octets_sent (Some d) = d.octets
 
 -- the ending at an index, where an ask has ended
-abbrev pub end_in : Option Device → (index : ℕ) → Option Finish
+abbrev pub end_in : Option Device → (index : ℕ) → Option EndedView
 end_in None i = None
 end_in (Some d) i = option_map ended_view (slice_get d.outcome.ended.items i)
 
-abbrev pub octets_ended : Option Finish → List ℕ
+abbrev pub octets_ended : Option EndedView → List ℕ
 octets_ended None = []
 octets_ended (Some f) = octets_of f
 

@@ -1,6 +1,6 @@
 -- Captures whose first octets are read separately.
 use Rattle.std.proofs.Common.{◌≡◌, ℕ, Bool, List, ◌++◌, take, drop, Option, Some, None, ap, subst, ◌∙◌, arith, length-take, take-append-drop}
-use Rattle.bac_capture.specs.declared.form.Form.{Form}
+use Rattle.bac_capture.specs.declared.form.FileFormat.{FileFormat}
 use Rattle.bac_capture.specs.declared.order.Order.{Order}
 use Rattle.bac_capture.specs.Forms.{form_of}
 use Rattle.bac_capture.specs.Runs.{RUN_LIMIT, IsRun}
@@ -15,7 +15,7 @@ use Rattle.bac_capture.specs.Counts.{Counts, no_frames, IsTallied}
 use Rattle.bac_capture.specs.Reports.{IsFileWalked}
 
 -- a command that stopped guarantees nothing
-stop_in : (also : Option ℕ) (named : Bool) (form : Option (Form × Order)) (xs : List ℕ) (a b : Option (List ℕ)) (s : Status) → IsStop s → IsReportIn also named form xs a b s
+stop_in : (also : Option ℕ) (named : Bool) (form : Option (FileFormat × Order)) (xs : List ℕ) (a b : Option (List ℕ)) (s : Status) → IsStop s → IsReportIn also named form xs a b s
 stop_in also named None xs a b status.Done h = absurd h
 stop_in also named None xs a b status.Faulty h = absurd h
 stop_in also named None xs a b status.CommandLine h = tt
@@ -41,7 +41,7 @@ front_reported also named (Some xs) left a b front shown w s run same report =
     subst (λ (l : List ℕ). IsReportIn also named (form_of l) xs a b s) is (subst (λ (l : List ℕ). IsReportIn also named (form_of shown) l a b s) whole here)
 
 -- a file that was passed over, and the counts that were printed after that
-pub walked_reported : (also : Option ℕ) (named : Bool) (form : Form) (order : Order) (input a b c : Option (List ℕ)) (final : Counts) (s : Status)
+pub walked_reported : (also : Option ℕ) (named : Bool) (form : FileFormat) (order : Order) (input a b c : Option (List ℕ)) (final : Counts) (s : Status)
     → IsFileWalked Counts (SeesFrame also) BreaksFile form order input a b no_frames final → Appends b c (tally_text named final) → IsTallied final.bad s
     → IsFileReport also named form order input a c s
 walked_reported also named form order input a b c final status.Done walked printed tallied = checked input walked

@@ -4,8 +4,8 @@ use Rattle.bac_capture.specs.declared.fault.FileFault.{FileFault}
 use Rattle.bac_capture.specs.declared.fault.FileFault.TheVariants.{Cut}
 use Rattle.bac_capture.specs.declared.file.Interface.{Interface}
 use Rattle.bac_capture.specs.declared.file.Layout.{Layout}
-use Rattle.bac_capture.specs.declared.form.Form.{Form}
-use Rattle.bac_capture.specs.declared.form.Form.TheVariants.{Records, Blocks}
+use Rattle.bac_capture.specs.declared.form.FileFormat.{FileFormat}
+use Rattle.bac_capture.specs.declared.form.FileFormat.TheVariants.{Records, Blocks}
 use Rattle.bac_capture.specs.declared.moment.Resolution.{Resolution}
 use Rattle.bac_capture.specs.declared.moment.Resolution.TheVariants.{Microseconds, Nanoseconds}
 use Rattle.bac_capture.specs.declared.order.Order.{Order}
@@ -28,11 +28,11 @@ abbrev pub header_layout : Order → List ℕ → LayoutView
 header_layout order header = record { form = Records; order = order; interfaces = header_interface order header ∷ [] }
 
 -- pcap has a header of 24 octets; pcapng begins with its first block
-abbrev pub begun_at : Form → Order → List ℕ → Result (LayoutView × List ℕ) FileFault
+abbrev pub begun_at : FileFormat → Order → List ℕ → Result (LayoutView × List ℕ) FileFault
 begun_at Records order octets = if nat_lt (length octets) 24 then Err Cut else Ok (header_layout order (take 24 octets), drop 24 octets)
 begun_at Blocks order octets = Ok (record { form = Blocks; order = order; interfaces = [] }, octets)
 
-abbrev pub IsBegun : Form → Order → Option (List ℕ) → Option (List ℕ) → Result Layout FileFault → Type 0
+abbrev pub IsBegun : FileFormat → Order → Option (List ℕ) → Option (List ℕ) → Result Layout FileFault → Type 0
 IsBegun form order None new answer = ⊤
 IsBegun form order (Some octets) new (Err fault) = begun_at form order octets ≡ Err fault
 IsBegun form order (Some octets) new (Ok layout) = (rest : List ℕ) × (new ≡ Some rest) × (begun_at form order octets ≡ Ok (layout_view layout, rest))

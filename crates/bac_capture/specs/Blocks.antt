@@ -4,8 +4,8 @@ use Rattle.std.specs.Prelude.{nat_lt, nat_le, ◌==◌, if◌then◌else◌, Opt
 use Rattle.bac_value.specs.Steps.{◌>>=◌}
 use Rattle.bac_capture.specs.declared.fault.FileFault.{FileFault}
 use Rattle.bac_capture.specs.declared.fault.FileFault.TheVariants.{ByteOrder, BlockLength, NoInterface, TooManyInterfaces}
-use Rattle.bac_capture.specs.declared.form.Form.{Form}
-use Rattle.bac_capture.specs.declared.form.Form.TheVariants.{Records, Blocks}
+use Rattle.bac_capture.specs.declared.form.FileFormat.{FileFormat}
+use Rattle.bac_capture.specs.declared.form.FileFormat.TheVariants.{Records, Blocks}
 use Rattle.bac_capture.specs.declared.file.Interface.{Interface}
 use Rattle.bac_capture.specs.declared.moment.TheConstants.{OPTION_LIMIT}
 use Rattle.bac_capture.specs.declared.order.Order.{Order}
@@ -15,7 +15,7 @@ use Rattle.bac_capture.specs.Orders.{number_of}
 
 -- how to read the rest of a file
 pub record LayoutView : Type 0 where
-  pub form : Form
+  pub form : FileFormat
   pub order : Order
   pub interfaces : List Interface
 
@@ -111,7 +111,7 @@ record_frame_of layout head body = do
   interface ← interface_of layout.interfaces 0
   record_frame_in layout.order head body interface
 
-abbrev pub block_in : Form → LayoutView → (head body : List ℕ) → Result BlockView FileFault
+abbrev pub block_in : FileFormat → LayoutView → (head body : List ℕ) → Result BlockView FileFault
 block_in Records layout head body = framed (record_frame_of layout head body)
 block_in Blocks layout head body =
     if is_section head then section_block_in (section_order_of (drop 8 head)) else typed_block_of layout head body

@@ -2,7 +2,7 @@
 use Rattle.std.specs.Prelude.{◌≡◌, ◌==◌, ℕ, zero, suc, ◌+◌, ◌++◌, Bool, true, false, if◌then◌else◌, List, [], take, slice_index, codes, decimal, ⊤, Option, Some, None}
 use Rattle.std.specs.Io.KnownBytes.{Appends}
 use Rattle.bac_capture.specs.declared.fault.FileFault.{FileFault}
-use Rattle.bac_capture.specs.declared.form.Form.{Form}
+use Rattle.bac_capture.specs.declared.form.FileFormat.{FileFormat}
 use Rattle.bac_capture.specs.declared.order.Order.{Order}
 use Rattle.bac_capture.specs.declared.bvlc.BvlcFunction.{BvlcFunction}
 use Rattle.bac_capture.specs.Begins.{begun_at}
@@ -73,19 +73,19 @@ abbrev pub BreaksFile : Prints FileFault Counts
 BreaksFile fault counts text next = IsCounted (Bad (File fault)) counts text next
 
 -- what is printed for a file, and the status: what is wrong with its frames, and then the counts
-pub record IsChecked (also : Option ℕ) (named : Bool) (form : Form) (order : Order) (file : List ℕ) (old new : Option (List ℕ)) (status : Status) : Type 0 where
+pub record IsChecked (also : Option ℕ) (named : Bool) (form : FileFormat) (order : Order) (file : List ℕ) (old new : Option (List ℕ)) (status : Status) : Type 0 where
   pub text : List ℕ
   pub counts : Counts
   pub read : IsFileIn Counts (SeesFrame also) BreaksFile no_frames (begun_at form order file) text counts
   pub printed : Appends old new (text ++ tally_text named counts)
   pub tallied : IsTallied counts.bad status
 
-abbrev pub IsCheckOf : Option ℕ → (named : Bool) → Form → Order → Option (List ℕ) → Option (List ℕ) → Option (List ℕ) → Status → Type 0
+abbrev pub IsCheckOf : Option ℕ → (named : Bool) → FileFormat → Order → Option (List ℕ) → Option (List ℕ) → Option (List ℕ) → Status → Type 0
 IsCheckOf also named form order None old new status = ⊤
 IsCheckOf also named form order (Some file) old new status = IsChecked also named form order file old new status
 
 -- if the command ends with 0 or 1, the whole file was checked; other statuses guarantee nothing about it
-abbrev pub IsFileReport : Option ℕ → (named : Bool) → Form → Order → Option (List ℕ) → Option (List ℕ) → Option (List ℕ) → Status → Type 0
+abbrev pub IsFileReport : Option ℕ → (named : Bool) → FileFormat → Order → Option (List ℕ) → Option (List ℕ) → Option (List ℕ) → Status → Type 0
 IsFileReport also named form order file old new Done = IsCheckOf also named form order file old new Done
 IsFileReport also named form order file old new Faulty = IsCheckOf also named form order file old new Faulty
 IsFileReport also named form order file old new CommandLine = ⊤
@@ -94,7 +94,7 @@ IsFileReport also named form order file old new Memory = ⊤
 
 -- ---- any capture
 
-abbrev pub IsReportIn : Option ℕ → (named : Bool) → Option (Form × Order) → List ℕ → Option (List ℕ) → Option (List ℕ) → Status → Type 0
+abbrev pub IsReportIn : Option ℕ → (named : Bool) → Option (FileFormat × Order) → List ℕ → Option (List ℕ) → Option (List ℕ) → Status → Type 0
 IsReportIn also named None octets old new status = lines.IsReportOf (Some octets) old new status
 IsReportIn also named (Some form) octets old new status = IsFileReport also named form.0 form.1 (Some octets) old new status
 

@@ -3,8 +3,8 @@ use Rattle.std.specs.Prelude.{◌≡◌, ℕ, ◌-◌, ◌%◌, Bool, true, fals
 use Rattle.std.specs.Prelude.{nat_lt, ◌==◌, ◌||◌, if◌then◌else◌, Option, Some, None, ⊤}
 use Rattle.bac_capture.specs.declared.fault.FileFault.{FileFault}
 use Rattle.bac_capture.specs.declared.fault.FileFault.TheVariants.{Cut, ByteOrder, BlockLength}
-use Rattle.bac_capture.specs.declared.form.Form.{Form}
-use Rattle.bac_capture.specs.declared.form.Form.TheVariants.{Records, Blocks}
+use Rattle.bac_capture.specs.declared.form.FileFormat.{FileFormat}
+use Rattle.bac_capture.specs.declared.form.FileFormat.TheVariants.{Records, Blocks}
 use Rattle.bac_capture.specs.declared.order.Order.{Order}
 use Rattle.bac_capture.specs.declared.order.Order.TheVariants.{Big, Little}
 use Rattle.bac_capture.specs.Forms.{are_octets}
@@ -15,7 +15,7 @@ use Rattle.bac_capture.specs.Runs.{kept}
 
 -- a pcap record begins with two numbers for its timestamp, and how many octets were captured and sent; a block of pcapng with its type, its length,
 -- and the first number of its contents
-abbrev pub head_len_of : Form → ℕ
+abbrev pub head_len_of : FileFormat → ℕ
 head_len_of Records = 16
 head_len_of Blocks = 12
 
@@ -43,7 +43,7 @@ abbrev pub block_len_of : Order → List ℕ → Result ℕ FileFault
 block_len_of order head = block_len_in (block_order_of order head) head
 
 -- how many octets follow the head
-abbrev pub body_len_of : Form → Order → List ℕ → Result ℕ FileFault
+abbrev pub body_len_of : FileFormat → Order → List ℕ → Result ℕ FileFault
 body_len_of Records order head = Ok (number_of order 4 (drop 8 head))
 body_len_of Blocks order head = block_len_of order head
 
@@ -60,12 +60,12 @@ body_at head (Err fault) octets = Broken fault
 body_at head (Ok size) octets =
     if nat_lt (length octets) size then Broken Cut else Whole head (kept (take size octets)) (drop size octets)
 
-abbrev pub head_at : Form → Order → List ℕ → Record
+abbrev pub head_at : FileFormat → Order → List ℕ → Record
 head_at form order octets =
     if nat_lt (length octets) (head_len_of form) then Broken Cut else
     body_at (take (head_len_of form) octets) (body_len_of form order (take (head_len_of form) octets)) (drop (head_len_of form) octets)
 
-abbrev pub record_at : Form → Order → List ℕ → Record
+abbrev pub record_at : FileFormat → Order → List ℕ → Record
 record_at form order [] = Ended
 record_at form order (octet ∷ octets) = head_at form order (octet ∷ octets)
 
@@ -75,12 +75,12 @@ seen (Err fault) head body rest = Broken fault
 seen (Ok false) head body rest = Ended
 seen (Ok true) head body rest = Whole head body rest
 
-pub record IsRecordOf (form : Form) (order : Order) (octets : List ℕ) (new : Option (List ℕ)) (head body : List ℕ) (answer : Result Bool FileFault) : Type 0 where
+pub record IsRecordOf (form : FileFormat) (order : Order) (octets : List ℕ) (new : Option (List ℕ)) (head body : List ℕ) (answer : Result Bool FileFault) : Type 0 where
   pub rest : List ℕ
   pub is : new ≡ Some rest
   pub exact : record_at form order octets ≡ seen answer head body rest
 
-abbrev pub IsRecord : Form → Order → Option (List ℕ) → Option (List ℕ) → (head body : List ℕ) → Result Bool FileFault → Type 0
+abbrev pub IsRecord : FileFormat → Order → Option (List ℕ) → Option (List ℕ) → (head body : List ℕ) → Result Bool FileFault → Type 0
 IsRecord form order None new head body answer = ⊤
 IsRecord form order (Some octets) new head body answer = IsRecordOf form order octets new head body answer
 

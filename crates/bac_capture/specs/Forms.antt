@@ -1,7 +1,7 @@
 -- The forms of capture files, by the first four octets.
 use Rattle.std.specs.Prelude.{ℕ, List, [], ◌∷◌, ◌==◌, ◌&&◌, ◌||◌, Bool, false, if◌then◌else◌, Option, Some, None}
-use Rattle.bac_capture.specs.declared.form.Form.{Form}
-use Rattle.bac_capture.specs.declared.form.Form.TheVariants.{Records, Blocks}
+use Rattle.bac_capture.specs.declared.form.FileFormat.{FileFormat}
+use Rattle.bac_capture.specs.declared.form.FileFormat.TheVariants.{Records, Blocks}
 use Rattle.bac_capture.specs.declared.order.Order.{Order}
 use Rattle.bac_capture.specs.declared.order.Order.TheVariants.{Big, Little}
 
@@ -11,7 +11,7 @@ are_octets a b c d (w ∷ x ∷ y ∷ z ∷ []) = w == a && x == b && y == c && 
 are_octets a b c d octets = false
 
 -- pcap with microseconds and with nanoseconds, in both byte orders, and pcapng
-abbrev pub form_of : List ℕ → Option (Form × Order)
+abbrev pub form_of : List ℕ → Option (FileFormat × Order)
 form_of front =
     if are_octets 0xA1 0xB2 0xC3 0xD4 front || are_octets 0xA1 0xB2 0x3C 0x4D front then Some (Records, Big) else
     (if are_octets 0xD4 0xC3 0xB2 0xA1 front || are_octets 0x4D 0x3C 0xB2 0xA1 front then Some (Records, Little) else

@@ -1,12 +1,12 @@
 //! The headers of capture files.
 ghost use Rattle.std.specs.Prelude.{◌≡◌, length, IfOk};
-ghost use Rattle.bac_capture.specs.declared.form.Form.TheVariants.{Records};
+ghost use Rattle.bac_capture.specs.declared.form.FileFormat.TheVariants.{Records};
 ghost use Rattle.bac_capture.specs.Begins.{header_layout, header_resolution, IsBegun};
 ghost use Rattle.bac_capture.specs.BlockViews.{layout_view};
 
 use crate::fault::FileFault;
 use crate::file::{Interface, Layout};
-use crate::form::Form;
+use crate::form::FileFormat;
 use crate::moment::Resolution;
 use crate::order::Order;
 use crate::run::read_run;
@@ -46,7 +46,7 @@ fn header_layout(alloc: Global, order: Order, header: &[u8]) -> Result<Layout, A
         resolution,
     })?;
     Ok(Layout {
-        form: Form::Records,
+        form: FileFormat::Records,
         order,
         interfaces,
     })
@@ -73,15 +73,15 @@ impl Layout {
     /// the rest. Returns `Cut` if the file ends within the header.
     pub fn begin<R: BufRead>(
         alloc: Global,
-        form: Form,
+        form: FileFormat,
         order: Order,
         input: &mut R,
     ) -> io::Result<Result<Layout, FileFault>>
         ensures { IfOk result (IsBegun form order (R.remaining input.old) (R.remaining input.new)) }
     {
         match form {
-            Form::Records => read_header(alloc, order, input),
-            Form::Blocks => Ok(Ok(Layout {
+            FileFormat::Records => read_header(alloc, order, input),
+            FileFormat::Blocks => Ok(Ok(Layout {
                 form,
                 order,
                 interfaces: Vec::new(alloc),

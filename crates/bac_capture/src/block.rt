@@ -7,7 +7,7 @@ ghost use Rattle.bac_capture.specs.BlockViews.{frame_view, block_view, layout_vi
 
 use crate::fault::FileFault;
 use crate::file::{Interface, Layout, is_section, section_order};
-use crate::form::Form;
+use crate::form::FileFormat;
 use crate::moment::{OPTION_LIMIT, block_moment, record_moment, resolution_in, resolution_of};
 use crate::order::Order;
 use std::alloc::AllocError;
@@ -148,12 +148,12 @@ impl Layout {
         ensures { ReadsAll block_view result (block_at (layout_view self.now) head.now body.now) }
     {
         match self.form {
-            Form::Records => Ok(Block::Frame(self.record_frame(head, body)?)),
-            Form::Blocks if is_section(head) => match section_order(&head[8..]) {
+            FileFormat::Records => Ok(Block::Frame(self.record_frame(head, body)?)),
+            FileFormat::Blocks if is_section(head) => match section_order(&head[8..]) {
                 Some(order) => Ok(Block::Section(order)),
                 None => Err(FileFault::ByteOrder),
             },
-            Form::Blocks => self.typed_block(head, body),
+            FileFormat::Blocks => self.typed_block(head, body),
         }
     }
 

@@ -13,7 +13,7 @@ use crate::judging::judge;
 use crate::others::print_named;
 use crate::tally::Tally;
 use crate::walk::{FrameVisitor, walk_file};
-use crate::{FileFault, Form, Frame, Order, Ports, form_of, read_run};
+use crate::{FileFault, FileFormat, Frame, Order, Ports, form_of, read_run};
 use bac_text::{Status, check_over};
 use std::alloc::Global;
 use std::io;
@@ -86,7 +86,7 @@ fn print_tally<W: Write>(named: bool, tally: Tally, out: &mut W) -> io::Result<(
 
 fn check_all<R: BufRead, W: Write>(
     alloc: Global,
-    form: Form,
+    form: FileFormat,
     order: Order,
     input: &mut R,
     ports: Ports,
@@ -106,7 +106,7 @@ fn check_all<R: BufRead, W: Write>(
 /// Checks a capture file of this form and byte order.
 fn check_file<R: BufRead, O: Write, E: Write>(
     alloc: Global,
-    form: Form,
+    form: FileFormat,
     order: Order,
     input: &mut R,
     ports: Ports,

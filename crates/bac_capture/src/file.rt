@@ -3,7 +3,7 @@ ghost use Rattle.std.specs.Prelude.{◌≡◌, Ok, true, length, IfOk};
 ghost use Rattle.bac_capture.specs.Files.{head_len_of, section_order_of, is_section, block_order_of, block_len_of, body_len_of, IsBody, IsRecord};
 
 use crate::fault::FileFault;
-use crate::form::Form;
+use crate::form::FileFormat;
 use crate::moment::Resolution;
 use crate::order::Order;
 use crate::run::read_run;
@@ -24,7 +24,7 @@ pub struct Interface {
 /// How to read the rest of a capture file, as its header and its sections define.
 #[derive(Debug, Drop)]
 pub struct Layout {
-    pub(crate) form: Form,
+    pub(crate) form: FileFormat,
     pub(crate) order: Order,
     pub(crate) interfaces: Vec<Interface>,
 }
@@ -56,8 +56,8 @@ impl Layout {
         ensures { result ≡ head_len_of self.now.form }
     {
         match self.form {
-            Form::Records => 16,
-            Form::Blocks => 12,
+            FileFormat::Records => 16,
+            FileFormat::Blocks => 12,
         }
     }
 
@@ -94,8 +94,8 @@ impl Layout {
         ensures { result ≡ body_len_of self.now.form self.now.order head.now }
     {
         match self.form {
-            Form::Records => Ok(self.order.long(&head[8..]) as usize),
-            Form::Blocks => self.block_len(head),
+            FileFormat::Records => Ok(self.order.long(&head[8..]) as usize),
+            FileFormat::Blocks => self.block_len(head),
         }
     }
 

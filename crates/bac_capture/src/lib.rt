@@ -43,7 +43,7 @@ pub use check::check_capture_over;
 pub use error::{CheckError, stopped};
 pub use fault::{FileFault, PacketFault};
 pub use file::{Interface, Layout};
-pub use form::{Form, form_of};
+pub use form::{FileFormat, form_of};
 pub use laws::{longest_packet_is_kept, options_that_count};
 pub use link::LinkKind;
 pub use moment::Resolution;

@@ -7,7 +7,7 @@ ghost use Rattle.bac_capture.specs.Files.{head_len_of};
 ghost use Rattle.bac_capture.specs.Reports.{AreWalked, IsBroken, IsFileWalked, IsStep, IsTaken, IsPrinted, IsWholeTaken};
 
 use crate::error::CheckError;
-use crate::{Block, FileFault, Form, Frame, Layout, Order, Ports};
+use crate::{Block, FileFault, FileFormat, Frame, Layout, Order, Ports};
 use std::alloc::Global;
 use std::io;
 use std::io::{BufRead, ErrorKind, Write};
@@ -159,7 +159,7 @@ fn walk_records<R: BufRead, W: Write, V: FrameVisitor<W>>(
 /// of the file, up to its end or to where it cannot be read further. Memory does not grow with the file.
 pub fn walk_file<R: BufRead, W: Write, V: FrameVisitor<W>>(
     alloc: Global,
-    form: Form,
+    form: FileFormat,
     order: Order,
     input: &mut R,
     ports: Ports,

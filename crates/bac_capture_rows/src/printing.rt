@@ -2,7 +2,7 @@
 use crate::seen::file_of;
 use crate::words::octets_of;
 use bac_capture::{Ports, check_capture_over};
-use bac_explain_report::{Form, chart_over, explain_over};
+use bac_explain_report::{ChartFormat, chart_over, explain_over};
 use std::alloc::Global;
 use std::io::{BufRead, BufReader, Write};
 
@@ -17,7 +17,7 @@ pub(crate) enum Print {
     /// The transactions.
     Explain,
     /// A chart of them.
-    Chart(Form),
+    Chart(ChartFormat),
 }
 
 /// Prints that; the exit status.
@@ -109,7 +109,7 @@ pub(crate) fn print_end_of_chart(alloc: Global, lines: &str, out: &mut Vec<u8>) 
     let mut err = Vec::new(alloc);
     let code = status_of(
         alloc,
-        Print::Chart(Form::Chart),
+        Print::Chart(ChartFormat::Chart),
         &mut input,
         &mut drawn,
         &mut err,

@@ -2,7 +2,7 @@
 use crate::printing::{Print, print_end_of_chart, print_octets, print_seen};
 use crate::words::first;
 use crate::{failing, frames, transactions, worlds};
-use bac_explain_report::Form;
+use bac_explain_report::ChartFormat;
 use std::alloc::Global;
 use std::io;
 use std::io::Write;
@@ -30,14 +30,17 @@ const KINDS: &[(&str, Kind)] = &[
     ("transaction", Kind::Transaction),
     ("worlds", Kind::Worlds),
     ("explain", Kind::Seen(Print::Explain)),
-    ("chart", Kind::Seen(Print::Chart(Form::Chart))),
-    ("mermaid", Kind::Seen(Print::Chart(Form::Mermaid))),
+    ("chart", Kind::Seen(Print::Chart(ChartFormat::Chart))),
+    ("mermaid", Kind::Seen(Print::Chart(ChartFormat::Mermaid))),
     ("end", Kind::End),
     ("check", Kind::File(Print::Check)),
     ("named", Kind::File(Print::Named)),
     ("explain-file", Kind::File(Print::Explain)),
-    ("chart-file", Kind::File(Print::Chart(Form::Chart))),
-    ("mermaid-file", Kind::File(Print::Chart(Form::Mermaid))),
+    ("chart-file", Kind::File(Print::Chart(ChartFormat::Chart))),
+    (
+        "mermaid-file",
+        Kind::File(Print::Chart(ChartFormat::Mermaid)),
+    ),
     ("input", Kind::Input),
     ("output", Kind::Output(Print::Check)),
     ("named-output", Kind::Output(Print::Named)),

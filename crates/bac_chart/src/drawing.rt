@@ -14,7 +14,7 @@ use std::io::Write;
 
 /// What marks are drawn as.
 #[derive(Clone, Copy, Debug, PartialEq, Eq)]
-pub enum Form {
+pub enum ChartFormat {
     /// Text for a terminal: a column for each node, 41 characters wide.
     Chart,
     /// A `sequenceDiagram` of Mermaid.
@@ -47,19 +47,24 @@ fn mermaid_text(alloc: Global, line: &Line) -> Result<Vec<u8>, AllocError>
 }
 
 /// The text of a line, where there are so many nodes: a row of a chart, or a statement of Mermaid.
-pub fn line_text(alloc: Global, form: Form, nodes: u64, line: &Line) -> Result<Vec<u8>, AllocError>
+pub fn line_text(
+    alloc: Global,
+    form: ChartFormat,
+    nodes: u64,
+    line: &Line,
+) -> Result<Vec<u8>, AllocError>
     ensures { IfOk result (λ t. t.items ≡ line_text form nodes (line_view line.now)) }
 {
     match form {
-        Form::Chart => row_text(alloc, nodes, line),
-        Form::Mermaid => mermaid_text(alloc, line),
+        ChartFormat::Chart => row_text(alloc, nodes, line),
+        ChartFormat::Mermaid => mermaid_text(alloc, line),
     }
 }
 
 /// The text of the mark at a place.
 fn mark_text(
     alloc: Global,
-    form: Form,
+    form: ChartFormat,
     nodes: u64,
     marks: &[Mark],
     place: usize,
@@ -77,7 +82,7 @@ fn mark_text(
 /// comes is drawn where it was sent, as lost. Fails where memory is refused, by the kind of the error, or where the output does.
 pub fn print_drawing<W: Write>(
     alloc: Global,
-    form: Form,
+    form: ChartFormat,
     nodes: u64,
     marks: &[Mark],
     out: &mut W,

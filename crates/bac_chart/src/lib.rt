@@ -8,7 +8,7 @@ mod line;
 mod mark;
 mod row;
 
-pub use drawing::{Form, line_text, print_drawing};
+pub use drawing::{ChartFormat, line_text, print_drawing};
 pub use label::{datagram_words, octets_words};
 pub use line::{Line, coming_line, note_line};
 pub use mark::{Arrow, Mark};

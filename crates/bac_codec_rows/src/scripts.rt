@@ -3,7 +3,7 @@
 use crate::words::print_octets;
 use bac_service::{OwnedRequest, write_request};
 use bac_service_text::{FormFault, bad_word, read_request_words};
-use bac_simulate::{Ask, Noise, Setting, Step, read_setting, read_step};
+use bac_simulate::{Ask, Noise, Setting, Statement, read_setting, read_statement};
 use std::alloc::Global;
 use std::io::Write;
 
@@ -47,20 +47,20 @@ fn print_noise(noise: &Noise, out: &mut Vec<u8>) -> Option<()> {
     print_octets(&noise.octets, out)
 }
 
-fn print_step(alloc: Global, step: &Step, out: &mut Vec<u8>) -> Option<()> {
+fn print_step(alloc: Global, step: &Statement, out: &mut Vec<u8>) -> Option<()> {
     match step {
-        Step::Ask(ask) => print_ask(alloc, ask, out),
-        Step::Noise(noise) => print_noise(noise, out),
-        Step::Deliver(copy) => writeln!(out, "deliver {copy}").ok(),
-        Step::Lose(copy) => writeln!(out, "lose {copy}").ok(),
-        Step::Tick(node) => writeln!(out, "tick {node}").ok(),
-        Step::Advance(time) => writeln!(out, "advance {time}").ok(),
+        Statement::Ask(ask) => print_ask(alloc, ask, out),
+        Statement::Noise(noise) => print_noise(noise, out),
+        Statement::Deliver(copy) => writeln!(out, "deliver {copy}").ok(),
+        Statement::Lose(copy) => writeln!(out, "lose {copy}").ok(),
+        Statement::Tick(node) => writeln!(out, "tick {node}").ok(),
+        Statement::Advance(time) => writeln!(out, "advance {time}").ok(),
         _ => None,
     }
 }
 
 fn step(alloc: Global, line: &str, out: &mut Vec<u8>) -> Option<()> {
-    match read_step(alloc, line.as_bytes()) {
+    match read_statement(alloc, line.as_bytes()) {
         Ok(step) => print_step(alloc, &step, out),
         Err(FormFault::NoForm) => writeln!(out, "no form").ok(),
         Err(FormFault::NoMemory) => None,

@@ -1,7 +1,7 @@
 -- What `check`, `explain` and `simulate` print of a file, and their statuses.
 use Rattle.std.specs.Prelude.{◌≡◌, ℕ, Bool, List, Option, ⊤}
 use Rattle.bac_capture.specs.Checked.{IsReportOf}
-use Rattle.bac_chart.specs.declared.drawing.Form.{Form}
+use Rattle.bac_chart.specs.declared.drawing.ChartFormat.{ChartFormat}
 use Rattle.bac_explain_report.specs.Charted as charted
 use Rattle.bac_explain_report.specs.Explained as explained
 use Rattle.bac_text.specs.declared.status.Status.{Status}
@@ -40,7 +40,7 @@ abbrev pub IsExplainedFile : (IsAt : (path : List ℕ) → (content : Option (Li
 IsExplainedFile IsAt path also s old new = IsPrintedFile IsAt path s (λ content. explained.IsReportOf also content old new s)
 
 -- the datagrams of the capture in the file were drawn to its end
-abbrev pub IsChartedFile : (IsAt : (path : List ℕ) → (content : Option (List ℕ)) → Type 0) → Form → (path : List ℕ) → (also : Option ℕ) → Status
+abbrev pub IsChartedFile : (IsAt : (path : List ℕ) → (content : Option (List ℕ)) → Type 0) → ChartFormat → (path : List ℕ) → (also : Option ℕ) → Status
     → (old new : Option (List ℕ)) → Type 0
 IsChartedFile IsAt form path also s old new = IsPrintedFile IsAt path s (λ content. charted.IsReportOf form also content old new s)
 

@@ -5,7 +5,7 @@ ghost use Rattle.bac_text.specs.Statuses.{IsStop};
 ghost use Rattle.bac_command_line.specs.Files.{IsChartedFile, IsCheckedFile, IsExplainedFile, IsShownFile, IsSimulatedFile, OnFile};
 
 use bac_capture::{Ports, check_capture_over};
-use bac_explain_report::{Form, chart_over, explain_over};
+use bac_explain_report::{ChartFormat, chart_over, explain_over};
 use bac_simulate::{View, show_over, simulate_lines_over};
 use bac_text::{Status, complain, no_memory};
 use std::alloc::Global;
@@ -104,7 +104,7 @@ pub(crate) fn explain<F: OpenFiles, O: Write, E: Write>(
 pub(crate) fn chart<F: OpenFiles, O: Write, E: Write>(
     alloc: Global,
     files: &F,
-    form: Form,
+    form: ChartFormat,
     path: &str,
     port: Option<u16>,
     out: &mut O,

@@ -1,5 +1,5 @@
 //! Command lines, read by the table of commands.
-use crate::words::{Form, Grammar, Need, OFFLINE, ONLINE, Word};
+use crate::words::{Grammar, Need, OFFLINE, ONLINE, Word, WordForm};
 use clap::builder::ValueParser;
 use clap::{Arg, ArgAction, ArgMatches, Command};
 use std::alloc::Global;
@@ -10,16 +10,16 @@ fn text<'a>(arg: Arg<'a>, name: &'a str, value: &'a str) -> Arg<'a> {
 }
 
 /// An argument that is given as its word's form says.
-fn formed<'a>(arg: Arg<'a>, name: &'a str, form: Form) -> Arg<'a> {
+fn formed<'a>(arg: Arg<'a>, name: &'a str, form: WordForm) -> Arg<'a> {
     match form {
-        Form::Bare => arg.action(ArgAction::Set),
-        Form::Several => arg
+        WordForm::Bare => arg.action(ArgAction::Set),
+        WordForm::Several => arg
             .num_args(1..)
             .action(ArgAction::Append)
             .allow_negative_numbers(true),
-        Form::Flag => arg.long(name).action(ArgAction::SetTrue),
-        Form::Text(value) => text(arg, name, value),
-        Form::Number(value, most) => {
+        WordForm::Flag => arg.long(name).action(ArgAction::SetTrue),
+        WordForm::Text(value) => text(arg, name, value),
+        WordForm::Number(value, most) => {
             let parser = ValueParser::unsigned(1, most);
             text(arg, name, value).value_parser(parser)
         }

@@ -1,7 +1,7 @@
 //! What a command line asks for.
 use crate::asking::{Asking, asking_of};
 use crate::serving::{Serving, serving_of};
-use bac_explain_report::Form;
+use bac_explain_report::ChartFormat;
 use bac_simulate::View;
 use clap::ArgMatches;
 
@@ -32,7 +32,7 @@ pub(crate) enum Task<'m, 'a> {
     },
     /// The datagrams of the capture in this file, with such a port, drawn as that.
     Chart {
-        form: Form,
+        form: ChartFormat,
         path: &'a str,
         port: Option<u16>,
     },
@@ -82,11 +82,11 @@ fn view_of(given: &ArgMatches<'_>) -> Option<View> {
 }
 
 /// What the datagrams of a capture are to be drawn as; None where its transactions are printed.
-fn form_of(given: &ArgMatches<'_>) -> Option<Form> {
+fn form_of(given: &ArgMatches<'_>) -> Option<ChartFormat> {
     if given.get_flag("chart") {
-        Some(Form::Chart)
+        Some(ChartFormat::Chart)
     } else if given.get_flag("mermaid") {
-        Some(Form::Mermaid)
+        Some(ChartFormat::Mermaid)
     } else {
         None
     }

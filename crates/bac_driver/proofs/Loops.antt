@@ -3,7 +3,7 @@ use Rattle.std.proofs.Common.{◌≡◌, ℕ, suc, ◌+◌, ◌<◌, Bool, true,
 use Rattle.std.proofs.Common.{refl, ap, sym, ◌∙◌, subst, arith, add-one, inl, inr}
 use Rattle.std.specs.Option.{option_map}
 use Rattle.std.specs.Prelude.{IfSome, MatchOption}
-use Rattle.bac_transaction.specs.Meanings.{Ending, Finish}
+use Rattle.bac_transaction.specs.Meanings.{Ending, EndedView}
 use Rattle.bac_driver.specs.Turns.{Turn}
 use Rattle.bac_driver.specs.Moments.{with_moment}
 use Rattle.bac_protocol.specs.Service.{Octets}
@@ -146,7 +146,7 @@ none_told f None is never same = sym same
 none_told f (Some a) is never same = absurd (never a refl)
 
 -- among the first of some finishes
-pub ending_before : (ticket : ℕ) (xs ys : List Finish) (how : Ending) → Some how ≡ ending_of ticket xs → Some how ≡ ending_of ticket (xs ++ ys)
+pub ending_before : (ticket : ℕ) (xs ys : List EndedView) (how : Ending) → Some how ≡ ending_of ticket xs → Some how ≡ ending_of ticket (xs ++ ys)
 ending_before ticket [] ys how is = absurd (cc)
 ending_before ticket (f ∷ xs) ys how is = go (f.ticket == ticket) (ending_before ticket xs ys how) is where
   go : (same : Bool) → (Some how ≡ ending_of ticket xs → Some how ≡ ending_of ticket (xs ++ ys))
@@ -155,7 +155,7 @@ ending_before ticket (f ∷ xs) ys how is = go (f.ticket == ticket) (ending_befo
   go false rest is = rest is
 
 -- among those after them
-pub ending_after : (ticket : ℕ) (xs ys : List Finish) (how : Option Ending) → None ≡ ending_of ticket xs → how ≡ ending_of ticket ys
+pub ending_after : (ticket : ℕ) (xs ys : List EndedView) (how : Option Ending) → None ≡ ending_of ticket xs → how ≡ ending_of ticket ys
     → how ≡ ending_of ticket (xs ++ ys)
 ending_after ticket [] ys how none is = is
 ending_after ticket (f ∷ xs) ys how none is = go (f.ticket == ticket) (λ none. ending_after ticket xs ys how none is) none where

@@ -6,7 +6,7 @@ use Rattle.bac_service.specs.Values.{Request}
 use Rattle.bac_requester.specs.declared.ask_fault.AskFault.{AskFault}
 use Rattle.bac_requester.specs.declared.ask_fault.AskFault.TheVariants as ask_fault
 use Rattle.bac_transaction.specs.Ends.{Accepted}
-use Rattle.bac_transaction.specs.Meanings.{Ending, Finish}
+use Rattle.bac_transaction.specs.Meanings.{Ending, EndedView}
 use Rattle.bac_transaction.specs.Sends.{Datagram}
 use Rattle.bac_world.specs.Node.{NodeAsks}
 use Rattle.bac_node.specs.Calls.{Refuses}
@@ -60,7 +60,7 @@ pub record IsRefused (q : Question) (why : AskFault) (old new : Timed) : Type 0 
 -- ---- the turns
 
 -- how a ticket ended, if it did
-abbrev pub ending_of : (ticket : ℕ) → List Finish → Option Ending
+abbrev pub ending_of : (ticket : ℕ) → List EndedView → Option Ending
 ending_of ticket [] = None
 ending_of ticket (f ∷ fs) = if f.ticket == ticket then Some f.how else ending_of ticket fs
 

@@ -3,7 +3,7 @@ use Rattle.std.specs.Prelude.{◌≡◌, ◌⊎◌, ℕ, zero, suc, ◌+◌, ◌
 use Rattle.std.specs.Option.{option_map}
 use Rattle.bac_protocol.specs.Service.{Octets}
 use Rattle.bac_transaction.specs.Sends.{Datagram}
-use Rattle.bac_transaction.specs.Meanings.{Finish}
+use Rattle.bac_transaction.specs.Meanings.{EndedView}
 use Rattle.bac_driver.specs.Calls.{Call, Calls, one_more, received, with_call}
 use Rattle.bac_driver.specs.Calls.Call.{Send}
 use Rattle.bac_world.specs.Node.{Cause, Node, Outcome, NodeOn, NodeTick}
@@ -26,8 +26,8 @@ pub record Turn : Type 0 where
   pub lost : ℕ
   pub skipped : ℕ
   pub performed : Option Performed
-  pub ended : List Finish
-  pub tick_ended : List Finish
+  pub ended : List EndedView
+  pub tick_ended : List EndedView
 
 -- ---- the steps of the node
 
@@ -35,7 +35,7 @@ pub record Turn : Type 0 where
 pub record NodeStep : Type 0 where
   pub sends : List Datagram
   pub performed : Option Performed
-  pub ended : List Finish
+  pub ended : List EndedView
   pub dropped : Option Cause
   pub skipped : ℕ
 

@@ -2,7 +2,7 @@
 use Rattle.std.proofs.Common.{◌≡◌, ℕ, Bool, List, ◌++◌, take, drop, Option, Some, None, ap, subst, ◌∙◌, arith, length-take, take-append-drop}
 use Rattle.std.specs.Io.KnownBytes.{Appends}
 use Rattle.std.proofs.KnownBytes.{Appends-trans}
-use Rattle.bac_capture.specs.declared.form.Form.{Form}
+use Rattle.bac_capture.specs.declared.form.FileFormat.{FileFormat}
 use Rattle.bac_capture.specs.declared.order.Order.{Order}
 use Rattle.bac_capture.specs.Forms.{form_of}
 use Rattle.bac_capture.specs.Runs.{RUN_LIMIT, IsRun}
@@ -18,7 +18,7 @@ use Rattle.bac_explain_report.specs.Tallies.{status_of}
 use Rattle.bac_explain_report.specs.declared.tally.Tally.{Tally}
 
 -- the frames were printed, then the transactions that were open, and then the summary
-explained : (also : Option ℕ) (form : Form) (order : Order) (input a b c d : Option (List ℕ)) (account : Account) (final : Tally) (s : Status)
+explained : (also : Option ℕ) (form : FileFormat) (order : Order) (input a b c d : Option (List ℕ)) (account : Account) (final : Tally) (s : Status)
     → IsFileWalked Account (SeesFrame also) BreaksFile form order input a b fresh account → ArePrinted account final b c → Appends c d (summary_text final)
     → s ≡ status_of final → IsExplainedFile also form order input a d s
 explained also form order None a b c d account final s walked told printed is = tt
@@ -33,7 +33,7 @@ explained also form order (Some file) a b c d account final s walked told printe
   is = is;
 }
 
-pub reported : (also : Option ℕ) (form : Form) (order : Order) (input a b c d : Option (List ℕ)) (account : Account) (final : Tally) (s : Status)
+pub reported : (also : Option ℕ) (form : FileFormat) (order : Order) (input a b c d : Option (List ℕ)) (account : Account) (final : Tally) (s : Status)
     → IsFileWalked Account (SeesFrame also) BreaksFile form order input a b fresh account → ArePrinted account final b c → Appends c d (summary_text final)
     → s ≡ status_of final → IsFileReport also form order input a d s
 reported also form order input a b c d account final status.Done walked told printed is =
@@ -45,7 +45,7 @@ reported also form order input a b c d account final status.Output walked told p
 reported also form order input a b c d account final status.Memory walked told printed is = tt
 
 -- a command that stopped says nothing
-stop_in : (also : Option ℕ) (form : Option (Form × Order)) (xs : List ℕ) (a b : Option (List ℕ)) (s : Status) → IsStop s → IsReportIn also form xs a b s
+stop_in : (also : Option ℕ) (form : Option (FileFormat × Order)) (xs : List ℕ) (a b : Option (List ℕ)) (s : Status) → IsStop s → IsReportIn also form xs a b s
 stop_in also None xs a b s h = h
 stop_in also (Some form) xs a b status.Done h = absurd h
 stop_in also (Some form) xs a b status.Faulty h = absurd h

@@ -3,8 +3,8 @@ use Rattle.std.specs.Prelude.{ℕ, suc, ◌+◌, nat_lt, Bool, if◌then◌else�
 use Rattle.std.specs.Ordering.{eq_by_cmp}
 use Rattle.bac_chart.specs.Drawings.{line_text}
 use Rattle.bac_chart.specs.Lines.{note_line}
-use Rattle.bac_chart.specs.declared.drawing.Form.{Form}
-use Rattle.bac_chart.specs.declared.drawing.Form.TheVariants as form
+use Rattle.bac_chart.specs.declared.drawing.ChartFormat.{ChartFormat}
+use Rattle.bac_chart.specs.declared.drawing.ChartFormat.TheVariants as form
 use Rattle.bac_text.specs.Peers.{peer_text}
 use Rattle.bac_npdu.specs.Peers.{PeerView, peer_cmp}
 
@@ -21,12 +21,12 @@ abbrev pub with_column : PeerView → List PeerView → List PeerView
 with_column p peers = if has_column p peers then peers else peers ++ p ∷ []
 
 -- where a column begins, it says whose it is
-abbrev pub begun_text : Form → (place moment : ℕ) → (name : List ℕ) → List ℕ
+abbrev pub begun_text : ChartFormat → (place moment : ℕ) → (name : List ℕ) → List ℕ
 begun_text form.Chart place moment name = line_text form.Chart (place + 1) (note_line moment place name)
 begun_text form.Mermaid place moment name = codes "    participant n" ++ (decimal place ++ (codes " as " ++ (name ++ codes "\n")))
 
 -- what there is to say of the column of a peer: nothing where it has begun before
-abbrev pub column_text : Form → (moment : ℕ) → PeerView → List PeerView → List ℕ
+abbrev pub column_text : ChartFormat → (moment : ℕ) → PeerView → List PeerView → List ℕ
 column_text f moment p peers = if has_column p peers then [] else begun_text f (length peers) moment (peer_text p)
 
 -- the columns of the sender and of the receiver of a datagram, and what there is to say of those that begin with it
@@ -38,7 +38,7 @@ pub record Ends : Type 0 where
 abbrev pub with_columns : (from to : PeerView) → List PeerView → List PeerView
 with_columns from to peers = with_column to (with_column from peers)
 
-abbrev pub ends_of : Form → (moment : ℕ) → (from to : PeerView) → List PeerView → Ends
+abbrev pub ends_of : ChartFormat → (moment : ℕ) → (from to : PeerView) → List PeerView → Ends
 ends_of f moment from to peers = record {
   from = place_of from peers;
   to = place_of to (with_column from peers);

@@ -2,7 +2,7 @@
 use Rattle.std.specs.Prelude.{◌≡◌, ℕ, ◌++◌, List, take, codes, decimal, ⊤, Option, Some, None}
 use Rattle.std.specs.Io.KnownBytes.{Appends}
 use Rattle.bac_capture.specs.declared.fault.FileFault.{FileFault}
-use Rattle.bac_capture.specs.declared.form.Form.{Form}
+use Rattle.bac_capture.specs.declared.form.FileFormat.{FileFormat}
 use Rattle.bac_capture.specs.declared.order.Order.{Order}
 use Rattle.bac_capture.specs.Begins.{begun_at}
 use Rattle.bac_capture.specs.Blocks.{FrameView}
@@ -48,7 +48,7 @@ abbrev pub BreaksFile : Prints FileFault Account
 BreaksFile fault a text next = IsPrintedNext (broken_off fault a) text next
 
 -- what is printed of a file, and the status: what there is to print of each frame, then the transactions that are open, and a summary
-pub record IsExplained (also : Option ℕ) (form : Form) (order : Order) (file : List ℕ) (old new : Option (List ℕ)) (status : Status) : Type 0 where
+pub record IsExplained (also : Option ℕ) (form : FileFormat) (order : Order) (file : List ℕ) (old new : Option (List ℕ)) (status : Status) : Type 0 where
   pub text : List ℕ
   pub account : Account
   pub read : IsFileIn Account (SeesFrame also) BreaksFile fresh (begun_at form order file) text account
@@ -58,12 +58,12 @@ pub record IsExplained (also : Option ℕ) (form : Form) (order : Order) (file :
   pub printed : Appends old new ((text ++ rest) ++ summary_text tally)
   pub is : status ≡ status_of tally
 
-abbrev pub IsExplainedFile : Option ℕ → Form → Order → Option (List ℕ) → Option (List ℕ) → Option (List ℕ) → Status → Type 0
+abbrev pub IsExplainedFile : Option ℕ → FileFormat → Order → Option (List ℕ) → Option (List ℕ) → Option (List ℕ) → Status → Type 0
 IsExplainedFile also form order None old new status = ⊤
 IsExplainedFile also form order (Some file) old new status = IsExplained also form order file old new status
 
 -- where the command ends with 0 or 1, the whole file was explained; the other statuses say nothing of it
-abbrev pub IsFileReport : Option ℕ → Form → Order → Option (List ℕ) → Option (List ℕ) → Option (List ℕ) → Status → Type 0
+abbrev pub IsFileReport : Option ℕ → FileFormat → Order → Option (List ℕ) → Option (List ℕ) → Option (List ℕ) → Status → Type 0
 IsFileReport also form order file old new Done = IsExplainedFile also form order file old new Done
 IsFileReport also form order file old new Faulty = IsExplainedFile also form order file old new Faulty
 IsFileReport also form order file old new CommandLine = ⊤
@@ -71,7 +71,7 @@ IsFileReport also form order file old new Output = ⊤
 IsFileReport also form order file old new Memory = ⊤
 
 -- what is no capture file is not explained
-abbrev pub IsReportIn : Option ℕ → Option (Form × Order) → List ℕ → Option (List ℕ) → Option (List ℕ) → Status → Type 0
+abbrev pub IsReportIn : Option ℕ → Option (FileFormat × Order) → List ℕ → Option (List ℕ) → Option (List ℕ) → Status → Type 0
 IsReportIn also None octets old new status = IsStop status
 IsReportIn also (Some form) octets old new status = IsFileReport also form.0 form.1 (Some octets) old new status
 

@@ -7,8 +7,8 @@ use Rattle.bac_chart.specs.Drawings.{line_text}
 use Rattle.bac_chart.specs.Labels.{read_words}
 use Rattle.bac_chart.specs.Lines.{coming_line}
 use Rattle.bac_chart.specs.Marks.{Arrow}
-use Rattle.bac_chart.specs.declared.drawing.Form.{Form}
-use Rattle.bac_chart.specs.declared.drawing.Form.TheVariants as form
+use Rattle.bac_chart.specs.declared.drawing.ChartFormat.{ChartFormat}
+use Rattle.bac_chart.specs.declared.drawing.ChartFormat.TheVariants as form
 use Rattle.bac_explain.specs.Sightings.{SightingView}
 use Rattle.bac_explain.specs.declared.part.Role.{Role}
 use Rattle.bac_explain.specs.declared.part.Role.TheVariants.{Request, Answer, Acknowledgement, GivesUp}
@@ -24,18 +24,18 @@ use Rattle.bac_explain_report.specs.declared.sketch.TheConstants.{MOST_PEERS}
 -- a chart so far: what it is drawn as, the moment of its first datagram, the peers that have columns, the last datagrams that were drawn, how many frames
 -- there were, and whether each of them was looked at
 pub record Sketch : Type 0 where
-  pub form : Form
+  pub form : ChartFormat
   pub start : Option ℕ
   pub peers : List PeerView
   pub drawn : List Drawn
   pub frames : ℕ
   pub is_whole : Bool
 
-abbrev pub fresh : Form → Sketch
+abbrev pub fresh : ChartFormat → Sketch
 fresh f = record { form = f; start = None; peers = []; drawn = []; frames = 0; is_whole = true }
 
 -- what stands above a chart
-abbrev pub front_text : Form → List ℕ
+abbrev pub front_text : ChartFormat → List ℕ
 front_text form.Chart = codes "      ms\n"
 front_text form.Mermaid = codes "sequenceDiagram\n"
 
@@ -79,7 +79,7 @@ abbrev pub arrow_of : (number moment : ℕ) → Ends → (octets : List ℕ) →
 arrow_of number moment e octets = record { number = number; sent = moment; from = e.from; to = e.to; words = read_words (apdu_at octets) }
 
 -- it says whether the same came before
-abbrev pub row_text : Form → (nodes : ℕ) → (again : Bool) → (moment : ℕ) → Arrow → List ℕ
+abbrev pub row_text : ChartFormat → (nodes : ℕ) → (again : Bool) → (moment : ℕ) → Arrow → List ℕ
 row_text f nodes again moment a = line_text f nodes (coming_line again moment a)
 
 abbrev pub sighting_text : ℕ → SightingView → Sketch → List ℕ
@@ -104,11 +104,11 @@ abbrev pub one_frame : Sketch → Sketch
 one_frame k = record k { frames = min (k.frames + 1) (2 ^ 64 - 1) }
 
 -- a line that is no arrow: a comment of Mermaid
-abbrev pub remark_front : Form → List ℕ
+abbrev pub remark_front : ChartFormat → List ℕ
 remark_front form.Chart = []
 remark_front form.Mermaid = codes "    %% "
 
-abbrev pub unread_line : Form → (number : ℕ) → Unread → List ℕ
+abbrev pub unread_line : ChartFormat → (number : ℕ) → Unread → List ℕ
 unread_line f number why = remark_front f ++ (codes "frame " ++ (decimal number ++ (codes ": " ++ (unread_text why ++ codes "\n"))))
 
 -- it cannot be looked at

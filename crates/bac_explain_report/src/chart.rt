@@ -12,7 +12,7 @@ use crate::sketch::{Sketch, front_text};
 use bac_capture::{
     CheckError, FileFault, Frame, FrameVisitor, Order, Ports, form_of, read_run, stopped, walk_file,
 };
-use bac_chart::Form;
+use bac_chart::ChartFormat;
 use bac_text::{Status, complain, output_failed};
 use std::alloc::Global;
 use std::io::{BufRead, Read, Write};
@@ -98,7 +98,7 @@ fn stopped_at<O: Write, E: Write>(
 /// Draws a capture file of that form and byte order.
 fn draw_file<R: BufRead, W: Write>(
     alloc: Global,
-    form: bac_capture::Form,
+    form: bac_capture::FileFormat,
     order: Order,
     input: &mut R,
     ports: Ports,
@@ -118,8 +118,8 @@ fn draw_file<R: BufRead, W: Write>(
 /// Draws a capture file of that form and byte order.
 fn chart_file<R: BufRead, O: Write, E: Write>(
     alloc: Global,
-    chart: Form,
-    form: bac_capture::Form,
+    chart: ChartFormat,
+    form: bac_capture::FileFormat,
     order: Order,
     input: &mut R,
     ports: Ports,
@@ -138,7 +138,7 @@ fn chart_file<R: BufRead, O: Write, E: Write>(
 /// Draws a capture whose first octets are `front`, and the others those of the input.
 fn chart_after<R: BufRead, O: Write, E: Write>(
     alloc: Global,
-    chart: Form,
+    chart: ChartFormat,
     front: &[u8],
     input: &mut R,
     ports: Ports,
@@ -166,7 +166,7 @@ fn chart_after<R: BufRead, O: Write, E: Write>(
 /// for the datagrams that are compared.
 pub fn chart_over<R: BufRead, O: Write, E: Write>(
     alloc: Global,
-    chart: Form,
+    chart: ChartFormat,
     input: &mut R,
     ports: Ports,
     out: &mut O,

@@ -5,7 +5,7 @@ ghost use Rattle.bac_text.specs.Peers.{peer_text};
 ghost use Rattle.bac_explain_report.specs.Columns.{begun_text, column_text, ends_of, place_of, with_column, with_columns};
 ghost use Rattle.bac_explain_report.specs.EndViews.{ends_view};
 
-use bac_chart::{Form, line_text, note_line};
+use bac_chart::{ChartFormat, line_text, note_line};
 use bac_npdu::Peer;
 use bac_text::peer_text;
 use std::alloc::{AllocError, Global};
@@ -34,7 +34,7 @@ fn place_of(peer: Peer, peers: &[Peer]) -> usize
 
 fn begun_text(
     alloc: Global,
-    form: Form,
+    form: ChartFormat,
     place: usize,
     moment: u64,
     peer: Peer,
@@ -45,11 +45,11 @@ fn begun_text(
     let name = peer_text(alloc, peer)?;
     let place = place as u64;
     match form {
-        Form::Chart => {
+        ChartFormat::Chart => {
             let line = note_line(alloc, moment, place, name.as_bytes())?;
             line_text(alloc, form, place + 1, &line)
         }
-        Form::Mermaid => {
+        ChartFormat::Mermaid => {
             let text = format!(in alloc; "    participant n{place} as {name}\n")?;
             Ok(text.into_bytes())
         }
@@ -59,7 +59,7 @@ fn begun_text(
 /// What there is to say of the column of a peer.
 fn column_text(
     alloc: Global,
-    form: Form,
+    form: ChartFormat,
     moment: u64,
     peer: Peer,
     peers: &[Peer],
@@ -88,7 +88,7 @@ fn enter(peer: Peer, peers: &mut Vec<Peer>) -> Result<u64, AllocError>
 /// The columns of the ends of a datagram, which begin with it where they have not begun before.
 pub(crate) fn enter_ends(
     alloc: Global,
-    form: Form,
+    form: ChartFormat,
     moment: u64,
     from: Peer,
     to: Peer,

@@ -15,8 +15,8 @@ use crate::frame_report::{FrameReport, report_text};
 use crate::summary::summary_text;
 use crate::tally::Tally;
 use bac_capture::{
-    CheckError, FileFault, Form, Frame, FrameVisitor, Order, Ports, form_of, read_run, stopped,
-    walk_file,
+    CheckError, FileFault, FileFormat, Frame, FrameVisitor, Order, Ports, form_of, read_run,
+    stopped, walk_file,
 };
 use bac_text::{Status, complain};
 use std::alloc::Global;
@@ -123,7 +123,7 @@ fn print_summary<W: Write>(alloc: Global, tally: Tally, out: &mut W) -> Result<(
 /// What is known when the file was read.
 fn account_of<R: BufRead, W: Write>(
     alloc: Global,
-    form: Form,
+    form: FileFormat,
     order: Order,
     input: &mut R,
     ports: Ports,
@@ -141,7 +141,7 @@ fn account_of<R: BufRead, W: Write>(
 
 fn explain_all<R: BufRead, W: Write>(
     alloc: Global,
-    form: Form,
+    form: FileFormat,
     order: Order,
     input: &mut R,
     ports: Ports,
@@ -158,7 +158,7 @@ fn explain_all<R: BufRead, W: Write>(
 /// Explains a capture file of that form and byte order.
 fn explain_file<R: BufRead, O: Write, E: Write>(
     alloc: Global,
-    form: Form,
+    form: FileFormat,
     order: Order,
     input: &mut R,
     ports: Ports,

@@ -20,7 +20,7 @@ mod summary;
 mod tally;
 mod unread;
 
-pub use bac_chart::Form;
+pub use bac_chart::ChartFormat;
 pub use chart::chart_over;
 pub use explain::explain_over;
 pub use seeing::seen_of;

@@ -14,7 +14,7 @@ use crate::column::{Ends, enter_ends};
 use crate::copies::{Drawn, keep};
 use crate::{Unread, seen_of};
 use bac_capture::{CheckError, FileFault, Frame, Ports};
-use bac_chart::{Arrow, Form, coming_line, line_text, octets_words};
+use bac_chart::{Arrow, ChartFormat, coming_line, line_text, octets_words};
 use bac_explain::{Role, Sighting};
 use bac_npdu::Peer;
 use std::alloc::{AllocError, Global};
@@ -25,26 +25,31 @@ use std::io::ErrorKind;
 pub(crate) const MOST_PEERS: usize = 16;
 
 /// What stands above a chart.
-pub(crate) fn front_text(form: Form) -> &'static str
+pub(crate) fn front_text(form: ChartFormat) -> &'static str
     ensures { result.now ≡ front_text form }
 {
     match form {
-        Form::Chart => "      ms\n",
-        Form::Mermaid => "sequenceDiagram\n",
+        ChartFormat::Chart => "      ms\n",
+        ChartFormat::Mermaid => "sequenceDiagram\n",
     }
 }
 
 /// What stands before a line that is no arrow.
-fn remark_front(form: Form) -> &'static str
+fn remark_front(form: ChartFormat) -> &'static str
     ensures { result.now ≡ remark_front form }
 {
     match form {
-        Form::Chart => "",
-        Form::Mermaid => "    %% ",
+        ChartFormat::Chart => "",
+        ChartFormat::Mermaid => "    %% ",
     }
 }
 
-fn unread_line(alloc: Global, form: Form, number: u64, why: Unread) -> Result<Vec<u8>, AllocError>
+fn unread_line(
+    alloc: Global,
+    form: ChartFormat,
+    number: u64,
+    why: Unread,
+) -> Result<Vec<u8>, AllocError>
     ensures { IfOk result (λ t. t.items ≡ unread_line form number why) }
 {
     let front = remark_front(form);
@@ -98,7 +103,7 @@ fn arrow_of(
 #[derive(Drop)]
 pub(crate) struct Sketch {
     alloc: Global,
-    pub form: Form,
+    pub form: ChartFormat,
     /// The moment of the first datagram that was drawn, in milliseconds.
     start: Option<u64>,
     /// The peers that have columns.
@@ -115,7 +120,7 @@ pub(crate) struct Sketch {
 
 impl Sketch {
     /// Nothing was seen.
-    pub(crate) fn new(alloc: Global, form: Form) -> Sketch
+    pub(crate) fn new(alloc: Global, form: ChartFormat) -> Sketch
         ensures { sketch_view result ≡ fresh form }
     {
         Sketch {

@@ -13,7 +13,7 @@ use Rattle.bac_slots.specs.declared.slot.Slot.{Slot}
 use Rattle.bac_slots.specs.Slots.{value_at, IsApart, IsDistinct}
 use Rattle.bac_transaction.specs.Keys.{PeerKey, same_key}
 use Rattle.bac_transaction.specs.Sends.{Datagram, Pairwise, IsSent, to_peer, to_all}
-use Rattle.bac_transaction.specs.Meanings.{Finish, IsFinish}
+use Rattle.bac_transaction.specs.Meanings.{EndedView, IsEndedView}
 use Rattle.bac_transaction.specs.Ends.{ended_with}
 use Rattle.bac_world.specs.World.{World, Note, link_at, peer_at, transaction_of, ask_of}
 use Rattle.bac_transaction.proofs.KeyedSlots.{EachSlot, found_first}
@@ -100,8 +100,8 @@ module _ (links : ℕ → Option Octets) (apart : (i j : ℕ) (l : Octets) → l
     can_all (a ∷ sends) (d ∷ ds) own s = (can_one a d own.0.0 own.0.1 s.0, can_all sends ds own.1 s.1)
 
   -- a ticket that ends
-  pub can_end : (i k number : ℕ) → ask_of i k w.notes ≡ Some number → (choice : ℕ) (o : Option machine.Ending) (fs : List Finish)
-      → Pairwise IsFinish (ended_with k choice o) fs → Every (IsNoted w i) fs × (length fs ≤ 1)
+  pub can_end : (i k number : ℕ) → ask_of i k w.notes ≡ Some number → (choice : ℕ) (o : Option machine.Ending) (fs : List EndedView)
+      → Pairwise IsEndedView (ended_with k choice o) fs → Every (IsNoted w i) fs × (length fs ≤ 1)
   can_end i k number noted choice None [] h = (tt, omega arith)
   can_end i k number noted choice None (f ∷ fs) h = absurd h
   can_end i k number noted choice (Some how) [] h = absurd h

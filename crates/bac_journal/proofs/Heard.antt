@@ -20,7 +20,7 @@ use Rattle.bac_protocol.proofs.Own.{client_sends_own, server_sends_own}
 use Rattle.bac_slots.specs.Slots.{value_at}
 use Rattle.bac_transaction.specs.Keys.{PeerKey, same_key}
 use Rattle.bac_transaction.specs.Sends.{Datagram, Pairwise, IsSent, to_all}
-use Rattle.bac_transaction.specs.Meanings.{Finish, IsFinish}
+use Rattle.bac_transaction.specs.Meanings.{EndedView, IsEndedView}
 use Rattle.bac_transaction.specs.Ends.{Client, ClientTurn, TransactionSlot, act_at, is_free, context_of, client_goes, requester_on_apdu, requester_on_apdu_at, requester_on_apdu_in_slot}
 use Rattle.bac_transaction.specs.Ends.{ServerTurn, responder_on_apdu, stays}
 use Rattle.bac_transaction.specs.Ends.TransactionSlot.{Open, Closed}
@@ -52,7 +52,7 @@ module _ (links : ℕ → Option Octets) (apart : (i j : ℕ) (l : Octets) → l
       performed = subst (AreOfClient w i) (sym performed) tt;
     };
     few = (let e : length o.sends ≡ 0 = ap (λ (ds : List Datagram). length ds) sends in omega arith);
-    one = (let e : length o.ended ≡ 0 = ap (λ (fs : List Finish). length fs) ended in omega arith);
+    one = (let e : length o.ended ≡ 0 = ap (λ (fs : List EndedView). length fs) ended in omega arith);
   }
 
   -- An APDU of a client, at its server.
@@ -165,7 +165,7 @@ module _ (links : ℕ → Option Octets) (apart : (i j : ℕ) (l : Octets) → l
         performed = of_client o.performed refl;
       };
       few = few;
-      one = (let e : length o.ended ≡ 0 = ap (λ (fs : List Finish). length fs) turn.ended in omega arith);
+      one = (let e : length o.ended ≡ 0 = ap (λ (fs : List EndedView). length fs) turn.ended in omega arith);
     }
 
   -- An APDU of a server, at its client.
@@ -176,7 +176,7 @@ module _ (links : ℕ → Option Octets) (apart : (i j : ℕ) (l : Octets) → l
     Turn t = IsClientTurn t w.now a b o
 
     still : Turn (stays a.clients) → Enters p.key.client o
-    still t = nothing_enters p.key.client o (pairwise_none IsSent o.sends t.sends) (pairwise_none IsFinish o.ended t.ended) t.performed
+    still t = nothing_enters p.key.client o (pairwise_none IsSent o.sends t.sends) (pairwise_none IsEndedView o.ended t.ended) t.performed
 
     at_client : Fits links apart W x w n n p.key.client a
     at_client = h.nodes p.key.client a node

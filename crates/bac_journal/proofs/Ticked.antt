@@ -20,7 +20,7 @@ use Rattle.bac_protocol.proofs.Own.{client_sends_own, server_sends_own}
 use Rattle.bac_slots.specs.Slots.{value_at, in_order}
 use Rattle.bac_transaction.specs.Keys.{PeerKey, peer_key_cmp, same_key}
 use Rattle.bac_transaction.specs.Sends.{Datagram, Pairwise, IsSent, to_all}
-use Rattle.bac_transaction.specs.Meanings.{Finish, IsFinish}
+use Rattle.bac_transaction.specs.Meanings.{EndedView, IsEndedView}
 use Rattle.bac_transaction.specs.Ends.{ClientSlot, ServerSlot, Client, TransactionSlot, Accepted, context_of, from_each}
 use Rattle.bac_transaction.specs.Ends.{client_tick_sends, client_tick_ends, held_tick_sends, held_tick_ends, server_tick_sends}
 use Rattle.bac_transaction.specs.Ends.TransactionSlot.{Open, Closed}
@@ -82,8 +82,8 @@ module _ (links : ℕ → Option Octets) (apart : (i j : ℕ) (l : Octets) → l
         (subst (λ y. Pairwise IsSent (to_all y sends) ds) k.peer s)
 
     held_ends : (y : TransactionSlot) (q : PeerKey) → IsKnown links apart q → (number : ℕ)
-        → value_at same_key q a.clients.slots ≡ Some (record { number = number; held = y }) → (fs : List Finish)
-        → Pairwise IsFinish (held_tick_ends (context_of c w.now q) number y) fs → Every (IsNoted w i) fs
+        → value_at same_key q a.clients.slots ≡ Some (record { number = number; held = y }) → (fs : List EndedView)
+        → Pairwise IsEndedView (held_tick_ends (context_of c w.now q) number y) fs → Every (IsNoted w i) fs
     held_ends (Closed first) q k number found [] s = tt
     held_ends (Closed first) q k number found (f ∷ fs) s = absurd s
     held_ends (Open t) q k number found fs s =
@@ -106,12 +106,12 @@ module _ (links : ℕ → Option Octets) (apart : (i j : ℕ) (l : Octets) → l
         (every_join (CanBeCopied w.nodes w.notes w.now i) y.front y.rest (held_sends o.value.held o.key k.0 o.value.number f.0 y.front y.first)
         (clients_send os k.1 f.1 y.rest y.second))
 
-    clients_end : (os : List ClientSlot) → EachSlot Client IsClientSlot os → EachSlot Client IsFoundClient os → (fs : List Finish)
-        → Pairwise IsFinish (from_each (client_tick_ends c w.now) os) fs → Every (IsNoted w i) fs
+    clients_end : (os : List ClientSlot) → EachSlot Client IsClientSlot os → EachSlot Client IsFoundClient os → (fs : List EndedView)
+        → Pairwise IsEndedView (from_each (client_tick_ends c w.now) os) fs → Every (IsNoted w i) fs
     clients_end [] k f [] s = tt
     clients_end [] k f (d ∷ ds) s = absurd s
     clients_end (o ∷ os) k f fs s =
-        let y = pairwise_split IsFinish (client_tick_ends c w.now o) (from_each (client_tick_ends c w.now) os) fs s in
+        let y = pairwise_split IsEndedView (client_tick_ends c w.now o) (from_each (client_tick_ends c w.now) os) fs s in
         subst (Every (IsNoted w i)) (sym y.is)
         (every_join (IsNoted w i) y.front y.rest (held_ends o.value.held o.key k.0 o.value.number f.0 y.front y.first)
         (clients_end os k.1 f.1 y.rest y.second))
@@ -207,7 +207,7 @@ module _ (links : ℕ → Option Octets) (apart : (i j : ℕ) (l : Octets) → l
         (clients_send (in_order peer_key_cmp a.clients.slots) known_clients found_clients y.front y.first)
         (entries_send (in_order peer_key_cmp a.servers.slots) known_entries found_entries y.rest y.second))
 
-    all_end : (fs : List Finish) → Pairwise IsFinish (from_each (client_tick_ends c w.now) (in_order peer_key_cmp a.clients.slots)) fs
+    all_end : (fs : List EndedView) → Pairwise IsEndedView (from_each (client_tick_ends c w.now) (in_order peer_key_cmp a.clients.slots)) fs
         → Every (IsNoted w i) fs
     all_end fs s = clients_end (in_order peer_key_cmp a.clients.slots) known_clients found_clients fs s
 

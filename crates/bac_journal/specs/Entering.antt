@@ -5,7 +5,7 @@ use Rattle.bac_service.specs.Values.{Request}
 use Rattle.bac_protocol.specs.Service.{Octets}
 use Rattle.bac_protocol.specs.Transaction.{Key}
 use Rattle.bac_transaction.specs.Sends.{Datagram}
-use Rattle.bac_transaction.specs.Meanings.{Finish}
+use Rattle.bac_transaction.specs.Meanings.{EndedView}
 use Rattle.bac_transaction.specs.Ends.{Accepted}
 use Rattle.bac_world.specs.Services.{Performed}
 use Rattle.bac_world.specs.Node.{Node, Outcome, NodeOn, NodeTick, NodeAsks}
@@ -27,7 +27,7 @@ pub record CanBeCopied (nodes : List Node) (notes : List Note) (now sender : ℕ
   pub asked : (c : Copy) → IsCopied nodes now sender d c → WasAsked notes c.key
 
 -- a ticket's ending has the number of an ask
-abbrev pub IsNoted : World → (node : ℕ) → Finish → Type 0
+abbrev pub IsNoted : World → (node : ℕ) → EndedView → Type 0
 IsNoted w node f = (number : ℕ) × (ask_of node f.ticket w.notes ≡ Some number)
 
 -- what was performed has a client, and the number of its newest ask

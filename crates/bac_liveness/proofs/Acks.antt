@@ -33,19 +33,19 @@ acknowledged_none actual own out q small at =
     let e : nat_lt (ahead (q % 256) out.first) (in_window out) ≡ false = grind (arith, nat_tests) in
     ap (λ b. if b then Some (record out { first = out.first + ahead (q % 256) out.first + 1; window = min actual own; retries = N_RETRY }) else None) e
 
-module _ (S : Type 0) (shop : StoreModel S) (x : Rules) (now number : ℕ) (key : Key) (actual own : ℕ) (ps : List Octets)
-    (sizes : Fitting x.overtake actual own ps) (near : actual < 256) (v : Moving S shop x now number key actual own ps) where
+module _ (S : Type 0) (model : StoreModel S) (x : Rules) (now number : ℕ) (key : Key) (actual own : ℕ) (ps : List Octets)
+    (sizes : Fitting x.overtake actual own ps) (near : actual < 256) (v : Moving S model x now number key actual own ps) where
   abbrev n : ℕ
   n = length ps
 
   abbrev Goes : ℕ → TransactionPair S → TransactionPair S → Type 0
-  Goes most p q = Within S shop x now number key most p q
+  Goes most p q = Within S model x now number key most p q
 
   ignores_on : (j : ℕ) (s : Sender) (nak : Bool) (i : ℕ) (xs : List Apdu) → acknowledged own s.out i actual ≡ None
       → Goes j (v.sending s (repeated j (v.ack nak i) ++ xs)) (v.sending s xs)
-  ignores_on zero s nak i xs e = no_step S shop x now number key (v.sending s xs) (v.sending s xs) refl
+  ignores_on zero s nak i xs e = no_step S model x now number key (v.sending s xs) (v.sending s xs) refl
   ignores_on (suc j) s nak i xs e =
-      within_then S shop x now number key 1 j (suc j) (v.sending s (v.ack nak i ∷ (repeated j (v.ack nak i) ++ xs)))
+      within_then S model x now number key 1 j (suc j) (v.sending s (v.ack nak i ∷ (repeated j (v.ack nak i) ++ xs)))
       (v.sending s (repeated j (v.ack nak i) ++ xs)) (v.sending s xs) (omega arith) (v.ignores s nak i (repeated j (v.ack nak i) ++ xs) e)
       (ignores_on j s nak i xs e)
 
@@ -73,13 +73,13 @@ module _ (S : Type 0) (shop : StoreModel S) (x : Rules) (now number : ℕ) (key 
       let from = v.sending s (ack ∷ xs) in
       let mid = v.sending s' (xs ++ new) in
       let two = ignores_on j s' nak (q % 256) (ys ++ new) (acknowledged_none actual own s'.out q (omega arith) refl) in
-      within_then S shop x now number key 1 j (suc j) from mid (v.sending s' (ys ++ new)) (omega arith) one
+      within_then S model x now number key 1 j (suc j) from mid (v.sending s' (ys ++ new)) (omega arith) one
       (subst (λ (zs : List Apdu). Goes j (v.sending s' zs) (v.sending s' (ys ++ new))) (sym (append_assoc (repeated j ack) ys new)) two)
 
 -- a channel's sender
-abbrev pub moving : (S : Type 0) (shop : StoreModel S) (x : Rules) (now number : ℕ) (key : Key) (actual own : ℕ) (ps : List Octets)
-    → Channel S shop x now number key actual own ps → Incoming → ℕ → Moving S shop x now number key actual own ps
-moving S shop x now number key actual own ps c inc m = record {
+abbrev pub moving : (S : Type 0) (model : StoreModel S) (x : Rules) (now number : ℕ) (key : Key) (actual own : ℕ) (ps : List Octets)
+    → Channel S model x now number key actual own ps → Incoming → ℕ → Moving S model x now number key actual own ps
+moving S model x now number key actual own ps c inc m = record {
   sending = λ s xs. c.ends s inc m xs;
   piece = c.piece;
   ack = c.ack;

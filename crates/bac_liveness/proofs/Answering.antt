@@ -49,9 +49,9 @@ use Rattle.bac_liveness.proofs.Begins as begins
 use Rattle.bac_liveness.proofs.Resends as again_
 use Rattle.bac_liveness.proofs.Turned.{IsThere, there, live_self, done_performed, reply_performed, ticked, server_ticked, Finishes}
 
-module _ (S : Type 0) (shop : StoreModel S) (opening : ℕ → S) (W : ℕ) (x : Rules) (bound : IsBounded W x) (w : World S)
-    (kept_in : Kept S shop opening W x bound w) (key : Key) (t : ClientTransaction) (at : w.net.tickets key ≡ Some t) (good : AreStraight x key) (p : reply)
-    (can : CanStill S shop x w key t p) where
+module _ (S : Type 0) (model : StoreModel S) (opening : ℕ → S) (W : ℕ) (x : Rules) (bound : IsBounded W x) (w : World S)
+    (kept_in : Kept S model opening W x bound w) (key : Key) (t : ClientTransaction) (at : w.net.tickets key ≡ Some t) (good : AreStraight x key) (p : reply)
+    (can : CanStill S model x w key t p) where
   abbrev now : ℕ
   now = w.net.now
 
@@ -124,23 +124,23 @@ module _ (S : Type 0) (shop : StoreModel S) (opening : ℕ → S) (W : ℕ) (x :
       go false = omega arith
 
   abbrev Fin : ℕ → TransactionPair S → Type 0
-  Fin most from = Finishes S shop opening W x bound w kept_in key t at most p from
+  Fin most from = Finishes S model opening W x bound w kept_in key t at most p from
 
   -- a world in which each straight run answers the ask
   pub record Ready (u : World S) : Type 0 where
     pub q : TransactionPair S
-    pub shows : Shows S shop x now number key u q (length w.net.posts)
+    pub shows : Shows S model x now number key u q (length w.net.posts)
     pub most : ℕ
     pub cheap : most ≤ 3 * request_count ask.whole ask.pieces + 3 * wc
     pub fin : Fin most q
 
   abbrev after_tick : World S
-  after_tick = happens S shop x w (Tick (key ∷ []) [])
+  after_tick = happens S model x w (Tick (key ∷ []) [])
 
   -- What was performed before ends the ticket.
   module _ (repeats begin : ℕ) (alive : nat_le (now - begin) KEEP ≡ true) (kept : Option Octets) where
     abbrev EndsIn : ℕ → TransactionPair S → Type 0
-    EndsIn most from = down.EndsWith S shop x now number key ask young repeats begin alive kept w.stores log most from p
+    EndsIn most from = down.EndsWith S model x now number key ask young repeats begin alive kept w.stores log most from p
 
     ends_finish : (most : ℕ) (from : TransactionPair S) → is_idle from.ticket.phase ≡ false → Has (Performed number (request_of ask) p) log → EndsIn most from
         → Fin most from
@@ -150,34 +150,34 @@ module _ (S : Type 0) (shop : StoreModel S) (opening : ℕ → S) (W : ℕ) (x :
       before = log;
       log_is = h.log_is;
       performed = done;
-      reaches = starts_of S shop x now number key most from h.end going h.idle h.reaches;
+      reaches = starts_of S model x now number key most from h.end going h.idle h.reaches;
     }
 
   -- What is performed now ends it.
   module _ (repeats begin : ℕ) (alive : nat_le (now - begin) KEEP ≡ true)
-      (outcome : shop.outcome (w.stores key.server) ask.choice (join ask.pieces) ≡ Replies p) where
+      (outcome : model.outcome (w.stores key.server) ask.choice (join ask.pieces) ≡ Replies p) where
     abbrev read : Option Octets → List Apdu → TransactionPair S
-    read kept pending = up.performed S shop x now number key ask young repeats begin alive w.stores log p outcome can.way
+    read kept pending = up.performed S model x now number key ask young repeats begin alive w.stores log p outcome can.way
         (record { ask = ask; phase = AwaitConfirmation; repeats = repeats; since = now }) kept
-        (up.sent_first S shop x now number key ask young repeats begin alive w.stores log p outcome can.way ∷ pending)
+        (up.sent_first S model x now number key ask young repeats begin alive w.stores log p outcome can.way ∷ pending)
 
     abbrev stores' : ℕ → S
-    stores' = up.stores_after S shop x now number key ask young repeats begin alive w.stores log p outcome can.way
+    stores' = up.stores_after S model x now number key ask young repeats begin alive w.stores log p outcome can.way
 
     abbrev log' : List Fact
-    log' = up.log_after S shop x now number key ask young repeats begin alive w.stores log p outcome can.way
+    log' = up.log_after S model x now number key ask young repeats begin alive w.stores log p outcome can.way
 
     abbrev segments : ℕ → ℕ → List Apdu
     segments first extra = pieces_from (client.request_piece c ask.choice ask.pieces) first extra
 
     read_ends : (first extra : ℕ) (kept : Option Octets) → (0 < extra → kept ≡ None) → extra ≤ x.overtake
-        → down.EndsWith S shop x now number key ask young repeats begin alive kept stores' log' (3 * wc + extra) (read kept (segments first extra)) p
+        → down.EndsWith S model x now number key ask young repeats begin alive kept stores' log' (3 * wc + extra) (read kept (segments first extra)) p
     read_ends first extra kept plain few =
-        down.reply_read S shop x now number key ask young repeats begin alive kept stores' log' AwaitConfirmation now await_waits refl p
+        down.reply_read S model x now number key ask young repeats begin alive kept stores' log' AwaitConfirmation now await_waits refl p
         (way_to x key p) first extra refl can.way can.kind positive_back near_back room_back plain few
 
     read_finishes : (most spent first extra : ℕ) (kept : Option Octets) (from : TransactionPair S) → spent + extra ≤ most → (0 < extra → kept ≡ None)
-        → extra ≤ x.overtake → Starts S shop x now number key spent from (read kept (segments first extra)) → Fin (most + 3 * wc) from
+        → extra ≤ x.overtake → Starts S model x now number key spent from (read kept (segments first extra)) → Fin (most + 3 * wc) from
     read_finishes most spent first extra kept from cheap plain few h =
         let z = read_ends first extra kept plain few in
         record {
@@ -186,12 +186,12 @@ module _ (S : Type 0) (shop : StoreModel S) (opening : ℕ → S) (W : ℕ) (x :
           before = log';
           log_is = z.log_is;
           performed = inl refl;
-          reaches = starts_then S shop x now number key spent (3 * wc + extra) (most + 3 * wc) from (read kept (segments first extra)) z.end (omega arith) h
+          reaches = starts_then S model x now number key spent (3 * wc + extra) (most + 3 * wc) from (read kept (segments first extra)) z.end (omega arith) h
               z.reaches;
         }
 
     upload_finishes : (most spent first extra : ℕ) (from : TransactionPair S) → is_idle from.ticket.phase ≡ false → spent + extra ≤ most → extra ≤ x.overtake
-        → Within S shop x now number key spent from (read None (segments first extra)) → Fin (most + 3 * wc) from
+        → Within S model x now number key spent from (read None (segments first extra)) → Fin (most + 3 * wc) from
     upload_finishes most spent first extra from going cheap few h =
         let z = read_ends first extra None (λ e. refl) few in
         record {
@@ -200,8 +200,8 @@ module _ (S : Type 0) (shop : StoreModel S) (opening : ℕ → S) (W : ℕ) (x :
           before = log';
           log_is = z.log_is;
           performed = inl refl;
-          reaches = starts_of S shop x now number key (most + 3 * wc) from z.end going z.idle
-              (within_then S shop x now number key spent (3 * wc + extra) (most + 3 * wc) from (read None (segments first extra)) z.end (omega arith) h
+          reaches = starts_of S model x now number key (most + 3 * wc) from z.end going z.idle
+              (within_then S model x now number key spent (3 * wc + extra) (most + 3 * wc) from (read None (segments first extra)) z.end (omega arith) h
               z.reaches);
         }
 
@@ -289,7 +289,7 @@ module _ (S : Type 0) (shop : StoreModel S) (opening : ℕ → S) (W : ℕ) (x :
           let total : 3 * m + 0 ≡ 3 * wc = omega arith in
           let piece = server.reply_piece d ask.choice ps in
           let sent : pieces_from piece 0 1 ≡ reply_window r = λ i. pieces_from piece (sym zero_is i) (sym one i) in
-          let z = down.first_given S shop x now number key ask young repeats begin alive kept w.stores log ps segments_taken kind_is.0 kind_is.1
+          let z = down.first_given S model x now number key ask young repeats begin alive kept w.stores log ps segments_taken kind_is.0 kind_is.1
           reply_sizes near_back phase since waits going (with_retries r) refl zero_is win 0 0 (λ h. absurd (omega arith)) (omega arith) some in
           let from : List Apdu → TransactionPair S = λ ys. record {
             ticket = record { ask = ask; phase = phase; repeats = repeats; since = since };
@@ -300,7 +300,7 @@ module _ (S : Type 0) (shop : StoreModel S) (opening : ℕ → S) (W : ℕ) (x :
           } in
           subst (λ (ys : List Apdu). EndsIn repeats begin alive kept (3 * wc) (from ys)) sent
           (subst (λ (k : ℕ). EndsIn repeats begin alive kept k (from (pieces_from piece 0 1))) total
-          (subst (λ (q : reply). down.EndsWith S shop x now number key ask young repeats begin alive kept w.stores log (3 * m + 0)
+          (subst (λ (q : reply). down.EndsWith S model x now number key ask young repeats begin alive kept w.stores log (3 * m + 0)
           (from (pieces_from piece 0 1)) q) (sym same) z))
 
       -- the client has taken some of it
@@ -317,12 +317,12 @@ module _ (S : Type 0) (shop : StoreModel S) (opening : ℕ → S) (W : ℕ) (x :
           let s : Sender = record { out = with_retries r; all_sent = false } in
           let count = wc_is in
           let total : 3 * m ≡ 3 * wc = omega arith in
-          let carries = down.carries S shop x now number key ask young repeats begin alive kept w.stores log ps in
+          let carries = down.carries S model x now number key ask young repeats begin alive kept w.stores log ps in
           let near' : AreTogether actual_back ps (with_retries r) inc = subst (λ (a : ℕ). AreTogether a ps (with_retries r) inc) back
           (together_again actual r ps reply_out inc together) in
-          let z = down.download S shop x now number key ask young repeats begin alive kept w.stores log ps segments_taken kind_is.0 kind_is.1
+          let z = down.download S model x now number key ask young repeats begin alive kept w.stores log ps segments_taken kind_is.0 kind_is.1
           reply_sizes near_back s inc since (length inc.parts) (3 * m)
-          (round_of S shop x now number key actual_back d.settings.window ps reply_sizes near_back carries s inc near') (omega arith) in
+          (round_of S model x now number key actual_back d.settings.window ps reply_sizes near_back carries s inc near') (omega arith) in
           let from : TransactionPair S = record {
             ticket = record { ask = ask; phase = SegmentedConf inc; repeats = repeats; since = since };
             entry = Some (entry_with begin kept (running r));
@@ -331,7 +331,7 @@ module _ (S : Type 0) (shop : StoreModel S) (opening : ℕ → S) (W : ℕ) (x :
             log = log;
           } in
           subst (λ (k : ℕ). EndsIn repeats begin alive kept k from) total
-          (subst (λ (q : reply). down.EndsWith S shop x now number key ask young repeats begin alive kept w.stores log (3 * m) from q) (sym same) z)
+          (subst (λ (q : reply). down.EndsWith S model x now number key ask young repeats begin alive kept w.stores log (3 * m) from q) (sym same) z)
 
   -- A request in segments, whose window is sent again.
 
@@ -372,23 +372,23 @@ module _ (S : Type 0) (shop : StoreModel S) (opening : ℕ → S) (W : ℕ) (x :
     all_is e = ap (λ b. b || nat_le (length out.pieces) (out.first + in_window out')) e
 
     sending_shows : (q : TransactionPair S) → ticket ≡ q.ticket → window ≡ q.pending → w.stores ≡ q.stores → log ≡ q.log
-        → live_entry now (w.net.entries key) ≡ live_entry now q.entry → Shows S shop x now number key after_tick q (length w.net.posts)
+        → live_entry now (w.net.entries key) ≡ live_entry now q.entry → Shows S model x now number key after_tick q (length w.net.posts)
     sending_shows q ticket_is pending stores log_is entry =
-        ticked S shop opening W x bound w kept_in key t at can.serving (client.sends_request_window c ask.choice out' all_sent) q
+        ticked S model opening W x bound w kept_in key t at can.serving (client.sends_request_window c ask.choice out' all_sent) q
         (sending_ticks c t young out all_sent is due left) ticket_is (sent_window ∙ pending) refl stores log_is entry
 
     -- its server has not heard of it
     sending_new : live_entry now (w.net.entries key) ≡ None → IsAtStart out
-        → shop.outcome (w.stores key.server) ask.choice (join ask.pieces) ≡ Replies p → Ready after_tick
+        → model.outcome (w.stores key.server) ask.choice (join ask.pieces) ≡ Replies p → Ready after_tick
     sending_new none start outcome =
         let some = sends.left in
         let len : length out.pieces ≡ n = ap length sends.pieces_are in
         let zero_is : out.first ≡ 0 = start.0 in
         let win : out.window ≡ 1 = start.1 in
         let one : in_window out' ≡ 1 = omega arith in
-        let q = begins.asking S shop x now number key ask young t.repeats w.stores log p outcome can.way (SegmentedRequest out' all') (w.net.entries key)
+        let q = begins.asking S model x now number key ask young t.repeats w.stores log p outcome can.way (SegmentedRequest out' all') (w.net.entries key)
         (client.request_piece c ask.choice ask.pieces 0 ∷ []) in
-        let z = begins.pieces_read S shop x now number key ask young t.repeats w.stores log p outcome can.way (w.net.entries key)
+        let z = begins.pieces_read S model x now number key ask young t.repeats w.stores log p outcome can.way (w.net.entries key)
         (none_live now (w.net.entries key) none) (request_sizes whole) near out' sends.pieces_are zero_is win all' (omega arith) in
         let count = count_is whole in
         record {
@@ -410,16 +410,16 @@ module _ (S : Type 0) (shop : StoreModel S) (opening : ℕ → S) (W : ℕ) (x :
       -- a reassembly
       sending_received : (inc : Incoming) (since : ℕ) → e.state ≡ State.SegmentedRequest inc since → now - since < T_WAIT_FOR_SEG
           → AreTogether actual ask.pieces out inc
-          → shop.outcome (w.stores key.server) ask.choice (join ask.pieces) ≡ Replies p → Ready after_tick
+          → model.outcome (w.stores key.server) ask.choice (join ask.pieces) ≡ Replies p → Ready after_tick
       unfolding up.carries
       sending_received inc since state timely together outcome =
           let sizes = request_sizes whole in
           let in_time : nat_le T_WAIT_FOR_SEG (now - since) ≡ false = grind (arith, nat_tests) in
-          let carries = up.carries S shop x now number key ask young t.repeats e.begin found.live w.stores log in
-          let q = up.requesting S shop x now number key ask young t.repeats e.begin found.live w.stores log sender inc since window in
-          let z = up.upload S shop x now number key ask young t.repeats e.begin found.live w.stores log p outcome can.way sizes near sender inc since
+          let carries = up.carries S model x now number key ask young t.repeats e.begin found.live w.stores log in
+          let q = up.requesting S model x now number key ask young t.repeats e.begin found.live w.stores log sender inc since window in
+          let z = up.upload S model x now number key ask young t.repeats e.begin found.live w.stores log p outcome can.way sizes near sender inc since
           (length inc.parts) (3 * n)
-          (round_of S shop x now number key actual c.settings.window ask.pieces sizes near carries sender inc
+          (round_of S model x now number key actual c.settings.window ask.pieces sizes near carries sender inc
           (together_again actual (out.retries - 1) ask.pieces out inc together)) in_time (omega arith) in
           let count = count_is whole in
           record {
@@ -438,9 +438,9 @@ module _ (S : Type 0) (shop : StoreModel S) (opening : ℕ → S) (W : ℕ) (x :
           let all_in = in_all in
           let phase_is = all_is all in
           let big = room in
-          let q = again_.with_state S shop x now number key ask young t.repeats e.begin found.live None w.stores log
+          let q = again_.with_state S model x now number key ask young t.repeats e.begin found.live None w.stores log
           (record { ask = ask; phase = SegmentedRequest out' true; repeats = t.repeats; since = now }) (Done (server.reply_apdu d ask.choice p)) window in
-          let z = again_.segments_answered S shop x now number key ask young t.repeats e.begin found.live None w.stores log p w' out.first now out' refl
+          let z = again_.segments_answered S model x now number key ask young t.repeats e.begin found.live None w.stores log p w' out.first now out' refl
           in_some (omega arith) can.kind in
           let count = count_is whole in
           record {
@@ -451,7 +451,7 @@ module _ (S : Type 0) (shop : StoreModel S) (opening : ℕ → S) (W : ℕ) (x :
             most = w' + 1;
             cheap = omega arith;
             fin = ends_finish t.repeats e.begin found.live None (w' + 1) q refl
-                (done_performed S shop opening W x bound w kept_in key t at e found.at found.live kept state p same) z;
+                (done_performed S model opening W x bound w kept_in key t at e found.at found.live kept state p same) z;
           }
 
       -- a reply in segments whose transfer has stopped
@@ -469,10 +469,10 @@ module _ (S : Type 0) (shop : StoreModel S) (opening : ℕ → S) (W : ℕ) (x :
               let st : State = SegmentedResponse reply_out Stopped since in
               let t' : ClientTransaction = record { ask = ask; phase = SegmentedRequest out' true; repeats = t.repeats; since = now } in
               let sent = pieces_from (client.request_piece c ask.choice ask.pieces) out.first (suc k) in
-              let q = again_.with_state S shop x now number key ask young t.repeats e.begin found.live None w.stores log t' st sent in
-              let mid = again_.with_state S shop x now number key ask young t.repeats e.begin found.live None w.stores log t'
+              let q = again_.with_state S model x now number key ask young t.repeats e.begin found.live None w.stores log t' st sent in
+              let mid = again_.with_state S model x now number key ask young t.repeats e.begin found.live None w.stores log t'
               (SegmentedResponse (resume reply_out) Running now) (server.reply_window d ask.choice (resume reply_out)) in
-              let y = again_.segments_resume S shop x now number key ask young t.repeats e.begin found.live None w.stores log t' reply_out since k out.first
+              let y = again_.segments_resume S model x now number key ask young t.repeats e.begin found.live None w.stores log t' reply_out since k out.first
               refl refl (omega arith) in
               let z = from_start reply_out same cut t.repeats e.begin found.live None N_RETRY (SegmentedRequest out' true) now (sending_waits out') refl
               start in
@@ -486,8 +486,8 @@ module _ (S : Type 0) (shop : StoreModel S) (opening : ℕ → S) (W : ℕ) (x :
                 most = suc k + 3 * wc;
                 cheap = omega arith;
                 fin = ends_finish t.repeats e.begin found.live None (suc k + 3 * wc) q refl
-                    (reply_performed S shop opening W x bound w kept_in key t at e found.at found.live reply_out Stopped since state p same)
-                    (down.ends_then S shop x now number key ask young t.repeats e.begin found.live None w.stores log (suc k) (3 * wc) (suc k + 3 * wc) q mid p
+                    (reply_performed S model opening W x bound w kept_in key t at e found.at found.live reply_out Stopped since state p same)
+                    (down.ends_then S model x now number key ask young t.repeats e.begin found.live None w.stores log (suc k) (3 * wc) (suc k + 3 * wc) q mid p
                     (omega arith) y z);
               }
 
@@ -504,18 +504,18 @@ module _ (S : Type 0) (shop : StoreModel S) (opening : ℕ → S) (W : ℕ) (x :
 
   whole_shows : (phase : Phase) → client.client_ticks c t ≡ Repeats t.phase (client.request_apdu c ask ∷ []) → t.phase ≡ phase → (q : TransactionPair S)
       → waiting phase ≡ q.ticket → client.request_apdu c ask ∷ [] ≡ q.pending → w.stores ≡ q.stores → log ≡ q.log
-      → live_entry now (w.net.entries key) ≡ live_entry now q.entry → Shows S shop x now number key after_tick q (length w.net.posts)
+      → live_entry now (w.net.entries key) ≡ live_entry now q.entry → Shows S model x now number key after_tick q (length w.net.posts)
   whole_shows phase ticks is q ticket pending stores log_is entry =
-      ticked S shop opening W x bound w kept_in key t at can.serving (Repeats t.phase (client.request_apdu c ask ∷ [])) q ticks (ap waiting is ∙ ticket) pending refl
+      ticked S model opening W x bound w kept_in key t at can.serving (Repeats t.phase (client.request_apdu c ask ∷ [])) q ticks (ap waiting is ∙ ticket) pending refl
       stores log_is entry
 
   module _ (is : t.phase ≡ AwaitConfirmation) (due : T_OUT ≤ now - t.since) (left : 0 < t.repeats) (some : 0 < n) where
     waiting_new : ask.whole ≡ true → live_entry now (w.net.entries key) ≡ None
-        → shop.outcome (w.stores key.server) ask.choice (join ask.pieces) ≡ Replies p → Ready after_tick
+        → model.outcome (w.stores key.server) ask.choice (join ask.pieces) ≡ Replies p → Ready after_tick
     waiting_new whole none outcome =
-        let q = begins.asking S shop x now number key ask young (t.repeats - 1) w.stores log p outcome can.way AwaitConfirmation (w.net.entries key)
+        let q = begins.asking S model x now number key ask young (t.repeats - 1) w.stores log p outcome can.way AwaitConfirmation (w.net.entries key)
         (client.request_apdu c ask ∷ []) in
-        let z = begins.whole_read S shop x now number key ask young (t.repeats - 1) w.stores log p outcome can.way (w.net.entries key)
+        let z = begins.whole_read S model x now number key ask young (t.repeats - 1) w.stores log p outcome can.way (w.net.entries key)
         (none_live now (w.net.entries key) none) in
         let count = whole_count whole in
         record {
@@ -535,9 +535,9 @@ module _ (S : Type 0) (shop : StoreModel S) (opening : ℕ → S) (W : ℕ) (x :
 
     pieces_shows : ask.whole ≡ false → (q : TransactionPair S) → waiting (SegmentedRequest anew true) ≡ q.ticket
         → pieces_from (client.request_piece c ask.choice ask.pieces) 0 1 ≡ q.pending → w.stores ≡ q.stores → log ≡ q.log
-        → live_entry now (w.net.entries key) ≡ live_entry now q.entry → Shows S shop x now number key after_tick q (length w.net.posts)
+        → live_entry now (w.net.entries key) ≡ live_entry now q.entry → Shows S model x now number key after_tick q (length w.net.posts)
     pieces_shows whole q ticket pending stores log_is entry =
-        ticked S shop opening W x bound w kept_in key t at can.serving (Repeats (SegmentedRequest anew true) (client.request_window c ask.choice anew)) q
+        ticked S model opening W x bound w kept_in key t at can.serving (Repeats (SegmentedRequest anew true) (client.request_window c ask.choice anew)) q
         (awaiting_ticks c t young is due left false whole) ticket
         (ap (λ (k : ℕ). pieces_from (client.request_piece c ask.choice ask.pieces) 0 k) anew_one ∙ pending) refl stores log_is entry
 
@@ -550,7 +550,7 @@ module _ (S : Type 0) (shop : StoreModel S) (opening : ℕ → S) (W : ℕ) (x :
       waiting_done kept state same = go ask.whole refl
         where
           done : Has (Performed number (request_of ask) p) log
-          done = done_performed S shop opening W x bound w kept_in key t at e there_is.at there_is.live kept state p same
+          done = done_performed S model opening W x bound w kept_in key t at e there_is.at there_is.live kept state p same
 
           st : State
           st = Done (server.reply_apdu d ask.choice p)
@@ -558,9 +558,9 @@ module _ (S : Type 0) (shop : StoreModel S) (opening : ℕ → S) (W : ℕ) (x :
           go : (b : Bool) → ask.whole ≡ b → Ready after_tick
           go true whole =
               let request = Some (join ask.pieces) in
-              let q = again_.with_state S shop x now number key ask young (t.repeats - 1) e.begin there_is.live request w.stores log
+              let q = again_.with_state S model x now number key ask young (t.repeats - 1) e.begin there_is.live request w.stores log
               (waiting AwaitConfirmation) st (client.request_apdu c ask ∷ []) in
-              let z = again_.request_answered S shop x now number key ask young (t.repeats - 1) e.begin there_is.live request w.stores log p
+              let z = again_.request_answered S model x now number key ask young (t.repeats - 1) e.begin there_is.live request w.stores log p
               AwaitConfirmation now await_waits refl refl can.kind in
               let count = whole_count whole in
               record {
@@ -572,11 +572,11 @@ module _ (S : Type 0) (shop : StoreModel S) (opening : ℕ → S) (W : ℕ) (x :
                 fin = ends_finish (t.repeats - 1) e.begin there_is.live request 2 q refl done z;
               }
           go false whole =
-              let q = again_.with_state S shop x now number key ask young (t.repeats - 1) e.begin there_is.live None w.stores log
+              let q = again_.with_state S model x now number key ask young (t.repeats - 1) e.begin there_is.live None w.stores log
               (waiting (SegmentedRequest anew true)) st (pieces_from (client.request_piece c ask.choice ask.pieces) 0 1) in
               let big = room in
               let big' = positive in
-              let z = again_.segments_answered S shop x now number key ask young (t.repeats - 1) e.begin there_is.live None w.stores log p 1 0 now anew refl
+              let z = again_.segments_answered S model x now number key ask young (t.repeats - 1) e.begin there_is.live None w.stores log p 1 0 now anew refl
               (omega arith) (omega arith) can.kind in
               let count = count_is whole in
               record {
@@ -594,7 +594,7 @@ module _ (S : Type 0) (shop : StoreModel S) (opening : ℕ → S) (W : ℕ) (x :
       waiting_stopped reply_out since state start same cut = go ask.whole refl
         where
           done : Has (Performed number (request_of ask) p) log
-          done = reply_performed S shop opening W x bound w kept_in key t at e there_is.at there_is.live reply_out Stopped since state p same
+          done = reply_performed S model opening W x bound w kept_in key t at e there_is.at there_is.live reply_out Stopped since state p same
 
           st : State
           st = SegmentedResponse reply_out Stopped since
@@ -606,11 +606,11 @@ module _ (S : Type 0) (shop : StoreModel S) (opening : ℕ → S) (W : ℕ) (x :
           go true whole =
               let request = Some (join ask.pieces) in
               let ticket = waiting AwaitConfirmation in
-              let q = again_.with_state S shop x now number key ask young (t.repeats - 1) e.begin there_is.live request w.stores log ticket st
+              let q = again_.with_state S model x now number key ask young (t.repeats - 1) e.begin there_is.live request w.stores log ticket st
               (client.request_apdu c ask ∷ []) in
-              let mid = again_.with_state S shop x now number key ask young (t.repeats - 1) e.begin there_is.live request w.stores log ticket
+              let mid = again_.with_state S model x now number key ask young (t.repeats - 1) e.begin there_is.live request w.stores log ticket
               (SegmentedResponse (resume reply_out) Running now) (server.reply_window d ask.choice (resume reply_out)) in
-              let y = again_.request_resumes S shop x now number key ask young (t.repeats - 1) e.begin there_is.live request w.stores log ticket reply_out
+              let y = again_.request_resumes S model x now number key ask young (t.repeats - 1) e.begin there_is.live request w.stores log ticket reply_out
               since refl refl in
               let z = from_start reply_out same cut (t.repeats - 1) e.begin there_is.live request N_RETRY AwaitConfirmation now await_waits refl start in
               let count = whole_count whole in
@@ -621,18 +621,18 @@ module _ (S : Type 0) (shop : StoreModel S) (opening : ℕ → S) (W : ℕ) (x :
                 most = 1 + 3 * wc;
                 cheap = omega arith;
                 fin = ends_finish (t.repeats - 1) e.begin there_is.live request (1 + 3 * wc) q refl done
-                    (down.ends_then S shop x now number key ask young (t.repeats - 1) e.begin there_is.live request w.stores log 1 (3 * wc) (1 + 3 * wc) q mid p
+                    (down.ends_then S model x now number key ask young (t.repeats - 1) e.begin there_is.live request w.stores log 1 (3 * wc) (1 + 3 * wc) q mid p
                     (omega arith) y z);
               }
           go false whole =
               let big = room in
               let big' = positive in
               let ticket = waiting (SegmentedRequest anew true) in
-              let q = again_.with_state S shop x now number key ask young (t.repeats - 1) e.begin there_is.live None w.stores log ticket st
+              let q = again_.with_state S model x now number key ask young (t.repeats - 1) e.begin there_is.live None w.stores log ticket st
               (pieces_from (client.request_piece c ask.choice ask.pieces) 0 1) in
-              let mid = again_.with_state S shop x now number key ask young (t.repeats - 1) e.begin there_is.live None w.stores log ticket
+              let mid = again_.with_state S model x now number key ask young (t.repeats - 1) e.begin there_is.live None w.stores log ticket
               (SegmentedResponse (resume reply_out) Running now) (server.reply_window d ask.choice (resume reply_out)) in
-              let y = again_.segments_resume S shop x now number key ask young (t.repeats - 1) e.begin there_is.live None w.stores log ticket reply_out since
+              let y = again_.segments_resume S model x now number key ask young (t.repeats - 1) e.begin there_is.live None w.stores log ticket reply_out since
               0 0 refl refl (omega arith) in
               let z = from_start reply_out same cut (t.repeats - 1) e.begin there_is.live None N_RETRY (SegmentedRequest anew true) now (sending_waits anew)
               refl start in
@@ -643,7 +643,7 @@ module _ (S : Type 0) (shop : StoreModel S) (opening : ℕ → S) (W : ℕ) (x :
                 most = 1 + 3 * wc;
                 cheap = omega arith;
                 fin = ends_finish (t.repeats - 1) e.begin there_is.live None (1 + 3 * wc) q refl done
-                    (down.ends_then S shop x now number key ask young (t.repeats - 1) e.begin there_is.live None w.stores log 1 (3 * wc) (1 + 3 * wc) q mid p
+                    (down.ends_then S model x now number key ask young (t.repeats - 1) e.begin there_is.live None w.stores log 1 (3 * wc) (1 + 3 * wc) q mid p
                     (omega arith) y z);
               }
 
@@ -658,14 +658,14 @@ module _ (S : Type 0) (shop : StoreModel S) (opening : ℕ → S) (W : ℕ) (x :
       let request = Some (join ask.pieces) in
       let ticket = waiting (SegmentedConf inc) in
       let st : State = SegmentedResponse reply_out Stopped since in
-      let q = again_.with_state S shop x now number key ask young (t.repeats - 1) e.begin found.live request w.stores log ticket st
+      let q = again_.with_state S model x now number key ask young (t.repeats - 1) e.begin found.live request w.stores log ticket st
       (client.request_apdu c ask ∷ []) in
-      let mid = again_.with_state S shop x now number key ask young (t.repeats - 1) e.begin found.live request w.stores log ticket
+      let mid = again_.with_state S model x now number key ask young (t.repeats - 1) e.begin found.live request w.stores log ticket
       (SegmentedResponse (resume reply_out) Running now) (server.reply_window d ask.choice (resume reply_out)) in
-      let y = again_.request_resumes S shop x now number key ask young (t.repeats - 1) e.begin found.live request w.stores log ticket reply_out since refl
+      let y = again_.request_resumes S model x now number key ask young (t.repeats - 1) e.begin found.live request w.stores log ticket reply_out since refl
       refl in
       let z = from_middle reply_out same cut (t.repeats - 1) e.begin found.live request N_RETRY inc now together in
-      let done = reply_performed S shop opening W x bound w kept_in key t at e found.at found.live reply_out Stopped since state p same in
+      let done = reply_performed S model opening W x bound w kept_in key t at e found.at found.live reply_out Stopped since state p same in
       let count = whole_count whole in
       record {
         q = q;
@@ -674,7 +674,7 @@ module _ (S : Type 0) (shop : StoreModel S) (opening : ℕ → S) (W : ℕ) (x :
         most = 1 + 3 * wc;
         cheap = omega arith;
         fin = ends_finish (t.repeats - 1) e.begin found.live request (1 + 3 * wc) q refl done
-            (down.ends_then S shop x now number key ask young (t.repeats - 1) e.begin found.live request w.stores log 1 (3 * wc) (1 + 3 * wc) q mid p
+            (down.ends_then S model x now number key ask young (t.repeats - 1) e.begin found.live request w.stores log 1 (3 * wc) (1 + 3 * wc) q mid p
             (omega arith) y z);
       }
 
@@ -708,20 +708,20 @@ module _ (S : Type 0) (shop : StoreModel S) (opening : ℕ → S) (W : ℕ) (x :
     entry_is i = record { begin = e.begin; choice = sym of.choice i; limits = sym of.limits i; request = e.request; state = next_state }
 
     server_ready : (phase : Phase) → t.phase ≡ phase → is_idle phase ≡ false → EndsIn t.repeats e.begin served_is.live e.request (3 * wc) (gives phase)
-        → Ready (happens S shop x w (Tick [] (key ∷ [])))
+        → Ready (happens S model x w (Tick [] (key ∷ [])))
     server_ready phase is going z = record {
       q = gives phase;
-      shows = server_ticked S shop opening W x bound w kept_in key t at can.serving e served_is.at served_is.live reply_out since state due left (gives phase)
+      shows = server_ticked S model opening W x bound w kept_in key t at can.serving e served_is.at served_is.live reply_out since state due left (gives phase)
           (ticket_is phase is) (ap Some entry_is)
           (ap (λ (ch : ℕ). server.reply_window d ch (record reply_out { retries = reply_out.retries - 1 })) (sym of.choice)) refl refl;
       most = 3 * wc;
       cheap = omega arith;
       fin = ends_finish t.repeats e.begin served_is.live e.request (3 * wc) (gives phase) going
-          (reply_performed S shop opening W x bound w kept_in key t at e served_is.at served_is.live reply_out Running since state p same) z;
+          (reply_performed S model opening W x bound w kept_in key t at e served_is.at served_is.live reply_out Running since state p same) z;
     }
 
     pub server_turn : (phase : Phase) → t.phase ≡ phase → is_idle phase ≡ false → Stands actual ask phase (Some e)
-        → Ready (happens S shop x w (Tick [] (key ∷ [])))
+        → Ready (happens S model x w (Tick [] (key ∷ [])))
     server_turn Idle is going h = absurd cc
     server_turn AwaitConfirmation is going h =
         let start : StandsWaiting (SegmentedResponse reply_out Running since) = subst (λ (st : State). StandsWaiting st) state h in
@@ -741,7 +741,7 @@ module _ (S : Type 0) (shop : StoreModel S) (opening : ℕ → S) (W : ℕ) (x :
   -- The client's turn.
 
   abbrev Outcome : Type 0
-  Outcome = shop.outcome (w.stores key.server) ask.choice (join ask.pieces) ≡ Replies p
+  Outcome = model.outcome (w.stores key.server) ask.choice (join ask.pieces) ≡ Replies p
 
   module _ (e : ServerTransaction) (entry : live_entry now (w.net.entries key) ≡ Some e) (of : IsOfAsk x key ask e) (some : 0 < n) where
     sending_turn : (out : Outgoing) (all_sent : Bool) → t.phase ≡ SegmentedRequest out all_sent → ClientIsDue now t (SegmentedRequest out all_sent)
@@ -780,7 +780,7 @@ module _ (S : Type 0) (shop : StoreModel S) (opening : ℕ → S) (W : ℕ) (x :
     collecting_turn inc is due Dropped state hears stands keeps cut = absurd stands
 
   pub client_turn : (phase : Phase) → t.phase ≡ phase → ClientIsDue now t phase → (o : Option ServerTransaction) → live_entry now (w.net.entries key) ≡ o
-      → TakesRequest now o → AreInStep x key ask phase o → Gives S shop x w key t p o → Ready after_tick
+      → TakesRequest now o → AreInStep x key ask phase o → Gives S model x w key t p o → Ready after_tick
   client_turn Idle is due o entry takes step gives = absurd due
   client_turn (SegmentedRequest out all) is due None entry takes step gives =
       let h = step.stand in sending_new out all is due.0 due.1 h.0 h.1 entry h.2 gives

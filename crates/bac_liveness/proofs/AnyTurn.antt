@@ -23,9 +23,9 @@ use Rattle.bac_liveness.proofs.Deliveries.{follows_start}
 use Rattle.bac_liveness.proofs.Turned.{finish}
 use Rattle.bac_liveness.proofs.Answering.{Ready, client_turn, server_turn}
 
-module _ (S : Type 0) (shop : StoreModel S) (opening : ℕ → S) (W : ℕ) (x : Rules) (bound : IsBounded W x) (w : World S)
-    (kept_in : Kept S shop opening W x bound w) (key : Key) (t : ClientTransaction) (at : w.net.tickets key ≡ Some t) (good : AreStraight x key) (p : reply)
-    (can : CanStill S shop x w key t p) where
+module _ (S : Type 0) (model : StoreModel S) (opening : ℕ → S) (W : ℕ) (x : Rules) (bound : IsBounded W x) (w : World S)
+    (kept_in : Kept S model opening W x bound w) (key : Key) (t : ClientTransaction) (at : w.net.tickets key ≡ Some t) (good : AreStraight x key) (p : reply)
+    (can : CanStill S model x w key t p) where
   abbrev now : ℕ
   now = w.net.now
 
@@ -36,30 +36,30 @@ module _ (S : Type 0) (shop : StoreModel S) (opening : ℕ → S) (W : ℕ) (x :
   ask = t.ask
 
   abbrev Outcome : Type 0
-  Outcome = shop.outcome (w.stores key.server) ask.choice (join ask.pieces) ≡ Replies p
+  Outcome = model.outcome (w.stores key.server) ask.choice (join ask.pieces) ≡ Replies p
 
   abbrev ReadyIn : World S → Type 0
-  ReadyIn u = Ready S shop opening W x bound w kept_in key t at good p can u
+  ReadyIn u = Ready S model opening W x bound w kept_in key t at good p can u
 
   abbrev exact : World S → Event → World S → Type 0
-  exact u e y = y ≡ happens S shop x u e
+  exact u e y = y ≡ happens S model x u e
 
   ready_answers : (u : World S) → ReadyIn u → (count : ℕ) (v : World S) → Straight S exact key true count (length w.net.posts) u v
       → Stops S key (length w.net.posts + count) v → IsAnsweredIn S x key t number p count v
   ready_answers u z count v run stops =
-      finish S shop opening W x bound w kept_in key t at p z.most u v z.q count z.shows z.fin z.cheap run stops
+      finish S model opening W x bound w kept_in key t at p z.most u v z.q count z.shows z.fin z.cheap run stops
 
   abbrev after : List Key → List Key → World S
-  after as_client as_server = happens S shop x w (Tick as_client as_server)
+  after as_client as_server = happens S model x w (Tick as_client as_server)
 
-  server_ready_in : (o : Option ServerTransaction) → live_entry now (w.net.entries key) ≡ o → AreInStep x key ask t.phase o → ServerIsDue now o → Gives S shop x w key t p o
+  server_ready_in : (o : Option ServerTransaction) → live_entry now (w.net.entries key) ≡ o → AreInStep x key ask t.phase o → ServerIsDue now o → Gives S model x w key t p o
       → ReadyIn (after [] (key ∷ []))
   server_ready_in None entry step due gives = absurd due
   server_ready_in (Some e) entry step due gives = by_state e.state refl due gives (step.entry).cut
     where
       by_state : (st : State) → e.state ≡ st → TransferIsDue now st → Keeps x key now t p st Outcome → IsCutFor x key st → ReadyIn (after [] (key ∷ []))
       by_state (SegmentedResponse reply_out Running since) state due keeps cut =
-          server_turn S shop opening W x bound w kept_in key t at good p can e entry step.entry reply_out since state due.0 due.1 keeps cut t.phase refl
+          server_turn S model opening W x bound w kept_in key t at good p can e entry step.entry reply_out since state due.0 due.1 keeps cut t.phase refl
           can.going step.stand
       by_state (SegmentedResponse reply_out Stopped since) state due keeps cut = absurd due
       by_state (SegmentedResponse reply_out Finished since) state due keeps cut = absurd due
@@ -67,10 +67,10 @@ module _ (S : Type 0) (shop : StoreModel S) (opening : ℕ → S) (W : ℕ) (x :
       by_state (Done kept) state due keeps cut = absurd due
       by_state Dropped state due keeps cut = absurd due
 
-  ready_runs : (u : World S) → ReadyIn u → RunsOut S shop x key t number p (length w.net.posts) u
+  ready_runs : (u : World S) → ReadyIn u → RunsOut S model x key t number p (length w.net.posts) u
   ready_runs u z =
       let h = (z.fin).reaches in
-      let f = follows_start S shop x now number key z.most (length w.net.posts) u z.q (z.fin).end h z.shows in
+      let f = follows_start S model x now number key z.most (length w.net.posts) u z.q (z.fin).end h z.shows in
       let over : is_ended (f.new.net.tickets key) ≡ true = ap is_ended (f.shows).ticket ∙ (z.fin).idle in
       record { count = suc h.count; last = f.new; run = f.run; over = over; answered = ready_answers u z (suc h.count) f.new f.run (inl over) }
 
@@ -79,7 +79,7 @@ module _ (S : Type 0) (shop : StoreModel S) (opening : ℕ → S) (W : ℕ) (x :
   turn_ready step as_client as_server (inl turn) =
       let same : after as_client as_server ≡ after (key ∷ []) [] = λ i. after (turn.2 i) (turn.3 i) in
       subst ReadyIn (sym same)
-      (client_turn S shop opening W x bound w kept_in key t at good p can t.phase refl turn.0 (live_entry now (w.net.entries key)) refl turn.1 step can.gives)
+      (client_turn S model opening W x bound w kept_in key t at good p can t.phase refl turn.0 (live_entry now (w.net.entries key)) refl turn.1 step can.gives)
   turn_ready step as_client as_server (inr turn) =
       let same : after as_client as_server ≡ after [] (key ∷ []) = λ i. after (turn.1 i) (turn.2 i) in
       subst ReadyIn (sym same) (server_ready_in (live_entry now (w.net.entries key)) refl step turn.0 can.gives)
@@ -91,12 +91,12 @@ module _ (S : Type 0) (shop : StoreModel S) (opening : ℕ → S) (W : ℕ) (x :
   in_step_answers step as_client as_server turn = ready_answers (after as_client as_server) (turn_ready step as_client as_server turn)
 
   pub in_step_runs : AreInStep x key ask t.phase (live_entry now (w.net.entries key)) → (as_client as_server : List Key)
-      → IsTurn S w key t as_client as_server → RunsOut S shop x key t number p (length w.net.posts) (after as_client as_server)
+      → IsTurn S w key t as_client as_server → RunsOut S model x key t number p (length w.net.posts) (after as_client as_server)
   in_step_runs step as_client as_server turn = ready_runs (after as_client as_server) (turn_ready step as_client as_server turn)
 
-pub in_step_is_answered : (S : Type 0) (shop : StoreModel S) (opening : ℕ → S) (W : ℕ) (x : Rules) → IsBounded W x → (events : List Event)
-    → InStepIsAnswered S shop x (run S shop x events (start S opening))
-in_step_is_answered S shop opening W x bound events key t at step good p can as_client as_server turn count v straight stops =
-    in_step_answers S shop opening W x bound (run S shop x events (start S opening))
-    (run_kept S shop opening W x bound events (start S opening) (start_kept S shop opening W x bound)) key t at good p can step as_client as_server turn count
+pub in_step_is_answered : (S : Type 0) (model : StoreModel S) (opening : ℕ → S) (W : ℕ) (x : Rules) → IsBounded W x → (events : List Event)
+    → InStepIsAnswered S model x (run S model x events (start S opening))
+in_step_is_answered S model opening W x bound events key t at step good p can as_client as_server turn count v straight stops =
+    in_step_answers S model opening W x bound (run S model x events (start S opening))
+    (run_kept S model opening W x bound events (start S opening) (start_kept S model opening W x bound)) key t at good p can step as_client as_server turn count
     v straight stops

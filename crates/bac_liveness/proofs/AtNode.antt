@@ -19,7 +19,7 @@ use Rattle.bac_slots.specs.Slots.{value_at, in_order, IsApart, IsDistinct}
 use Rattle.bac_transaction.specs.Keys.{PeerKey, peer_key_cmp, same_key}
 use Rattle.bac_transaction.specs.Sends.{Pairwise}
 use Rattle.bac_transaction.specs.Meanings as plain
-use Rattle.bac_transaction.specs.Meanings.{Finish, IsFinish, MeansEnding}
+use Rattle.bac_transaction.specs.Meanings.{EndedView, IsEndedView, MeansEnding}
 use Rattle.bac_transaction.specs.Ends.{Client, TransactionSlot, ClientSlot, Ended, context_of, from_each, client_tick_ends}
 use Rattle.bac_transaction.specs.Ends.{requester_on_apdu_at, key_of, kept, ended_with}
 use Rattle.bac_transaction.specs.Ends.TransactionSlot.{Open, Closed}
@@ -40,7 +40,7 @@ use Rattle.bac_liveness.proofs.WorldEndings.{opened, late_gets, tick_leaves, on_
 
 -- Lists of endings.
 
-finishes_join : (number : ℕ) (fs gs : List Finish) → finishes_of number (fs ++ gs) ≡ finishes_of number fs + finishes_of number gs
+finishes_join : (number : ℕ) (fs gs : List EndedView) → finishes_of number (fs ++ gs) ≡ finishes_of number fs + finishes_of number gs
 finishes_join number [] gs = omega arith
 finishes_join number (f ∷ fs) gs = go (nat_eq f.ticket number) (finishes_join number fs gs)
   where
@@ -50,24 +50,24 @@ finishes_join number (f ∷ fs) gs = go (nat_eq f.ticket number) (finishes_join 
     go true e = omega (arith, e)
     go false e = e
 
-has_left : (f : Finish) (fs gs : List Finish) → HasFinish f fs → HasFinish f (fs ++ gs)
+has_left : (f : EndedView) (fs gs : List EndedView) → HasFinish f fs → HasFinish f (fs ++ gs)
 has_left f [] gs h = absurd h
 has_left f (g ∷ fs) gs (inl e) = inl e
 has_left f (g ∷ fs) gs (inr h) = inr (has_left f fs gs h)
 
-has_right : (f : Finish) (fs gs : List Finish) → HasFinish f gs → HasFinish f (fs ++ gs)
+has_right : (f : EndedView) (fs gs : List EndedView) → HasFinish f gs → HasFinish f (fs ++ gs)
 has_right f [] gs h = h
 has_right f (g ∷ fs) gs h = inr (has_right f fs gs h)
 
-abbrev finish : ℕ → plain.Ending → Finish
+abbrev finish : ℕ → plain.Ending → EndedView
 finish number how = record { ticket = number; how = how }
 
 -- what has ended as Expired
-pub record IsOnlyExpired (number : ℕ) (fs : List Finish) : Type 0 where
+pub record IsOnlyExpired (number : ℕ) (fs : List EndedView) : Type 0 where
   pub has : HasFinish (expired number) fs
   pub once : finishes_of number fs ≡ 1
 
-only_expired : (number choice : ℕ) (fs : List Finish) → Pairwise IsFinish (ended_with number choice (Some machine.Ending.Expired)) fs → IsOnlyExpired number fs
+only_expired : (number choice : ℕ) (fs : List EndedView) → Pairwise IsEndedView (ended_with number choice (Some machine.Ending.Expired)) fs → IsOnlyExpired number fs
 only_expired number choice [] h = absurd h
 only_expired number choice (f ∷ g ∷ fs) h = absurd h.1
 only_expired number choice (f ∷ []) h = record { has = inl (go f.how h.0.how); once = one (nat_eq f.ticket number) refl }
@@ -83,7 +83,7 @@ only_expired number choice (f ∷ []) h = record { has = inl (go f.how h.0.how);
     one true e = refl
     one false e = let same : f.ticket ≡ number = h.0.ticket in absurd (grind (arith, nat_tests))
 
-others_end : (number k choice : ℕ) (o : Option machine.Ending) (fs : List Finish) → (k ≡ number → ⊥) → Pairwise IsFinish (ended_with k choice o) fs
+others_end : (number k choice : ℕ) (o : Option machine.Ending) (fs : List EndedView) → (k ≡ number → ⊥) → Pairwise IsEndedView (ended_with k choice o) fs
     → finishes_of number fs ≡ 0
 others_end number k choice None [] ne h = refl
 others_end number k choice None (f ∷ fs) ne h = absurd h
@@ -120,39 +120,39 @@ module _ (now : ℕ) (old : Node) (apart : HasTicketsApart old) (key : PeerKey) 
   Own q v = value_at same_key q old.clients.slots ≡ Some v
 
   -- another slot's ticket is another one
-  other_ends : (q : PeerKey) (begin k : ℕ) (y : TransactionSlot) (fs : List Finish) → (q ≡ key → ⊥) → Own q (record { number = k; held = y })
-      → Pairwise IsFinish (ends (slot Client q begin (record { number = k; held = y }))) fs → finishes_of number fs ≡ 0
-  other_ends q begin k (Closed first) fs ne own h = ap (finishes_of number) (pairwise_none IsFinish fs h)
+  other_ends : (q : PeerKey) (begin k : ℕ) (y : TransactionSlot) (fs : List EndedView) → (q ≡ key → ⊥) → Own q (record { number = k; held = y })
+      → Pairwise IsEndedView (ends (slot Client q begin (record { number = k; held = y }))) fs → finishes_of number fs ≡ 0
+  other_ends q begin k (Closed first) fs ne own h = ap (finishes_of number) (pairwise_none IsEndedView fs h)
   other_ends q begin k (Open u) fs ne own h = others_end number k u.ask.choice (client.ending_of (client_ticks (context_of old.settings now q) u)) fs
       (λ same. ne (apart.apart q key number u t
       (own ∙ ap (λ (i : ℕ). Some (record { number = i; held = Open u })) same) there)) h
 
-  none_end : (os : List ClientSlot) → IsApart same_key key os → EachSlot Client Own os → (fs : List Finish) → Pairwise IsFinish (from_each ends os) fs
+  none_end : (os : List ClientSlot) → IsApart same_key key os → EachSlot Client Own os → (fs : List EndedView) → Pairwise IsEndedView (from_each ends os) fs
       → finishes_of number fs ≡ 0
-  none_end [] away own fs h = ap (finishes_of number) (pairwise_none IsFinish fs h)
+  none_end [] away own fs h = ap (finishes_of number) (pairwise_none IsEndedView fs h)
   none_end (s ∷ os) away own fs h =
-      let d = pairwise_split IsFinish (ends s) (from_each ends os) fs h in
+      let d = pairwise_split IsEndedView (ends s) (from_each ends os) fs h in
       let ne : s.key ≡ key → ⊥ = λ is. (let no : Some s.value ≡ None = sym (found_first Client s.key s.begin s.value [])
       ∙ ap (λ (q : PeerKey). value_at same_key q (s ∷ [])) is ∙ apart_none Client key (s ∷ []) (away.0, tt) in cc) in
       let one = other_ends s.key s.begin s.value.number s.value.held d.front ne own.0 d.first in
       let two = none_end os away.1 own.1 d.rest d.second in
       ap (finishes_of number) d.is ∙ finishes_join number d.front d.rest ∙ (λ i. one i + two i)
 
-  own_ends : (begin : ℕ) (fs : List Finish) → Pairwise IsFinish (ends (slot Client key begin (record { number = number; held = Open t }))) fs
+  own_ends : (begin : ℕ) (fs : List EndedView) → Pairwise IsEndedView (ends (slot Client key begin (record { number = number; held = Open t }))) fs
       → IsOnlyExpired number fs
   own_ends begin fs h = only_expired number t.ask.choice fs
-      (subst (λ (r : Reaction). Pairwise IsFinish (ended_with number t.ask.choice (client.ending_of r)) fs)
+      (subst (λ (r : Reaction). Pairwise IsEndedView (ended_with number t.ask.choice (client.ending_of r)) fs)
       (late_ticks (context_of old.settings now key) t (apart.going key number t there) late) h)
 
   one_ends : (os : List ClientSlot) → IsDistinct same_key os → EachSlot Client Own os
       → value_at same_key key os ≡ Some (record { number = number; held = Open t })
-      → (fs : List Finish) → Pairwise IsFinish (from_each ends os) fs → IsOnlyExpired number fs
+      → (fs : List EndedView) → Pairwise IsEndedView (from_each ends os) fs → IsOnlyExpired number fs
   one_ends [] distinct own found fs h = absurd cc
   one_ends (s ∷ os) distinct own found fs h =
       go (decide_slot_key s.key key) (λ ne. one_ends os distinct.1 own.1 (sym (passed_first Client s.key key s.begin s.value os ne) ∙ found) d.rest d.second)
     where
-      d : IsSplit IsFinish (ends s) (from_each ends os) fs
-      d = pairwise_split IsFinish (ends s) (from_each ends os) fs h
+      d : IsSplit IsEndedView (ends s) (from_each ends os) fs
+      d = pairwise_split IsEndedView (ends s) (from_each ends os) fs h
 
       go : ((s.key ≡ key) ⊎ (s.key ≡ key → ⊥)) → ((s.key ≡ key → ⊥) → IsOnlyExpired number d.rest) → IsOnlyExpired number fs
       go (inl is) again =
@@ -160,18 +160,18 @@ module _ (now : ℕ) (old : Node) (apart : HasTicketsApart old) (key : PeerKey) 
           (let e : Some s.value ≡ Some (record { number = number; held = Open t }) =
           sym (found_first Client s.key s.begin s.value os) ∙ ap (λ (q : PeerKey). value_at same_key q (s ∷ os)) is ∙ found in cc) in
           let one = own_ends s.begin d.front (subst (λ (q : PeerKey).
-          Pairwise IsFinish (ends (slot Client q s.begin (record { number = number; held = Open t }))) d.front) is
-          (subst (λ (v : Client). Pairwise IsFinish (ends (slot Client s.key s.begin v)) d.front) value d.first)) in
+          Pairwise IsEndedView (ends (slot Client q s.begin (record { number = number; held = Open t }))) d.front) is
+          (subst (λ (v : Client). Pairwise IsEndedView (ends (slot Client s.key s.begin v)) d.front) value d.first)) in
           let two = none_end os (subst (λ (q : PeerKey). IsApart same_key q os) is distinct.0) own.1 d.rest d.second in
           record {
-            has = subst (λ (gs : List Finish). HasFinish (expired number) gs) (sym d.is) (has_left (expired number) d.front d.rest one.has);
+            has = subst (λ (gs : List EndedView). HasFinish (expired number) gs) (sym d.is) (has_left (expired number) d.front d.rest one.has);
             once = ap (finishes_of number) d.is ∙ finishes_join number d.front d.rest ∙ (λ i. (one.once) i + two i);
           }
       go (inr ne) again =
           let one = other_ends s.key s.begin s.value.number s.value.held d.front ne own.0 d.first in
           let two = again ne in
           record {
-            has = subst (λ (gs : List Finish). HasFinish (expired number) gs) (sym d.is) (has_right (expired number) d.front d.rest two.has);
+            has = subst (λ (gs : List EndedView). HasFinish (expired number) gs) (sym d.is) (has_right (expired number) d.front d.rest two.has);
             once = ap (finishes_of number) d.is ∙ finishes_join number d.front d.rest ∙ (λ i. one i + (two.once) i);
           }
 
@@ -228,7 +228,7 @@ answer_ends now peer a old new o gets from apart number t there late = record { 
 
     only : IsOnlyExpired number o.ended
     only = only_expired number t.ask.choice o.ended
-        (subst (λ (r : Reaction). Pairwise IsFinish (ended_with number t.ask.choice (client.ending_of r)) o.ended) reaction turn.ended)
+        (subst (λ (r : Reaction). Pairwise IsEndedView (ended_with number t.ask.choice (client.ending_of r)) o.ended) reaction turn.ended)
 
     closed : value_at same_key (key_of peer a) new.clients.slots ≡ Some (record { number = number; held = Closed t.ask.first })
     closed = ap (λ (n : Node). value_at same_key (key_of peer a) n.clients.slots) turn.node

@@ -70,7 +70,7 @@ sending_waits out c readable ask (Apdu.SegmentAck server id ack) e = absurd cc
 sending_waits out c readable ask (Apdu.Reject id reason) e = absurd cc
 sending_waits out c readable ask (Abort server id reason) e = absurd cc
 
-module _ (S : Type 0) (shop : StoreModel S) (x : Rules) (now number : ℕ) (key : Key) (ask : Ask) (young : client.is_expired now ask ≡ false)
+module _ (S : Type 0) (model : StoreModel S) (x : Rules) (now number : ℕ) (key : Key) (ask : Ask) (young : client.is_expired now ask ≡ false)
     (repeats begin : ℕ) (alive : nat_le (now - begin) KEEP ≡ true) (kept : Option Octets) (stores : ℕ → S) (log : List Fact) where
   abbrev c : Context
   c = client_context x key now
@@ -79,7 +79,7 @@ module _ (S : Type 0) (shop : StoreModel S) (x : Rules) (now number : ℕ) (key 
   d = server_context x key now
 
   abbrev service : Service
-  service = shop.outcome (stores key.server)
+  service = model.outcome (stores key.server)
 
   -- the actual window of the reply's transfer
   abbrev pub actual : ℕ
@@ -108,7 +108,7 @@ module _ (S : Type 0) (shop : StoreModel S) (x : Rules) (now number : ℕ) (key 
   }
 
   abbrev Goes : ℕ → TransactionPair S → TransactionPair S → Type 0
-  Goes most p q = Within S shop x now number key most p q
+  Goes most p q = Within S model x now number key most p q
 
   -- so many deliveries end the ticket with that reply
   pub record EndsWith (most : ℕ) (from : TransactionPair S) (p : reply) : Type 0 where
@@ -124,7 +124,7 @@ module _ (S : Type 0) (shop : StoreModel S) (x : Rules) (now number : ℕ) (key 
     idle = z.idle;
     stores_are = z.stores_are;
     log_is = z.log_is;
-    reaches = within_then S shop x now number key a b most from mid z.end le h z.reaches;
+    reaches = within_then S model x now number key a b most from mid z.end le h z.reaches;
   }
 
   -- the ticket has ended with that reply
@@ -146,7 +146,7 @@ module _ (S : Type 0) (shop : StoreModel S) (x : Rules) (now number : ℕ) (key 
       (record { ticket = t; entry = Some (giving out); pending = xs; stores = stores; log = log })
   skips zero first t out xs none going =
       let p : TransactionPair S = record { ticket = t; entry = Some (giving out); pending = xs; stores = stores; log = log } in
-      no_step S shop x now number key p p refl
+      no_step S model x now number key p p refl
   skips (suc extra) first t out xs none going =
       let a = client.request_piece c ask.choice ask.pieces first in
       let rest = segments (first + 1) extra ++ xs in
@@ -156,9 +156,9 @@ module _ (S : Type 0) (shop : StoreModel S) (x : Rules) (now number : ℕ) (key 
       server_lives d service (giving out) a alive
       ∙ ap (λ (k : Option Octets). if is_some k then server.rests (Some (giving out)) (server.server_abort d OTHER ∷ []) else server.rests
       (Some (giving out)) []) e in
-      within_then S shop x now number key 1 extra (suc extra) (with (a ∷ rest)) (with rest) (with xs) (omega arith)
-      (idle_step S shop x now number key (with (a ∷ rest)) rest a refl going (lives now (giving out) alive)
-      (ap (λ (v : server.Reaction). served S shop x now number key (with (a ∷ rest)) rest v) goes ∙ ap with (append-nil rest)))
+      within_then S model x now number key 1 extra (suc extra) (with (a ∷ rest)) (with rest) (with xs) (omega arith)
+      (idle_step S model x now number key (with (a ∷ rest)) rest a refl going (lives now (giving out) alive)
+      (ap (λ (v : server.Reaction). served S model x now number key (with (a ∷ rest)) rest v) goes ∙ ap with (append-nil rest)))
       (skips extra (first + 1) t out xs (λ h. e) going)
 
   module _ (ps : List Octets) where
@@ -185,9 +185,9 @@ module _ (S : Type 0) (shop : StoreModel S) (x : Rules) (now number : ℕ) (key 
         → Goes 1 (replying s inc m (piece t ∷ xs)) (replying s inc' now (xs ++ ack false (t % 256) ∷ []))
     acks_one s inc inc' m t xs timely is few e =
         let from = replying s inc m (piece t ∷ xs) in
-        one_step S shop x now number key from (replying s inc' now (xs ++ ack false (t % 256) ∷ [])) xs (piece t) refl few refl
+        one_step S model x now number key from (replying s inc' now (xs ++ ack false (t % 256) ∷ [])) xs (piece t) refl few refl
         (lives now (giving s.out) alive)
-        (ap (λ (r : client.Reaction). reacted S shop x now number key from xs r) (client_takes inc m t (Taken true inc') e)
+        (ap (λ (r : client.Reaction). reacted S model x now number key from xs r) (client_takes inc m t (Taken true inc') e)
         ∙ ap (λ (i : ℕ). replying s inc' now (xs ++ client.client_ack c false (t % 256) i ∷ [])) is)
 
     pub keeps_one : (s : Sender) (inc inc' : Incoming) (m t : ℕ) (xs : List Apdu) → never m ≡ false → length xs ≤ x.overtake
@@ -195,8 +195,8 @@ module _ (S : Type 0) (shop : StoreModel S) (x : Rules) (now number : ℕ) (key 
         → Goes 1 (replying s inc m (piece t ∷ xs)) (replying s inc' now xs)
     keeps_one s inc inc' m t xs timely few e =
         let from = replying s inc m (piece t ∷ xs) in
-        one_step S shop x now number key from (replying s inc' now xs) xs (piece t) refl few refl (lives now (giving s.out) alive)
-        (ap (λ (r : client.Reaction). reacted S shop x now number key from xs r) (client_takes inc m t (Taken false inc') e)
+        one_step S model x now number key from (replying s inc' now xs) xs (piece t) refl few refl (lives now (giving s.out) alive)
+        (ap (λ (r : client.Reaction). reacted S model x now number key from xs r) (client_takes inc m t (Taken false inc') e)
         ∙ ap (λ (ys : List Apdu). replying s inc' now ys) (append-nil xs))
 
     pub naks_one : (s : Sender) (inc : Incoming) (m p q : ℕ) (xs : List Apdu) → never m ≡ false → inc.window ≡ actual → q + 1 ≡ length inc.parts
@@ -205,9 +205,9 @@ module _ (S : Type 0) (shop : StoreModel S) (x : Rules) (now number : ℕ) (key 
     naks_one s inc m p q xs timely is taken few e =
         let from = replying s inc m (piece p ∷ xs) in
         let q_is : length inc.parts - 1 ≡ q = omega arith in
-        one_step S shop x now number key from (replying s (quiet inc) now (xs ++ ack true (q % 256) ∷ [])) xs (piece p) refl few refl
+        one_step S model x now number key from (replying s (quiet inc) now (xs ++ ack true (q % 256) ∷ [])) xs (piece p) refl few refl
         (lives now (giving s.out) alive)
-        (ap (λ (r : client.Reaction). reacted S shop x now number key from xs r) (client_takes inc m p (Nak (quiet inc)) e)
+        (ap (λ (r : client.Reaction). reacted S model x now number key from xs r) (client_takes inc m p (Nak (quiet inc)) e)
         ∙ (λ i. replying s (quiet inc) now (xs ++ client.client_ack c true (q_is i % 256) (is i) ∷ [])))
 
     pub moves_one : (s : Sender) (inc : Incoming) (m : ℕ) (nak : Bool) (i : ℕ) (out : Outgoing) (xs : List Apdu) → out.pieces ≡ ps → length xs ≤ x.overtake
@@ -216,9 +216,9 @@ module _ (S : Type 0) (shop : StoreModel S) (x : Rules) (now number : ℕ) (key 
     moves_one s inc m nak i out xs same few is going =
         let from = replying s inc m (ack nak i ∷ xs) in
         let e = giving s.out in
-        one_step S shop x now number key from (replying (moved s out) inc m (xs ++ pieces_from piece out.first (in_window out))) xs (ack nak i) refl few refl
+        one_step S model x now number key from (replying (moved s out) inc m (xs ++ pieces_from piece out.first (in_window out))) xs (ack nak i) refl few refl
         (lives now e alive)
-        (ap (λ (v : server.Reaction). served S shop x now number key from xs v)
+        (ap (λ (v : server.Reaction). served S model x now number key from xs v)
         (server_moves s.out nak i (Some out) is ∙ ap (λ b. if b then server.becomes e (SegmentedResponse out Finished now) []
         else server.sends_reply_window d e out) going)
         ∙ ap (λ (qs : List Octets). replying (moved s out) inc m (xs ++ pieces_from (server.reply_piece d ask.choice qs) out.first (in_window out))) same)
@@ -227,11 +227,11 @@ module _ (S : Type 0) (shop : StoreModel S) (x : Rules) (now number : ℕ) (key 
         → Goes 1 (replying s inc m (ack nak i ∷ xs)) (replying s inc m xs)
     ignores_one s inc m nak i xs is =
         let from = replying s inc m (ack nak i ∷ xs) in
-        idle_step S shop x now number key from xs (ack nak i) refl refl (lives now (giving s.out) alive)
-        (ap (λ (v : server.Reaction). served S shop x now number key from xs v) (server_moves s.out nak i None is)
+        idle_step S model x now number key from xs (ack nak i) refl refl (lives now (giving s.out) alive)
+        (ap (λ (v : server.Reaction). served S model x now number key from xs v) (server_moves s.out nak i None is)
         ∙ ap (λ (ys : List Apdu). replying s inc m ys) (append-nil xs))
 
-    unfoldable pub carries : Channel S shop x now number key actual d.settings.window ps
+    unfoldable pub carries : Channel S model x now number key actual d.settings.window ps
     carries = record {
       ends = replying;
       piece = piece;
@@ -259,11 +259,11 @@ module _ (S : Type 0) (shop : StoreModel S) (x : Rules) (now number : ℕ) (key 
 
       -- wherever its two ends stand, the reply comes whole
       pub download : (s : Sender) (inc : Incoming) (m t most : ℕ)
-          → IsRound S shop x now number key actual d.settings.window ps sizes near carries s inc t → 3 * n ≤ most + s.out.first + s.out.first + t
+          → IsRound S model x now number key actual d.settings.window ps sizes near carries s inc t → 3 * n ≤ most + s.out.first + s.out.first + t
           → EndsWith most (replying s inc m (pieces_from piece s.out.first (in_window s.out))) p
       unfolding carries
       download s inc m t most h enough =
-          let z = all_rounds S shop x now number key actual d.settings.window ps sizes near carries n s inc m t most h refl (omega arith) enough in
+          let z = all_rounds S model x now number key actual d.settings.window ps sizes near carries n s inc m t most h refl (omega arith) enough in
           let xs = repeated z.acks (ack z.nak (z.q % 256)) in
           let len = length_repeated z.acks (ack z.nak (z.q % 256)) in
           let few = z.few in
@@ -282,10 +282,10 @@ module _ (S : Type 0) (shop : StoreModel S) (x : Rules) (now number : ℕ) (key 
             idle = refl;
             stores_are = refl;
             log_is = refl;
-            reaches = within_then S shop x now number key z.spent 1 most (replying s inc m (pieces_from piece s.out.first (in_window s.out))) before end
+            reaches = within_then S model x now number key z.spent 1 most (replying s inc m (pieces_from piece s.out.first (in_window s.out))) before end
                 (omega arith) z.reaches
-                (one_step S shop x now number key before end xs (piece z.p) refl (omega arith) refl (lives now (giving z.s.out) alive)
-                (ap (λ (r : client.Reaction). reacted S shop x now number key before xs r) f));
+                (one_step S model x now number key before end xs (piece z.p) refl (omega arith) refl (lives now (giving z.s.out) alive)
+                (ap (λ (r : client.Reaction). reacted S model x now number key before xs r) f));
           }
 
       -- The server has sent the first segment of its reply, after which some segments of the request may come.
@@ -332,9 +332,9 @@ module _ (S : Type 0) (shop : StoreModel S) (x : Rules) (now number : ℕ) (key 
               idle = refl;
               stores_are = refl;
               log_is = refl;
-              reaches = within_more S shop x now number key 1 (3 * n + extra) from end (omega arith)
-                  (one_step S shop x now number key from end (segments first extra) (piece 0) refl extra_length going (lives now (giving out) alive)
-                  (ap (λ (r : client.Reaction). reacted S shop x now number key from (segments first extra) r)
+              reaches = within_more S model x now number key 1 (3 * n + extra) from end (omega arith)
+                  (one_step S model x now number key from end (segments first extra) (piece 0) refl extra_length going (lives now (giving out) alive)
+                  (ap (λ (r : client.Reaction). reacted S model x now number key from (segments first extra) r)
                   (first_is phase m (Whole ps) waits going e ∙ answered_is 0 actual)));
             }
 
@@ -350,13 +350,13 @@ module _ (S : Type 0) (shop : StoreModel S) (x : Rules) (now number : ℕ) (key 
             let len : length out.pieces ≡ n = ap length same in
             let e = takes_one ps empty 0 more sizes.few sizes.short refl refl true refl in
             let acks = ack false 0 ∷ [] in
-            let one = one_step S shop x now number key from (replying s inc now (segments first extra ++ acks)) (segments first extra) (piece 0) refl
+            let one = one_step S model x now number key from (replying s inc now (segments first extra ++ acks)) (segments first extra) (piece 0) refl
             extra_length going (lives now (giving out) alive)
-            (ap (λ (r : client.Reaction). reacted S shop x now number key from (segments first extra) r) (first_is phase m (Taken true inc) waits going e)) in
+            (ap (λ (r : client.Reaction). reacted S model x now number key from (segments first extra) r) (first_is phase m (Taken true inc) waits going e)) in
             let two = skips extra first (in_phase (SegmentedConf inc) now) out acks plain refl in
             let three : Goes 1 (replying s inc now acks) (replying s' inc now (pieces_from piece 1 (in_window s'.out))) =
-            acks_read S shop x now number key actual d.settings.window ps sizes near
-            (moving S shop x now number key actual d.settings.window ps carries inc now) 0 s false 0 [] same (omega arith) (omega arith) (omega arith)
+            acks_read S model x now number key actual d.settings.window ps sizes near
+            (moving S model x now number key actual d.settings.window ps carries inc now) 0 s false 0 [] same (omega arith) (omega arith) (omega arith)
             (omega arith) (omega arith) in
             let z = download s' inc now 1 (3 * n - 3) (record {
               pieces = same;
@@ -422,10 +422,10 @@ module _ (S : Type 0) (shop : StoreModel S) (x : Rules) (now number : ℕ) (key 
           idle = refl;
           stores_are = refl;
           log_is = refl;
-          reaches = one_step S shop x now number key from end xs a refl few going live
-              (ap (λ b. if b then served S shop x now number key from xs (server_reaction S shop x now number key from.stores from.entry a)
-              else reacted S shop x now number key from xs (client_reaction S shop x now number key from.ticket a)) (answer_not_from_client d ask.choice p)
-              ∙ ap (λ (r : client.Reaction). reacted S shop x now number key from xs r) (answer_read phase m waits going p kind)
+          reaches = one_step S model x now number key from end xs a refl few going live
+              (ap (λ b. if b then served S model x now number key from xs (server_reaction S model x now number key from.stores from.entry a)
+              else reacted S model x now number key from xs (client_reaction S model x now number key from.ticket a)) (answer_not_from_client d ask.choice p)
+              ∙ ap (λ (r : client.Reaction). reacted S model x now number key from xs r) (answer_read phase m waits going p kind)
               ∙ ap (λ (ys : List Apdu). over (Some e) m ys p) (append-nil xs));
         }
 
@@ -451,7 +451,7 @@ module _ (S : Type 0) (shop : StoreModel S) (x : Rules) (now number : ℕ) (key 
           idle = z.idle;
           stores_are = z.stores_are;
           log_is = z.log_is;
-          reaches = within_more S shop x now number key 1 (3 * 1 + extra) (given p InOne (segments first extra)) z.end (omega arith) z.reaches;
+          reaches = within_more S model x now number key 1 (3 * 1 + extra) (given p InOne (segments first extra)) z.end (omega arith) z.reaches;
         }
     reply_read p (InSegments ps) first extra is fits kind some small room plain few =
         let cut = way_cut d.settings c.settings.limits p ps is in

@@ -96,28 +96,28 @@ contains_tail k keys key (zero, lt, e) = inl e
 contains_tail k keys key (suc i, lt, e) = inr (i, omega arith, e)
 
 -- a copy on its way is delivered
-arrives_now : (S : Type 0) (shop : StoreModel S) (x : Rules) (w : World S) (key : Key) (a : Apdu) (number : ℕ) (free : Bool)
-    → IsOnItsWay x w.net key a number → happens S shop x w (Deliver number free) ≡ arrives S shop x w key free a
-arrives_now S shop x w key a number free m =
-    ap (delivered S shop x w number free) m.at
-    ∙ ap (λ b. if b then arrives S shop x w m.post.key free m.post.copy.apdu else w) m.arrives
-    ∙ (λ i. arrives S shop x w (m.key_is i) free (m.apdu_is i))
+arrives_now : (S : Type 0) (model : StoreModel S) (x : Rules) (w : World S) (key : Key) (a : Apdu) (number : ℕ) (free : Bool)
+    → IsOnItsWay x w.net key a number → happens S model x w (Deliver number free) ≡ arrives S model x w key free a
+arrives_now S model x w key a number free m =
+    ap (delivered S model x w number free) m.at
+    ∙ ap (λ b. if b then arrives S model x w m.post.key free m.post.copy.apdu else w) m.arrives
+    ∙ (λ i. arrives S model x w (m.key_is i) free (m.apdu_is i))
 
 -- to the server, where it is a client's
-pub request_now : (S : Type 0) (shop : StoreModel S) (x : Rules) (w : World S) (key : Key) (a : Apdu) (number : ℕ) (free : Bool)
+pub request_now : (S : Type 0) (model : StoreModel S) (x : Rules) (w : World S) (key : Key) (a : Apdu) (number : ℕ) (free : Bool)
     → is_from_client a ≡ true → IsOnItsWay x w.net key a number
-    → happens S shop x w (Deliver number free) ≡ takes_at_server S shop x w key free a
-request_now S shop x w key a number free up m =
-    arrives_now S shop x w key a number free m
-    ∙ ap (λ b. if b then takes_at_server S shop x w key free a else takes_at_client S x w key a (w.net.tickets key)) up
+    → happens S model x w (Deliver number free) ≡ takes_at_server S model x w key free a
+request_now S model x w key a number free up m =
+    arrives_now S model x w key a number free m
+    ∙ ap (λ b. if b then takes_at_server S model x w key free a else takes_at_client S x w key a (w.net.tickets key)) up
 
 -- and otherwise to the client
-pub answer_now : (S : Type 0) (shop : StoreModel S) (x : Rules) (w : World S) (key : Key) (a : Apdu) (number : ℕ) (free : Bool)
+pub answer_now : (S : Type 0) (model : StoreModel S) (x : Rules) (w : World S) (key : Key) (a : Apdu) (number : ℕ) (free : Bool)
     → is_from_client a ≡ false → IsOnItsWay x w.net key a number
-    → happens S shop x w (Deliver number free) ≡ takes_at_client S x w key a (w.net.tickets key)
-answer_now S shop x w key a number free down m =
-    arrives_now S shop x w key a number free m
-    ∙ ap (λ b. if b then takes_at_server S shop x w key free a else takes_at_client S x w key a (w.net.tickets key)) down
+    → happens S model x w (Deliver number free) ≡ takes_at_client S x w key a (w.net.tickets key)
+answer_now S model x w key a number free down m =
+    arrives_now S model x w key a number free m
+    ∙ ap (λ b. if b then takes_at_server S model x w key free a else takes_at_client S x w key a (w.net.tickets key)) down
 
 -- a ticket that holds its invoke ID no longer, where its client has not restarted since
 unheld : (n : Net) (key : Key) (t : ClientTransaction) → n.tickets key ≡ Some t → ClientStays n key t.ask → is_id_held n key ≡ false → is_held n.now t ≡ false
@@ -155,7 +155,7 @@ module _ (x : Rules) (key : Key) (number : ℕ) (ask : Ask) where
       tracked_step l m s before (logged_path x Any n l p b logged) (tracked_path n l p b before logged h)
 
   -- past DEADLINE a client's step ends it
-  module _ (S : Type 0) (shop : StoreModel S) (w : World S) (stays : ClientStays w.net key ask) (logged : IdleIsLogged w.net)
+  module _ (S : Type 0) (model : StoreModel S) (w : World S) (stays : ClientStays w.net key ask) (logged : IdleIsLogged w.net)
       (late : DEADLINE < w.net.now - ask.first) where
     abbrev c : Context
     c = client_context x key w.net.now
@@ -173,7 +173,7 @@ module _ (x : Rules) (key : Key) (number : ℕ) (ask : Ask) where
 
     late_tick : Tracked w.net → HasEnded number (ticks_ticket S x w key (w.net.tickets key)).net.log
     late_tick (inr h) = let u = ticks_ticket S x w key (w.net.tickets key) in
-        ended_grows number w.net.log u.net.log (path_log x Any w.net u.net (ticket_path x Any S shop w key (w.net.tickets key) refl)) h
+        ended_grows number w.net.log u.net.log (path_log x Any w.net u.net (ticket_path x Any S model w key (w.net.tickets key) refl)) h
     late_tick (inl h) = subst (λ (o : Option ClientTransaction). HasEnded number (ticks_ticket S x w key o).net.log) (sym h.at)
         (own_log h (ending_of (client.client_ticks c h.ticket)) (go (is_idle h.ticket.phase) refl (is_expired w.net.now h.ticket.ask) (expired h.ticket h.is)))
       where
@@ -199,7 +199,7 @@ module _ (x : Rules) (key : Key) (number : ℕ) (ask : Ask) where
         go false e false g d i = absurd cc
 
 -- On worlds: the keys before it tick, then its own, then the others.
-module _ (S : Type 0) (shop : StoreModel S) (x : Rules) (key : Key) (number : ℕ) (ask : Ask) where
+module _ (S : Type 0) (model : StoreModel S) (x : Rules) (key : Key) (number : ℕ) (ask : Ask) where
   still_now : (w : World S) (k : Key) (o : Option ClientTransaction) → (ticks_ticket S x w k o).net.now ≡ w.net.now
   still_now w k None = refl
   still_now w k (Some t) = refl
@@ -213,7 +213,7 @@ module _ (S : Type 0) (shop : StoreModel S) (x : Rules) (key : Key) (number : �
       u = ticks_ticket S x w k (w.net.tickets k)
 
       on : Path x Any w.net u.net
-      on = ticket_path x Any S shop w k (w.net.tickets k) refl
+      on = ticket_path x Any S model w k (w.net.tickets k) refl
 
       stays_now : (o : Option ClientTransaction) → ClientStays (ticks_ticket S x w k o).net key ask
       stays_now None = stays
@@ -223,80 +223,80 @@ module _ (S : Type 0) (shop : StoreModel S) (x : Rules) (key : Key) (number : �
           → Tracked x key number ask v.net → DEADLINE < v.net.now - ask.first → HasEnded number (ticks_as_client S x keys v).net.log)
           → HasEnded number (ticks_as_client S x keys u).net.log
       go (inl is) rest = ended_grows number u.net.log (ticks_as_client S x keys u).net.log
-          (path_log x Any u.net (ticks_as_client S x keys u).net (clients_path x Any S shop keys u))
+          (path_log x Any u.net (ticks_as_client S x keys u).net (clients_path x Any S model keys u))
           (subst (λ (j : Key). HasEnded number (ticks_ticket S x w j (w.net.tickets j)).net.log) (sym is)
-          (late_tick x key number ask S shop w stays logged late t))
+          (late_tick x key number ask S model w stays logged late t))
       go (inr j) rest = rest j u (path_bounded x Any w.net u.net on b) (stays_now (w.net.tickets k)) (logged_path x Any w.net u.net on b logged)
           (tracked_path x key number ask w.net u.net on b (stays_now (w.net.tickets k)) logged t)
           (subst (λ (m : ℕ). DEADLINE < m - ask.first) (sym (still_now w k (w.net.tickets k))) late)
 
   tick_ends : (as_client as_server : List Key) → Contains as_client key → (w : World S) → Bounded w.net → ClientStays w.net key ask → IdleIsLogged w.net
-      → Tracked x key number ask w.net → DEADLINE < w.net.now - ask.first → HasEnded number (happens S shop x w (Tick as_client as_server)).net.log
+      → Tracked x key number ask w.net → DEADLINE < w.net.now - ask.first → HasEnded number (happens S model x w (Tick as_client as_server)).net.log
   tick_ends as_client as_server i w b stays logged t late =
       let u = ticks_as_client S x as_client w in
-      ended_grows number u.net.log (ticks_as_server S shop x as_server u).net.log
-      (path_log x Any u.net (ticks_as_server S shop x as_server u).net (servers_path x Any S shop as_server u)) (ticks_end as_client i w b stays logged t late)
+      ended_grows number u.net.log (ticks_as_server S model x as_server u).net.log
+      (path_log x Any u.net (ticks_as_server S model x as_server u).net (servers_path x Any S model as_server u)) (ticks_end as_client i w b stays logged t late)
 
   answer_ends_late : (at : ℕ) (free : Bool) (a : Apdu) → is_from_server a ≡ true → (w : World S) → ClientStays w.net key ask → IdleIsLogged w.net
-      → Tracked x key number ask w.net → DEADLINE < w.net.now - ask.first → IsOnItsWay x w.net key a at → HasEnded number (happens S shop x w (Deliver at free)).net.log
+      → Tracked x key number ask w.net → DEADLINE < w.net.now - ask.first → IsOnItsWay x w.net key a at → HasEnded number (happens S model x w (Deliver at free)).net.log
   answer_ends_late at free a from w stays logged (inr h) late m =
-      let u = happens S shop x w (Deliver at free) in
-      ended_grows number w.net.log u.net.log (path_log x Any w.net u.net (event_steps x S shop w (Deliver at free))) h
+      let u = happens S model x w (Deliver at free) in
+      ended_grows number w.net.log u.net.log (path_log x Any w.net u.net (event_steps x S model w (Deliver at free))) h
   answer_ends_late at free a from w stays logged (inl h) late m =
-      subst (λ (u : World S). HasEnded number u.net.log) (sym (answer_now S shop x w key a at free (not_from_client a from) m))
-      (late_answer x key number ask S shop w stays logged late a from h)
+      subst (λ (u : World S). HasEnded number u.net.log) (sym (answer_now S model x w key a at free (not_from_client a from) m))
+      (late_answer x key number ask S model w stays logged late a from h)
 
 -- In every run.
-module _ (S : Type 0) (shop : StoreModel S) (opening : ℕ → S) (W : ℕ) (x : Rules) (bound : IsBounded W x) where
-  pub bounded_in_run : (events : List Event) → Bounded (run S shop x events (start S opening)).net
+module _ (S : Type 0) (model : StoreModel S) (opening : ℕ → S) (W : ℕ) (x : Rules) (bound : IsBounded W x) where
+  pub bounded_in_run : (events : List Event) → Bounded (run S model x events (start S opening)).net
   bounded_in_run events =
-      path_bounded x Any (start S opening).net (run S shop x events (start S opening)).net (run_steps x S shop events (start S opening)) bounded_start
+      path_bounded x Any (start S opening).net (run S model x events (start S opening)).net (run_steps x S model events (start S opening)) bounded_start
 
-  pub idle_in_run : (events : List Event) → IdleIsLogged (run S shop x events (start S opening)).net
-  idle_in_run events = logged_path x Any (start S opening).net (run S shop x events (start S opening)).net
-      (run_steps x S shop events (start S opening)) bounded_start (λ key t at. absurd cc)
+  pub idle_in_run : (events : List Event) → IdleIsLogged (run S model x events (start S opening)).net
+  idle_in_run events = logged_path x Any (start S opening).net (run S model x events (start S opening)).net
+      (run_steps x S model events (start S opening)) bounded_start (λ key t at. absurd cc)
 
-  once_after : (w : World S) → Kept S shop opening W x bound w → (e : Event) (n : ℕ) → HasEnded n (happens S shop x w e).net.log
-      → endings_of n (happens S shop x w e).net.log ≡ 1
+  once_after : (w : World S) → Kept S model opening W x bound w → (e : Event) (n : ℕ) → HasEnded n (happens S model x w e).net.log
+      → endings_of n (happens S model x w e).net.log ≡ 1
   once_after w s e n h =
-      let u = happens S shop x w e in
-      ended_once n u.net.log (net_log W u.net (event_kept S shop opening W x bound w s e).net).orderly h
+      let u = happens S model x w e in
+      ended_once n u.net.log (net_log W u.net (event_kept S model opening W x bound w s e).net).orderly h
 
-  ends_in_time : (w : World S) → Kept S shop opening W x bound w → Bounded w.net → IdleIsLogged w.net → EndsInTime S shop x w
+  ends_in_time : (w : World S) → Kept S model opening W x bound w → Bounded w.net → IdleIsLogged w.net → EndsInTime S model x w
   ends_in_time w s b logged = record {
     ticks = λ key t at events as_client as_server stays late there.
-        let v = run S shop x events w in
-        once_after v (run_kept S shop opening W x bound events w s) (Tick as_client as_server) (w.net.numbers key)
-        (tick_ends S shop x key (w.net.numbers key) t.ask as_client as_server there v
-        (path_bounded x Any w.net v.net (run_steps x S shop events w) b) stays (logged_on events) (tracked key t at events stays) late);
+        let v = run S model x events w in
+        once_after v (run_kept S model opening W x bound events w s) (Tick as_client as_server) (w.net.numbers key)
+        (tick_ends S model x key (w.net.numbers key) t.ask as_client as_server there v
+        (path_bounded x Any w.net v.net (run_steps x S model events w) b) stays (logged_on events) (tracked key t at events stays) late);
     answers = λ key t at events number free a stays late from m.
-        let v = run S shop x events w in
-        once_after v (run_kept S shop opening W x bound events w s) (Deliver number free) (w.net.numbers key)
-        (answer_ends_late S shop x key (w.net.numbers key) t.ask number free a from v stays (logged_on events)
+        let v = run S model x events w in
+        once_after v (run_kept S model opening W x bound events w s) (Deliver number free) (w.net.numbers key)
+        (answer_ends_late S model x key (w.net.numbers key) t.ask number free a from v stays (logged_on events)
         (tracked key t at events stays) late m);
   }
     where
-      logged_on : (events : List Event) → IdleIsLogged (run S shop x events w).net
-      logged_on events = logged_path x Any w.net (run S shop x events w).net (run_steps x S shop events w) b logged
+      logged_on : (events : List Event) → IdleIsLogged (run S model x events w).net
+      logged_on events = logged_path x Any w.net (run S model x events w).net (run_steps x S model events w) b logged
 
       tracked : (key : Key) (t : ClientTransaction) → w.net.tickets key ≡ Some t → (events : List Event)
-          → ClientStays (run S shop x events w).net key t.ask → Tracked x key (w.net.numbers key) t.ask (run S shop x events w).net
-      tracked key t at events stays = tracked_path x key (w.net.numbers key) t.ask w.net (run S shop x events w).net (run_steps x S shop events w) b
+          → ClientStays (run S model x events w).net key t.ask → Tracked x key (w.net.numbers key) t.ask (run S model x events w).net
+      tracked key t at events stays = tracked_path x key (w.net.numbers key) t.ask w.net (run S model x events w).net (run_steps x S model events w) b
           stays logged
           (inl (record { ticket = t; at = at; is = refl; number_is = refl }))
 
-  pub all_end : (events : List Event) → EndsInTime S shop x (run S shop x events (start S opening))
-  all_end events = ends_in_time (run S shop x events (start S opening))
-      (run_kept S shop opening W x bound events (start S opening) (start_kept S shop opening W x bound)) (bounded_in_run events) (idle_in_run events)
+  pub all_end : (events : List Event) → EndsInTime S model x (run S model x events (start S opening))
+  all_end events = ends_in_time (run S model x events (start S opening))
+      (run_kept S model opening W x bound events (start S opening) (start_kept S model opening W x bound)) (bounded_in_run events) (idle_in_run events)
 
-  pub endings_in_run : (events : List Event) → EndingsAreLogged (run S shop x events (start S opening)).net
+  pub endings_in_run : (events : List Event) → EndingsAreLogged (run S model x events (start S opening)).net
   endings_in_run events key t at stays = go (is_idle t.phase) refl
     where
       w : World S
-      w = run S shop x events (start S opening)
+      w = run S model x events (start S opening)
 
-      s : Kept S shop opening W x bound (run S shop x events (start S opening))
-      s = run_kept S shop opening W x bound events (start S opening) (start_kept S shop opening W x bound)
+      s : Kept S model opening W x bound (run S model x events (start S opening))
+      s = run_kept S model opening W x bound events (start S opening) (start_kept S model opening W x bound)
 
       go : (b : Bool) → is_idle t.phase ≡ b → endings_of (w.net.numbers key) w.net.log ≡ (if b then 1 else 0)
       go true e = ended_once (w.net.numbers key) w.net.log (net_log W w.net s.net).orderly ((idle_in_run events key t at).1 stays e)

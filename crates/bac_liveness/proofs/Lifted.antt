@@ -213,8 +213,8 @@ module _ (W : ℕ) (x : Rules) (bound : IsBounded W x) (key : Key) (some : 0 < l
       }
       go false = f
 
-  module _ (S : Type 0) (shop : StoreModel S) (opening : ℕ → S) where
-    asks_on : (w : World S) → Kept S shop opening W x bound w → FlowAt w.net → (k : Key) (choice : ℕ) (whole : Bool) (front : Octets) (rest : List Octets)
+  module _ (S : Type 0) (model : StoreModel S) (opening : ℕ → S) where
+    asks_on : (w : World S) → Kept S model opening W x bound w → FlowAt w.net → (k : Key) (choice : ℕ) (whole : Bool) (front : Octets) (rest : List Octets)
         → (b : Bool) → is_id_held w.net k ≡ b
         → FlowAt (if b then w
         else ask_made S x w k (record { first = w.net.now; choice = choice; whole = whole; pieces = front ∷ rest })).net
@@ -233,16 +233,16 @@ module _ (W : ℕ) (x : Rules) (bound : IsBounded W x) (key : Key) (some : 0 < l
 
     -- A delivery.
 
-    served_on : (w : World S) → Kept S shop opening W x bound w → AreOwn x w.net → FlowAt w.net → (number : ℕ) (p : Post)
+    served_on : (w : World S) → Kept S model opening W x bound w → AreOwn x w.net → FlowAt w.net → (number : ℕ) (p : Post)
         → slice_get w.net.posts number ≡ Some p → w.net.now - p.copy.moment ≤ LIFE → later p.key number w.net.posts ≤ x.overtake
-        → is_from_client p.copy.apdu ≡ true → (free : Bool) → FlowAt (takes_at_server S shop x w p.key free p.copy.apdu).net
+        → is_from_client p.copy.apdu ≡ true → (free : Bool) → FlowAt (takes_at_server S model x w p.key free p.copy.apdu).net
     served_on w s own flow number p at young few up free = go (decide_key p.key key)
       where
         n : Net
         n = w.net
 
         v : Key → server.Reaction
-        v j = server.server_on_apdu (server_context x j n.now) (service_of S shop w j) (n.entries j) (is_room n j free) p.copy.apdu
+        v j = server.server_on_apdu (server_context x j n.now) (service_of S model w j) (n.entries j) (is_room n j free) p.copy.apdu
 
         mine : p.key ≡ key → (t : ClientTransaction) → n.tickets key ≡ Some t → FlowOf n.now t (v key).entry (sent n.now (v key).sends (copies_of key n.posts))
         mine is t there =
@@ -252,13 +252,13 @@ module _ (W : ℕ) (x : Rules) (bound : IsBounded W x) (key : Key) (some : 0 < l
             let sent_is = subst (λ (j : Key). IsOwnPost x (record { key = j; copy = p.copy })) is (own.posts number p at) in
             served_flow W x bound key some n.now t (n.entries key) (copies_of key n.posts) (flow t there) (v key)
             (served_by W x bound key some n.now t (n.entries key) (copies_of key n.posts) (flow t there) (n.serves_from key.server) n.asks (n.numbers key)
-            n.log f.0 f.1 f.2 (service_of S shop w key) (is_room n key free) (room_opens n key free) (later key number n.posts) p.copy.moment late p.copy.apdu place young up sent_is (n.entries key) refl)
+            n.log f.0 f.1 f.2 (service_of S model w key) (is_room n key free) (room_opens n key free) (later key number n.posts) p.copy.moment late p.copy.apdu place young up sent_is (n.entries key) refl)
 
         go : ((p.key ≡ key) ⊎ (p.key ≡ key → ⊥)) → FlowAt (server_acts n p.key (v p.key))
         go (inr ne) = server_other n p.key (v p.key) ne flow
         go (inl is) = subst (λ (j : Key). FlowAt (server_acts n j (v j))) (sym is) (server_own n (v key) (mine is))
 
-    heard_on : (w : World S) → Kept S shop opening W x bound w → AreOwn x w.net → FlowAt w.net → (number : ℕ) (p : Post)
+    heard_on : (w : World S) → Kept S model opening W x bound w → AreOwn x w.net → FlowAt w.net → (number : ℕ) (p : Post)
         → slice_get w.net.posts number ≡ Some p → w.net.now - p.copy.moment ≤ LIFE → later p.key number w.net.posts ≤ x.overtake
         → is_from_client p.copy.apdu ≡ false → (o : Option ClientTransaction) → w.net.tickets p.key ≡ o
         → FlowAt (takes_at_client S x w p.key p.copy.apdu o).net
@@ -285,13 +285,13 @@ module _ (W : ℕ) (x : Rules) (bound : IsBounded W x) (key : Key) (some : 0 < l
         go (inr ne) = client_other n p.key t (r p.key) ne flow
         go (inl is) = subst (λ (j : Key). FlowAt (client_acts n j t (r j))) (sym is) (client_own n t (r key) (mine is))
 
-    delivers_on : (w : World S) → Kept S shop opening W x bound w → AreOwn x w.net → FlowAt w.net → (number : ℕ) (free : Bool) (o : Option Post)
-        → slice_get w.net.posts number ≡ o → FlowAt (delivered S shop x w number free o).net
+    delivers_on : (w : World S) → Kept S model opening W x bound w → AreOwn x w.net → FlowAt w.net → (number : ℕ) (free : Bool) (o : Option Post)
+        → slice_get w.net.posts number ≡ o → FlowAt (delivered S model x w number free o).net
     delivers_on w s own flow number free None at = flow
     delivers_on w s own flow number free (Some p) at = go (is_deliverable x w.net.now number w.net.posts p) refl
       where
         by_end : (d : Bool) → is_from_client p.copy.apdu ≡ d → is_deliverable x w.net.now number w.net.posts p ≡ true
-            → FlowAt (if d then takes_at_server S shop x w p.key free p.copy.apdu else takes_at_client S x w p.key p.copy.apdu (w.net.tickets p.key)).net
+            → FlowAt (if d then takes_at_server S model x w p.key free p.copy.apdu else takes_at_client S x w p.key p.copy.apdu (w.net.tickets p.key)).net
         by_end true up ok =
             let may = (in_place x w.net number p at).arrives ok in
             served_on w s own flow number p at may.0 may.1 up free
@@ -300,7 +300,7 @@ module _ (W : ℕ) (x : Rules) (bound : IsBounded W x) (key : Key) (some : 0 < l
             heard_on w s own flow number p at may.0 may.1 down (w.net.tickets p.key) refl
 
         go : (b : Bool) → is_deliverable x w.net.now number w.net.posts p ≡ b
-            → FlowAt (if b then arrives S shop x w p.key free p.copy.apdu else w).net
+            → FlowAt (if b then arrives S model x w p.key free p.copy.apdu else w).net
         go true ok = by_end (is_from_client p.copy.apdu) refl ok
         go false ok = flow
 
@@ -323,7 +323,7 @@ module _ (W : ℕ) (x : Rules) (bound : IsBounded W x) (key : Key) (some : 0 < l
             subst (λ (j : Key). FlowAt (client_acts n j t (r j))) (sym is)
             (client_own n t (r key) (ticks_flow W x bound key some n.now t (n.entries key) (copies_of key n.posts) (flow t there') x.readable))
 
-    entry_on : (w : World S) → FlowAt w.net → (k : Key) → FlowAt (serves S shop w k (server.server_ticks (server_context x k w.net.now) (w.net.entries k))).net
+    entry_on : (w : World S) → FlowAt w.net → (k : Key) → FlowAt (serves S model w k (server.server_ticks (server_context x k w.net.now) (w.net.entries k))).net
     entry_on w flow k = go (decide_key k key)
       where
         n : Net
@@ -341,12 +341,12 @@ module _ (W : ℕ) (x : Rules) (bound : IsBounded W x) (key : Key) (some : 0 < l
     tickets_on [] w flow = flow
     tickets_on (k ∷ keys) w flow = tickets_on keys (ticks_ticket S x w k (w.net.tickets k)) (ticket_on w flow k (w.net.tickets k) refl)
 
-    entries_on : (keys : List Key) (w : World S) → FlowAt w.net → FlowAt (ticks_as_server S shop x keys w).net
+    entries_on : (keys : List Key) (w : World S) → FlowAt w.net → FlowAt (ticks_as_server S model x keys w).net
     entries_on [] w flow = flow
     entries_on (k ∷ keys) w flow =
-        entries_on keys (serves S shop w k (server.server_ticks (server_context x k w.net.now) (w.net.entries k))) (entry_on w flow k)
+        entries_on keys (serves S model w k (server.server_ticks (server_context x k w.net.now) (w.net.entries k))) (entry_on w flow k)
 
-    event_on : (w : World S) → Kept S shop opening W x bound w → AreOwn x w.net → FlowAt w.net → (e : Event) → FlowAt (happens S shop x w e).net
+    event_on : (w : World S) → Kept S model opening W x bound w → AreOwn x w.net → FlowAt w.net → (e : Event) → FlowAt (happens S model x w e).net
     event_on w s own flow (MakeAsk k choice whole front rest) =
         asks_on w s flow k choice whole front rest (is_id_held w.net k) refl
     event_on w s own flow (Deliver number free) = delivers_on w s own flow number free (slice_get w.net.posts number) refl
@@ -361,18 +361,18 @@ module _ (W : ℕ) (x : Rules) (bound : IsBounded W x) (key : Key) (some : 0 < l
     -- Runs.
 
     abbrev reached : List Event → World S
-    reached events = run S shop x events (start S opening)
+    reached events = run S model x events (start S opening)
 
-    run_more : (events : List Event) (e : Event) (w : World S) → run S shop x (events ++ e ∷ []) w ≡ happens S shop x (run S shop x events w) e
+    run_more : (events : List Event) (e : Event) (w : World S) → run S model x (events ++ e ∷ []) w ≡ happens S model x (run S model x events w) e
     run_more [] e w = refl
-    run_more (f ∷ events) e w = run_more events e (happens S shop x w f)
+    run_more (f ∷ events) e w = run_more events e (happens S model x w f)
 
     flows_on : (events before : List Event) → FlowAt (reached before).net → FlowAt (reached (before ++ events)).net
     flows_on [] before flow = subst (λ (es : List Event). FlowAt (reached es).net) (sym (append-nil before)) flow
     flows_on (e ∷ events) before flow =
         let w = reached before in
-        let s = run_kept S shop opening W x bound before (start S opening) (start_kept S shop opening W x bound) in
-        let own = own_in_run x S shop opening before in
+        let s = run_kept S model opening W x bound before (start S opening) (start_kept S model opening W x bound) in
+        let own = own_in_run x S model opening before in
         let next : FlowAt (reached (before ++ e ∷ [])).net = subst (λ (u : World S). FlowAt u.net) (sym (run_more before e (start S opening)))
         (event_on w s own flow e) in
         subst (λ (es : List Event). FlowAt (reached es).net) (append_assoc before (e ∷ []) events) (flows_on events (before ++ e ∷ []) next)

@@ -194,11 +194,11 @@ module _ (x : Rules) (Q : Net → ℕ → Bool → Service → Type 0) where
   step_path n m s = Then n m Here s
 
   -- A run of events is a path.
-  module _ (S : Type 0) (shop : StoreModel S) where
+  module _ (S : Type 0) (model : StoreModel S) where
     -- what the premise says of an event
     abbrev pub Gives : World S → Event → Type 0
     Gives w (Deliver number free) = (p : Post) → slice_get w.net.posts number ≡ Some p → is_from_client p.copy.apdu ≡ true
-        → is_deliverable x w.net.now number w.net.posts p ≡ true → Q w.net number free (service_of S shop w p.key)
+        → is_deliverable x w.net.now number w.net.posts p ≡ true → Q w.net number free (service_of S model w p.key)
     Gives w _ = Unit {0}
 
     pub ask_path : (w : World S) (key : Key) (choice : ℕ) (whole : Bool) (front : Octets) (rest : List Octets) (b : Bool)
@@ -214,16 +214,16 @@ module _ (x : Rules) (Q : Net → ℕ → Bool → Service → Type 0) where
     hears_path w number p at down (Some t) there = step_path w.net (taken_by_client x w.net p (Some t)) (Hears number p t at down there)
 
     delivered_path : (w : World S) (number : ℕ) (free : Bool) → Gives w (Deliver number free) → (o : Option Post) → slice_get w.net.posts number ≡ o
-        → Path x Q w.net (delivered S shop x w number free o).net
+        → Path x Q w.net (delivered S model x w number free o).net
     delivered_path w number free q None e = Here
     delivered_path w number free q (Some p) e = go (is_deliverable x w.net.now number w.net.posts p) refl (is_from_client p.copy.apdu) refl
       where
         go : (b : Bool) → is_deliverable x w.net.now number w.net.posts p ≡ b → (d : Bool) → is_from_client p.copy.apdu ≡ d
-            → Path x Q w.net (if b then (if d then takes_at_server S shop x w p.key free p.copy.apdu
+            → Path x Q w.net (if b then (if d then takes_at_server S model x w p.key free p.copy.apdu
             else takes_at_client S x w p.key p.copy.apdu (w.net.tickets p.key)) else w).net
         go false arrives d up = Here
         go true arrives true up =
-            let service = service_of S shop w p.key in
+            let service = service_of S model w p.key in
             step_path w.net (taken_by_server x w.net p free service)
             (Serves number p free service (record { at = e; arrives = arrives }) up (q p e up arrives))
         go true arrives false down = hears_path w number p (record { at = e; arrives = arrives }) down (w.net.tickets p.key) refl
@@ -238,37 +238,37 @@ module _ (x : Rules) (Q : Net → ℕ → Bool → Service → Type 0) where
         let u = ticks_ticket S x w key (w.net.tickets key) in
         path_then w.net u.net (ticks_as_client S x keys u).net (ticket_path w key (w.net.tickets key) refl) (clients_path keys u)
 
-    pub servers_path : (keys : List Key) (w : World S) → Path x Q w.net (ticks_as_server S shop x keys w).net
+    pub servers_path : (keys : List Key) (w : World S) → Path x Q w.net (ticks_as_server S model x keys w).net
     servers_path [] w = Here
     servers_path (key ∷ keys) w =
-        let u = serves S shop w key (server.server_ticks (server_context x key w.net.now) (w.net.entries key)) in
-        path_then w.net u.net (ticks_as_server S shop x keys u).net (step_path w.net u.net (TicksEntry key)) (servers_path keys u)
+        let u = serves S model w key (server.server_ticks (server_context x key w.net.now) (w.net.entries key)) in
+        path_then w.net u.net (ticks_as_server S model x keys u).net (step_path w.net u.net (TicksEntry key)) (servers_path keys u)
 
-    pub event_path : (w : World S) (e : Event) → Gives w e → Path x Q w.net (happens S shop x w e).net
+    pub event_path : (w : World S) (e : Event) → Gives w e → Path x Q w.net (happens S model x w e).net
     event_path w (MakeAsk key choice whole front rest) q = ask_path w key choice whole front rest (is_id_held w.net key) refl
     event_path w (Deliver number free) q = delivered_path w number free q (slice_get w.net.posts number) refl
     event_path w (Tick as_client as_server) q =
         let u = ticks_as_client S x as_client w in
-        path_then w.net u.net (ticks_as_server S shop x as_server u).net (clients_path as_client w) (servers_path as_server u)
+        path_then w.net u.net (ticks_as_server S model x as_server u).net (clients_path as_client w) (servers_path as_server u)
     event_path w Noise q = Here
     event_path w (Advance by) q = step_path w.net (record w.net { now = w.net.now + by }) (Passes by)
     event_path w (Change node change) q = step_path w.net (notes_change w.net node change) (Changes node change)
     event_path w (RestartClient node) q = step_path w.net (client_restarted w.net node) (RestartsClient node)
     event_path w (RestartServer node store) q = step_path w.net (server_restarted w.net node store) (RestartsServer node store)
 
-    pub run_path : (events : List Event) (w : World S) → Throughout S shop x Gives events w → Path x Q w.net (run S shop x events w).net
+    pub run_path : (events : List Event) (w : World S) → Throughout S model x Gives events w → Path x Q w.net (run S model x events w).net
     run_path [] w q = Here
     run_path (e ∷ es) w q =
-        let u = happens S shop x w e in
-        path_then w.net u.net (run S shop x es u).net (event_path w e q.0) (run_path es u q.1)
+        let u = happens S model x w e in
+        path_then w.net u.net (run S model x es u).net (event_path w e q.0) (run_path es u q.1)
 
 -- Where nothing is said of deliveries, each run is a path.
 
 abbrev pub Any : Net → ℕ → Bool → Service → Type 0
 Any n number free service = Unit {0}
 
-module _ (x : Rules) (S : Type 0) (shop : StoreModel S) where
-  any_event : (w : World S) (e : Event) → Gives x Any S shop w e
+module _ (x : Rules) (S : Type 0) (model : StoreModel S) where
+  any_event : (w : World S) (e : Event) → Gives x Any S model w e
   any_event w (MakeAsk key choice whole front rest) = tt
   any_event w (Deliver number free) = λ p at up arrives. tt
   any_event w (Tick as_client as_server) = tt
@@ -278,12 +278,12 @@ module _ (x : Rules) (S : Type 0) (shop : StoreModel S) where
   any_event w (RestartClient node) = tt
   any_event w (RestartServer node store) = tt
 
-  any_run : (events : List Event) (w : World S) → Throughout S shop x (Gives x Any S shop) events w
+  any_run : (events : List Event) (w : World S) → Throughout S model x (Gives x Any S model) events w
   any_run [] w = tt
-  any_run (e ∷ es) w = (any_event w e, any_run es (happens S shop x w e))
+  any_run (e ∷ es) w = (any_event w e, any_run es (happens S model x w e))
 
-  pub event_steps : (w : World S) (e : Event) → Path x Any w.net (happens S shop x w e).net
-  event_steps w e = event_path x Any S shop w e (any_event w e)
+  pub event_steps : (w : World S) (e : Event) → Path x Any w.net (happens S model x w e).net
+  event_steps w e = event_path x Any S model w e (any_event w e)
 
-  pub run_steps : (events : List Event) (w : World S) → Path x Any w.net (run S shop x events w).net
-  run_steps events w = run_path x Any S shop events w (any_run events w)
+  pub run_steps : (events : List Event) (w : World S) → Path x Any w.net (run S model x events w).net
+  run_steps events w = run_path x Any S model events w (any_run events w)

@@ -26,7 +26,7 @@ use Rattle.bac_liveness.proofs.Gets.{lives}
 use Rattle.bac_liveness.proofs.Downloads.{Waits, sending_waits}
 use Rattle.bac_liveness.proofs.Downloads as down
 
-module _ (S : Type 0) (shop : StoreModel S) (x : Rules) (now number : ℕ) (key : Key) (ask : Ask) (young : client.is_expired now ask ≡ false)
+module _ (S : Type 0) (model : StoreModel S) (x : Rules) (now number : ℕ) (key : Key) (ask : Ask) (young : client.is_expired now ask ≡ false)
     (repeats begin : ℕ) (alive : nat_le (now - begin) KEEP ≡ true) (kept : Option Octets) (stores : ℕ → S) (log : List Fact) where
   abbrev c : Context
   c = client_context x key now
@@ -35,7 +35,7 @@ module _ (S : Type 0) (shop : StoreModel S) (x : Rules) (now number : ℕ) (key 
   d = server_context x key now
 
   abbrev service : Service
-  service = shop.outcome (stores key.server)
+  service = model.outcome (stores key.server)
 
   abbrev actual : ℕ
   actual = min d.settings.window c.settings.window
@@ -47,10 +47,10 @@ module _ (S : Type 0) (shop : StoreModel S) (x : Rules) (now number : ℕ) (key 
   in_state state = record { begin = begin; choice = ask.choice; limits = c.settings.limits; request = kept; state = state }
 
   abbrev Goes : ℕ → TransactionPair S → TransactionPair S → Type 0
-  Goes most p q = Within S shop x now number key most p q
+  Goes most p q = Within S model x now number key most p q
 
   abbrev EndsIn : ℕ → TransactionPair S → Reply → Type 0
-  EndsIn most from p = down.EndsWith S shop x now number key ask young repeats begin alive kept stores log most from p
+  EndsIn most from p = down.EndsWith S model x now number key ask young repeats begin alive kept stores log most from p
 
   -- a live entry in that state, and these copies
   abbrev pub with_state : ClientTransaction → State → List Apdu → TransactionPair S
@@ -72,7 +72,7 @@ module _ (S : Type 0) (shop : StoreModel S) (x : Rules) (now number : ℕ) (key 
       → Goes w (with_state t (Done a) (segments first w ++ repeated i a)) (with_state t (Done a) (repeated (i + w) a))
   answers_on a zero i first t none going few =
       let e : i ≡ i + 0 = omega arith in
-      no_step S shop x now number key (with_state t (Done a) (repeated i a)) (with_state t (Done a) (repeated (i + 0) a))
+      no_step S model x now number key (with_state t (Done a) (repeated i a)) (with_state t (Done a) (repeated (i + 0) a))
       (ap (λ (j : ℕ). with_state t (Done a) (repeated j a)) e)
   answers_on a (suc w) i first t none going few =
       let seg = client.request_piece c ask.choice ask.pieces first in
@@ -84,10 +84,10 @@ module _ (S : Type 0) (shop : StoreModel S) (x : Rules) (now number : ℕ) (key 
       let from = with_state t (Done a) (seg ∷ xs) in
       let mid = with_state t (Done a) (rest ++ repeated (suc i) a) in
       let e : suc i + w ≡ i + suc w = omega arith in
-      let one = one_step S shop x now number key from mid xs seg refl (omega arith) going (lives now (in_state (Done a)) alive)
-      (ap (λ (v : server.Reaction). served S shop x now number key from xs v) (serves_segment d c service (in_state (Done a)) true ask a alive refl none first)
+      let one = one_step S model x now number key from mid xs seg refl (omega arith) going (lives now (in_state (Done a)) alive)
+      (ap (λ (v : server.Reaction). served S model x now number key from xs v) (serves_segment d c service (in_state (Done a)) true ask a alive refl none first)
       ∙ ap (λ (ys : List Apdu). with_state t (Done a) ys) (one_more rest i a)) in
-      within_then S shop x now number key 1 w (suc w) from mid (with_state t (Done a) (repeated (i + suc w) a)) (omega arith) one
+      within_then S model x now number key 1 w (suc w) from mid (with_state t (Done a) (repeated (i + suc w) a)) (omega arith) one
       (subst (λ (j : ℕ). Goes w mid (with_state t (Done a) (repeated j a))) e (answers_on a w (suc i) (first + 1) t none going (omega arith)))
 
   -- a window of the request is sent again
@@ -102,10 +102,10 @@ module _ (S : Type 0) (shop : StoreModel S) (x : Rules) (now number : ℕ) (key 
       let one : Goes (suc w) from (with_state t (Done a) (repeated (0 + suc w) a)) = subst (λ (ys : List Apdu). Goes (suc w) (with_state t (Done a) ys)
       (with_state t (Done a) (repeated (0 + suc w) a))) (append-nil (segments first (suc w))) (answers_on a (suc w) 0 first t none refl (omega arith)) in
       let e : 0 + suc w ≡ suc w = omega arith in
-      down.ends_then S shop x now number key ask young repeats begin alive kept stores log (suc w) 1 (suc w + 1) from
+      down.ends_then S model x now number key ask young repeats begin alive kept stores log (suc w) 1 (suc w + 1) from
       (with_state t (Done a) (a ∷ repeated w a)) p (omega arith)
       (subst (λ (j : ℕ). Goes (suc w) from (with_state t (Done a) (repeated j a))) e one)
-      (down.at_once S shop x now number key ask young repeats begin alive kept stores log (Phase.SegmentedRequest out true) m (sending_waits out) refl p
+      (down.at_once S model x now number key ask young repeats begin alive kept stores log (Phase.SegmentedRequest out true) m (sending_waits out) refl p
       (in_state (Done a)) (repeated w a) kind (lives now (in_state (Done a)) alive) (omega arith))
 
   -- the whole request is sent again
@@ -116,11 +116,11 @@ module _ (S : Type 0) (shop : StoreModel S) (x : Rules) (now number : ℕ) (key 
       let a = answer p in
       let from = with_state t (Done a) (request ∷ []) in
       let mid = with_state t (Done a) (a ∷ []) in
-      down.ends_then S shop x now number key ask young repeats begin alive kept stores log 1 1 2 from mid p (omega arith)
-      (one_step S shop x now number key from mid [] request refl (omega arith) going (lives now (in_state (Done a)) alive)
-      (ap (λ (v : server.Reaction). served S shop x now number key from [] v)
+      down.ends_then S model x now number key ask young repeats begin alive kept stores log 1 1 2 from mid p (omega arith)
+      (one_step S model x now number key from mid [] request refl (omega arith) going (lives now (in_state (Done a)) alive)
+      (ap (λ (v : server.Reaction). served S model x now number key from [] v)
       (serves_again d c service (in_state (Done a)) true ask a alive refl refl same)))
-      (down.at_once S shop x now number key ask young repeats begin alive kept stores log phase m waits going p (in_state (Done a)) [] kind
+      (down.at_once S model x now number key ask young repeats begin alive kept stores log phase m waits going p (in_state (Done a)) [] kind
       (lives now (in_state (Done a)) alive) (omega arith))
 
   -- A reply in segments whose transfer has stopped.
@@ -139,9 +139,9 @@ module _ (S : Type 0) (shop : StoreModel S) (x : Rules) (now number : ℕ) (key 
       → Goes 1 (with_state t (stopped out since) (request ∷ [])) (with_state t (running out) (window out))
   request_resumes t out since going same =
       let from = with_state t (stopped out since) (request ∷ []) in
-      one_step S shop x now number key from (with_state t (running out) (window out)) [] request refl (omega arith) going
+      one_step S model x now number key from (with_state t (running out) (window out)) [] request refl (omega arith) going
       (lives now (in_state (stopped out since)) alive)
-      (ap (λ (v : server.Reaction). served S shop x now number key from [] v)
+      (ap (λ (v : server.Reaction). served S model x now number key from [] v)
       (serves_stopped d c service (in_state (stopped out since)) true ask out since alive refl refl same))
 
   -- a window of the request is sent again: its first segment sets the transfer going, and the others change nothing
@@ -153,8 +153,8 @@ module _ (S : Type 0) (shop : StoreModel S) (x : Rules) (now number : ℕ) (key 
       let len = pieces_length (client.request_piece c ask.choice ask.pieces) (first + 1) w in
       let from = with_state t (stopped out since) (seg ∷ rest) in
       let mid = with_state t (running out) (rest ++ window out) in
-      within_then S shop x now number key 1 w (suc w) from mid (with_state t (running out) (window out)) (omega arith)
-      (one_step S shop x now number key from mid rest seg refl (omega arith) going (lives now (in_state (stopped out since)) alive)
-      (ap (λ (v : server.Reaction). served S shop x now number key from rest v)
+      within_then S model x now number key 1 w (suc w) from mid (with_state t (running out) (window out)) (omega arith)
+      (one_step S model x now number key from mid rest seg refl (omega arith) going (lives now (in_state (stopped out since)) alive)
+      (ap (λ (v : server.Reaction). served S model x now number key from rest v)
       (serves_stopped_segment d c service (in_state (stopped out since)) true ask out since alive refl refl none first)))
-      (down.skips S shop x now number key ask young repeats begin alive kept stores log w (first + 1) t (resume out) (window out) (λ h. none) going)
+      (down.skips S model x now number key ask young repeats begin alive kept stores log w (first + 1) t (resume out) (window out) (λ h. none) going)

@@ -24,19 +24,19 @@ use Rattle.bac_liveness.proofs.Endings.{request_now}
 use Rattle.bac_liveness.proofs.RoundTrips.{sound, begun_for, reached}
 use Rattle.bac_liveness.proofs.Serving.{serves_stopped, serves_stopped_segment}
 
-module _ (S : Type 0) (shop : StoreModel S) (opening : ℕ → S) (W : ℕ) (x : Rules) (bound : IsBounded W x) where
-  module _ (w : World S) (s : Kept S shop opening W x bound w) (key : Key) (t : ClientTransaction) (at : w.net.tickets key ≡ Some t) (request : Option Octets)
+module _ (S : Type 0) (model : StoreModel S) (opening : ℕ → S) (W : ℕ) (x : Rules) (bound : IsBounded W x) where
+  module _ (w : World S) (s : Kept S model opening W x bound w) (key : Key) (t : ClientTransaction) (at : w.net.tickets key ≡ Some t) (request : Option Octets)
       (out : Outgoing) (h : HasStopped w.net key request out) where
     choice : h.entry.choice ≡ t.ask.choice
     choice =
-        let known = sound S shop opening W x bound w s key t at in
-        (begun_for S shop opening W x bound w key t known.0 known.1 known.2 h.entry h.at (inl h.live)).choice
+        let known = sound S model opening W x bound w s key t at in
+        (begun_for S model opening W x bound w key t known.0 known.1 known.2 h.entry h.at (inl h.live)).choice
 
     on : (number : ℕ) (free : Bool) (a : Apdu) → is_from_client a ≡ true → IsOnItsWay x w.net key a number
-        → server.server_on_apdu (server_context x key w.net.now) (service_of S shop w key) (Some h.entry) (is_room w.net key free) a
+        → server.server_on_apdu (server_context x key w.net.now) (service_of S model w key) (Some h.entry) (is_room w.net key free) a
         ≡ server.becomes h.entry (SegmentedResponse (resume out) Running w.net.now)
         (server.reply_window (server_context x key w.net.now) t.ask.choice (resume out))
-        → GoesOnWith x key t.ask.choice h.entry out w.net (happens S shop x w (Deliver number free)).net
+        → GoesOnWith x key t.ask.choice h.entry out w.net (happens S model x w (Deliver number free)).net
     on number free a up m gets = subst (λ (u : World S). GoesOnWith x key t.ask.choice h.entry out w.net u.net) (sym path)
         (record { sent = refl; entry_is = set_same w.net.entries key v.entry; log = refl })
       where
@@ -44,22 +44,22 @@ module _ (S : Type 0) (shop : StoreModel S) (opening : ℕ → S) (W : ℕ) (x :
         v = server.becomes h.entry (SegmentedResponse (resume out) Running w.net.now)
             (server.reply_window (server_context x key w.net.now) t.ask.choice (resume out))
 
-        path : happens S shop x w (Deliver number free) ≡ serves S shop w key v
-        path = request_now S shop x w key a number free up m
-            ∙ ap (λ (o : Option ServerTransaction). serves S shop w key (server.server_on_apdu (server_context x key w.net.now) (service_of S shop w key) o (is_room w.net key free) a)) h.at
-            ∙ ap (serves S shop w key) gets
+        path : happens S model x w (Deliver number free) ≡ serves S model w key v
+        path = request_now S model x w key a number free up m
+            ∙ ap (λ (o : Option ServerTransaction). serves S model w key (server.server_on_apdu (server_context x key w.net.now) (service_of S model w key) o (is_room w.net key free) a)) h.at
+            ∙ ap (serves S model w key) gets
 
-  pub stopped_go_on : (events : List Event) → StoppedGoesOn S shop x (run S shop x events (start S opening))
+  pub stopped_go_on : (events : List Event) → StoppedGoesOn S model x (run S model x events (start S opening))
   stopped_go_on events = record {
     whole = λ key t at out h number free m.
-        on w (reached S shop opening W x bound events) key t at (Some (join t.ask.pieces)) out h number free (request_to x key t.ask) refl m
-        (serves_stopped (server_context x key w.net.now) (client_context x key t.ask.first) (service_of S shop w key) h.entry (is_room w.net key free) t.ask out h.since
-        h.live (choice w (reached S shop opening W x bound events) key t at (Some (join t.ask.pieces)) out h) h.state h.request_is);
+        on w (reached S model opening W x bound events) key t at (Some (join t.ask.pieces)) out h number free (request_to x key t.ask) refl m
+        (serves_stopped (server_context x key w.net.now) (client_context x key t.ask.first) (service_of S model w key) h.entry (is_room w.net key free) t.ask out h.since
+        h.live (choice w (reached S model opening W x bound events) key t at (Some (join t.ask.pieces)) out h) h.state h.request_is);
     segment = λ key t at out h number piece free m.
-        on w (reached S shop opening W x bound events) key t at None out h number free (segment_to x key t.ask piece) refl m
-        (serves_stopped_segment (server_context x key w.net.now) (client_context x key t.ask.first) (service_of S shop w key) h.entry (is_room w.net key free) t.ask out h.since
-        h.live (choice w (reached S shop opening W x bound events) key t at None out h) h.state h.request_is piece);
+        on w (reached S model opening W x bound events) key t at None out h number free (segment_to x key t.ask piece) refl m
+        (serves_stopped_segment (server_context x key w.net.now) (client_context x key t.ask.first) (service_of S model w key) h.entry (is_room w.net key free) t.ask out h.since
+        h.live (choice w (reached S model opening W x bound events) key t at None out h) h.state h.request_is piece);
   }
     where
       w : World S
-      w = run S shop x events (start S opening)
+      w = run S model x events (start S opening)

@@ -49,10 +49,10 @@ together_again actual r ps out inc h = record {
   left = h.left;
 }
 
-module _ (S : Type 0) (shop : StoreModel S) (x : Rules) (now number : ℕ) (key : Key) (actual own : ℕ) (ps : List Octets)
-    (sizes : Fitting x.overtake actual own ps) (near : actual < 256) (c : Channel S shop x now number key actual own ps) where
+module _ (S : Type 0) (model : StoreModel S) (x : Rules) (now number : ℕ) (key : Key) (actual own : ℕ) (ps : List Octets)
+    (sizes : Fitting x.overtake actual own ps) (near : actual < 256) (c : Channel S model x now number key actual own ps) where
   pub round_of : (s : Sender) (inc : Incoming) → AreTogether actual ps s.out inc
-      → IsRound S shop x now number key actual own ps sizes near c s inc (length inc.parts)
+      → IsRound S model x now number key actual own ps sizes near c s inc (length inc.parts)
   round_of s inc h = record {
     pieces = (h.sender).pieces_are;
     shape = window_shape actual s.out (h.sender).window;

@@ -41,7 +41,7 @@ pub at_end : (xs : List Post) (q : Post) → slice_get (xs ++ q ∷ []) (length 
 at_end [] q = refl
 at_end (p ∷ xs) q = at_end xs q
 
-module _ (S : Type 0) (shop : StoreModel S) (x : Rules) (key : Key) (ask : Ask) (number : ℕ) (whole : ask.whole ≡ true) where
+module _ (S : Type 0) (model : StoreModel S) (x : Rules) (key : Key) (ask : Ask) (number : ℕ) (whole : ask.whole ≡ true) where
   abbrev On : World S → Type 0
   On w = Waits x key ask number w.net
 
@@ -49,12 +49,12 @@ module _ (S : Type 0) (shop : StoreModel S) (x : Rules) (key : Key) (ask : Ask) 
   Young w = w.net.now < ask.first + PATIENCE
 
   -- what is said of events is what is said of the steps that they are
-  finds_event : (w : World S) (e : Event) → FindsServer S shop x key ask w e → Gives x (Finds x key ask number) S shop w e
+  finds_event : (w : World S) (e : Event) → FindsServer S model x key ask w e → Gives x (Finds x key ask number) S model w e
   finds_event w (MakeAsk k choice b front rest) h = tt
   finds_event w (Deliver i free) h = λ p at up arrives m none.
       let f = h m none in
       let same : p.key ≡ key = ap (λ (y : Post). y.key) (some_is p m.post (sym at ∙ m.at)) ∙ m.key_is in
-      (f.0, room_is w key free (f.1).slot (f.1).serving, ap (λ (k : Key). service_of S shop w k ask.choice (join ask.pieces)) same ∙ (f.1).outcome, f.2)
+      (f.0, room_is w key free (f.1).slot (f.1).serving, ap (λ (k : Key). service_of S model w k ask.choice (join ask.pieces)) same ∙ (f.1).outcome, f.2)
   finds_event w (Tick as_client as_server) h = tt
   finds_event w Noise h = tt
   finds_event w (Advance by) h = tt
@@ -62,26 +62,26 @@ module _ (S : Type 0) (shop : StoreModel S) (x : Rules) (key : Key) (ask : Ask) 
   finds_event w (RestartClient node) h = tt
   finds_event w (RestartServer node store) h = tt
 
-  finds_run : (events : List Event) (w : World S) → Throughout S shop x (FindsServer S shop x key ask) events w
-      → Throughout S shop x (Gives x (Finds x key ask number) S shop) events w
+  finds_run : (events : List Event) (w : World S) → Throughout S model x (FindsServer S model x key ask) events w
+      → Throughout S model x (Gives x (Finds x key ask number) S model) events w
   finds_run [] w h = tt
-  finds_run (e ∷ es) w h = (finds_event w e h.0, finds_run es (happens S shop x w e) h.1)
+  finds_run (e ∷ es) w h = (finds_event w e h.0, finds_run es (happens S model x w e) h.1)
 
-  run_on : (events : List Event) (w : World S) → Throughout S shop x (FindsServer S shop x key ask) events w → On w → Young (run S shop x events w)
-      → On (run S shop x events w)
-  run_on events w served h young = waits_path x key ask number whole w.net (run S shop x events w).net
-      (run_path x (Finds x key ask number) S shop events w (finds_run events w served)) h young
+  run_on : (events : List Event) (w : World S) → Throughout S model x (FindsServer S model x key ask) events w → On w → Young (run S model x events w)
+      → On (run S model x events w)
+  run_on events w served h young = waits_path x key ask number whole w.net (run S model x events w).net
+      (run_path x (Finds x key ask number) S model events w (finds_run events w served)) h young
 
-  event_on : (w : World S) (e : Event) → FindsServer S shop x key ask w e → On w → Young (happens S shop x w e) → On (happens S shop x w e)
+  event_on : (w : World S) (e : Event) → FindsServer S model x key ask w e → On w → Young (happens S model x w e) → On (happens S model x w e)
   event_on w e served h young = run_on (e ∷ []) w (served, tt) h young
 
   split : (before : List Event) (e : Event) (between : List Event) (w : World S)
-      → Throughout S shop x (FindsServer S shop x key ask) (before ++ e ∷ between) w
-      → Throughout S shop x (FindsServer S shop x key ask) before w
-      × FindsServer S shop x key ask (run S shop x before w) e
-      × Throughout S shop x (FindsServer S shop x key ask) between (happens S shop x (run S shop x before w) e)
+      → Throughout S model x (FindsServer S model x key ask) (before ++ e ∷ between) w
+      → Throughout S model x (FindsServer S model x key ask) before w
+      × FindsServer S model x key ask (run S model x before w) e
+      × Throughout S model x (FindsServer S model x key ask) between (happens S model x (run S model x before w) e)
   split [] e between w h = (tt, h.0, h.1)
-  split (f ∷ before) e between w h = let r = split before e between (happens S shop x w f) h.1 in ((h.0, r.0), r.1, r.2)
+  split (f ∷ before) e between w h = let r = split before e between (happens S model x w f) h.1 in ((h.0, r.0), r.1, r.2)
 
   waiting_of : (w : World S) → ClientStays w.net key ask → On w → IsWaiting w.net key ask ⊎ IsAnswered number ask w.net.log
   waiting_of w stays h = go h.ticket.state
@@ -95,7 +95,7 @@ module _ (S : Type 0) (shop : StoreModel S) (x : Rules) (key : Key) (ask : Ask) 
   -- a tick that is due
   sent_again : (v : World S) → On v → Young v → (t : ClientTransaction) → v.net.tickets key ≡ Some t → t.phase ≡ AwaitConfirmation → T_OUT ≤ v.net.now - t.since
       → (as_client as_server : List Key) → Contains as_client key
-      → IsSentAgain x key ask t v.net (happens S shop x v (Tick as_client as_server)).net
+      → IsSentAgain x key ask t v.net (happens S model x v (Tick as_client as_server)).net
   sent_again v h young t at awaits due as_client as_server i =
       go (subst (λ (y : ClientTransaction). PatientOrOver x key ask number (v.net.asks_from key.client) v.net.now y v.net.log) same h.ticket.state)
     where
@@ -103,10 +103,10 @@ module _ (S : Type 0) (shop : StoreModel S) (x : Rules) (key : Key) (ask : Ask) 
       same = some_is h.ticket.ticket t (sym h.ticket.at ∙ at)
 
       go : PatientOrOver x key ask number (v.net.asks_from key.client) v.net.now t v.net.log
-          → IsSentAgain x key ask t v.net (happens S shop x v (Tick as_client as_server)).net
+          → IsSentAgain x key ask t v.net (happens S model x v (Tick as_client as_server)).net
       go (inr o) = absurd (let z = sym o.0 ∙ ap is_idle awaits in cc)
       go (inl w) =
-          let sends = tick_sends S shop x key ask number whole v t as_client as_server at
+          let sends = tick_sends S model x key ask number whole v t as_client as_server at
           (subst (λ (y : ClientTransaction). y.ask ≡ ask) same h.ticket.is) w young due h.entry i in
           record { left = repeat_left x key ask number v.net.now t w young due; sent = sends.copies_are; ticket = sends.ticket }
 
@@ -114,49 +114,49 @@ module _ (S : Type 0) (shop : StoreModel S) (x : Rules) (key : Key) (ask : Ask) 
   module _ (opening : ℕ → S) (W : ℕ) (bound : IsBounded W x) where
     record Brings (v u : World S) : Type 0 where
       reply : Reply
-      served : IsServed S shop x key ask reply v u
+      served : IsServed S model x key ask reply v u
 
-    brings : (v : World S) → Kept S shop opening W x bound v → On v → Young v → (i : ℕ) (free : Bool) → IsOnItsWay x v.net key (request_to x key ask) i
-        → FindsServer S shop x key ask v (Deliver i free) → Brings v (happens S shop x v (Deliver i free))
+    brings : (v : World S) → Kept S model opening W x bound v → On v → Young v → (i : ℕ) (free : Bool) → IsOnItsWay x v.net key (request_to x key ask) i
+        → FindsServer S model x key ask v (Deliver i free) → Brings v (happens S model x v (Deliver i free))
     brings v s h young i free m finds = go h.entry
       where
         is : h.ticket.ticket.ask ≡ ask
         is = h.ticket.is
 
-        served : (p : Reply) → FitsInOne x key ask p → CanPerform S shop v key ask free p ⊎ HasPerformed x v.net key ask (Some (join ask.pieces)) p
-            → Brings v (happens S shop x v (Deliver i free))
+        served : (p : Reply) → FitsInOne x key ask p → CanPerform S model v key ask free p ⊎ HasPerformed x v.net key ask (Some (join ask.pieces)) p
+            → Brings v (happens S model x v (Deliver i free))
         served p fits can = record {
           reply = p;
-          served = subst (λ (k : Ask). IsServed S shop x key k p v (happens S shop x v (Deliver i free))) is
-              (trip S shop opening W x bound v s key h.ticket.ticket h.ticket.at p (subst (λ (k : Ask). FitsInOne x key k p) (sym is) fits)
+          served = subst (λ (k : Ask). IsServed S model x key k p v (happens S model x v (Deliver i free))) is
+              (trip S model opening W x bound v s key h.ticket.ticket h.ticket.at p (subst (λ (k : Ask). FitsInOne x key k p) (sym is) fits)
               (ap (λ (k : Ask). k.whole) is ∙ whole) free
-              (subst (λ (k : Ask). CanPerform S shop v key k free p ⊎ HasPerformed x v.net key k (Some (join k.pieces)) p) (sym is) can) i
+              (subst (λ (k : Ask). CanPerform S model v key k free p ⊎ HasPerformed x v.net key k (Some (join k.pieces)) p) (sym is) can) i
               (subst (λ (k : Ask). IsOnItsWay x v.net key (request_to x key k) i) (sym is) m));
         }
 
         go : (is_none_live v.net.now (v.net.entries key) ≡ true) ⊎ IsDoneFor x key ask number (v.net.entries key) v.net.log
-            → Brings v (happens S shop x v (Deliver i free))
+            → Brings v (happens S model x v (Deliver i free))
         go (inl none) = let f = finds m none in served f.0 f.2 (inl f.1)
         go (inr d) = served d.reply d.given.0
             (inr (record { entry = d.entry; at = d.at; live = done_live x key ask number v.net young d; request_is = d.request; state = d.state }))
 
-    through : (v : World S) → Kept S shop opening W x bound v → On v → Young v → (i : ℕ) (free : Bool) → IsOnItsWay x v.net key (request_to x key ask) i
-        → FindsServer S shop x key ask v (Deliver i free) → (between : List Event) (answer : Apdu) (other : Bool)
-        → (let u = run S shop x between (happens S shop x v (Deliver i free)) in
+    through : (v : World S) → Kept S model opening W x bound v → On v → Young v → (i : ℕ) (free : Bool) → IsOnItsWay x v.net key (request_to x key ask) i
+        → FindsServer S model x key ask v (Deliver i free) → (between : List Event) (answer : Apdu) (other : Bool)
+        → (let u = run S model x between (happens S model x v (Deliver i free)) in
         On u → ClientStays u.net key ask → Young u → IsOnItsWay x u.net key answer (length v.net.posts)
-        → IsAnswered number ask (happens S shop x u (Deliver (length v.net.posts) other)).net.log)
+        → IsAnswered number ask (happens S model x u (Deliver (length v.net.posts) other)).net.log)
     through v s h young i free m finds between answer other on stays young_u m_u = go on.ticket.state
       where
         b : World S
-        b = happens S shop x v (Deliver i free)
+        b = happens S model x v (Deliver i free)
 
         u : World S
-        u = run S shop x between (happens S shop x v (Deliver i free))
+        u = run S model x between (happens S model x v (Deliver i free))
 
         z : World S
-        z = happens S shop x (run S shop x between (happens S shop x v (Deliver i free))) (Deliver (length v.net.posts) other)
+        z = happens S model x (run S model x between (happens S model x v (Deliver i free))) (Deliver (length v.net.posts) other)
 
-        r : Brings v (happens S shop x v (Deliver i free))
+        r : Brings v (happens S model x v (Deliver i free))
         r = brings v s h young i free m finds
 
         post : Post
@@ -166,18 +166,18 @@ module _ (S : Type 0) (shop : StoreModel S) (x : Rules) (key : Key) (ask : Ask) 
         in_b = ap (λ (ps : List Post). slice_get ps (length v.net.posts)) (r.served).sent ∙ at_end v.net.posts post
 
         in_u : slice_get u.net.posts (length v.net.posts) ≡ Some post
-        in_u = path_posts x Any b.net u.net (run_steps x S shop between b) (length v.net.posts) post in_b
+        in_u = path_posts x Any b.net u.net (run_steps x S model between b) (length v.net.posts) post in_b
 
         arrives : is_deliverable x u.net.now (length v.net.posts) u.net.posts post ≡ true
         arrives = subst (λ (q : Post). is_deliverable x u.net.now (length v.net.posts) u.net.posts q ≡ true)
             (some_is m_u.post post (sym m_u.at ∙ in_u)) m_u.arrives
 
         grown : Grows u.net.log z.net.log
-        grown = path_log x Any u.net z.net (event_steps x S shop u (Deliver (length v.net.posts) other))
+        grown = path_log x Any u.net z.net (event_steps x S model u (Deliver (length v.net.posts) other))
 
         performed : Has (Performed number (request_of ask) r.reply) z.net.log
         performed = grown (Performed number (request_of ask) r.reply)
-            (path_log x Any b.net u.net (run_steps x S shop between b) (Performed number (request_of ask) r.reply)
+            (path_log x Any b.net u.net (run_steps x S model between b) (Performed number (request_of ask) r.reply)
             (subst (λ (k : ℕ). Has (Performed k (request_of ask) r.reply) b.net.log) h.number_is (r.served).performed))
 
         go : PatientOrOver x key ask number (u.net.asks_from key.client) u.net.now on.ticket.ticket u.net.log → IsAnswered number ask z.net.log
@@ -193,20 +193,20 @@ module _ (S : Type 0) (shop : StoreModel S) (x : Rules) (key : Key) (ask : Ask) 
                   (sym (now.log ∙ ap (λ (k : ℕ). Ended k (Answered r.reply) ∷ u.net.log) h.number_is)) (inl refl),
             )
 
-    robust : (w : World S) → Kept S shop opening W x bound w → On w → IsRobust S shop x key ask number w
+    robust : (w : World S) → Kept S model opening W x bound w → On w → IsRobust S model x key ask number w
     robust w s h = record {
-      waits = λ events served stays young. waiting_of (run S shop x events w) stays (run_on events w served h young);
+      waits = λ events served stays young. waiting_of (run S model x events w) stays (run_on events w served h young);
       repeats = λ events as_client as_server served young t at awaits due there.
-          sent_again (run S shop x events w) (run_on events w served h young) young t at awaits due as_client as_server there;
+          sent_again (run S model x events w) (run_on events w served h young) young t at awaits due as_client as_server there;
       answered = λ before between i free other answer served stays young m m_u.
           let sp = split before (Deliver i free) between w served in
-          let v = run S shop x before w in
-          let b = happens S shop x v (Deliver i free) in
-          let u = run S shop x between b in
-          let le = path_now x Any b.net u.net (run_steps x S shop between b) in
-          let first = path_now x Any v.net b.net (event_steps x S shop v (Deliver i free)) in
+          let v = run S model x before w in
+          let b = happens S model x v (Deliver i free) in
+          let u = run S model x between b in
+          let le = path_now x Any b.net u.net (run_steps x S model between b) in
+          let first = path_now x Any v.net b.net (event_steps x S model v (Deliver i free)) in
           let on_v = run_on before w sp.0 h (omega arith) in
-          through v (run_kept S shop opening W x bound before w s) on_v (omega arith) i free m sp.1 between answer other
+          through v (run_kept S model opening W x bound before w s) on_v (omega arith) i free m sp.1 between answer other
           (run_on between b sp.2 (event_on v (Deliver i free) sp.1 on_v (omega arith)) young) stays young m_u;
     }
 
@@ -253,20 +253,20 @@ asked_on W x n s key choice front rest calm free = record {
     posts i q at is young (inr new) =
         of_map (IsFine x key ask n.asks asked_log) key n.now (request_to x key ask ∷ []) (inl refl, tt) new.0 q new.1
 
-module _ (S : Type 0) (shop : StoreModel S) (opening : ℕ → S) (W : ℕ) (x : Rules) (bound : IsBounded W x) where
-  repeats_suffice : (w : World S) → Kept S shop opening W x bound w → RepeatsSuffice S shop x w
+module _ (S : Type 0) (model : StoreModel S) (opening : ℕ → S) (W : ℕ) (x : Rules) (bound : IsBounded W x) where
+  repeats_suffice : (w : World S) → Kept S model opening W x bound w → RepeatsSuffice S model x w
   repeats_suffice w s key choice front rest free =
-      subst (λ (u : World S). IsRobust S shop x key ask w.net.asks u) (sym path)
-      (robust S shop x key ask w.net.asks refl opening W bound (ask_made S x w key ask)
-      (subst (λ (u : World S). Kept S shop opening W x bound u) path (event_kept S shop opening W x bound w s (MakeAsk key choice true front rest)))
+      subst (λ (u : World S). IsRobust S model x key ask w.net.asks u) (sym path)
+      (robust S model x key ask w.net.asks refl opening W bound (ask_made S x w key ask)
+      (subst (λ (u : World S). Kept S model opening W x bound u) path (event_kept S model opening W x bound w s (MakeAsk key choice true front rest)))
       (asked_on W x w.net s.net key choice front rest s.calm free))
     where
       ask : Ask
       ask = ask_of w.net.now choice true front rest
 
-      path : happens S shop x w (MakeAsk key choice true front rest) ≡ ask_made S x w key ask
+      path : happens S model x w (MakeAsk key choice true front rest) ≡ ask_made S x w key ask
       path = ap (λ b. if b then w else ask_made S x w key ask) free
 
-  pub all_repeats_suffice : (events : List Event) → RepeatsSuffice S shop x (run S shop x events (start S opening))
-  all_repeats_suffice events = repeats_suffice (run S shop x events (start S opening))
-      (run_kept S shop opening W x bound events (start S opening) (start_kept S shop opening W x bound))
+  pub all_repeats_suffice : (events : List Event) → RepeatsSuffice S model x (run S model x events (start S opening))
+  all_repeats_suffice events = repeats_suffice (run S model x events (start S opening))
+      (run_kept S model opening W x bound events (start S opening) (start_kept S model opening W x bound))

@@ -163,12 +163,12 @@ pub room_is : {S : Type 0} (w : World S) (key : Key) (free : Bool) → free ≡ 
 room_is w key free slot serving =
     let waits : nat_lt w.net.now (w.net.serves_from key.server) ≡ false = grind (arith, nat_tests) in λ i. slot i && not (waits i)
 
-module _ (S : Type 0) (shop : StoreModel S) (opening : ℕ → S) (W : ℕ) (x : Rules) (bound : IsBounded W x) where
+module _ (S : Type 0) (model : StoreModel S) (opening : ℕ → S) (W : ℕ) (x : Rules) (bound : IsBounded W x) where
   -- what is known of a ticket in a world that was reached
   abbrev pub SoundWith : World S → Key → ClientTransaction → Up → Down → Type 0
   SoundWith w key t up down = SoundIn W w.net key t up down
 
-  pub sound : (w : World S) → Kept S shop opening W x bound w → (key : Key) (t : ClientTransaction) → w.net.tickets key ≡ Some t
+  pub sound : (w : World S) → Kept S model opening W x bound w → (key : Key) (t : ClientTransaction) → w.net.tickets key ≡ Some t
       → (up : Up) × (down : Down) × SoundWith w key t up down
   sound w s key t at = sound_at W w.net key (Some t) at s.net
 
@@ -177,7 +177,7 @@ module _ (S : Type 0) (shop : StoreModel S) (opening : ℕ → S) (W : ℕ) (x :
   begun_for w key t up down s e at when = begun_in W w.net key t up down s e at when
 
   -- where a live entry was begun for an ask, its server has not restarted since
-  pub entry_stays : (w : World S) → Kept S shop opening W x bound w → (key : Key) (t : ClientTransaction) → w.net.tickets key ≡ Some t → (e : ServerTransaction)
+  pub entry_stays : (w : World S) → Kept S model opening W x bound w → (key : Key) (t : ClientTransaction) → w.net.tickets key ≡ Some t → (e : ServerTransaction)
       → w.net.entries key ≡ Some e → server.is_live w.net.now e ≡ true → ServerStays w.net key t.ask
   entry_stays w s key t at e there live =
       let known = sound w s key t at in
@@ -188,9 +188,9 @@ module _ (S : Type 0) (shop : StoreModel S) (opening : ℕ → S) (W : ℕ) (x :
   -- an answer on its way ends a ticket that takes it
   ends : (v : World S) (key : Key) (t : ClientTransaction) (p : Reply) (number : ℕ) (free : Bool) → IsOnItsWay x v.net key (answer_to x key t.ask p) number
       → v.net.tickets key ≡ Some t → TakesAnswer t.phase → v.net.now - t.ask.first ≤ DEADLINE → FitsInOne x key t.ask p
-      → happens S shop x v (Deliver number free) ≡ reacts S v key t (Ends [] (Answered p))
+      → happens S model x v (Deliver number free) ≡ reacts S v key t (Ends [] (Answered p))
   ends v key t p number free m at phase young fits =
-      answer_now S shop x v key (answer_to x key t.ask p) number free (answer_not_from_client (server_context x key t.ask.first) t.ask.choice p) m
+      answer_now S model x v key (answer_to x key t.ask p) number free (answer_not_from_client (server_context x key t.ask.first) t.ask.choice p) m
       ∙ ap (takes_at_client S x v key (answer_to x key t.ask p)) at
       ∙ ap (reacts S v key t) (takes_ends x v.net.now key t p phase young fits)
 
@@ -205,10 +205,10 @@ module _ (S : Type 0) (shop : StoreModel S) (opening : ℕ → S) (W : ℕ) (x :
     abbrev KeptIn : World S → Type 0
     KeptIn u = IsKept x Any key number ask begin (answer_to x key ask p) since u.net
 
-    answered : (u : World S) → Kept S shop opening W x bound u → KeptIn u → (ask.whole ≡ true) ⊎ SendsAll key ask p u
-        → (events : List Event) → (let v = run S shop x events u in IsOpenInTime v.net key ask
+    answered : (u : World S) → Kept S model opening W x bound u → KeptIn u → (ask.whole ≡ true) ⊎ SendsAll key ask p u
+        → (events : List Event) → (let v = run S model x events u in IsOpenInTime v.net key ask
         → (k : ℕ) → IsOnItsWay x v.net key (answer_to x key ask p) k → (free : Bool)
-        → IsAnsweredNow S key number p v (happens S shop x v (Deliver k free)))
+        → IsAnsweredNow S key number p v (happens S model x v (Deliver k free)))
     answered u s h ready events o k m free = record {
       log = ap (λ (y : World S). y.net.log) path ∙ ap (λ (n : ℕ). Ended n (Answered p) ∷ v.net.log) there.there.number_is;
       over = ap (λ (y : World S). is_ended (y.net.tickets key)) path
@@ -216,10 +216,10 @@ module _ (S : Type 0) (shop : StoreModel S) (opening : ℕ → S) (W : ℕ) (x :
     }
       where
         v : World S
-        v = run S shop x events u
+        v = run S model x events u
 
         early : u.net.now - ask.first ≤ DEADLINE
-        early = let later = path_now x Any u.net v.net (run_steps x S shop events u) in let y = o.in_time in omega arith
+        early = let later = path_now x Any u.net v.net (run_steps x S model events u) in let y = o.in_time in omega arith
 
         is_ready : (ask.whole ≡ true) ⊎ SendsAll key ask p u → (ask.whole ≡ true) ⊎ HasSentAll h.there.ticket.phase
         is_ready (inl whole) = inl whole
@@ -227,13 +227,13 @@ module _ (S : Type 0) (shop : StoreModel S) (opening : ℕ → S) (W : ℕ) (x :
             (let b = h.begun in let y = early in grind (arith, nat_tests)) h.state)
 
         there : IsAwaited x Any key number ask (answer_to x key ask p) (answer_whole x key ask p) v.net
-        there = awaited_path x Any key number ask (answer_to x key ask p) (answer_whole x key ask p) u.net v.net (run_steps x S shop events u)
+        there = awaited_path x Any key number ask (answer_to x key ask p) (answer_whole x key ask p) u.net v.net (run_steps x S model events u)
             (awaited_at W x key ask number begin p since u.net s.net h (is_ready ready)) o.in_time
 
         same : o.ticket ≡ there.there.ticket
         same = some_is o.ticket there.there.ticket (sym o.at ∙ there.there.at)
 
-        path : happens S shop x v (Deliver k free) ≡ reacts S v key there.there.ticket (Ends [] (Answered p))
+        path : happens S model x v (Deliver k free) ≡ reacts S v key there.there.ticket (Ends [] (Answered p))
         path = ends v key there.there.ticket p k free
             (subst (λ (a : Ask). IsOnItsWay x v.net key (answer_to x key a p) k) (sym there.there.is) m) there.there.at
             (takes_awaited there.there.ticket.phase (subst (λ (t : ClientTransaction). is_idle t.phase ≡ false) same o.going) there.phase)
@@ -241,23 +241,23 @@ module _ (S : Type 0) (shop : StoreModel S) (opening : ℕ → S) (W : ℕ) (x :
             (subst (λ (a : Ask). FitsInOne x key a p) (sym there.there.is) fits)
 
   -- a delivery performs the request, or finds it performed
-  module _ (w : World S) (s : Kept S shop opening W x bound w) (key : Key) (t : ClientTransaction) (at : w.net.tickets key ≡ Some t) (p : Reply)
+  module _ (w : World S) (s : Kept S model opening W x bound w) (key : Key) (t : ClientTransaction) (at : w.net.tickets key ≡ Some t) (p : Reply)
       (fits : FitsInOne x key t.ask p) where
     -- an entry is done, and its answer was sent
     served_by : (e : ServerTransaction) (effect : Option server.Effect) → e.state ≡ Done (answer_to x key t.ask p) → t.ask.first ≤ e.begin
         → Has (Performed (w.net.numbers key) (client.request_of t.ask) p) (performed (w.net.numbers key) effect w.net.log)
-        → (number : ℕ) (free : Bool) → (t.ask.whole ≡ true) ⊎ SendsAll key t.ask p (happens S shop x w (Deliver number free))
-        → happens S shop x w (Deliver number free)
-        ≡ serves S shop w key (record { entry = Some e; sends = answer_to x key t.ask p ∷ []; effect = effect })
-        → IsServed S shop x key t.ask p w (happens S shop x w (Deliver number free))
+        → (number : ℕ) (free : Bool) → (t.ask.whole ≡ true) ⊎ SendsAll key t.ask p (happens S model x w (Deliver number free))
+        → happens S model x w (Deliver number free)
+        ≡ serves S model w key (record { entry = Some e; sends = answer_to x key t.ask p ∷ []; effect = effect })
+        → IsServed S model x key t.ask p w (happens S model x w (Deliver number free))
     served_by e effect state since has number free ready path = record {
       performed = subst (λ (y : World S). Has (Performed (w.net.numbers key) (client.request_of t.ask) p) y.net.log) (sym path) has;
       sent = ap (λ (y : World S). y.net.posts) path;
-      answered = answered key t.ask (w.net.numbers key) e.begin p since fits u (event_kept S shop opening W x bound w s (Deliver number free)) kept ready;
+      answered = answered key t.ask (w.net.numbers key) e.begin p since fits u (event_kept S model opening W x bound w s (Deliver number free)) kept ready;
     }
       where
         u : World S
-        u = happens S shop x w (Deliver number free)
+        u = happens S model x w (Deliver number free)
 
         kept : IsKept x Any key (w.net.numbers key) t.ask e.begin (answer_to x key t.ask p) since u.net
         kept = subst (λ (y : World S). IsKept x Any key (w.net.numbers key) t.ask e.begin (answer_to x key t.ask p) since y.net) (sym path) (record {
@@ -270,20 +270,20 @@ module _ (S : Type 0) (shop : StoreModel S) (opening : ℕ → S) (W : ℕ) (x :
 
     -- it was performed before: the entry was begun for the ask
     again : (request : Option Octets) → (h : HasPerformed x w.net key t.ask request p) → (a : Apdu) → is_from_client a ≡ true
-        → (number : ℕ) (free : Bool) → (t.ask.whole ≡ true) ⊎ SendsAll key t.ask p (happens S shop x w (Deliver number free))
+        → (number : ℕ) (free : Bool) → (t.ask.whole ≡ true) ⊎ SendsAll key t.ask p (happens S model x w (Deliver number free))
         → IsOnItsWay x w.net key a number
-        → (h.entry.choice ≡ t.ask.choice → server.server_on_apdu (server_context x key w.net.now) (service_of S shop w key) (Some h.entry) (is_room w.net key free) a
+        → (h.entry.choice ≡ t.ask.choice → server.server_on_apdu (server_context x key w.net.now) (service_of S model w key) (Some h.entry) (is_room w.net key free) a
         ≡ answers_again h.entry (answer_to x key t.ask p))
-        → IsServed S shop x key t.ask p w (happens S shop x w (Deliver number free))
+        → IsServed S model x key t.ask p w (happens S model x w (Deliver number free))
     again request h a up number free ready m gets =
         served_by h.entry None h.state begun.after
         (reply_was x key (w.net.numbers key) t.ask.first t.ask.choice t.ask w.net.log p
         (kept_was W (w.net.numbers key) t.ask (answer_to x key t.ask p) known.0 known.1 w.net.log
         (subst (λ (st : State). StateFits W (w.net.numbers key) t.ask st known.0 known.1 w.net.log) h.state begun.state)))
         number free ready
-        (request_now S shop x w key a number free up m
-        ∙ ap (λ (o : Option ServerTransaction). serves S shop w key (server.server_on_apdu (server_context x key w.net.now) (service_of S shop w key) o (is_room w.net key free) a)) h.at
-        ∙ ap (serves S shop w key) (gets begun.choice))
+        (request_now S model x w key a number free up m
+        ∙ ap (λ (o : Option ServerTransaction). serves S model w key (server.server_on_apdu (server_context x key w.net.now) (service_of S model w key) o (is_room w.net key free) a)) h.at
+        ∙ ap (serves S model w key) (gets begun.choice))
       where
         known : (up : Up) × (down : Down) × SoundWith w key t up down
         known = sound w s key t at
@@ -293,34 +293,34 @@ module _ (S : Type 0) (shop : StoreModel S) (opening : ℕ → S) (W : ℕ) (x :
 
     -- a request of one APDU
     pub trip : t.ask.whole ≡ true → (free : Bool)
-        → CanPerform S shop w key t.ask free p ⊎ HasPerformed x w.net key t.ask (Some (join t.ask.pieces)) p
+        → CanPerform S model w key t.ask free p ⊎ HasPerformed x w.net key t.ask (Some (join t.ask.pieces)) p
         → (number : ℕ) → IsOnItsWay x w.net key (request_to x key t.ask) number
-        → IsServed S shop x key t.ask p w (happens S shop x w (Deliver number free))
+        → IsServed S model x key t.ask p w (happens S model x w (Deliver number free))
     trip whole free (inr h) number m = again (Some (join t.ask.pieces)) h (request_to x key t.ask) refl number free (inl whole) m
-        (λ choice. serves_again (server_context x key w.net.now) (client_context x key t.ask.first) (service_of S shop w key) h.entry (is_room w.net key free) t.ask
+        (λ choice. serves_again (server_context x key w.net.now) (client_context x key t.ask.first) (service_of S model w key) h.entry (is_room w.net key free) t.ask
         (answer_to x key t.ask p) h.live h.state choice h.request_is)
     trip whole free (inl c) number m = served_by
         (performed_entry w.net.now (client_context x key t.ask.first) t.ask (answer_to x key t.ask p))
         (Some (record { request = client.request_of t.ask; reply = p })) refl (((sound w s key t at).2).clock) (inl refl) number free (inl whole)
-        (request_now S shop x w key (request_to x key t.ask) number free refl m
-        ∙ ap (λ b. serves S shop w key (server.server_on_apdu (server_context x key w.net.now) (service_of S shop w key) (w.net.entries key) b
+        (request_now S model x w key (request_to x key t.ask) number free refl m
+        ∙ ap (λ b. serves S model w key (server.server_on_apdu (server_context x key w.net.now) (service_of S model w key) (w.net.entries key) b
         (request_to x key t.ask))) (room_is w key free c.slot c.serving)
-        ∙ ap (serves S shop w key) (serves_new (server_context x key w.net.now) (client_context x key t.ask.first) (service_of S shop w key)
+        ∙ ap (serves S model w key) (serves_new (server_context x key w.net.now) (client_context x key t.ask.first) (service_of S model w key)
         (w.net.entries key) t.ask p c.none c.outcome fits.way)
-        ∙ ap (λ (a : Apdu). serves S shop w key (answers_first (performed_entry w.net.now (client_context x key t.ask.first) t.ask a) t.ask p a))
+        ∙ ap (λ (a : Apdu). serves S model w key (answers_first (performed_entry w.net.now (client_context x key t.ask.first) t.ask a) t.ask p a))
         (answer_any_time x key w.net.now t.ask.first t.ask.choice p))
 
     -- a segment of a request that was performed
     pub trip_of_segment : HasPerformed x w.net key t.ask None p → (number piece : ℕ) (free : Bool)
-        → SendsAll key t.ask p (happens S shop x w (Deliver number free)) → IsOnItsWay x w.net key (segment_to x key t.ask piece) number
-        → IsServed S shop x key t.ask p w (happens S shop x w (Deliver number free))
+        → SendsAll key t.ask p (happens S model x w (Deliver number free)) → IsOnItsWay x w.net key (segment_to x key t.ask piece) number
+        → IsServed S model x key t.ask p w (happens S model x w (Deliver number free))
     trip_of_segment h number piece free all m = again None h (segment_to x key t.ask piece) refl number free (inr all) m
-        (λ choice. serves_segment (server_context x key w.net.now) (client_context x key t.ask.first) (service_of S shop w key) h.entry (is_room w.net key free) t.ask
+        (λ choice. serves_segment (server_context x key w.net.now) (client_context x key t.ask.first) (service_of S model w key) h.entry (is_room w.net key free) t.ask
         (answer_to x key t.ask p) h.live h.state h.request_is piece)
 
-  pub reached : (events : List Event) → Kept S shop opening W x bound (run S shop x events (start S opening))
-  reached events = run_kept S shop opening W x bound events (start S opening) (start_kept S shop opening W x bound)
+  pub reached : (events : List Event) → Kept S model opening W x bound (run S model x events (start S opening))
+  reached events = run_kept S model opening W x bound events (start S opening) (start_kept S model opening W x bound)
 
-  pub round_trips : (events : List Event) → RoundTripSuffices S shop x (run S shop x events (start S opening))
+  pub round_trips : (events : List Event) → RoundTripSuffices S model x (run S model x events (start S opening))
   round_trips events key t at whole p fits free can number m =
-      trip (run S shop x events (start S opening)) (reached events) key t at p fits whole free can number m
+      trip (run S model x events (start S opening)) (reached events) key t at p fits whole free can number m

@@ -16,16 +16,16 @@ use Rattle.bac_liveness.proofs.Deliveries.{Within, within_then}
 use Rattle.bac_liveness.proofs.Acks.{acks_read, moving}
 use Rattle.bac_liveness.proofs.Windows.{repeated, length_repeated, quiet, takes_old, Channel, Acked, naks_on, took_at, quiet_on, fresh_on}
 
-module _ (S : Type 0) (shop : StoreModel S) (x : Rules) (now number : ℕ) (key : Key) (actual own : ℕ) (ps : List Octets)
-    (sizes : Fitting x.overtake actual own ps) (near : actual < 256) (c : Channel S shop x now number key actual own ps) where
+module _ (S : Type 0) (model : StoreModel S) (x : Rules) (now number : ℕ) (key : Key) (actual own : ℕ) (ps : List Octets)
+    (sizes : Fitting x.overtake actual own ps) (near : actual < 256) (c : Channel S model x now number key actual own ps) where
   abbrev n : ℕ
   n = length ps
 
   abbrev Goes : ℕ → TransactionPair S → TransactionPair S → Type 0
-  Goes most p q = Within S shop x now number key most p q
+  Goes most p q = Within S model x now number key most p q
 
   abbrev AckedOf : TransactionPair S → ℕ → Sender → (a before t k : ℕ) → Type 0
-  AckedOf from most s a before t k = Acked S shop x now number key actual own ps sizes near c from most s a before t k
+  AckedOf from most s a before t k = Acked S model x now number key actual own ps sizes near c from most s a before t k
 
   -- a sender has sent its window, of which its receiver has taken the pieces below t; its window is the actual one, or it has sent one piece alone
   pub record IsRound (s : Sender) (inc : Incoming) (t : ℕ) : Type 0 where
@@ -64,7 +64,7 @@ module _ (S : Type 0) (shop : StoreModel S) (x : Rules) (now number : ℕ) (key 
       → r + k ≡ w → t + r < n → Delivered (c.ends s inc m (pieces_from c.piece s.out.first w)) r s t (t + r) k
   window_new s inc m t r k w h timely in_w at all left =
       let most = h.most in
-      let f = fresh_on S shop x now number key actual own ps sizes near c r w t k s.out.first s inc m (omega arith) h.behind left (omega arith) timely
+      let f = fresh_on S model x now number key actual own ps sizes near c r w t k s.out.first s inc m (omega arith) h.behind left (omega arith) timely
       h.actual_is h.taken h.parts in
       let a = f.acked in
       let few = a.few in
@@ -106,15 +106,15 @@ module _ (S : Type 0) (shop : StoreModel S) (x : Rules) (now number : ℕ) (key 
       let from = c.ends s inc m (c.piece a ∷ rest) in
       let one = c.naks s inc m a q rest timely h.actual_is (omega arith) (omega arith)
       (takes_old inc a (nat_lt (a + 1) n) (get_or ps a []) (omega arith) (omega arith)) in
-      let two = naks_on S shop x now number key actual own ps sizes near c d w 1 (a + 1) (r + k) q s inc (omega arith) (omega arith) (omega arith)
+      let two = naks_on S model x now number key actual own ps sizes near c d w 1 (a + 1) (r + k) q s inc (omega arith) (omega arith) (omega arith)
       (omega arith) h.actual_is in
       let tail = repeated (1 + d) nak in
       let e = length_repeated (1 + d) nak in
       let g : t ≡ q + 1 = omega arith in
-      let three = quiet_on S shop x now number key actual own ps sizes near c r (r + k) (q + 1) k s (quiet inc) now tail refl (omega arith) (omega arith)
+      let three = quiet_on S model x now number key actual own ps sizes near c r (r + k) (q + 1) k s (quiet inc) now tail refl (omega arith) (omega arith)
       (omega arith) (omega arith) c.in_time h.actual_is (omega arith) (subst (λ (i : ℕ). inc.parts ≡ take i ps) g h.parts) in
       let mid = c.ends s (quiet inc) now (pieces_from c.piece (q + 1) (r + k) ++ tail) in
-      let z = took_at S shop x now number key actual own ps sizes near c mid r s (q + 1 + r) (t + r) k tail (omega arith) three in
+      let z = took_at S model x now number key actual own ps sizes near c mid r s (q + 1 + r) (t + r) k tail (omega arith) three in
       let end = c.ends s z.inc z.m (pieces_from c.piece (t + r) k ++ tail) in
       record {
         acked = record {
@@ -132,8 +132,8 @@ module _ (S : Type 0) (shop : StoreModel S) (x : Rules) (now number : ℕ) (key 
           few = omega arith;
           new = omega arith;
           old = omega arith;
-          reaches = within_then S shop x now number key (1 + d) r (suc d + r) from mid end (omega arith)
-              (within_then S shop x now number key 1 d (1 + d) from (c.ends s (quiet inc) now (rest ++ nak ∷ [])) mid (omega arith) one two) z.reaches;
+          reaches = within_then S model x now number key (1 + d) r (suc d + r) from mid end (omega arith)
+              (within_then S model x now number key 1 d (1 + d) from (c.ends s (quiet inc) now (rest ++ nak ∷ [])) mid (omega arith) one two) z.reaches;
         };
         some = λ some none part. omega arith;
       }
@@ -194,7 +194,7 @@ module _ (S : Type 0) (shop : StoreModel S) (x : Rules) (now number : ℕ) (key 
           let mid = c.ends s a.inc a.m acks in
           let one : Goes (d + r) (sent s inc m) mid = subst (λ (i : ℕ). Goes (d + r) (sent s inc m) (c.ends s a.inc a.m
           (repeated i (c.ack a.nak (q % 256))))) e a.reaches in
-          let two = acks_read S shop x now number key actual own ps sizes near (moving S shop x now number key actual own ps c a.inc a.m) j s a.nak q []
+          let two = acks_read S model x now number key actual own ps sizes near (moving S model x now number key actual own ps c a.inc a.m) j s a.nak q []
           h.pieces most (omega arith) (omega arith) (omega arith) (omega arith) in
           let two' = subst (λ (zs : List Apdu). Goes (suc j) (c.ends s a.inc a.m zs) (sent s' a.inc a.m)) (append-nil acks) two in
           record {
@@ -218,7 +218,7 @@ module _ (S : Type 0) (shop : StoreModel S) (x : Rules) (now number : ℕ) (key 
             most = d + r + suc j;
             goes = omega arith;
             cheap = omega arith;
-            reaches = within_then S shop x now number key (d + r) (suc j) (d + r + suc j) (sent s inc m) mid (sent s' a.inc a.m) (omega arith) one two';
+            reaches = within_then S model x now number key (d + r) (suc j) (d + r + suc j) (sent s inc m) mid (sent s' a.inc a.m) (omega arith) one two';
           }
 
   -- Of all pieces the last alone is left; the SegmentACKs on their way are all of one piece.
@@ -318,7 +318,7 @@ module _ (S : Type 0) (shop : StoreModel S) (x : Rules) (now number : ℕ) (key 
         old = y.old;
         spent = z.most + y.spent;
         cheap = omega arith;
-        reaches = within_then S shop x now number key z.most y.spent (z.most + y.spent) (sent s inc m) (sent z.next z.inc z.m)
+        reaches = within_then S model x now number key z.most y.spent (z.most + y.spent) (sent s inc m) (sent z.next z.inc z.m)
             (c.ends y.s y.inc y.m (c.piece y.p ∷ repeated y.acks (c.ack y.nak (y.q % 256)))) (omega arith) z.reaches y.reaches;
       }
 

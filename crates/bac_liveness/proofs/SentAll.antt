@@ -26,27 +26,27 @@ all_beside actual ask AwaitConfirmation e kept state h = tt
 all_beside actual ask (SegmentedConf inc) e kept state h = tt
 all_beside actual ask Idle e kept state h = tt
 
-module _ (S : Type 0) (shop : StoreModel S) (opening : ℕ → S) (W : ℕ) (x : Rules) (bound : IsBounded W x) where
+module _ (S : Type 0) (model : StoreModel S) (opening : ℕ → S) (W : ℕ) (x : Rules) (bound : IsBounded W x) where
   abbrev SentIn : Key → Ask → Reply → World S → Type 0
-  SentIn key ask p v = SendsAll S shop opening W x bound key ask p v
+  SentIn key ask p v = SendsAll S model opening W x bound key ask p v
 
-  sends_all : (events : List Event) (key : Key) → HasWindows x key → (ask : Ask) (p : Reply) → SentIn key ask p (run S shop x events (start S opening))
+  sends_all : (events : List Event) (key : Key) → HasWindows x key → (ask : Ask) (p : Reply) → SentIn key ask p (run S model x events (start S opening))
   sends_all events key windows ask p t there is young e at live state =
-      let v = run S shop x events (start S opening) in
+      let v = run S model x events (start S opening) in
       let in_time : v.net.now - t.ask.first ≤ DEADLINE = subst (λ (a : Ask). v.net.now - a.first ≤ DEADLINE) (sym is) young in
       let entry : live_entry v.net.now (v.net.entries key) ≡ Some e = ap (live_entry v.net.now) at ∙ live_self v.net.now e live in
-      let stays = entry_stays S shop opening W x bound v (reached S shop opening W x bound events) key t there e at live in
-      let step = ends_in_step S shop opening W x bound events key windows t there stays in_time in
+      let stays = entry_stays S model opening W x bound v (reached S model opening W x bound events) key t there e at live in
+      let step = ends_in_step S model opening W x bound events key windows t there stays in_time in
       all_beside (lesser_window x key) t.ask t.phase e (answer_to x key ask p) state
       (subst (λ (y : Option ServerTransaction). Stands (lesser_window x key) t.ask t.phase y) entry step.stand)
 
-  run_join : (before after : List Event) (w : World S) → run S shop x (before ++ after) w ≡ run S shop x after (run S shop x before w)
+  run_join : (before after : List Event) (w : World S) → run S model x (before ++ after) w ≡ run S model x after (run S model x before w)
   run_join [] after w = refl
-  run_join (e ∷ before) after w = run_join before after (happens S shop x w e)
+  run_join (e ∷ before) after w = run_join before after (happens S model x w e)
 
-  pub round_trips_in_segments : (events : List Event) → RoundTripSufficesInSegments S shop x (run S shop x events (start S opening))
+  pub round_trips_in_segments : (events : List Event) → RoundTripSufficesInSegments S model x (run S model x events (start S opening))
   round_trips_in_segments events key windows t at p fits h number piece free =
-      trip_of_segment S shop opening W x bound (run S shop x events (start S opening)) (reached S shop opening W x bound events) key t at p fits h
+      trip_of_segment S model opening W x bound (run S model x events (start S opening)) (reached S model opening W x bound events) key t at p fits h
       number piece free
       (subst (SentIn key t.ask p) (run_join events (Deliver number free ∷ []) (start S opening))
       (sends_all (events ++ Deliver number free ∷ []) key windows t.ask p))

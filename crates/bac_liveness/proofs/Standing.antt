@@ -260,32 +260,32 @@ module _ (W : ℕ) (x : Rules) (bound : IsBounded W x) (key : Key) (some : 0 < l
       let f = there now o e is in
       in_step_beside e f.at (live_begun_for e f.at f.live)
 
-pub ends_in_step : (S : Type 0) (shop : StoreModel S) (opening : ℕ → S) (W : ℕ) (x : Rules) → IsBounded W x → (events : List Event)
-    → EndsAreInStep S x (run S shop x events (start S opening))
-ends_in_step S shop opening W x bound events key windows t at stays young =
-    let w = run S shop x events (start S opening) in
-    let s = run_kept S shop opening W x bound events (start S opening) (start_kept S shop opening W x bound) in
+pub ends_in_step : (S : Type 0) (model : StoreModel S) (opening : ℕ → S) (W : ℕ) (x : Rules) → IsBounded W x → (events : List Event)
+    → EndsAreInStep S x (run S model x events (start S opening))
+ends_in_step S model opening W x bound events key windows t at stays young =
+    let w = run S model x events (start S opening) in
+    let s = run_kept S model opening W x bound events (start S opening) (start_kept S model opening W x bound) in
     let a = windows.client in
     let b = windows.server in
     let some : 0 < lesser_window x key = omega arith in
-    let flow = flows_in_run W x bound key some S shop opening events t at in
-    let own = own_in_run x S shop opening events in
+    let flow = flows_in_run W x bound key some S model opening events t at in
+    let own = own_in_run x S model opening events in
     let f = sound_at W w.net key (Some t) at s.net in
     in_step W x bound key some (w.net.serves_from key.server) w.net.now w.net.asks (w.net.numbers key) t (w.net.entries key) (copies_of key w.net.posts) w.net.log flow f.0 f.1 f.2
     stays young (own.entries key) (subst (λ (y : Option ClientTransaction). TicketHas (IsLesser x key) y) at (own.tickets key))
     (live_entry w.net.now (w.net.entries key)) refl
 
-module _ (S : Type 0) (shop : StoreModel S) (opening : ℕ → S) (W : ℕ) (x : Rules) (bound : IsBounded W x) (events : List Event) where
+module _ (S : Type 0) (model : StoreModel S) (opening : ℕ → S) (W : ℕ) (x : Rules) (bound : IsBounded W x) (events : List Event) where
   abbrev reached : World S
-  reached = run S shop x events (start S opening)
+  reached = run S model x events (start S opening)
 
-  pub after_any_past : AfterAnyPast S shop x reached
+  pub after_any_past : AfterAnyPast S model x reached
   after_any_past key t at stays good p can as_client as_server turn count v straight stops =
-      in_step_is_answered S shop opening W x bound events key t at
-      (ends_in_step S shop opening W x bound events key (record { client = good.client; server = good.server }) t at stays can.in_time)
+      in_step_is_answered S model opening W x bound events key t at
+      (ends_in_step S model opening W x bound events key (record { client = good.client; server = good.server }) t at stays can.in_time)
       good p can as_client as_server turn count v straight stops
 
-  pub answering_run : AnsweringRunExists S shop x reached
+  pub answering_run : AnsweringRunExists S model x reached
   answering_run key t at stays good p can =
-      in_step_runs S shop opening W x bound reached (run_kept S shop opening W x bound events (start S opening) (start_kept S shop opening W x bound))
-      key t at good p can (ends_in_step S shop opening W x bound events key (record { client = good.client; server = good.server }) t at stays can.in_time)
+      in_step_runs S model opening W x bound reached (run_kept S model opening W x bound events (start S opening) (start_kept S model opening W x bound))
+      key t at good p can (ends_in_step S model opening W x bound events key (record { client = good.client; server = good.server }) t at stays can.in_time)

@@ -21,7 +21,7 @@ use Rattle.bac_liveness.proofs.Paths.{some_is}
 use Rattle.bac_liveness.proofs.Endings.{contains_tail}
 use Rattle.bac_liveness.proofs.Waits.{EntryFits, Patient, ticks_by, tick_repeats, patient_on}
 
-module _ (S : Type 0) (shop : StoreModel S) (x : Rules) (key : Key) where
+module _ (S : Type 0) (model : StoreModel S) (x : Rules) (key : Key) where
   -- what a world of that moment shows of the transaction
   pub record Shows (now : ℕ) (t : ClientTransaction) (o : Option ServerTransaction) (copies : List Copy) (u : World S) : Type 0 where
     pub moment : u.net.now ≡ now
@@ -57,7 +57,7 @@ module _ (S : Type 0) (shop : StoreModel S) (x : Rules) (key : Key) where
             ∙ ap (λ (m : ℕ). reacts S u key t (client.client_ticks (client_context x key m) t)) h.moment ∙ ap (reacts S u key t) is
 
     -- another entry ticks, and its own, where that does nothing
-    other_entry : (u : World S) (k : Key) (v : server.Reaction) → (k ≡ key → ⊥) → Shows now t o copies u → Shows now t o copies (serves S shop u k v)
+    other_entry : (u : World S) (k : Key) (v : server.Reaction) → (k ≡ key → ⊥) → Shows now t o copies u → Shows now t o copies (serves S model u k v)
     other_entry u k v ne h = record {
       moment = h.moment;
       ticket = h.ticket;
@@ -66,8 +66,8 @@ module _ (S : Type 0) (shop : StoreModel S) (x : Rules) (key : Key) where
     }
 
     own_entry : (u : World S) → server.server_ticks (server_context x key now) o ≡ server.rests o [] → Shows now t o copies u
-        → Shows now t o copies (serves S shop u key (server.server_ticks (server_context x key u.net.now) (u.net.entries key)))
-    own_entry u quiet h = subst (λ (v : server.Reaction). Shows now t o copies (serves S shop u key v)) (sym path) (record {
+        → Shows now t o copies (serves S model u key (server.server_ticks (server_context x key u.net.now) (u.net.entries key)))
+    own_entry u quiet h = subst (λ (v : server.Reaction). Shows now t o copies (serves S model u key v)) (sym path) (record {
       moment = h.moment;
       ticket = h.ticket;
       entry = set_same u.net.entries key o;
@@ -89,12 +89,12 @@ module _ (S : Type 0) (shop : StoreModel S) (x : Rules) (key : Key) where
         go (inr ne) = other_ticket u k ne (u.net.tickets k) h
 
     pub servers_rest : server.server_ticks (server_context x key now) o ≡ server.rests o [] → (keys : List Key) (u : World S) → Shows now t o copies u
-        → Shows now t o copies (ticks_as_server S shop x keys u)
+        → Shows now t o copies (ticks_as_server S model x keys u)
     servers_rest quiet [] u h = h
     servers_rest quiet (k ∷ keys) u h = servers_rest quiet keys (ticked k) (go (decide_key k key))
       where
         ticked : Key → World S
-        ticked j = serves S shop u j (server.server_ticks (server_context x j u.net.now) (u.net.entries j))
+        ticked j = serves S model u j (server.server_ticks (server_context x j u.net.now) (u.net.entries j))
 
         go : ((k ≡ key) ⊎ (k ≡ key → ⊥)) → Shows now t o copies (ticked k)
         go (inl same) = subst (λ (j : Key). Shows now t o copies (ticked j)) (sym same) (own_entry u quiet h)
@@ -148,7 +148,7 @@ module _ (S : Type 0) (shop : StoreModel S) (x : Rules) (key : Key) where
         → Patient x key ask number v.net.now t → v.net.now < ask.first + PATIENCE → T_OUT ≤ v.net.now - t.since
         → EntryFits x key ask number v.net.now (v.net.entries key) v.net.log → Contains as_client key
         → Shows v.net.now (record t { repeats = t.repeats - 1; since = v.net.now }) (v.net.entries key)
-        (record { moment = v.net.now; apdu = request_to x key ask } ∷ copies_of key v.net.posts) (happens S shop x v (Tick as_client as_server))
+        (record { moment = v.net.now; apdu = request_to x key ask } ∷ copies_of key v.net.posts) (happens S model x v (Tick as_client as_server))
     tick_sends v t as_client as_server at is w young due fits i =
         servers_rest v.net.now (after v.net.now t r) (v.net.entries key) (sent v.net.now (sends_of r) (copies_of key v.net.posts))
         (quiet_entry v.net.now (v.net.entries key) v.net.log young fits) as_server (ticks_as_client S x as_client v)

@@ -62,8 +62,8 @@ done_fits : (W number : ℕ) (ask : Ask) (kept : Apdu) (up : Up) (down : Down) (
 done_fits W number ask kept up Unsent log h = h.1
 done_fits W number ask kept up (Sent ps a b) log h = absurd h
 
-module _ (S : Type 0) (shop : StoreModel S) (opening : ℕ → S) (W : ℕ) (x : Rules) (bound : IsBounded W x) (w : World S)
-    (kept_in : Kept S shop opening W x bound w) (key : Key) (t : ClientTransaction) (at : w.net.tickets key ≡ Some t) where
+module _ (S : Type 0) (model : StoreModel S) (opening : ℕ → S) (W : ℕ) (x : Rules) (bound : IsBounded W x) (w : World S)
+    (kept_in : Kept S model opening W x bound w) (key : Key) (t : ClientTransaction) (at : w.net.tickets key ≡ Some t) where
   abbrev now : ℕ
   now = w.net.now
 
@@ -73,8 +73,8 @@ module _ (S : Type 0) (shop : StoreModel S) (opening : ℕ → S) (W : ℕ) (x :
   state_fits : (e : ServerTransaction) → w.net.entries key ≡ Some e → is_live now e ≡ true → (st : State) → e.state ≡ st
       → (up : Up) × (down : Down) × StateFits W number t.ask st up down w.net.log
   state_fits e entry live st is =
-      let known = sound S shop opening W x bound w kept_in key t at in
-      let begun = begun_for S shop opening W x bound w key t known.0 known.1 known.2 e entry (inl live) in
+      let known = sound S model opening W x bound w kept_in key t at in
+      let begun = begun_for S model opening W x bound w key t known.0 known.1 known.2 e entry (inl live) in
       (known.0, known.1, subst (λ (y : State). StateFits W number t.ask y known.0 known.1 w.net.log) is begun.state)
 
   pub done_performed : (e : ServerTransaction) → w.net.entries key ≡ Some e → is_live now e ≡ true → (kept : Apdu) → e.state ≡ Done kept → (p : reply)
@@ -96,9 +96,9 @@ module _ (S : Type 0) (shop : StoreModel S) (opening : ℕ → S) (W : ℕ) (x :
   pub ticked : w.net.serves_from key.server ≤ now → (r : client.Reaction) (q : TransactionPair S) → client.client_ticks (client_context x key now) t ≡ r → client.after now t r ≡ q.ticket
       → client.sends_of r ≡ q.pending → client.ending_of r ≡ None → w.stores ≡ q.stores → w.net.log ≡ q.log
       → live_entry now (w.net.entries key) ≡ live_entry now q.entry
-      → Shows S shop x now number key (happens S shop x w (Tick (key ∷ []) [])) q (length w.net.posts)
+      → Shows S model x now number key (happens S model x w (Tick (key ∷ []) [])) q (length w.net.posts)
   ticked serving r q is ticket sends none stores log entry =
-      subst (λ (v : World S). Shows S shop x now number key v q (length w.net.posts))
+      subst (λ (v : World S). Shows S model x now number key v q (length w.net.posts))
       (sym (ap (ticks_ticket S x w key) at ∙ ap (reacts S w key t) is))
       (record {
         ticket = set_same w.net.tickets key (Some (client.after now t r)) ∙ ap Some ticket;
@@ -120,9 +120,9 @@ module _ (S : Type 0) (shop : StoreModel S) (opening : ℕ → S) (W : ℕ) (x :
       → q.entry ≡ Some (record e { state = SegmentedResponse (record out { retries = out.retries - 1 }) Running now })
       → q.pending ≡ server.reply_window (server_context x key now) e.choice (record out { retries = out.retries - 1 })
       → q.stores ≡ w.stores → q.log ≡ w.net.log
-      → Shows S shop x now number key (happens S shop x w (Tick [] (key ∷ []))) q (length w.net.posts)
+      → Shows S model x now number key (happens S model x w (Tick [] (key ∷ []))) q (length w.net.posts)
   server_ticked serving e entry live out since is due left q ticket entry_is pending stores log =
-      subst (λ (v : World S). Shows S shop x now number key v q (length w.net.posts)) (sym (ap (serves S shop w key) ticks))
+      subst (λ (v : World S). Shows S model x now number key v q (length w.net.posts)) (sym (ap (serves S model w key) ticks))
       (record {
         ticket = at ∙ ap Some (sym ticket);
         entry = ap (live_entry now) (set_same w.net.entries key (Some next) ∙ sym entry_is);
@@ -164,14 +164,14 @@ module _ (S : Type 0) (shop : StoreModel S) (opening : ℕ → S) (W : ℕ) (x :
     pub before : List Fact
     pub log_is : end.log ≡ Ended number (Answered p) ∷ before
     pub performed : Has (Performed number (request_of t.ask) p) before
-    pub reaches : Starts S shop x now number key most from end
+    pub reaches : Starts S model x now number key most from end
 
-  pub finish : (p : reply) (most : ℕ) (u v : World S) (q : TransactionPair S) (count : ℕ) → Shows S shop x now number key u q (length w.net.posts)
+  pub finish : (p : reply) (most : ℕ) (u v : World S) (q : TransactionPair S) (count : ℕ) → Shows S model x now number key u q (length w.net.posts)
       → Finishes most p q → most ≤ 3 * request_count t.ask.whole t.ask.pieces + 3 * way_count (way_to x key p)
-      → Straight S (λ u e y. y ≡ happens S shop x u e) key true count (length w.net.posts) u v → Stops S key (length w.net.posts + count) v
+      → Straight S (λ u e y. y ≡ happens S model x u e) key true count (length w.net.posts) u v → Stops S key (length w.net.posts + count) v
       → IsAnsweredIn S x key t number p count v
   finish p most u v q count shows h le run stops =
-      let f = starts_follow S shop x now number key most count (length w.net.posts) u v q h.end h.reaches h.idle shows run stops in
+      let f = starts_follow S model x now number key most count (length w.net.posts) u v q h.end h.reaches h.idle shows run stops in
       let counts = f.counts in
       let starts = h.reaches in
       let few = starts.most_is in

@@ -72,10 +72,10 @@ due_repeats c t whole d =
     left : nat_eq t.repeats 0 ≡ false
     left = let y = d.left in grind (arith, nat_tests)
 
-module _ (S : Type 0) (shop : StoreModel S) (opening : ℕ → S) (W : ℕ) (x : Rules) (bound : IsBounded W x) where
-  module _ (w : World S) (s : Kept S shop opening W x bound w) (key : Key) (t : ClientTransaction) (at : w.net.tickets key ≡ Some t) (whole : t.ask.whole ≡ true)
+module _ (S : Type 0) (model : StoreModel S) (opening : ℕ → S) (W : ℕ) (x : Rules) (bound : IsBounded W x) where
+  module _ (w : World S) (s : Kept S model opening W x bound w) (key : Key) (t : ClientTransaction) (at : w.net.tickets key ≡ Some t) (whole : t.ask.whole ≡ true)
       (d : IsDue w.net.now t) (p : Reply) (fits : FitsInOne x key t.ask p) (free other : Bool)
-      (can : CanPerform S shop w key t.ask free p ⊎ HasPerformed x w.net key t.ask (Some (join t.ask.pieces)) p) where
+      (can : CanPerform S model w key t.ask free p ⊎ HasPerformed x w.net key t.ask (Some (join t.ask.pieces)) p) where
     -- the tick
     abbrev r : client.Reaction
     r = Repeats t.phase (request_to x key t.ask ∷ [])
@@ -83,11 +83,11 @@ module _ (S : Type 0) (shop : StoreModel S) (opening : ℕ → S) (W : ℕ) (x :
     abbrev v : World S
     v = reacts S w key t r
 
-    ticked : happens S shop x w (Tick (key ∷ []) []) ≡ v
+    ticked : happens S model x w (Tick (key ∷ []) []) ≡ v
     ticked = ap (ticks_ticket S x w key) at ∙ ap (reacts S w key t) (due_repeats (client_context x key w.net.now) t whole d)
 
-    v_sound : Kept S shop opening W x bound v
-    v_sound = subst (λ (y : World S). Kept S shop opening W x bound y) ticked (event_kept S shop opening W x bound w s (Tick (key ∷ []) []))
+    v_sound : Kept S model opening W x bound v
+    v_sound = subst (λ (y : World S). Kept S model opening W x bound y) ticked (event_kept S model opening W x bound w s (Tick (key ∷ []) []))
 
     abbrev t_next : ClientTransaction
     t_next = client.after w.net.now t r
@@ -98,20 +98,20 @@ module _ (S : Type 0) (shop : StoreModel S) (opening : ℕ → S) (W : ℕ) (x :
     request : IsOnItsWay x v.net key (request_to x key t.ask) (length w.net.posts)
     request = last_on_its_way S x v key (request_to x key t.ask) w.net.posts refl
 
-    can_now : CanPerform S shop w key t.ask free p ⊎ HasPerformed x w.net key t.ask (Some (join t.ask.pieces)) p
-        → CanPerform S shop v key t.ask free p ⊎ HasPerformed x v.net key t.ask (Some (join t.ask.pieces)) p
+    can_now : CanPerform S model w key t.ask free p ⊎ HasPerformed x w.net key t.ask (Some (join t.ask.pieces)) p
+        → CanPerform S model v key t.ask free p ⊎ HasPerformed x v.net key t.ask (Some (join t.ask.pieces)) p
     can_now (inl c) = inl (record { none = c.none; slot = c.slot; serving = c.serving; outcome = c.outcome })
     can_now (inr h) = inr (record { entry = h.entry; at = h.at; live = h.live; request_is = h.request_is; state = h.state })
 
     -- the first delivery
     abbrev u : World S
-    u = happens S shop x v (Deliver (length w.net.posts) free)
+    u = happens S model x v (Deliver (length w.net.posts) free)
 
-    served : IsServed S shop x key t.ask p v u
-    served = trip S shop opening W x bound v v_sound key t_next t_there p fits whole free (can_now can) (length w.net.posts) request
+    served : IsServed S model x key t.ask p v u
+    served = trip S model opening W x bound v v_sound key t_next t_there p fits whole free (can_now can) (length w.net.posts) request
 
-    u_is : u ≡ takes_at_server S shop x v key free (request_to x key t.ask)
-    u_is = request_now S shop x v key (request_to x key t.ask) (length w.net.posts) free refl request
+    u_is : u ≡ takes_at_server S model x v key free (request_to x key t.ask)
+    u_is = request_now S model x v key (request_to x key t.ask) (length w.net.posts) free refl request
 
     u_now : u.net.now ≡ w.net.now
     u_now = ap (λ (y : World S). y.net.now) u_is
@@ -126,10 +126,10 @@ module _ (S : Type 0) (shop : StoreModel S) (opening : ℕ → S) (W : ℕ) (x :
 
     -- the second
     turn_at_v : Has (Performed (w.net.numbers key) (request_of t.ask) p) u.net.log
-        × IsAnsweredNow S key (w.net.numbers key) p u (happens S shop x u (Deliver (length w.net.posts + 1) other))
+        × IsAnsweredNow S key (w.net.numbers key) p u (happens S model x u (Deliver (length w.net.posts + 1) other))
     turn_at_v = (
       served.performed,
-      subst (λ (k : ℕ). IsAnsweredNow S key (w.net.numbers key) p u (happens S shop x u (Deliver k other)))
+      subst (λ (k : ℕ). IsAnsweredNow S key (w.net.numbers key) p u (happens S model x u (Deliver k other)))
           (number_is w.net.posts (post_of key w.net.now (request_to x key t.ask)))
           (served.answered [] (record {
             ticket = t_next;
@@ -139,14 +139,14 @@ module _ (S : Type 0) (shop : StoreModel S) (opening : ℕ → S) (W : ℕ) (x :
           }) (length v.net.posts) answer other),
     )
 
-    pub turn : (let y = happens S shop x (happens S shop x w (Tick (key ∷ []) [])) (Deliver (length w.net.posts) free) in
+    pub turn : (let y = happens S model x (happens S model x w (Tick (key ∷ []) [])) (Deliver (length w.net.posts) free) in
         Has (Performed (w.net.numbers key) (request_of t.ask) p) y.net.log
-        × IsAnsweredNow S key (w.net.numbers key) p y (happens S shop x y (Deliver (length w.net.posts + 1) other)))
-    turn = subst (λ (a : World S). let y = happens S shop x a (Deliver (length w.net.posts) free) in
+        × IsAnsweredNow S key (w.net.numbers key) p y (happens S model x y (Deliver (length w.net.posts + 1) other)))
+    turn = subst (λ (a : World S). let y = happens S model x a (Deliver (length w.net.posts) free) in
         Has (Performed (w.net.numbers key) (request_of t.ask) p) y.net.log
-        × IsAnsweredNow S key (w.net.numbers key) p y (happens S shop x y (Deliver (length w.net.posts + 1) other))) (sym ticked) turn_at_v
+        × IsAnsweredNow S key (w.net.numbers key) p y (happens S model x y (Deliver (length w.net.posts + 1) other))) (sym ticked) turn_at_v
 
-  pub turns : (events : List Event) → OneTurnSuffices S shop x (run S shop x events (start S opening))
+  pub turns : (events : List Event) → OneTurnSuffices S model x (run S model x events (start S opening))
   turns events key t at whole d p fits free other can =
-      turn (run S shop x events (start S opening)) (run_kept S shop opening W x bound events (start S opening) (start_kept S shop opening W x bound))
+      turn (run S model x events (start S opening)) (run_kept S model opening W x bound events (start S opening) (start_kept S model opening W x bound))
       key t at whole d p fits free other can

@@ -35,7 +35,7 @@ use Rattle.bac_liveness.proofs.Acks.{acknowledged_some, acks_read}
 use Rattle.bac_liveness.proofs.Rounds.{IsRound, LastLeft, all_rounds}
 use Rattle.bac_liveness.proofs.Gets.{client_opens, server_lives, lives, performs_is}
 
-module _ (S : Type 0) (shop : StoreModel S) (x : Rules) (now number : ℕ) (key : Key) (ask : Ask) (young : client.is_expired now ask ≡ false)
+module _ (S : Type 0) (model : StoreModel S) (x : Rules) (now number : ℕ) (key : Key) (ask : Ask) (young : client.is_expired now ask ≡ false)
     (repeats begin : ℕ) (alive : nat_le (now - begin) KEEP ≡ true) (stores : ℕ → S) (log : List Fact) where
   abbrev c : Context
   c = client_context x key now
@@ -44,7 +44,7 @@ module _ (S : Type 0) (shop : StoreModel S) (x : Rules) (now number : ℕ) (key 
   d = server_context x key now
 
   abbrev service : Service
-  service = shop.outcome (stores key.server)
+  service = model.outcome (stores key.server)
 
   -- the actual window of the request's transfer
   abbrev pub actual : ℕ
@@ -76,7 +76,7 @@ module _ (S : Type 0) (shop : StoreModel S) (x : Rules) (now number : ℕ) (key 
   requesting s inc m pending = record { ticket = sending s; entry = Some (taking inc m); pending = pending; stores = stores; log = log }
 
   abbrev Goes : ℕ → TransactionPair S → TransactionPair S → Type 0
-  Goes most p q = Within S shop x now number key most p q
+  Goes most p q = Within S model x now number key most p q
 
   abbrev pub is_late : ℕ → Bool
   is_late m = nat_le T_WAIT_FOR_SEG (now - m)
@@ -98,9 +98,9 @@ module _ (S : Type 0) (shop : StoreModel S) (x : Rules) (now number : ℕ) (key 
       → Goes 1 (requesting s inc m (piece t ∷ xs)) (requesting s inc' now (xs ++ ack false (t % 256) ∷ []))
   acks_one s inc inc' m t xs timely is few e =
       let from = requesting s inc m (piece t ∷ xs) in
-      one_step S shop x now number key from (requesting s inc' now (xs ++ ack false (t % 256) ∷ [])) xs (piece t) refl few refl
+      one_step S model x now number key from (requesting s inc' now (xs ++ ack false (t % 256) ∷ [])) xs (piece t) refl few refl
       (lives now (taking inc m) alive)
-      (ap (λ (v : server.Reaction). served S shop x now number key from xs v) (server_takes inc m t (Taken true inc') timely e)
+      (ap (λ (v : server.Reaction). served S model x now number key from xs v) (server_takes inc m t (Taken true inc') timely e)
       ∙ ap (λ (i : ℕ). requesting s inc' now (xs ++ server.server_ack d false (t % 256) i ∷ [])) is)
 
   pub keeps_one : (s : Sender) (inc inc' : Incoming) (m t : ℕ) (xs : List Apdu) → is_late m ≡ false → length xs ≤ x.overtake
@@ -108,8 +108,8 @@ module _ (S : Type 0) (shop : StoreModel S) (x : Rules) (now number : ℕ) (key 
       → Goes 1 (requesting s inc m (piece t ∷ xs)) (requesting s inc' now xs)
   keeps_one s inc inc' m t xs timely few e =
       let from = requesting s inc m (piece t ∷ xs) in
-      one_step S shop x now number key from (requesting s inc' now xs) xs (piece t) refl few refl (lives now (taking inc m) alive)
-      (ap (λ (v : server.Reaction). served S shop x now number key from xs v) (server_takes inc m t (Taken false inc') timely e)
+      one_step S model x now number key from (requesting s inc' now xs) xs (piece t) refl few refl (lives now (taking inc m) alive)
+      (ap (λ (v : server.Reaction). served S model x now number key from xs v) (server_takes inc m t (Taken false inc') timely e)
       ∙ ap (λ (ys : List Apdu). requesting s inc' now ys) (append-nil xs))
 
   pub naks_one : (s : Sender) (inc : Incoming) (m p q : ℕ) (xs : List Apdu) → is_late m ≡ false → inc.window ≡ actual → q + 1 ≡ length inc.parts
@@ -118,9 +118,9 @@ module _ (S : Type 0) (shop : StoreModel S) (x : Rules) (now number : ℕ) (key 
   naks_one s inc m p q xs timely is taken few e =
       let from = requesting s inc m (piece p ∷ xs) in
       let q_is : length inc.parts - 1 ≡ q = omega arith in
-      one_step S shop x now number key from (requesting s (quiet inc) now (xs ++ ack true (q % 256) ∷ [])) xs (piece p) refl few refl
+      one_step S model x now number key from (requesting s (quiet inc) now (xs ++ ack true (q % 256) ∷ [])) xs (piece p) refl few refl
       (lives now (taking inc m) alive)
-      (ap (λ (v : server.Reaction). served S shop x now number key from xs v) (server_takes inc m p (Nak (quiet inc)) timely e)
+      (ap (λ (v : server.Reaction). served S model x now number key from xs v) (server_takes inc m p (Nak (quiet inc)) timely e)
       ∙ (λ i. requesting s (quiet inc) now (xs ++ server.server_ack d true (q_is i % 256) (is i) ∷ [])))
 
   client_moves : (s : Sender) (nak : Bool) (i : ℕ) (y : Option Outgoing) → acknowledged c.settings.window s.out i actual ≡ y
@@ -138,9 +138,9 @@ module _ (S : Type 0) (shop : StoreModel S) (x : Rules) (now number : ℕ) (key 
         → Goes 1 (with_server (sending s) (ack nak i ∷ xs)) (with_server (sending (moved s out)) (xs ++ pieces_from piece out.first (in_window out)))
     moves_one s nak i out xs same few is going =
         let from = with_server (sending s) (ack nak i ∷ xs) in
-        one_step S shop x now number key from (with_server (sending (moved s out)) (xs ++ pieces_from piece out.first (in_window out))) xs (ack nak i)
+        one_step S model x now number key from (with_server (sending (moved s out)) (xs ++ pieces_from piece out.first (in_window out))) xs (ack nak i)
         refl few refl live
-        (ap (λ (r : client.Reaction). reacted S shop x now number key from xs r)
+        (ap (λ (r : client.Reaction). reacted S model x now number key from xs r)
         (client_moves s nak i (Some out) is
         ∙ ap (λ b. if b then GoesOn AwaitConfirmation [] else client.sends_request_window c ask.choice out s.all_sent) going)
         ∙ ap (λ (ps : List Octets). with_server (sending (moved s out)) (xs ++ pieces_from (client.request_piece c ask.choice ps) out.first
@@ -150,11 +150,11 @@ module _ (S : Type 0) (shop : StoreModel S) (x : Rules) (now number : ℕ) (key 
         → Goes 1 (with_server (sending s) (ack nak i ∷ xs)) (with_server (sending s) xs)
     ignores_one s nak i xs is =
         let from = with_server (sending s) (ack nak i ∷ xs) in
-        idle_step S shop x now number key from xs (ack nak i) refl refl live
-        (ap (λ (r : client.Reaction). reacted S shop x now number key from xs r) (client_moves s nak i None is)
+        idle_step S model x now number key from xs (ack nak i) refl refl live
+        (ap (λ (r : client.Reaction). reacted S model x now number key from xs r) (client_moves s nak i None is)
         ∙ ap (λ (ys : List Apdu). with_server (sending s) ys) (append-nil xs))
 
-    pub sends_on : Moving S shop x now number key actual c.settings.window ask.pieces
+    pub sends_on : Moving S model x now number key actual c.settings.window ask.pieces
     sends_on = record {
       sending = λ s xs. with_server (sending s) xs;
       piece = piece;
@@ -172,14 +172,14 @@ module _ (S : Type 0) (shop : StoreModel S) (x : Rules) (now number : ℕ) (key 
         let e = acknowledged_some actual c.settings.window s.out i small le (omega arith) in
         let len : length s.out.pieces ≡ n = ap length same in
         let f = finished (next_window actual c.settings.window s.out i) (omega arith) in
-        one_step S shop x now number key from (with_server (in_phase AwaitConfirmation) ys) ys (ack false (i % 256)) refl few refl live
-        (ap (λ (r : client.Reaction). reacted S shop x now number key from ys r)
+        one_step S model x now number key from (with_server (in_phase AwaitConfirmation) ys) ys (ack false (i % 256)) refl few refl live
+        (ap (λ (r : client.Reaction). reacted S model x now number key from ys r)
         (client_moves s false (i % 256) (Some (next_window actual c.settings.window s.out i)) e
         ∙ ap (λ b. if b then GoesOn AwaitConfirmation [] else client.sends_request_window c ask.choice (next_window actual c.settings.window s.out i)
         s.all_sent) f)
         ∙ ap (λ (zs : List Apdu). with_server (in_phase AwaitConfirmation) zs) (append-nil ys))
 
-  unfoldable pub carries : Channel S shop x now number key actual c.settings.window ask.pieces
+  unfoldable pub carries : Channel S model x now number key actual c.settings.window ask.pieces
   carries = record {
     ends = requesting;
     piece = piece;
@@ -205,7 +205,7 @@ module _ (S : Type 0) (shop : StoreModel S) (x : Rules) (now number : ℕ) (key 
     effect = record { request = request_of ask; reply = p }
 
     abbrev pub stores_after : ℕ → S
-    stores_after = stored S shop key.server (Some effect) stores
+    stores_after = stored S model key.server (Some effect) stores
 
     abbrev pub log_after : List Fact
     log_after = Performed number (request_of ask) p ∷ log
@@ -229,12 +229,12 @@ module _ (S : Type 0) (shop : StoreModel S) (x : Rules) (now number : ℕ) (key 
     -- the whole request was taken, and is performed
     pub performs_now : (t : ClientTransaction) (o : Option ServerTransaction) (kept : Option Octets) (state : State) (a : Apdu) (acks xs : List Apdu) → is_from_client a ≡ true
         → server.server_on_apdu d service o true a ≡ server.performs d service (begun kept state) acks (join ask.pieces)
-        → step S shop x now number key (asking t o (a ∷ xs)) xs a ≡ performed t kept (xs ++ (acks ++ sent_first ∷ []))
+        → step S model x now number key (asking t o (a ∷ xs)) xs a ≡ performed t kept (xs ++ (acks ++ sent_first ∷ []))
     performs_now t o kept state a acks xs up is =
         let from : TransactionPair S = asking t o (a ∷ xs) in
-        ap (λ b. if b then served S shop x now number key from xs (server.server_on_apdu d service o true a)
-        else reacted S shop x now number key from xs (client.client_on_apdu c x.readable t a)) up
-        ∙ ap (λ (v : server.Reaction). served S shop x now number key from xs v)
+        ap (λ b. if b then served S model x now number key from xs (server.server_on_apdu d service o true a)
+        else reacted S model x now number key from xs (client.client_on_apdu c x.readable t a)) up
+        ∙ ap (λ (v : server.Reaction). served S model x now number key from xs v)
         (is ∙ performs_is d service p (begun kept state) acks (join ask.pieces) outcome_is fits)
 
     abbrev waiting : ClientTransaction
@@ -251,10 +251,10 @@ module _ (S : Type 0) (shop : StoreModel S) (x : Rules) (now number : ℕ) (key 
 
     module _ (sizes : Fitting x.overtake actual c.settings.window ask.pieces) (near : actual < 256) where
       abbrev RoundOf : Sender → Incoming → ℕ → Type 0
-      RoundOf s inc t = IsRound S shop x now number key actual c.settings.window ask.pieces sizes near carries s inc t
+      RoundOf s inc t = IsRound S model x now number key actual c.settings.window ask.pieces sizes near carries s inc t
 
       abbrev LastOf : TransactionPair S → ℕ → Type 0
-      LastOf from most = LastLeft S shop x now number key actual c.settings.window ask.pieces sizes near carries from most
+      LastOf from most = LastLeft S model x now number key actual c.settings.window ask.pieces sizes near carries from most
 
       abbrev live_after : is_none_live now (Some (performed_entry None)) ≡ false
       live_after = lives now (performed_entry None) alive
@@ -283,7 +283,7 @@ module _ (S : Type 0) (shop : StoreModel S) (x : Rules) (now number : ℕ) (key 
           let f = server_takes z.inc z.m z.p (Whole ask.pieces) z.timely
           (takes_last ask.pieces z.inc z.p z.last sizes.few sizes.short z.taken z.parts)
           ∙ ap (λ (i : ℕ). server.request_segment_taken d service (taking z.inc z.m) (z.p % 256) i (Whole ask.pieces)) z.actual_is in
-          one_step S shop x now number key before (performed (sending z.s) None (xs ++ (ack false (z.p % 256) ∷ sent_first ∷ []))) xs (piece z.p) refl
+          one_step S model x now number key before (performed (sending z.s) None (xs ++ (ack false (z.p % 256) ∷ sent_first ∷ []))) xs (piece z.p) refl
           (omega arith) refl (lives now (taking z.inc z.m) alive)
           (performs_now (sending z.s) (Some (taking z.inc z.m)) None (State.SegmentedRequest z.inc z.m) (piece z.p) (ack false (z.p % 256) ∷ []) xs refl f)
 
@@ -312,8 +312,8 @@ module _ (S : Type 0) (shop : StoreModel S) (x : Rules) (now number : ℕ) (key 
             extra = 0;
             cheap = omega arith;
             few = omega arith;
-            reaches = within_then S shop x now number key (z.spent + 1) 1 (z.spent + 2) from mid end (omega arith)
-                (within_then S shop x now number key z.spent 1 (z.spent + 1) from
+            reaches = within_then S model x now number key (z.spent + 1) 1 (z.spent + 2) from mid end (omega arith)
+                (within_then S model x now number key z.spent 1 (z.spent + 1) from
                 (requesting z.s z.inc z.m (piece z.p ∷ acks_of z.nak z.q z.acks)) mid (omega arith) reaches one) two;
           }
       all_acked from most z reaches (suc j) e =
@@ -337,7 +337,7 @@ module _ (S : Type 0) (shop : StoreModel S) (x : Rules) (now number : ℕ) (key 
           let mid = performed (sending z.s) None (acks_of z.nak q (suc j) ++ ys) in
           let one : Goes 1 before mid = subst (λ (i : ℕ). Goes 1 before (performed (sending z.s) None (acks_of z.nak q i ++ ys))) e
           (last_taken from most z) in
-          let two : Goes (suc j) mid (performed (sending s') None (ack false (z.p % 256) ∷ rest)) = acks_read S shop x now number key actual
+          let two : Goes (suc j) mid (performed (sending s') None (ack false (z.p % 256) ∷ rest)) = acks_read S model x now number key actual
           c.settings.window ask.pieces sizes near (sends_on (Some (performed_entry None)) live_after stores_after log_after) j z.s z.nak q ys z.pieces
           z.window (omega arith) (omega arith) (omega arith) (omega arith) in
           let three = last_acked (Some (performed_entry None)) live_after stores_after log_after s' z.p rest (omega arith) (omega arith) z.pieces
@@ -349,9 +349,9 @@ module _ (S : Type 0) (shop : StoreModel S) (x : Rules) (now number : ℕ) (key 
             extra = extra;
             cheap = omega arith;
             few = omega arith;
-            reaches = within_then S shop x now number key (z.spent + 1) (j + 2) (z.spent + (j + 3)) from mid end (omega arith)
-                (within_then S shop x now number key z.spent 1 (z.spent + 1) from before mid (omega arith) reaches one)
-                (within_then S shop x now number key (suc j) 1 (j + 2) mid (performed (sending s') None (ack false (z.p % 256) ∷ rest)) end
+            reaches = within_then S model x now number key (z.spent + 1) (j + 2) (z.spent + (j + 3)) from mid end (omega arith)
+                (within_then S model x now number key z.spent 1 (z.spent + 1) from before mid (omega arith) reaches one)
+                (within_then S model x now number key (suc j) 1 (j + 2) mid (performed (sending s') None (ack false (z.p % 256) ∷ rest)) end
                 (omega arith) two three);
           }
 
@@ -359,5 +359,5 @@ module _ (S : Type 0) (shop : StoreModel S) (x : Rules) (now number : ℕ) (key 
           → 3 * n ≤ most + s.out.first + s.out.first + t → IsRead (requesting s inc m (pieces_from piece s.out.first (in_window s.out))) most
       unfolding carries
       upload s inc m t most h timely enough =
-          let z = all_rounds S shop x now number key actual c.settings.window ask.pieces sizes near carries n s inc m t most h timely (omega arith) enough in
+          let z = all_rounds S model x now number key actual c.settings.window ask.pieces sizes near carries n s inc m t most h timely (omega arith) enough in
           all_acked (requesting s inc m (pieces_from piece s.out.first (in_window s.out))) most z z.reaches z.acks refl

@@ -46,18 +46,18 @@ takes_old inc p more octets below near =
     ap (λ b. if b then (if is_too_long inc octets then TooLong else takes_expected inc more octets) else Nak (quiet inc)) e
 
 -- a sender of these pieces, and that it does what its part says
-pub record Moving (S : Type 0) (shop : StoreModel S) (x : Rules) (now number : ℕ) (key : Key) (actual own : ℕ) (ps : List Octets) : Type 0 where
+pub record Moving (S : Type 0) (model : StoreModel S) (x : Rules) (now number : ℕ) (key : Key) (actual own : ℕ) (ps : List Octets) : Type 0 where
   pub sending : Sender → List Apdu → TransactionPair S
   pub piece : ℕ → Apdu
   pub ack : Bool → ℕ → Apdu
   pub moves : (s : Sender) (nak : Bool) (i : ℕ) (out : Outgoing) (xs : List Apdu) → out.pieces ≡ ps → length xs ≤ x.overtake
       → acknowledged own s.out i actual ≡ Some out → is_finished out ≡ false
-      → Within S shop x now number key 1 (sending s (ack nak i ∷ xs)) (sending (moved s out) (xs ++ pieces_from piece out.first (in_window out)))
+      → Within S model x now number key 1 (sending s (ack nak i ∷ xs)) (sending (moved s out) (xs ++ pieces_from piece out.first (in_window out)))
   pub ignores : (s : Sender) (nak : Bool) (i : ℕ) (xs : List Apdu) → acknowledged own s.out i actual ≡ None
-      → Within S shop x now number key 1 (sending s (ack nak i ∷ xs)) (sending s xs)
+      → Within S model x now number key 1 (sending s (ack nak i ∷ xs)) (sending s xs)
 
 -- the two ends of a transfer of these pieces, whichever sends, and that they do what their parts say; the receiver's timer runs from a moment
-pub record Channel (S : Type 0) (shop : StoreModel S) (x : Rules) (now number : ℕ) (key : Key) (actual own : ℕ) (ps : List Octets) : Type 0 where
+pub record Channel (S : Type 0) (model : StoreModel S) (x : Rules) (now number : ℕ) (key : Key) (actual own : ℕ) (ps : List Octets) : Type 0 where
   pub ends : Sender → Incoming → ℕ → List Apdu → TransactionPair S
   pub piece : ℕ → Apdu
   pub ack : Bool → ℕ → Apdu
@@ -65,26 +65,26 @@ pub record Channel (S : Type 0) (shop : StoreModel S) (x : Rules) (now number : 
   pub in_time : is_late now ≡ false
   pub acks : (s : Sender) (inc inc' : Incoming) (m t : ℕ) (xs : List Apdu) → is_late m ≡ false → inc.window ≡ actual → length xs ≤ x.overtake
       → takes inc (t % 256) (nat_lt (t + 1) (length ps)) (get_or ps t []) ≡ Taken true inc'
-      → Within S shop x now number key 1 (ends s inc m (piece t ∷ xs)) (ends s inc' now (xs ++ ack false (t % 256) ∷ []))
+      → Within S model x now number key 1 (ends s inc m (piece t ∷ xs)) (ends s inc' now (xs ++ ack false (t % 256) ∷ []))
   pub keeps : (s : Sender) (inc inc' : Incoming) (m t : ℕ) (xs : List Apdu) → is_late m ≡ false → length xs ≤ x.overtake
       → takes inc (t % 256) (nat_lt (t + 1) (length ps)) (get_or ps t []) ≡ Taken false inc'
-      → Within S shop x now number key 1 (ends s inc m (piece t ∷ xs)) (ends s inc' now xs)
+      → Within S model x now number key 1 (ends s inc m (piece t ∷ xs)) (ends s inc' now xs)
   pub naks : (s : Sender) (inc : Incoming) (m p q : ℕ) (xs : List Apdu) → is_late m ≡ false → inc.window ≡ actual → q + 1 ≡ length inc.parts
       → length xs ≤ x.overtake → takes inc (p % 256) (nat_lt (p + 1) (length ps)) (get_or ps p []) ≡ Nak (quiet inc)
-      → Within S shop x now number key 1 (ends s inc m (piece p ∷ xs)) (ends s (quiet inc) now (xs ++ ack true (q % 256) ∷ []))
+      → Within S model x now number key 1 (ends s inc m (piece p ∷ xs)) (ends s (quiet inc) now (xs ++ ack true (q % 256) ∷ []))
   pub moves : (s : Sender) (inc : Incoming) (m : ℕ) (nak : Bool) (i : ℕ) (out : Outgoing) (xs : List Apdu) → out.pieces ≡ ps → length xs ≤ x.overtake
       → acknowledged own s.out i actual ≡ Some out → is_finished out ≡ false
-      → Within S shop x now number key 1 (ends s inc m (ack nak i ∷ xs)) (ends (moved s out) inc m (xs ++ pieces_from piece out.first (in_window out)))
+      → Within S model x now number key 1 (ends s inc m (ack nak i ∷ xs)) (ends (moved s out) inc m (xs ++ pieces_from piece out.first (in_window out)))
   pub ignores : (s : Sender) (inc : Incoming) (m : ℕ) (nak : Bool) (i : ℕ) (xs : List Apdu) → acknowledged own s.out i actual ≡ None
-      → Within S shop x now number key 1 (ends s inc m (ack nak i ∷ xs)) (ends s inc m xs)
+      → Within S model x now number key 1 (ends s inc m (ack nak i ∷ xs)) (ends s inc m xs)
 
-module _ (S : Type 0) (shop : StoreModel S) (x : Rules) (now number : ℕ) (key : Key) (actual own : ℕ) (ps : List Octets)
-    (sizes : Fitting x.overtake actual own ps) (near : actual < 256) (c : Channel S shop x now number key actual own ps) where
+module _ (S : Type 0) (model : StoreModel S) (x : Rules) (now number : ℕ) (key : Key) (actual own : ℕ) (ps : List Octets)
+    (sizes : Fitting x.overtake actual own ps) (near : actual < 256) (c : Channel S model x now number key actual own ps) where
   abbrev n : ℕ
   n = length ps
 
   abbrev pub Goes : ℕ → TransactionPair S → TransactionPair S → Type 0
-  Goes most p q = Within S shop x now number key most p q
+  Goes most p q = Within S model x now number key most p q
 
   -- Pieces that were taken before are delivered.
 
@@ -95,7 +95,7 @@ module _ (S : Type 0) (shop : StoreModel S) (x : Rules) (now number : ℕ) (key 
       let a : p ≡ q + 1 = omega arith in
       let b : k ≡ r = omega arith in
       let e : i ≡ i + 0 = omega arith in
-      no_step S shop x now number key (c.ends s (quiet inc) now (pieces_from c.piece p k ++ repeated i (c.ack true (q % 256))))
+      no_step S model x now number key (c.ends s (quiet inc) now (pieces_from c.piece p k ++ repeated i (c.ack true (q % 256))))
       (c.ends s (quiet inc) now (pieces_from c.piece (q + 1) r ++ repeated (i + 0) (c.ack true (q % 256))))
       (λ j. c.ends s (quiet inc) now (pieces_from c.piece (a j) (b j) ++ repeated (e j) (c.ack true (q % 256))))
   naks_on (suc d) zero i p r q s inc len taken at few is = absurd (omega arith)
@@ -114,7 +114,7 @@ module _ (S : Type 0) (shop : StoreModel S) (x : Rules) (now number : ℕ) (key 
       (takes_old (quiet inc) p (nat_lt (p + 1) n) (get_or ps p []) (omega arith) (omega arith))) in
       let ih = naks_on d k (suc i) (p + 1) r q s inc (omega arith) taken (omega arith) (omega arith) is in
       let f : suc i + d ≡ i + suc d = omega arith in
-      within_then S shop x now number key 1 d (suc d) from mid
+      within_then S model x now number key 1 d (suc d) from mid
       (c.ends s (quiet inc) now (pieces_from c.piece (q + 1) r ++ repeated (i + suc d) nak)) (omega arith) one
       (subst (λ (j : ℕ). Goes d mid (c.ends s (quiet inc) now (pieces_from c.piece (q + 1) r ++ repeated j nak))) f ih)
 
@@ -145,7 +145,7 @@ module _ (S : Type 0) (shop : StoreModel S) (x : Rules) (now number : ℕ) (key 
         actual_is = is;
         taken = omega arith;
         parts = subst (λ (i : ℕ). inc.parts ≡ take i ps) a parts;
-        reaches = no_step S shop x now number key (c.ends s inc m (pieces_from c.piece t j ++ tail))
+        reaches = no_step S model x now number key (c.ends s inc m (pieces_from c.piece t j ++ tail))
             (c.ends s inc m (pieces_from c.piece (t + 0) k ++ tail)) (λ i. c.ends s inc m (pieces_from c.piece (a i) (b i) ++ tail));
       }
   quiet_on (suc r) zero t k s inc m tail len some left small few timely is taken parts = absurd (omega arith)
@@ -169,7 +169,7 @@ module _ (S : Type 0) (shop : StoreModel S) (x : Rules) (now number : ℕ) (key 
         actual_is = ih.actual_is;
         taken = ih.taken;
         parts = ih.parts;
-        reaches = within_then S shop x now number key 1 r (suc r) from (c.ends s inc' now (rest ++ tail))
+        reaches = within_then S model x now number key 1 r (suc r) from (c.ends s inc' now (rest ++ tail))
             (c.ends s ih.inc ih.m (pieces_from c.piece (t + 1 + r) k ++ tail)) (omega arith) one ih.reaches;
       })
 
@@ -244,7 +244,7 @@ module _ (S : Type 0) (shop : StoreModel S) (x : Rules) (now number : ℕ) (key 
               few = omega arith;
               new = omega arith;
               old = omega arith;
-              reaches = within_then S shop x now number key 1 r (suc r) from (c.ends s inc' now (rest ++ ack ∷ []))
+              reaches = within_then S model x now number key 1 r (suc r) from (c.ends s inc' now (rest ++ ack ∷ []))
                   (c.ends s g.inc g.m (pieces_from c.piece (t + suc r) k ++ ack ∷ [])) (omega arith) one g.reaches;
             };
             some = λ z y. omega arith;
@@ -276,7 +276,7 @@ module _ (S : Type 0) (shop : StoreModel S) (x : Rules) (now number : ℕ) (key 
               few = g.few;
               new = g.new;
               old = omega arith;
-              reaches = within_then S shop x now number key 1 r (suc r) from (c.ends s inc' now rest)
+              reaches = within_then S model x now number key 1 r (suc r) from (c.ends s inc' now rest)
                   (c.ends s g.inc g.m (pieces_from c.piece (t + suc r) k ++ repeated g.acks (c.ack g.nak (g.q % 256)))) (omega arith) one
                   (subst (λ (i : ℕ). Goes r (c.ends s inc' now rest)
                   (c.ends s g.inc g.m (pieces_from c.piece i k ++ repeated g.acks (c.ack g.nak (g.q % 256))))) at g.reaches);
@@ -312,7 +312,7 @@ module _ (S : Type 0) (shop : StoreModel S) (x : Rules) (now number : ℕ) (key 
           few = omega arith;
           new = omega arith;
           old = omega arith;
-          reaches = no_step S shop x now number key from to
+          reaches = no_step S model x now number key from to
               ((λ i. c.ends s inc m (pieces_from c.piece (b i) (e i)))
               ∙ ap (λ (ys : List Apdu). c.ends s inc m ys) (sym (append-nil (pieces_from c.piece (t + 0) k))));
         };

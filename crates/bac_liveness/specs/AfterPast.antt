@@ -62,19 +62,19 @@ Keeps x key now t p (SegmentedResponse out transfer since) fresh = p ≡ Complex
 Keeps x key now t p Dropped fresh = ⊥
 
 abbrev pub Gives : (S : Type 0) → StoreModel S → Rules → World S → Key → ClientTransaction → Reply → Option ServerTransaction → Type 0
-Gives S shop x w key t p None = shop.outcome (w.stores key.server) t.ask.choice (join t.ask.pieces) ≡ Replies p
-Gives S shop x w key t p (Some e) =
-    Keeps x key w.net.now t p e.state (shop.outcome (w.stores key.server) t.ask.choice (join t.ask.pieces) ≡ Replies p)
+Gives S model x w key t p None = model.outcome (w.stores key.server) t.ask.choice (join t.ask.pieces) ≡ Replies p
+Gives S model x w key t p (Some e) =
+    Keeps x key w.net.now t p e.state (model.outcome (w.stores key.server) t.ask.choice (join t.ask.pieces) ≡ Replies p)
 
 -- an open ticket, in time, whose request can go and whose reply can reach it; its server does not wait after a restart
-pub record CanStill (S : Type 0) (shop : StoreModel S) (x : Rules) (w : World S) (key : Key) (t : ClientTransaction) (p : Reply) : Type 0 where
+pub record CanStill (S : Type 0) (model : StoreModel S) (x : Rules) (w : World S) (key : Key) (t : ClientTransaction) (p : Reply) : Type 0 where
   pub going : is_idle t.phase ≡ false
   pub in_time : w.net.now - t.ask.first ≤ DEADLINE
   pub serving : w.net.serves_from key.server ≤ w.net.now
   pub request : RequestFits t.ask.whole t.ask.pieces
   pub way : WayFits (way_to x key p)
   pub kind : KindFits x.readable t.ask.choice p
-  pub gives : Gives S shop x w key t p (live_entry w.net.now (w.net.entries key))
+  pub gives : Gives S model x w key t p (live_entry w.net.now (w.net.entries key))
 
 -- one of the two ends has its turn: its tick alone
 abbrev pub IsTurn : (S : Type 0) → World S → Key → ClientTransaction → (as_client as_server : List Key) → Type 0
@@ -90,41 +90,41 @@ pub record IsAnsweredIn (S : Type 0) (x : Rules) (key : Key) (t : ClientTransact
   pub cheap : count ≤ 3 * request_count t.ask.whole t.ask.pieces + 3 * way_count (way_to x key p)
 
 abbrev pub TurnAnswers : (S : Type 0) → StoreModel S → Rules → World S → Key → ClientTransaction → Type 0
-TurnAnswers S shop x w key t =
-    AreStraight x key → (p : Reply) → CanStill S shop x w key t p
+TurnAnswers S model x w key t =
+    AreStraight x key → (p : Reply) → CanStill S model x w key t p
     → (as_client as_server : List Key) → IsTurn S w key t as_client as_server
     → (count : ℕ) (v : World S)
-    → Straight S (λ u e y. y ≡ happens S shop x u e) key true count (length w.net.posts) (happens S shop x w (Tick as_client as_server)) v
+    → Straight S (λ u e y. y ≡ happens S model x u e) key true count (length w.net.posts) (happens S model x w (Tick as_client as_server)) v
     → Stops S key (length w.net.posts + count) v
     → IsAnsweredIn S x key t (w.net.numbers key) p count v
 
 -- there is such a run, and its last delivery ends the ticket
-pub record RunsOut (S : Type 0) (shop : StoreModel S) (x : Rules) (key : Key) (t : ClientTransaction) (number : ℕ) (p : Reply) (first : ℕ) (ticked : World S) : Type 0 where
+pub record RunsOut (S : Type 0) (model : StoreModel S) (x : Rules) (key : Key) (t : ClientTransaction) (number : ℕ) (p : Reply) (first : ℕ) (ticked : World S) : Type 0 where
   pub count : ℕ
   pub last : World S
-  pub run : Straight S (λ u e y. y ≡ happens S shop x u e) key true count first ticked last
+  pub run : Straight S (λ u e y. y ≡ happens S model x u e) key true count first ticked last
   pub over : is_ended (last.net.tickets key) ≡ true
   pub answered : IsAnsweredIn S x key t number p count last
 
 abbrev pub TurnRunsOut : (S : Type 0) → StoreModel S → Rules → World S → Key → ClientTransaction → Type 0
-TurnRunsOut S shop x w key t =
-    AreStraight x key → (p : Reply) → CanStill S shop x w key t p
+TurnRunsOut S model x w key t =
+    AreStraight x key → (p : Reply) → CanStill S model x w key t p
     → (as_client as_server : List Key) → IsTurn S w key t as_client as_server
-    → RunsOut S shop x key t (w.net.numbers key) p (length w.net.posts) (happens S shop x w (Tick as_client as_server))
+    → RunsOut S model x key t (w.net.numbers key) p (length w.net.posts) (happens S model x w (Tick as_client as_server))
 
 -- so it is wherever the two ends are in step
 abbrev pub InStepIsAnswered : (S : Type 0) → StoreModel S → Rules → World S → Type 0
-InStepIsAnswered S shop x w =
+InStepIsAnswered S model x w =
     (key : Key) (t : ClientTransaction) → w.net.tickets key ≡ Some t → AreInStep x key t.ask t.phase (live_entry w.net.now (w.net.entries key))
-    → TurnAnswers S shop x w key t
+    → TurnAnswers S model x w key t
 
 -- after any past in which its server has not restarted since the ask
 abbrev pub AfterAnyPast : (S : Type 0) → StoreModel S → Rules → World S → Type 0
-AfterAnyPast S shop x w = (key : Key) (t : ClientTransaction) → w.net.tickets key ≡ Some t → ServerStays w.net key t.ask → TurnAnswers S shop x w key t
+AfterAnyPast S model x w = (key : Key) (t : ClientTransaction) → w.net.tickets key ≡ Some t → ServerStays w.net key t.ask → TurnAnswers S model x w key t
 
 -- and such a run exists
 abbrev pub AnsweringRunExists : (S : Type 0) → StoreModel S → Rules → World S → Type 0
-AnsweringRunExists S shop x w = (key : Key) (t : ClientTransaction) → w.net.tickets key ≡ Some t → ServerStays w.net key t.ask → TurnRunsOut S shop x w key t
+AnsweringRunExists S model x w = (key : Key) (t : ClientTransaction) → w.net.tickets key ≡ Some t → ServerStays w.net key t.ask → TurnRunsOut S model x w key t
 
 -- the two ends of each transaction are in step whose ask is in time, and whose server has not restarted since
 abbrev pub EndsAreInStep : (S : Type 0) → Rules → World S → Type 0

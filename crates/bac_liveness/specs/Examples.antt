@@ -15,7 +15,7 @@ use Rattle.bac_protocol.specs.World.{World, Event, is_id_held, net_start, run, s
 use Rattle.bac_protocol.specs.World.Event.{MakeAsk, Deliver, Tick, Noise, Advance, Change}
 use Rattle.bac_protocol.specs.Claims.{IsBounded}
 use Rattle.bac_protocol.specs.Straight.{AreStraight}
-use Rattle.bac_protocol.specs.Examples.{key, shop, rules, tick, ask_append, append, position, position_apdu, zeros}
+use Rattle.bac_protocol.specs.Examples.{key, model, rules, tick, ask_append, append, position, position_apdu, zeros}
 use Rattle.bac_liveness.specs.Runs.{Throughout, IsOnItsWay, HasWindows}
 use Rattle.bac_liveness.specs.RoundTrip.{FitsInOne, CanPerform, HasPerformed, IsOpenInTime, request_to, segment_to}
 use Rattle.bac_liveness.specs.Repeats.{PATIENCE, FindsServer}
@@ -25,7 +25,7 @@ use Rattle.bac_liveness.specs.AfterPast.{CanStill, IsTurn}
 
 -- the world after these events, where node 1 answers each request of node 0 so
 abbrev pub world : Reply → List Event → World ℕ
-world p events = run ℕ (shop p) (rules 3) events (start ℕ (λ node. 0))
+world p events = run ℕ (model p) (rules 3) events (start ℕ (λ node. 0))
 
 -- an ask of one APDU, and one of two pieces; each is made at 0
 abbrev pub whole_ask : Ask
@@ -84,7 +84,7 @@ performed_once = sent_twice ++ Deliver 1 true ∷ Deliver 0 true ∷ Noise ∷ C
 pub record OneRoundTrip : Type 0 where
   pub ticket : (world position sent_twice).net.tickets key ≡ Some (record (ticket_of whole_ask) { repeats = 2; since = 3000 })
   pub fits : FitsInOne (rules 3) key whole_ask position
-  pub performs : CanPerform ℕ (shop position) (world position sent_twice) key whole_ask true position
+  pub performs : CanPerform ℕ (model position) (world position sent_twice) key whole_ask true position
   pub request : IsOnItsWay (rules 3) (world position sent_twice).net key (request_to (rules 3) key whole_ask) 1
   pub going : IsOpenInTime (world position performed_once).net key whole_ask
   pub answer : IsOnItsWay (rules 3) (world position performed_once).net key position_apdu 2
@@ -130,7 +130,7 @@ pub record FourthSending : Type 0 where
   pub free : is_id_held net_start key ≡ false
   pub ticket : (world position (ask_append ∷ Advance 3000 ∷ [])).net.tickets key ≡ Some (ticket_of whole_ask)
   pub due : T_OUT ≤ (world position (ask_append ∷ Advance 3000 ∷ [])).net.now - 0
-  pub finds : Throughout ℕ (shop position) (rules 3) (FindsServer ℕ (shop position) (rules 3) key whole_ask) until_answer (world position (ask_append ∷ []))
+  pub finds : Throughout ℕ (model position) (rules 3) (FindsServer ℕ (model position) (rules 3) key whole_ask) until_answer (world position (ask_append ∷ []))
   pub young : (world position (ask_append ∷ until_answer)).net.now < 0 + PATIENCE
   pub request : IsOnItsWay (rules 3) (world position (ask_append ∷ before_fourth)).net key (request_to (rules 3) key whole_ask) 3
   pub answer : IsOnItsWay (rules 3) (world position (ask_append ∷ until_answer)).net key position_apdu 4
@@ -146,7 +146,7 @@ late_turn = ask_append ∷ Advance 3000 ∷ tick ∷ Advance 37000 ∷ []
 pub record LateTurn : Type 0 where
   pub ticket : (world position late_turn).net.tickets key ≡ Some (record (ticket_of whole_ask) { repeats = 2; since = 3000 })
   pub due : IsDue (world position late_turn).net.now (record (ticket_of whole_ask) { repeats = 2; since = 3000 })
-  pub performs : CanPerform ℕ (shop position) (world position late_turn) key whole_ask true position
+  pub performs : CanPerform ℕ (model position) (world position late_turn) key whole_ask true position
   pub ends : (world position (late_turn ++ Tick (key ∷ []) [] ∷ Deliver 2 true ∷ Deliver 3 true ∷ [])).net.log
       ≡ Ended 0 (Answered position) ∷ was_performed append position ∷ was_asked append ∷ []
 
@@ -191,7 +191,7 @@ pub record HalfWindow : Type 0 where
   pub ticket : ClientTransaction
   pub is : (world position half_window).net.tickets key ≡ Some ticket
   pub straight : AreStraight (rules 3) key
-  pub can : CanStill ℕ (shop position) (rules 3) (world position half_window) key ticket position
+  pub can : CanStill ℕ (model position) (rules 3) (world position half_window) key ticket position
   pub turn : IsTurn ℕ (world position half_window) key ticket (key ∷ []) []
   pub not_yet : (world position (half_window ++ Tick (key ∷ []) [] ∷ deliveries 5 23)).net.log ≡ was_performed ten position ∷ was_asked ten ∷ []
   pub ends : (world position (half_window ++ Tick (key ∷ []) [] ∷ deliveries 5 24)).net.log

@@ -24,10 +24,10 @@ PATIENCE = 12000
 
 -- an event that delivers a copy of the request to a server without a live entry finds a free slot, and a reply that goes in one APDU
 abbrev pub FindsServer : (S : Type 0) → StoreModel S → Rules → Key → Ask → World S → Event → Type 0
-FindsServer S shop x key ask w (Deliver number free) =
+FindsServer S model x key ask w (Deliver number free) =
     IsOnItsWay x w.net key (request_to x key ask) number → is_none_live w.net.now (w.net.entries key) ≡ true
-    → (p : Reply) × CanPerform S shop w key ask free p × FitsInOne x key ask p
-FindsServer S shop x key ask w _ = Unit {0}
+    → (p : Reply) × CanPerform S model w key ask free p × FitsInOne x key ask p
+FindsServer S model x key ask w _ = Unit {0}
 
 -- ask n ended with the reply with which it was performed
 abbrev pub IsAnswered : ℕ → Ask → List Fact → Type 0
@@ -48,27 +48,27 @@ pub record IsSentAgain (x : Rules) (key : Key) (ask : Ask) (t : ClientTransactio
 
 -- ask n, of one APDU, was made in this world; until PATIENCE has passed, and as long as each copy of it that is delivered finds its server (and so none
 -- comes to one that waits after a restart):
-pub record IsRobust (S : Type 0) (shop : StoreModel S) (x : Rules) (key : Key) (ask : Ask) (n : ℕ) (asked : World S) : Type 0 where
+pub record IsRobust (S : Type 0) (model : StoreModel S) (x : Rules) (key : Key) (ask : Ask) (n : ℕ) (asked : World S) : Type 0 where
   -- it is waited for or answered, whatever is lost, repeated, reordered or asked of others, where its client has not restarted
-  pub waits : (events : List Event) → Throughout S shop x (FindsServer S shop x key ask) events asked
-      → (let v = run S shop x events asked in ClientStays v.net key ask → v.net.now < ask.first + PATIENCE
+  pub waits : (events : List Event) → Throughout S model x (FindsServer S model x key ask) events asked
+      → (let v = run S model x events asked in ClientStays v.net key ask → v.net.now < ask.first + PATIENCE
       → IsWaiting v.net key ask ⊎ IsAnswered n ask v.net.log)
   -- a tick of its client that is due sends it again
-  pub repeats : (events : List Event) (as_client as_server : List Key) → Throughout S shop x (FindsServer S shop x key ask) events asked
-      → (let v = run S shop x events asked in v.net.now < ask.first + PATIENCE
+  pub repeats : (events : List Event) (as_client as_server : List Key) → Throughout S model x (FindsServer S model x key ask) events asked
+      → (let v = run S model x events asked in v.net.now < ask.first + PATIENCE
       → (t : ClientTransaction) → v.net.tickets key ≡ Some t → t.phase ≡ AwaitConfirmation → T_OUT ≤ v.net.now - t.since
-      → Contains as_client key → IsSentAgain x key ask t v.net (happens S shop x v (Tick as_client as_server)).net)
+      → Contains as_client key → IsSentAgain x key ask t v.net (happens S model x v (Tick as_client as_server)).net)
   -- where any copy of it and then the copy that this delivery sent are delivered, and its client has not restarted, it is answered
   pub answered : (before between : List Event) (number : ℕ) (free other : Bool) (answer : Apdu)
-      → (let v = run S shop x before asked in let u = run S shop x between (happens S shop x v (Deliver number free)) in
-      Throughout S shop x (FindsServer S shop x key ask) (before ++ Deliver number free ∷ between) asked → ClientStays u.net key ask
+      → (let v = run S model x before asked in let u = run S model x between (happens S model x v (Deliver number free)) in
+      Throughout S model x (FindsServer S model x key ask) (before ++ Deliver number free ∷ between) asked → ClientStays u.net key ask
       → u.net.now < ask.first + PATIENCE
       → IsOnItsWay x v.net key (request_to x key ask) number → IsOnItsWay x u.net key answer (length v.net.posts)
-      → IsAnswered n ask (happens S shop x u (Deliver (length v.net.posts) other)).net.log)
+      → IsAnswered n ask (happens S model x u (Deliver (length v.net.posts) other)).net.log)
 
 -- of each ask of one APDU, made where its invoke ID is free
 abbrev pub RepeatsSuffice : (S : Type 0) → StoreModel S → Rules → World S → Type 0
-RepeatsSuffice S shop x w =
+RepeatsSuffice S model x w =
     (key : Key) (choice : ℕ) (front : Octets) (rest : List Octets) → is_id_held w.net key ≡ false
-    → IsRobust S shop x key (record { first = w.net.now; choice = choice; whole = true; pieces = front ∷ rest }) w.net.asks
-    (happens S shop x w (MakeAsk key choice true front rest))
+    → IsRobust S model x key (record { first = w.net.now; choice = choice; whole = true; pieces = front ∷ rest }) w.net.asks
+    (happens S model x w (MakeAsk key choice true front rest))

@@ -35,11 +35,11 @@ pub record FitsInOne (x : Rules) (key : Key) (ask : Ask) (p : Reply) : Type 0 wh
   pub kind : KindFits x.readable ask.choice p
 
 -- the server performs the request when it comes: no entry is live, a slot is free, it does not wait after a restart, and its store gives that reply
-pub record CanPerform (S : Type 0) (shop : StoreModel S) (w : World S) (key : Key) (ask : Ask) (free : Bool) (p : Reply) : Type 0 where
+pub record CanPerform (S : Type 0) (model : StoreModel S) (w : World S) (key : Key) (ask : Ask) (free : Bool) (p : Reply) : Type 0 where
   pub none : is_none_live w.net.now (w.net.entries key) ≡ true
   pub slot : free ≡ true
   pub serving : w.net.serves_from key.server ≤ w.net.now
-  pub outcome : shop.outcome (w.stores key.server) ask.choice (join ask.pieces) ≡ Replies p
+  pub outcome : model.outcome (w.stores key.server) ask.choice (join ask.pieces) ≡ Replies p
 
 -- or it has performed it: its entry is done and keeps that reply, and beside it the service data of a request that came without SEG
 pub record HasPerformed (x : Rules) (n : Net) (key : Key) (ask : Ask) (request : Option Octets) (p : Reply) : Type 0 where
@@ -63,26 +63,26 @@ pub record IsAnsweredNow (S : Type 0) (key : Key) (number : ℕ) (p : Reply) (ol
 
 -- a delivery leads from world w to world u: the request was performed with that reply, and the answer was sent; and whatever happens then, as long
 -- as the ticket is open and in time, each copy of the answer that is delivered ends it with that reply, also where its server restarts
-pub record IsServed (S : Type 0) (shop : StoreModel S) (x : Rules) (key : Key) (ask : Ask) (p : Reply) (w u : World S) : Type 0 where
+pub record IsServed (S : Type 0) (model : StoreModel S) (x : Rules) (key : Key) (ask : Ask) (p : Reply) (w u : World S) : Type 0 where
   pub performed : Has (Performed (w.net.numbers key) (request_of ask) p) u.net.log
   pub sent : u.net.posts ≡ w.net.posts ++ post_of key w.net.now (answer_to x key ask p) ∷ []
   pub answered : (events : List Event)
-      → (let v = run S shop x events u in IsOpenInTime v.net key ask
+      → (let v = run S model x events u in IsOpenInTime v.net key ask
       → (number : ℕ) → IsOnItsWay x v.net key (answer_to x key ask p) number → (free : Bool)
-      → IsAnsweredNow S key (w.net.numbers key) p v (happens S shop x v (Deliver number free)))
+      → IsAnsweredNow S key (w.net.numbers key) p v (happens S model x v (Deliver number free)))
 
 -- a request of one APDU is served where a copy of it is delivered
 abbrev pub RoundTripSuffices : (S : Type 0) → StoreModel S → Rules → World S → Type 0
-RoundTripSuffices S shop x w =
+RoundTripSuffices S model x w =
     (key : Key) (t : ClientTransaction) → w.net.tickets key ≡ Some t → t.ask.whole ≡ true → (p : Reply) → FitsInOne x key t.ask p
-    → (free : Bool) → CanPerform S shop w key t.ask free p ⊎ HasPerformed x w.net key t.ask (Some (join t.ask.pieces)) p
+    → (free : Bool) → CanPerform S model w key t.ask free p ⊎ HasPerformed x w.net key t.ask (Some (join t.ask.pieces)) p
     → (number : ℕ) → IsOnItsWay x w.net key (request_to x key t.ask) number
-    → IsServed S shop x key t.ask p w (happens S shop x w (Deliver number free))
+    → IsServed S model x key t.ask p w (happens S model x w (Deliver number free))
 
 -- a request in segments that was performed is served where a copy of any of its segments is delivered
 abbrev pub RoundTripSufficesInSegments : (S : Type 0) → StoreModel S → Rules → World S → Type 0
-RoundTripSufficesInSegments S shop x w =
+RoundTripSufficesInSegments S model x w =
     (key : Key) → HasWindows x key → (t : ClientTransaction) → w.net.tickets key ≡ Some t → (p : Reply) → FitsInOne x key t.ask p
     → HasPerformed x w.net key t.ask None p
     → (number piece : ℕ) (free : Bool) → IsOnItsWay x w.net key (segment_to x key t.ask piece) number
-    → IsServed S shop x key t.ask p w (happens S shop x w (Deliver number free))
+    → IsServed S model x key t.ask p w (happens S model x w (Deliver number free))

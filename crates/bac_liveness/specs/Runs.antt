@@ -8,8 +8,8 @@ use Rattle.bac_protocol.specs.World.{Net, World, Post, Event, is_deliverable, ha
 
 -- each event of a run has that, in the world in which it happens
 abbrev pub Throughout : (S : Type 0) → StoreModel S → Rules → (World S → Event → Type 0) → List Event → World S → Type 0
-Throughout S shop x P [] w = Unit {0}
-Throughout S shop x P (e ∷ es) w = P w e × Throughout S shop x P es (happens S shop x w e)
+Throughout S model x P [] w = Unit {0}
+Throughout S model x P (e ∷ es) w = P w e × Throughout S model x P es (happens S model x w e)
 
 -- how many endings of ask n a log has
 abbrev pub endings_of : ℕ → List Fact → ℕ

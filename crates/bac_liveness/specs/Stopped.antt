@@ -30,10 +30,10 @@ pub record GoesOnWith (x : Rules) (key : Key) (choice : ℕ) (entry : ServerTran
   pub log : new.log ≡ old.log
 
 -- each copy of a request of one APDU that is delivered does that, and each segment of one in segments
-pub record StoppedGoesOn (S : Type 0) (shop : StoreModel S) (x : Rules) (w : World S) : Type 0 where
+pub record StoppedGoesOn (S : Type 0) (model : StoreModel S) (x : Rules) (w : World S) : Type 0 where
   pub whole : (key : Key) (t : ClientTransaction) → w.net.tickets key ≡ Some t → (out : Outgoing) (h : HasStopped w.net key (Some (join t.ask.pieces)) out)
       → (number : ℕ) (free : Bool) → IsOnItsWay x w.net key (request_to x key t.ask) number
-      → GoesOnWith x key t.ask.choice h.entry out w.net (happens S shop x w (Deliver number free)).net
+      → GoesOnWith x key t.ask.choice h.entry out w.net (happens S model x w (Deliver number free)).net
   pub segment : (key : Key) (t : ClientTransaction) → w.net.tickets key ≡ Some t → (out : Outgoing) (h : HasStopped w.net key None out)
       → (number piece : ℕ) (free : Bool) → IsOnItsWay x w.net key (segment_to x key t.ask piece) number
-      → GoesOnWith x key t.ask.choice h.entry out w.net (happens S shop x w (Deliver number free)).net
+      → GoesOnWith x key t.ask.choice h.entry out w.net (happens S model x w (Deliver number free)).net

@@ -22,9 +22,9 @@ pub record IsDue (now : ℕ) (t : ClientTransaction) : Type 0 where
 -- where the server can perform its request then or has performed it, its tick sends the request, whose delivery sends the answer, whose delivery ends
 -- the ask with the reply with which it was performed
 abbrev pub OneTurnSuffices : (S : Type 0) → StoreModel S → Rules → World S → Type 0
-OneTurnSuffices S shop x w =
+OneTurnSuffices S model x w =
     (key : Key) (t : ClientTransaction) → w.net.tickets key ≡ Some t → t.ask.whole ≡ true → IsDue w.net.now t → (p : Reply) → FitsInOne x key t.ask p
-    → (free other : Bool) → CanPerform S shop w key t.ask free p ⊎ HasPerformed x w.net key t.ask (Some (join t.ask.pieces)) p
-    → (let u = happens S shop x (happens S shop x w (Tick (key ∷ []) [])) (Deliver (length w.net.posts) free) in
+    → (free other : Bool) → CanPerform S model w key t.ask free p ⊎ HasPerformed x w.net key t.ask (Some (join t.ask.pieces)) p
+    → (let u = happens S model x (happens S model x w (Tick (key ∷ []) [])) (Deliver (length w.net.posts) free) in
     Has (Performed (w.net.numbers key) (request_of t.ask) p) u.net.log
-    × IsAnsweredNow S key (w.net.numbers key) p u (happens S shop x u (Deliver (length w.net.posts + 1) other)))
+    × IsAnsweredNow S key (w.net.numbers key) p u (happens S model x u (Deliver (length w.net.posts + 1) other)))

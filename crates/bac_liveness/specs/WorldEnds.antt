@@ -8,7 +8,7 @@ use Rattle.bac_protocol.specs.Wire.{is_from_server}
 use Rattle.bac_protocol.specs.Client.{ClientTransaction, is_idle}
 use Rattle.bac_slots.specs.Slots.{value_at}
 use Rattle.bac_transaction.specs.Keys.{PeerKey, same_key}
-use Rattle.bac_transaction.specs.Meanings.{Finish}
+use Rattle.bac_transaction.specs.Meanings.{EndedView}
 use Rattle.bac_transaction.specs.Meanings.Ending.{Expired}
 use Rattle.bac_transaction.specs.Ends.{key_of}
 use Rattle.bac_transaction.specs.Ends.TransactionSlot.{Open, Closed}
@@ -27,14 +27,14 @@ abbrev pub IsOpen : Node → PeerKey → (number : ℕ) → ClientTransaction �
 IsOpen n key number t = value_at same_key key n.clients.slots ≡ Some (record { number = number; held = Open t })
 
 -- how many of these are endings of that ticket
-abbrev pub finishes_of : ℕ → List Finish → ℕ
+abbrev pub finishes_of : ℕ → List EndedView → ℕ
 finishes_of number [] = 0
 finishes_of number (f ∷ fs) = if nat_eq f.ticket number then suc (finishes_of number fs) else finishes_of number fs
 
-abbrev pub expired : (number : ℕ) → Finish
+abbrev pub expired : (number : ℕ) → EndedView
 expired number = record { ticket = number; how = Expired }
 
-abbrev pub HasFinish : Finish → List Finish → Type 0
+abbrev pub HasFinish : EndedView → List EndedView → Type 0
 HasFinish f [] = ⊥
 HasFinish f (g ∷ fs) = (g ≡ f) ⊎ HasFinish f fs
 
@@ -45,7 +45,7 @@ pub record HasTicketsApart (n : Node) : Type 0 where
   pub going : (p : PeerKey) (number : ℕ) (t : ClientTransaction) → IsOpen n p number t → is_idle t.phase ≡ false
 
 -- a ticket's end, and the slot that remembers it
-pub record Expires (n : Node) (key : PeerKey) (number : ℕ) (t : ClientTransaction) (ended : List Finish) : Type 0 where
+pub record Expires (n : Node) (key : PeerKey) (number : ℕ) (t : ClientTransaction) (ended : List EndedView) : Type 0 where
   pub has : HasFinish (expired number) ended
   pub once : finishes_of number ended ≡ 1
   pub closed : value_at same_key key n.clients.slots ≡ Some (record { number = number; held = Closed t.ask.first })

@@ -1,7 +1,7 @@
 -- What comes of a node's call enters the world.
 use Rattle.std.proofs.Common.{◌≡◌, ℕ, List, [], ◌∷◌, ◌++◌, length, map, reverse, Option, Some, None, slice_get, refl, sym, ap, subst, ◌∙◌, arith}
 use Rattle.std.proofs.lemmas.List.{length-map, length-reverse, map-append, reverse-append}
-use Rattle.bac_transaction.specs.Meanings.{Finish}
+use Rattle.bac_transaction.specs.Meanings.{EndedView}
 use Rattle.bac_world.specs.Node.{Node, Outcome}
 use Rattle.bac_world.specs.Once as once
 use Rattle.bac_world.specs.Once.Fact.{Ended}
@@ -25,16 +25,16 @@ log_push log f = ap reverse (map-append fact_view log (f ∷ [])) ∙ reverse-ap
 pub notes_many : (notes : List code.Note) → length notes ≡ length (notes_view notes)
 notes_many notes = sym (length-reverse (map note_view notes) ∙ length-map notes note_view)
 
-pub more_ended : (notes : List Note) (node : ℕ) (fs gs : List Finish) (a b c : List once.Fact) → AreEnded notes node fs a b → AreEnded notes node gs b c
+pub more_ended : (notes : List Note) (node : ℕ) (fs gs : List EndedView) (a b c : List once.Fact) → AreEnded notes node fs a b → AreEnded notes node gs b c
     → AreEnded notes node (fs ++ gs) a c
 more_ended notes node [] gs a b c h k = subst (λ (l : List once.Fact). AreEnded notes node gs l c) h k
 more_ended notes node (f ∷ fs) gs a b c h k = (h.0, h.1, more_ended notes node fs gs (Ended h.0 f.how ∷ a) b c h.2 k)
 
-pub head_noted : (notes : List Note) (node : ℕ) (fs : List Finish) (f : Finish) (rest : List Finish) → fs ≡ f ∷ rest → AreNoted notes node fs
+pub head_noted : (notes : List Note) (node : ℕ) (fs : List EndedView) (f : EndedView) (rest : List EndedView) → fs ≡ f ∷ rest → AreNoted notes node fs
     → AreNoted notes node (f ∷ [])
 head_noted notes node fs f rest is h = let k : AreNoted notes node (f ∷ rest) = subst (AreNoted notes node) is h in (k.0, tt)
 
-pub tail_noted : (notes : List Note) (node : ℕ) (fs : List Finish) (f : Finish) (rest : List Finish) → fs ≡ f ∷ rest → AreNoted notes node fs
+pub tail_noted : (notes : List Note) (node : ℕ) (fs : List EndedView) (f : EndedView) (rest : List EndedView) → fs ≡ f ∷ rest → AreNoted notes node fs
     → AreNoted notes node rest
 tail_noted notes node fs f rest is h = let k : AreNoted notes node (f ∷ rest) = subst (AreNoted notes node) is h in k.1
 

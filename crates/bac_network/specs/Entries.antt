@@ -4,14 +4,14 @@ use Rattle.bac_world.specs.Node.{Node, Outcome}
 use Rattle.bac_world.specs.Once.{Fact}
 use Rattle.bac_world.specs.Services.{Performed}
 use Rattle.bac_world.specs.World.{Note, newest, ask_of, AreEnded, AreLogged}
-use Rattle.bac_transaction.specs.Meanings.{Finish}
+use Rattle.bac_transaction.specs.Meanings.{EndedView}
 use Rattle.bac_journal.specs.Entering.{Every}
 use Rattle.bac_journal.specs.Growing.{BecomeCopies, CanBecome}
 use Rattle.bac_journal.specs.Journals.{JournalView}
 use Rattle.bac_journal.specs.Views.{AreLinks}
 
 -- the endings of a node's tickets have the numbers of asks
-abbrev pub AreNoted : List Note → (node : ℕ) → List Finish → Type 0
+abbrev pub AreNoted : List Note → (node : ℕ) → List EndedView → Type 0
 AreNoted notes node ended = Every (λ f. (number : ℕ) × (ask_of node f.ticket notes ≡ Some number)) ended
 
 -- what was performed has a client, whose newest ask is known

@@ -6,7 +6,7 @@ use Rattle.bac_npdu.specs.Peers.{PeerView}
 use Rattle.bac_store.specs.Stores.{Store}
 use Rattle.bac_transaction.specs.Ends as ends
 use Rattle.bac_transaction.specs.Ends.{ServerEnd, ServerTurn, requester_tick, responder_on_apdu, responder_tick}
-use Rattle.bac_transaction.specs.Meanings.{Finish, IsFinish}
+use Rattle.bac_transaction.specs.Meanings.{EndedView, IsEndedView}
 use Rattle.bac_transaction.specs.Sends.{Datagram, IsSent, Pairwise}
 use Rattle.bac_transaction.specs.Services as server
 use Rattle.bac_transaction.specs.Services.{service_of}
@@ -59,5 +59,5 @@ both_joined now n x y more told server sends ended =
     record {
       sends = subst (λ (l : List Datagram). Pairwise IsSent ((requester_tick n.settings now n.clients).sends ++ (responder_tick n.settings now n.servers).sends) l)
           (sym sends) (pairwise_join IsSent _ _ _ _ told.sends server);
-      ended = subst (λ (l : List Finish). Pairwise IsFinish (requester_tick n.settings now n.clients).ended l) (sym ended) told.ended;
+      ended = subst (λ (l : List EndedView). Pairwise IsEndedView (requester_tick n.settings now n.clients).ended l) (sym ended) told.ended;
     }

@@ -11,7 +11,7 @@ use Rattle.bac_protocol.specs.Sizes.{RequestFault}
 use Rattle.bac_protocol.specs.Wire.{is_from_client}
 use Rattle.bac_value.specs.declared.memory.NoMemory.{NoMemory}
 use Rattle.bac_transaction.specs.Ends.{Accepted, AskOutcome, AskRefusal, CannotGo, ClientEnd, key_of, requester_ask, requester_tick, responder_tick}
-use Rattle.bac_transaction.specs.Meanings.{IsFinish}
+use Rattle.bac_transaction.specs.Meanings.{IsEndedView}
 use Rattle.bac_transaction.specs.Sends.{IsSent, Pairwise}
 use Rattle.bac_requester.specs.Reactions.{HasNoneOpen}
 use Rattle.bac_requester.specs.Views.{ended_view}
@@ -49,7 +49,7 @@ ticked now n =
 -- what a tick of both ends sends and ends
 pub record IsTickOfBoth (now : ℕ) (n : Node) (x : Reaction) : Type 0 where
   pub sends : Pairwise IsSent ((requester_tick n.settings now n.clients).sends ++ (responder_tick n.settings now n.servers).sends) x.sends.items
-  pub ended : Pairwise IsFinish (requester_tick n.settings now n.clients).ended (map ended_view x.ended.items)
+  pub ended : Pairwise IsEndedView (requester_tick n.settings now n.clients).ended (map ended_view x.ended.items)
 
 -- An ask.
 

@@ -1,7 +1,7 @@
 //! The words of a line.
 use bac_service::OwnedRequest;
 use bac_service_text::read_request_words;
-use bac_simulate::{SetFile, SetProperty, Step, read_step};
+use bac_simulate::{SetFile, SetProperty, Statement, read_statement};
 use bac_store::Change;
 use std::alloc::Global;
 
@@ -51,9 +51,9 @@ pub(crate) fn request_of(alloc: Global, text: &str) -> Option<OwnedRequest> {
 /// The change that `set` or `file` makes with these words, as in a script but without the node.
 pub(crate) fn change_of(alloc: Global, verb: &str, words: &str) -> Option<Change> {
     let line = format!(in alloc; "{verb} 0 {words}").ok()?;
-    match read_step(alloc, line.as_bytes()) {
+    match read_statement(alloc, line.as_bytes()) {
         Ok(
-            Step::SetProperty(
+            Statement::SetProperty(
                 SetProperty {
                     object,
                     property,
@@ -66,7 +66,10 @@ pub(crate) fn change_of(alloc: Global, verb: &str, words: &str) -> Option<Change
             property,
             octets,
         }),
-        Ok(Step::SetFile(SetFile { object, octets, .. })) => Some(Change::File { object, octets }),
+        Ok(Statement::SetFile(SetFile { object, octets, .. })) => Some(Change::File {
+            object,
+            octets,
+        }),
         _ => None,
     }
 }

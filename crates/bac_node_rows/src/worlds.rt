@@ -11,7 +11,7 @@ use crate::scene::{house_after, link, nodes_of, overtake_of};
 use crate::words::{first, octets_of, put, request_of};
 use bac_commands::print_ended;
 use bac_network::{Event, Fact, StraightRun, World, WorldFault, straight};
-use bac_simulate::{Step, read_step, simulate_in};
+use bac_simulate::{Statement, read_statement, simulate_in};
 use bac_store::{Store, house};
 use std::alloc::Global;
 use std::io::Write;
@@ -129,23 +129,23 @@ fn flow(world: &mut World, words: &str, out: &mut Vec<u8>) -> Option<()> {
 
 /// The event of a script's line; an ask goes by what the asked node takes.
 fn event_of(alloc: Global, world: &World, line: &str) -> Option<Event> {
-    let Ok(step) = read_step(alloc, line.as_bytes()) else {
+    let Ok(step) = read_statement(alloc, line.as_bytes()) else {
         return None;
     };
     match step {
-        Step::Ask(ask) => Some(Event::Ask {
+        Statement::Ask(ask) => Some(Event::Ask {
             client: ask.client as usize,
             server: ask.server as usize,
             limits: world.nodes().get(ask.server as usize)?.settings().limits,
             request: ask.request,
         }),
-        Step::Deliver(number) => Some(Event::Deliver {
+        Statement::Deliver(number) => Some(Event::Deliver {
             number: number as usize,
         }),
-        Step::Tick(node) => Some(Event::Tick {
+        Statement::Tick(node) => Some(Event::Tick {
             node: node as usize,
         }),
-        Step::Advance(by) => Some(Event::Advance { by }),
+        Statement::Advance(by) => Some(Event::Advance { by }),
         _ => None,
     }
 }

@@ -5,14 +5,14 @@ use Rattle.toml.specs.Data.{Members, get_member}
 use Rattle.toml.specs.View.{members_view}
 use Rattle.toml.proofs.Views.{Entry}
 use Rattle.bac_objects.specs.Held.{count, found_in, or_later, plain}
-use Rattle.bac_objects.specs.declared.form.Form.{Form}
+use Rattle.bac_objects.specs.declared.form.ValueForm.{ValueForm}
 
 pub count_length : (es : List Entry) → count (members_view es) ≡ length es
 count_length [] = omega arith
 count_length (e ∷ es) = omega (arith, count_length es)
 
 abbrev pub CodeRow : Type 0
-CodeRow = Bor (List ℕ) × Form
+CodeRow = Bor (List ℕ) × ValueForm
 
 pub found_next : (rows : List CodeRow) (ms : Members) (i : ℕ) (d : CodeRow) → i < length rows
     → found_in (plain (drop i rows)) ms

@@ -4,7 +4,7 @@ use Rattle.std.specs.Borrow.{Bor}
 use Rattle.bac_value.specs.Steps.{◌>>=◌}
 use Rattle.toml.specs.Data.{Data, Members, no_members, member, get_member}
 use Rattle.bac_objects.specs.Reading.{boolean_of, table_of}
-use Rattle.bac_objects.specs.declared.form.Form.{Form}
+use Rattle.bac_objects.specs.declared.form.ValueForm.{ValueForm}
 use Rattle.bac_objects.specs.declared.form.TheConstants as code
 use Rattle.bac_objects.specs.declared.problem.Problem.{Problem}
 use Rattle.bac_objects.specs.declared.problem.Given.TheVariants as given
@@ -12,9 +12,9 @@ use Rattle.bac_objects.specs.declared.problem.Wanted.TheVariants as wanted
 
 -- a word, and the form that it stands for
 abbrev pub Row : Type 0
-Row = List ℕ × Form
+Row = List ℕ × ValueForm
 
-abbrev pub plain : List (Bor (List ℕ) × Form) → List Row
+abbrev pub plain : List (Bor (List ℕ) × ValueForm) → List Row
 plain rows = map (λ r. (r.0.now, r.1)) rows
 
 -- the words for values of a property, and for the octets of a file
@@ -28,12 +28,12 @@ abbrev pub count : Members → ℕ
 count no_members = 0
 count (member k d ms) = 1 + count ms
 
-abbrev pub or_later : Form → Option Data → Option (Form × Data) → Option (Form × Data)
+abbrev pub or_later : ValueForm → Option Data → Option (ValueForm × Data) → Option (ValueForm × Data)
 or_later f (Some d) later = Some (f, d)
 or_later f None later = later
 
 -- the value under the first of the words that is a key
-abbrev pub found_in : List Row → Members → Option (Form × Data)
+abbrev pub found_in : List Row → Members → Option (ValueForm × Data)
 found_in [] ms = None
 found_in (r ∷ rows) ms = or_later r.1 (get_member r.0 ms) (found_in rows ms)
 
@@ -51,7 +51,7 @@ the_mark ms = get_member (codes "writable") ms
 
 -- the form of a value, the value, and whether it is writable
 pub record Held : Type 0 where
-  pub form : Form
+  pub form : ValueForm
   pub value : Data
   pub writable : Bool
 

@@ -14,8 +14,8 @@ use Rattle.bac_objects.specs.Identifiers.{or_other}
 use Rattle.bac_objects.specs.Reading.{other, text_of, too_long}
 use Rattle.bac_objects.specs.Values.{hex_of, value_of}
 use Rattle.bac_objects.specs.declared.form.Kind.TheVariants.{Real, Text}
-use Rattle.bac_objects.specs.declared.form.Form.{Form}
-use Rattle.bac_objects.specs.declared.form.Form.TheVariants.{Value, Hex}
+use Rattle.bac_objects.specs.declared.form.ValueForm.{ValueForm}
+use Rattle.bac_objects.specs.declared.form.ValueForm.TheVariants.{Value, Hex}
 use Rattle.bac_objects.specs.declared.problem.Problem.{Problem}
 use Rattle.bac_objects.specs.declared.problem.Wanted.{Wanted}
 use Rattle.bac_objects.specs.declared.problem.Wanted.TheVariants as wanted
@@ -39,7 +39,7 @@ whole_data octets (Ok (o ∷ rest)) = Err (other wanted.Spelling)
 whole_data octets (Err e) = Err (other wanted.Spelling)
 
 -- an encoded value of that kind, or octets that encode data (clause 20.2)
-abbrev pub spelling_of : Form → Data → Result (List ℕ) Problem
+abbrev pub spelling_of : ValueForm → Data → Result (List ℕ) Problem
 spelling_of (Value k) d = value_of k d >>= (λ v. Ok (value_spelling v))
 spelling_of Hex d = hex_of d >>= (λ octets. whole_data octets (data_of octets))
 
@@ -48,11 +48,11 @@ abbrev pub wanted_at : (kind number : ℕ) → Wanted
 wanted_at kind number =
     if number == DESCRIPTION then wanted.Kind Text else (if kind == BINARY_VALUE then wanted.State else wanted.Kind Real)
 
-abbrev pub given_as : Form → Given
+abbrev pub given_as : ValueForm → Given
 given_as (Value k) = given.Kind k
 given_as Hex = given.Hex
 
-abbrev pub right_at : (kind number : ℕ) → Form → List ℕ → Result (List ℕ) Problem
+abbrev pub right_at : (kind number : ℕ) → ValueForm → List ℕ → Result (List ℕ) Problem
 right_at kind number form values =
     if nat_lt VALUE_LIMIT (length values) then Err too_long
     else (if are_right_values kind number values then Ok values else Err (record { wanted = wanted_at kind number; given = given_as form }))
@@ -82,7 +82,7 @@ own_property kind done key d = property_of kind key d >>= not_yet done
 
 -- ---- the octets of a file
 
-abbrev pub content_of : Form → Data → Result (List ℕ) Problem
+abbrev pub content_of : ValueForm → Data → Result (List ℕ) Problem
 content_of Hex d = hex_of d
 content_of (Value k) d = text_of wanted.Text d
 

@@ -20,33 +20,33 @@ pub enum Kind {
 
 /// The form of values: one value of a kind, or encoded values in hexadecimal.
 #[derive(Clone, Copy, Debug, PartialEq, Eq)]
-pub enum Form {
+pub enum ValueForm {
     Value(Kind),
     Hex,
 }
 
 /// The words for the forms of a property's values.
-pub(crate) const FORMS: &[(&str, Form)] = &[
-    ("null", Form::Value(Kind::Null)),
-    ("boolean", Form::Value(Kind::Boolean)),
-    ("unsigned", Form::Value(Kind::Unsigned)),
-    ("signed", Form::Value(Kind::Signed)),
-    ("real", Form::Value(Kind::Real)),
-    ("double", Form::Value(Kind::Double)),
-    ("octets", Form::Value(Kind::Octets)),
-    ("text", Form::Value(Kind::Text)),
-    ("bits", Form::Value(Kind::Bits)),
-    ("enumerated", Form::Value(Kind::Enumerated)),
-    ("date", Form::Value(Kind::Date)),
-    ("time", Form::Value(Kind::Time)),
-    ("object", Form::Value(Kind::Object)),
-    ("hex", Form::Hex),
+pub(crate) const FORMS: &[(&str, ValueForm)] = &[
+    ("null", ValueForm::Value(Kind::Null)),
+    ("boolean", ValueForm::Value(Kind::Boolean)),
+    ("unsigned", ValueForm::Value(Kind::Unsigned)),
+    ("signed", ValueForm::Value(Kind::Signed)),
+    ("real", ValueForm::Value(Kind::Real)),
+    ("double", ValueForm::Value(Kind::Double)),
+    ("octets", ValueForm::Value(Kind::Octets)),
+    ("text", ValueForm::Value(Kind::Text)),
+    ("bits", ValueForm::Value(Kind::Bits)),
+    ("enumerated", ValueForm::Value(Kind::Enumerated)),
+    ("date", ValueForm::Value(Kind::Date)),
+    ("time", ValueForm::Value(Kind::Time)),
+    ("object", ValueForm::Value(Kind::Object)),
+    ("hex", ValueForm::Hex),
 ];
 
 /// The words for the forms of a file's octets.
-pub(crate) const FILE_FORMS: &[(&str, Form)] = &[
-    ("hex", Form::Hex),
-    ("text", Form::Value(Kind::Text)),
+pub(crate) const FILE_FORMS: &[(&str, ValueForm)] = &[
+    ("hex", ValueForm::Hex),
+    ("text", ValueForm::Value(Kind::Text)),
 ];
 
 impl Kind {

@@ -7,7 +7,7 @@ ghost use Rattle.toml.specs.View.{view, table_view};
 ghost use Rattle.bac_objects.specs.Held.{FILE_FORMS as FILE_ROWS, FORMS as ROWS, alone as alone_of, count as count_of, found_in as found_of, held_by as held_of, held_in, mark_of, or_nothing, plain, the_mark};
 ghost use Rattle.bac_objects.specs.Views.{held_view};
 
-use crate::form::{FILE_FORMS, FORMS, Form};
+use crate::form::{FILE_FORMS, FORMS, ValueForm};
 use crate::problem::{Given, Problem, Wanted};
 use crate::scalars::{boolean, table};
 use toml::{Table, Value};
@@ -15,7 +15,7 @@ use toml::{Table, Value};
 /// A value and the form that its word stands for.
 #[derive(Clone, Copy)]
 pub(crate) struct Held<'a> {
-    pub(crate) form: Form,
+    pub(crate) form: ValueForm,
     pub(crate) value: &'a Value,
     pub(crate) writable: bool,
 }
@@ -36,7 +36,7 @@ pub(crate) fn count(table: &Table) -> usize
 
 /// The value under the first of some words that is a key.
 #[tactic(auto, using(crate::proofs::Tables::found_next))]
-fn found_in<'a>(rows: &[(&str, Form)], table: &'a Table) -> Option<(Form, &'a Value)>
+fn found_in<'a>(rows: &[(&str, ValueForm)], table: &'a Table) -> Option<(ValueForm, &'a Value)>
     ensures { option_map (λ f. (f.0, view f.1.now)) result ≡ found_of (plain rows.now) (table_view table.now) }
 {
     for row in rows {
@@ -57,7 +57,10 @@ fn is_writable(mark: Option<&Value>) -> Result<bool, Problem>
 }
 
 /// The value under one of some words.
-fn found<'a>(rows: &[(&str, Form)], table: &'a Table) -> Result<(Form, &'a Value), Problem>
+fn found<'a>(
+    rows: &[(&str, ValueForm)],
+    table: &'a Table,
+) -> Result<(ValueForm, &'a Value), Problem>
     ensures { ReadsAll (λ f. (f.0, view f.1.now)) result (or_nothing (found_of (plain rows.now) (table_view table.now))) }
 {
     match found_in(rows, table) {
@@ -84,7 +87,7 @@ fn alone(is_marked: bool, keys: usize, held: Held<'_>) -> Result<Held<'_>, Probl
 }
 
 #[tactic(auto, unfolding(crate::specs::Held::held_by))]
-fn held_by<'a>(rows: &[(&str, Form)], table: &'a Table) -> Result<Held<'a>, Problem>
+fn held_by<'a>(rows: &[(&str, ValueForm)], table: &'a Table) -> Result<Held<'a>, Problem>
     ensures { ReadsAll held_view result (held_of (plain rows.now) (table_view table.now)) }
 {
     let mark = member(table, "writable");
@@ -99,14 +102,14 @@ fn held_by<'a>(rows: &[(&str, Form)], table: &'a Table) -> Result<Held<'a>, Prob
 }
 
 /// The words for the values of a property.
-fn forms() -> &'static [(&'static str, Form)]
+fn forms() -> &'static [(&'static str, ValueForm)]
     ensures { plain result.now ≡ ROWS }
 {
     FORMS
 }
 
 /// The words for the octets of a file.
-fn file_forms() -> &'static [(&'static str, Form)]
+fn file_forms() -> &'static [(&'static str, ValueForm)]
     ensures { plain result.now ≡ FILE_ROWS }
 {
     FILE_FORMS

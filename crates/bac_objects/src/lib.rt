@@ -17,5 +17,5 @@ mod values;
 
 pub use document::read_objects;
 pub use fault::{DocumentFault, Place};
-pub use form::{Form, Kind};
+pub use form::{Kind, ValueForm};
 pub use problem::{Given, Problem, Wanted};

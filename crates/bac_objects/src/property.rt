@@ -15,7 +15,7 @@ ghost use Rattle.bac_objects.specs.Properties.{own_property as own_property_of, 
 ghost use Rattle.bac_objects.specs.Properties.{wanted_at as wanted_by, whole_data};
 
 use crate::fault::ValueFault;
-use crate::form::{Form, Kind};
+use crate::form::{Kind, ValueForm};
 use crate::held::{held_file, held_values};
 use crate::problem::{Given, Problem, Wanted};
 use crate::scalars::text;
@@ -87,15 +87,15 @@ fn data_in(octets: Vec<u8>) -> Result<DataBuf, Problem>
 }
 
 /// Reads the values in a form.
-fn values_in(alloc: Global, form: Form, value: &Value) -> Result<DataBuf, ValueFault>
+fn values_in(alloc: Global, form: ValueForm, value: &Value) -> Result<DataBuf, ValueFault>
     ensures { Reads (λ d. d.octets.items) result (spelling_of form (view value.now)) }
 {
     match form {
-        Form::Value(kind) => {
+        ValueForm::Value(kind) => {
             let value = value_in(alloc, kind, value)?;
             Ok(spelled(alloc, &value)?)
         }
-        Form::Hex => {
+        ValueForm::Hex => {
             let octets = hex_octets(alloc, value)?;
             Ok(data_in(octets)?)
         }
@@ -150,17 +150,17 @@ fn wanted_at(kind: u16, number: u32) -> Wanted
     }
 }
 
-fn given_as(form: Form) -> Given
+fn given_as(form: ValueForm) -> Given
     ensures { result ≡ given_by form }
 {
     match form {
-        Form::Value(kind) => Given::Kind(kind),
-        Form::Hex => Given::Hex,
+        ValueForm::Value(kind) => Given::Kind(kind),
+        ValueForm::Hex => Given::Hex,
     }
 }
 
 /// Checks that values are not too long, and valid for the property.
-fn right_at(kind: u16, number: u32, form: Form, values: DataBuf) -> Result<DataBuf, Problem>
+fn right_at(kind: u16, number: u32, form: ValueForm, values: DataBuf) -> Result<DataBuf, Problem>
     ensures is { ReadsAll (λ d. d.octets.items) result (right_of kind number form values.octets.items) }
     ensures short { IfOk result (λ d. length d.octets.items ≤ VALUE_MOST) }
     ensures right { IfOk result (λ d. IsTrue (are_right kind number d.octets.items)) }
@@ -232,12 +232,12 @@ pub(crate) fn own_property(
     Ok(property)
 }
 
-fn content_in(alloc: Global, form: Form, value: &Value) -> Result<Vec<u8>, ValueFault>
+fn content_in(alloc: Global, form: ValueForm, value: &Value) -> Result<Vec<u8>, ValueFault>
     ensures { Reads (λ v. v.items) result (content_of form (view value.now)) }
 {
     match form {
-        Form::Hex => hex_octets(alloc, value),
-        Form::Value(_) => {
+        ValueForm::Hex => hex_octets(alloc, value),
+        ValueForm::Value(_) => {
             let text = text(Wanted::Text, value)?;
             Ok(Vec::from_slice(alloc, text.as_bytes())?)
         }

@@ -72,52 +72,52 @@ none_there : (k : ℕ) (c : Copy) → slice_get [] k ≡ Some c → ⊥
 none_there k c e = cc
 
 -- Where no node changes its own store, stores change by performed requests alone.
-pub by_requests : (S : Type 0) (shop : StoreModel S) (opening : ℕ → S) (log : List Fact) (stores : ℕ → S) → HasNoChange log → IsOnce S shop opening log stores
-    → IsOnceByRequests S shop opening log stores
-by_requests S shop opening [] stores none h = h
-by_requests S shop opening (Asked n c s r ∷ log) stores none h = (h.0, h.1, by_requests S shop opening log h.0 none h.2)
-by_requests S shop opening (Performed n r p ∷ log) stores none h = (h.0, h.1, by_requests S shop opening log h.0 none h.2)
-by_requests S shop opening (Ended n how ∷ log) stores none h = (h.0, h.1, by_requests S shop opening log h.0 none h.2)
-by_requests S shop opening (Changed s c ∷ log) stores none h = absurd none
-by_requests S shop opening (Restarted s o ∷ log) stores none h = (h.0, (none.0, kept o none.0 h.1), by_requests S shop opening log h.0 none.1 h.2)
+pub by_requests : (S : Type 0) (model : StoreModel S) (opening : ℕ → S) (log : List Fact) (stores : ℕ → S) → HasNoChange log → IsOnce S model opening log stores
+    → IsOnceByRequests S model opening log stores
+by_requests S model opening [] stores none h = h
+by_requests S model opening (Asked n c s r ∷ log) stores none h = (h.0, h.1, by_requests S model opening log h.0 none h.2)
+by_requests S model opening (Performed n r p ∷ log) stores none h = (h.0, h.1, by_requests S model opening log h.0 none h.2)
+by_requests S model opening (Ended n how ∷ log) stores none h = (h.0, h.1, by_requests S model opening log h.0 none h.2)
+by_requests S model opening (Changed s c ∷ log) stores none h = absurd none
+by_requests S model opening (Restarted s o ∷ log) stores none h = (h.0, (none.0, kept o none.0 h.1), by_requests S model opening log h.0 none.1 h.2)
   where
     same : (node : ℕ) (b : Bool) → nat_eq node s ≡ b → (if b then h.0 s else h.0 node) ≡ h.0 node
     same node true e = let is : s ≡ node = grind (arith, nat_tests) in ap h.0 is
     same node false e = refl
 
-    kept : (o : Option Octets) → o ≡ None → MayEnter S shop (Restarted s o) log h.0 stores → AreSame S h.0 stores
+    kept : (o : Option Octets) → o ≡ None → MayEnter S model (Restarted s o) log h.0 stores → AreSame S h.0 stores
     kept None is may = λ node. may node ∙ same node (nat_eq node s) refl
     kept (Some store) is may = absurd cc
 
 -- Where no server restarts, the log is right without restarts.
-pub in_one_life : (S : Type 0) (shop : StoreModel S) (opening : ℕ → S) (log : List Fact) (stores : ℕ → S) → HasNoRestart log → IsOnce S shop opening log stores
-    → IsOnceInOneLife S shop opening log stores
-in_one_life S shop opening [] stores none h = h
-in_one_life S shop opening (Asked n c s r ∷ log) stores none h = (h.0, h.1, in_one_life S shop opening log h.0 none h.2)
-in_one_life S shop opening (Performed n r p ∷ log) stores none h = (h.0, h.1, in_one_life S shop opening log h.0 none h.2)
-in_one_life S shop opening (Ended n how ∷ log) stores none h = (h.0, h.1, in_one_life S shop opening log h.0 none h.2)
-in_one_life S shop opening (Changed s c ∷ log) stores none h = (h.0, h.1, in_one_life S shop opening log h.0 none h.2)
-in_one_life S shop opening (Restarted s o ∷ log) stores none h = absurd none
+pub in_one_life : (S : Type 0) (model : StoreModel S) (opening : ℕ → S) (log : List Fact) (stores : ℕ → S) → HasNoRestart log → IsOnce S model opening log stores
+    → IsOnceInOneLife S model opening log stores
+in_one_life S model opening [] stores none h = h
+in_one_life S model opening (Asked n c s r ∷ log) stores none h = (h.0, h.1, in_one_life S model opening log h.0 none h.2)
+in_one_life S model opening (Performed n r p ∷ log) stores none h = (h.0, h.1, in_one_life S model opening log h.0 none h.2)
+in_one_life S model opening (Ended n how ∷ log) stores none h = (h.0, h.1, in_one_life S model opening log h.0 none h.2)
+in_one_life S model opening (Changed s c ∷ log) stores none h = (h.0, h.1, in_one_life S model opening log h.0 none h.2)
+in_one_life S model opening (Restarted s o ∷ log) stores none h = absurd none
 
 -- No event moves the log and the stores apart.
-module _ (S : Type 0) (shop : StoreModel S) (opening : ℕ → S) (W : ℕ) (x : Rules) (bound : IsBounded W x) where
+module _ (S : Type 0) (model : StoreModel S) (opening : ℕ → S) (W : ℕ) (x : Rules) (bound : IsBounded W x) where
   pub record Kept (w : World S) : Type 0 where
     pub net : NetSound W w.net
     pub calm : Calm w.net
-    pub once : IsOnce S shop opening w.net.log w.stores
+    pub once : IsOnce S model opening w.net.log w.stores
 
   reacts_kept : (w : World S) → Kept w → (key : Key) (t : ClientTransaction) (r : client.Reaction) → NetSound W (client_acts w.net key t r) → Calm (client_acts w.net key t r)
       → Kept (reacts S w key t r)
   reacts_kept w s key t r sound calm = record { net = sound; calm = calm; once = go (client.ending_of r) ((net_log W (client_acts w.net key t r) sound).orderly) }
     where
-      go : (o : Option Ending) → IsOrderly (ended (w.net.numbers key) o w.net.log) → IsOnce S shop opening (ended (w.net.numbers key) o w.net.log) w.stores
+      go : (o : Option Ending) → IsOrderly (ended (w.net.numbers key) o w.net.log) → IsOnce S model opening (ended (w.net.numbers key) o w.net.log) w.stores
       go None h = s.once
       go (Some how) h = (w.stores, (h.0, h.1, λ node. refl), s.once)
 
   -- a request was performed
-  effect_once : (w : World S) → Kept w → (key : Key) (t : ClientTransaction) → w.net.tickets key ≡ Some t → (e : Effect) → IsServed (service_of S shop w key) (Some e)
+  effect_once : (w : World S) → Kept w → (key : Key) (t : ClientTransaction) → w.net.tickets key ≡ Some t → (e : Effect) → IsServed (service_of S model w key) (Some e)
       → IsOrderly (Performed (w.net.numbers key) e.request e.reply ∷ w.net.log)
-      → IsOnce S shop opening (Performed (w.net.numbers key) e.request e.reply ∷ w.net.log) (stored S shop key.server (Some e) w.stores)
+      → IsOnce S model opening (Performed (w.net.numbers key) e.request e.reply ∷ w.net.log) (stored S model key.server (Some e) w.stores)
   effect_once w s key t at e is right =
       let own = (sound_at W w.net key (Some t) at s.net).2 in
       let n = w.net.numbers key in
@@ -126,11 +126,11 @@ module _ (S : Type 0) (shop : StoreModel S) (opening : ℕ → S) (W : ℕ) (x :
       (w.stores, (key.client, key.server, subst (λ r. Has (Asked n key.client key.server r) w.net.log) same own.asked, right.1, is, λ node. refl), s.once)
 
   serves_kept : (w : World S) → Kept w → (key : Key) (t : ClientTransaction) → w.net.tickets key ≡ Some t → (v : server.Reaction)
-      → IsServed (service_of S shop w key) v.effect → NetSound W (server_acts w.net key v) → Calm (server_acts w.net key v) → Kept (serves S shop w key v)
+      → IsServed (service_of S model w key) v.effect → NetSound W (server_acts w.net key v) → Calm (server_acts w.net key v) → Kept (serves S model w key v)
   serves_kept w s key t at v is sound calm = go v.effect is sound
     where
-      go : (o : Option Effect) → IsServed (service_of S shop w key) o → NetSound W (server_acts w.net key (record v { effect = o }))
-          → Kept (serves S shop w key (record v { effect = o }))
+      go : (o : Option Effect) → IsServed (service_of S model w key) o → NetSound W (server_acts w.net key (record v { effect = o }))
+          → Kept (serves S model w key (record v { effect = o }))
       go None is sound = record { net = sound; calm = calm; once = s.once }
       go (Some e) is sound = record {
         net = sound;
@@ -158,7 +158,7 @@ module _ (S : Type 0) (shop : StoreModel S) (opening : ℕ → S) (W : ℕ) (x :
     k = later p.key number w.net.posts
 
     arrives_kept : (o : Option ClientTransaction) → w.net.tickets p.key ≡ o → w.net.now - p.copy.moment ≤ LIFE → later p.key number w.net.posts ≤ x.overtake
-        → (free up : Bool) → is_from_client p.copy.apdu ≡ up → Kept (if up then takes_at_server S shop x w p.key free p.copy.apdu else takes_at_client S x w p.key p.copy.apdu o)
+        → (free up : Bool) → is_from_client p.copy.apdu ≡ up → Kept (if up then takes_at_server S model x w p.key free p.copy.apdu else takes_at_client S x w p.key p.copy.apdu o)
     arrives_kept None at young few free up way =
         absurd (none_there (later p.key number w.net.posts) p.copy
         (subst (λ (cs : List Copy). slice_get cs (later p.key number w.net.posts) ≡ Some p.copy) (sound_at W w.net p.key None at s.net).no_copies
@@ -166,13 +166,13 @@ module _ (S : Type 0) (shop : StoreModel S) (opening : ℕ → S) (W : ℕ) (x :
     arrives_kept (Some t) at young few free true way =
         let f = sound_at W w.net p.key (Some t) at s.net in
         let says = ((f.2).arriving (later p.key number w.net.posts) p.copy (copy_at number w.net.posts p at_number) young).1 in
-        let v = server.server_on_apdu (server_context x p.key w.net.now) (service_of S shop w p.key) (w.net.entries p.key) (is_room w.net p.key free) p.copy.apdu in
-        serves_kept w s p.key t at v (gets_served (server_context x p.key w.net.now) (service_of S shop w p.key)
+        let v = server.server_on_apdu (server_context x p.key w.net.now) (service_of S model w p.key) (w.net.entries p.key) (is_room w.net p.key free) p.copy.apdu in
+        serves_kept w s p.key t at v (gets_served (server_context x p.key w.net.now) (service_of S model w p.key)
         (w.net.entries p.key) (is_room w.net p.key free) p.copy.apdu)
         (net_server W w.net p.key t at s.net v
-        (server_gets_kept W x.overtake bound.some bound.room (x.settings p.key.server) (bound.windows p.key.server) (service_of S shop w p.key) p.key
+        (server_gets_kept W x.overtake bound.some bound.room (x.settings p.key.server) (bound.windows p.key.server) (service_of S model w p.key) p.key
         (one w.net p.key) t (w.net.entries p.key) f.0 f.1 f.2 (is_room w.net p.key free) (room_opens w.net p.key free) p.copy.moment (later p.key number w.net.posts) few young p.copy.apdu says))
-        (calm_gets w.net s.calm p.key (server_context x p.key w.net.now) refl refl (service_of S shop w p.key) (is_room w.net p.key free)
+        (calm_gets w.net s.calm p.key (server_context x p.key w.net.now) refl refl (service_of S model w p.key) (is_room w.net p.key free)
         (room_opens w.net p.key free) (later p.key number w.net.posts) p.copy (copy_at number w.net.posts p at_number) young way)
     arrives_kept (Some t) at young few free false way =
         let f = sound_at W w.net p.key (Some t) at s.net in
@@ -185,14 +185,14 @@ module _ (S : Type 0) (shop : StoreModel S) (opening : ℕ → S) (W : ℕ) (x :
         (calm_client w.net s.calm p.key t at r (ended_is_silent.gets (client_context x p.key w.net.now) x.readable t p.copy.apdu))
 
     by_test : (free a b : Bool) → nat_le (w.net.now - p.copy.moment) LIFE ≡ a → nat_le (later p.key number w.net.posts) x.overtake ≡ b
-        → Kept (if a && b then arrives S shop x w p.key free p.copy.apdu else w)
+        → Kept (if a && b then arrives S model x w p.key free p.copy.apdu else w)
     by_test free true true young few = arrives_kept (w.net.tickets p.key) refl (grind (arith, nat_tests)) (grind (arith, nat_tests)) free
         (is_from_client p.copy.apdu) refl
     by_test free true false young few = s
     by_test free false b young few = s
 
   delivered_kept : (w : World S) → Kept w → (number : ℕ) (free : Bool) (o : Option Post) → slice_get w.net.posts number ≡ o
-      → Kept (delivered S shop x w number free o)
+      → Kept (delivered S model x w number free o)
   delivered_kept w s number free None e = s
   delivered_kept w s number free (Some p) e = by_test w s number p e free (nat_le (w.net.now - p.copy.moment) LIFE)
       (nat_le (later p.key number w.net.posts) x.overtake) refl refl
@@ -213,17 +213,17 @@ module _ (S : Type 0) (shop : StoreModel S) (opening : ℕ → S) (W : ℕ) (x :
   clients_kept (key ∷ keys) w s = clients_kept keys (ticks_ticket S x w key (w.net.tickets key)) (ticket_kept w s key (w.net.tickets key) refl)
 
   -- an entry's tick
-  quiet : (w : World S) (key : Key) (v : server.Reaction) → v.effect ≡ None → IsServed (service_of S shop w key) v.effect
-  quiet w key v e = subst (IsServed (service_of S shop w key)) (sym e) tt
+  quiet : (w : World S) (key : Key) (v : server.Reaction) → v.effect ≡ None → IsServed (service_of S model w key) v.effect
+  quiet w key v e = subst (IsServed (service_of S model w key)) (sym e) tt
 
   entry_kept : (w : World S) → Kept w → (key : Key) (o : Option ClientTransaction) → w.net.tickets key ≡ o
-      → Kept (serves S shop w key (server.server_ticks (server_context x key w.net.now) (w.net.entries key)))
+      → Kept (serves S model w key (server.server_ticks (server_context x key w.net.now) (w.net.entries key)))
   entry_kept w s key (Some t) at =
       let f = sound_at W w.net key (Some t) at s.net in
       let v = server.server_ticks (server_context x key w.net.now) (w.net.entries key) in
       serves_kept w s key t at v (quiet w key v (ticks_quiet (server_context x key w.net.now) (w.net.entries key)))
       (net_server W w.net key t at s.net v (server_ticks_kept W x.overtake bound.some bound.room (x.settings key.server) (bound.windows key.server)
-      (service_of S shop w key) key (one w.net key) t (w.net.entries key) f.0 f.1 f.2))
+      (service_of S model w key) key (one w.net key) t (w.net.entries key) f.0 f.1 f.2))
       (calm_ticks w.net s.calm key (server_context x key w.net.now) refl refl)
   entry_kept w s key None at = go (w.net.entries key) refl (sound_at W w.net key None at s.net).no_entry
     where
@@ -231,17 +231,17 @@ module _ (S : Type 0) (shop : StoreModel S) (opening : ℕ → S) (W : ℕ) (x :
       all_there [] = refl
       all_there (p ∷ posts) = ap (λ ps. p ∷ ps) (all_there posts)
 
-      go : (o : Option ServerTransaction) → w.net.entries key ≡ o → o ≡ None → Kept (serves S shop w key (server.server_ticks (server_context x key w.net.now) o))
+      go : (o : Option ServerTransaction) → w.net.entries key ≡ o → o ≡ None → Kept (serves S model w key (server.server_ticks (server_context x key w.net.now) o))
       go (Some e) is nil = absurd cc
       go None is nil = subst (λ (n : Net). Kept (record { net = n; stores = w.stores }))
           (λ i. record (w.net) { entries = sym (set_nothing w.net.entries key None is) i; posts = sym (all_there w.net.posts) i }) s
 
-  servers_kept : (keys : List Key) (w : World S) → Kept w → Kept (ticks_as_server S shop x keys w)
+  servers_kept : (keys : List Key) (w : World S) → Kept w → Kept (ticks_as_server S model x keys w)
   servers_kept [] w s = s
-  servers_kept (key ∷ keys) w s = servers_kept keys (serves S shop w key
+  servers_kept (key ∷ keys) w s = servers_kept keys (serves S model w key
       (server.server_ticks (server_context x key w.net.now) (w.net.entries key))) (entry_kept w s key (w.net.tickets key) refl)
 
-  pub event_kept : (w : World S) → Kept w → (e : Event) → Kept (happens S shop x w e)
+  pub event_kept : (w : World S) → Kept w → (e : Event) → Kept (happens S model x w e)
   event_kept w s (MakeAsk key choice whole front rest) = asks_kept w s key choice whole front rest (is_id_held w.net key) refl
   event_kept w s (Deliver number free) = delivered_kept w s number free (slice_get w.net.posts number) refl
   event_kept w s (Tick as_client as_server) = servers_kept as_server (ticks_as_client S x as_client w) (clients_kept as_client w s)
@@ -263,12 +263,12 @@ module _ (S : Type 0) (shop : StoreModel S) (opening : ℕ → S) (W : ℕ) (x :
     once = (w.stores, λ n. refl, s.once);
   }
 
-  pub run_kept : (events : List Event) (w : World S) → Kept w → Kept (run S shop x events w)
+  pub run_kept : (events : List Event) (w : World S) → Kept w → Kept (run S model x events w)
   run_kept [] w s = s
-  run_kept (e ∷ es) w s = run_kept es (happens S shop x w e) (event_kept w s e)
+  run_kept (e ∷ es) w s = run_kept es (happens S model x w e) (event_kept w s e)
 
   pub start_kept : Kept (start S opening)
   start_kept = record { net = net_starts W; calm = calm_start; once = λ node. refl }
 
-  pub headline : (events : List Event) → IsOnce S shop opening (run S shop x events (start S opening)).net.log (run S shop x events (start S opening)).stores
+  pub headline : (events : List Event) → IsOnce S model opening (run S model x events (start S opening)).net.log (run S model x events (start S opening)).stores
   headline events = (run_kept events (start S opening) start_kept).once

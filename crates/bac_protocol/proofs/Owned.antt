@@ -133,7 +133,7 @@ module _ (x : Rules) where
     tickets = h.tickets;
   }
 
-  module _ (S : Type 0) (shop : StoreModel S) where
+  module _ (S : Type 0) (model : StoreModel S) where
     ask_owned : (w : World S) → Owned w.net → (key : Key) (ask : Ask) (b : Bool) → Owned (if b then w else ask_made S x w key ask).net
     ask_owned w h key ask true = h
     ask_owned w h key ask false =
@@ -158,20 +158,20 @@ module _ (x : Rules) where
         (gets_own c x.readable (IsSentByClient x key) (IsLesser x key) (client_has key w.net.now) t k a (begins_answer key a down sent))
 
     arrives_owned : (w : World S) → Owned w.net → (key : Key) (free : Bool) (a : Apdu) → IsSent key a → (up : Bool) → is_from_client a ≡ up
-        → Owned (if up then takes_at_server S shop x w key free a else takes_at_client S x w key a (w.net.tickets key)).net
+        → Owned (if up then takes_at_server S model x w key free a else takes_at_client S x w key a (w.net.tickets key)).net
     arrives_owned w h key free a sent true up =
         let c = server_context x key w.net.now in
-        server_owned w.net h key (server.server_on_apdu c (service_of S shop w key) (w.net.entries key) (is_room w.net key free) a)
-        (server_gets_own c (service_of S shop w key) (IsSentByServer x key) (IsLesser x key) (server_has key w.net.now) (w.net.entries key) (is_room w.net key free) a
+        server_owned w.net h key (server.server_on_apdu c (service_of S model w key) (w.net.entries key) (is_room w.net key free) a)
+        (server_gets_own c (service_of S model w key) (IsSentByServer x key) (IsLesser x key) (server_has key w.net.now) (w.net.entries key) (is_room w.net key free) a
         (begins_request key a up sent) (h.entries key))
     arrives_owned w h key free a sent false down = takes_owned w h key a down sent (w.net.tickets key) (h.tickets key)
 
     delivered_owned : (w : World S) → Owned w.net → (number : ℕ) (free : Bool) (o : Option Post) → slice_get w.net.posts number ≡ o
-        → Owned (delivered S shop x w number free o).net
+        → Owned (delivered S model x w number free o).net
     delivered_owned w h number free None e = h
     delivered_owned w h number free (Some p) e = go (nat_le (w.net.now - p.copy.moment) LIFE && nat_le (later p.key number w.net.posts) x.overtake)
       where
-        go : (b : Bool) → Owned (if b then arrives S shop x w p.key free p.copy.apdu else w).net
+        go : (b : Bool) → Owned (if b then arrives S model x w p.key free p.copy.apdu else w).net
         go true = arrives_owned w h p.key free p.copy.apdu (own_at w.net.posts h.posts number p e) (is_from_client p.copy.apdu) refl
         go false = h
 
@@ -187,15 +187,15 @@ module _ (x : Rules) where
     clients_owned (key ∷ keys) w h = clients_owned keys (ticks_ticket S x w key (w.net.tickets key))
         (ticket_owned w h key (w.net.tickets key) (h.tickets key))
 
-    servers_owned : (keys : List Key) (w : World S) → Owned w.net → Owned (ticks_as_server S shop x keys w).net
+    servers_owned : (keys : List Key) (w : World S) → Owned w.net → Owned (ticks_as_server S model x keys w).net
     servers_owned [] w h = h
     servers_owned (key ∷ keys) w h =
         let c = server_context x key w.net.now in
         let v = server.server_ticks c (w.net.entries key) in
-        servers_owned keys (serves S shop w key v) (server_owned w.net h key v
+        servers_owned keys (serves S model w key v) (server_owned w.net h key v
         (server_ticks_own c (IsSentByServer x key) (IsLesser x key) (server_has key w.net.now) (w.net.entries key) (h.entries key)))
 
-    event_owned : (w : World S) → Owned w.net → (e : Event) → Owned (happens S shop x w e).net
+    event_owned : (w : World S) → Owned w.net → (e : Event) → Owned (happens S model x w e).net
     event_owned w h (MakeAsk key choice whole front rest) = ask_owned w h key
         (record { first = w.net.now; choice = choice; whole = whole; pieces = front ∷ rest }) (is_id_held w.net key)
     event_owned w h (Deliver number free) = delivered_owned w h number free (slice_get w.net.posts number) refl
@@ -218,11 +218,11 @@ module _ (x : Rules) where
         go key true = tt
         go key false = h.entries key
 
-    run_owned : (events : List Event) (w : World S) → Owned w.net → Owned (run S shop x events w).net
+    run_owned : (events : List Event) (w : World S) → Owned w.net → Owned (run S model x events w).net
     run_owned [] w h = h
-    run_owned (e ∷ es) w h = run_owned es (happens S shop x w e) (event_owned w h e)
+    run_owned (e ∷ es) w h = run_owned es (happens S model x w e) (event_owned w h e)
 
-    pub own_in_run : (opening : ℕ → S) (events : List Event) → AreOwn x (run S shop x events (start S opening)).net
+    pub own_in_run : (opening : ℕ → S) (events : List Event) → AreOwn x (run S model x events (start S opening)).net
     own_in_run opening events =
         let h = run_owned events (start S opening) (record { posts = tt; entries = λ key. tt; tickets = λ key. tt }) in
-        record { posts = own_at (run S shop x events (start S opening)).net.posts h.posts; entries = h.entries; tickets = h.tickets }
+        record { posts = own_at (run S model x events (start S opening)).net.posts h.posts; entries = h.entries; tickets = h.tickets }

@@ -24,7 +24,7 @@ record IsLeft (Q : List Fact → (asks serves : ℕ → ℕ) → Type 0) : Type 
   performed : (n : ℕ) (r : Request) (p : Reply) (log : List Fact) (asks serves : ℕ → ℕ) → Q log asks serves → Q (Performed n r p ∷ log) asks serves
   ended : (n : ℕ) (how : Ending) (log : List Fact) (asks serves : ℕ → ℕ) → Q log asks serves → Q (Ended n how ∷ log) asks serves
 
-module _ (Q : List Fact → (asks serves : ℕ → ℕ) → Type 0) (left : IsLeft Q) (S : Type 0) (shop : StoreModel S) (x : Rules) where
+module _ (Q : List Fact → (asks serves : ℕ → ℕ) → Type 0) (left : IsLeft Q) (S : Type 0) (model : StoreModel S) (x : Rules) where
   abbrev Quiet : World S → Type 0
   Quiet w = Q w.net.log w.net.asks_from w.net.serves_from
 
@@ -47,20 +47,20 @@ module _ (Q : List Fact → (asks serves : ℕ → ℕ) → Type 0) (left : IsLe
       ended_quiet (w.net.numbers key) (client.ending_of (client.client_on_apdu (client_context x key w.net.now) x.readable t a)) w.net.log
       w.net.asks_from w.net.serves_from h
 
-  serves_quiet : (w : World S) → Quiet w → (key : Key) (v : server.Reaction) → Quiet (serves S shop w key v)
+  serves_quiet : (w : World S) → Quiet w → (key : Key) (v : server.Reaction) → Quiet (serves S model w key v)
   serves_quiet w h key v = performed_quiet (w.net.numbers key) v.effect w.net.log w.net.asks_from w.net.serves_from h
 
   arrives_quiet : (w : World S) → Quiet w → (key : Key) (free : Bool) (a : Apdu) (up : Bool)
-      → Quiet (if up then takes_at_server S shop x w key free a else takes_at_client S x w key a (w.net.tickets key))
+      → Quiet (if up then takes_at_server S model x w key free a else takes_at_client S x w key a (w.net.tickets key))
   arrives_quiet w h key free a true = serves_quiet w h key
-      (server.server_on_apdu (server_context x key w.net.now) (shop.outcome (w.stores key.server)) (w.net.entries key) (is_room w.net key free) a)
+      (server.server_on_apdu (server_context x key w.net.now) (model.outcome (w.stores key.server)) (w.net.entries key) (is_room w.net key free) a)
   arrives_quiet w h key free a false = takes_quiet w h key a (w.net.tickets key)
 
-  delivered_quiet : (w : World S) → Quiet w → (number : ℕ) (free : Bool) (o : Option Post) → Quiet (delivered S shop x w number free o)
+  delivered_quiet : (w : World S) → Quiet w → (number : ℕ) (free : Bool) (o : Option Post) → Quiet (delivered S model x w number free o)
   delivered_quiet w h number free None = h
   delivered_quiet w h number free (Some p) = go (is_deliverable x w.net.now number w.net.posts p)
     where
-      go : (b : Bool) → Quiet (if b then arrives S shop x w p.key free p.copy.apdu else w)
+      go : (b : Bool) → Quiet (if b then arrives S model x w p.key free p.copy.apdu else w)
       go true = arrives_quiet w h p.key free p.copy.apdu (is_from_client p.copy.apdu)
       go false = h
 
@@ -74,21 +74,21 @@ module _ (Q : List Fact → (asks serves : ℕ → ℕ) → Type 0) (left : IsLe
   clients_quiet [] w h = h
   clients_quiet (key ∷ keys) w h = clients_quiet keys (ticks_ticket S x w key (w.net.tickets key)) (ticket_quiet w h key (w.net.tickets key))
 
-  servers_quiet : (keys : List Key) (w : World S) → Quiet w → Quiet (ticks_as_server S shop x keys w)
+  servers_quiet : (keys : List Key) (w : World S) → Quiet w → Quiet (ticks_as_server S model x keys w)
   servers_quiet [] w h = h
   servers_quiet (key ∷ keys) w h =
       let v = server.server_ticks (server_context x key w.net.now) (w.net.entries key) in
-      servers_quiet keys (serves S shop w key v) (serves_quiet w h key v)
+      servers_quiet keys (serves S model w key v) (serves_quiet w h key v)
 
   ask_event_quiet : (w : World S) → Quiet w → (key : Key) (choice : ℕ) (whole : Bool) (front : Octets) (rest : List Octets)
-      → Quiet (happens S shop x w (MakeAsk key choice whole front rest))
+      → Quiet (happens S model x w (MakeAsk key choice whole front rest))
   ask_event_quiet w h key choice whole front rest =
       ask_quiet w h key (record { first = w.net.now; choice = choice; whole = whole; pieces = front ∷ rest }) (is_id_held w.net key)
 
-  deliver_quiet : (w : World S) → Quiet w → (number : ℕ) (free : Bool) → Quiet (happens S shop x w (Deliver number free))
+  deliver_quiet : (w : World S) → Quiet w → (number : ℕ) (free : Bool) → Quiet (happens S model x w (Deliver number free))
   deliver_quiet w h number free = delivered_quiet w h number free (slice_get w.net.posts number)
 
-  tick_quiet : (w : World S) → Quiet w → (as_client as_server : List Key) → Quiet (happens S shop x w (Tick as_client as_server))
+  tick_quiet : (w : World S) → Quiet w → (as_client as_server : List Key) → Quiet (happens S model x w (Tick as_client as_server))
   tick_quiet w h as_client as_server = servers_quiet as_server (ticks_as_client S x as_client w) (clients_quiet as_client w h)
 
 -- No change.
@@ -115,41 +115,41 @@ left_waiting = record {
   ended = λ n how log asks serves h. h;
 }
 
-module _ (S : Type 0) (shop : StoreModel S) (x : Rules) where
-  no_change : (events : List Event) (w : World S) → MakeNoChange events → HasNoChange w.net.log → HasNoChange (run S shop x events w).net.log
+module _ (S : Type 0) (model : StoreModel S) (x : Rules) where
+  no_change : (events : List Event) (w : World S) → MakeNoChange events → HasNoChange w.net.log → HasNoChange (run S model x events w).net.log
   no_change [] w none h = h
-  no_change (MakeAsk key choice whole front rest ∷ es) w none h = no_change es (happens S shop x w (MakeAsk key choice whole front rest)) none
-      (ask_event_quiet HasNone left_none S shop x w h key choice whole front rest)
-  no_change (Deliver number free ∷ es) w none h = no_change es (happens S shop x w (Deliver number free)) none
-      (deliver_quiet HasNone left_none S shop x w h number free)
-  no_change (Tick as_client as_server ∷ es) w none h = no_change es (happens S shop x w (Tick as_client as_server)) none
-      (tick_quiet HasNone left_none S shop x w h as_client as_server)
+  no_change (MakeAsk key choice whole front rest ∷ es) w none h = no_change es (happens S model x w (MakeAsk key choice whole front rest)) none
+      (ask_event_quiet HasNone left_none S model x w h key choice whole front rest)
+  no_change (Deliver number free ∷ es) w none h = no_change es (happens S model x w (Deliver number free)) none
+      (deliver_quiet HasNone left_none S model x w h number free)
+  no_change (Tick as_client as_server ∷ es) w none h = no_change es (happens S model x w (Tick as_client as_server)) none
+      (tick_quiet HasNone left_none S model x w h as_client as_server)
   no_change (Noise ∷ es) w none h = no_change es w none h
-  no_change (Advance by ∷ es) w none h = no_change es (happens S shop x w (Advance by)) none h
+  no_change (Advance by ∷ es) w none h = no_change es (happens S model x w (Advance by)) none h
   no_change (Change node change ∷ es) w none h = absurd none
-  no_change (RestartClient node ∷ es) w none h = no_change es (happens S shop x w (RestartClient node)) none h
-  no_change (RestartServer node store ∷ es) w none h = no_change es (happens S shop x w (RestartServer node store)) none.1 (none.0, h)
+  no_change (RestartClient node ∷ es) w none h = no_change es (happens S model x w (RestartClient node)) none h
+  no_change (RestartServer node store ∷ es) w none h = no_change es (happens S model x w (RestartServer node store)) none.1 (none.0, h)
 
-  pub no_change_in_run : (opening : ℕ → S) (events : List Event) → MakeNoChange events → HasNoChange (run S shop x events (start S opening)).net.log
+  pub no_change_in_run : (opening : ℕ → S) (events : List Event) → MakeNoChange events → HasNoChange (run S model x events (start S opening)).net.log
   no_change_in_run opening events none = no_change events (start S opening) none tt
 
   no_restart : (events : List Event) (w : World S) → MakeNoRestart events → NoneWaits w.net.log w.net.asks_from w.net.serves_from
-      → (let v = run S shop x events w in NoneWaits v.net.log v.net.asks_from v.net.serves_from)
+      → (let v = run S model x events w in NoneWaits v.net.log v.net.asks_from v.net.serves_from)
   no_restart [] w none h = h
-  no_restart (MakeAsk key choice whole front rest ∷ es) w none h = no_restart es (happens S shop x w (MakeAsk key choice whole front rest)) none
-      (ask_event_quiet NoneWaits left_waiting S shop x w h key choice whole front rest)
-  no_restart (Deliver number free ∷ es) w none h = no_restart es (happens S shop x w (Deliver number free)) none
-      (deliver_quiet NoneWaits left_waiting S shop x w h number free)
-  no_restart (Tick as_client as_server ∷ es) w none h = no_restart es (happens S shop x w (Tick as_client as_server)) none
-      (tick_quiet NoneWaits left_waiting S shop x w h as_client as_server)
+  no_restart (MakeAsk key choice whole front rest ∷ es) w none h = no_restart es (happens S model x w (MakeAsk key choice whole front rest)) none
+      (ask_event_quiet NoneWaits left_waiting S model x w h key choice whole front rest)
+  no_restart (Deliver number free ∷ es) w none h = no_restart es (happens S model x w (Deliver number free)) none
+      (deliver_quiet NoneWaits left_waiting S model x w h number free)
+  no_restart (Tick as_client as_server ∷ es) w none h = no_restart es (happens S model x w (Tick as_client as_server)) none
+      (tick_quiet NoneWaits left_waiting S model x w h as_client as_server)
   no_restart (Noise ∷ es) w none h = no_restart es w none h
-  no_restart (Advance by ∷ es) w none h = no_restart es (happens S shop x w (Advance by)) none h
-  no_restart (Change node change ∷ es) w none h = no_restart es (happens S shop x w (Change node change)) none h
+  no_restart (Advance by ∷ es) w none h = no_restart es (happens S model x w (Advance by)) none h
+  no_restart (Change node change ∷ es) w none h = no_restart es (happens S model x w (Change node change)) none h
   no_restart (RestartClient node ∷ es) w none h = absurd none
   no_restart (RestartServer node store ∷ es) w none h = absurd none
 
   pub no_restart_in_run : (opening : ℕ → S) (events : List Event) → MakeNoRestart events
-      → (let v = run S shop x events (start S opening) in HasNoRestart v.net.log × NeverRestarted v.net)
+      → (let v = run S model x events (start S opening) in HasNoRestart v.net.log × NeverRestarted v.net)
   no_restart_in_run opening events none =
       let h = no_restart events (start S opening) none (tt, λ node. refl, λ node. refl) in (h.0, record { asks = h.1; serves = h.2 })
 

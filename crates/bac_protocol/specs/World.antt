@@ -112,16 +112,16 @@ notes_change n node change = record n { log = Changed node change ∷ n.log }
 
 -- the servers' stores after what was performed
 abbrev pub stored : (S : Type 0) → StoreModel S → (server : ℕ) → Option Effect → (ℕ → S) → ℕ → S
-stored S shop server None stores node = stores node
-stored S shop server (Some effect) stores node = if nat_eq node server then shop.after (stores server) effect.request else stores node
+stored S model server None stores node = stores node
+stored S model server (Some effect) stores node = if nat_eq node server then model.after (stores server) effect.request else stores node
 
 -- the stores after a change at that node
 abbrev pub changed_at : (S : Type 0) → StoreModel S → (node : ℕ) → (change : Octets) → (ℕ → S) → ℕ → S
-changed_at S shop node change stores n = if nat_eq n node then shop.changed (stores node) change else stores n
+changed_at S model node change stores n = if nat_eq n node then model.changed (stores node) change else stores n
 
 -- the stores after that node's server restarted
 abbrev pub restarted_at : (S : Type 0) → StoreModel S → (node : ℕ) → (store : Option Octets) → (ℕ → S) → ℕ → S
-restarted_at S shop node store stores n = if nat_eq n node then restarted S shop store (stores node) else stores n
+restarted_at S model node store stores n = if nat_eq n node then restarted S model store (stores node) else stores n
 
 -- a client acts; no store changes
 abbrev pub reacts : (S : Type 0) → World S → Key → ClientTransaction → client.Reaction → World S
@@ -129,7 +129,7 @@ reacts S w key t r = record { net = client_acts w.net key t r; stores = w.stores
 
 -- a server acts, and its store changes with what it performed
 abbrev pub serves : (S : Type 0) → StoreModel S → World S → Key → server.Reaction → World S
-serves S shop w key v = record { net = server_acts w.net key v; stores = stored S shop key.server v.effect w.stores }
+serves S model w key v = record { net = server_acts w.net key v; stores = stored S model key.server v.effect w.stores }
 
 -- Events.
 
@@ -201,7 +201,7 @@ server_restarted n node store =
 
 -- what the transaction's server makes of a request, by its store as it is
 abbrev pub service_of : (S : Type 0) → StoreModel S → World S → Key → Service
-service_of S shop w key = shop.outcome (w.stores key.server)
+service_of S model w key = model.outcome (w.stores key.server)
 
 -- an APDU reaches the client (clause 5.4.4); without a ticket it is dropped
 abbrev pub takes_at_client : (S : Type 0) → Rules → World S → Key → Apdu → Option ClientTransaction → World S
@@ -210,17 +210,17 @@ takes_at_client S x w key a (Some t) = reacts S w key t (client_on_apdu (client_
 
 -- an APDU reaches the server (clause 5.4.5)
 abbrev pub takes_at_server : (S : Type 0) → StoreModel S → Rules → World S → Key → (free : Bool) → Apdu → World S
-takes_at_server S shop x w key free a = serves S shop w key
-    (server_on_apdu (server_context x key w.net.now) (service_of S shop w key) (w.net.entries key) (is_room w.net key free) a)
+takes_at_server S model x w key free a = serves S model w key
+    (server_on_apdu (server_context x key w.net.now) (service_of S model w key) (w.net.entries key) (is_room w.net key free) a)
 
 -- a copy reaches the other end of its transaction
 abbrev pub arrives : (S : Type 0) → StoreModel S → Rules → World S → Key → (free : Bool) → Apdu → World S
-arrives S shop x w key free a = if is_from_client a then takes_at_server S shop x w key free a else takes_at_client S x w key a (w.net.tickets key)
+arrives S model x w key free a = if is_from_client a then takes_at_server S model x w key free a else takes_at_client S x w key a (w.net.tickets key)
 
 -- one that is not deliverable is lost
 abbrev pub delivered : (S : Type 0) → StoreModel S → Rules → World S → (number : ℕ) → (free : Bool) → Option Post → World S
-delivered S shop x w number free None = w
-delivered S shop x w number free (Some p) = if is_deliverable x w.net.now number w.net.posts p then arrives S shop x w p.key free p.copy.apdu else w
+delivered S model x w number free None = w
+delivered S model x w number free (Some p) = if is_deliverable x w.net.now number w.net.posts p then arrives S model x w p.key free p.copy.apdu else w
 
 -- a tick of one ticket
 abbrev pub ticks_ticket : (S : Type 0) → Rules → World S → Key → Option ClientTransaction → World S
@@ -234,9 +234,9 @@ ticks_as_client S x (key ∷ keys) w = ticks_as_client S x keys (ticks_ticket S 
 
 -- a tick of these entries, one after the other
 abbrev pub ticks_as_server : (S : Type 0) → StoreModel S → Rules → List Key → World S → World S
-ticks_as_server S shop x [] w = w
-ticks_as_server S shop x (key ∷ keys) w = ticks_as_server S shop x keys
-    (serves S shop w key (server_ticks (server_context x key w.net.now) (w.net.entries key)))
+ticks_as_server S model x [] w = w
+ticks_as_server S model x (key ∷ keys) w = ticks_as_server S model x keys
+    (serves S model w key (server_ticks (server_context x key w.net.now) (w.net.entries key)))
 
 -- an accepted ask; no store changes
 abbrev pub ask_made : (S : Type 0) → Rules → World S → Key → Ask → World S
@@ -244,22 +244,22 @@ ask_made S x w key ask = record { net = asked_at x w.net key ask; stores = w.sto
 
 -- the world after an event; an ask whose invoke ID is held, or whose client waits, is refused, and changes nothing
 abbrev pub happens : (S : Type 0) → StoreModel S → Rules → World S → Event → World S
-happens S shop x w (MakeAsk key choice whole front rest) =
+happens S model x w (MakeAsk key choice whole front rest) =
     if is_id_held w.net key then w
     else ask_made S x w key (record { first = w.net.now; choice = choice; whole = whole; pieces = front ∷ rest })
-happens S shop x w (Deliver number free) = delivered S shop x w number free (slice_get w.net.posts number)
-happens S shop x w (Tick as_client as_server) = ticks_as_server S shop x as_server (ticks_as_client S x as_client w)
-happens S shop x w Noise = w
-happens S shop x w (Advance by) = record { net = record w.net { now = w.net.now + by }; stores = w.stores }
-happens S shop x w (Change node change) = record { net = notes_change w.net node change; stores = changed_at S shop node change w.stores }
-happens S shop x w (RestartClient node) = record { net = client_restarted w.net node; stores = w.stores }
-happens S shop x w (RestartServer node store) =
-    record { net = server_restarted w.net node store; stores = restarted_at S shop node store w.stores }
+happens S model x w (Deliver number free) = delivered S model x w number free (slice_get w.net.posts number)
+happens S model x w (Tick as_client as_server) = ticks_as_server S model x as_server (ticks_as_client S x as_client w)
+happens S model x w Noise = w
+happens S model x w (Advance by) = record { net = record w.net { now = w.net.now + by }; stores = w.stores }
+happens S model x w (Change node change) = record { net = notes_change w.net node change; stores = changed_at S model node change w.stores }
+happens S model x w (RestartClient node) = record { net = client_restarted w.net node; stores = w.stores }
+happens S model x w (RestartServer node store) =
+    record { net = server_restarted w.net node store; stores = restarted_at S model node store w.stores }
 
 -- the world after these events, in their order
 abbrev pub run : (S : Type 0) → StoreModel S → Rules → List Event → World S → World S
-run S shop x [] w = w
-run S shop x (e ∷ es) w = run S shop x es (happens S shop x w e)
+run S model x [] w = w
+run S model x (e ∷ es) w = run S model x es (happens S model x w e)
 
 -- in these events no node changes its own store, and none restarts with another one
 abbrev pub MakeNoChange : List Event → Type 0

@@ -15,7 +15,7 @@ use Rattle.bac_transaction.specs.Ends.TransactionSlot.{Open, Closed}
 use Rattle.bac_transaction.specs.Keys as keys
 use Rattle.bac_transaction.specs.Keys.{same_key}
 use Rattle.bac_transaction.specs.Meanings as meanings
-use Rattle.bac_transaction.specs.Meanings.{Finish, IsFinish}
+use Rattle.bac_transaction.specs.Meanings.{EndedView, IsEndedView}
 use Rattle.bac_transaction.specs.Sends.{Datagram, IsSent, Pairwise, to_all}
 use Rattle.bac_transaction.specs.Views.{code_same_key, context_view, peer_key_view, peer_of, settings_view, slots_view}
 use Rattle.bac_transaction.specs.declared.peer_key.PeerKey.{PeerKey}
@@ -40,7 +40,7 @@ Slots = List (Slot PeerKey Client)
 -- ---- at one slot
 
 pub endings_are : (number choice : ℕ) (e : Option machine.Ending) (f : Option meanings.Ending) → MeansEnd choice e f
-    → Pairwise IsFinish (ended_with number choice e) (endings_with number f)
+    → Pairwise IsEndedView (ended_with number choice e) (endings_with number f)
 endings_are number choice None None m = tt
 endings_are number choice None (Some f) m = absurd m
 endings_are number choice (Some e) None m = absurd m
@@ -56,7 +56,7 @@ reacts : (c : Context) (number : ℕ) (t new : ClientTransaction) (r : machine_o
 reacts c number t new r x y w did kept sends ended = record {
   value = kept ∙ ap (slot_of number) did.held;
   sends = subst (λ (l : List Datagram). Pairwise IsSent (to_all (peer_of c) (sends_of r)) l) (sym sends) did.sends;
-  ended = subst (λ (l : List Finish). Pairwise IsFinish (ended_with number t.ask.choice (ending_of r)) l) (sym ended) (endings_are number t.ask.choice _ _ did.ending);
+  ended = subst (λ (l : List EndedView). Pairwise IsEndedView (ended_with number t.ask.choice (ending_of r)) l) (sym ended) (endings_are number t.ask.choice _ _ did.ending);
 }
 
 pub goes_on_in_slot : (c : Context) (a : Apdu) (v : Client) (number : ℕ) (t new : ClientTransaction) (x : Transition) (y : Reaction)
@@ -96,7 +96,7 @@ same_end old new capacity room asked from first_id e f = ap (λ l. end_of l room
 nothing_is : (e : ClientEnd) (x : Reaction) → x.sends.items ≡ [] → x.ended.items ≡ [] → IsReaction (record { end = e; sends = []; ended = [] }) x
 nothing_is e x f g = record {
   sends = subst (λ (l : List Datagram). Pairwise IsSent [] l) (sym f) tt;
-  ended = subst (λ (l : List Finish). Pairwise IsFinish [] l) (sym (ap (λ l. map ended_view l) g)) tt;
+  ended = subst (λ (l : List EndedView). Pairwise IsEndedView [] l) (sym (ap (λ l. map ended_view l) g)) tt;
 }
 
 -- the key has no slot

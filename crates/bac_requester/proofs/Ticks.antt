@@ -4,7 +4,7 @@ use Rattle.bac_slots.specs.declared.slot.Slot.{Slot}
 use Rattle.bac_slots.proofs.SlotAges.{each_more}
 use Rattle.bac_transaction.specs.declared.settings.Settings.{Settings}
 use Rattle.bac_transaction.specs.Ends.{Client, ClientEnd, ClientSlot, client_tick_ends, client_tick_sends, client_ticked, requester_tick, context_of}
-use Rattle.bac_transaction.specs.Meanings.{IsFinish}
+use Rattle.bac_transaction.specs.Meanings.{IsEndedView}
 use Rattle.bac_transaction.specs.Sends.{IsSent}
 use Rattle.bac_transaction.specs.Views.{peer_key_view, settings_view, slot_view, slots_view}
 use Rattle.bac_transaction.specs.declared.peer_key.PeerKey.{PeerKey}
@@ -39,7 +39,7 @@ nothing_due c now begin due before slots capacity asked from first_id x q no_sen
       sends = told_none Client IsSent (client_tick_sends (settings_view c) now) slots x.sends.items
           (each_more (λ s. IsClientQuiet begin due s.value) (λ s. client_tick_sends (settings_view c) now (slot_view s) ≡ []) slots
           (λ s h. held_sends (context_of (settings_view c) now (peer_key_view s.key)) due before (peer_key_view s.key).peer s.value.held h) q) no_sent;
-      ended = told_none Client IsFinish (client_tick_ends (settings_view c) now) slots (map ended_view x.ended.items)
+      ended = told_none Client IsEndedView (client_tick_ends (settings_view c) now) slots (map ended_view x.ended.items)
           (each_more (λ s. IsClientQuiet begin due s.value) (λ s. client_tick_ends (settings_view c) now (slot_view s) ≡ []) slots
           (λ s h. held_ends (context_of (settings_view c) now (peer_key_view s.key)) due before s.value.number s.value.held h) q) (ap (λ l. map ended_view l) no_ended);
     }

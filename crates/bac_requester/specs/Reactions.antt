@@ -11,7 +11,7 @@ use Rattle.bac_transaction.specs.Ends.{requester_on_apdu_at}
 use Rattle.bac_transaction.specs.Keys as keys
 use Rattle.bac_transaction.specs.Keys.{same_key}
 use Rattle.bac_transaction.specs.Meanings as meanings
-use Rattle.bac_transaction.specs.Meanings.{Finish, IsFinish}
+use Rattle.bac_transaction.specs.Meanings.{EndedView, IsEndedView}
 use Rattle.bac_transaction.specs.Sends.{Datagram, IsSent, Pairwise, to_all}
 use Rattle.bac_transaction.specs.Views.{context_view, peer_of}
 use Rattle.bac_transaction.specs.declared.context.Context.{Context}
@@ -28,7 +28,7 @@ use Rattle.bac_transaction.specs.Ends.{Accepted, AskOutcome, AskRefusal, CannotG
 -- the datagrams and the endings are those of this turn of the end
 pub record IsReaction (turn : ClientTurn) (x : code.Reaction) : Type 0 where
   pub sends : Pairwise IsSent turn.sends x.sends.items
-  pub ended : Pairwise IsFinish turn.ended (map ended_view x.ended.items)
+  pub ended : Pairwise IsEndedView turn.ended (map ended_view x.ended.items)
 
 -- the turn was taken
 pub record IsDone (turn : ClientTurn) (new : ClientEnd) (x : code.Reaction) : Type 0 where
@@ -90,7 +90,7 @@ Asks outcome old (Err e) new = Refuses e outcome × (new ≡ old)
 -- ---- one slot
 
 -- a transaction with that ticket ends so, if it does
-abbrev pub endings_with : (ticket : ℕ) → Option meanings.Ending → List Finish
+abbrev pub endings_with : (ticket : ℕ) → Option meanings.Ending → List EndedView
 endings_with ticket None = []
 endings_with ticket (Some how) = record { ticket = ticket; how = how } ∷ []
 
@@ -98,7 +98,7 @@ endings_with ticket (Some how) = record { ticket = ticket; how = how } ∷ []
 pub record IsReactionInSlot (c : Context) (number : ℕ) (t : ClientTransaction) (r : Reaction) (x : code.Reaction) (new : Client) : Type 0 where
   pub value : new ≡ client_after c.moment number t r
   pub sends : Pairwise IsSent (to_all (peer_of c) (sends_of r)) x.sends.items
-  pub ended : Pairwise IsFinish (ended_with number t.ask.choice (ending_of r)) (map ended_view x.ended.items)
+  pub ended : Pairwise IsEndedView (ended_with number t.ask.choice (ending_of r)) (map ended_view x.ended.items)
 
 -- one that has ended ignores what comes
 pub record IsIgnored (old : Client) (x : code.Reaction) (new : Client) : Type 0 where
@@ -117,9 +117,9 @@ OnApduInSlot c a old (Ok x) new = ReactsInSlot c a old.number old.held x new
 OnApduInSlot c a old (Err e) new = new ≡ old
 
 -- what a tick of one slot sends and ends
-pub record IsTickOfSlot (c : Settings) (now : ℕ) (s : ClientSlot) (sent : List Datagram) (endings : List Finish) : Type 0 where
+pub record IsTickOfSlot (c : Settings) (now : ℕ) (s : ClientSlot) (sent : List Datagram) (endings : List EndedView) : Type 0 where
   pub sends : Pairwise IsSent (client_tick_sends c now s) sent
-  pub ended : Pairwise IsFinish (client_tick_ends c now s) endings
+  pub ended : Pairwise IsEndedView (client_tick_ends c now s) endings
 
 -- an APDU comes for a key
 abbrev pub turn_at_key : Settings → (now : ℕ) → keys.PeerKey → Apdu → ClientEnd → ClientTurn

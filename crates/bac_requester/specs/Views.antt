@@ -13,5 +13,5 @@ abbrev pub end_of : List (Slot PeerKey Client) → (capacity asked asks_from fir
 end_of slots capacity asked asks_from first_id =
     record { slots = slots_view slots; capacity = capacity; asked = asked; asks_from = asks_from; first_id = first_id }
 
-abbrev pub ended_view : Ended → meanings.Finish
+abbrev pub ended_view : Ended → meanings.EndedView
 ended_view e = record { ticket = e.ticket; how = ending_view e.ending }

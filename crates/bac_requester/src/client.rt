@@ -11,7 +11,7 @@ ghost use Rattle.bac_requester.specs.Short.{IsHeldShort};
 
 use crate::transaction_slot::TransactionSlot;
 use bac_protocol::times::HOLD;
-use bac_slots::{Aged, Fact, Same, Ticks};
+use bac_slots::{Aged, Same, SlotFact, Ticks};
 use bac_transaction::{Context, PeerKey, Settings};
 use std::marker::Model;
 
@@ -108,7 +108,7 @@ impl Ticks<ClientRules, PeerKey, Settings> for Client {
 #[derive(Drop)]
 pub(crate) struct ShortReplies;
 
-impl Fact<Client> for ShortReplies {
+impl SlotFact<Client> for ShortReplies {
     ghost Holds = { λ c. IsHeldShort c.held };
 
     fn holds(&self, client: &Client) {

@@ -8,7 +8,7 @@ ghost use Rattle.bac_responder.specs.Short.{IsRequestShort};
 use crate::server_transaction::{Origin, ServerTransaction, State, Terms};
 use bac_apdu::Limits;
 use bac_protocol::times::KEEP;
-use bac_slots::{Aged, Fact, Ticks};
+use bac_slots::{Aged, SlotFact, Ticks};
 use bac_transaction::{Context, PeerKey, Settings};
 
 /// The rules by which the slots of a server's end age.
@@ -77,7 +77,7 @@ impl Ticks<ServerRules, PeerKey, Settings> for ServerTransaction {
 #[derive(Drop)]
 pub(crate) struct ShortRequests;
 
-impl Fact<ServerTransaction> for ShortRequests {
+impl SlotFact<ServerTransaction> for ShortRequests {
     ghost Holds = { IsRequestShort };
 
     fn holds(&self, entry: &ServerTransaction) {

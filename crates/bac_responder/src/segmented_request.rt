@@ -1,4 +1,4 @@
-//! SEGMENTED_REQUEST (clause 5.4.5.2): a request that is received in segments. transaction_apdu calls it for each APDU in this state, and idle for segment 0.
+//! SEGMENTED_REQUEST (clause 5.4.5.2): a request that is received in segments. `live` calls it for each APDU in this state, and `idle` for segment 0.
 ghost use Rattle.std.specs.Prelude.{◌≡◌, IfOk, Ok};
 ghost use Rattle.bac_apdu.specs.Views.{apdu_view, limits_view, segment_view};
 ghost use Rattle.bac_segment.specs.Answers.{answer_of};

@@ -1,4 +1,4 @@
-//! SEGMENTED_RESPONSE (clause 5.4.5.4): a reply that is sent in segments. transaction_apdu calls it for each APDU in this state.
+//! SEGMENTED_RESPONSE (clause 5.4.5.4): a reply that is sent in segments. `live` calls it for each APDU in this state.
 ghost use Rattle.std.specs.Prelude.{◌≡◌, IfOk};
 ghost use Rattle.bac_apdu.specs.Views.{apdu_view};
 ghost use Rattle.bac_protocol.specs.Server as machine;

@@ -1,5 +1,5 @@
 //! One entry of the reply table: what it keeps, in each state of clause 5.4.5. Used by every file of this crate that handles an APDU or a tick. A new
-//! state needs an arm in transaction_apdu, transaction_tick, timers and comparing, and a case in the machine's definitions.
+//! state needs an arm in `live`, `tick`, timers and comparing, and a case in the machine's definitions.
 ghost use Rattle.std.specs.Prelude.{◌≡◌, ◌≤◌, length};
 ghost use Rattle.bac_segment.specs.Limits.{DATA};
 ghost use Rattle.bac_segment.specs.Pieces.{join};

@@ -1,8 +1,8 @@
 -- The nodes of a script all take the most, so its asks go by that.
 use Rattle.std.proofs.Common.{◌≡◌, ℕ, zero, suc, ◌+◌, Bool, List, [], ◌∷◌, Option, Some, None, refl, ap, ◌∙◌}
 use Rattle.std.specs.Option.{option_map}
-use Rattle.bac_simulate.specs.Lines.{Step, step_at}
-use Rattle.bac_simulate.specs.Lines.Step.{Ask, Deliver, Lose, Noise, Tick, Advance, SetProperty, SetFile, Restart}
+use Rattle.bac_simulate.specs.Lines.{Statement, statement_at}
+use Rattle.bac_simulate.specs.Lines.Statement.{Ask, Deliver, Lose, Noise, Tick, Advance, SetProperty, SetFile, Restart}
 use Rattle.bac_apdu.specs.Apdu as plain
 use Rattle.bac_world.specs.World as world
 use Rattle.bac_simulate.specs.Houses.{house_nodes}
@@ -14,7 +14,7 @@ house_limits window first zero node = refl
 house_limits window first (suc count) zero = refl
 house_limits window first (suc count) (suc node) = house_limits window (first + 1) count node
 
-same_event : (f g : NodeLimits) → ((node : ℕ) → f node ≡ g node) → (s : Step) → said_by f s ≡ said_by g s
+same_event : (f g : NodeLimits) → ((node : ℕ) → f node ≡ g node) → (s : Statement) → said_by f s ≡ said_by g s
 same_event f g same (Ask client server request) = ap (λ (l : plain.Limits). Happens (world.Event.Ask client server l request)) (same server)
 same_event f g same (Deliver copy) = refl
 same_event f g same (Lose copy) = refl
@@ -25,13 +25,13 @@ same_event f g same (SetProperty node object property octets) = refl
 same_event f g same (SetFile node object octets) = refl
 same_event f g same (Restart node) = refl
 
-same_step : (f g : NodeLimits) → ((node : ℕ) → f node ≡ g node) → (o : Option Step) → option_map (said_by f) o ≡ option_map (said_by g) o
+same_step : (f g : NodeLimits) → ((node : ℕ) → f node ≡ g node) → (o : Option Statement) → option_map (said_by f) o ≡ option_map (said_by g) o
 same_step f g same None = refl
 same_step f g same (Some s) = ap Some (same_event f g same s)
 
 same_read : (f g : NodeLimits) → ((node : ℕ) → f node ≡ g node) → (read : Option (List ℕ)) → said_in f read ≡ said_in g read
 same_read f g same None = refl
-same_read f g same (Some l) = same_step f g same (step_at l)
+same_read f g same (Some l) = same_step f g same (statement_at l)
 
 same_events : (notes : Bool) (f g : NodeLimits) → ((node : ℕ) → f node ≡ g node) → (number : ℕ) (lines : List (List ℕ))
     → said_from notes f number lines ≡ said_from notes g number lines

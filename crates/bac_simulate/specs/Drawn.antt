@@ -3,7 +3,7 @@ use Rattle.std.specs.Prelude.{◌≡◌, ℕ, ◌+◌, Bool, true, false, List, 
 use Rattle.std.specs.Io.KnownBytes.{Keeps}
 use Rattle.bac_chart.specs.Drawings.{drawing_text}
 use Rattle.bac_chart.specs.Marks.{Mark}
-use Rattle.bac_chart.specs.declared.drawing.Form.TheVariants as form
+use Rattle.bac_chart.specs.declared.drawing.ChartFormat.TheVariants as form
 use Rattle.bac_network.specs.Histories.{WorldView}
 use Rattle.bac_simulate.specs.Views.{setting_view}
 use Rattle.bac_text.specs.Lines.{lines_of}

@@ -55,32 +55,32 @@ setting_at line = setting_of (words_of line)
 -- ---- the lines after it: ask CLIENT SERVER REQUEST, deliver COPY, lose COPY, noise NODE HEX, tick NODE, advance MILLISECONDS,
 -- ---- set NODE OBJECT PROPERTY HEX, file NODE OBJECT HEX, restart NODE
 
-pub data Step : Type 0 where
-  Ask : (client server : ℕ) (request : Request) → Step
-  Deliver : (copy : ℕ) → Step
-  Lose : (copy : ℕ) → Step
-  Noise : (node : ℕ) (octets : List ℕ) → Step
-  Tick : (node : ℕ) → Step
-  Advance : (by : ℕ) → Step
-  SetProperty : (node : ℕ) (object : ObjectId) (property : ℕ) (octets : List ℕ) → Step
-  SetFile : (node : ℕ) (object : ObjectId) (octets : List ℕ) → Step
-  Restart : (node : ℕ) → Step
+pub data Statement : Type 0 where
+  Ask : (client server : ℕ) (request : Request) → Statement
+  Deliver : (copy : ℕ) → Statement
+  Lose : (copy : ℕ) → Statement
+  Noise : (node : ℕ) (octets : List ℕ) → Statement
+  Tick : (node : ℕ) → Statement
+  Advance : (by : ℕ) → Statement
+  SetProperty : (node : ℕ) (object : ObjectId) (property : ℕ) (octets : List ℕ) → Statement
+  SetFile : (node : ℕ) (object : ObjectId) (octets : List ℕ) → Statement
+  Restart : (node : ℕ) → Statement
 
-unfoldable pub ask_of : (client server : List ℕ) → (request : List (List ℕ)) → Option Step
+unfoldable pub ask_of : (client server : List ℕ) → (request : List (List ℕ)) → Option Statement
 ask_of client server request = do
   client ← number_of client
   server ← number_of server
   request ← request_of request
   Some (Ask client server request)
 
-unfoldable pub noise_of : (node octets : List ℕ) → Option Step
+unfoldable pub noise_of : (node octets : List ℕ) → Option Statement
 noise_of node octets = do
   node ← number_of node
   octets ← octets_of octets
   Some (Noise node octets)
 
 -- other values of a property; any octets: whether they are values for it, says the node's store
-unfoldable pub set_property_of : (node object property octets : List ℕ) → Option Step
+unfoldable pub set_property_of : (node object property octets : List ℕ) → Option Statement
 set_property_of node object property octets = do
   node ← number_of node
   object ← object_of object
@@ -89,7 +89,7 @@ set_property_of node object property octets = do
   Some (SetProperty node object property octets)
 
 -- other octets of a file
-unfoldable pub set_file_of : (node object octets : List ℕ) → Option Step
+unfoldable pub set_file_of : (node object octets : List ℕ) → Option Statement
 set_file_of node object octets = do
   node ← number_of node
   object ← object_of object
@@ -97,14 +97,14 @@ set_file_of node object octets = do
   Some (SetFile node object octets)
 
 -- a change of a node's own store, by the words after the object
-abbrev pub change_of : (word node object : List ℕ) → List (List ℕ) → Option Step
+abbrev pub change_of : (word node object : List ℕ) → List (List ℕ) → Option Statement
 change_of word node object [] = None
 change_of word node object (octets ∷ []) = if bytes_eq word (codes "file") then set_file_of node object octets else None
 change_of word node object (property ∷ octets ∷ []) = if bytes_eq word (codes "set") then set_property_of node object property octets else None
 change_of word node object (a ∷ b ∷ c ∷ words) = None
 
 -- a word and a number
-unfoldable pub numbered : (word number : List ℕ) → Option Step
+unfoldable pub numbered : (word number : List ℕ) → Option Statement
 numbered word number = do
   n ← number_of number
   if bytes_eq word (codes "deliver") then Some (Deliver n)
@@ -114,12 +114,12 @@ numbered word number = do
       else (if bytes_eq word (codes "restart") then Some (Restart n)
       else None))))
 
-abbrev pub step_of : List (List ℕ) → Option Step
-step_of (word ∷ number ∷ []) = numbered word number
-step_of (word ∷ a ∷ b ∷ []) = if bytes_eq word (codes "noise") then noise_of a b else None
-step_of (word ∷ a ∷ b ∷ c ∷ more) = if bytes_eq word (codes "ask") then ask_of a b (c ∷ more) else change_of word a b (c ∷ more)
-step_of words = None
+abbrev pub statement_of : List (List ℕ) → Option Statement
+statement_of (word ∷ number ∷ []) = numbered word number
+statement_of (word ∷ a ∷ b ∷ []) = if bytes_eq word (codes "noise") then noise_of a b else None
+statement_of (word ∷ a ∷ b ∷ c ∷ more) = if bytes_eq word (codes "ask") then ask_of a b (c ∷ more) else change_of word a b (c ∷ more)
+statement_of words = None
 
 -- what a later line says
-abbrev pub step_at : List ℕ → Option Step
-step_at line = step_of (words_of line)
+abbrev pub statement_at : List ℕ → Option Statement
+statement_at line = statement_of (words_of line)

@@ -3,7 +3,7 @@ use Rattle.std.specs.Prelude.{◌≡◌, ◌≤◌, ℕ, ◌+◌, ◌*◌, Bool,
 use Rattle.std.specs.Option.{option_map}
 use Rattle.bac_apdu.specs.Apdu.{Limits}
 use Rattle.bac_simulate.specs.Lines as line
-use Rattle.bac_simulate.specs.Lines.{setting_at, step_at}
+use Rattle.bac_simulate.specs.Lines.{setting_at, statement_at}
 use Rattle.bac_text.specs.Notes.{read_of}
 use Rattle.bac_service_text.specs.declared.form_fault.FormFault.{FormFault}
 use Rattle.bac_service_text.specs.declared.form_fault.FormFault.TheVariants as form_fault
@@ -47,21 +47,21 @@ abbrev pub limits_in : List Node → NodeLimits
 limits_in nodes node = limits_of (slice_get nodes node)
 
 -- what a step says; an ask goes by what the server takes
-abbrev pub said_by : NodeLimits → line.Step → ScriptLine
-said_by limits (line.Step.Ask client server request) = Happens (world.Event.Ask client server (limits server) request)
-said_by limits (line.Step.Deliver copy) = Happens (world.Event.Deliver copy)
-said_by limits (line.Step.Lose copy) = Lost copy
-said_by limits (line.Step.Noise node octets) = Happens (world.Event.Noise node nowhere octets)
-said_by limits (line.Step.Tick node) = Happens (world.Event.Tick node)
-said_by limits (line.Step.Advance by) = Happens (world.Event.Advance by)
-said_by limits (line.Step.SetProperty node object property octets) = Happens (world.Event.Change node (at_node.Change.Value object property octets))
-said_by limits (line.Step.SetFile node object octets) = Happens (world.Event.Change node (at_node.Change.File object octets))
-said_by limits (line.Step.Restart node) = Happens (world.Event.Restart node None)
+abbrev pub said_by : NodeLimits → line.Statement → ScriptLine
+said_by limits (line.Statement.Ask client server request) = Happens (world.Event.Ask client server (limits server) request)
+said_by limits (line.Statement.Deliver copy) = Happens (world.Event.Deliver copy)
+said_by limits (line.Statement.Lose copy) = Lost copy
+said_by limits (line.Statement.Noise node octets) = Happens (world.Event.Noise node nowhere octets)
+said_by limits (line.Statement.Tick node) = Happens (world.Event.Tick node)
+said_by limits (line.Statement.Advance by) = Happens (world.Event.Advance by)
+said_by limits (line.Statement.SetProperty node object property octets) = Happens (world.Event.Change node (at_node.Change.Value object property octets))
+said_by limits (line.Statement.SetFile node object octets) = Happens (world.Event.Change node (at_node.Change.File object octets))
+said_by limits (line.Statement.Restart node) = Happens (world.Event.Restart node None)
 
 -- by what is to be read of a line
 abbrev pub said_in : NodeLimits → (read : Option (List ℕ)) → Option ScriptLine
 said_in limits None = Some Note
-said_in limits (Some l) = option_map (said_by limits) (step_at l)
+said_in limits (Some l) = option_map (said_by limits) (statement_at l)
 
 abbrev pub said_at : (notes : Bool) → NodeLimits → (line : List ℕ) → Option ScriptLine
 said_at notes limits l = said_in limits (read_of notes l)

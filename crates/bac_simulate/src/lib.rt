@@ -18,7 +18,7 @@ mod wording;
 mod words;
 mod world_of;
 
-pub use line::{Ask, Noise, SetFile, SetProperty, Setting, Step};
-pub use line_reading::{read_setting, read_step};
+pub use line::{Ask, Noise, SetFile, SetProperty, Setting, Statement};
+pub use line_reading::{read_setting, read_statement};
 pub use simulate::{simulate_in, simulate_lines_over, simulate_over};
 pub use view::{View, show_over};

@@ -59,7 +59,7 @@ pub struct SetFile {
 
 /// What a line after the first one says.
 #[derive(Debug, Drop)]
-pub enum Step {
+pub enum Statement {
     /// A node asks another one.
     Ask(Ask),
     /// The copy of that number, from 0 on, is delivered.

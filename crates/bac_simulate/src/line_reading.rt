@@ -6,10 +6,10 @@ ghost use Rattle.bac_service_text.specs.Reading.{Reads};
 ghost use Rattle.bac_value_text.specs.Numbers.{number_of};
 ghost use Rattle.bac_value_text.specs.Reading.{property_of};
 ghost use Rattle.bac_simulate.specs.Lines.{number_from_one, bounded, setting_with, usual_setting, setting_of};
-ghost use Rattle.bac_simulate.specs.Lines.{setting_at, ask_of, noise_of, numbered, set_property_of, set_file_of, change_of, step_of, step_at};
-ghost use Rattle.bac_simulate.specs.Views.{setting_view, step_view};
+ghost use Rattle.bac_simulate.specs.Lines.{setting_at, ask_of, noise_of, numbered, set_property_of, set_file_of, change_of, statement_of, statement_at};
+ghost use Rattle.bac_simulate.specs.Views.{setting_view, statement_view};
 
-use crate::line::{Ask, Noise, SetFile, SetProperty, Setting, Step};
+use crate::line::{Ask, Noise, SetFile, SetProperty, Setting, Statement};
 use crate::line_words::words_in;
 use bac_service_text::{FormFault, object_or_fault, octets_or_fault, read_request_words};
 use bac_value_text::{number_in, number_up_to, property_in};
@@ -107,13 +107,18 @@ fn number_or_fault(word: &[u8]) -> Result<u64, FormFault>
 }
 
 #[tactic(auto, unfolding(crate::specs::Lines::ask_of))]
-fn ask(alloc: Global, client: &[u8], server: &[u8], request: &[&[u8]]) -> Result<Step, FormFault>
-    ensures { Reads step_view result (ask_of client.now server.now (map (λ w. w.now) request.now)) }
+fn ask(
+    alloc: Global,
+    client: &[u8],
+    server: &[u8],
+    request: &[&[u8]],
+) -> Result<Statement, FormFault>
+    ensures { Reads statement_view result (ask_of client.now server.now (map (λ w. w.now) request.now)) }
 {
     let client = number_or_fault(client)?;
     let server = number_or_fault(server)?;
     let request = read_request_words(alloc, request)?;
-    Ok(Step::Ask(Ask {
+    Ok(Statement::Ask(Ask {
         client,
         server,
         request,
@@ -121,29 +126,29 @@ fn ask(alloc: Global, client: &[u8], server: &[u8], request: &[&[u8]]) -> Result
 }
 
 #[tactic(auto, unfolding(crate::specs::Lines::noise_of))]
-fn noise(alloc: Global, node: &[u8], octets: &[u8]) -> Result<Step, FormFault>
-    ensures { Reads step_view result (noise_of node.now octets.now) }
+fn noise(alloc: Global, node: &[u8], octets: &[u8]) -> Result<Statement, FormFault>
+    ensures { Reads statement_view result (noise_of node.now octets.now) }
 {
     let node = number_or_fault(node)?;
     let octets = octets_or_fault(alloc, octets)?;
-    Ok(Step::Noise(Noise { node, octets }))
+    Ok(Statement::Noise(Noise { node, octets }))
 }
 
 #[tactic(auto, unfolding(crate::specs::Lines::numbered))]
-fn with_number(word: &[u8], number: &[u8]) -> Result<Step, FormFault>
-    ensures { Reads step_view result (numbered word.now number.now) }
+fn with_number(word: &[u8], number: &[u8]) -> Result<Statement, FormFault>
+    ensures { Reads statement_view result (numbered word.now number.now) }
 {
     let number = number_or_fault(number)?;
     if word == b"deliver".as_slice() {
-        Ok(Step::Deliver(number))
+        Ok(Statement::Deliver(number))
     } else if word == b"tick".as_slice() {
-        Ok(Step::Tick(number))
+        Ok(Statement::Tick(number))
     } else if word == b"advance".as_slice() {
-        Ok(Step::Advance(number))
+        Ok(Statement::Advance(number))
     } else if word == b"lose".as_slice() {
-        Ok(Step::Lose(number))
+        Ok(Statement::Lose(number))
     } else if word == b"restart".as_slice() {
-        Ok(Step::Restart(number))
+        Ok(Statement::Restart(number))
     } else {
         Err(FormFault::NoForm)
     }
@@ -165,14 +170,14 @@ fn set_property(
     object: &[u8],
     property: &[u8],
     octets: &[u8],
-) -> Result<Step, FormFault>
-    ensures { Reads step_view result (set_property_of node.now object.now property.now octets.now) }
+) -> Result<Statement, FormFault>
+    ensures { Reads statement_view result (set_property_of node.now object.now property.now octets.now) }
 {
     let node = number_or_fault(node)?;
     let object = object_or_fault(object)?;
     let property = property_or_fault(property)?;
     let octets = octets_or_fault(alloc, octets)?;
-    Ok(Step::SetProperty(SetProperty {
+    Ok(Statement::SetProperty(SetProperty {
         node,
         object,
         property,
@@ -181,13 +186,18 @@ fn set_property(
 }
 
 #[tactic(auto, unfolding(crate::specs::Lines::set_file_of))]
-fn set_file(alloc: Global, node: &[u8], object: &[u8], octets: &[u8]) -> Result<Step, FormFault>
-    ensures { Reads step_view result (set_file_of node.now object.now octets.now) }
+fn set_file(
+    alloc: Global,
+    node: &[u8],
+    object: &[u8],
+    octets: &[u8],
+) -> Result<Statement, FormFault>
+    ensures { Reads statement_view result (set_file_of node.now object.now octets.now) }
 {
     let node = number_or_fault(node)?;
     let object = object_or_fault(object)?;
     let octets = octets_or_fault(alloc, octets)?;
-    Ok(Step::SetFile(SetFile {
+    Ok(Statement::SetFile(SetFile {
         node,
         object,
         octets,
@@ -201,8 +211,8 @@ fn change(
     node: &[u8],
     object: &[u8],
     words: &[&[u8]],
-) -> Result<Step, FormFault>
-    ensures { Reads step_view result (change_of word.now node.now object.now (map (λ w. w.now) words.now)) }
+) -> Result<Statement, FormFault>
+    ensures { Reads statement_view result (change_of word.now node.now object.now (map (λ w. w.now) words.now)) }
 {
     match words {
         [octets] if word == b"file".as_slice() => set_file(alloc, node, object, *octets),
@@ -213,8 +223,8 @@ fn change(
     }
 }
 
-fn step_in(alloc: Global, words: &[&[u8]]) -> Result<Step, FormFault>
-    ensures { Reads step_view result (step_of (map (λ w. w.now) words.now)) }
+fn statement_in(alloc: Global, words: &[&[u8]]) -> Result<Statement, FormFault>
+    ensures { Reads statement_view result (statement_of (map (λ w. w.now) words.now)) }
 {
     match words {
         [word, number] => with_number(*word, *number),
@@ -230,9 +240,9 @@ fn step_in(alloc: Global, words: &[&[u8]]) -> Result<Step, FormFault>
 /// A line after the first one, without its end: `ask CLIENT SERVER` and the words of a request, `deliver COPY`, `lose COPY`, `noise NODE HEX`,
 /// `tick NODE`, `advance MILLISECONDS`, `set NODE T:I P HEX`, `file NODE T:I HEX` or `restart NODE`, separated by single spaces. `NoForm` for any other
 /// line.
-pub fn read_step(alloc: Global, line: &[u8]) -> Result<Step, FormFault>
-    ensures { Reads step_view result (step_at line.now) }
+pub fn read_statement(alloc: Global, line: &[u8]) -> Result<Statement, FormFault>
+    ensures { Reads statement_view result (statement_at line.now) }
 {
     let words = words_in(alloc, line)?;
-    step_in(alloc, words.as_slice())
+    statement_in(alloc, words.as_slice())
 }

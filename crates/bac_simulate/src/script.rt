@@ -9,7 +9,7 @@ ghost use Rattle.bac_simulate.specs.Scripts.{with_setting};
 ghost use Rattle.bac_simulate.specs.Views.{line_view};
 
 use crate::line::Setting;
-use crate::line_reading::{read_setting, read_step};
+use crate::line_reading::{read_setting, read_statement};
 use crate::world_of::said_by;
 use bac_network::{Event, World};
 use bac_service_text::FormFault;
@@ -92,7 +92,7 @@ fn said_in(
     let Some(read) = read_of(notes, line) else {
         return Ok(ScriptLine::Note);
     };
-    match read_step(alloc, read) {
+    match read_statement(alloc, read) {
         Ok(step) => Ok(said_by(world, step)),
         Err(fault) => Err(at_line(number, fault)),
     }

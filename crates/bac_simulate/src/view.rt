@@ -18,7 +18,7 @@ use crate::simulate::{ended, no_script, octets_of, unread};
 use crate::trace::trace_lines;
 use crate::wording::print_lines;
 use crate::world_of::world_of;
-use bac_chart::{Form, Mark, print_drawing};
+use bac_chart::{ChartFormat, Mark, print_drawing};
 use bac_network::World;
 use bac_text::Status;
 use std::alloc::Global;
@@ -52,8 +52,8 @@ fn print_view<W: Write>(
     let nodes = u64::from(nodes);
     match view {
         View::Text => Ok(()),
-        View::Chart => print_drawing(alloc, Form::Chart, nodes, marks, out),
-        View::Mermaid => print_drawing(alloc, Form::Mermaid, nodes, marks, out),
+        View::Chart => print_drawing(alloc, ChartFormat::Chart, nodes, marks, out),
+        View::Mermaid => print_drawing(alloc, ChartFormat::Mermaid, nodes, marks, out),
         View::Capture => print_capture(alloc, world.copies(), out),
     }
 }

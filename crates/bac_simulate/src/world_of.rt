@@ -5,12 +5,12 @@ ghost use Rattle.bac_apdu.specs.Views.{limits_view};
 ghost use Rattle.bac_store.specs.AtNode.Change.{Value, File};
 ghost use Rattle.bac_world.specs.World.Event.{Change as Happening};
 ghost use Rattle.bac_network.specs.Views.{event_view};
-ghost use Rattle.bac_simulate.specs.Views.{setting_view, step_view};
+ghost use Rattle.bac_simulate.specs.Views.{setting_view, statement_view};
 ghost use Rattle.bac_simulate.specs.Houses.{link_at, makers_from, world_set};
 ghost use Rattle.bac_simulate.specs.Scripts.{IsModest, limits_in, said_by};
 ghost use Rattle.bac_simulate.specs.Views.{line_view};
 
-use crate::line::{SetFile, SetProperty, Setting, Step};
+use crate::line::{SetFile, SetProperty, Setting, Statement};
 use crate::script::ScriptLine;
 use bac_apdu::Limits;
 use bac_network::{Event, NewWorldFault, World};
@@ -115,32 +115,32 @@ fn file_change(set: SetFile) -> Event
 }
 
 /// What a line says in a world: who asks knows what the other node takes.
-pub(crate) fn said_by(world: &World, step: Step) -> ScriptLine
-    ensures { line_view result ≡ said_by (limits_in world.now.world.nodes) (step_view step) }
+pub(crate) fn said_by(world: &World, step: Statement) -> ScriptLine
+    ensures { line_view result ≡ said_by (limits_in world.now.world.nodes) (statement_view step) }
 {
     match step {
-        Step::Ask(ask) => ScriptLine::Happens(Event::Ask {
+        Statement::Ask(ask) => ScriptLine::Happens(Event::Ask {
             client: ask.client as usize,
             server: ask.server as usize,
             limits: limits_of(world, ask.server as usize),
             request: ask.request,
         }),
-        Step::Deliver(number) => ScriptLine::Happens(Event::Deliver {
+        Statement::Deliver(number) => ScriptLine::Happens(Event::Deliver {
             number: number as usize,
         }),
-        Step::Lose(number) => ScriptLine::Lost(number),
-        Step::Noise(noise) => ScriptLine::Happens(Event::Noise {
+        Statement::Lose(number) => ScriptLine::Lost(number),
+        Statement::Noise(noise) => ScriptLine::Happens(Event::Noise {
             node: noise.node as usize,
             from: NOWHERE,
             octets: noise.octets,
         }),
-        Step::Tick(node) => ScriptLine::Happens(Event::Tick {
+        Statement::Tick(node) => ScriptLine::Happens(Event::Tick {
             node: node as usize,
         }),
-        Step::Advance(by) => ScriptLine::Happens(Event::Advance { by }),
-        Step::SetProperty(set) => ScriptLine::Happens(value_change(set)),
-        Step::SetFile(set) => ScriptLine::Happens(file_change(set)),
-        Step::Restart(node) => ScriptLine::Happens(Event::Restart {
+        Statement::Advance(by) => ScriptLine::Happens(Event::Advance { by }),
+        Statement::SetProperty(set) => ScriptLine::Happens(value_change(set)),
+        Statement::SetFile(set) => ScriptLine::Happens(file_change(set)),
+        Statement::Restart(node) => ScriptLine::Happens(Event::Restart {
             node: node as usize,
             store: None,
         }),

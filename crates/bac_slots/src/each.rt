@@ -6,7 +6,7 @@ ghost use Rattle.bac_slots.specs.Slots.{EachSlot};
 use crate::SlotTable;
 
 /// A fact that is true of every value of a type.
-pub trait Fact<V> {
+pub trait SlotFact<V> {
     // The fact.
     ghost Holds: { V → Type 0 };
 
@@ -16,7 +16,7 @@ pub trait Fact<V> {
 }
 
 // States the fact for the n-th slot in order of insertion.
-fn holds_at<K: Ord + Copy, V, S: SlotTable<K, V>, F: Fact<V>>(table: &S, n: usize, fact: &F)
+fn holds_at<K: Ord + Copy, V, S: SlotTable<K, V>, F: SlotFact<V>>(table: &S, n: usize, fact: &F)
     ensures { (s : Slot K V) → slice_get (S.slots table.now) n ≡ Some s → F.Holds s.value }
 {
     let Some((_, _, value)) = table.by_age(n) else {
@@ -26,7 +26,7 @@ fn holds_at<K: Ord + Copy, V, S: SlotTable<K, V>, F: Fact<V>>(table: &S, n: usiz
 }
 
 /// States the fact for each slot. It passes over the table, and changes nothing.
-pub fn each_slot<K: Ord + Copy, V, S: SlotTable<K, V>, F: Fact<V>>(table: &S, fact: &F)
+pub fn each_slot<K: Ord + Copy, V, S: SlotTable<K, V>, F: SlotFact<V>>(table: &S, fact: &F)
     ensures { EachSlot (λ s. F.Holds s.value) (S.slots table.now) }
 {
     for n in 0..table.len() {

@@ -26,7 +26,7 @@ pub use aged::{Aged, Ticks};
 pub use aged_table::{AgedTable, empty_table};
 pub use ages::Ages;
 pub use comparing::{Same, same_tables};
-pub use each::{Fact, each_slot};
+pub use each::{SlotFact, each_slot};
 pub use entering::{count_alive, enter, has_room};
 pub use index_slots::IndexSlots;
 pub use laws::{

@@ -13,7 +13,7 @@ use Rattle.bac_store.specs.Views.{entry_view}
 use Rattle.bac_store.specs.Changes.{where_that, with_own_values, with_values, with_contents, with_octets}
 use Rattle.bac_store.specs.Kept.{object_number, IsShort, IsKept, IsInOrder, Fits}
 use Rattle.bac_store.specs.Limits.{VALUE_LIMIT, FILE_LIMIT}
-use Rattle.bac_store.specs.Plans.{Effect, with_effect}
+use Rattle.bac_store.specs.Plans.{StoreEffect, with_effect}
 use Rattle.bac_store.specs.Replies.{overwritten}
 use Rattle.bac_store.specs.Stores.{Store, Object, File, is_object, is_number}
 
@@ -92,23 +92,23 @@ contents_kept octets short o k = record {
   file_fits = contents_fit octets short o.file k.file_fits;
 }
 
-pub effect_in_order : (c : Effect) → Fits c → (s : Store) → IsInOrder s → IsInOrder (with_effect c s)
-effect_in_order Effect.Nothing f s o = o
-effect_in_order (Effect.Values id n values) f s o = record {
+pub effect_in_order : (c : StoreEffect) → Fits c → (s : Store) → IsInOrder s → IsInOrder (with_effect c s)
+effect_in_order StoreEffect.Nothing f s o = o
+effect_in_order (StoreEffect.Values id n values) f s o = record {
   rise = rise-where_that (with_values n values) (is_object id) (λ x. object_number x.id) (λ x. refl) s o.rise;
   each = All-where_that (with_values n values) (is_object id) IsKept (values_kept n values f) s o.each;
 }
-effect_in_order (Effect.Contents id octets) f s o = record {
+effect_in_order (StoreEffect.Contents id octets) f s o = record {
   rise = rise-where_that (with_octets (λ old. octets)) (is_object id) (λ x. object_number x.id) (λ x. refl) s o.rise;
   each = All-where_that (with_octets (λ old. octets)) (is_object id) IsKept (contents_kept octets f) s o.each;
 }
-effect_in_order (Effect.Octets id at new) f s o = record {
+effect_in_order (StoreEffect.Octets id at new) f s o = record {
   rise = rise-where_that (with_octets (overwritten at new)) (is_object id) (λ x. object_number x.id) (λ x. refl) s o.rise;
   each = All-where_that (with_octets (overwritten at new)) (is_object id) IsKept (octets_kept at new f) s o.each;
 }
 
 -- the vector of objects after a change
-pub vector_in_order : (v : Vec StoredObject) (ws : List StoredObject) (c : Effect) → Fits c → IsInOrder (map entry_view v.items) → length ws ≡ v.len
+pub vector_in_order : (v : Vec StoredObject) (ws : List StoredObject) (c : StoreEffect) → Fits c → IsInOrder (map entry_view v.items) → length ws ≡ v.len
     → map entry_view ws ≡ with_effect c (map entry_view v.items) → IsInOrder (map entry_view (with_items v ws).items)
 vector_in_order v ws c f o kept is =
     subst (λ xs. IsInOrder (map entry_view xs)) (sym (with_items_is v ws kept)) (subst IsInOrder (sym is) (effect_in_order c f (map entry_view v.items) o))

@@ -4,7 +4,7 @@ use Rattle.std.specs.List.{All, AllPairs}
 use Rattle.bac_value.specs.Value.{ObjectId}
 use Rattle.bac_store.specs.Limits.{VALUE_LIMIT, FILE_LIMIT}
 use Rattle.bac_store.specs.Stores.{Store, Object, Property}
-use Rattle.bac_store.specs.Plans.{Effect}
+use Rattle.bac_store.specs.Plans.{StoreEffect}
 
 -- clause 20.2.14: type and instance as one number
 abbrev pub object_number : ObjectId → ℕ
@@ -27,8 +27,8 @@ pub record IsInOrder (s : Store) : Type 0 where
   pub rise : AllPairs (λ a b. object_number a.id < object_number b.id) s
   pub each : All IsKept s
 
-abbrev pub Fits : Effect → Type 0
-Fits Effect.Nothing = Unit {0}
-Fits (Effect.Values id n values) = length values ≤ VALUE_LIMIT
-Fits (Effect.Octets id at new) = at + length new ≤ FILE_LIMIT
-Fits (Effect.Contents id octets) = length octets ≤ FILE_LIMIT
+abbrev pub Fits : StoreEffect → Type 0
+Fits StoreEffect.Nothing = Unit {0}
+Fits (StoreEffect.Values id n values) = length values ≤ VALUE_LIMIT
+Fits (StoreEffect.Octets id at new) = at + length new ≤ FILE_LIMIT
+Fits (StoreEffect.Contents id octets) = length octets ≤ FILE_LIMIT

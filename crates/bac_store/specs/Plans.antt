@@ -8,22 +8,22 @@ use Rattle.bac_store.specs.Replies.{overwritten, reply_to, write_start, write_st
 use Rattle.bac_store.specs.Changes.{with_object, with_values, with_octets, is_done, after}
 
 -- none, new values of one listed property, new octets of one file from a position on, or new contents that replace all of a file
-pub data Effect : Type 0 where
-  Nothing : Effect
-  Values : (object : ObjectId) (property : ℕ) (values : List ℕ) → Effect
-  Octets : (object : ObjectId) (at : ℕ) (new : List ℕ) → Effect
-  Contents : (object : ObjectId) (octets : List ℕ) → Effect
+pub data StoreEffect : Type 0 where
+  Nothing : StoreEffect
+  Values : (object : ObjectId) (property : ℕ) (values : List ℕ) → StoreEffect
+  Octets : (object : ObjectId) (at : ℕ) (new : List ℕ) → StoreEffect
+  Contents : (object : ObjectId) (octets : List ℕ) → StoreEffect
 
 pub record Plan : Type 0 where
   pub reply : Reply
-  pub effect : Effect
+  pub effect : StoreEffect
 
 -- the store after an effect
-abbrev pub with_effect : Effect → Store → Store
-with_effect Effect.Nothing s = s
-with_effect (Effect.Values id n values) s = with_object id (with_values n values) s
-with_effect (Effect.Octets id at new) s = with_object id (with_octets (overwritten at new)) s
-with_effect (Effect.Contents id octets) s = with_object id (with_octets (λ old. octets)) s
+abbrev pub with_effect : StoreEffect → Store → Store
+with_effect StoreEffect.Nothing s = s
+with_effect (StoreEffect.Values id n values) s = with_object id (with_values n values) s
+with_effect (StoreEffect.Octets id at new) s = with_object id (with_octets (overwritten at new)) s
+with_effect (StoreEffect.Contents id octets) s = with_object id (with_octets (λ old. octets)) s
 
 -- the plan was made on this store, for this request
 pub record IsPlanFor (s : Store) (r : Request) (p : Plan) : Type 0 where
@@ -33,7 +33,7 @@ pub record IsPlanFor (s : Store) (r : Request) (p : Plan) : Type 0 where
 -- a plan for writing octets to this file: an Error has no effect
 pub record IsStreamPlan (id : ObjectId) (start : ℤ) (new : List ℕ) (f : File) (p : Plan) : Type 0 where
   pub reply : p.reply ≡ write_stream_reply start new f
-  pub effect : p.effect ≡ (if is_done p.reply then Effect.Octets id (write_start start f.octets) new else Effect.Nothing)
+  pub effect : p.effect ≡ (if is_done p.reply then StoreEffect.Octets id (write_start start f.octets) new else StoreEffect.Nothing)
 
 -- the plan was made on this store
 pub record IsPlanOn (s : Store) (p : Plan) : Type 0 where

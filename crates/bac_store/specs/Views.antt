@@ -10,10 +10,10 @@ use Rattle.bac_store.specs.declared.entry.StoredProperty.{StoredProperty}
 use Rattle.bac_store.specs.declared.entry.StoredObject.{StoredObject}
 use Rattle.bac_store.specs.declared.change.Change as change
 use Rattle.bac_store.specs.declared.change.Change.TheVariants as change_case
-use Rattle.bac_store.specs.declared.planned.Effect as code
-use Rattle.bac_store.specs.declared.planned.Effect.TheVariants as variant
+use Rattle.bac_store.specs.declared.planned.StoreEffect as code
+use Rattle.bac_store.specs.declared.planned.StoreEffect.TheVariants as variant
 use Rattle.bac_store.specs.AtNode.{Change}
-use Rattle.bac_store.specs.Plans.{Effect}
+use Rattle.bac_store.specs.Plans.{StoreEffect}
 use Rattle.bac_store.specs.Stores.{Object, Property, File, kind_of}
 
 abbrev pub file_view : contents.File → File
@@ -44,11 +44,11 @@ entry_view e =
       file = option_map file_view e.file;
     }
 
-abbrev pub effect_view : code.Effect → Effect
-effect_view variant.Nothing = Effect.Nothing
-effect_view (variant.Values id n values) = Effect.Values (object_identifier_view id) n values.octets.items
-effect_view (variant.Octets id splice) = Effect.Octets (object_identifier_view id) splice.at splice.new.items
-effect_view (variant.Contents id octets) = Effect.Contents (object_identifier_view id) octets.items
+abbrev pub effect_view : code.StoreEffect → StoreEffect
+effect_view variant.Nothing = StoreEffect.Nothing
+effect_view (variant.Values id n values) = StoreEffect.Values (object_identifier_view id) n values.octets.items
+effect_view (variant.Octets id splice) = StoreEffect.Octets (object_identifier_view id) splice.at splice.new.items
+effect_view (variant.Contents id octets) = StoreEffect.Contents (object_identifier_view id) octets.items
 
 abbrev pub change_view : change.Change → Change
 change_view (change_case.Value id n octets) = Change.Value (object_identifier_view id) n octets.items

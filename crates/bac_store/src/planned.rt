@@ -10,7 +10,7 @@ use std::marker::Model;
 /// The effect on the objects: none, new values of one listed property, new octets of one file from a position on, or new contents
 /// that replace all of a file.
 #[derive(Debug, Drop)]
-pub(crate) enum Effect {
+pub(crate) enum StoreEffect {
     Nothing,
     Values {
         object: ObjectIdentifier,
@@ -31,7 +31,7 @@ pub(crate) enum Effect {
 #[derive(Drop)]
 pub struct Planned {
     pub(crate) reply: OwnedReply,
-    pub(crate) effect: Effect,
+    pub(crate) effect: StoreEffect,
 }
 
 impl Model for Planned {

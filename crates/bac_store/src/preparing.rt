@@ -8,7 +8,7 @@ ghost use Rattle.bac_service.specs.Views.{write_access_view};
 ghost use Rattle.bac_store.specs.Changes.{HoldsOctets, is_done, IsGranted};
 ghost use Rattle.bac_store.specs.Kept.{IsInOrder};
 ghost use Rattle.bac_store.specs.Limits.{FILE_LIMIT as FILE_MOST};
-ghost use Rattle.bac_store.specs.Plans.{Effect as EffectView, IsPlanFor, IsStreamPlan};
+ghost use Rattle.bac_store.specs.Plans.{StoreEffect as StoreEffectView, IsPlanFor, IsStreamPlan};
 ghost use Rattle.bac_store.specs.Replies.{file_of as file_in, write_stream_reply};
 ghost use Rattle.bac_store.specs.Stores.{object_in};
 ghost use Rattle.bac_store.specs.Views.{entry_view, file_view};
@@ -18,7 +18,7 @@ use crate::entry::StoredObject;
 use crate::files::{read_file, write_place};
 use crate::lookups::entry_of;
 use crate::object::File;
-use crate::planned::{Effect, Planned};
+use crate::planned::{Planned, StoreEffect};
 use crate::properties::{read_property, write_refusal};
 use crate::refusal::Refusal;
 use crate::splice::Splice;
@@ -31,11 +31,11 @@ use std::alloc::Global;
 
 /// A plan that changes nothing.
 fn answered(reply: OwnedReply) -> Planned
-    ensures { result ≡ record { reply = owned_reply_view reply; effect = EffectView.Nothing } }
+    ensures { result ≡ record { reply = owned_reply_view reply; effect = StoreEffectView.Nothing } }
 {
     Planned {
         reply,
-        effect: Effect::Nothing,
+        effect: StoreEffect::Nothing,
     }
 }
 
@@ -80,7 +80,7 @@ pub(crate) fn plan_write_property(
         return Ok(answered(refusal.reply()));
     }
     let values = write.values.to_owned(alloc)?;
-    let effect = Effect::Values {
+    let effect = StoreEffect::Values {
         object: reference.object,
         property: reference.property,
         values,
@@ -141,7 +141,7 @@ fn plan_write_stream(
         Ok(at) => {
             let splice = Splice::new(alloc, at, new)?;
             let reply = AnyReply::Complex(AnyComplex::FileWritten(FileWritten::Stream(at as i64)));
-            let effect = Effect::Octets { object: id, splice };
+            let effect = StoreEffect::Octets { object: id, splice };
             Ok(Planned { reply, effect })
         }
     }

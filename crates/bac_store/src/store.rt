@@ -21,7 +21,7 @@ use crate::making::entries_made;
 use crate::object::Object;
 use crate::ordering::{are_distinct, sort_and_check_each, sort_objects};
 use crate::permitting::{permit_contents, permitted_values};
-use crate::planned::{Effect, Planned};
+use crate::planned::{Planned, StoreEffect};
 use crate::preparing::{plan_read_file, plan_read_property, plan_write_file, plan_write_property};
 use crate::store_fault::StoreFault;
 use bac_service::{AnyRequest, OwnedReply, Request};
@@ -116,19 +116,23 @@ impl Store {
     }
 
     /// Applies an effect.
-    fn make(&mut self, effect: Effect)
+    fn make(&mut self, effect: StoreEffect)
         requires { Fits (effect_view effect) }
         ensures { self.new ≡ with_effect (effect_view effect) self.old }
     {
         match effect {
-            Effect::Nothing => {}
-            Effect::Values {
+            StoreEffect::Nothing => {}
+            StoreEffect::Values {
                 object,
                 property,
                 values,
             } => set_values(&mut self.objects, object, property, values),
-            Effect::Octets { object, splice } => set_octets(&mut self.objects, object, splice),
-            Effect::Contents { object, octets } => set_contents(&mut self.objects, object, octets),
+            StoreEffect::Octets { object, splice } => set_octets(&mut self.objects, object, splice),
+            StoreEffect::Contents { object, octets } => set_contents(
+                &mut self.objects,
+                object,
+                octets,
+            ),
         }
     }
 
@@ -166,7 +170,7 @@ impl Store {
     {
         let data = permitted_values(&self.objects, object, property, octets)?;
         let values = data.to_owned(alloc)?;
-        self.make(Effect::Values {
+        self.make(StoreEffect::Values {
             object,
             property,
             values,
@@ -192,7 +196,7 @@ impl Store {
     {
         permit_contents(&self.objects, object, octets)?;
         let octets = copied_octets(alloc, octets)?;
-        self.make(Effect::Contents { object, octets });
+        self.make(StoreEffect::Contents { object, octets });
         Ok(())
     }
 

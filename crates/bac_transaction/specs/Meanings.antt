@@ -30,11 +30,11 @@ MeansEnding choice machine.Ending.Expired Expired = Unit {0}
 MeansEnding choice _ _ = ⊥
 
 -- a ticket has ended: its number, and how
-pub record Finish : Type 0 where
+pub record EndedView : Type 0 where
   pub ticket : ℕ
   pub how : Ending
 
 -- the ending of a ticket, as a value
-pub record IsFinish (e : Ended) (f : Finish) : Type 0 where
+pub record IsEndedView (e : Ended) (f : EndedView) : Type 0 where
   pub ticket : f.ticket ≡ e.number
   pub how : MeansEnding e.choice e.how f.how

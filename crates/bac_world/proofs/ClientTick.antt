@@ -11,7 +11,7 @@ use Rattle.bac_protocol.proofs.Own.{client_sends_own}
 use Rattle.bac_slots.specs.Slots.{value_at, IsDistinct}
 use Rattle.bac_transaction.specs.Keys.{PeerKey, same_key}
 use Rattle.bac_transaction.specs.Sends.{Datagram, Pairwise, IsSent, to_all}
-use Rattle.bac_transaction.specs.Meanings.{Finish, IsFinish}
+use Rattle.bac_transaction.specs.Meanings.{EndedView, IsEndedView}
 use Rattle.bac_transaction.specs.Ends.{ClientSlot, Client, TransactionSlot, context_of, held_ticked, client_tick_sends, client_tick_ends, from_each, ended_with}
 use Rattle.bac_transaction.specs.Ends.TransactionSlot.{Open, Closed}
 use Rattle.bac_world.specs.Once.{Fact}
@@ -27,12 +27,12 @@ use Rattle.bac_world.proofs.Steps.{Over}
 use Rattle.bac_world.proofs.Hearing.{Reached, reached_alike, reacts}
 
 -- endings of two lists enter the log one list after the other
-record IsEnded (notes : List Note) (i : ℕ) (fs gs : List Finish) (old new : List Fact) : Type 0 where
+record IsEnded (notes : List Note) (i : ℕ) (fs gs : List EndedView) (old new : List Fact) : Type 0 where
   between : List Fact
   first : AreEnded notes i fs old between
   second : AreEnded notes i gs between new
 
-ended_split : (notes : List Note) (i : ℕ) (fs gs : List Finish) (old new : List Fact) → AreEnded notes i (fs ++ gs) old new → IsEnded notes i fs gs old new
+ended_split : (notes : List Note) (i : ℕ) (fs gs : List EndedView) (old new : List Fact) → AreEnded notes i (fs ++ gs) old new → IsEnded notes i fs gs old new
 ended_split notes i [] gs old new h = record { between = old; first = refl; second = h }
 ended_split notes i (f ∷ fs) gs old new h =
     let again = ended_split notes i fs gs (Fact.Ended h.0 f.how ∷ old) new h.2 in
@@ -54,9 +54,9 @@ module _ (links : ℕ → Option Octets) (apart : (i j : ℕ) (l : Octets) → l
   abbrev Folds : List ClientSlot → Type 0
   Folds os = IsDistinct same_key os → EachSlot Client (λ p v. IsKnown links apart p) os → Change Client tick all os
       → (copies : List Copy) (log : List Fact) (m : Net) → Reached links apart W x w i n (look Client tick all os) copies log m
-      → (ds : List Datagram) (cs : List Copy) (fs : List Finish) (log' : List Fact)
+      → (ds : List Datagram) (cs : List Copy) (fs : List EndedView) (log' : List Fact)
       → Pairwise IsSent (from_each (client_tick_sends (x.settings i) n.now) os) ds → Pairwise (IsCopied w.nodes n.now i) ds cs
-      → Pairwise IsFinish (from_each (client_tick_ends (x.settings i) n.now) os) fs → AreEnded w.notes i fs log log'
+      → Pairwise IsEndedView (from_each (client_tick_ends (x.settings i) n.now) os) fs → AreEnded w.notes i fs log log'
       → (m' : Net) × Reached links apart W x w i n (λ q. value_at same_key q all) (copies ++ cs) log' m'
 
   no_slots : Folds []
@@ -64,8 +64,8 @@ module _ (links : ℕ → Option Octets) (apart : (i j : ℕ) (l : Octets) → l
       let ds_is : ds ≡ [] = pairwise_none IsSent ds sent in
       let cs_is : cs ≡ [] =
       pairwise_none (IsCopied w.nodes n.now i) cs (subst (λ (d : List Datagram). Pairwise (IsCopied w.nodes n.now i) d cs) ds_is copied) in
-      let fs_is : fs ≡ [] = pairwise_none IsFinish fs finished in
-      let log_is : log' ≡ log = subst (λ (f : List Finish). AreEnded w.notes i f log log') fs_is logged in (
+      let fs_is : fs ≡ [] = pairwise_none IsEndedView fs finished in
+      let log_is : log' ≡ log = subst (λ (f : List EndedView). AreEnded w.notes i f log log') fs_is logged in (
         m,
         subst (λ (l : List Copy). Reached links apart W x w i n (λ q. value_at same_key q all) l log' m)
             (sym (append_none copies) ∙ ap (λ (l : List Copy). copies ++ l) (sym cs_is))
@@ -92,8 +92,8 @@ module _ (links : ℕ → Option Octets) (apart : (i j : ℕ) (l : Octets) → l
         let d = pairwise_split IsSent (to_all (peer_at l) (client.sends_of did)) (from_each (client_tick_sends c n.now) os) ds sent in
         let e = pairwise_split (IsCopied w.nodes n.now i) d.front d.rest cs
         (subst (λ (z : List Datagram). Pairwise (IsCopied w.nodes n.now i) z cs) d.is copied) in
-        let f = pairwise_split IsFinish (ended_with k t.ask.choice (client.ending_of did)) (from_each (client_tick_ends c n.now) os) fs finished in
-        let g = ended_split w.notes i f.front f.rest log log' (subst (λ (z : List Finish). AreEnded w.notes i z log log') f.is logged) in
+        let f = pairwise_split IsEndedView (ended_with k t.ask.choice (client.ending_of did)) (from_each (client_tick_ends c n.now) os) fs finished in
+        let g = ended_split w.notes i f.front f.rest log log' (subst (λ (z : List EndedView). AreEnded w.notes i z log log') f.is logged) in
         let next = reacts links apart W x bound w n key l li from at (look Client tick all (slot Client p begin v ∷ os)) (look Client tick all os)
         copies log m r h.linked k t (look_first Client tick all p begin v os) did
         (λ is. subst (λ (z : ℕ). Sound x (client_acts m key t (client_ticks (client_context x key z) t))

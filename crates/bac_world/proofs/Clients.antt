@@ -24,7 +24,7 @@ use Rattle.bac_protocol.proofs.Own.{client_sends_own}
 use Rattle.bac_slots.specs.Slots.{value_at, with_value, IsDistinct}
 use Rattle.bac_transaction.specs.Keys.{PeerKey, same_key}
 use Rattle.bac_transaction.specs.Sends.{Datagram, Pairwise, IsSent}
-use Rattle.bac_transaction.specs.Meanings.{Finish, IsFinish}
+use Rattle.bac_transaction.specs.Meanings.{EndedView, IsEndedView}
 use Rattle.bac_transaction.specs.Ends.{Client, ClientEnd, ClientTurn, TransactionSlot, client_after, client_goes, requester_on_apdu_at, requester_on_apdu_in_slot, stays}
 use Rattle.bac_transaction.specs.Ends.TransactionSlot.{Open, Closed}
 use Rattle.bac_world.specs.Node.{Node, Outcome, IsClientTurn}
@@ -106,7 +106,7 @@ module _ (links : ℕ → Option Octets) (apart : (i j : ℕ) (l : Octets) → l
       copies_is = ap (λ (l : List Copy). w.copies ++ l) sent_is ∙ append_none w.copies
 
       between_is : acts.between ≡ w.log
-      between_is = subst (λ (fs : List Finish). AreEnded w.notes i fs w.log acts.between) ends acts.ended
+      between_is = subst (λ (fs : List EndedView). AreEnded w.notes i fs w.log acts.between) ends acts.ended
 
   -- an APDU of a server was heard
   pub hears : (bound : IsBounded W x) → x.readable ≡ reads_reply → (w w' : World) (n : Net) → Over links apart W x w n → (number : ℕ) (p : Post) (c : Copy)
@@ -165,7 +165,7 @@ module _ (links : ℕ → Option Octets) (apart : (i j : ℕ) (l : Octets) → l
       unheard : ((u : ClientTransaction) → n.tickets key ≡ Some u → is_idle u.phase ≡ true) → IsClientTurn (stays a.clients) w.now a b o
           → Goes links apart W x w w' made_net
       unheard over t = subst (λ (m : Net). Goes links apart W x w w' m) (sym (hears_nothing x n p (n.tickets key) refl over))
-          (quiet w w' n h key.client a b o node' acts' t.performed (pairwise_none IsSent o.sends t.sends) (pairwise_none IsFinish o.ended t.ended) t.node)
+          (quiet w w' n h key.client a b o node' acts' t.performed (pairwise_none IsSent o.sends t.sends) (pairwise_none IsEndedView o.ended t.ended) t.node)
 
       goes : (k : ℕ) (t : ClientTransaction) → value_at same_key q a.clients.slots ≡ Some (record { number = k; held = Open t })
           → IsClientTurn (client_goes n.now a.clients q k t (client_on_apdu context x.readable t apdu)) w.now a b o

@@ -16,7 +16,7 @@ use Rattle.bac_protocol.proofs.Keys.{set_same, set_other, decide_key}
 use Rattle.bac_slots.specs.Slots.{value_at}
 use Rattle.bac_transaction.specs.Keys.{PeerKey, same_key}
 use Rattle.bac_transaction.specs.Sends.{Datagram, Pairwise, IsSent, to_all}
-use Rattle.bac_transaction.specs.Meanings.{Finish, IsFinish}
+use Rattle.bac_transaction.specs.Meanings.{EndedView, IsEndedView}
 use Rattle.bac_transaction.specs.Ends.{Client, kept, open_unless, ended_with, client_after}
 use Rattle.bac_transaction.specs.Ends.TransactionSlot.{Open, Closed}
 use Rattle.bac_world.specs.Node.{Node}
@@ -189,7 +189,7 @@ module _ (links : ℕ → Option Octets) (apart : (i j : ℕ) (l : Octets) → l
       means : Pairwise FactMeans facts log'
       once : (opening stores : Stores) → IsOnce opening w.log stores → IsOnce opening log' stores
 
-    ends : (o : Option machine.Ending) (fs : List Finish) (log' : List Fact) → Pairwise IsFinish (ended_with number t.ask.choice o) fs
+    ends : (o : Option machine.Ending) (fs : List EndedView) (log' : List Fact) → Pairwise IsEndedView (ended_with number t.ask.choice o) fs
         → AreEnded w.notes key.client fs log log' → IsOrderly (ended (m.numbers key) o m.log) → Ends (ended (m.numbers key) o m.log) log'
     ends None [] log' finished logged right = record {
       means = subst (λ (lg : List Fact). Pairwise FactMeans m.log lg) (sym logged) h.log;
@@ -215,7 +215,7 @@ module _ (links : ℕ → Option Octets) (apart : (i j : ℕ) (l : Octets) → l
 
     pub reacts : (ds : List Datagram) (cs : List Copy) → Pairwise IsSent (to_all (peer_at l) (client.sends_of r)) ds
         → Pairwise (IsCopied w.nodes n.now key.client) ds cs
-        → (fs : List Finish) (log' : List Fact) → Pairwise IsFinish (ended_with number t.ask.choice (client.ending_of r)) fs
+        → (fs : List EndedView) (log' : List Fact) → Pairwise IsEndedView (ended_with number t.ask.choice (client.ending_of r)) fs
         → AreEnded w.notes key.client fs log log'
         → Reached w key.client n look' (copies ++ cs) log' (client_acts m key t r)
     reacts ds cs sent copied fs log' finished logged =

@@ -2,7 +2,7 @@
 use Rattle.std.proofs.Common.{ℕ, Bool, true, false, List, [], ◌∷◌, Option, Some, None, sym, subst, inl, inr}
 use Rattle.bac_service.specs.Values.{Request}
 use Rattle.bac_service.specs.Replies.{Reply}
-use Rattle.bac_transaction.specs.Meanings.{Ending, Finish}
+use Rattle.bac_transaction.specs.Meanings.{Ending, EndedView}
 use Rattle.bac_world.specs.Node.{Node, Outcome}
 use Rattle.bac_world.specs.Once.{Fact, HasRequestsAlone}
 use Rattle.bac_world.specs.Once.Fact.{Asked, Performed, Ended}
@@ -13,7 +13,7 @@ use Rattle.bac_world.specs.World.Event.{Ask, Deliver, Noise, Tick, Advance, Chan
 module _ (P : List Fact → Type 0) (asked : (n c s : ℕ) (r : Request) (log : List Fact) → P log → P (Asked n c s r ∷ log))
     (performed : (n : ℕ) (r : Request) (p : Reply) (log : List Fact) → P log → P (Performed n r p ∷ log))
     (ended : (n : ℕ) (how : Ending) (log : List Fact) → P log → P (Ended n how ∷ log)) where
-  after_endings : (notes : List Note) (node : ℕ) (fs : List Finish) (old new : List Fact) → AreEnded notes node fs old new → P old → P new
+  after_endings : (notes : List Note) (node : ℕ) (fs : List EndedView) (old new : List Fact) → AreEnded notes node fs old new → P old → P new
   after_endings notes node [] old new h p = subst P (sym h) p
   after_endings notes node (f ∷ fs) old new h p = after_endings notes node fs (Ended h.0 f.how ∷ old) new h.2 (ended h.0 f.how old p)
 

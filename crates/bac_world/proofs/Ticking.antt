@@ -10,7 +10,7 @@ use Rattle.bac_protocol.specs.Claims.{IsBounded}
 use Rattle.bac_slots.specs.Slots.{value_at, in_order}
 use Rattle.bac_transaction.specs.Keys.{PeerKey, peer_key_cmp, same_key}
 use Rattle.bac_transaction.specs.Sends.{Send, Datagram, Pairwise, IsSent}
-use Rattle.bac_transaction.specs.Meanings.{IsFinish}
+use Rattle.bac_transaction.specs.Meanings.{IsEndedView}
 use Rattle.bac_transaction.specs.Ends.{ClientSlot, ServerSlot, Client, TransactionSlot, held_ticked, client_tick_sends, client_tick_ends, server_tick_sends, from_each}
 use Rattle.bac_transaction.specs.Ends.{requester_tick, responder_tick}
 use Rattle.bac_transaction.specs.Ends.TransactionSlot.{Open, Closed}
@@ -100,7 +100,7 @@ module _ (links : ℕ → Option Octets) (apart : (i j : ℕ) (l : Octets) → l
       (reached_alike links apart W x w i n (λ q. value_at same_key q clients) (look Client f (changed Client f clients) (in_order peer_key_cmp clients))
       w.copies w.log n (λ q. sym (look_all Client f clients fits.clients.distinct q)) (reached_none links apart W x w n h i a fits))
       ds.front cs.front o.ended step.acts.between ds.first cs.first
-      (subst (λ (y : Settings). Pairwise IsFinish (from_each (client_tick_ends y n.now) (in_order peer_key_cmp clients)) o.ended) fits.settings tick'.ended)
+      (subst (λ (y : Settings). Pairwise IsEndedView (from_each (client_tick_ends y n.now) (in_order peer_key_cmp clients)) o.ended) fits.settings tick'.ended)
       step.acts.ended
 
   start : Served links apart W x bound w n r.0 h.linked i a.link fits.link

@@ -17,7 +17,7 @@ use Rattle.bac_protocol.specs.Own.{invoke_id_of}
 use Rattle.bac_protocol.specs.Transaction.{Key}
 use Rattle.bac_protocol.specs.World.{same_key}
 use Rattle.bac_transaction.specs.Sends.{Datagram, Pairwise}
-use Rattle.bac_transaction.specs.Meanings.{Finish}
+use Rattle.bac_transaction.specs.Meanings.{EndedView}
 use Rattle.bac_transaction.specs.Ends.{Accepted}
 use Rattle.bac_world.specs.Services as service
 use Rattle.bac_world.specs.Node.{Node, Outcome, Refusal, NodeOn, NodeTick, NodeAsks, NodeRefuses, with_change, restarted, store_after_restart}
@@ -118,7 +118,7 @@ is_deliverable overtake now number copies c = nat_le (now - c.moment) LIFE && na
 -- What a node's call does to the world.
 
 -- each ending enters the log, with the number noted for its ticket
-abbrev pub AreEnded : List Note → (node : ℕ) → List Finish → (old new : List Fact) → Type 0
+abbrev pub AreEnded : List Note → (node : ℕ) → List EndedView → (old new : List Fact) → Type 0
 AreEnded notes node [] old new = new ≡ old
 AreEnded notes node (f ∷ fs) old new = (n : ℕ) × (ask_of node f.ticket notes ≡ Some n) × AreEnded notes node fs (Ended n f.how ∷ old) new
 

@@ -52,7 +52,7 @@ use Rattle.bac_world.proofs.Asking.{IsAccepted, accepted_is, asks_with, free_tic
 use Rattle.bac_liveness.specs.StraightRuns.{is_open, DeliverEach, ending_in, IsStraight, key_of_ask, AreOf}
 use Rattle.bac_liveness.specs.StraightAnswers.{datagrams, way_between, CanAnswer, IsAnswered}
 use Rattle.bac_liveness.proofs.StraightRuns.Posts.{AreOwn, own_none, own_more, own_at}
-use Rattle.bac_liveness.proofs.StraightRuns.StoreModels.{Machines, shop, outcome_at, after_read}
+use Rattle.bac_liveness.proofs.StraightRuns.StoreModels.{Machines, model, outcome_at, after_read}
 use Rattle.bac_liveness.proofs.StraightRuns.Delivering.{Fit}
 use Rattle.bac_liveness.proofs.StraightRuns.Following.{Followed, follows}
 use Rattle.bac_liveness.proofs.StraightRuns.Tickets.{closed_there}
@@ -235,14 +235,14 @@ module _ (links : ℕ → Option Octets) (apart : (i j : ℕ) (l : Octets) → l
     -- the request is performed, so its reply can be read
     reads : (c : Complex) → m ≡ machine.Reply.Complex (complex_spelling c) → x.readable (choice_of r) (complex_spelling c) ≡ true
     reads c is =
-        let has = was_performed (Option Store) shop x v0 key good (choice_of r) parts.front parts.rest m dead outcome way_goes serving parts.whole request_fits count
+        let has = was_performed (Option Store) model x v0 key good (choice_of r) parts.front parts.rest m dead outcome way_goes serving parts.whole request_fits count
         end f.run (stops end f.fit) in
         let was = performed_as n.asks (record { choice = choice_of r; service = join pieces }) m end.net.log new.log f.fit.over.log has in
         ap (λ (y : machine.Readable). y (choice_of r) (complex_spelling c)) readable
         ∙ means_read (choice_of r) (complex_spelling c) was.reply (subst (λ (y : machine.Reply). MeansReply (choice_of r) y was.reply) is was.means)
 
     module _ (kind : KindFits x.readable (choice_of r) m) where
-      can_ask : CanAsk (Option Store) shop x v0 key (choice_of r) parts.whole pieces m
+      can_ask : CanAsk (Option Store) model x v0 key (choice_of r) parts.whole pieces m
       can_ask = record {
         free = unheld;
         serving = serving;
@@ -253,9 +253,9 @@ module _ (links : ℕ → Option Octets) (apart : (i j : ℕ) (l : Octets) → l
         way = way_goes;
       }
 
-      answered_so : machine_straight.IsAnswered (Option Store) shop x key (record { choice = choice_of r; service = join pieces }) m
+      answered_so : machine_straight.IsAnswered (Option Store) model x key (record { choice = choice_of r; service = join pieces }) m
           (request_count parts.whole pieces) count v0 end
-      answered_so = machines_answer (Option Store) shop x key good v0 (choice_of r) parts.whole parts.front parts.rest m can_ask v1
+      answered_so = machines_answer (Option Store) model x key good v0 (choice_of r) parts.whole parts.front parts.rest m can_ask v1
           (subst (λ (y : Machines). IsLike (Option Store) key v1 y) (sym (ap (λ b'. if b' then v0 else v1) unheld))
           (record { moment = refl; asks = refl; number = refl; ticket = refl; entry = refl; posts = refl; stores = refl; log = refl; serves = refl }))
           count end f.run (stops end f.fit)

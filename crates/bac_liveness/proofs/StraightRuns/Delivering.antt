@@ -39,7 +39,7 @@ use Rattle.bac_world.proofs.Serving.{room_is, serves, served_so}
 use Rattle.bac_world.proofs.Clients.{hears}
 use Rattle.bac_liveness.proofs.StraightRuns.Posts.{AreOwn, own_more, own_at}
 use Rattle.bac_liveness.proofs.StraightRuns.Growing.{Grows, grows_not, acts_grow}
-use Rattle.bac_liveness.proofs.StraightRuns.StoreModels.{Machines, shop, outcome_at, stores_fit}
+use Rattle.bac_liveness.proofs.StraightRuns.StoreModels.{Machines, model, outcome_at, stores_fit}
 
 and_both : (a b : Bool) → (a && b) ≡ true → (a ≡ true) × (b ≡ true)
 and_both true true e = (refl, refl)
@@ -62,7 +62,7 @@ module _ (links : ℕ → Option Octets) (apart : (i j : ℕ) (l : Octets) → l
     pub stores : (i : ℕ) → v.stores i ≡ stores_of w.nodes i
 
   abbrev pub with_free : Machines → (number : ℕ) → Bool → Machines
-  with_free v number free = happens (Option Store) shop x v (Deliver number free)
+  with_free v number free = happens (Option Store) model x v (Deliver number free)
 
   -- that delivery, with what is kept through it; a server that has a slot has one there too
   pub record Delivery (w w' : World) (v : Machines) (number : ℕ) (old : List Post) (key : Key) : Type 0 where
@@ -113,16 +113,16 @@ module _ (links : ℕ → Option Octets) (apart : (i j : ℕ) (l : Octets) → l
         λ i. nat_le (sym h.now i - post.goes.moment i) LIFE && nat_le (laters i) x.overtake
 
     lost : net.is_deliverable x n.now number n.posts p ≡ false → with_free v number true ≡ v
-    lost is = ap (delivered (Option Store) shop x v number true) post.there
-        ∙ ap (λ b. if b then net.arrives (Option Store) shop x v p.key true p.copy.apdu else v) is
+    lost is = ap (delivered (Option Store) model x v number true) post.there
+        ∙ ap (λ b. if b then net.arrives (Option Store) model x v p.key true p.copy.apdu else v) is
 
     reaches : (free : Bool) → net.is_deliverable x n.now number n.posts p ≡ true → (up : Bool) → is_from_client p.copy.apdu ≡ up
         → with_free v number free
-        ≡ (if up then takes_at_server (Option Store) shop x v p.key free p.copy.apdu
+        ≡ (if up then takes_at_server (Option Store) model x v p.key free p.copy.apdu
         else takes_at_client (Option Store) x v p.key p.copy.apdu (n.tickets p.key))
-    reaches free is up way = ap (delivered (Option Store) shop x v number free) post.there
-        ∙ ap (λ b. if b then net.arrives (Option Store) shop x v p.key free p.copy.apdu else v) is
-        ∙ ap (λ b. if b then takes_at_server (Option Store) shop x v p.key free p.copy.apdu
+    reaches free is up way = ap (delivered (Option Store) model x v number free) post.there
+        ∙ ap (λ b. if b then net.arrives (Option Store) model x v p.key free p.copy.apdu else v) is
+        ∙ ap (λ b. if b then takes_at_server (Option Store) model x v p.key free p.copy.apdu
         else takes_at_client (Option Store) x v p.key p.copy.apdu (n.tickets p.key)) way
 
     -- It arrives.
@@ -173,11 +173,11 @@ module _ (links : ℕ → Option Octets) (apart : (i j : ℕ) (l : Octets) → l
           s = serves links apart W x bound w w' n h number p c post.there post.goes young few up from_is to_is a b o node l link (service_of a.store) turn acts
 
           reacts : Service → Machines
-          reacts y = net.serves (Option Store) shop v p.key (server_on_apdu (server_context x p.key n.now) y (n.entries p.key) free p.copy.apdu)
+          reacts y = net.serves (Option Store) model v p.key (server_on_apdu (server_context x p.key n.now) y (n.entries p.key) free p.copy.apdu)
 
           becomes : with_free v number free ≡ reacts (service_of a.store)
           becomes = reaches free is true up
-              ∙ ap (λ b. net.serves (Option Store) shop v p.key (server_on_apdu (server_context x p.key n.now) (net.service_of (Option Store) shop v p.key)
+              ∙ ap (λ b. net.serves (Option Store) model v p.key (server_on_apdu (server_context x p.key n.now) (net.service_of (Option Store) model v p.key)
               (n.entries p.key) b p.copy.apdu)) (room_is n p.key a.servers (h.nodes p.key.server a node').serves)
               ∙ ap (λ y. reacts (outcome_at y)) (f.stores p.key.server ∙ ap (λ (y : Option Node). option_map (λ (m : Node). m.store) y) node')
 

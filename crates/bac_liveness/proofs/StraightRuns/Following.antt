@@ -17,7 +17,7 @@ use Rattle.bac_world.proofs.Bridge.{IsCopyOf, slot_key}
 use Rattle.bac_liveness.specs.StraightRuns.{DeliverEach}
 use Rattle.bac_liveness.proofs.StraightRuns.Posts.{AreOwn, within}
 use Rattle.bac_liveness.proofs.StraightRuns.Growing.{Grows, grows_not, grows_then}
-use Rattle.bac_liveness.proofs.StraightRuns.StoreModels.{Machines, shop}
+use Rattle.bac_liveness.proofs.StraightRuns.StoreModels.{Machines, model}
 use Rattle.bac_liveness.proofs.StraightRuns.Delivering.{Fit, delivers}
 use Rattle.bac_liveness.proofs.StraightRuns.Tickets.{open_there}
 
@@ -28,7 +28,7 @@ module _ (links : ℕ → Option Octets) (apart : (i j : ℕ) (l : Octets) → l
 
   pub record Followed (w new : World) (v : Machines) (old : List Post) (key : Key) (has_slot : Bool) (count number : ℕ) : Type 0 where
     pub end : Machines
-    pub run : Straight (Option Store) (like_machine (Option Store) shop x key) key has_slot count number v end
+    pub run : Straight (Option Store) (like_machine (Option Store) model x key) key has_slot count number v end
     pub fit : Fit links apart W x bound readable opening new end
     pub own : AreOwn old key end.net.posts
     pub now : new.now ≡ w.now
@@ -53,7 +53,7 @@ module _ (links : ℕ → Option Octets) (apart : (i j : ℕ) (l : Octets) → l
     follows (suc count) number w new v f own le run has_slot slot =
         let u : World = run.1 in
         let d = delivers links apart W x bound readable opening w u v f number run.2.copy run.2.there old key ne own le run.2.goes in
-        let next : Machines = happens (Option Store) shop x v (Deliver number d.free) in
+        let next : Machines = happens (Option Store) model x v (Deliver number d.free) in
         let again = follows count (suc number) u new next d.fit d.own (omega arith) run.3 false (λ e. absurd cc) in
         let p = pairwise_get (IsCopyOf links apart) v.net.posts w.copies number run.2.copy f.over.posts run.2.there in
         record {

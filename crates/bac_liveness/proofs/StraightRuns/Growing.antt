@@ -1,6 +1,6 @@
 -- The log of a world only grows.
 use Rattle.std.proofs.Common.{◌≡◌, ℕ, List, [], ◌∷◌, ◌++◌, Option, Some, None, refl, sym, ap, ◌∙◌, append_assoc}
-use Rattle.bac_transaction.specs.Meanings.{Finish}
+use Rattle.bac_transaction.specs.Meanings.{EndedView}
 use Rattle.bac_world.specs.Services as service
 use Rattle.bac_world.specs.Node.{Node, Outcome}
 use Rattle.bac_world.specs.Once.{Fact}
@@ -16,7 +16,7 @@ grows_not a b is = ([], is)
 pub grows_then : (a b c : List Fact) → Grows a b → Grows b c → Grows a c
 grows_then a b c g h = (h.0 ++ g.0, h.1 ∙ ap (λ l. h.0 ++ l) g.1 ∙ sym (append_assoc h.0 g.0 a))
 
-ended_grows : (notes : List Note) (i : ℕ) (fs : List Finish) (old new : List Fact) → AreEnded notes i fs old new → Grows old new
+ended_grows : (notes : List Note) (i : ℕ) (fs : List EndedView) (old new : List Fact) → AreEnded notes i fs old new → Grows old new
 ended_grows notes i [] old new h = ([], h)
 ended_grows notes i (f ∷ fs) old new h =
     grows_then old (Ended h.0 f.how ∷ old) new (Ended h.0 f.how ∷ [], refl) (ended_grows notes i fs (Ended h.0 f.how ∷ old) new h.2)

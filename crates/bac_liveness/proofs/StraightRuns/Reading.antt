@@ -28,36 +28,36 @@ performed_has : (f : Fact) (n : ℕ) (o : Option Effect) (log : List Fact) → H
 performed_has f n None log h = h
 performed_has f n (Some e) log h = inr h
 
-module _ (S : Type 0) (shop : StoreModel S) (x : Rules) (f : Fact) where
+module _ (S : Type 0) (model : StoreModel S) (x : Rules) (f : Fact) where
   at_client_has : (w : World S) (key : Key) (a : Apdu) (o : Option ClientTransaction) → Has f w.net.log → Has f (takes_at_client S x w key a o).net.log
   at_client_has w key a None h = h
   at_client_has w key a (Some t) h = ended_has f (w.net.numbers key) _ w.net.log h
 
-  at_server_has : (w : World S) (key : Key) (free : Bool) (a : Apdu) → Has f w.net.log → Has f (takes_at_server S shop x w key free a).net.log
+  at_server_has : (w : World S) (key : Key) (free : Bool) (a : Apdu) → Has f w.net.log → Has f (takes_at_server S model x w key free a).net.log
   at_server_has w key free a h = performed_has f (w.net.numbers key) _ w.net.log h
 
-  arrives_has : (w : World S) (key : Key) (free : Bool) (a : Apdu) → Has f w.net.log → Has f (arrives S shop x w key free a).net.log
+  arrives_has : (w : World S) (key : Key) (free : Bool) (a : Apdu) → Has f w.net.log → Has f (arrives S model x w key free a).net.log
   arrives_has w key free a h = go (is_from_client a)
     where
-      go : (b : Bool) → Has f (if b then takes_at_server S shop x w key free a else takes_at_client S x w key a (w.net.tickets key)).net.log
+      go : (b : Bool) → Has f (if b then takes_at_server S model x w key free a else takes_at_client S x w key a (w.net.tickets key)).net.log
       go true = at_server_has w key free a h
       go false = at_client_has w key a (w.net.tickets key) h
 
-  delivered_has : (w : World S) (number : ℕ) (free : Bool) (o : Option Post) → Has f w.net.log → Has f (delivered S shop x w number free o).net.log
+  delivered_has : (w : World S) (number : ℕ) (free : Bool) (o : Option Post) → Has f w.net.log → Has f (delivered S model x w number free o).net.log
   delivered_has w number free None h = h
   delivered_has w number free (Some p) h = go (is_deliverable x w.net.now number w.net.posts p)
     where
-      go : (b : Bool) → Has f (if b then arrives S shop x w p.key free p.copy.apdu else w).net.log
+      go : (b : Bool) → Has f (if b then arrives S model x w p.key free p.copy.apdu else w).net.log
       go true = arrives_has w p.key free p.copy.apdu h
       go false = h
 
-  has_still : (key : Key) (has_slot : Bool) (count number : ℕ) (w v : World S) → Straight S (like_machine S shop x key) key has_slot count number w v
+  has_still : (key : Key) (has_slot : Bool) (count number : ℕ) (w v : World S) → Straight S (like_machine S model x key) key has_slot count number w v
       → Has f w.net.log → Has f v.net.log
   has_still key has_slot zero number w v run h = subst (λ (y : World S). Has f y.net.log) run h
   has_still key has_slot (suc count) number w v run h = has_still key false count (suc number) run.4 v run.6
       (subst (Has f) (sym run.5.log) (delivered_has w number run.0 (slice_get w.net.posts number) h))
 
-module _ (S : Type 0) (shop : StoreModel S) (x : Rules) (now number : ℕ) (key : Key) where
+module _ (S : Type 0) (model : StoreModel S) (x : Rules) (now number : ℕ) (key : Key) where
   stops_at : (a b : ℕ) (u : World S) → a ≡ b → Stops S key a u → Stops S key b u
   stops_at a b u e h = subst (λ (n : ℕ). Stops S key n u) e h
 
@@ -66,31 +66,31 @@ module _ (S : Type 0) (shop : StoreModel S) (x : Rules) (now number : ℕ) (key 
     first : ℕ
     count : ℕ
     mid : World S
-    shows : Shows S shop x now number key mid q first
-    run : Straight S (like_machine S shop x key) key false count first mid u
+    shows : Shows S model x now number key mid q first
+    run : Straight S (like_machine S model x key) key false count first mid u
 
-  comes_by : (count j first : ℕ) (w u : World S) (p q : TransactionPair S) → Leads S shop x now number key count p q → Shows S shop x now number key w p first
-      → Straight S (like_machine S shop x key) key false j first w u → Stops S key (first + j) u → ComesBy u q
+  comes_by : (count j first : ℕ) (w u : World S) (p q : TransactionPair S) → Leads S model x now number key count p q → Shows S model x now number key w p first
+      → Straight S (like_machine S model x key) key false j first w u → Stops S key (first + j) u → ComesBy u q
   comes_by zero j first w u p q h s run stops =
-      record { first = first; count = j; mid = w; shows = subst (λ (d : TransactionPair S). Shows S shop x now number key w d first) h s; run = run }
-  comes_by (suc count) zero first w u p q h s run stops = absurd (not_stopped S shop x now number key w u p first h.0 h.1 s h.2 h.4 run stops)
+      record { first = first; count = j; mid = w; shows = subst (λ (d : TransactionPair S). Shows S model x now number key w d first) h s; run = run }
+  comes_by (suc count) zero first w u p q h s run stops = absurd (not_stopped S model x now number key w u p first h.0 h.1 s h.2 h.4 run stops)
   comes_by (suc count) (suc j) first w u p q h s run stops =
-      comes_by count j (suc first) run.4 u (step S shop x now number key p h.0 h.1) q h.6
-      (went S shop x now number key (like_machine S shop x key) (λ y e z like. like) w run.4 p first h.0 h.1 run.0 run.5 s h.2 h.3 (inr h.5)) run.6
+      comes_by count j (suc first) run.4 u (step S model x now number key p h.0 h.1) q h.6
+      (went S model x now number key (like_machine S model x key) (λ y e z like. like) w run.4 p first h.0 h.1 run.0 run.5 s h.2 h.3 (inr h.5)) run.6
       (stops_at (first + suc j) (suc first + j) u (omega arith) stops)
 
-  starts_by : (most j first : ℕ) (w u : World S) (p q : TransactionPair S) → Starts S shop x now number key most p q → Shows S shop x now number key w p first
-      → Straight S (like_machine S shop x key) key true j first w u → Stops S key (first + j) u → ComesBy u q
-  starts_by most zero first w u p q h s run stops = absurd (not_stopped S shop x now number key w u p first h.xs h.a s h.is h.going run stops)
+  starts_by : (most j first : ℕ) (w u : World S) (p q : TransactionPair S) → Starts S model x now number key most p q → Shows S model x now number key w p first
+      → Straight S (like_machine S model x key) key true j first w u → Stops S key (first + j) u → ComesBy u q
+  starts_by most zero first w u p q h s run stops = absurd (not_stopped S model x now number key w u p first h.xs h.a s h.is h.going run stops)
   starts_by most (suc j) first w u p q h s run stops =
-      comes_by h.count j (suc first) run.4 u (step S shop x now number key p h.xs h.a) q h.leads
-      (went S shop x now number key (like_machine S shop x key) (λ y e z like. like) w run.4 p first h.xs h.a run.0 run.5 s h.is h.few
+      comes_by h.count j (suc first) run.4 u (step S model x now number key p h.xs h.a) q h.leads
+      (went S model x now number key (like_machine S model x key) (λ y e z like. like) w run.4 p first h.xs h.a run.0 run.5 s h.is h.few
       (inl (run.1 refl))) run.6
       (stops_at (first + suc j) (suc first + j) u (omega arith) stops)
 
-module _ (S : Type 0) (shop : StoreModel S) (x : Rules) (w : World S) (key : Key) (good : AreStraight x key) (choice : ℕ) (front : Octets) (rest : List Octets)
+module _ (S : Type 0) (model : StoreModel S) (x : Rules) (w : World S) (key : Key) (good : AreStraight x key) (choice : ℕ) (front : Octets) (rest : List Octets)
     (p : Reply) (dead : is_none_live w.net.now (w.net.entries key) ≡ true)
-    (outcome : shop.outcome (w.stores key.server) choice (join (front ∷ rest)) ≡ Replies p)
+    (outcome : model.outcome (w.stores key.server) choice (join (front ∷ rest)) ≡ Replies p)
     (way : WayFits (way_to x key p)) where
   abbrev pieces : List Octets
   pieces = front ∷ rest
@@ -105,7 +105,7 @@ module _ (S : Type 0) (shop : StoreModel S) (x : Rules) (w : World S) (key : Key
   log whole = Asked w.net.asks key.client key.server (request_of (ask whole)) ∷ w.net.log
 
   abbrev Begins : Bool → TransactionPair S → Type 0
-  Begins whole q = Starts S shop x w.net.now w.net.asks key (2 * request_count whole pieces) (first_duo S shop x w key (ask whole) whole) q
+  Begins whole q = Starts S model x w.net.now w.net.asks key (2 * request_count whole pieces) (first_duo S model x w key (ask whole) whole) q
 
   -- where it was performed
   record Performs (whole : Bool) : Type 0 where
@@ -115,7 +115,7 @@ module _ (S : Type 0) (shop : StoreModel S) (x : Rules) (w : World S) (key : Key
 
   performs : (whole : Bool) → RequestFits whole pieces → Performs whole
   performs true fits =
-      let h = whole_read S shop x w.net.now w.net.asks key (ask true) refl w.stores (log true) p outcome way (w.net.entries key) dead in
+      let h = whole_read S model x w.net.now w.net.asks key (ask true) refl w.stores (log true) p outcome way (w.net.entries key) dead in
       record {
         end = _;
         has = inl refl;
@@ -138,21 +138,21 @@ module _ (S : Type 0) (shop : StoreModel S) (x : Rules) (w : World S) (key : Key
       record {
         end = _;
         has = inl refl;
-        begins = pieces_read S shop x w.net.now w.net.asks key (ask false) refl w.stores (log false) p outcome way (w.net.entries key) dead (omega arith)
+        begins = pieces_read S model x w.net.now w.net.asks key (ask false) refl w.stores (log false) p outcome way (w.net.entries key) dead (omega arith)
             (record { some = omega arith; small = omega arith; within = omega arith; room = omega arith; few = fits.0; short = fits.1 });
       }
 
   module _ (serving : w.net.serves_from key.server ≤ w.net.now) (whole : Bool) (fits : RequestFits whole (front ∷ rest)) (count : ℕ) (new : World S)
-      (run : Straight S (like_machine S shop x key) key true count (length w.net.posts) (asked S shop x w key (ask whole)) new)
+      (run : Straight S (like_machine S model x key) key true count (length w.net.posts) (asked S model x w key (ask whole)) new)
       (stops : Stops S key (length w.net.posts + count) new) where
-    reached : ComesBy S shop x w.net.now w.net.asks key new (performs whole fits).end
-    reached = starts_by S shop x w.net.now w.net.asks key (2 * request_count whole (front ∷ rest)) count (length w.net.posts)
-        (asked S shop x w key (ask whole)) new (first_duo S shop x w key (ask whole) whole) (performs whole fits).end (performs whole fits).begins
-        (asked_shows S shop x w key serving (ask whole) (omega arith)) run stops
+    reached : ComesBy S model x w.net.now w.net.asks key new (performs whole fits).end
+    reached = starts_by S model x w.net.now w.net.asks key (2 * request_count whole (front ∷ rest)) count (length w.net.posts)
+        (asked S model x w key (ask whole)) new (first_duo S model x w key (ask whole) whole) (performs whole fits).end (performs whole fits).begins
+        (asked_shows S model x w key serving (ask whole) (omega arith)) run stops
 
     -- it stands in the log after the run
     pub was_performed : Has (fact whole) new.net.log
     was_performed =
         let c = reached in
-        has_still S shop x (fact whole) key false c.count c.first c.mid new c.run
+        has_still S model x (fact whole) key false c.count c.first c.mid new c.run
         (subst (Has (fact whole)) (sym c.shows.log) (performs whole fits).has)

@@ -32,8 +32,8 @@ after_read (Some s) (Ok r) = Some (change.after s r)
 after_read (Some s) (Err reason) = Some s
 
 -- no node of a straight run changes its own store
-abbrev pub shop : StoreModel (Option Store)
-shop = record { outcome = outcome_at; after = λ s q. after_read s (request_at q.choice q.service); changed = λ s change. s; opened = λ store. None }
+abbrev pub model : StoreModel (Option Store)
+model = record { outcome = outcome_at; after = λ s q. after_read s (request_at q.choice q.service); changed = λ s change. s; opened = λ store. None }
 
 -- all transactions of the machines, with these stores
 abbrev pub Machines : Type 0
@@ -43,7 +43,7 @@ Machines = net.World (Option Store)
 pub stores_fit : (stores : ℕ → Option Store) (old new : List Node) → ((i : ℕ) → stores i ≡ stores_of old i) → (i : ℕ) (a b : Node)
     → slice_get old i ≡ Some a → IsWithNode old i b new → (q : PeerKey) (e : Option Effect) (d : Option Performed)
     → ArePerformed a.store (act_at q e) d → b.store ≡ store_after a.store d
-    → (j : ℕ) → stored (Option Store) shop i e stores j ≡ stores_of new j
+    → (j : ℕ) → stored (Option Store) model i e stores j ≡ stores_of new j
 stores_fit stores old new fit i a b at nodes q None None done store j = fit j ∙ sym (stores_same old new i a b nodes at store j)
 stores_fit stores old new fit i a b at nodes q None (Some d) done store j = absurd done
 stores_fit stores old new fit i a b at nodes q (Some e) None done store j = absurd done

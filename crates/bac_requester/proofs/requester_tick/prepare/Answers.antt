@@ -3,7 +3,7 @@ use Rattle.std.proofs.Common.{◌≡◌, ◌++◌, Some, None, List, map, length
 use Rattle.std.specs.Option.{option_map}
 use Rattle.bac_slots.specs.declared.slot.Slot.{Slot}
 use Rattle.bac_transaction.specs.Ends.{Client, ClientSlot, client_tick_sends, client_tick_ends, from_each}
-use Rattle.bac_transaction.specs.Meanings.{IsFinish}
+use Rattle.bac_transaction.specs.Meanings.{IsEndedView}
 use Rattle.bac_transaction.specs.Sends.{IsSent, Pairwise}
 use Rattle.bac_transaction.specs.Views.{settings_view}
 use Rattle.bac_transaction.specs.declared.peer_key.PeerKey.{PeerKey}
@@ -18,7 +18,7 @@ loop-n-preserved-in_default g c =
     let at = nth_slot Client c.slots_in_order.ensures.nth _ c.loop-n.n None c.loop-n.invariant.distinct c.in_default.ensures in
     record {
       sends = told_past IsSent (client_tick_sends (settings_view c.args.settings.now) c.args.now) c.loop-n.n _ _ at c.loop-n.invariant.sends;
-      ended = told_past IsFinish (client_tick_ends (settings_view c.args.settings.now) c.args.now) c.loop-n.n _ _ at c.loop-n.invariant.ended;
+      ended = told_past IsEndedView (client_tick_ends (settings_view c.args.settings.now) c.args.now) c.loop-n.n _ _ at c.loop-n.invariant.ended;
       ends = c.loop-n.invariant.ends;
       distinct = c.loop-n.invariant.distinct;
     }
@@ -35,7 +35,7 @@ loop-n-preserved g c =
     record {
       sends = told_more IsSent (client_tick_sends (settings_view c.args.settings.now) c.args.now) c.loop-n.n _ _ _ _ _ at c.loop-n.invariant.sends told.sends
           c.in_ok-append.ensures.sends;
-      ended = told_more IsFinish (client_tick_ends (settings_view c.args.settings.now) c.args.now) c.loop-n.n _ _ _ _ _ at c.loop-n.invariant.ended
+      ended = told_more IsEndedView (client_tick_ends (settings_view c.args.settings.now) c.args.now) c.loop-n.n _ _ _ _ _ at c.loop-n.invariant.ended
           told.ended ended;
       ends = c.loop-n.invariant.ends;
       distinct = c.loop-n.invariant.distinct;
@@ -48,6 +48,6 @@ returns g c =
     record {
       sends = subst (λ (l : List ClientSlot). Pairwise IsSent (from_each (client_tick_sends
           (settings_view c.args.settings.now) c.args.now) l) c.loop-n.reaction.sends.items) all c.loop-n.invariant.sends;
-      ended = subst (λ (l : List ClientSlot). Pairwise IsFinish (from_each (client_tick_ends (settings_view c.args.settings.now) c.args.now) l)
+      ended = subst (λ (l : List ClientSlot). Pairwise IsEndedView (from_each (client_tick_ends (settings_view c.args.settings.now) c.args.now) l)
           (map ended_view c.loop-n.reaction.ended.items)) all c.loop-n.invariant.ended;
     }

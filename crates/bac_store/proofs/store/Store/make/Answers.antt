@@ -2,14 +2,14 @@ use Rattle.std.proofs.Common.{◌∙◌, ap, subst, map, arith}
 use Rattle.bac_value.specs.Views.{object_identifier_view}
 use Rattle.bac_store.specs.Views.{effect_view}
 use Rattle.bac_store.specs.Kept.{Fits}
-use Rattle.bac_store.specs.Plans.{Effect, with_effect}
+use Rattle.bac_store.specs.Plans.{StoreEffect, with_effect}
 use Rattle.bac_store.specs.Views.{entry_view}
 use Rattle.bac_store.proofs.Keeps.{vector_in_order}
 use Rattle.bac_store.proofs.store.Store.make.Goals as goal
 
 pub invariant_of-self : goal.invariant_of-self
 invariant_of-self c =
-    let effect = Effect.Values (object_identifier_view c.in-Values.object) c.in-Values.property c.in-Values.values.octets.items in
+    let effect = StoreEffect.Values (object_identifier_view c.in-Values.object) c.in-Values.property c.in-Values.values.octets.items in
     vector_in_order c.self.inside.objects c.set_values.new.objects effect
     (subst (λ x. Fits (effect_view x)) c.in-Values.is c.requires)
     c.self.invariant
@@ -18,7 +18,7 @@ invariant_of-self c =
 
 pub invariant_of-self-in-Octets : goal.invariant_of-self-in-Octets
 invariant_of-self-in-Octets c =
-    let effect = Effect.Octets (object_identifier_view c.in-Octets.object) c.in-Octets.splice.at c.in-Octets.splice.new.items in
+    let effect = StoreEffect.Octets (object_identifier_view c.in-Octets.object) c.in-Octets.splice.at c.in-Octets.splice.new.items in
     vector_in_order c.self.inside.objects c.set_octets.new.objects effect
     (subst (λ x. Fits (effect_view x)) c.in-Octets.is c.requires)
     c.self.invariant
@@ -27,7 +27,7 @@ invariant_of-self-in-Octets c =
 
 pub invariant_of-self-in-Contents : goal.invariant_of-self-in-Contents
 invariant_of-self-in-Contents c =
-    let effect = Effect.Contents (object_identifier_view c.in-Contents.object) c.in-Contents.octets.items in
+    let effect = StoreEffect.Contents (object_identifier_view c.in-Contents.object) c.in-Contents.octets.items in
     vector_in_order c.self.inside.objects c.set_contents.new.objects effect
     (subst (λ x. Fits (effect_view x)) c.in-Contents.is c.requires)
     c.self.invariant
