@@ -10,7 +10,7 @@ use Rattle.bac_protocol.specs.Service.{Octets}
 use Rattle.bac_protocol.specs.Wire.{pieces_from}
 use Rattle.bac_protocol.specs.Log.{StoreModel}
 use Rattle.bac_protocol.specs.Transaction.{Key, Rules}
-use Rattle.bac_protocol.proofs.Queue.{TransactionPair}
+use Rattle.bac_protocol.proofs.Queue.{Nows, TransactionPair}
 use Rattle.bac_protocol.proofs.Readings.{ahead_is}
 use Rattle.bac_protocol.proofs.Windows.{next_window, not_finished}
 use Rattle.bac_protocol.proofs.Carries.{Sender, moved, Fitting}
@@ -33,7 +33,7 @@ acknowledged_none actual own out q small at =
     let e : nat_lt (ahead (q % 256) out.first) (in_window out) ≡ false = grind (arith, nat_tests) in
     ap (λ b. if b then Some (record out { first = out.first + ahead (q % 256) out.first + 1; window = min actual own; retries = N_RETRY }) else None) e
 
-module _ (S : Type 0) (model : StoreModel S) (x : Rules) (now number : ℕ) (key : Key) (actual own : ℕ) (ps : List Octets)
+module _ (S : Type 0) (model : StoreModel S) (x : Rules) (now : Nows) (number : ℕ) (key : Key) (actual own : ℕ) (ps : List Octets)
     (sizes : Fitting x.overtake actual own ps) (near : actual < 256) (v : Moving S model x now number key actual own ps) where
   abbrev n : ℕ
   n = length ps
@@ -77,7 +77,7 @@ module _ (S : Type 0) (model : StoreModel S) (x : Rules) (now number : ℕ) (key
       (subst (λ (zs : List Apdu). Goes j (v.sending s' zs) (v.sending s' (ys ++ new))) (sym (append_assoc (repeated j ack) ys new)) two)
 
 -- a channel's sender
-abbrev pub moving : (S : Type 0) (model : StoreModel S) (x : Rules) (now number : ℕ) (key : Key) (actual own : ℕ) (ps : List Octets)
+abbrev pub moving : (S : Type 0) (model : StoreModel S) (x : Rules) (now : Nows) (number : ℕ) (key : Key) (actual own : ℕ) (ps : List Octets)
     → Channel S model x now number key actual own ps → Incoming → ℕ → Moving S model x now number key actual own ps
 moving S model x now number key actual own ps c inc m = record {
   sending = λ s xs. c.ends s inc m xs;

@@ -29,10 +29,11 @@ use Rattle.bac_protocol.specs.World.{World, happens, start}
 use Rattle.bac_protocol.specs.World.Event.{Tick}
 use Rattle.bac_protocol.specs.Claims.{IsBounded}
 use Rattle.bac_protocol.specs.Straight.{AreStraight, FitsData, WayFits, KindFits, way_count, way_to, request_count}
+use Rattle.bac_protocol.specs.World.{client_now, server_now}
 use Rattle.bac_protocol.proofs.Headline.{Kept}
 use Rattle.bac_protocol.proofs.Ways.{way_cut}
 use Rattle.bac_protocol.proofs.Replied.{way_taken}
-use Rattle.bac_protocol.proofs.Queue.{TransactionPair}
+use Rattle.bac_protocol.proofs.Queue.{Nows, TransactionPair}
 use Rattle.bac_protocol.proofs.Follow.{Shows}
 use Rattle.bac_protocol.proofs.Carries.{Sender, Fitting}
 use Rattle.bac_liveness.specs.AfterPast.{ClientIsDue, HearsRequest, TakesRequest, Keeps, Gives, CanStill}
@@ -47,22 +48,23 @@ use Rattle.bac_liveness.proofs.Uploads as up
 use Rattle.bac_liveness.proofs.Downloads as down
 use Rattle.bac_liveness.proofs.Begins as begins
 use Rattle.bac_liveness.proofs.Resends as again_
-use Rattle.bac_liveness.proofs.Turned.{IsThere, there, live_self, done_performed, reply_performed, ticked, server_ticked, Finishes}
+use Rattle.bac_liveness.proofs.Turned.{done_performed, reply_performed, ticked, server_ticked, Finishes}
+use Rattle.bac_liveness.proofs.There.{IsThere, there, live_self}
 
 module _ (S : Type 0) (model : StoreModel S) (opening : ℕ → S) (W : ℕ) (x : Rules) (bound : IsBounded W x) (w : World S)
     (kept_in : Kept S model opening W x bound w) (key : Key) (t : ClientTransaction) (at : w.net.tickets key ≡ Some t) (good : AreStraight x key) (p : reply)
     (can : CanStill S model x w key t p) where
-  abbrev now : ℕ
-  now = w.net.now
+  abbrev now : Nows
+  now = record { real = w.net.now; here = client_now w.net key; there = server_now w.net key }
 
   abbrev number : ℕ
   number = w.net.numbers key
 
   abbrev c : Context
-  c = client_context x key now
+  c = client_context x key now.here
 
   abbrev d : Context
-  d = server_context x key now
+  d = server_context x key now.there
 
   abbrev ask : Ask
   ask = t.ask
@@ -83,7 +85,7 @@ module _ (S : Type 0) (model : StoreModel S) (opening : ℕ → S) (W : ℕ) (x 
   abbrev actual_back : ℕ
   actual_back = min d.settings.window c.settings.window
 
-  young : is_expired now ask ≡ false
+  young : is_expired now.here ask ≡ false
   young = let y = can.in_time in grind (arith, nat_tests)
 
   near : actual < 256
@@ -138,7 +140,7 @@ module _ (S : Type 0) (model : StoreModel S) (opening : ℕ → S) (W : ℕ) (x 
   after_tick = happens S model x w (Tick (key ∷ []) [])
 
   -- What was performed before ends the ticket.
-  module _ (repeats begin : ℕ) (alive : nat_le (now - begin) KEEP ≡ true) (kept : Option Octets) where
+  module _ (repeats begin : ℕ) (alive : nat_le (now.there - begin) KEEP ≡ true) (kept : Option Octets) where
     abbrev EndsIn : ℕ → TransactionPair S → Type 0
     EndsIn most from = down.EndsWith S model x now number key ask young repeats begin alive kept w.stores log most from p
 
@@ -154,11 +156,11 @@ module _ (S : Type 0) (model : StoreModel S) (opening : ℕ → S) (W : ℕ) (x 
     }
 
   -- What is performed now ends it.
-  module _ (repeats begin : ℕ) (alive : nat_le (now - begin) KEEP ≡ true)
+  module _ (repeats begin : ℕ) (alive : nat_le (now.there - begin) KEEP ≡ true)
       (outcome : model.outcome (w.stores key.server) ask.choice (join ask.pieces) ≡ Replies p) where
     abbrev read : Option Octets → List Apdu → TransactionPair S
     read kept pending = up.performed S model x now number key ask young repeats begin alive w.stores log p outcome can.way
-        (record { ask = ask; phase = AwaitConfirmation; repeats = repeats; since = now }) kept
+        (record { ask = ask; phase = AwaitConfirmation; repeats = repeats; since = now.here }) kept
         (up.sent_first S model x now number key ask young repeats begin alive w.stores log p outcome can.way ∷ pending)
 
     abbrev stores' : ℕ → S
@@ -173,7 +175,7 @@ module _ (S : Type 0) (model : StoreModel S) (opening : ℕ → S) (W : ℕ) (x 
     read_ends : (first extra : ℕ) (kept : Option Octets) → (0 < extra → kept ≡ None) → extra ≤ x.overtake
         → down.EndsWith S model x now number key ask young repeats begin alive kept stores' log' (3 * wc + extra) (read kept (segments first extra)) p
     read_ends first extra kept plain few =
-        down.reply_read S model x now number key ask young repeats begin alive kept stores' log' AwaitConfirmation now await_waits refl p
+        down.reply_read S model x now number key ask young repeats begin alive kept stores' log' AwaitConfirmation now.here await_waits refl p
         (way_to x key p) first extra refl can.way can.kind positive_back near_back room_back plain few
 
     read_finishes : (most spent first extra : ℕ) (kept : Option Octets) (from : TransactionPair S) → spent + extra ≤ most → (0 < extra → kept ≡ None)
@@ -222,11 +224,11 @@ module _ (S : Type 0) (model : StoreModel S) (opening : ℕ → S) (W : ℕ) (x 
   same_entry e of kept request st state i =
       record { begin = e.begin; choice = of.choice i; limits = of.limits i; request = request i; state = state i }
 
-  entry_shows : (e : ServerTransaction) → live_entry now (w.net.entries key) ≡ Some e → IsOfAsk x key ask e → (kept : Option Octets) → e.request ≡ kept → (st : State)
-      → e.state ≡ st → live_entry now (w.net.entries key) ≡ live_entry now (Some (entry_with e.begin kept st))
+  entry_shows : (e : ServerTransaction) → live_entry now.there (w.net.entries key) ≡ Some e → IsOfAsk x key ask e → (kept : Option Octets) → e.request ≡ kept → (st : State)
+      → e.state ≡ st → live_entry now.there (w.net.entries key) ≡ live_entry now.there (Some (entry_with e.begin kept st))
   entry_shows e entry of kept request st state =
-      entry ∙ sym (live_self now e ((there now (w.net.entries key) e entry).live))
-      ∙ ap (λ (y : ServerTransaction). live_entry now (Some y)) (same_entry e of kept request st state)
+      entry ∙ sym (live_self now.there e ((there now.there (w.net.entries key) e entry).live))
+      ∙ ap (λ (y : ServerTransaction). live_entry now.there (Some y)) (same_entry e of kept request st state)
 
   -- A reply in segments, in these pieces.
 
@@ -265,12 +267,12 @@ module _ (S : Type 0) (model : StoreModel S) (opening : ℕ → S) (W : ℕ) (x 
     with_retries r = record reply_out { retries = r }
 
     abbrev running : ℕ → State
-    running r = SegmentedResponse (with_retries r) Running now
+    running r = SegmentedResponse (with_retries r) Running now.there
 
     abbrev reply_window : ℕ → List Apdu
     reply_window r = server.reply_window d ask.choice (with_retries r)
 
-    module _ (repeats begin : ℕ) (alive : nat_le (now - begin) KEEP ≡ true) (kept : Option Octets) (r : ℕ) where
+    module _ (repeats begin : ℕ) (alive : nat_le (now.there - begin) KEEP ≡ true) (kept : Option Octets) (r : ℕ) where
       -- the client has taken nothing of it
       from_start : (phase : Phase) (since : ℕ) → Waits phase → is_idle phase ≡ false → IsAtStart reply_out
           → EndsIn repeats begin alive kept (3 * wc) (record {
@@ -335,7 +337,7 @@ module _ (S : Type 0) (model : StoreModel S) (opening : ℕ → S) (W : ℕ) (x 
 
   -- A request in segments, whose window is sent again.
 
-  module _ (out : Outgoing) (all_sent : Bool) (is : t.phase ≡ SegmentedRequest out all_sent) (due : T_SEG ≤ now - t.since) (left : 0 < out.retries)
+  module _ (out : Outgoing) (all_sent : Bool) (is : t.phase ≡ SegmentedRequest out all_sent) (due : T_SEG ≤ now.here - t.since) (left : 0 < out.retries)
       (whole : ask.whole ≡ false) (sends : IsSending actual ask.pieces out) where
     abbrev out' : Outgoing
     out' = retried out
@@ -344,7 +346,7 @@ module _ (S : Type 0) (model : StoreModel S) (opening : ℕ → S) (W : ℕ) (x 
     all' = sent_now out' all_sent
 
     abbrev ticket : ClientTransaction
-    ticket = record { ask = ask; phase = SegmentedRequest out' all'; repeats = t.repeats; since = now }
+    ticket = record { ask = ask; phase = SegmentedRequest out' all'; repeats = t.repeats; since = now.here }
 
     abbrev sender : Sender
     sender = record { out = out'; all_sent = all' }
@@ -372,13 +374,13 @@ module _ (S : Type 0) (model : StoreModel S) (opening : ℕ → S) (W : ℕ) (x 
     all_is e = ap (λ b. b || nat_le (length out.pieces) (out.first + in_window out')) e
 
     sending_shows : (q : TransactionPair S) → ticket ≡ q.ticket → window ≡ q.pending → w.stores ≡ q.stores → log ≡ q.log
-        → live_entry now (w.net.entries key) ≡ live_entry now q.entry → Shows S model x now number key after_tick q (length w.net.posts)
+        → live_entry now.there (w.net.entries key) ≡ live_entry now.there q.entry → Shows S model x now number key after_tick q (length w.net.posts)
     sending_shows q ticket_is pending stores log_is entry =
         ticked S model opening W x bound w kept_in key t at can.serving (client.sends_request_window c ask.choice out' all_sent) q
         (sending_ticks c t young out all_sent is due left) ticket_is (sent_window ∙ pending) refl stores log_is entry
 
     -- its server has not heard of it
-    sending_new : live_entry now (w.net.entries key) ≡ None → IsAtStart out
+    sending_new : live_entry now.there (w.net.entries key) ≡ None → IsAtStart out
         → model.outcome (w.stores key.server) ask.choice (join ask.pieces) ≡ Replies p → Ready after_tick
     sending_new none start outcome =
         let some = sends.left in
@@ -389,32 +391,32 @@ module _ (S : Type 0) (model : StoreModel S) (opening : ℕ → S) (W : ℕ) (x 
         let q = begins.asking S model x now number key ask young t.repeats w.stores log p outcome can.way (SegmentedRequest out' all') (w.net.entries key)
         (client.request_piece c ask.choice ask.pieces 0 ∷ []) in
         let z = begins.pieces_read S model x now number key ask young t.repeats w.stores log p outcome can.way (w.net.entries key)
-        (none_live now (w.net.entries key) none) (request_sizes whole) near out' sends.pieces_are zero_is win all' (omega arith) in
+        (none_live now.there (w.net.entries key) none) (request_sizes whole) near out' sends.pieces_are zero_is win all' (omega arith) in
         let count = count_is whole in
         record {
           q = q;
           shows = sending_shows q refl (λ i. pieces_from (client.request_piece c ask.choice ask.pieces) (zero_is i) (one i)) refl refl refl;
           most = 3 * n + 3 * wc;
           cheap = omega arith;
-          fin = read_finishes t.repeats now (alive_now now) outcome (3 * n) z.spent z.first z.extra None q z.cheap (λ h. refl) z.few z.reaches;
+          fin = read_finishes t.repeats now.there (alive_now now.there) outcome (3 * n) z.spent z.first z.extra None q z.cheap (λ h. refl) z.few z.reaches;
         }
 
     -- its server keeps an entry for it
-    module _ (e : ServerTransaction) (entry : live_entry now (w.net.entries key) ≡ Some e) (of : IsOfAsk x key ask e) where
-      found : IsThere now (w.net.entries key) e
-      found = there now (w.net.entries key) e entry
+    module _ (e : ServerTransaction) (entry : live_entry now.there (w.net.entries key) ≡ Some e) (of : IsOfAsk x key ask e) where
+      found : IsThere now.there (w.net.entries key) e
+      found = there now.there (w.net.entries key) e entry
 
       no_request : e.request ≡ None
       no_request = of.request ∙ ap (λ b. if b then Some (join ask.pieces) else None) whole
 
       -- a reassembly
-      sending_received : (inc : Incoming) (since : ℕ) → e.state ≡ State.SegmentedRequest inc since → now - since < T_WAIT_FOR_SEG
+      sending_received : (inc : Incoming) (since : ℕ) → e.state ≡ State.SegmentedRequest inc since → now.there - since < T_WAIT_FOR_SEG
           → AreTogether actual ask.pieces out inc
           → model.outcome (w.stores key.server) ask.choice (join ask.pieces) ≡ Replies p → Ready after_tick
       unfolding up.carries
       sending_received inc since state timely together outcome =
           let sizes = request_sizes whole in
-          let in_time : nat_le T_WAIT_FOR_SEG (now - since) ≡ false = grind (arith, nat_tests) in
+          let in_time : nat_le T_WAIT_FOR_SEG (now.there - since) ≡ false = grind (arith, nat_tests) in
           let carries = up.carries S model x now number key ask young t.repeats e.begin found.live w.stores log in
           let q = up.requesting S model x now number key ask young t.repeats e.begin found.live w.stores log sender inc since window in
           let z = up.upload S model x now number key ask young t.repeats e.begin found.live w.stores log p outcome can.way sizes near sender inc since
@@ -439,14 +441,14 @@ module _ (S : Type 0) (model : StoreModel S) (opening : ℕ → S) (W : ℕ) (x 
           let phase_is = all_is all in
           let big = room in
           let q = again_.with_state S model x now number key ask young t.repeats e.begin found.live None w.stores log
-          (record { ask = ask; phase = SegmentedRequest out' true; repeats = t.repeats; since = now }) (Done (server.reply_apdu d ask.choice p)) window in
-          let z = again_.segments_answered S model x now number key ask young t.repeats e.begin found.live None w.stores log p w' out.first now out' refl
+          (record { ask = ask; phase = SegmentedRequest out' true; repeats = t.repeats; since = now.here }) (Done (server.reply_apdu d ask.choice p)) window in
+          let z = again_.segments_answered S model x now number key ask young t.repeats e.begin found.live None w.stores log p w' out.first now.here out' refl
           in_some (omega arith) can.kind in
           let count = count_is whole in
           record {
             q = q;
             shows = sending_shows q
-                (ap (λ b. record { ask = ask; phase = SegmentedRequest out' b; repeats = t.repeats; since = now }) phase_is) refl refl refl
+                (ap (λ b. record { ask = ask; phase = SegmentedRequest out' b; repeats = t.repeats; since = now.here }) phase_is) refl refl refl
                 (entry_shows e entry of None no_request (Done (server.reply_apdu d ask.choice p)) (state ∙ ap Done same));
             most = w' + 1;
             cheap = omega arith;
@@ -467,20 +469,20 @@ module _ (S : Type 0) (model : StoreModel S) (opening : ℕ → S) (W : ℕ) (x 
               let phase_is = all_is all in
               let big = room in
               let st : State = SegmentedResponse reply_out Stopped since in
-              let t' : ClientTransaction = record { ask = ask; phase = SegmentedRequest out' true; repeats = t.repeats; since = now } in
+              let t' : ClientTransaction = record { ask = ask; phase = SegmentedRequest out' true; repeats = t.repeats; since = now.here } in
               let sent = pieces_from (client.request_piece c ask.choice ask.pieces) out.first (suc k) in
               let q = again_.with_state S model x now number key ask young t.repeats e.begin found.live None w.stores log t' st sent in
               let mid = again_.with_state S model x now number key ask young t.repeats e.begin found.live None w.stores log t'
-              (SegmentedResponse (resume reply_out) Running now) (server.reply_window d ask.choice (resume reply_out)) in
+              (SegmentedResponse (resume reply_out) Running now.there) (server.reply_window d ask.choice (resume reply_out)) in
               let y = again_.segments_resume S model x now number key ask young t.repeats e.begin found.live None w.stores log t' reply_out since k out.first
               refl refl (omega arith) in
-              let z = from_start reply_out same cut t.repeats e.begin found.live None N_RETRY (SegmentedRequest out' true) now (sending_waits out') refl
+              let z = from_start reply_out same cut t.repeats e.begin found.live None N_RETRY (SegmentedRequest out' true) now.here (sending_waits out') refl
               start in
               let count = count_is whole in
               record {
                 q = q;
                 shows = sending_shows q
-                    (ap (λ b. record { ask = ask; phase = SegmentedRequest out' b; repeats = t.repeats; since = now }) phase_is)
+                    (ap (λ b. record { ask = ask; phase = SegmentedRequest out' b; repeats = t.repeats; since = now.here }) phase_is)
                     (ap (λ (j : ℕ). pieces_from (client.request_piece c ask.choice ask.pieces) out.first j) is') refl refl
                     (entry_shows e entry of None no_request st state);
                 most = suc k + 3 * wc;
@@ -494,7 +496,7 @@ module _ (S : Type 0) (model : StoreModel S) (opening : ℕ → S) (W : ℕ) (x 
   -- A request whose answer is waited for.
 
   abbrev waiting : Phase → ClientTransaction
-  waiting phase = record { ask = ask; phase = phase; repeats = t.repeats - 1; since = now }
+  waiting phase = record { ask = ask; phase = phase; repeats = t.repeats - 1; since = now.here }
 
   request_kept : (e : ServerTransaction) → IsOfAsk x key ask e → (b : Bool) → ask.whole ≡ b → e.request ≡ (if b then Some (join ask.pieces) else None)
   request_kept e of b whole = of.request ∙ ap (λ y. if y then Some (join ask.pieces) else None) whole
@@ -504,26 +506,26 @@ module _ (S : Type 0) (model : StoreModel S) (opening : ℕ → S) (W : ℕ) (x 
 
   whole_shows : (phase : Phase) → client.client_ticks c t ≡ Repeats t.phase (client.request_apdu c ask ∷ []) → t.phase ≡ phase → (q : TransactionPair S)
       → waiting phase ≡ q.ticket → client.request_apdu c ask ∷ [] ≡ q.pending → w.stores ≡ q.stores → log ≡ q.log
-      → live_entry now (w.net.entries key) ≡ live_entry now q.entry → Shows S model x now number key after_tick q (length w.net.posts)
+      → live_entry now.there (w.net.entries key) ≡ live_entry now.there q.entry → Shows S model x now number key after_tick q (length w.net.posts)
   whole_shows phase ticks is q ticket pending stores log_is entry =
       ticked S model opening W x bound w kept_in key t at can.serving (Repeats t.phase (client.request_apdu c ask ∷ [])) q ticks (ap waiting is ∙ ticket) pending refl
       stores log_is entry
 
-  module _ (is : t.phase ≡ AwaitConfirmation) (due : T_OUT ≤ now - t.since) (left : 0 < t.repeats) (some : 0 < n) where
-    waiting_new : ask.whole ≡ true → live_entry now (w.net.entries key) ≡ None
+  module _ (is : t.phase ≡ AwaitConfirmation) (due : T_OUT ≤ now.here - t.since) (left : 0 < t.repeats) (some : 0 < n) where
+    waiting_new : ask.whole ≡ true → live_entry now.there (w.net.entries key) ≡ None
         → model.outcome (w.stores key.server) ask.choice (join ask.pieces) ≡ Replies p → Ready after_tick
     waiting_new whole none outcome =
         let q = begins.asking S model x now number key ask young (t.repeats - 1) w.stores log p outcome can.way AwaitConfirmation (w.net.entries key)
         (client.request_apdu c ask ∷ []) in
         let z = begins.whole_read S model x now number key ask young (t.repeats - 1) w.stores log p outcome can.way (w.net.entries key)
-        (none_live now (w.net.entries key) none) in
+        (none_live now.there (w.net.entries key) none) in
         let count = whole_count whole in
         record {
           q = q;
           shows = whole_shows AwaitConfirmation (awaiting_ticks c t young is due left true whole) is q refl refl refl refl refl;
           most = 1 + 3 * wc;
           cheap = omega arith;
-          fin = read_finishes (t.repeats - 1) now (alive_now now) outcome 1 1 0 0 (Some (join ask.pieces)) q (omega arith) (λ h. absurd (omega arith))
+          fin = read_finishes (t.repeats - 1) now.there (alive_now now.there) outcome 1 1 0 0 (Some (join ask.pieces)) q (omega arith) (λ h. absurd (omega arith))
               (omega arith) z;
         }
 
@@ -535,15 +537,15 @@ module _ (S : Type 0) (model : StoreModel S) (opening : ℕ → S) (W : ℕ) (x 
 
     pieces_shows : ask.whole ≡ false → (q : TransactionPair S) → waiting (SegmentedRequest anew true) ≡ q.ticket
         → pieces_from (client.request_piece c ask.choice ask.pieces) 0 1 ≡ q.pending → w.stores ≡ q.stores → log ≡ q.log
-        → live_entry now (w.net.entries key) ≡ live_entry now q.entry → Shows S model x now number key after_tick q (length w.net.posts)
+        → live_entry now.there (w.net.entries key) ≡ live_entry now.there q.entry → Shows S model x now number key after_tick q (length w.net.posts)
     pieces_shows whole q ticket pending stores log_is entry =
         ticked S model opening W x bound w kept_in key t at can.serving (Repeats (SegmentedRequest anew true) (client.request_window c ask.choice anew)) q
         (awaiting_ticks c t young is due left false whole) ticket
         (ap (λ (k : ℕ). pieces_from (client.request_piece c ask.choice ask.pieces) 0 k) anew_one ∙ pending) refl stores log_is entry
 
-    module _ (e : ServerTransaction) (entry : live_entry now (w.net.entries key) ≡ Some e) (of : IsOfAsk x key ask e) where
-      there_is : IsThere now (w.net.entries key) e
-      there_is = there now (w.net.entries key) e entry
+    module _ (e : ServerTransaction) (entry : live_entry now.there (w.net.entries key) ≡ Some e) (of : IsOfAsk x key ask e) where
+      there_is : IsThere now.there (w.net.entries key) e
+      there_is = there now.there (w.net.entries key) e entry
 
       -- a kept reply of one APDU
       waiting_done : (kept : Apdu) → e.state ≡ Done kept → kept ≡ server.reply_apdu d ask.choice p → Ready after_tick
@@ -561,7 +563,7 @@ module _ (S : Type 0) (model : StoreModel S) (opening : ℕ → S) (W : ℕ) (x 
               let q = again_.with_state S model x now number key ask young (t.repeats - 1) e.begin there_is.live request w.stores log
               (waiting AwaitConfirmation) st (client.request_apdu c ask ∷ []) in
               let z = again_.request_answered S model x now number key ask young (t.repeats - 1) e.begin there_is.live request w.stores log p
-              AwaitConfirmation now await_waits refl refl can.kind in
+              AwaitConfirmation now.here await_waits refl refl can.kind in
               let count = whole_count whole in
               record {
                 q = q;
@@ -576,7 +578,7 @@ module _ (S : Type 0) (model : StoreModel S) (opening : ℕ → S) (W : ℕ) (x 
               (waiting (SegmentedRequest anew true)) st (pieces_from (client.request_piece c ask.choice ask.pieces) 0 1) in
               let big = room in
               let big' = positive in
-              let z = again_.segments_answered S model x now number key ask young (t.repeats - 1) e.begin there_is.live None w.stores log p 1 0 now anew refl
+              let z = again_.segments_answered S model x now number key ask young (t.repeats - 1) e.begin there_is.live None w.stores log p 1 0 now.here anew refl
               (omega arith) (omega arith) can.kind in
               let count = count_is whole in
               record {
@@ -600,7 +602,7 @@ module _ (S : Type 0) (model : StoreModel S) (opening : ℕ → S) (W : ℕ) (x 
           st = SegmentedResponse reply_out Stopped since
 
           running_now : State
-          running_now = SegmentedResponse (resume reply_out) Running now
+          running_now = SegmentedResponse (resume reply_out) Running now.there
 
           go : (b : Bool) → ask.whole ≡ b → Ready after_tick
           go true whole =
@@ -609,10 +611,10 @@ module _ (S : Type 0) (model : StoreModel S) (opening : ℕ → S) (W : ℕ) (x 
               let q = again_.with_state S model x now number key ask young (t.repeats - 1) e.begin there_is.live request w.stores log ticket st
               (client.request_apdu c ask ∷ []) in
               let mid = again_.with_state S model x now number key ask young (t.repeats - 1) e.begin there_is.live request w.stores log ticket
-              (SegmentedResponse (resume reply_out) Running now) (server.reply_window d ask.choice (resume reply_out)) in
+              (SegmentedResponse (resume reply_out) Running now.there) (server.reply_window d ask.choice (resume reply_out)) in
               let y = again_.request_resumes S model x now number key ask young (t.repeats - 1) e.begin there_is.live request w.stores log ticket reply_out
               since refl refl in
-              let z = from_start reply_out same cut (t.repeats - 1) e.begin there_is.live request N_RETRY AwaitConfirmation now await_waits refl start in
+              let z = from_start reply_out same cut (t.repeats - 1) e.begin there_is.live request N_RETRY AwaitConfirmation now.here await_waits refl start in
               let count = whole_count whole in
               record {
                 q = q;
@@ -631,10 +633,10 @@ module _ (S : Type 0) (model : StoreModel S) (opening : ℕ → S) (W : ℕ) (x 
               let q = again_.with_state S model x now number key ask young (t.repeats - 1) e.begin there_is.live None w.stores log ticket st
               (pieces_from (client.request_piece c ask.choice ask.pieces) 0 1) in
               let mid = again_.with_state S model x now number key ask young (t.repeats - 1) e.begin there_is.live None w.stores log ticket
-              (SegmentedResponse (resume reply_out) Running now) (server.reply_window d ask.choice (resume reply_out)) in
+              (SegmentedResponse (resume reply_out) Running now.there) (server.reply_window d ask.choice (resume reply_out)) in
               let y = again_.segments_resume S model x now number key ask young (t.repeats - 1) e.begin there_is.live None w.stores log ticket reply_out since
               0 0 refl refl (omega arith) in
-              let z = from_start reply_out same cut (t.repeats - 1) e.begin there_is.live None N_RETRY (SegmentedRequest anew true) now (sending_waits anew)
+              let z = from_start reply_out same cut (t.repeats - 1) e.begin there_is.live None N_RETRY (SegmentedRequest anew true) now.here (sending_waits anew)
               refl start in
               let count = count_is whole in
               record {
@@ -649,22 +651,22 @@ module _ (S : Type 0) (model : StoreModel S) (opening : ℕ → S) (W : ℕ) (x 
 
   -- A reply that is collected, and has stopped.
 
-  collecting_stopped : (inc : Incoming) → t.phase ≡ SegmentedConf inc → T_WAIT_FOR_SEG ≤ now - t.since → 0 < t.repeats → ask.whole ≡ true
-      → (e : ServerTransaction) → live_entry now (w.net.entries key) ≡ Some e → IsOfAsk x key ask e
+  collecting_stopped : (inc : Incoming) → t.phase ≡ SegmentedConf inc → T_WAIT_FOR_SEG ≤ now.here - t.since → 0 < t.repeats → ask.whole ≡ true
+      → (e : ServerTransaction) → live_entry now.there (w.net.entries key) ≡ Some e → IsOfAsk x key ask e
       → (reply_out : Outgoing) (since : ℕ) → e.state ≡ SegmentedResponse reply_out Stopped since → AreTogether actual reply_out.pieces reply_out inc
       → (same : p ≡ Complex (join reply_out.pieces)) → IsCutFor x key (SegmentedResponse reply_out Stopped since) → Ready after_tick
   collecting_stopped inc is due left whole e entry of reply_out since state together same cut =
-      let found = there now (w.net.entries key) e entry in
+      let found = there now.there (w.net.entries key) e entry in
       let request = Some (join ask.pieces) in
       let ticket = waiting (SegmentedConf inc) in
       let st : State = SegmentedResponse reply_out Stopped since in
       let q = again_.with_state S model x now number key ask young (t.repeats - 1) e.begin found.live request w.stores log ticket st
       (client.request_apdu c ask ∷ []) in
       let mid = again_.with_state S model x now number key ask young (t.repeats - 1) e.begin found.live request w.stores log ticket
-      (SegmentedResponse (resume reply_out) Running now) (server.reply_window d ask.choice (resume reply_out)) in
+      (SegmentedResponse (resume reply_out) Running now.there) (server.reply_window d ask.choice (resume reply_out)) in
       let y = again_.request_resumes S model x now number key ask young (t.repeats - 1) e.begin found.live request w.stores log ticket reply_out since refl
       refl in
-      let z = from_middle reply_out same cut (t.repeats - 1) e.begin found.live request N_RETRY inc now together in
+      let z = from_middle reply_out same cut (t.repeats - 1) e.begin found.live request N_RETRY inc now.here together in
       let done = reply_performed S model opening W x bound w kept_in key t at e found.at found.live reply_out Stopped since state p same in
       let count = whole_count whole in
       record {
@@ -680,17 +682,17 @@ module _ (S : Type 0) (model : StoreModel S) (opening : ℕ → S) (W : ℕ) (x 
 
   -- The server's turn.
 
-  module _ (e : ServerTransaction) (entry : live_entry now (w.net.entries key) ≡ Some e) (of : IsOfAsk x key ask e) (reply_out : Outgoing) (since : ℕ)
-      (state : e.state ≡ SegmentedResponse reply_out Running since) (due : T_SEG ≤ now - since) (left : 0 < reply_out.retries)
+  module _ (e : ServerTransaction) (entry : live_entry now.there (w.net.entries key) ≡ Some e) (of : IsOfAsk x key ask e) (reply_out : Outgoing) (since : ℕ)
+      (state : e.state ≡ SegmentedResponse reply_out Running since) (due : T_SEG ≤ now.there - since) (left : 0 < reply_out.retries)
       (same : p ≡ Complex (join reply_out.pieces)) (cut : IsCutFor x key (SegmentedResponse reply_out Running since)) where
     abbrev r : ℕ
     r = reply_out.retries - 1
 
-    served_is : IsThere now (w.net.entries key) e
-    served_is = there now (w.net.entries key) e entry
+    served_is : IsThere now.there (w.net.entries key) e
+    served_is = there now.there (w.net.entries key) e entry
 
     abbrev next_state : State
-    next_state = SegmentedResponse (record reply_out { retries = reply_out.retries - 1 }) Running now
+    next_state = SegmentedResponse (record reply_out { retries = reply_out.retries - 1 }) Running now.there
 
     abbrev gives : Phase → TransactionPair S
     gives phase = record {
@@ -743,10 +745,10 @@ module _ (S : Type 0) (model : StoreModel S) (opening : ℕ → S) (W : ℕ) (x 
   abbrev Outcome : Type 0
   Outcome = model.outcome (w.stores key.server) ask.choice (join ask.pieces) ≡ Replies p
 
-  module _ (e : ServerTransaction) (entry : live_entry now (w.net.entries key) ≡ Some e) (of : IsOfAsk x key ask e) (some : 0 < n) where
-    sending_turn : (out : Outgoing) (all_sent : Bool) → t.phase ≡ SegmentedRequest out all_sent → ClientIsDue now t (SegmentedRequest out all_sent)
+  module _ (e : ServerTransaction) (entry : live_entry now.there (w.net.entries key) ≡ Some e) (of : IsOfAsk x key ask e) (some : 0 < n) where
+    sending_turn : (out : Outgoing) (all_sent : Bool) → t.phase ≡ SegmentedRequest out all_sent → ClientIsDue now.here t (SegmentedRequest out all_sent)
         → ask.whole ≡ false → IsSending actual ask.pieces out
-        → (st : State) → e.state ≡ st → HearsRequest now st → StandsSending actual ask.pieces out all_sent st → Keeps x key now t p st Outcome
+        → (st : State) → e.state ≡ st → HearsRequest now.there st → StandsSending actual ask.pieces out all_sent st → Keeps x key now.there t p st Outcome
         → IsCutFor x key st → Ready after_tick
     sending_turn out all is due whole sends (State.SegmentedRequest inc since) state hears stands keeps cut =
         sending_received out all is due.0 due.1 whole sends e entry of inc since state hears stands keeps
@@ -758,8 +760,8 @@ module _ (S : Type 0) (model : StoreModel S) (opening : ℕ → S) (W : ℕ) (x 
     sending_turn out all is due whole sends (SegmentedResponse reply_out Finished since) state hears stands keeps cut = absurd hears
     sending_turn out all is due whole sends Dropped state hears stands keeps cut = absurd hears
 
-    waiting_turn : t.phase ≡ AwaitConfirmation → ClientIsDue now t AwaitConfirmation
-        → (st : State) → e.state ≡ st → HearsRequest now st → StandsWaiting st → Keeps x key now t p st Outcome → IsCutFor x key st → Ready after_tick
+    waiting_turn : t.phase ≡ AwaitConfirmation → ClientIsDue now.here t AwaitConfirmation
+        → (st : State) → e.state ≡ st → HearsRequest now.there st → StandsWaiting st → Keeps x key now.there t p st Outcome → IsCutFor x key st → Ready after_tick
     waiting_turn is due (State.SegmentedRequest inc since) state hears stands keeps cut = absurd stands
     waiting_turn is due (Done kept) state hears stands keeps cut = waiting_done is due.0 due.1 some e entry of kept state keeps
     waiting_turn is due (SegmentedResponse reply_out Stopped since) state hears stands keeps cut =
@@ -768,8 +770,8 @@ module _ (S : Type 0) (model : StoreModel S) (opening : ℕ → S) (W : ℕ) (x 
     waiting_turn is due (SegmentedResponse reply_out Finished since) state hears stands keeps cut = absurd hears
     waiting_turn is due Dropped state hears stands keeps cut = absurd hears
 
-    collecting_turn : (inc : Incoming) → t.phase ≡ SegmentedConf inc → ClientIsDue now t (SegmentedConf inc)
-        → (st : State) → e.state ≡ st → HearsRequest now st → StandsCollecting actual inc st → Keeps x key now t p st Outcome → IsCutFor x key st
+    collecting_turn : (inc : Incoming) → t.phase ≡ SegmentedConf inc → ClientIsDue now.here t (SegmentedConf inc)
+        → (st : State) → e.state ≡ st → HearsRequest now.there st → StandsCollecting actual inc st → Keeps x key now.there t p st Outcome → IsCutFor x key st
         → Ready after_tick
     collecting_turn inc is due (State.SegmentedRequest inc' since) state hears stands keeps cut = absurd stands
     collecting_turn inc is due (Done kept) state hears stands keeps cut = absurd stands
@@ -779,8 +781,8 @@ module _ (S : Type 0) (model : StoreModel S) (opening : ℕ → S) (W : ℕ) (x 
     collecting_turn inc is due (SegmentedResponse reply_out Finished since) state hears stands keeps cut = absurd hears
     collecting_turn inc is due Dropped state hears stands keeps cut = absurd stands
 
-  pub client_turn : (phase : Phase) → t.phase ≡ phase → ClientIsDue now t phase → (o : Option ServerTransaction) → live_entry now (w.net.entries key) ≡ o
-      → TakesRequest now o → AreInStep x key ask phase o → Gives S model x w key t p o → Ready after_tick
+  pub client_turn : (phase : Phase) → t.phase ≡ phase → ClientIsDue now.here t phase → (o : Option ServerTransaction) → live_entry now.there (w.net.entries key) ≡ o
+      → TakesRequest now.there o → AreInStep x key ask phase o → Gives S model x w key t p o → Ready after_tick
   client_turn Idle is due o entry takes step gives = absurd due
   client_turn (SegmentedRequest out all) is due None entry takes step gives =
       let h = step.stand in sending_new out all is due.0 due.1 h.0 h.1 entry h.2 gives

@@ -29,10 +29,17 @@ use Rattle.bac_protocol.proofs.Alone.{sent}
 use Rattle.bac_protocol.proofs.Facts.{all_map, each_sent}
 use Rattle.bac_protocol.proofs.Keys.{decide_key, set_same, set_other, copies_posted, copies_other, copy_at}
 use Rattle.bac_protocol.proofs.Own.{client_sends_own}
-use Rattle.bac_liveness.proofs.Paths.{some_is, ask_of, Comes, Step, Path, step_now}
+use Rattle.bac_liveness.specs.Runs.{StaysSince}
+use Rattle.bac_protocol.specs.Pace.{clock_at}
+use Rattle.bac_protocol.proofs.Paces.{shown_at}
+use Rattle.bac_liveness.proofs.Paths.{Bounded, path_bounded, step_restarted, some_is, ask_of, Comes, Step, Path, step_now}
 use Rattle.bac_liveness.proofs.Paths.Step.{Asks, Serves, Hears, TicksTicket, TicksEntry, Passes, Changes, RestartsClient, RestartsServer}
 use Rattle.bac_liveness.proofs.Paths.Path.{Here, Then}
 use Rattle.bac_liveness.proofs.Changes.{IsThere, there_step}
+use Rattle.bac_protocol.specs.Pace.{Pace, Clock}
+use Rattle.bac_protocol.specs.World.{client_now, server_now, passes}
+use Rattle.bac_protocol.proofs.Paces.{since_now}
+use Rattle.bac_liveness.proofs.Clocks.{IsBegunAfter, IsLostAfter, MadeIn, BegunIn, LostIn, alive, closed, made_step, begun_passes, lost_passes, here_step, made_path}
 use Rattle.bac_liveness.proofs.Kept.{held_in_time}
 
 -- an APDU is no segment of a reply
@@ -172,52 +179,56 @@ module _ (c : Context) (service : Service) where
       go false = (tt, refl)
   closed_sends _ = (tt, refl)
 
-module _ (x : Rules) (Q : Net → ℕ → Bool → Service → Type 0) (key : Key) (number : ℕ) (ask : Ask) (kept : Apdu) (whole : IsWhole kept) where
+module _ (x : Rules) (Q : Net → ℕ → Bool → Service → Type 0) (key : Key) (number : ℕ) (ask : Ask) (made : ℕ) (kept : Apdu) (whole : IsWhole kept) where
   -- the entry that was begun for it keeps the answer
-  pub record IsDone (o : Option ServerTransaction) : Type 0 where
+  pub record IsDone (p : Pace) (now : ℕ) (server : Clock) (o : Option ServerTransaction) : Type 0 where
     pub entry : ServerTransaction
     pub at : o ≡ Some entry
-    pub since : ask.first ≤ entry.begin
+    pub since : IsBegunAfter p now server made entry.begin
     pub state : entry.state ≡ Done kept
 
   -- or its server restarted since
-  abbrev IsDoneOrLost : (from : ℕ) → Option ServerTransaction → Type 0
-  IsDoneOrLost from o = IsDone o ⊎ ((o ≡ None) × (ask.first + KEEP < from))
+  abbrev IsDoneOrLost : (p : Pace) (now : ℕ) (server : Clock) (from : ℕ) → Option ServerTransaction → Type 0
+  IsDoneOrLost p now server from o = IsDone p now server o ⊎ ((o ≡ None) × IsLostAfter p now server made from)
 
-  abbrev AreWhole : ℕ → List Copy → Type 0
-  AreWhole now copies = EachCopy (λ k c. now - c.moment ≤ LIFE → IsWhole c.apdu) copies
+  abbrev DoneIn : (n : Net) → (from : ℕ) → Option ServerTransaction → Type 0
+  DoneIn n from o = IsDoneOrLost n.pace n.now (n.server_clocks key.server) from o
+
+  abbrev AreWhole : (life now : ℕ) → List Copy → Type 0
+  AreWhole life now copies = EachCopy (λ k c. now - c.moment ≤ life → IsWhole c.apdu) copies
 
   pub record IsAwaited (n : Net) : Type 0 where
-    pub there : IsThere x Q key number ask n
+    pub there : IsThere x Q key number ask made n
     pub phase : Awaits there.ticket.phase
-    pub copies : AreWhole n.now (copies_of key n.posts)
-    pub entry : IsDoneOrLost (n.serves_from key.server) (n.entries key)
-    pub clock : ask.first ≤ n.now
+    pub copies : AreWhole n.pace.life n.now (copies_of key n.posts)
+    pub entry : DoneIn n (n.serves_from key.server) (n.entries key)
+    pub runs : MadeIn n key ask.first made
 
   abbrev InTime : Net → Type 0
-  InTime n = n.now - ask.first ≤ DEADLINE
+  InTime n = client_now n key - ask.first ≤ DEADLINE
 
-  whole_sent : (now : ℕ) (sends : List Apdu) (copies : List Copy) → Each IsWhole sends → AreWhole now copies → AreWhole now (sent now sends copies)
-  whole_sent now sends copies h old = each_sent (λ k c. now - c.moment ≤ LIFE → IsWhole c.apdu) now sends copies
-      (all_map IsWhole (λ a. (k : ℕ) → now - now ≤ LIFE → IsWhole a) (λ a w k young. w) sends h)
+  whole_sent : (life now : ℕ) (sends : List Apdu) (copies : List Copy) → Each IsWhole sends → AreWhole life now copies → AreWhole life now (sent now sends copies)
+  whole_sent life now sends copies h old = each_sent (λ k c. now - c.moment ≤ life → IsWhole c.apdu) now sends copies
+      (all_map IsWhole (λ a. (k : ℕ) → now - now ≤ life → IsWhole a) (λ a w k young. w) sends h)
       old
 
-  copies_own : (n : Net) (sends : List Apdu) → Each IsWhole sends → AreWhole n.now (copies_of key n.posts) → (more : List Post)
-      → copies_of key more ≡ sent n.now sends (copies_of key n.posts) → AreWhole n.now (copies_of key more)
-  copies_own n sends h old more is = subst (AreWhole n.now) (sym is) (whole_sent n.now sends (copies_of key n.posts) h old)
+  copies_own : (n : Net) (sends : List Apdu) → Each IsWhole sends → AreWhole n.pace.life n.now (copies_of key n.posts) → (more : List Post)
+      → copies_of key more ≡ sent n.now sends (copies_of key n.posts) → AreWhole n.pace.life n.now (copies_of key more)
+  copies_own n sends h old more is = subst (AreWhole n.pace.life n.now) (sym is) (whole_sent n.pace.life n.now sends (copies_of key n.posts) h old)
 
   client_whole : (id : ℕ) (sends : List Apdu) → Each (IsOfClient id) sends → Each IsWhole sends
   client_whole id sends h = all_map (IsOfClient id) IsWhole (λ a of. from_client_whole a of.0) sends h
 
   -- a step at a moment at which the ask is in time
-  module _ (n : Net) (h : IsAwaited n) (young : InTime n) where
-    live : (e : ServerTransaction) → ask.first ≤ e.begin → is_live n.now e ≡ true
-    live e since = let clock = h.clock in grind (arith, nat_tests)
+  module _ (n : Net) (h : IsAwaited n) (young : InTime n) (stays : StaysSince n key made) where
+    live : (e : ServerTransaction) → BegunIn n key made e.begin → is_live (server_now n key) e ≡ true
+    live e since = alive n.pace n.now (n.client_clocks key.client) (n.server_clocks key.server) (n.restarted key.client) ask.first made h.runs (omega arith) e since
 
     -- a server that restarted since begins nothing
-    closed : ask.first + KEEP < n.serves_from key.server → (free : Bool) → is_room n key free ≡ false
-    closed lost free =
-        let waits : nat_lt n.now (n.serves_from key.server) ≡ true = let clock = h.clock in grind (arith, nat_tests) in
+    shut : LostIn n key made (n.serves_from key.server) → (free : Bool) → is_room n key free ≡ false
+    shut lost free =
+        let lt = closed n.pace n.now (n.client_clocks key.client) (n.server_clocks key.server) (n.restarted key.client) ask.first made h.runs (omega arith) (n.serves_from key.server) lost in
+        let waits : nat_lt (server_now n key) (n.serves_from key.server) ≡ true = grind (arith, nat_tests) in
         ap (λ (b : Bool). free && not b) waits ∙ go free
       where
         go : (b : Bool) → (b && false) ≡ false
@@ -225,80 +236,80 @@ module _ (x : Rules) (Q : Net → ℕ → Bool → Service → Type 0) (key : Ke
         go false = refl
 
     abbrev context : Context
-    context = server_context x key n.now
+    context = server_context x key (server_now n key)
 
     abbrev gets : Service → Bool → Apdu → server.Reaction
-    gets service free a = server.server_on_apdu (server_context x key n.now) service (n.entries key) (is_room n key free) a
+    gets service free a = server.server_on_apdu (server_context x key (server_now n key)) service (n.entries key) (is_room n key free) a
 
     abbrev Goes : server.Reaction → Type 0
-    Goes v = Each IsWhole v.sends × IsDoneOrLost (n.serves_from key.server) v.entry
+    Goes v = Each IsWhole v.sends × DoneIn n (n.serves_from key.server) v.entry
 
     served : (service : Service) (free : Bool) (a : Apdu) → Goes (gets service free a)
     served service free a = go h.entry
       where
         c : Context
-        c = server_context x key n.now
+        c = server_context x key (server_now n key)
 
-        go : IsDoneOrLost (n.serves_from key.server) (n.entries key) → Goes (gets service free a)
-        go (inl d) = subst Goes (sym (ap (λ (o : Option ServerTransaction). server.server_on_apdu (server_context x key n.now) service o (is_room n key free) a) d.at
-            ∙ kept_gets (server_context x key n.now) service d.entry kept (live d.entry d.since) d.state (is_room n key free) a)) (
-              done_sends (server_context x key n.now) service d.entry kept whole a,
+        go : DoneIn n (n.serves_from key.server) (n.entries key) → Goes (gets service free a)
+        go (inl d) = subst Goes (sym (ap (λ (o : Option ServerTransaction). server.server_on_apdu (server_context x key (server_now n key)) service o (is_room n key free) a) d.at
+            ∙ kept_gets (server_context x key (server_now n key)) service d.entry kept (live d.entry d.since) d.state (is_room n key free) a)) (
+              done_sends (server_context x key (server_now n key)) service d.entry kept whole a,
               inl (record {
                 entry = d.entry;
-                at = done_entry (server_context x key n.now) service d.entry kept a;
+                at = done_entry (server_context x key (server_now n key)) service d.entry kept a;
                 since = d.since;
                 state = d.state;
               }),
             )
         go (inr lost) =
-            let none = closed_sends (server_context x key n.now) service a in
-            subst Goes (λ i. server.server_on_apdu (server_context x key n.now) service (sym lost.0 i) (sym (closed lost.1 free) i) a) (none.0, inr (none.1, lost.1))
+            let none = closed_sends (server_context x key (server_now n key)) service a in
+            subst Goes (λ i. server.server_on_apdu (server_context x key (server_now n key)) service (sym lost.0 i) (sym (shut lost.1 free) i) a) (none.0, inr (none.1, lost.1))
 
-    ticked : Goes (server.server_ticks (server_context x key n.now) (n.entries key))
+    ticked : Goes (server.server_ticks (server_context x key (server_now n key)) (n.entries key))
     ticked = go h.entry
       where
-        go : IsDoneOrLost (n.serves_from key.server) (n.entries key) → Goes (server.server_ticks (server_context x key n.now) (n.entries key))
-        go (inl d) = subst Goes (sym (ap (server.server_ticks (server_context x key n.now)) d.at
-            ∙ ap (λ b. if b then server.live_ticks (server_context x key n.now) d.entry d.entry.state else server.rests (Some d.entry) [])
+        go : DoneIn n (n.serves_from key.server) (n.entries key) → Goes (server.server_ticks (server_context x key (server_now n key)) (n.entries key))
+        go (inl d) = subst Goes (sym (ap (server.server_ticks (server_context x key (server_now n key))) d.at
+            ∙ ap (λ b. if b then server.live_ticks (server_context x key (server_now n key)) d.entry d.entry.state else server.rests (Some d.entry) [])
             (live d.entry d.since)
-            ∙ ap (λ (st : State). server.live_ticks (server_context x key n.now) d.entry st) d.state))
+            ∙ ap (λ (st : State). server.live_ticks (server_context x key (server_now n key)) d.entry st) d.state))
             (tt, inl (record { entry = d.entry; at = refl; since = d.since; state = d.state }))
-        go (inr lost) = subst Goes (ap (server.server_ticks (server_context x key n.now)) (sym lost.0)) (tt, inr (refl, lost.1))
+        go (inr lost) = subst Goes (ap (server.server_ticks (server_context x key (server_now n key))) (sym lost.0)) (tt, inr (refl, lost.1))
 
     awaiting : (t : ClientTransaction) → n.tickets key ≡ Some t → Awaits t.phase
     awaiting t at = subst (λ (y : ClientTransaction). Awaits y.phase) (some_is h.there.ticket t (sym h.there.at ∙ at)) h.phase
 
     held : is_id_held n key ≡ true
-    held = held_in_time x Q key number ask n h.there (omega arith)
+    held = held_in_time x Q key number ask made n h.there stays (omega arith)
 
     -- another's ask, an ending or a repeat of its own: what stays to be said of the ticket, the copies and the entry
     record Next (m : Net) : Type 0 where
       ticket : (u : ClientTransaction) → m.tickets key ≡ Some u → Awaits u.phase
-      copies : AreWhole m.now (copies_of key m.posts)
-      entry : IsDoneOrLost (m.serves_from key.server) (m.entries key)
+      copies : AreWhole m.pace.life m.now (copies_of key m.posts)
+      entry : DoneIn m (m.serves_from key.server) (m.entries key)
 
     client_next : (k : Key) (t : ClientTransaction) (r : Reaction) → (k ≡ key → AwaitsAfter r × Each IsWhole (client.sends_of r)) → n.tickets k ≡ Some t
         → Next (client_acts n k t r)
     client_next k t r own at = go (decide_key k key)
       where
-        made : Option ClientTransaction
-        made = Some (client.after n.now t r)
+        next_ticket : Option ClientTransaction
+        next_ticket = Some (client.after (client_now n k) t r)
 
         go : ((k ≡ key) ⊎ (k ≡ key → ⊥)) → Next (client_acts n k t r)
         go (inl is) = record {
           ticket = λ u there.
-              let same : client.after n.now t r ≡ u = some_is (client.after n.now t r) u
-              (sym (subst (λ (j : Key). set_at n.tickets k made j ≡ made) is (set_same n.tickets k made)) ∙ there) in
+              let same : client.after (client_now n k) t r ≡ u = some_is (client.after (client_now n k) t r) u
+              (sym (subst (λ (j : Key). set_at n.tickets k next_ticket j ≡ next_ticket) is (set_same n.tickets k next_ticket)) ∙ there) in
               subst (λ (y : ClientTransaction). Awaits y.phase) same
-              (after_awaits n.now t r (awaiting t (ap n.tickets (sym is) ∙ at)) (own is).0);
+              (after_awaits (client_now n k) t r (awaiting t (ap n.tickets (sym is) ∙ at)) (own is).0);
           copies = copies_own n (client.sends_of r) (own is).1 h.copies (client_acts n k t r).posts
               (subst (λ (j : Key). copies_of key (client_acts n j t r).posts ≡ sent n.now (client.sends_of r) (copies_of key n.posts)) (sym is)
               (copies_posted key n.now (client.sends_of r) n.posts));
           entry = h.entry;
         }
         go (inr ne) = record {
-          ticket = λ u there. awaiting u (sym (set_other n.tickets k made key ne) ∙ there);
-          copies = subst (AreWhole n.now) (sym (copies_other k key ne n.now (client.sends_of r) n.posts)) h.copies;
+          ticket = λ u there. awaiting u (sym (set_other n.tickets k next_ticket key ne) ∙ there);
+          copies = subst (AreWhole n.pace.life n.now) (sym (copies_other k key ne n.now (client.sends_of r) n.posts)) h.copies;
           entry = h.entry;
         }
 
@@ -311,13 +322,13 @@ module _ (x : Rules) (Q : Net → ℕ → Bool → Service → Type 0) (key : Ke
           copies = copies_own n v.sends (own is).0 h.copies (server_acts n k v).posts
               (subst (λ (j : Key). copies_of key (server_acts n j v).posts ≡ sent n.now v.sends (copies_of key n.posts)) (sym is)
               (copies_posted key n.now v.sends n.posts));
-          entry = subst (IsDoneOrLost (n.serves_from key.server))
+          entry = subst (DoneIn n (n.serves_from key.server))
               (sym (subst (λ (j : Key). set_at n.entries k v.entry j ≡ v.entry) is (set_same n.entries k v.entry))) (own is).1;
         }
         go (inr ne) = record {
           ticket = awaiting;
-          copies = subst (AreWhole n.now) (sym (copies_other k key ne n.now v.sends n.posts)) h.copies;
-          entry = subst (IsDoneOrLost (n.serves_from key.server)) (sym (set_other n.entries k v.entry key ne)) h.entry;
+          copies = subst (AreWhole n.pace.life n.now) (sym (copies_other k key ne n.now v.sends n.posts)) h.copies;
+          entry = subst (DoneIn n (n.serves_from key.server)) (sym (set_other n.entries k v.entry key ne)) h.entry;
         }
 
     -- a copy of the transaction that comes is no segment of a reply
@@ -325,9 +336,9 @@ module _ (x : Rules) (Q : Net → ℕ → Bool → Service → Type 0) (key : Ke
     whole_comes i p comes is =
         h.copies (later key i n.posts) p.copy
         (subst (λ (j : Key). slice_get (copies_of j n.posts) (later j i n.posts) ≡ Some p.copy) is (copy_at i n.posts p comes.at))
-        (by_tests (nat_le (n.now - p.copy.moment) LIFE) (nat_le (later p.key i n.posts) x.overtake) refl comes.arrives)
+        (by_tests (nat_le (n.now - p.copy.moment) n.pace.life) (nat_le (later p.key i n.posts) x.overtake) refl comes.arrives)
       where
-        by_tests : (a b : Bool) → nat_le (n.now - p.copy.moment) LIFE ≡ a → (a && b) ≡ true → n.now - p.copy.moment ≤ LIFE
+        by_tests : (a b : Bool) → nat_le (n.now - p.copy.moment) n.pace.life ≡ a → (a && b) ≡ true → n.now - p.copy.moment ≤ n.pace.life
         by_tests true b e f = grind (arith, nat_tests)
         by_tests false b e f = absurd cc
 
@@ -337,14 +348,14 @@ module _ (x : Rules) (Q : Net → ℕ → Bool → Service → Type 0) (key : Ke
         go : ((k ≡ key) ⊎ (k ≡ key → ⊥)) → Next (asked_at x n k other)
         go (inl is) = absurd (let z = sym held ∙ ap (is_id_held n) (sym is) ∙ free in cc)
         go (inr ne) = record {
-          ticket = λ u there. awaiting u (sym (set_other n.tickets k (Some (client.asked_ticket (client_context x k n.now) other)) key ne) ∙ there);
-          copies = subst (AreWhole n.now)
-              (sym (copies_other k key ne n.now (client.sends_of (client.asks (client_context x k n.now) other)) n.posts)) h.copies;
+          ticket = λ u there. awaiting u (sym (set_other n.tickets k (Some (client.asked_ticket (client_context x k (client_now n k)) other)) key ne) ∙ there);
+          copies = subst (AreWhole n.pace.life n.now)
+              (sym (copies_other k key ne n.now (client.sends_of (client.asks (client_context x k (client_now n k)) other)) n.posts)) h.copies;
           entry = h.entry;
         }
 
-    client_lost : (node : ℕ) → Next (client_restarted n node)
-    client_lost node = record { ticket = go (nat_eq key.client node); copies = h.copies; entry = h.entry }
+    client_lost : (node exact : ℕ) → Next (client_restarted n node exact)
+    client_lost node exact = record { ticket = go (nat_eq key.client node); copies = h.copies; entry = h.entry }
       where
         over : (o : Option ClientTransaction) (u : ClientTransaction) → lost o ≡ Some u → Awaits u.phase
         over None u e = absurd cc
@@ -354,64 +365,82 @@ module _ (x : Rules) (Q : Net → ℕ → Bool → Service → Type 0) (key : Ke
         go true u e = over (n.tickets key) u e
         go false u e = awaiting u e
 
-    server_lost : (node : ℕ) (store : Option Octets) → Next (server_restarted n node store)
-    server_lost node store = record { ticket = awaiting; copies = h.copies; entry = go (nat_eq key.server node) }
+    server_lost : (node exact : ℕ) (store : Option Octets) → Next (server_restarted n node exact store)
+    server_lost node exact store = record { ticket = awaiting; copies = h.copies; entry = go (nat_eq key.server node) }
       where
-        go : (b : Bool) → IsDoneOrLost (if b then n.now + KEEP + 1 else n.serves_from key.server) (if b then None else n.entries key)
-        go true = let clock = h.clock in inr (refl, omega arith)
+        go : (b : Bool) → IsDoneOrLost n.pace n.now (if b then clock_at n.pace exact else n.server_clocks key.server)
+            (if b then (clock_at n.pace exact).shows + KEEP + 1 else n.serves_from key.server) (if b then None else n.entries key)
+        go true = inr (refl, record {
+          restarted = n.now;
+          shown = (clock_at n.pace exact).shows;
+          after = h.runs.since.on;
+          since = since_now n.pace n.now (clock_at n.pace exact) (shown_at n.pace h.runs.timely.some exact);
+          from_is = refl;
+        })
         go false = h.entry
 
     own_hears : (k : Key) → k ≡ key → (t : ClientTransaction) → n.tickets k ≡ Some t → (a : Apdu) → IsWhole a
-        → (let r = client.client_on_apdu (client_context x k n.now) x.readable t a in AwaitsAfter r × Each IsWhole (client.sends_of r))
+        → (let r = client.client_on_apdu (client_context x k (client_now n k)) x.readable t a in AwaitsAfter r × Each IsWhole (client.sends_of r))
     own_hears k is t at a w =
-        let c = client_context x k n.now in (
+        let c = client_context x k (client_now n k) in (
           gets_awaits c x.readable t (awaiting t (ap n.tickets (sym is) ∙ at)) a w,
           client_whole c.invoke_id (client.sends_of (client.client_on_apdu c x.readable t a)) (client_sends_own.gets c x.readable t a),
         )
 
     own_ticks : (k : Key) → k ≡ key → (t : ClientTransaction) → n.tickets k ≡ Some t
-        → (let r = client.client_ticks (client_context x k n.now) t in AwaitsAfter r × Each IsWhole (client.sends_of r))
+        → (let r = client.client_ticks (client_context x k (client_now n k)) t in AwaitsAfter r × Each IsWhole (client.sends_of r))
     own_ticks k is t at =
-        let c = client_context x k n.now in (
+        let c = client_context x k (client_now n k) in (
           ticks_awaits c t (awaiting t (ap n.tickets (sym is) ∙ at)),
           client_whole c.invoke_id (client.sends_of (client.client_ticks c t)) (client_sends_own.ticks c t),
         )
 
     next : (m : Net) → Step x Q n m → Next m
-    next _ (Asks k choice w front rest free) = ask_next k (ask_of n.now choice w front rest) free
+    next _ (Asks k choice w front rest free) = ask_next k (ask_of (client_now n k) choice w front rest) free
     next _ (Serves i p free service comes up q) =
-        server_next p.key (server.server_on_apdu (server_context x p.key n.now) service (n.entries p.key) (is_room n p.key free) p.copy.apdu) (λ is.
-        subst (λ (j : Key). Goes (server.server_on_apdu (server_context x j n.now) service (n.entries j) (is_room n j free) p.copy.apdu)) (sym is)
+        server_next p.key (server.server_on_apdu (server_context x p.key (server_now n p.key)) service (n.entries p.key) (is_room n p.key free) p.copy.apdu) (λ is.
+        subst (λ (j : Key). Goes (server.server_on_apdu (server_context x j (server_now n j)) service (n.entries j) (is_room n j free) p.copy.apdu)) (sym is)
         (served service free p.copy.apdu))
     next _ (Hears i p t comes down at) =
-        client_next p.key t (client.client_on_apdu (client_context x p.key n.now) x.readable t p.copy.apdu)
+        client_next p.key t (client.client_on_apdu (client_context x p.key (client_now n p.key)) x.readable t p.copy.apdu)
         (λ is. own_hears p.key is t at p.copy.apdu (whole_comes i p comes is)) at
-    next _ (TicksTicket k t at) = client_next k t (client.client_ticks (client_context x k n.now) t) (λ is. own_ticks k is t at) at
+    next _ (TicksTicket k t at) = client_next k t (client.client_ticks (client_context x k (client_now n k)) t) (λ is. own_ticks k is t at) at
     next _ (TicksEntry k) =
-        server_next k (server.server_ticks (server_context x k n.now) (n.entries k)) (λ is.
-        subst (λ (j : Key). Goes (server.server_ticks (server_context x j n.now) (n.entries j))) (sym is) ticked)
-    next _ (Passes by) = record { ticket = awaiting; copies = λ k c at young'. h.copies k c at (omega arith); entry = h.entry }
+        server_next k (server.server_ticks (server_context x k (server_now n k)) (n.entries k)) (λ is.
+        subst (λ (j : Key). Goes (server.server_ticks (server_context x j (server_now n j)) (n.entries j))) (sym is) ticked)
+    next _ (Passes by clients servers) = record { ticket = awaiting; copies = λ k c at young'. h.copies k c at (omega arith); entry = entry_later h.entry }
+      where
+        entry_later : DoneIn n (n.serves_from key.server) (n.entries key) → DoneIn (passes n by clients servers) (n.serves_from key.server) (n.entries key)
+        entry_later (inl d) = inl (record {
+          entry = d.entry;
+          at = d.at;
+          since = begun_passes x Q key ask.first made n by clients servers d.entry.begin d.since;
+          state = d.state;
+        })
+        entry_later (inr lost) = inr (lost.0, lost_passes x Q key ask.first made n by servers (n.serves_from key.server) lost.1)
     next _ (Changes node change) = record { ticket = awaiting; copies = h.copies; entry = h.entry }
-    next _ (RestartsClient node) = client_lost node
-    next _ (RestartsServer node store) = server_lost node store
+    next _ (RestartsClient node exact) = client_lost node exact
+    next _ (RestartsServer node exact store) = server_lost node exact store
 
-  awaited_step : (n m : Net) → Step x Q n m → IsAwaited n → InTime n → IsAwaited m
-  awaited_step n m st h young = go (there_step x Q key number ask n m st h.there)
+  awaited_step : (n m : Net) → Step x Q n m → IsAwaited n → InTime n → StaysSince n key made → StaysSince m key made → IsAwaited m
+  awaited_step n m st h young stays after = go (there_step x Q key number ask made n m st h.there)
     where
-      s : Next n h young m
-      s = next n h young m st
+      s : Next n h young stays m
+      s = next n h young stays m st
 
-      go : (IsThere x Q key number ask m ⊎ (is_id_held n key ≡ false)) → IsAwaited m
+      go : (IsThere x Q key number ask made m ⊎ (is_id_held n key ≡ false)) → IsAwaited m
       go (inl t) = record {
         there = t;
         phase = s.ticket t.ticket t.at;
         copies = s.copies;
         entry = s.entry;
-        clock = let clock = h.clock in let later = step_now x Q n m st in omega arith;
+        runs = made_step x Q key ask.first made n m st after h.runs;
       }
-      go (inr free) = absurd (let z = sym (held n h young) ∙ free in cc)
+      go (inr free) = absurd (let z = sym (held n h young stays) ∙ free in cc)
 
-  pub awaited_path : (n m : Net) → Path x Q n m → IsAwaited n → InTime m → IsAwaited m
-  awaited_path n _ Here h young = h
-  awaited_path n _ (Then l m p s) h young =
-      let earlier : InTime l = omega (arith, step_now x Q l m s) in awaited_step l m s (awaited_path n l p h earlier) earlier
+  pub awaited_path : (n m : Net) → Path x Q n m → Bounded n → IsAwaited n → StaysSince m key made → InTime m → IsAwaited m
+  awaited_path n _ Here b h stays young = h
+  awaited_path n _ (Then l m p s) b h stays young =
+      let before : StaysSince l key made = let le = step_restarted x Q l m s (path_bounded x Q n l p b) key.client in omega arith in
+      let on = here_step x Q key ask.first made l m s stays (made_path x Q key ask.first made n l p b before h.runs) in
+      let earlier : InTime l = omega arith in awaited_step l m s (awaited_path n l p b h before earlier) earlier before stays

@@ -1,7 +1,6 @@
 -- What a step makes of one transaction's ticket.
 use Rattle.std.proofs.Common.{◌≡◌, ℕ, ◌+◌, ◌≤◌, ◌⊎◌, Bool, true, false, List, Option, Some, None, if◌then◌else◌, nat_eq}
 use Rattle.std.proofs.Common.{refl, sym, ap, subst, inl, inr, ◌∙◌, arith}
-use Rattle.bac_protocol.specs.declared.times.TheConstants.{REST}
 use Rattle.bac_protocol.specs.Service.{Ending}
 use Rattle.bac_protocol.specs.Client as client
 use Rattle.bac_protocol.specs.Client.{Ask, ClientTransaction, Reaction, is_idle, after, ending_of}
@@ -12,21 +11,23 @@ use Rattle.bac_protocol.specs.Log.{Fact, Has}
 use Rattle.bac_protocol.specs.Log.Fact.{Ended}
 use Rattle.bac_protocol.specs.Transaction.{Key, Rules, client_context, ended}
 use Rattle.bac_protocol.specs.World.{Net, is_id_held, asked_at, client_acts, client_restarted, lost}
+use Rattle.bac_protocol.specs.World.{client_now, server_now}
 use Rattle.bac_protocol.specs.Claims.{ClientStays}
 use Rattle.bac_protocol.proofs.Facts.{Grows}
 use Rattle.bac_protocol.proofs.Keys.{decide_key, set_same, set_other}
 use Rattle.bac_liveness.proofs.Opens.{Opens, gets_opens, ticks_opens, asked_opens}
-use Rattle.bac_liveness.proofs.Paths.{some_is, ask_of, Step, Path, Bounded, step_now, step_log, step_asks_from, path_bounded}
+use Rattle.bac_liveness.proofs.Paths.{some_is, ask_of, Step, Path, Bounded, step_log, step_restarted, path_bounded}
+use Rattle.bac_liveness.specs.Runs.{StaysSince}
 use Rattle.bac_liveness.proofs.Paths.Step.{Asks, Serves, Hears, TicksTicket, TicksEntry, Passes, Changes, RestartsClient, RestartsServer}
 use Rattle.bac_liveness.proofs.Paths.Path.{Here, Then}
 
 -- it stays, a new ask takes its place, its client's machine acts on it, or its client restarts
 pub data Change (key : Key) (n m : Net) : Type 0 where
-  Same : m.tickets key ≡ n.tickets key → m.numbers key ≡ n.numbers key → Change key n m
-  Fresh : is_id_held n key ≡ false → (t : ClientTransaction) → m.tickets key ≡ Some t → is_idle t.phase ≡ false → t.ask.first ≤ n.now → Change key n m
-  Reacts : (t : ClientTransaction) (r : Reaction) → n.tickets key ≡ Some t → Opens r → m.tickets key ≡ Some (after n.now t r)
-      → m.numbers key ≡ n.numbers key → m.log ≡ ended (n.numbers key) (ending_of r) n.log → Change key n m
-  Loses : m.tickets key ≡ lost (n.tickets key) → m.numbers key ≡ n.numbers key → m.asks_from key.client ≡ n.now + REST + 1 → Change key n m
+  Same : m.tickets key ≡ n.tickets key → m.numbers key ≡ n.numbers key → m.made key ≡ n.made key → Change key n m
+  Fresh : is_id_held n key ≡ false → (t : ClientTransaction) → m.tickets key ≡ Some t → is_idle t.phase ≡ false → Change key n m
+  Reacts : (t : ClientTransaction) (r : Reaction) → n.tickets key ≡ Some t → Opens r → m.tickets key ≡ Some (after (client_now n key) t r)
+      → m.numbers key ≡ n.numbers key → m.made key ≡ n.made key → m.log ≡ ended (n.numbers key) (ending_of r) n.log → Change key n m
+  Loses : m.tickets key ≡ lost (n.tickets key) → m.numbers key ≡ n.numbers key → m.made key ≡ n.made key → m.restarted key.client ≡ n.now + 1 → Change key n m
 
 abbrev pub HasEnded : ℕ → List Fact → Type 0
 HasEnded n log = (how : Ending) × Has (Ended n how) log
@@ -38,7 +39,7 @@ ended_grows number log new g h = (h.0, g (Ended number h.0) h.1)
 abbrev pub IdleIsLogged : Net → Type 0
 IdleIsLogged n =
     (key : Key) (t : ClientTransaction) → n.tickets key ≡ Some t
-    → (t.ask.first ≤ n.now) × (ClientStays n key t.ask → is_idle t.phase ≡ true → HasEnded (n.numbers key) n.log)
+    → ClientStays n key → is_idle t.phase ≡ true → HasEnded (n.numbers key) n.log
 
 after_ask : (now : ℕ) (t : ClientTransaction) (r : Reaction) → (after now t r).ask ≡ t.ask
 after_ask now t Stays = refl
@@ -59,122 +60,91 @@ module _ (x : Rules) (Q : Net → ℕ → Bool → Service → Type 0) where
     where
       go : ((k ≡ key) ⊎ (k ≡ key → ⊥)) → Change key n (client_acts n k t r)
       go (inl is) = subst (λ (j : Key). Change j n (client_acts n k t r)) is
-          (Change.Reacts t r at opens (set_same n.tickets k (Some (after n.now t r))) refl refl)
-      go (inr ne) = Change.Same (set_other n.tickets k (Some (after n.now t r)) key ne) refl
+          (Change.Reacts t r at opens (set_same n.tickets k (Some (after (client_now n k) t r))) refl refl refl)
+      go (inr ne) = Change.Same (set_other n.tickets k (Some (after (client_now n k) t r)) key ne) refl refl
 
-  asks_change : (n : Net) (k : Key) (ask : Ask) → ask.first ≤ n.now → is_id_held n k ≡ false → (key : Key) → Change key n (asked_at x n k ask)
-  asks_change n k ask now free key = go (decide_key k key)
+  asks_change : (n : Net) (k : Key) (ask : Ask) → is_id_held n k ≡ false → (key : Key) → Change key n (asked_at x n k ask)
+  asks_change n k ask free key = go (decide_key k key)
     where
       made : ClientTransaction
-      made = client.asked_ticket (client_context x k n.now) ask
-
-      made_now : made.ask.first ≤ n.now
-      made_now =
-          let is = after_ask n.now (client.new_ticket n.now ask) (client.asks (client_context x k n.now) ask) in
-          subst (λ (a : Ask). a.first ≤ n.now) (sym is) now
+      made = client.asked_ticket (client_context x k (client_now n k)) ask
 
       go : ((k ≡ key) ⊎ (k ≡ key → ⊥)) → Change key n (asked_at x n k ask)
       go (inl is) = subst (λ (j : Key). Change j n (asked_at x n k ask)) is
-          (Change.Fresh free made (set_same n.tickets k (Some made)) (asked_opens (client_context x k n.now) ask) made_now)
-      go (inr ne) = Change.Same (set_other n.tickets k (Some made) key ne) (set_other n.numbers k n.asks key ne)
+          (Change.Fresh free made (set_same n.tickets k (Some made)) (asked_opens (client_context x k (client_now n k)) ask))
+      go (inr ne) = Change.Same (set_other n.tickets k (Some made) key ne) (set_other n.numbers k n.asks key ne) (set_other n.made k n.now key ne)
 
-  restart_change : (n : Net) (node : ℕ) (key : Key) (b : Bool) → nat_eq key.client node ≡ b → Change key n (client_restarted n node)
-  restart_change n node key true e = Change.Loses
-      (ap (λ b. if b then lost (n.tickets key) else n.tickets key) e) refl (ap (λ b. if b then n.now + REST + 1 else n.asks_from key.client) e)
-  restart_change n node key false e = Change.Same (ap (λ b. if b then lost (n.tickets key) else n.tickets key) e) refl
+  restart_change : (n : Net) (node exact : ℕ) (key : Key) (b : Bool) → nat_eq key.client node ≡ b → Change key n (client_restarted n node exact)
+  restart_change n node exact key true e = Change.Loses
+      (ap (λ b. if b then lost (n.tickets key) else n.tickets key) e) refl refl (ap (λ b. if b then n.now + 1 else n.restarted key.client) e)
+  restart_change n node exact key false e = Change.Same (ap (λ b. if b then lost (n.tickets key) else n.tickets key) e) refl refl
 
   pub step_change : (n m : Net) → Step x Q n m → (key : Key) → Change key n m
-  step_change n _ (Asks k choice whole front rest free) key = asks_change n k (ask_of n.now choice whole front rest) (omega arith) free key
-  step_change n _ (Serves number p free service at up q) key = Change.Same refl refl
+  step_change n _ (Asks k choice whole front rest free) key = asks_change n k (ask_of (client_now n k) choice whole front rest) free key
+  step_change n _ (Serves number p free service at up q) key = Change.Same refl refl refl
   step_change n _ (Hears number p t at down there) key =
-      let c = client_context x p.key n.now in
+      let c = client_context x p.key (client_now n p.key) in
       acts_change n p.key t (client.client_on_apdu c x.readable t p.copy.apdu) there (gets_opens c x.readable t p.copy.apdu) key
   step_change n _ (TicksTicket k t there) key =
-      let c = client_context x k n.now in acts_change n k t (client.client_ticks c t) there (ticks_opens c t) key
-  step_change n _ (TicksEntry k) key = Change.Same refl refl
-  step_change n _ (Passes by) key = Change.Same refl refl
-  step_change n _ (Changes node change) key = Change.Same refl refl
-  step_change n _ (RestartsClient node) key = restart_change n node key (nat_eq key.client node) refl
-  step_change n _ (RestartsServer node store) key = Change.Same refl refl
+      let c = client_context x k (client_now n k) in acts_change n k t (client.client_ticks c t) there (ticks_opens c t) key
+  step_change n _ (TicksEntry k) key = Change.Same refl refl refl
+  step_change n _ (Passes by clients servers) key = Change.Same refl refl refl
+  step_change n _ (Changes node change) key = Change.Same refl refl refl
+  step_change n _ (RestartsClient node exact) key = restart_change n node exact key (nat_eq key.client node) refl
+  step_change n _ (RestartsServer node exact store) key = Change.Same refl refl refl
 
-  -- a restart of the client at n takes each ask that was made
-  restarted_since : (n m : Net) (key : Key) (ask : Ask) → m.asks_from key.client ≡ n.now + REST + 1 → ask.first ≤ n.now → ClientStays m key ask → ⊥
-  restarted_since n m key ask from clock stays = omega arith
-
-  pub stays_before : (n m : Net) → Step x Q n m → Bounded n → (key : Key) (ask : Ask) → ClientStays m key ask → ClientStays n key ask
-  stays_before n m s b key ask stays = let le = step_asks_from x Q n m s b key.client in omega arith
+  pub stays_before : (n m : Net) → Step x Q n m → Bounded n → (key : Key) (made : ℕ) → StaysSince m key made → StaysSince n key made
+  stays_before n m s b key made stays = let le = step_restarted x Q n m s b key.client in omega arith
 
   logged_step : (n m : Net) → Step x Q n m → Bounded n → IdleIsLogged n → IdleIsLogged m
-  logged_step n m s b h key t at = go (step_change n m s key)
+  logged_step n m s b h key t at stays idle = go (step_change n m s key)
     where
-      later : n.now ≤ m.now
-      later = step_now x Q n m s
+      before : m.made key ≡ n.made key → ClientStays n key
+      before made = let le = step_restarted x Q n m s b key.client in let on = stays in omega arith
 
-      go : Change key n m → (t.ask.first ≤ m.now) × (ClientStays m key t.ask → is_idle t.phase ≡ true → HasEnded (m.numbers key) m.log)
-      go (Change.Same e f) =
-          let old = h key t (sym e ∙ at) in
-          let le = later in (
-            (let clock = old.0 in omega arith),
-            λ stays idle. subst (λ (k : ℕ). HasEnded k m.log) (sym f) (ended_grows (n.numbers key) n.log m.log (step_log x Q n m s)
-                (old.1 (stays_before n m s b key t.ask stays) idle)),
-          )
-      go (Change.Fresh free u is opens now) =
-          let same : u ≡ t = some_is u t (sym is ∙ at) in
-          let le = later in
-          let clock = subst (λ (y : ClientTransaction). y.ask.first ≤ n.now) same now in (omega arith, λ stays idle. absurd cc)
-      go (Change.Reacts u r was opens is f log) =
-          let same : after n.now u r ≡ t = some_is (after n.now u r) t (sym is ∙ at) in
-          let ask_is : u.ask ≡ t.ask = sym (after_ask n.now u r) ∙ ap (λ (y : ClientTransaction). y.ask) same in
-          let old = h key u was in
-          let le = later in
-          let clock = subst (λ (a : Ask). a.first ≤ n.now) ask_is old.0 in (
-            omega arith,
-            λ stays idle.
-                let before = stays_before n m s b key t.ask stays in
-                subst (λ (k : ℕ). HasEnded k m.log) (sym f) (subst (λ (l : List Fact). HasEnded (n.numbers key) l) (sym log)
-                (after_logged (n.numbers key) n.now u r n.log opens
-                (λ o. old.1 (subst (λ (a : Ask). ClientStays n key a) (sym ask_is) before) o)
-                (ap (λ (y : ClientTransaction). is_idle y.phase) same ∙ idle))),
-          )
-      go (Change.Loses e f from) = taken (n.tickets key) refl (sym e ∙ at)
-        where
-          taken : (o : Option ClientTransaction) → n.tickets key ≡ o → lost o ≡ Some t
-              → (t.ask.first ≤ m.now) × (ClientStays m key t.ask → is_idle t.phase ≡ true → HasEnded (m.numbers key) m.log)
-          taken None was is = absurd cc
-          taken (Some u) was is =
-              let same : record u { phase = Idle } ≡ t = some_is (record u { phase = Idle }) t is in
-              let clock = subst (λ (a : Ask). a.first ≤ n.now) (ap (λ (y : ClientTransaction). y.ask) same) (h key u was).0 in
-              let le = later in (omega arith, λ stays idle. absurd (restarted_since n m key t.ask from clock stays))
+      go : Change key n m → HasEnded (m.numbers key) m.log
+      go (Change.Same e f g) =
+          subst (λ (k : ℕ). HasEnded k m.log) (sym f) (ended_grows (n.numbers key) n.log m.log (step_log x Q n m s) (h key t (sym e ∙ at) (before g) idle))
+      go (Change.Fresh free u is opens) = let same : u ≡ t = some_is u t (sym is ∙ at) in absurd cc
+      go (Change.Reacts u r was opens is f g log) =
+          let same : after (client_now n key) u r ≡ t = some_is (after (client_now n key) u r) t (sym is ∙ at) in
+          subst (λ (k : ℕ). HasEnded k m.log) (sym f) (subst (λ (l : List Fact). HasEnded (n.numbers key) l) (sym log)
+          (after_logged (n.numbers key) (client_now n key) u r n.log opens (λ o. h key u was (before g) o)
+          (ap (λ (y : ClientTransaction). is_idle y.phase) same ∙ idle)))
+      go (Change.Loses e f g from) = let made = b.made key in let on = stays in absurd (omega arith)
 
   pub logged_path : (n m : Net) → Path x Q n m → Bounded n → IdleIsLogged n → IdleIsLogged m
   logged_path n _ Here b h = h
   logged_path n _ (Then l m p s) b h = logged_step l m s (path_bounded x Q n l p b) (logged_path n l p b h)
 
   -- One ask: its ticket is there, until its invoke ID is free.
-  module _ (key : Key) (number : ℕ) (ask : Ask) where
+  module _ (key : Key) (number : ℕ) (ask : Ask) (made : ℕ) where
     pub record IsThere (n : Net) : Type 0 where
       pub ticket : ClientTransaction
       pub at : n.tickets key ≡ Some ticket
       pub is : ticket.ask ≡ ask
       pub number_is : n.numbers key ≡ number
+      pub made_is : n.made key ≡ made
 
     pub there_step : (n m : Net) → Step x Q n m → IsThere n → IsThere m ⊎ (is_id_held n key ≡ false)
     there_step n m s h = go (step_change n m s key)
       where
         go : Change key n m → IsThere m ⊎ (is_id_held n key ≡ false)
-        go (Change.Same e f) = inl (record { ticket = h.ticket; at = e ∙ h.at; is = h.is; number_is = f ∙ h.number_is })
-        go (Change.Fresh free u is opens now) = inr free
-        go (Change.Reacts u r was opens is f log) =
+        go (Change.Same e f g) = inl (record { ticket = h.ticket; at = e ∙ h.at; is = h.is; number_is = f ∙ h.number_is; made_is = g ∙ h.made_is })
+        go (Change.Fresh free u is opens) = inr free
+        go (Change.Reacts u r was opens is f g log) =
             let same : u ≡ h.ticket = some_is u h.ticket (sym was ∙ h.at) in
             inl (record {
-              ticket = after n.now u r;
+              ticket = after (client_now n key) u r;
               at = is;
-              is = after_ask n.now u r ∙ ap (λ (y : ClientTransaction). y.ask) same ∙ h.is;
+              is = after_ask (client_now n key) u r ∙ ap (λ (y : ClientTransaction). y.ask) same ∙ h.is;
               number_is = f ∙ h.number_is;
+              made_is = g ∙ h.made_is;
             })
-        go (Change.Loses e f from) = inl (record {
+        go (Change.Loses e f g from) = inl (record {
           ticket = record (h.ticket) { phase = Idle };
           at = e ∙ ap lost h.at;
           is = h.is;
           number_is = f ∙ h.number_is;
+          made_is = g ∙ h.made_is;
         })

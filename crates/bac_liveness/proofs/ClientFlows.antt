@@ -19,13 +19,13 @@ use Rattle.bac_protocol.specs.Client as client
 use Rattle.bac_protocol.specs.Client.{Ask, Phase, ClientTransaction, Reaction, is_idle}
 use Rattle.bac_protocol.specs.Client.Phase.{SegmentedRequest, AwaitConfirmation, SegmentedConf, Idle}
 use Rattle.bac_protocol.specs.Client.Reaction.{Stays, GoesOn, Repeats, Ends}
-use Rattle.bac_protocol.specs.Server.{ServerTransaction}
+use Rattle.bac_protocol.specs.Server.{ServerTransaction, is_live}
 use Rattle.bac_protocol.specs.Own.{lesser_window}
 use Rattle.bac_protocol.specs.Transaction.{Key, Rules, Copy, client_context}
 use Rattle.bac_protocol.proofs.Facts.{pieces_length}
 use Rattle.bac_protocol.proofs.Transfer.{moved, acknowledged_cases}
 use Rattle.bac_liveness.specs.InStep.{IsAtStart, IsUnderway, IsSending}
-use Rattle.bac_liveness.proofs.Flow.{reach, NearUp, request_window_near, PhaseFlows, Collects, After}
+use Rattle.bac_liveness.proofs.Flow.{Hands, reach, NearUp, request_window_near, PhaseFlows, Collects, After}
 
 -- Windows.
 
@@ -41,11 +41,11 @@ pub reach_moved : (L own window : ℕ) (out : Outgoing) (number : ℕ) → L ≤
     → (reach out ≤ reach (moved own out number window)) × (reach (moved own out number window) ≤ reach out + in_window (moved own out number window))
 reach_moved L own window out number le is small reads = (omega arith, omega arith)
 
-module _ (W : ℕ) (x : Rules) (key : Key) (now : ℕ) (ask : Ask) (repeats : ℕ) (phase : Phase) (o : Option ServerTransaction) (copies : List Copy)
+module _ (W : ℕ) (x : Rules) (key : Key) (now : Hands) (ask : Ask) (repeats : ℕ) (phase : Phase) (o : Option ServerTransaction) (copies : List Copy)
     (some : 0 < lesser_window x key) (bounded : lesser_window x key ≤ W) (own_is : lesser_window x key ≤ (x.settings key.client).window)
     (pieces_some : 0 < length ask.pieces) where
   abbrev c : Context
-  c = client_context x key now
+  c = client_context x key now.client
 
   abbrev L : ℕ
   L = lesser_window x key

@@ -29,7 +29,7 @@ use Rattle.bac_protocol.specs.Log.{Fact, StoreModel}
 use Rattle.bac_protocol.specs.Log.Fact.{Ended}
 use Rattle.bac_protocol.specs.Transaction.{Key, Rules, client_context, server_context}
 use Rattle.bac_protocol.proofs.Facts.{pieces_length}
-use Rattle.bac_protocol.proofs.Queue.{TransactionPair, served, reacted, client_reaction, server_reaction}
+use Rattle.bac_protocol.proofs.Queue.{Nows, TransactionPair, served, reacted, client_reaction, server_reaction}
 use Rattle.bac_protocol.proofs.Ways.{way_cut}
 use Rattle.bac_protocol.proofs.Replied.{way_taken}
 use Rattle.bac_protocol.proofs.Requested.{kept_state, first_sent}
@@ -70,13 +70,13 @@ sending_waits out c readable ask (Apdu.SegmentAck server id ack) e = absurd cc
 sending_waits out c readable ask (Apdu.Reject id reason) e = absurd cc
 sending_waits out c readable ask (Abort server id reason) e = absurd cc
 
-module _ (S : Type 0) (model : StoreModel S) (x : Rules) (now number : ℕ) (key : Key) (ask : Ask) (young : client.is_expired now ask ≡ false)
-    (repeats begin : ℕ) (alive : nat_le (now - begin) KEEP ≡ true) (kept : Option Octets) (stores : ℕ → S) (log : List Fact) where
+module _ (S : Type 0) (model : StoreModel S) (x : Rules) (now : Nows) (number : ℕ) (key : Key) (ask : Ask) (young : client.is_expired now.here ask ≡ false)
+    (repeats begin : ℕ) (alive : nat_le (now.there - begin) KEEP ≡ true) (kept : Option Octets) (stores : ℕ → S) (log : List Fact) where
   abbrev c : Context
-  c = client_context x key now
+  c = client_context x key now.here
 
   abbrev d : Context
-  d = server_context x key now
+  d = server_context x key now.there
 
   abbrev service : Service
   service = model.outcome (stores key.server)
@@ -92,7 +92,7 @@ module _ (S : Type 0) (model : StoreModel S) (x : Rules) (now number : ℕ) (key
   in_state state = record { begin = begin; choice = ask.choice; limits = c.settings.limits; request = kept; state = state }
 
   abbrev giving : Outgoing → ServerTransaction
-  giving out = in_state (SegmentedResponse out Running now)
+  giving out = in_state (SegmentedResponse out Running now.there)
 
   abbrev ack : Bool → ℕ → Apdu
   ack nak i = client.client_ack c nak i actual
@@ -157,7 +157,7 @@ module _ (S : Type 0) (model : StoreModel S) (x : Rules) (now number : ℕ) (key
       ∙ ap (λ (k : Option Octets). if is_some k then server.rests (Some (giving out)) (server.server_abort d OTHER ∷ []) else server.rests
       (Some (giving out)) []) e in
       within_then S model x now number key 1 extra (suc extra) (with (a ∷ rest)) (with rest) (with xs) (omega arith)
-      (idle_step S model x now number key (with (a ∷ rest)) rest a refl going (lives now (giving out) alive)
+      (idle_step S model x now number key (with (a ∷ rest)) rest a refl going (lives now.there (giving out) alive)
       (ap (λ (v : server.Reaction). served S model x now number key (with (a ∷ rest)) rest v) goes ∙ ap with (append-nil rest)))
       (skips extra (first + 1) t out xs (λ h. e) going)
 
@@ -182,33 +182,33 @@ module _ (S : Type 0) (model : StoreModel S) (x : Rules) (now number : ℕ) (key
 
     pub acks_one : (s : Sender) (inc inc' : Incoming) (m t : ℕ) (xs : List Apdu) → never m ≡ false → inc.window ≡ actual → length xs ≤ x.overtake
         → takes inc (t % 256) (nat_lt (t + 1) n) (get_or ps t []) ≡ Taken true inc'
-        → Goes 1 (replying s inc m (piece t ∷ xs)) (replying s inc' now (xs ++ ack false (t % 256) ∷ []))
+        → Goes 1 (replying s inc m (piece t ∷ xs)) (replying s inc' now.here (xs ++ ack false (t % 256) ∷ []))
     acks_one s inc inc' m t xs timely is few e =
         let from = replying s inc m (piece t ∷ xs) in
-        one_step S model x now number key from (replying s inc' now (xs ++ ack false (t % 256) ∷ [])) xs (piece t) refl few refl
-        (lives now (giving s.out) alive)
+        one_step S model x now number key from (replying s inc' now.here (xs ++ ack false (t % 256) ∷ [])) xs (piece t) refl few refl
+        (lives now.there (giving s.out) alive)
         (ap (λ (r : client.Reaction). reacted S model x now number key from xs r) (client_takes inc m t (Taken true inc') e)
-        ∙ ap (λ (i : ℕ). replying s inc' now (xs ++ client.client_ack c false (t % 256) i ∷ [])) is)
+        ∙ ap (λ (i : ℕ). replying s inc' now.here (xs ++ client.client_ack c false (t % 256) i ∷ [])) is)
 
     pub keeps_one : (s : Sender) (inc inc' : Incoming) (m t : ℕ) (xs : List Apdu) → never m ≡ false → length xs ≤ x.overtake
         → takes inc (t % 256) (nat_lt (t + 1) n) (get_or ps t []) ≡ Taken false inc'
-        → Goes 1 (replying s inc m (piece t ∷ xs)) (replying s inc' now xs)
+        → Goes 1 (replying s inc m (piece t ∷ xs)) (replying s inc' now.here xs)
     keeps_one s inc inc' m t xs timely few e =
         let from = replying s inc m (piece t ∷ xs) in
-        one_step S model x now number key from (replying s inc' now xs) xs (piece t) refl few refl (lives now (giving s.out) alive)
+        one_step S model x now number key from (replying s inc' now.here xs) xs (piece t) refl few refl (lives now.there (giving s.out) alive)
         (ap (λ (r : client.Reaction). reacted S model x now number key from xs r) (client_takes inc m t (Taken false inc') e)
-        ∙ ap (λ (ys : List Apdu). replying s inc' now ys) (append-nil xs))
+        ∙ ap (λ (ys : List Apdu). replying s inc' now.here ys) (append-nil xs))
 
     pub naks_one : (s : Sender) (inc : Incoming) (m p q : ℕ) (xs : List Apdu) → never m ≡ false → inc.window ≡ actual → q + 1 ≡ length inc.parts
         → length xs ≤ x.overtake → takes inc (p % 256) (nat_lt (p + 1) n) (get_or ps p []) ≡ Nak (quiet inc)
-        → Goes 1 (replying s inc m (piece p ∷ xs)) (replying s (quiet inc) now (xs ++ ack true (q % 256) ∷ []))
+        → Goes 1 (replying s inc m (piece p ∷ xs)) (replying s (quiet inc) now.here (xs ++ ack true (q % 256) ∷ []))
     naks_one s inc m p q xs timely is taken few e =
         let from = replying s inc m (piece p ∷ xs) in
         let q_is : length inc.parts - 1 ≡ q = omega arith in
-        one_step S model x now number key from (replying s (quiet inc) now (xs ++ ack true (q % 256) ∷ [])) xs (piece p) refl few refl
-        (lives now (giving s.out) alive)
+        one_step S model x now number key from (replying s (quiet inc) now.here (xs ++ ack true (q % 256) ∷ [])) xs (piece p) refl few refl
+        (lives now.there (giving s.out) alive)
         (ap (λ (r : client.Reaction). reacted S model x now number key from xs r) (client_takes inc m p (Nak (quiet inc)) e)
-        ∙ (λ i. replying s (quiet inc) now (xs ++ client.client_ack c true (q_is i % 256) (is i) ∷ [])))
+        ∙ (λ i. replying s (quiet inc) now.here (xs ++ client.client_ack c true (q_is i % 256) (is i) ∷ [])))
 
     pub moves_one : (s : Sender) (inc : Incoming) (m : ℕ) (nak : Bool) (i : ℕ) (out : Outgoing) (xs : List Apdu) → out.pieces ≡ ps → length xs ≤ x.overtake
         → acknowledged d.settings.window s.out i actual ≡ Some out → is_finished out ≡ false
@@ -217,9 +217,9 @@ module _ (S : Type 0) (model : StoreModel S) (x : Rules) (now number : ℕ) (key
         let from = replying s inc m (ack nak i ∷ xs) in
         let e = giving s.out in
         one_step S model x now number key from (replying (moved s out) inc m (xs ++ pieces_from piece out.first (in_window out))) xs (ack nak i) refl few refl
-        (lives now e alive)
+        (lives now.there e alive)
         (ap (λ (v : server.Reaction). served S model x now number key from xs v)
-        (server_moves s.out nak i (Some out) is ∙ ap (λ b. if b then server.becomes e (SegmentedResponse out Finished now) []
+        (server_moves s.out nak i (Some out) is ∙ ap (λ b. if b then server.becomes e (SegmentedResponse out Finished now.there) []
         else server.sends_reply_window d e out) going)
         ∙ ap (λ (qs : List Octets). replying (moved s out) inc m (xs ++ pieces_from (server.reply_piece d ask.choice qs) out.first (in_window out))) same)
 
@@ -227,7 +227,7 @@ module _ (S : Type 0) (model : StoreModel S) (x : Rules) (now number : ℕ) (key
         → Goes 1 (replying s inc m (ack nak i ∷ xs)) (replying s inc m xs)
     ignores_one s inc m nak i xs is =
         let from = replying s inc m (ack nak i ∷ xs) in
-        idle_step S model x now number key from xs (ack nak i) refl refl (lives now (giving s.out) alive)
+        idle_step S model x now number key from xs (ack nak i) refl refl (lives now.there (giving s.out) alive)
         (ap (λ (v : server.Reaction). served S model x now number key from xs v) (server_moves s.out nak i None is)
         ∙ ap (λ (ys : List Apdu). replying s inc m ys) (append-nil xs))
 
@@ -237,6 +237,7 @@ module _ (S : Type 0) (model : StoreModel S) (x : Rules) (now number : ℕ) (key
       piece = piece;
       ack = ack;
       is_late = never;
+      moment = now.here;
       in_time = refl;
       acks = acks_one;
       keeps = keeps_one;
@@ -284,7 +285,7 @@ module _ (S : Type 0) (model : StoreModel S) (x : Rules) (now number : ℕ) (key
             log_is = refl;
             reaches = within_then S model x now number key z.spent 1 most (replying s inc m (pieces_from piece s.out.first (in_window s.out))) before end
                 (omega arith) z.reaches
-                (one_step S model x now number key before end xs (piece z.p) refl (omega arith) refl (lives now (giving z.s.out) alive)
+                (one_step S model x now number key before end xs (piece z.p) refl (omega arith) refl (lives now.there (giving z.s.out) alive)
                 (ap (λ (r : client.Reaction). reacted S model x now number key before xs r) f));
           }
 
@@ -333,7 +334,7 @@ module _ (S : Type 0) (model : StoreModel S) (x : Rules) (now number : ℕ) (key
               stores_are = refl;
               log_is = refl;
               reaches = within_more S model x now number key 1 (3 * n + extra) from end (omega arith)
-                  (one_step S model x now number key from end (segments first extra) (piece 0) refl extra_length going (lives now (giving out) alive)
+                  (one_step S model x now number key from end (segments first extra) (piece 0) refl extra_length going (lives now.there (giving out) alive)
                   (ap (λ (r : client.Reaction). reacted S model x now number key from (segments first extra) r)
                   (first_is phase m (Whole ps) waits going e ∙ answered_is 0 actual)));
             }
@@ -350,15 +351,15 @@ module _ (S : Type 0) (model : StoreModel S) (x : Rules) (now number : ℕ) (key
             let len : length out.pieces ≡ n = ap length same in
             let e = takes_one ps empty 0 more sizes.few sizes.short refl refl true refl in
             let acks = ack false 0 ∷ [] in
-            let one = one_step S model x now number key from (replying s inc now (segments first extra ++ acks)) (segments first extra) (piece 0) refl
-            extra_length going (lives now (giving out) alive)
+            let one = one_step S model x now number key from (replying s inc now.here (segments first extra ++ acks)) (segments first extra) (piece 0) refl
+            extra_length going (lives now.there (giving out) alive)
             (ap (λ (r : client.Reaction). reacted S model x now number key from (segments first extra) r) (first_is phase m (Taken true inc) waits going e)) in
-            let two = skips extra first (in_phase (SegmentedConf inc) now) out acks plain refl in
-            let three : Goes 1 (replying s inc now acks) (replying s' inc now (pieces_from piece 1 (in_window s'.out))) =
+            let two = skips extra first (in_phase (SegmentedConf inc) now.here) out acks plain refl in
+            let three : Goes 1 (replying s inc now.here acks) (replying s' inc now.here (pieces_from piece 1 (in_window s'.out))) =
             acks_read S model x now number key actual d.settings.window ps sizes near
-            (moving S model x now number key actual d.settings.window ps carries inc now) 0 s false 0 [] same (omega arith) (omega arith) (omega arith)
+            (moving S model x now number key actual d.settings.window ps carries inc now.here) 0 s false 0 [] same (omega arith) (omega arith) (omega arith)
             (omega arith) (omega arith) in
-            let z = download s' inc now 1 (3 * n - 3) (record {
+            let z = download s' inc now.here 1 (3 * n - 3) (record {
               pieces = same;
               shape = inl (omega arith);
               most = omega arith;
@@ -370,9 +371,9 @@ module _ (S : Type 0) (model : StoreModel S) (x : Rules) (now number : ℕ) (key
               within = omega arith;
               left = omega arith;
             }) (omega arith) in
-            ends_then 1 (3 * n - 1 + extra) (3 * n + extra) from (replying s inc now (segments first extra ++ acks)) p (omega arith) one
-            (ends_then extra (3 * n - 1) (3 * n - 1 + extra) (replying s inc now (segments first extra ++ acks)) (replying s inc now acks) p (omega arith) two
-            (ends_then 1 (3 * n - 3) (3 * n - 1) (replying s inc now acks) (replying s' inc now (pieces_from piece 1 (in_window s'.out))) p (omega arith)
+            ends_then 1 (3 * n - 1 + extra) (3 * n + extra) from (replying s inc now.here (segments first extra ++ acks)) p (omega arith) one
+            (ends_then extra (3 * n - 1) (3 * n - 1 + extra) (replying s inc now.here (segments first extra ++ acks)) (replying s inc now.here acks) p (omega arith) two
+            (ends_then 1 (3 * n - 3) (3 * n - 1) (replying s inc now.here acks) (replying s' inc now.here (pieces_from piece 1 (in_window s'.out))) p (omega arith)
             three z))
 
         pub first_given : 0 < n → EndsWith (3 * n + extra) from p
@@ -405,7 +406,7 @@ module _ (S : Type 0) (model : StoreModel S) (x : Rules) (now number : ℕ) (key
 
   module _ (phase : Phase) (m : ℕ) (waits : Waits phase) (going : is_idle phase ≡ false) where
     -- the answer is the oldest copy
-    pub at_once : (p : reply) (e : ServerTransaction) (xs : List Apdu) → KindFits x.readable ask.choice p → is_none_live now (Some e) ≡ false → length xs ≤ x.overtake
+    pub at_once : (p : reply) (e : ServerTransaction) (xs : List Apdu) → KindFits x.readable ask.choice p → is_none_live now.there (Some e) ≡ false → length xs ≤ x.overtake
         → EndsWith 1 (record {
           ticket = in_phase phase m;
           entry = Some e;
@@ -445,7 +446,7 @@ module _ (S : Type 0) (model : StoreModel S) (x : Rules) (now number : ℕ) (key
     reply_read p InOne first extra is fits kind some small room plain few =
         let e = pieces_length (client.request_piece c ask.choice ask.pieces) first extra in
         let z = at_once p (in_state (kept_state d ask.choice p InOne)) (segments first extra) kind
-        (lives now (in_state (kept_state d ask.choice p InOne)) alive) (omega arith) in
+        (lives now.there (in_state (kept_state d ask.choice p InOne)) alive) (omega arith) in
         record {
           end = z.end;
           idle = z.idle;

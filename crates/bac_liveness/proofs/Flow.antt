@@ -1,12 +1,12 @@
 -- What a run keeps of the two ends of a transaction: that they stay in step. The first piece that a sender has not sent is known from where it stands.
 use Rattle.std.proofs.Common.{◌≡◌, ℕ, ◌+◌, ◌-◌, ◌<◌, ◌≤◌, ◌⊎◌, Bool, true, List, length, Option, Some, None}
 use Rattle.std.proofs.Common.{if◌then◌else◌, subst, arith}
+use Rattle.std.proofs.lemmas.Bool.Decides.{nat_tests}
 use Rattle.bac_apdu.specs.Apdu.{Apdu, Limits, Segment}
 use Rattle.bac_apdu.specs.Apdu.Apdu.{ConfirmedRequest, UnconfirmedRequest, SimpleAck, ComplexAck, SegmentAck, Error, Reject, Abort}
 use Rattle.bac_segment.specs.Limits.{N_RETRY}
 use Rattle.bac_segment.specs.Pieces.{join, piece_at}
 use Rattle.bac_segment.specs.Window.{Outgoing, in_window, Incoming}
-use Rattle.bac_protocol.specs.declared.times.TheConstants.{LIFE}
 use Rattle.bac_protocol.specs.Context.{Context}
 use Rattle.bac_protocol.specs.Service.{Octets}
 use Rattle.bac_protocol.specs.Wire.{is_from_client, is_from_server, segment_of, Each}
@@ -14,7 +14,7 @@ use Rattle.bac_protocol.specs.Client as client
 use Rattle.bac_protocol.specs.Client.{Ask, Phase}
 use Rattle.bac_protocol.specs.Client.Phase.{SegmentedRequest, AwaitConfirmation, SegmentedConf, Idle}
 use Rattle.bac_protocol.specs.Server as server
-use Rattle.bac_protocol.specs.Server.{State, ServerTransaction}
+use Rattle.bac_protocol.specs.Server.{State, ServerTransaction, is_live}
 use Rattle.bac_protocol.specs.Server.State.{Done, SegmentedResponse, Dropped}
 use Rattle.bac_protocol.specs.Own.{lesser_window}
 use Rattle.bac_protocol.specs.Transaction.{Key, Rules, Copy}
@@ -23,6 +23,13 @@ use Rattle.bac_protocol.proofs.Alone.{sent}
 use Rattle.bac_protocol.proofs.Facts.{each_sent, all_map, pieces_all}
 use Rattle.bac_protocol.proofs.Transfer.{piece_at_is}
 use Rattle.bac_liveness.specs.InStep.{IsAtStart, IsUnderway, IsSending, IsCutFor}
+
+-- what the clocks show: real time, how long a copy lives, and the clocks of the two ends
+pub record Hands : Type 0 where
+  pub now : ℕ
+  pub life : ℕ
+  pub client : ℕ
+  pub server : ℕ
 
 -- the first piece that was not sent
 abbrev pub reach : Outgoing → ℕ
@@ -56,24 +63,24 @@ down_on W d s r k ps (ComplexAck id (Some g) choice o) le far h = piece_on W d s
 down_on W d s r k ps (ComplexAck id None choice o) le far h = tt
 down_on W d s r k ps _ le far h = tt
 
-abbrev pub AllUp : (W now : ℕ) → List Octets → ℕ → List Copy → Type 0
-AllUp W now ps s copies = EachCopy (λ k c. now - c.moment ≤ LIFE → NearUp W ps s k c.apdu) copies
+abbrev pub AllUp : (W : ℕ) → Hands → List Octets → ℕ → List Copy → Type 0
+AllUp W now ps s copies = EachCopy (λ k c. now.now - c.moment ≤ now.life → NearUp W ps s k c.apdu) copies
 
-abbrev pub AllDown : (W now : ℕ) → List Octets → ℕ → List Copy → Type 0
-AllDown W now ps s copies = EachCopy (λ k c. now - c.moment ≤ LIFE → NearDown W ps s k c.apdu) copies
+abbrev pub AllDown : (W : ℕ) → Hands → List Octets → ℕ → List Copy → Type 0
+AllDown W now ps s copies = EachCopy (λ k c. now.now - c.moment ≤ now.life → NearDown W ps s k c.apdu) copies
 
-pub all_up : (W now s r : ℕ) (ps : List Octets) (sends : List Apdu) (copies : List Copy) → s ≤ r → r ≤ s + length sends
-    → Each (λ a. (k : ℕ) → NearUp W ps r k a) sends → AllUp W now ps s copies → AllUp W now ps r (sent now sends copies)
+pub all_up : (W : ℕ) (now : Hands) (s r : ℕ) (ps : List Octets) (sends : List Apdu) (copies : List Copy) → s ≤ r → r ≤ s + length sends
+    → Each (λ a. (k : ℕ) → NearUp W ps r k a) sends → AllUp W now ps s copies → AllUp W now ps r (sent now.now sends copies)
 all_up W now s r ps sends copies le far new old =
-    each_sent (λ k c. now - c.moment ≤ LIFE → NearUp W ps r k c.apdu) now sends copies
-    (all_map (λ a. (k : ℕ) → NearUp W ps r k a) (λ a. (k : ℕ) → now - now ≤ LIFE → NearUp W ps r k a) (λ a h k young. h k) sends new)
+    each_sent (λ k c. now.now - c.moment ≤ now.life → NearUp W ps r k c.apdu) now.now sends copies
+    (all_map (λ a. (k : ℕ) → NearUp W ps r k a) (λ a. (k : ℕ) → now.now - now.now ≤ now.life → NearUp W ps r k a) (λ a h k young. h k) sends new)
     (λ k c e young. up_on W (length sends) s r k ps c.apdu le far (old k c e young))
 
-pub all_down : (W now s r : ℕ) (ps : List Octets) (sends : List Apdu) (copies : List Copy) → s ≤ r → r ≤ s + length sends
-    → Each (λ a. (k : ℕ) → NearDown W ps r k a) sends → AllDown W now ps s copies → AllDown W now ps r (sent now sends copies)
+pub all_down : (W : ℕ) (now : Hands) (s r : ℕ) (ps : List Octets) (sends : List Apdu) (copies : List Copy) → s ≤ r → r ≤ s + length sends
+    → Each (λ a. (k : ℕ) → NearDown W ps r k a) sends → AllDown W now ps s copies → AllDown W now ps r (sent now.now sends copies)
 all_down W now s r ps sends copies le far new old =
-    each_sent (λ k c. now - c.moment ≤ LIFE → NearDown W ps r k c.apdu) now sends copies
-    (all_map (λ a. (k : ℕ) → NearDown W ps r k a) (λ a. (k : ℕ) → now - now ≤ LIFE → NearDown W ps r k a) (λ a h k young. h k) sends new)
+    each_sent (λ k c. now.now - c.moment ≤ now.life → NearDown W ps r k c.apdu) now.now sends copies
+    (all_map (λ a. (k : ℕ) → NearDown W ps r k a) (λ a. (k : ℕ) → now.now - now.now ≤ now.life → NearDown W ps r k a) (λ a h k young. h k) sends new)
     (λ k c e young. down_on W (length sends) s r k ps c.apdu le far (old k c e young))
 
 pub all_limits : (l : Limits) (now : ℕ) (sends : List Apdu) (copies : List Copy) → Each (SaysLimits l) sends
@@ -170,41 +177,45 @@ pub record IsMade (x : Rules) (key : Key) (ask : Ask) (e : ServerTransaction) : 
   pub request : e.request ≡ (if ask.whole then Some (join ask.pieces) else None)
   pub state : StateMade x key e.state
 
-pub record Flow (W : ℕ) (x : Rules) (key : Key) (now : ℕ) (ask : Ask) (repeats : ℕ) (phase : Phase) (o : Option ServerTransaction) (copies : List Copy) : Type 0 where
+pub record Flow (W : ℕ) (x : Rules) (key : Key) (now : Hands) (ask : Ask) (repeats : ℕ) (phase : Phase) (o : Option ServerTransaction) (copies : List Copy) : Type 0 where
   pub some : 0 < length ask.pieces
   pub few : repeats ≤ N_RETRY
   pub limits : EachCopy (λ k c. SaysLimits (x.settings key.client).limits c.apdu) copies
   pub client : PhaseFlows (lesser_window x key) ask repeats phase
   pub sent_up : (out : Outgoing) (all : Bool) → phase ≡ SegmentedRequest out all → repeats ≡ N_RETRY → AllUp W now ask.pieces (reach out) copies
-  pub taken_up : (out : Outgoing) (all : Bool) → phase ≡ SegmentedRequest out all → repeats ≡ N_RETRY → (e : ServerTransaction) → o ≡ Some e → ask.first ≤ e.begin
+  pub taken_up : (out : Outgoing) (all : Bool) → phase ≡ SegmentedRequest out all → repeats ≡ N_RETRY → (e : ServerTransaction) → o ≡ Some e → is_live now.server e ≡ true
       → TakenUp (length ask.pieces) (reach out) e.state
-  pub made : (e : ServerTransaction) → o ≡ Some e → ask.first ≤ e.begin → IsMade x key ask e
-  pub sent_down : (e : ServerTransaction) → o ≡ Some e → ask.first ≤ e.begin → (out : Outgoing) (transfer : server.Transfer) (since : ℕ)
+  pub made : (e : ServerTransaction) → o ≡ Some e → is_live now.server e ≡ true → IsMade x key ask e
+  pub sent_down : (e : ServerTransaction) → o ≡ Some e → is_live now.server e ≡ true → (out : Outgoing) (transfer : server.Transfer) (since : ℕ)
       → e.state ≡ SegmentedResponse out transfer since → AllDown W now out.pieces (reach out) copies
-  pub taken_down : (inc : Incoming) → phase ≡ SegmentedConf inc → (e : ServerTransaction) → o ≡ Some e → ask.first ≤ e.begin
+  pub taken_down : (inc : Incoming) → phase ≡ SegmentedConf inc → (e : ServerTransaction) → o ≡ Some e → is_live now.server e ≡ true
       → (out : Outgoing) (transfer : server.Transfer) (since : ℕ) → e.state ≡ SegmentedResponse out transfer since → length inc.parts ≤ reach out
 
 -- time passes
-pub flow_later : (W : ℕ) (x : Rules) (key : Key) (now by : ℕ) (ask : Ask) (repeats : ℕ) (phase : Phase) (o : Option ServerTransaction) (copies : List Copy)
-    → Flow W x key now ask repeats phase o copies → Flow W x key (now + by) ask repeats phase o copies
-flow_later W x key now by ask repeats phase o copies h = record {
+pub flow_later : (W : ℕ) (x : Rules) (key : Key) (now after : Hands) (ask : Ask) (repeats : ℕ) (phase : Phase) (o : Option ServerTransaction) (copies : List Copy)
+    → now.now ≤ after.now → after.life ≡ now.life → now.server ≤ after.server
+    → Flow W x key now ask repeats phase o copies → Flow W x key after ask repeats phase o copies
+flow_later W x key now after ask repeats phase o copies le same on h = record {
   some = h.some;
   few = h.few;
   limits = h.limits;
   client = h.client;
   sent_up = λ out all is r k c e young. h.sent_up out all is r k c e (omega arith);
-  taken_up = h.taken_up;
-  made = h.made;
-  sent_down = λ e at begun out transfer since is k c f young. h.sent_down e at begun out transfer since is k c f (omega arith);
-  taken_down = h.taken_down;
+  taken_up = λ out all is r e at live. h.taken_up out all is r e at (before e live);
+  made = λ e at live. h.made e at (before e live);
+  sent_down = λ e at live out transfer since is k c f young. h.sent_down e at (before e live) out transfer since is k c f (omega arith);
+  taken_down = λ inc is e at live. h.taken_down inc is e at (before e live);
 }
+  where
+    before : (e : ServerTransaction) → is_live after.server e ≡ true → is_live now.server e ≡ true
+    before e live = let le = on in grind (arith, nat_tests)
 
 -- What a client does.
 
-module _ (W : ℕ) (x : Rules) (key : Key) (now : ℕ) (ask : Ask) (phase : Phase) (o : Option ServerTransaction) (copies : List Copy) where
+module _ (W : ℕ) (x : Rules) (key : Key) (now : Hands) (ask : Ask) (phase : Phase) (o : Option ServerTransaction) (copies : List Copy) where
   -- what was taken of a reply was sent
   abbrev pub Collects : Incoming → Type 0
-  Collects inc = (e : ServerTransaction) → o ≡ Some e → ask.first ≤ e.begin → (out : Outgoing) (transfer : server.Transfer) (since : ℕ)
+  Collects inc = (e : ServerTransaction) → o ≡ Some e → is_live now.server e ≡ true → (out : Outgoing) (transfer : server.Transfer) (since : ℕ)
       → e.state ≡ SegmentedResponse out transfer since → length inc.parts ≤ reach out
 
   -- it sends a window, in a pass that goes on
@@ -231,11 +242,11 @@ module _ (W : ℕ) (x : Rules) (key : Key) (now : ℕ) (ask : Ask) (phase : Phas
   pub client_flows : (repeats r : ℕ) (next : Phase) (sends : List Apdu) → (r ≡ N_RETRY → repeats ≡ N_RETRY) → r ≤ N_RETRY
       → Flow W x key now ask repeats phase o copies
       → After r next sends → Each (SaysLimits (x.settings key.client).limits) sends → Each (λ a. is_from_client a ≡ true) sends
-      → Flow W x key now ask r next o (sent now sends copies)
+      → Flow W x key now ask r next o (sent now.now sends copies)
   client_flows repeats r next sends first few h after limits own = record {
     some = h.some;
     few = few;
-    limits = all_limits (x.settings key.client).limits now sends copies limits h.limits;
+    limits = all_limits (x.settings key.client).limits now.now sends copies limits h.limits;
     client = phase_flows r next sends after;
     sent_up = λ out all is full. sent_on out all (subst (λ (ph : Phase). After r ph sends) is after) full;
     taken_up = λ out all is full e at begun. taken_more out all (subst (λ (ph : Phase). After r ph sends) is after) full e at begun;
@@ -248,12 +259,12 @@ module _ (W : ℕ) (x : Rules) (key : Key) (now : ℕ) (ask : Ask) (phase : Phas
   }
     where
       sent_on : (out : Outgoing) (all : Bool) → After r (SegmentedRequest out all) sends → r ≡ N_RETRY
-          → AllUp W now ask.pieces (reach out) (sent now sends copies)
+          → AllUp W now ask.pieces (reach out) (sent now.now sends copies)
       sent_on out all a full =
           let z = a.1 full in
           all_up W now (reach z.old) (reach out) ask.pieces sends copies z.onward z.few z.near (h.sent_up z.old z.all z.was (first full))
 
-      taken_more : (out : Outgoing) (all : Bool) → After r (SegmentedRequest out all) sends → r ≡ N_RETRY → (e : ServerTransaction) → o ≡ Some e → ask.first ≤ e.begin
+      taken_more : (out : Outgoing) (all : Bool) → After r (SegmentedRequest out all) sends → r ≡ N_RETRY → (e : ServerTransaction) → o ≡ Some e → is_live now.server e ≡ true
           → TakenUp (length ask.pieces) (reach out) e.state
       taken_more out all a full e at begun =
           let z = a.1 full in
@@ -262,7 +273,7 @@ module _ (W : ℕ) (x : Rules) (key : Key) (now : ℕ) (ask : Ask) (phase : Phas
 -- What a server does.
 
 -- its entry after it
-pub record EntryFlows (W : ℕ) (x : Rules) (key : Key) (now : ℕ) (ask : Ask) (repeats : ℕ) (phase : Phase) (e : ServerTransaction) (copies : List Copy) : Type 0 where
+pub record EntryFlows (W : ℕ) (x : Rules) (key : Key) (now : Hands) (ask : Ask) (repeats : ℕ) (phase : Phase) (e : ServerTransaction) (copies : List Copy) : Type 0 where
   pub made : IsMade x key ask e
   pub taken_up : (out : Outgoing) (all : Bool) → phase ≡ SegmentedRequest out all → repeats ≡ N_RETRY → TakenUp (length ask.pieces) (reach out) e.state
   pub sent_down : (out : Outgoing) (transfer : server.Transfer) (since : ℕ) → e.state ≡ SegmentedResponse out transfer since
@@ -270,14 +281,14 @@ pub record EntryFlows (W : ℕ) (x : Rules) (key : Key) (now : ℕ) (ask : Ask) 
   pub taken_down : (inc : Incoming) → phase ≡ SegmentedConf inc → (out : Outgoing) (transfer : server.Transfer) (since : ℕ)
       → e.state ≡ SegmentedResponse out transfer since → length inc.parts ≤ reach out
 
-pub server_flows : (W : ℕ) (x : Rules) (key : Key) (now : ℕ) (ask : Ask) (repeats : ℕ) (phase : Phase) (o : Option ServerTransaction) (copies : List Copy)
+pub server_flows : (W : ℕ) (x : Rules) (key : Key) (now : Hands) (ask : Ask) (repeats : ℕ) (phase : Phase) (o : Option ServerTransaction) (copies : List Copy)
     (v : server.Reaction) → Flow W x key now ask repeats phase o copies → Each (λ a. is_from_server a ≡ true) v.sends
-    → ((e : ServerTransaction) → v.entry ≡ Some e → ask.first ≤ e.begin → EntryFlows W x key now ask repeats phase e (sent now v.sends copies))
-    → Flow W x key now ask repeats phase v.entry (sent now v.sends copies)
+    → ((e : ServerTransaction) → v.entry ≡ Some e → is_live now.server e ≡ true → EntryFlows W x key now ask repeats phase e (sent now.now v.sends copies))
+    → Flow W x key now ask repeats phase v.entry (sent now.now v.sends copies)
 server_flows W x key now ask repeats phase o copies v h own fine = record {
   some = h.some;
   few = h.few;
-  limits = all_limits (x.settings key.client).limits now v.sends copies
+  limits = all_limits (x.settings key.client).limits now.now v.sends copies
       (all_map (λ a. is_from_server a ≡ true) (SaysLimits (x.settings key.client).limits) (λ a f. server_limits (x.settings key.client).limits a f) v.sends own)
       h.limits;
   client = h.client;

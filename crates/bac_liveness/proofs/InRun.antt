@@ -5,7 +5,9 @@ use Rattle.std.proofs.lemmas.Bool.Decides.{nat_tests}
 use Rattle.bac_apdu.specs.Apdu.{Apdu, Segment}
 use Rattle.bac_apdu.specs.Apdu.Apdu.{ConfirmedRequest, UnconfirmedRequest, SimpleAck, ComplexAck, SegmentAck, Error, Reject, Abort}
 use Rattle.bac_segment.specs.Window.{Outgoing, Incoming, incoming, Taking, takes}
-use Rattle.bac_protocol.specs.declared.times.TheConstants.{LIFE}
+use Rattle.bac_protocol.specs.declared.times.TheConstants.{KEEP}
+use Rattle.bac_protocol.specs.Pace.{IsTimely}
+use Rattle.bac_protocol.proofs.Paces.{beyond_least}
 use Rattle.bac_protocol.specs.Context.{Context}
 use Rattle.bac_protocol.specs.Service.{Octets, Readable}
 use Rattle.bac_protocol.specs.Wire.{is_from_client, Each}
@@ -19,15 +21,15 @@ use Rattle.bac_protocol.specs.Server.State.{Done, SegmentedResponse, Dropped}
 use Rattle.bac_protocol.specs.Log.{Fact}
 use Rattle.bac_protocol.specs.Own.{PhaseHas, lesser_window, IsSentByClient, IsSentByServer, IsOfClient}
 use Rattle.bac_protocol.specs.Transaction.{Key, Rules, Copy, client_context, server_context}
-use Rattle.bac_protocol.specs.Claims.{IsBounded, EachCopy, IsPiece}
+use Rattle.bac_protocol.specs.Claims.{Moments, HasRestartedSince, IsBegunSince, IsBounded, EachCopy, IsPiece}
 use Rattle.bac_protocol.proofs.Alone.{sent}
-use Rattle.bac_protocol.proofs.Sound.{IsUnderway, Up, Down, client_until, Says, ClientFits, CollectsDown, IsKeptFor, IsUnbegun}
+use Rattle.bac_protocol.proofs.Sound.{IsUnderway, Up, Down, Says, ClientFits, CollectsDown, IsKeptFor, IsUnbegun}
 use Rattle.bac_protocol.proofs.Sound.{SendsDown, StateFits, ServerFits, Sound}
 use Rattle.bac_protocol.proofs.Sound.Up.{Reading, Repeated}
 use Rattle.bac_protocol.proofs.Sound.Down.{Unsent, Sent}
 use Rattle.bac_protocol.proofs.Own.{ClientSends, BeginsAnswer, own_sends, gets_own, ticks_own, client_sends_own}
 use Rattle.bac_protocol.proofs.Transfer.{takes_cases, takes_below}
-use Rattle.bac_liveness.proofs.Flow.{reach, NearDown, SaysLimits, PhaseFlows}
+use Rattle.bac_liveness.proofs.Flow.{Hands, reach, NearDown, SaysLimits, PhaseFlows}
 use Rattle.bac_liveness.proofs.Flow.{StateMade, Flow, client_flows, server_flows}
 use Rattle.bac_liveness.proofs.ClientFlows.{window_bound}
 use Rattle.bac_liveness.proofs.ClientFlows as of_client
@@ -42,28 +44,28 @@ unbegun_down number (Reading t s) (Sent ps a b) log h = absurd h
 unbegun_down number Repeated Unsent log h = refl
 unbegun_down number Repeated (Sent ps a b) log h = absurd h
 
-no_segment : (W V number now : ℕ) (ask : Ask) (log : List Fact) (up : Up) (m k : ℕ) (ps : List Octets) (s : ℕ) (a : Apdu)
-    → Says W number ask log up Unsent m k a → NearDown W ps s k a
-no_segment W V number now ask log up m k ps s (ComplexAck id (Some g) choice o) h = absurd (h.1)
-no_segment W V number now ask log up m k ps s (ComplexAck id None choice o) h = tt
-no_segment W V number now ask log up m k ps s _ h = tt
+no_segment : (W V : ℕ) (times : Moments) (number now : ℕ) (ask : Ask) (log : List Fact) (up : Up) (m k : ℕ) (ps : List Octets) (s : ℕ) (a : Apdu)
+    → Says W times number ask log up Unsent m k a → NearDown W ps s k a
+no_segment W V times number now ask log up m k ps s (ComplexAck id (Some g) choice o) h = absurd (h.1)
+no_segment W V times number now ask log up m k ps s (ComplexAck id None choice o) h = tt
+no_segment W V times number now ask log up m k ps s _ h = tt
 
 not_collected : (W : ℕ) (ask : Ask) (inc : Incoming) (up : Up) → ClientFits W ask (SegmentedConf inc) up Unsent → ⊥
 not_collected W ask inc up h = h
 
-client_moment : (W number : ℕ) (ask : Ask) (log : List Fact) (up : Up) (down : Down) (m k : ℕ) (a : Apdu) → is_from_client a ≡ true
-    → Says W number ask log up down m k a → m ≤ client_until ask
-client_moment W number ask log up down m k (ConfirmedRequest l id None choice o) e h = h.0
-client_moment W number ask log up down m k (ConfirmedRequest l id (Some g) choice o) e h = h.0
-client_moment W number ask log up down m k (UnconfirmedRequest choice o) e h = absurd cc
-client_moment W number ask log up down m k (SimpleAck id choice) e h = absurd cc
-client_moment W number ask log up down m k (ComplexAck id g choice o) e h = absurd cc
-client_moment W number ask log up down m k (SegmentAck true id ack) e h = absurd cc
-client_moment W number ask log up down m k (SegmentAck false id ack) e h = h.0
-client_moment W number ask log up down m k (Error id choice class code) e h = absurd cc
-client_moment W number ask log up down m k (Reject id r) e h = absurd cc
-client_moment W number ask log up down m k (Abort true id r) e h = absurd cc
-client_moment W number ask log up down m k (Abort false id r) e h = h
+client_moment : (W : ℕ) (times : Moments) (number : ℕ) (ask : Ask) (log : List Fact) (up : Up) (down : Down) (m k : ℕ) (a : Apdu) → is_from_client a ≡ true
+    → Says W times number ask log up down m k a → m ≤ times.until
+client_moment W times number ask log up down m k (ConfirmedRequest l id None choice o) e h = h.0
+client_moment W times number ask log up down m k (ConfirmedRequest l id (Some g) choice o) e h = h.0
+client_moment W times number ask log up down m k (UnconfirmedRequest choice o) e h = absurd cc
+client_moment W times number ask log up down m k (SimpleAck id choice) e h = absurd cc
+client_moment W times number ask log up down m k (ComplexAck id g choice o) e h = absurd cc
+client_moment W times number ask log up down m k (SegmentAck true id ack) e h = absurd cc
+client_moment W times number ask log up down m k (SegmentAck false id ack) e h = h.0
+client_moment W times number ask log up down m k (Error id choice class code) e h = absurd cc
+client_moment W times number ask log up down m k (Reject id r) e h = absurd cc
+client_moment W times number ask log up down m k (Abort true id r) e h = absurd cc
+client_moment W times number ask log up down m k (Abort false id r) e h = h
 
 kept_is_down : (number : ℕ) (ask : Ask) (a : Apdu) (log : List Fact) → IsKeptFor number ask a log → IsDown a × IsQuiet a
 kept_is_down number ask (SimpleAck id choice) log h = (refl, tt)
@@ -89,6 +91,9 @@ collecting_behind : (W : ℕ) (inc : Incoming) (out : Outgoing) (down : Down) �
 collecting_behind W inc out Unsent c d = absurd c
 collecting_behind W inc out (Sent ps t s) c d = let a = c.taken_is in let b = d.1.behind in omega arith
 
+abbrev pub hands_of : Moments → Hands
+hands_of times = record { now = times.now; life = times.pace.life; client = times.client.shows; server = times.server.shows }
+
 module _ (W : ℕ) (x : Rules) (bound : IsBounded W x) (key : Key) (some : 0 < lesser_window x key) where
   abbrev L : ℕ
   L = lesser_window x key
@@ -102,7 +107,7 @@ module _ (W : ℕ) (x : Rules) (bound : IsBounded W x) (key : Key) (some : 0 < l
   pub L_server : L ≤ (x.settings key.server).window
   L_server = omega arith
 
-  abbrev FlowOf : ℕ → ClientTransaction → Option ServerTransaction → List Copy → Type 0
+  abbrev FlowOf : Hands → ClientTransaction → Option ServerTransaction → List Copy → Type 0
   FlowOf now t o copies = Flow W x key now t.ask t.repeats t.phase o copies
 
   -- What a client's sends say of limits.
@@ -147,12 +152,15 @@ module _ (W : ℕ) (x : Rules) (bound : IsBounded W x) (key : Key) (some : 0 < l
 
   -- A client's reaction.
 
-  module _ (now : ℕ) (t : ClientTransaction) (o : Option ServerTransaction) (copies : List Copy) (flow : FlowOf now t o copies) where
+  module _ (times : Moments) (t : ClientTransaction) (o : Option ServerTransaction) (copies : List Copy) (flow : FlowOf (hands_of times) t o copies) where
+    abbrev now : Hands
+    now = hands_of times
+
     abbrev FineOf : Reaction → Type 0
     FineOf r = of_client.Fine W x key now t.ask t.repeats t.phase o copies some L_small L_client flow.some r
 
     reaction_flows : (r : Reaction) → FineOf r → Each (SaysLimits (x.settings key.client).limits) (client.sends_of r)
-        → Each (λ a. is_from_client a ≡ true) (client.sends_of r) → FlowOf now (client.after now t r) o (sent now (client.sends_of r) copies)
+        → Each (λ a. is_from_client a ≡ true) (client.sends_of r) → FlowOf now (client.after now.client t r) o (sent now.now (client.sends_of r) copies)
     reaction_flows Stays fine limits own = flow
     reaction_flows (GoesOn next sends) fine limits own =
         client_flows W x key now t.ask t.phase o copies t.repeats t.repeats next sends (λ e. e) flow.few flow fine limits own
@@ -162,20 +170,20 @@ module _ (W : ℕ) (x : Rules) (bound : IsBounded W x) (key : Key) (some : 0 < l
     reaction_flows (Ends sends how) fine limits own =
         client_flows W x key now t.ask t.phase o copies t.repeats t.repeats Idle sends (λ e. e) flow.few flow tt limits own
 
-    pub ticks_flow : (readable : Readable) → FlowOf now (client.after now t (client.client_ticks (client_context x key now) t)) o
-        (sent now (client.sends_of (client.client_ticks (client_context x key now) t)) copies)
+    pub ticks_flow : (readable : Readable) → FlowOf now (client.after now.client t (client.client_ticks (client_context x key now.client) t)) o
+        (sent now.now (client.sends_of (client.client_ticks (client_context x key now.client) t)) copies)
     ticks_flow readable =
-        let c = client_context x key now in
+        let c = client_context x key now.client in
         let r = client.client_ticks c t in
         reaction_flows r
         (of_client.ticks_fine W x key now t.ask t.repeats t.phase o copies some L_small L_client flow.some t refl refl refl flow.client flow.taken_down
         flow.few)
-        (tick_limits now readable t) (up_of key.invoke_id (client.sends_of r) (client_sends_own.ticks c t))
+        (tick_limits now.client readable t) (up_of key.invoke_id (client.sends_of r) (client_sends_own.ticks c t))
 
     -- a segment of the reply comes, with k later copies
     module _ (V k : ℕ) (late : k ≤ V) (room : V + 2 * W ≤ 255) where
       abbrev Responds : (Outgoing → Type 0) → Type 0
-      Responds P = (e : ServerTransaction) → o ≡ Some e → t.ask.first ≤ e.begin → (out : Outgoing) (transfer : server.Transfer) (since : ℕ)
+      Responds P = (e : ServerTransaction) → o ≡ Some e → is_live now.server e ≡ true → (out : Outgoing) (transfer : server.Transfer) (since : ℕ)
           → e.state ≡ SegmentedResponse out transfer since → P out
 
       abbrev TakingOf : Taking → Type 0
@@ -227,41 +235,41 @@ module _ (W : ℕ) (x : Rules) (bound : IsBounded W x) (key : Key) (some : 0 < l
     pub gets_flow : (readable : Readable) (a : Apdu)
         → of_client.Granted W x key now t.ask t.repeats t.phase o copies some L_small L_client flow.some a
         → of_client.ComesFine W x key now t.ask t.repeats t.phase o copies some L_small L_client flow.some readable a
-        → FlowOf now (client.after now t (client.client_on_apdu (client_context x key now) readable t a)) o
-        (sent now (client.sends_of (client.client_on_apdu (client_context x key now) readable t a)) copies)
+        → FlowOf now (client.after now.client t (client.client_on_apdu (client_context x key now.client) readable t a)) o
+        (sent now.now (client.sends_of (client.client_on_apdu (client_context x key now.client) readable t a)) copies)
     gets_flow readable a granted comes =
-        let c = client_context x key now in
+        let c = client_context x key now.client in
         let r = client.client_on_apdu c readable t a in
         reaction_flows r
         (of_client.gets_fine W x key now t.ask t.repeats t.phase o copies some L_small L_client flow.some readable t refl refl flow.client a granted comes)
-        (of_client_limits now readable t a) (up_of key.invoke_id (client.sends_of r) (client_sends_own.gets c readable t a))
+        (of_client_limits now.client readable t a) (up_of key.invoke_id (client.sends_of r) (client_sends_own.gets c readable t a))
 
     -- A server's reaction.
 
     abbrev FineAt : server.Reaction → Type 0
     FineAt v = of_server.Fine x.overtake W x key now t.ask t.repeats t.phase o copies flow some L_small L_server bound.room v
 
-    pub served_flow : (v : server.Reaction) → FineAt v → FlowOf now t v.entry (sent now v.sends copies)
+    pub served_flow : (v : server.Reaction) → FineAt v → FlowOf now t v.entry (sent now.now v.sends copies)
     served_flow v fine = server_flows W x key now t.ask t.repeats t.phase o copies v flow fine.0
         (of_server.entry_flows x.overtake W x key now t.ask t.repeats t.phase o copies flow some L_small L_server bound.room v fine)
 
-    pub entry_ticks_flow : FlowOf now t (server.server_ticks (server_context x key now) o).entry
-        (sent now (server.server_ticks (server_context x key now) o).sends copies)
-    entry_ticks_flow = served_flow (server.server_ticks (server_context x key now) o)
+    pub entry_ticks_flow : FlowOf now t (server.server_ticks (server_context x key now.server) o).entry
+        (sent now.now (server.server_ticks (server_context x key now.server) o).sends copies)
+    entry_ticks_flow = served_flow (server.server_ticks (server_context x key now.server) o)
         (of_server.ticks_fine x.overtake W x key now t.ask t.repeats t.phase o copies flow some L_small L_server bound.room o refl)
 
     -- What is known of the transaction.
-    module _ (opens asks number : ℕ) (log : List Fact) (up : Up) (down : Down) (s : Sound W key opens now asks number t o copies log up down) where
+    module _ (asks number : ℕ) (log : List Fact) (up : Up) (down : Down) (s : Sound W key times asks number t o copies log up down) where
       abbrev UnsentNow : Type 0
       UnsentNow = IsUnsent x.overtake W x key now t.ask t.repeats t.phase o copies flow some L_small L_server bound.room
 
       unsent : down ≡ Unsent → UnsentNow
       unsent none =
-          let arriving = subst (λ (y : Down). EachCopy (λ k c. now - c.moment ≤ LIFE → (t.ask.first ≤ c.moment)
-          × Says W number t.ask log up y c.moment k c.apdu) copies) none s.arriving in
+          let arriving = subst (λ (y : Down). EachCopy (λ k c. now.now - c.moment ≤ now.life → (times.made ≤ c.moment)
+          × Says W times number t.ask log up y c.moment k c.apdu) copies) none s.arriving in
           let fits = subst (λ (y : Down). ClientFits W t.ask t.phase up y) none s.client in
           record {
-            none_down = λ ps r k c e young. no_segment W x.overtake number now t.ask log up c.moment k ps r c.apdu ((arriving k c e young).1);
+            none_down = λ ps r k c e young. no_segment W x.overtake times number now.now t.ask log up c.moment k ps r c.apdu ((arriving k c e young).1);
             not_collecting = λ inc is. not_collected W t.ask inc up (subst (λ (ph : Phase). ClientFits W t.ask ph up Unsent) is fits);
           }
 
@@ -270,32 +278,48 @@ module _ (W : ℕ) (x : Rules) (bound : IsBounded W x) (key : Key) (some : 0 < l
           let pieces = sending_whole W t.ask out all up down (subst (λ (ph : Phase). ClientFits W t.ask ph up down) is s.client) in
           absurd (let z = sym whole ∙ pieces in cc)
 
+      dead_over : (e : ServerTransaction) → IsBegunSince times e.begin → KEEP < now.server - e.begin → (m : ℕ) → now.now - m ≤ now.life → m ≤ times.until → ⊥
+      dead_over e begun dead m young early =
+          let after = begun.after in
+          let keeps = s.clock.timely.keeps in
+          let soon = s.clock.early in
+          let lt = beyond_least times.pace s.clock.timely KEEP begun.began e.begin times.now times.server s.clock.server begun.since (omega arith) in
+          omega arith
+
+      restarted_over : HasRestartedSince times → times.opens ≤ now.server → (m : ℕ) → now.now - m ≤ now.life → m ≤ times.until → ⊥
+      restarted_over lost waited m young early =
+          let is = lost.opens_is in
+          let after = lost.after in
+          let keeps = s.clock.timely.keeps in
+          let soon = s.clock.early in
+          let lt = beyond_least times.pace s.clock.timely KEEP lost.restarted lost.shown times.now times.server s.clock.server lost.since (omega arith) in
+          omega arith
+
       -- the entry is not live, while a copy of the client's may arrive
-      none_begun : (m : ℕ) → m ≤ client_until t.ask → now - m ≤ LIFE → (e : ServerTransaction) → o ≡ Some e → server.is_none_live now (Some e) ≡ true → down ≡ Unsent
+      none_begun : (m : ℕ) → m ≤ times.until → now.now - m ≤ now.life → (e : ServerTransaction) → o ≡ Some e → server.is_none_live now.server (Some e) ≡ true → down ≡ Unsent
       none_begun m sent_by young e at dead =
-          by_fit (subst (λ (y : Option ServerTransaction). ServerFits W opens number t.ask y up down log) at s.server)
+          by_fit (subst (λ (y : Option ServerTransaction). ServerFits W times number t.ask y up down log) at s.server)
         where
-          not_live : (b : Bool) → is_live now e ≡ b → (if b then false else true) ≡ true → is_live now e ≡ false
+          not_live : (b : Bool) → is_live now.server e ≡ b → (if b then false else true) ≡ true → is_live now.server e ≡ false
           not_live true l d = absurd cc
           not_live false l d = l
 
-          by_fit : ServerFits W opens number t.ask (Some e) up down log → down ≡ Unsent
+          by_fit : ServerFits W times number t.ask (Some e) up down log → down ≡ Unsent
           by_fit (inl past) = unbegun_down number up down log past.unbegun
           by_fit (inr begun) =
-              let after = begun.after in
-              let l = not_live (is_live now e) refl dead in
-              absurd (grind (arith, nat_tests))
+              let l = not_live (is_live now.server e) refl dead in
+              absurd (dead_over e begun.begun (grind (arith, nat_tests)) m young sent_by)
 
       -- a live entry was begun for the ask
-      pub live_begun : (e : ServerTransaction) → o ≡ Some e → is_live now e ≡ true
-          → (t.ask.first ≤ e.begin) × StateFits W number t.ask e.state up down log
-      live_begun e at live = by_fit (subst (λ (y : Option ServerTransaction). ServerFits W opens number t.ask y up down log) at s.server)
+      pub live_begun : (e : ServerTransaction) → o ≡ Some e → is_live now.server e ≡ true
+          → StateFits W number t.ask e.state up down log
+      live_begun e at live = by_fit (subst (λ (y : Option ServerTransaction). ServerFits W times number t.ask y up down log) at s.server)
         where
-          by_fit : ServerFits W opens number t.ask (Some e) up down log → (t.ask.first ≤ e.begin) × StateFits W number t.ask e.state up down log
-          by_fit (inl past) = let d = past.dead in let c = s.clock in absurd (grind (arith, nat_tests))
-          by_fit (inr begun) = (begun.after, begun.state)
+          by_fit : ServerFits W times number t.ask (Some e) up down log → StateFits W number t.ask e.state up down log
+          by_fit (inl past) = let d = past.dead in absurd (grind (arith, nat_tests))
+          by_fit (inr begun) = begun.state
 
-      known : (service : Service) (k : ℕ) (late : k ≤ x.overtake) (e : ServerTransaction) (at : o ≡ Some e) (begun : t.ask.first ≤ e.begin)
+      known : (service : Service) (k : ℕ) (late : k ≤ x.overtake) (e : ServerTransaction) (at : o ≡ Some e) (begun : is_live now.server e ≡ true)
           → (st : State) → StateFits W number t.ask st up down log
           → of_server.IsKnown x.overtake W x key now t.ask t.repeats t.phase o copies flow some L_small L_server bound.room service k late apart e at begun st
       known service k late e at begun st fits = go st up down refl refl fits
@@ -320,12 +344,12 @@ module _ (W : ℕ) (x : Rules) (bound : IsBounded W x) (key : Key) (some : 0 < l
           go (SegmentedResponse out transfer since) u v is none f = tt
           go Dropped u v is none f = tt
 
-      says_of : (k : ℕ) (copy : Copy) → slice_get copies k ≡ Some copy → now - copy.moment ≤ LIFE
-          → Says W number t.ask log up down copy.moment k copy.apdu
+      says_of : (k : ℕ) (copy : Copy) → slice_get copies k ≡ Some copy → now.now - copy.moment ≤ now.life
+          → Says W times number t.ask log up down copy.moment k copy.apdu
       says_of k copy at young = (s.arriving k copy at young).1
 
       -- a copy of the client's, with k later ones
-      comes_up : (k m : ℕ) (a : Apdu) → slice_get copies k ≡ Some (record { moment = m; apdu = a }) → now - m ≤ LIFE
+      comes_up : (k m : ℕ) (a : Apdu) → slice_get copies k ≡ Some (record { moment = m; apdu = a }) → now.now - m ≤ now.life
           → is_from_client a ≡ true → IsSentByClient x key a ⊎ IsSentByServer x key a
           → of_server.ComesUp x.overtake W x key now t.ask t.repeats t.phase o copies flow some L_small L_server bound.room k a
       comes_up k m (ConfirmedRequest l id None choice octets) at young comes own =
@@ -350,38 +374,38 @@ module _ (W : ℕ) (x : Rules) (bound : IsBounded W x) (key : Key) (some : 0 < l
       comes_up k m (Reject id r) at young comes own = tt
       comes_up k m (Abort b id r) at young comes own = tt
 
-      pub served_by : (service : Service) (free : Bool) → (free ≡ true → opens ≤ now) → (k m : ℕ) (late : k ≤ x.overtake) (a : Apdu)
+      pub served_by : (service : Service) (free : Bool) → (free ≡ true → times.opens ≤ now.server) → (k m : ℕ) (late : k ≤ x.overtake) (a : Apdu)
           → slice_get copies k ≡ Some (record { moment = m; apdu = a })
-          → now - m ≤ LIFE → is_from_client a ≡ true → IsSentByClient x key a ⊎ IsSentByServer x key a
-          → (y : Option ServerTransaction) → o ≡ y → FineAt (server.server_on_apdu (server_context x key now) service y free a)
+          → now.now - m ≤ now.life → is_from_client a ≡ true → IsSentByClient x key a ⊎ IsSentByServer x key a
+          → (y : Option ServerTransaction) → o ≡ y → FineAt (server.server_on_apdu (server_context x key now.server) service y free a)
       served_by service free opened k m late a at young comes own None is =
-          by_fit (subst (λ (y : Option ServerTransaction). ServerFits W opens number t.ask y up down log) is s.server) free opened
+          by_fit (subst (λ (y : Option ServerTransaction). ServerFits W times number t.ask y up down log) is s.server) free opened
         where
-          sent_by : m ≤ client_until t.ask
-          sent_by = client_moment W number t.ask log up down m k a comes (says_of k (record { moment = m; apdu = a }) at young)
+          sent_by : m ≤ times.until
+          sent_by = client_moment W times number t.ask log up down m k a comes (says_of k (record { moment = m; apdu = a }) at young)
 
-          by_fit : ServerFits W opens number t.ask None up down log → (b : Bool) → (b ≡ true → opens ≤ now)
-              → FineAt (server.idle_on_apdu (server_context x key now) service None b a)
+          by_fit : ServerFits W times number t.ask None up down log → (b : Bool) → (b ≡ true → times.opens ≤ now.server)
+              → FineAt (server.idle_on_apdu (server_context x key now.server) service None b a)
           by_fit (inl un) b unwaited =
               of_server.idle_fine x.overtake W x key now t.ask t.repeats t.phase o copies flow some L_small L_server bound.room service k late apart None is
               (unsent (unbegun_down number up down log un)) b a (comes_up k m a at young comes own)
-          by_fit (inr lost) true unwaited = let before = lost.before in let le = unwaited refl in let moment = sent_by in absurd (omega arith)
+          by_fit (inr lost) true unwaited = absurd (restarted_over lost.before (unwaited refl) m young sent_by)
           by_fit (inr lost) false unwaited =
               of_server.closed_fine x.overtake W x key now t.ask t.repeats t.phase o copies flow some L_small L_server bound.room service k late apart None is a
-      served_by service free opened k m late a at young comes own (Some e) is = go (is_live now e) refl
+      served_by service free opened k m late a at young comes own (Some e) is = go (is_live now.server e) refl
         where
           d : Context
-          d = server_context x key now
+          d = server_context x key now.server
 
-          go : (b : Bool) → is_live now e ≡ b → FineAt (if b then server.live_on_apdu d service e e.state a else server.idle_on_apdu d service (Some e) free a)
+          go : (b : Bool) → is_live now.server e ≡ b → FineAt (if b then server.live_on_apdu d service e e.state a else server.idle_on_apdu d service (Some e) free a)
           go true live =
               let f = live_begun e is live in
-              of_server.live_fine x.overtake W x key now t.ask t.repeats t.phase o copies flow some L_small L_server bound.room service k late apart e is f.0
-              e.state refl (known service k late e is f.0 e.state f.1) a (comes_up k m a at young comes own)
+              of_server.live_fine x.overtake W x key now t.ask t.repeats t.phase o copies flow some L_small L_server bound.room service k late apart e is live
+              e.state refl (known service k late e is live e.state f) a (comes_up k m a at young comes own)
           go false dead =
               let says = says_of k (record { moment = m; apdu = a }) at young in
               of_server.idle_fine x.overtake W x key now t.ask t.repeats t.phase o copies flow some L_small L_server bound.room service k late apart (Some e) is
-              (unsent (none_begun m (client_moment W number t.ask log up down m k a comes says) young e is
+              (unsent (none_begun m (client_moment W times number t.ask log up down m k a comes says) young e is
               (ap (λ b. if b then false else true) dead))) free a (comes_up k m a at young comes own)
 
       -- a copy of the server's, with k later ones
@@ -398,24 +422,24 @@ module _ (W : ℕ) (x : Rules) (bound : IsBounded W x) (key : Key) (some : 0 < l
       granted (Reject id r) down' own = tt
       granted (Abort b id r) down' own = tt
 
-      pub collecting_first : (inc : Incoming) → t.phase ≡ SegmentedConf inc → (e : ServerTransaction) → o ≡ Some e → t.ask.first ≤ e.begin
+      pub collecting_first : (inc : Incoming) → t.phase ≡ SegmentedConf inc → (e : ServerTransaction) → o ≡ Some e → is_live now.server e ≡ true
           → (out : Outgoing) (transfer : server.Transfer) (since : ℕ) → e.state ≡ SegmentedResponse out transfer since → out.first ≤ length inc.parts
       collecting_first inc is e at begun out transfer since st =
-          by_fit (subst (λ (y : Option ServerTransaction). ServerFits W opens number t.ask y up down log) at s.server)
+          by_fit (subst (λ (y : Option ServerTransaction). ServerFits W times number t.ask y up down log) at s.server)
         where
           collects : CollectsDown inc down
           collects = subst (λ (ph : Phase). ClientFits W t.ask ph up down) is s.client
 
-          by_fit : ServerFits W opens number t.ask (Some e) up down log → out.first ≤ length inc.parts
-          by_fit (inl past) = let d = past.dead in absurd (omega arith)
+          by_fit : ServerFits W times number t.ask (Some e) up down log → out.first ≤ length inc.parts
+          by_fit (inl past) = let d = past.dead in absurd (grind (arith, nat_tests))
           by_fit (inr h) =
               let fits = subst (λ (y : State). StateFits W number t.ask y up down log) st h.state in
               collecting_behind W inc out down collects fits.sends
 
       pub heard_by : (readable : Readable) (k m : ℕ) (late : k ≤ x.overtake) (a : Apdu) → slice_get copies k ≡ Some (record { moment = m; apdu = a })
-          → now - m ≤ LIFE → is_from_client a ≡ false → IsSentByClient x key a ⊎ IsSentByServer x key a
-          → FlowOf now (client.after now t (client.client_on_apdu (client_context x key now) readable t a)) o
-          (sent now (client.sends_of (client.client_on_apdu (client_context x key now) readable t a)) copies)
+          → now.now - m ≤ now.life → is_from_client a ≡ false → IsSentByClient x key a ⊎ IsSentByServer x key a
+          → FlowOf now (client.after now.client t (client.client_on_apdu (client_context x key now.client) readable t a)) o
+          (sent now.now (client.sends_of (client.client_on_apdu (client_context x key now.client) readable t a)) copies)
       heard_by readable k m late a at young comes own =
           gets_flow readable a (granted a comes own)
           (comes_fine x.overtake k late bound.room readable a

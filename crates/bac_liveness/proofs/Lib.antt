@@ -2,6 +2,7 @@ pub mod Paths
 pub mod Opens
 pub mod Changes
 pub mod Endings
+pub mod Clocks
 pub mod Serving
 pub mod Kept
 pub mod Awaiting
@@ -11,6 +12,14 @@ pub mod Ticking
 pub mod Robust
 pub mod Resuming
 pub mod Turning
+pub mod Flow
+pub mod ClientFlows
+pub mod ServerFlows
+pub mod InRun
+pub mod Lifted
+pub mod There
+pub mod Standing
+pub mod SentAll
 pub mod Deliveries
 pub mod Windows
 pub mod Acks
@@ -24,13 +33,6 @@ pub mod Turned
 pub mod Retried
 pub mod Answering
 pub mod AnyTurn
-pub mod Flow
-pub mod ClientFlows
-pub mod ServerFlows
-pub mod InRun
-pub mod Lifted
-pub mod Standing
-pub mod SentAll
 pub mod Computed
 pub mod Staying
 pub mod Following

@@ -1,8 +1,7 @@
 -- A run of events is a path of single steps of one end, or of asks, of time, of changes at nodes, or of restarts. Of each delivery to a server a premise
 -- says with which service it comes, and whether a slot is free.
-use Rattle.std.proofs.Common.{◌≡◌, ℕ, zero, suc, ◌+◌, ◌≤◌, Bool, true, false, List, [], ◌∷◌, ◌++◌, map, Option, Some, None, slice_get, if◌then◌else◌}
-use Rattle.std.proofs.Common.{nat_eq, refl, inr, arith}
-use Rattle.bac_protocol.specs.declared.times.TheConstants.{KEEP, REST}
+use Rattle.std.proofs.Common.{◌≡◌, ℕ, zero, suc, ◌+◌, ◌<◌, ◌≤◌, Bool, true, false, List, [], ◌∷◌, ◌++◌, map, Option, Some, None, slice_get, if◌then◌else◌}
+use Rattle.std.proofs.Common.{◌⊎◌, nat_eq, refl, inl, inr, subst, arith}
 use Rattle.bac_protocol.specs.Service.{Octets, Ending}
 use Rattle.bac_protocol.specs.Wire.{is_from_client}
 use Rattle.bac_protocol.specs.Client as client
@@ -13,7 +12,10 @@ use Rattle.bac_protocol.specs.Log.{Fact, StoreModel}
 use Rattle.bac_protocol.specs.Log.Fact.{Ended, Changed, Restarted}
 use Rattle.bac_protocol.specs.Transaction.{Key, Rules, client_context, server_context, ended, performed}
 use Rattle.bac_protocol.specs.World.{Net, World, Post, Event, is_deliverable, is_id_held, is_room, asked_at, ask_made, server_acts, notes_change, client_restarted, server_restarted}
-use Rattle.bac_protocol.specs.World.{takes_at_client, takes_at_server}
+use Rattle.bac_protocol.specs.Pace.{Pace}
+use Rattle.bac_protocol.specs.World.{set_at}
+use Rattle.bac_protocol.proofs.Keys.{decide_key, set_same, set_other}
+use Rattle.bac_protocol.specs.World.{client_now, server_now, passes, takes_at_client, takes_at_server}
 use Rattle.bac_protocol.specs.World.{net_start, delivered, happens, run, ticks_ticket, ticks_as_client, ticks_as_server, serves, service_of, post_of}
 use Rattle.bac_protocol.specs.World.Event.{MakeAsk, Deliver, Tick, Noise, Advance, Change, RestartClient, RestartServer}
 use Rattle.bac_protocol.specs.Moves.{taken_by_client, taken_by_server, ticket_ticked}
@@ -29,29 +31,29 @@ ask_of now choice whole front rest = record { first = now; choice = choice; whol
 -- the copy of that number may be delivered
 pub record Comes (x : Rules) (n : Net) (number : ℕ) (p : Post) : Type 0 where
   pub at : slice_get n.posts number ≡ Some p
-  pub arrives : is_deliverable x n.now number n.posts p ≡ true
+  pub arrives : is_deliverable x n number p ≡ true
 
 pub data Step (x : Rules) (Q : Net → ℕ → Bool → Service → Type 0) (n : Net) : Net → Type 0 where
   Asks : (key : Key) (choice : ℕ) (whole : Bool) (front : Octets) (rest : List Octets) → is_id_held n key ≡ false
-      → Step x Q n (asked_at x n key (ask_of n.now choice whole front rest))
+      → Step x Q n (asked_at x n key (ask_of (client_now n key) choice whole front rest))
   Serves : (number : ℕ) (p : Post) (free : Bool) (service : Service) → Comes x n number p → is_from_client p.copy.apdu ≡ true
       → Q n number free service → Step x Q n (taken_by_server x n p free service)
   Hears : (number : ℕ) (p : Post) (t : ClientTransaction) → Comes x n number p → is_from_client p.copy.apdu ≡ false → n.tickets p.key ≡ Some t
       → Step x Q n (taken_by_client x n p (Some t))
   TicksTicket : (key : Key) (t : ClientTransaction) → n.tickets key ≡ Some t → Step x Q n (ticket_ticked x n key (Some t))
-  TicksEntry : (key : Key) → Step x Q n (server_acts n key (server.server_ticks (server_context x key n.now) (n.entries key)))
-  Passes : (by : ℕ) → Step x Q n (record n { now = n.now + by })
+  TicksEntry : (key : Key) → Step x Q n (server_acts n key (server.server_ticks (server_context x key (server_now n key)) (n.entries key)))
+  Passes : (by : ℕ) (clients servers : ℕ → ℕ) → Step x Q n (passes n by clients servers)
   Changes : (node : ℕ) (change : Octets) → Step x Q n (notes_change n node change)
-  RestartsClient : (node : ℕ) → Step x Q n (client_restarted n node)
-  RestartsServer : (node : ℕ) (store : Option Octets) → Step x Q n (server_restarted n node store)
+  RestartsClient : (node exact : ℕ) → Step x Q n (client_restarted n node exact)
+  RestartsServer : (node exact : ℕ) (store : Option Octets) → Step x Q n (server_restarted n node exact store)
 
--- where no end waits longer than after a restart that is made now
+-- no ask was made later than now, and no client restarted later
 pub record Bounded (n : Net) : Type 0 where
-  pub asks : (node : ℕ) → n.asks_from node ≤ n.now + REST + 1
-  pub serves : (node : ℕ) → n.serves_from node ≤ n.now + KEEP + 1
+  pub made : (key : Key) → n.made key ≤ n.now
+  pub lives : (node : ℕ) → n.restarted node ≤ n.now + 1
 
-pub bounded_start : Bounded net_start
-bounded_start = record { asks = λ node. omega arith; serves = λ node. omega arith }
+pub bounded_start : (pace : Pace) (clocks : ℕ → ℕ) → Bounded (net_start pace clocks)
+bounded_start pace clocks = record { made = λ key. omega arith; lives = λ node. omega arith }
 
 pub data Path (x : Rules) (Q : Net → ℕ → Bool → Service → Type 0) (from : Net) : Net → Type 0 where
   Here : Path x Q from from
@@ -79,100 +81,91 @@ module _ (x : Rules) (Q : Net → ℕ → Bool → Service → Type 0) where
   step_now n _ (Hears number p t at down there) = omega arith
   step_now n _ (TicksTicket key t there) = omega arith
   step_now n _ (TicksEntry key) = omega arith
-  step_now n _ (Passes by) = omega arith
+  step_now n _ (Passes by clients servers) = omega arith
   step_now n _ (Changes node change) = omega arith
-  step_now n _ (RestartsClient node) = omega arith
-  step_now n _ (RestartsServer node store) = omega arith
+  step_now n _ (RestartsClient node exact) = omega arith
+  step_now n _ (RestartsServer node exact store) = omega arith
 
   pub step_log : (n m : Net) → Step x Q n m → Grows n.log m.log
   step_log n _ (Asks key choice whole front rest free) = λ f h. inr h
   step_log n _ (Serves number p free service at up q) =
-      grows_performed (n.numbers p.key) (server.server_on_apdu (server_context x p.key n.now) service (n.entries p.key) (is_room n p.key free) p.copy.apdu).effect n.log
+      grows_performed (n.numbers p.key) (server.server_on_apdu (server_context x p.key (server_now n p.key)) service (n.entries p.key) (is_room n p.key free) p.copy.apdu).effect n.log
   step_log n _ (Hears number p t at down there) =
-      grows_ended (n.numbers p.key) (client.ending_of (client.client_on_apdu (client_context x p.key n.now) x.readable t p.copy.apdu)) n.log
-  step_log n _ (TicksTicket key t there) = grows_ended (n.numbers key) (client.ending_of (client.client_ticks (client_context x key n.now) t)) n.log
-  step_log n _ (TicksEntry key) = grows_performed (n.numbers key) (server.server_ticks (server_context x key n.now) (n.entries key)).effect n.log
-  step_log n _ (Passes by) = grows_same n.log
+      grows_ended (n.numbers p.key) (client.ending_of (client.client_on_apdu (client_context x p.key (client_now n p.key)) x.readable t p.copy.apdu)) n.log
+  step_log n _ (TicksTicket key t there) = grows_ended (n.numbers key) (client.ending_of (client.client_ticks (client_context x key (client_now n key)) t)) n.log
+  step_log n _ (TicksEntry key) = grows_performed (n.numbers key) (server.server_ticks (server_context x key (server_now n key)) (n.entries key)).effect n.log
+  step_log n _ (Passes by clients servers) = grows_same n.log
   step_log n _ (Changes node change) = grows_more (Changed node change) n.log
-  step_log n _ (RestartsClient node) = grows_same n.log
-  step_log n _ (RestartsServer node store) = grows_more (Restarted node store) n.log
+  step_log n _ (RestartsClient node exact) = grows_same n.log
+  step_log n _ (RestartsServer node exact store) = grows_more (Restarted node store) n.log
 
   pub step_posts : (n m : Net) → Step x Q n m → (i : ℕ) (q : Post) → slice_get n.posts i ≡ Some q → slice_get m.posts i ≡ Some q
   step_posts n _ (Asks key choice whole front rest free) i q e =
-      let c = client_context x key n.now in
-      front_stays n.posts (map (post_of key n.now) (client.sends_of (client.asks c (ask_of n.now choice whole front rest)))) i q e
+      let c = client_context x key (client_now n key) in
+      front_stays n.posts (map (post_of key n.now) (client.sends_of (client.asks c (ask_of (client_now n key) choice whole front rest)))) i q e
   step_posts n _ (Serves number p free service at up y) i q e =
       front_stays n.posts (map (post_of p.key n.now)
-      (server.server_on_apdu (server_context x p.key n.now) service (n.entries p.key) (is_room n p.key free) p.copy.apdu).sends) i q e
+      (server.server_on_apdu (server_context x p.key (server_now n p.key)) service (n.entries p.key) (is_room n p.key free) p.copy.apdu).sends) i q e
   step_posts n _ (Hears number p t at down there) i q e =
       front_stays n.posts (map (post_of p.key n.now)
-      (client.sends_of (client.client_on_apdu (client_context x p.key n.now) x.readable t p.copy.apdu))) i q e
+      (client.sends_of (client.client_on_apdu (client_context x p.key (client_now n p.key)) x.readable t p.copy.apdu))) i q e
   step_posts n _ (TicksTicket key t there) i q e =
-      front_stays n.posts (map (post_of key n.now) (client.sends_of (client.client_ticks (client_context x key n.now) t))) i q e
+      front_stays n.posts (map (post_of key n.now) (client.sends_of (client.client_ticks (client_context x key (client_now n key)) t))) i q e
   step_posts n _ (TicksEntry key) i q e =
-      front_stays n.posts (map (post_of key n.now) (server.server_ticks (server_context x key n.now) (n.entries key)).sends) i q e
-  step_posts n _ (Passes by) i q e = e
+      front_stays n.posts (map (post_of key n.now) (server.server_ticks (server_context x key (server_now n key)) (n.entries key)).sends) i q e
+  step_posts n _ (Passes by clients servers) i q e = e
   step_posts n _ (Changes node change) i q e = e
-  step_posts n _ (RestartsClient node) i q e = e
-  step_posts n _ (RestartsServer node store) i q e = e
+  step_posts n _ (RestartsClient node exact) i q e = e
+  step_posts n _ (RestartsServer node exact store) i q e = e
 
-  -- No end waits longer than from now on, so it never begins earlier again.
+  made_by : (n : Net) (key : Key) → Bounded n → (k : Key) → set_at n.made key n.now k ≤ n.now
+  made_by n key h k = go (decide_key key k)
+    where
+      go : ((key ≡ k) ⊎ (key ≡ k → ⊥)) → set_at n.made key n.now k ≤ n.now
+      go (inl is) = let e : set_at n.made key n.now k ≡ n.now = subst (λ (j : Key). set_at n.made key n.now j ≡ n.now) is (set_same n.made key n.now) in omega arith
+      go (inr ne) = let e = set_other n.made key n.now k ne in let le = h.made k in omega arith
 
   pub bounded_step : (n m : Net) → Step x Q n m → Bounded n → Bounded m
-  bounded_step n _ (Asks key choice whole front rest free) h = record { asks = h.asks; serves = h.serves }
-  bounded_step n _ (Serves number p free service at up q) h = record { asks = h.asks; serves = h.serves }
-  bounded_step n _ (Hears number p t at down there) h = record { asks = h.asks; serves = h.serves }
-  bounded_step n _ (TicksTicket key t there) h = record { asks = h.asks; serves = h.serves }
-  bounded_step n _ (TicksEntry key) h = record { asks = h.asks; serves = h.serves }
-  bounded_step n _ (Passes by) h = record {
-    asks = λ node. let le = h.asks node in omega arith;
-    serves = λ node. let le = h.serves node in omega arith;
-  }
-  bounded_step n _ (Changes node change) h = record { asks = h.asks; serves = h.serves }
-  bounded_step n _ (RestartsClient node) h = record { asks = λ i. go i (nat_eq i node); serves = h.serves }
+  bounded_step n _ (Asks key choice whole front rest free) h = record { made = made_by n key h; lives = h.lives }
+  bounded_step n _ (Serves number p free service at up q) h = record { made = h.made; lives = h.lives }
+  bounded_step n _ (Hears number p t at down there) h = record { made = h.made; lives = h.lives }
+  bounded_step n _ (TicksTicket key t there) h = record { made = h.made; lives = h.lives }
+  bounded_step n _ (TicksEntry key) h = record { made = h.made; lives = h.lives }
+  bounded_step n _ (Passes by clients servers) h =
+      record { made = λ key. let le = h.made key in omega arith; lives = λ node. let le = h.lives node in omega arith }
+  bounded_step n _ (Changes node change) h = record { made = h.made; lives = h.lives }
+  bounded_step n _ (RestartsClient node exact) h = record { made = h.made; lives = λ i. go i (nat_eq i node) }
     where
-      go : (i : ℕ) (b : Bool) → (if b then n.now + REST + 1 else n.asks_from i) ≤ n.now + REST + 1
+      go : (i : ℕ) (b : Bool) → (if b then n.now + 1 else n.restarted i) ≤ n.now + 1
       go i true = omega arith
-      go i false = h.asks i
-  bounded_step n _ (RestartsServer node store) h = record { asks = h.asks; serves = λ i. go i (nat_eq i node) }
-    where
-      go : (i : ℕ) (b : Bool) → (if b then n.now + KEEP + 1 else n.serves_from i) ≤ n.now + KEEP + 1
-      go i true = omega arith
-      go i false = h.serves i
+      go i false = h.lives i
+  bounded_step n _ (RestartsServer node exact store) h = record { made = h.made; lives = h.lives }
 
-  pub step_asks_from : (n m : Net) → Step x Q n m → Bounded n → (i : ℕ) → n.asks_from i ≤ m.asks_from i
-  step_asks_from n _ (Asks key choice whole front rest free) h i = omega arith
-  step_asks_from n _ (Serves number p free service at up q) h i = omega arith
-  step_asks_from n _ (Hears number p t at down there) h i = omega arith
-  step_asks_from n _ (TicksTicket key t there) h i = omega arith
-  step_asks_from n _ (TicksEntry key) h i = omega arith
-  step_asks_from n _ (Passes by) h i = omega arith
-  step_asks_from n _ (Changes node change) h i = omega arith
-  step_asks_from n _ (RestartsClient node) h i = go (nat_eq i node)
+  pub step_restarted : (n m : Net) → Step x Q n m → Bounded n → (i : ℕ) → n.restarted i ≤ m.restarted i
+  step_restarted n _ (Asks key choice whole front rest free) h i = omega arith
+  step_restarted n _ (Serves number p free service at up q) h i = omega arith
+  step_restarted n _ (Hears number p t at down there) h i = omega arith
+  step_restarted n _ (TicksTicket key t there) h i = omega arith
+  step_restarted n _ (TicksEntry key) h i = omega arith
+  step_restarted n _ (Passes by clients servers) h i = omega arith
+  step_restarted n _ (Changes node change) h i = omega arith
+  step_restarted n _ (RestartsClient node exact) h i = go (nat_eq i node)
     where
-      go : (b : Bool) → n.asks_from i ≤ (if b then n.now + REST + 1 else n.asks_from i)
-      go true = h.asks i
+      go : (b : Bool) → n.restarted i ≤ (if b then n.now + 1 else n.restarted i)
+      go true = h.lives i
       go false = omega arith
-  step_asks_from n _ (RestartsServer node store) h i = omega arith
-
-  pub step_serves_from : (n m : Net) → Step x Q n m → Bounded n → (i : ℕ) → n.serves_from i ≤ m.serves_from i
-  step_serves_from n _ (Asks key choice whole front rest free) h i = omega arith
-  step_serves_from n _ (Serves number p free service at up q) h i = omega arith
-  step_serves_from n _ (Hears number p t at down there) h i = omega arith
-  step_serves_from n _ (TicksTicket key t there) h i = omega arith
-  step_serves_from n _ (TicksEntry key) h i = omega arith
-  step_serves_from n _ (Passes by) h i = omega arith
-  step_serves_from n _ (Changes node change) h i = omega arith
-  step_serves_from n _ (RestartsClient node) h i = omega arith
-  step_serves_from n _ (RestartsServer node store) h i = go (nat_eq i node)
-    where
-      go : (b : Bool) → n.serves_from i ≤ (if b then n.now + KEEP + 1 else n.serves_from i)
-      go true = h.serves i
-      go false = omega arith
+  step_restarted n _ (RestartsServer node exact store) h i = omega arith
 
   pub path_bounded : (n m : Net) → Path x Q n m → Bounded n → Bounded m
   path_bounded n _ Here h = h
   path_bounded n _ (Then l m p s) h = bounded_step l m s (path_bounded n l p h)
+
+  pub path_restarted : (n m : Net) → Path x Q n m → Bounded n → (i : ℕ) → n.restarted i ≤ m.restarted i
+  path_restarted n _ Here h i = omega arith
+  path_restarted n _ (Then l m p s) h i =
+      let a = path_restarted n l p h i in
+      let b = step_restarted l m s (path_bounded n l p h) i in
+      omega arith
 
   pub path_now : (n m : Net) → Path x Q n m → n.now ≤ m.now
   path_now n _ Here = omega arith
@@ -198,15 +191,15 @@ module _ (x : Rules) (Q : Net → ℕ → Bool → Service → Type 0) where
     -- what the premise says of an event
     abbrev pub Gives : World S → Event → Type 0
     Gives w (Deliver number free) = (p : Post) → slice_get w.net.posts number ≡ Some p → is_from_client p.copy.apdu ≡ true
-        → is_deliverable x w.net.now number w.net.posts p ≡ true → Q w.net number free (service_of S model w p.key)
+        → is_deliverable x w.net number p ≡ true → Q w.net number free (service_of S model w p.key)
     Gives w _ = Unit {0}
 
     pub ask_path : (w : World S) (key : Key) (choice : ℕ) (whole : Bool) (front : Octets) (rest : List Octets) (b : Bool)
         → is_id_held w.net key ≡ b
-        → Path x Q w.net (if b then w else ask_made S x w key (ask_of w.net.now choice whole front rest)).net
+        → Path x Q w.net (if b then w else ask_made S x w key (ask_of (client_now w.net key) choice whole front rest)).net
     ask_path w key choice whole front rest true e = Here
     ask_path w key choice whole front rest false e =
-        step_path w.net (asked_at x w.net key (ask_of w.net.now choice whole front rest)) (Asks key choice whole front rest e)
+        step_path w.net (asked_at x w.net key (ask_of (client_now w.net key) choice whole front rest)) (Asks key choice whole front rest e)
 
     hears_path : (w : World S) (number : ℕ) (p : Post) → Comes x w.net number p → is_from_client p.copy.apdu ≡ false → (o : Option ClientTransaction)
         → w.net.tickets p.key ≡ o → Path x Q w.net (takes_at_client S x w p.key p.copy.apdu o).net
@@ -216,9 +209,9 @@ module _ (x : Rules) (Q : Net → ℕ → Bool → Service → Type 0) where
     delivered_path : (w : World S) (number : ℕ) (free : Bool) → Gives w (Deliver number free) → (o : Option Post) → slice_get w.net.posts number ≡ o
         → Path x Q w.net (delivered S model x w number free o).net
     delivered_path w number free q None e = Here
-    delivered_path w number free q (Some p) e = go (is_deliverable x w.net.now number w.net.posts p) refl (is_from_client p.copy.apdu) refl
+    delivered_path w number free q (Some p) e = go (is_deliverable x w.net number p) refl (is_from_client p.copy.apdu) refl
       where
-        go : (b : Bool) → is_deliverable x w.net.now number w.net.posts p ≡ b → (d : Bool) → is_from_client p.copy.apdu ≡ d
+        go : (b : Bool) → is_deliverable x w.net number p ≡ b → (d : Bool) → is_from_client p.copy.apdu ≡ d
             → Path x Q w.net (if b then (if d then takes_at_server S model x w p.key free p.copy.apdu
             else takes_at_client S x w p.key p.copy.apdu (w.net.tickets p.key)) else w).net
         go false arrives d up = Here
@@ -241,7 +234,7 @@ module _ (x : Rules) (Q : Net → ℕ → Bool → Service → Type 0) where
     pub servers_path : (keys : List Key) (w : World S) → Path x Q w.net (ticks_as_server S model x keys w).net
     servers_path [] w = Here
     servers_path (key ∷ keys) w =
-        let u = serves S model w key (server.server_ticks (server_context x key w.net.now) (w.net.entries key)) in
+        let u = serves S model w key (server.server_ticks (server_context x key (server_now w.net key)) (w.net.entries key)) in
         path_then w.net u.net (ticks_as_server S model x keys u).net (step_path w.net u.net (TicksEntry key)) (servers_path keys u)
 
     pub event_path : (w : World S) (e : Event) → Gives w e → Path x Q w.net (happens S model x w e).net
@@ -251,10 +244,10 @@ module _ (x : Rules) (Q : Net → ℕ → Bool → Service → Type 0) where
         let u = ticks_as_client S x as_client w in
         path_then w.net u.net (ticks_as_server S model x as_server u).net (clients_path as_client w) (servers_path as_server u)
     event_path w Noise q = Here
-    event_path w (Advance by) q = step_path w.net (record w.net { now = w.net.now + by }) (Passes by)
+    event_path w (Advance by clients servers) q = step_path w.net (passes w.net by clients servers) (Passes by clients servers)
     event_path w (Change node change) q = step_path w.net (notes_change w.net node change) (Changes node change)
-    event_path w (RestartClient node) q = step_path w.net (client_restarted w.net node) (RestartsClient node)
-    event_path w (RestartServer node store) q = step_path w.net (server_restarted w.net node store) (RestartsServer node store)
+    event_path w (RestartClient node exact) q = step_path w.net (client_restarted w.net node exact) (RestartsClient node exact)
+    event_path w (RestartServer node exact store) q = step_path w.net (server_restarted w.net node exact store) (RestartsServer node exact store)
 
     pub run_path : (events : List Event) (w : World S) → Throughout S model x Gives events w → Path x Q w.net (run S model x events w).net
     run_path [] w q = Here
@@ -273,10 +266,10 @@ module _ (x : Rules) (S : Type 0) (model : StoreModel S) where
   any_event w (Deliver number free) = λ p at up arrives. tt
   any_event w (Tick as_client as_server) = tt
   any_event w Noise = tt
-  any_event w (Advance by) = tt
+  any_event w (Advance by clients servers) = tt
   any_event w (Change node change) = tt
-  any_event w (RestartClient node) = tt
-  any_event w (RestartServer node store) = tt
+  any_event w (RestartClient node exact) = tt
+  any_event w (RestartServer node exact store) = tt
 
   any_run : (events : List Event) (w : World S) → Throughout S model x (Gives x Any S model) events w
   any_run [] w = tt

@@ -18,7 +18,7 @@ use Rattle.bac_protocol.specs.Log.{Fact, StoreModel}
 use Rattle.bac_protocol.specs.Straight.{KindFits}
 use Rattle.bac_protocol.specs.Transaction.{Key, Rules, client_context, server_context}
 use Rattle.bac_protocol.proofs.Facts.{pieces_length}
-use Rattle.bac_protocol.proofs.Queue.{TransactionPair, served}
+use Rattle.bac_protocol.proofs.Queue.{Nows, TransactionPair, served}
 use Rattle.bac_liveness.proofs.Deliveries.{Within, within_then, one_step, no_step}
 use Rattle.bac_liveness.proofs.Windows.{repeated, one_more, length_repeated}
 use Rattle.bac_liveness.proofs.Serving.{serves_again, serves_segment, serves_stopped, serves_stopped_segment}
@@ -26,13 +26,13 @@ use Rattle.bac_liveness.proofs.Gets.{lives}
 use Rattle.bac_liveness.proofs.Downloads.{Waits, sending_waits}
 use Rattle.bac_liveness.proofs.Downloads as down
 
-module _ (S : Type 0) (model : StoreModel S) (x : Rules) (now number : ℕ) (key : Key) (ask : Ask) (young : client.is_expired now ask ≡ false)
-    (repeats begin : ℕ) (alive : nat_le (now - begin) KEEP ≡ true) (kept : Option Octets) (stores : ℕ → S) (log : List Fact) where
+module _ (S : Type 0) (model : StoreModel S) (x : Rules) (now : Nows) (number : ℕ) (key : Key) (ask : Ask) (young : client.is_expired now.here ask ≡ false)
+    (repeats begin : ℕ) (alive : nat_le (now.there - begin) KEEP ≡ true) (kept : Option Octets) (stores : ℕ → S) (log : List Fact) where
   abbrev c : Context
-  c = client_context x key now
+  c = client_context x key now.here
 
   abbrev d : Context
-  d = server_context x key now
+  d = server_context x key now.there
 
   abbrev service : Service
   service = model.outcome (stores key.server)
@@ -84,7 +84,7 @@ module _ (S : Type 0) (model : StoreModel S) (x : Rules) (now number : ℕ) (key
       let from = with_state t (Done a) (seg ∷ xs) in
       let mid = with_state t (Done a) (rest ++ repeated (suc i) a) in
       let e : suc i + w ≡ i + suc w = omega arith in
-      let one = one_step S model x now number key from mid xs seg refl (omega arith) going (lives now (in_state (Done a)) alive)
+      let one = one_step S model x now number key from mid xs seg refl (omega arith) going (lives now.there (in_state (Done a)) alive)
       (ap (λ (v : server.Reaction). served S model x now number key from xs v) (serves_segment d c service (in_state (Done a)) true ask a alive refl none first)
       ∙ ap (λ (ys : List Apdu). with_state t (Done a) ys) (one_more rest i a)) in
       within_then S model x now number key 1 w (suc w) from mid (with_state t (Done a) (repeated (i + suc w) a)) (omega arith) one
@@ -106,7 +106,7 @@ module _ (S : Type 0) (model : StoreModel S) (x : Rules) (now number : ℕ) (key
       (with_state t (Done a) (a ∷ repeated w a)) p (omega arith)
       (subst (λ (j : ℕ). Goes (suc w) from (with_state t (Done a) (repeated j a))) e one)
       (down.at_once S model x now number key ask young repeats begin alive kept stores log (Phase.SegmentedRequest out true) m (sending_waits out) refl p
-      (in_state (Done a)) (repeated w a) kind (lives now (in_state (Done a)) alive) (omega arith))
+      (in_state (Done a)) (repeated w a) kind (lives now.there (in_state (Done a)) alive) (omega arith))
 
   -- the whole request is sent again
   pub request_answered : (p : Reply) (phase : Phase) (m : ℕ) → Waits phase → is_idle phase ≡ false → kept ≡ Some (join ask.pieces)
@@ -117,11 +117,11 @@ module _ (S : Type 0) (model : StoreModel S) (x : Rules) (now number : ℕ) (key
       let from = with_state t (Done a) (request ∷ []) in
       let mid = with_state t (Done a) (a ∷ []) in
       down.ends_then S model x now number key ask young repeats begin alive kept stores log 1 1 2 from mid p (omega arith)
-      (one_step S model x now number key from mid [] request refl (omega arith) going (lives now (in_state (Done a)) alive)
+      (one_step S model x now number key from mid [] request refl (omega arith) going (lives now.there (in_state (Done a)) alive)
       (ap (λ (v : server.Reaction). served S model x now number key from [] v)
       (serves_again d c service (in_state (Done a)) true ask a alive refl refl same)))
       (down.at_once S model x now number key ask young repeats begin alive kept stores log phase m waits going p (in_state (Done a)) [] kind
-      (lives now (in_state (Done a)) alive) (omega arith))
+      (lives now.there (in_state (Done a)) alive) (omega arith))
 
   -- A reply in segments whose transfer has stopped.
 
@@ -129,7 +129,7 @@ module _ (S : Type 0) (model : StoreModel S) (x : Rules) (now number : ℕ) (key
   stopped out since = SegmentedResponse out Stopped since
 
   abbrev running : Outgoing → State
-  running out = SegmentedResponse (resume out) server.Transfer.Running now
+  running out = SegmentedResponse (resume out) server.Transfer.Running now.there
 
   abbrev window : Outgoing → List Apdu
   window out = server.reply_window d ask.choice (resume out)
@@ -140,7 +140,7 @@ module _ (S : Type 0) (model : StoreModel S) (x : Rules) (now number : ℕ) (key
   request_resumes t out since going same =
       let from = with_state t (stopped out since) (request ∷ []) in
       one_step S model x now number key from (with_state t (running out) (window out)) [] request refl (omega arith) going
-      (lives now (in_state (stopped out since)) alive)
+      (lives now.there (in_state (stopped out since)) alive)
       (ap (λ (v : server.Reaction). served S model x now number key from [] v)
       (serves_stopped d c service (in_state (stopped out since)) true ask out since alive refl refl same))
 
@@ -154,7 +154,7 @@ module _ (S : Type 0) (model : StoreModel S) (x : Rules) (now number : ℕ) (key
       let from = with_state t (stopped out since) (seg ∷ rest) in
       let mid = with_state t (running out) (rest ++ window out) in
       within_then S model x now number key 1 w (suc w) from mid (with_state t (running out) (window out)) (omega arith)
-      (one_step S model x now number key from mid rest seg refl (omega arith) going (lives now (in_state (stopped out since)) alive)
+      (one_step S model x now number key from mid rest seg refl (omega arith) going (lives now.there (in_state (stopped out since)) alive)
       (ap (λ (v : server.Reaction). served S model x now number key from rest v)
       (serves_stopped_segment d c service (in_state (stopped out since)) true ask out since alive refl refl none first)))
       (down.skips S model x now number key ask young repeats begin alive kept stores log w (first + 1) t (resume out) (window out) (λ h. none) going)

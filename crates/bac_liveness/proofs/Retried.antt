@@ -15,6 +15,7 @@ use Rattle.bac_protocol.specs.Server.{ServerTransaction, live_entry, is_live, is
 use Rattle.bac_protocol.specs.Log.{StoreModel}
 use Rattle.bac_protocol.specs.Transaction.{Key, Rules}
 use Rattle.bac_protocol.specs.Straight.{FitsData, RequestFits}
+use Rattle.bac_protocol.proofs.Queue.{Nows}
 use Rattle.bac_protocol.proofs.Carries.{Sender, Fitting}
 use Rattle.bac_liveness.specs.InStep.{IsAtStart, IsUnderway, IsSending, AreTogether}
 use Rattle.bac_liveness.proofs.Windows.{Channel}
@@ -49,7 +50,7 @@ together_again actual r ps out inc h = record {
   left = h.left;
 }
 
-module _ (S : Type 0) (model : StoreModel S) (x : Rules) (now number : ℕ) (key : Key) (actual own : ℕ) (ps : List Octets)
+module _ (S : Type 0) (model : StoreModel S) (x : Rules) (now : Nows) (number : ℕ) (key : Key) (actual own : ℕ) (ps : List Octets)
     (sizes : Fitting x.overtake actual own ps) (near : actual < 256) (c : Channel S model x now number key actual own ps) where
   pub round_of : (s : Sender) (inc : Incoming) → AreTogether actual ps s.out inc
       → IsRound S model x now number key actual own ps sizes near c s inc (length inc.parts)

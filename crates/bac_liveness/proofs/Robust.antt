@@ -19,7 +19,7 @@ use Rattle.bac_protocol.specs.Transaction.{Key, Rules, client_context}
 use Rattle.bac_protocol.specs.World.{Net, World, Post, Event, is_deliverable, is_id_held, asked_at, ask_made}
 use Rattle.bac_protocol.specs.World.{happens, run, start, post_of, later, copies_of, service_of}
 use Rattle.bac_protocol.specs.World.Event.{MakeAsk, Deliver, Tick, Noise, Advance, Change, RestartClient, RestartServer}
-use Rattle.bac_protocol.specs.Claims.{IsBounded, ClientStays}
+use Rattle.bac_protocol.specs.Claims.{IsBounded}
 use Rattle.bac_protocol.proofs.Alone.{one}
 use Rattle.bac_protocol.proofs.Asks.{IsSpent}
 use Rattle.bac_protocol.proofs.Facts.{Grows}
@@ -27,29 +27,36 @@ use Rattle.bac_protocol.proofs.Nets.{NetSound}
 use Rattle.bac_protocol.proofs.Calm.{Calm, spent_free}
 use Rattle.bac_protocol.proofs.Headline.{Kept, run_kept, event_kept, start_kept}
 use Rattle.bac_protocol.proofs.Keys.{copy_at, set_same}
-use Rattle.bac_liveness.specs.Runs.{Throughout, IsOnItsWay}
+use Rattle.bac_liveness.specs.Runs.{Throughout, IsOnItsWay, StaysSince}
 use Rattle.bac_liveness.specs.RoundTrip.{FitsInOne, CanPerform, HasPerformed, IsServed, request_to, answer_to}
 use Rattle.bac_liveness.specs.Repeats.{PATIENCE, FindsServer, IsAnswered, IsWaiting, IsSentAgain, IsRobust, RepeatsSuffice}
-use Rattle.bac_liveness.proofs.Paths.{some_is, ask_of, Gives, event_steps, run_steps, path_now, path_log, path_posts, run_path}
+use Rattle.bac_liveness.proofs.Paths.{Bounded, path_bounded, path_restarted, some_is, ask_of, Gives, event_steps, run_steps, path_now, path_log, path_posts, run_path}
 use Rattle.bac_liveness.proofs.Paths.{Any}
-use Rattle.bac_liveness.proofs.RoundTrips.{room_is, trip}
+use Rattle.bac_liveness.proofs.RoundTrips.{room_is, trip, bounded_in}
+use Rattle.bac_protocol.specs.Pace.{Pace, IsTimely}
+use Rattle.bac_protocol.specs.World.{client_now, server_now}
+use Rattle.bac_protocol.proofs.Paces.{since_now}
+use Rattle.bac_liveness.proofs.Clocks.{made_path, here_path}
 use Rattle.bac_liveness.proofs.Ticking.{tick_sends}
-use Rattle.bac_liveness.proofs.Waits.{IsFine, IsDoneFor, PatientOrOver, Waits, Finds, answered_grows, done_live, repeat_left}
+use Rattle.bac_liveness.proofs.Waits.{IsFine, DoneFor, PatientOrOver, Waits, Finds, answered_grows, done_live, repeat_left}
 use Rattle.bac_liveness.proofs.Waits.{waits_path, got, of_map}
 
 pub at_end : (xs : List Post) (q : Post) → slice_get (xs ++ q ∷ []) (length xs) ≡ Some q
 at_end [] q = refl
 at_end (p ∷ xs) q = at_end xs q
 
-module _ (S : Type 0) (model : StoreModel S) (x : Rules) (key : Key) (ask : Ask) (number : ℕ) (whole : ask.whole ≡ true) where
+module _ (S : Type 0) (model : StoreModel S) (x : Rules) (key : Key) (ask : Ask) (number made : ℕ) (whole : ask.whole ≡ true) where
   abbrev On : World S → Type 0
-  On w = Waits x key ask number w.net
+  On w = Waits x key ask number made w.net
 
   abbrev Young : World S → Type 0
-  Young w = w.net.now < ask.first + PATIENCE
+  Young w = client_now w.net key < ask.first + PATIENCE
+
+  abbrev Stays_ : World S → Type 0
+  Stays_ w = StaysSince w.net key made
 
   -- what is said of events is what is said of the steps that they are
-  finds_event : (w : World S) (e : Event) → FindsServer S model x key ask w e → Gives x (Finds x key ask number) S model w e
+  finds_event : (w : World S) (e : Event) → FindsServer S model x key ask w e → Gives x (Finds x key ask number made) S model w e
   finds_event w (MakeAsk k choice b front rest) h = tt
   finds_event w (Deliver i free) h = λ p at up arrives m none.
       let f = h m none in
@@ -57,23 +64,24 @@ module _ (S : Type 0) (model : StoreModel S) (x : Rules) (key : Key) (ask : Ask)
       (f.0, room_is w key free (f.1).slot (f.1).serving, ap (λ (k : Key). service_of S model w k ask.choice (join ask.pieces)) same ∙ (f.1).outcome, f.2)
   finds_event w (Tick as_client as_server) h = tt
   finds_event w Noise h = tt
-  finds_event w (Advance by) h = tt
+  finds_event w (Advance by clients servers) h = tt
   finds_event w (Change node change) h = tt
-  finds_event w (RestartClient node) h = tt
-  finds_event w (RestartServer node store) h = tt
+  finds_event w (RestartClient node exact) h = tt
+  finds_event w (RestartServer node exact store) h = tt
 
   finds_run : (events : List Event) (w : World S) → Throughout S model x (FindsServer S model x key ask) events w
-      → Throughout S model x (Gives x (Finds x key ask number) S model) events w
+      → Throughout S model x (Gives x (Finds x key ask number made) S model) events w
   finds_run [] w h = tt
   finds_run (e ∷ es) w h = (finds_event w e h.0, finds_run es (happens S model x w e) h.1)
 
-  run_on : (events : List Event) (w : World S) → Throughout S model x (FindsServer S model x key ask) events w → On w → Young (run S model x events w)
+  run_on : (events : List Event) (w : World S) → Throughout S model x (FindsServer S model x key ask) events w → Bounded w.net → On w
+      → Stays_ (run S model x events w) → Young (run S model x events w)
       → On (run S model x events w)
-  run_on events w served h young = waits_path x key ask number whole w.net (run S model x events w).net
-      (run_path x (Finds x key ask number) S model events w (finds_run events w served)) h young
+  run_on events w served b h stays young = waits_path x key ask number made whole w.net (run S model x events w).net
+      (run_path x (Finds x key ask number made) S model events w (finds_run events w served)) b h stays young
 
-  event_on : (w : World S) (e : Event) → FindsServer S model x key ask w e → On w → Young (happens S model x w e) → On (happens S model x w e)
-  event_on w e served h young = run_on (e ∷ []) w (served, tt) h young
+  event_on : (w : World S) (e : Event) → FindsServer S model x key ask w e → Bounded w.net → On w → Stays_ (happens S model x w e) → Young (happens S model x w e) → On (happens S model x w e)
+  event_on w e served b h stays young = run_on (e ∷ []) w (served, tt) b h stays young
 
   split : (before : List Event) (e : Event) (between : List Event) (w : World S)
       → Throughout S model x (FindsServer S model x key ask) (before ++ e ∷ between) w
@@ -83,32 +91,32 @@ module _ (S : Type 0) (model : StoreModel S) (x : Rules) (key : Key) (ask : Ask)
   split [] e between w h = (tt, h.0, h.1)
   split (f ∷ before) e between w h = let r = split before e between (happens S model x w f) h.1 in ((h.0, r.0), r.1, r.2)
 
-  waiting_of : (w : World S) → ClientStays w.net key ask → On w → IsWaiting w.net key ask ⊎ IsAnswered number ask w.net.log
-  waiting_of w stays h = go h.ticket.state
+  waiting_of : (w : World S) → On w → IsWaiting w.net key ask ⊎ IsAnswered number ask w.net.log
+  waiting_of w h = go h.ticket.state
     where
-      go : PatientOrOver x key ask number (w.net.asks_from key.client) w.net.now h.ticket.ticket w.net.log
+      go : PatientOrOver x key ask number made (w.net.asks_from key.client) (client_now w.net key) h.ticket.ticket w.net.log
           → IsWaiting w.net key ask ⊎ IsAnswered number ask w.net.log
       go (inl p) = inl (record { ticket = h.ticket.ticket; at = h.ticket.at; ask_is = h.ticket.is; waits = p.waits })
       go (inr (idle, inl answered)) = inr answered
-      go (inr (idle, inr lost)) = absurd (omega arith)
+      go (inr (idle, inr lost)) = absurd lost
 
   -- a tick that is due
-  sent_again : (v : World S) → On v → Young v → (t : ClientTransaction) → v.net.tickets key ≡ Some t → t.phase ≡ AwaitConfirmation → T_OUT ≤ v.net.now - t.since
+  sent_again : (v : World S) → On v → Young v → (t : ClientTransaction) → v.net.tickets key ≡ Some t → t.phase ≡ AwaitConfirmation → T_OUT ≤ client_now v.net key - t.since
       → (as_client as_server : List Key) → Contains as_client key
       → IsSentAgain x key ask t v.net (happens S model x v (Tick as_client as_server)).net
   sent_again v h young t at awaits due as_client as_server i =
-      go (subst (λ (y : ClientTransaction). PatientOrOver x key ask number (v.net.asks_from key.client) v.net.now y v.net.log) same h.ticket.state)
+      go (subst (λ (y : ClientTransaction). PatientOrOver x key ask number made (v.net.asks_from key.client) (client_now v.net key) y v.net.log) same h.ticket.state)
     where
       same : h.ticket.ticket ≡ t
       same = some_is h.ticket.ticket t (sym h.ticket.at ∙ at)
 
-      go : PatientOrOver x key ask number (v.net.asks_from key.client) v.net.now t v.net.log
+      go : PatientOrOver x key ask number made (v.net.asks_from key.client) (client_now v.net key) t v.net.log
           → IsSentAgain x key ask t v.net (happens S model x v (Tick as_client as_server)).net
       go (inr o) = absurd (let z = sym o.0 ∙ ap is_idle awaits in cc)
       go (inl w) =
-          let sends = tick_sends S model x key ask number whole v t as_client as_server at
+          let sends = tick_sends S model x key ask number made whole v t as_client as_server h.clock at
           (subst (λ (y : ClientTransaction). y.ask ≡ ask) same h.ticket.is) w young due h.entry i in
-          record { left = repeat_left x key ask number v.net.now t w young due; sent = sends.copies_are; ticket = sends.ticket }
+          record { left = repeat_left x key ask number made (client_now v.net key) t w young due; sent = sends.copies_are; ticket = sends.ticket }
 
   -- where a copy of the request and the answer that it brings get through
   module _ (opening : ℕ → S) (W : ℕ) (bound : IsBounded W x) where
@@ -116,9 +124,9 @@ module _ (S : Type 0) (model : StoreModel S) (x : Rules) (key : Key) (ask : Ask)
       reply : Reply
       served : IsServed S model x key ask reply v u
 
-    brings : (v : World S) → Kept S model opening W x bound v → On v → Young v → (i : ℕ) (free : Bool) → IsOnItsWay x v.net key (request_to x key ask) i
+    brings : (v : World S) → Kept S model opening W x bound v → Bounded v.net → On v → Young v → (i : ℕ) (free : Bool) → IsOnItsWay x v.net key (request_to x key ask) i
         → FindsServer S model x key ask v (Deliver i free) → Brings v (happens S model x v (Deliver i free))
-    brings v s h young i free m finds = go h.entry
+    brings v s bounded h young i free m finds = go h.entry
       where
         is : h.ticket.ticket.ask ≡ ask
         is = h.ticket.is
@@ -128,24 +136,24 @@ module _ (S : Type 0) (model : StoreModel S) (x : Rules) (key : Key) (ask : Ask)
         served p fits can = record {
           reply = p;
           served = subst (λ (k : Ask). IsServed S model x key k p v (happens S model x v (Deliver i free))) is
-              (trip S model opening W x bound v s key h.ticket.ticket h.ticket.at p (subst (λ (k : Ask). FitsInOne x key k p) (sym is) fits)
+              (trip S model opening W x bound v s bounded key h.ticket.ticket h.ticket.at p (subst (λ (k : Ask). FitsInOne x key k p) (sym is) fits)
               (ap (λ (k : Ask). k.whole) is ∙ whole) free
               (subst (λ (k : Ask). CanPerform S model v key k free p ⊎ HasPerformed x v.net key k (Some (join k.pieces)) p) (sym is) can) i
               (subst (λ (k : Ask). IsOnItsWay x v.net key (request_to x key k) i) (sym is) m));
         }
 
-        go : (is_none_live v.net.now (v.net.entries key) ≡ true) ⊎ IsDoneFor x key ask number (v.net.entries key) v.net.log
+        go : (is_none_live (server_now v.net key) (v.net.entries key) ≡ true) ⊎ DoneFor x key ask number made v.net (v.net.entries key) v.net.log
             → Brings v (happens S model x v (Deliver i free))
         go (inl none) = let f = finds m none in served f.0 f.2 (inl f.1)
         go (inr d) = served d.reply d.given.0
-            (inr (record { entry = d.entry; at = d.at; live = done_live x key ask number v.net young d; request_is = d.request; state = d.state }))
+            (inr (record { entry = d.entry; at = d.at; live = done_live x key ask number made v.net h.clock young d; request_is = d.request; state = d.state }))
 
-    through : (v : World S) → Kept S model opening W x bound v → On v → Young v → (i : ℕ) (free : Bool) → IsOnItsWay x v.net key (request_to x key ask) i
+    through : (v : World S) → Kept S model opening W x bound v → Bounded v.net → On v → Young v → (i : ℕ) (free : Bool) → IsOnItsWay x v.net key (request_to x key ask) i
         → FindsServer S model x key ask v (Deliver i free) → (between : List Event) (answer : Apdu) (other : Bool)
         → (let u = run S model x between (happens S model x v (Deliver i free)) in
-        On u → ClientStays u.net key ask → Young u → IsOnItsWay x u.net key answer (length v.net.posts)
+        On u → Stays_ u → Young u → IsOnItsWay x u.net key answer (length v.net.posts)
         → IsAnswered number ask (happens S model x u (Deliver (length v.net.posts) other)).net.log)
-    through v s h young i free m finds between answer other on stays young_u m_u = go on.ticket.state
+    through v s bounded h young i free m finds between answer other on stays young_u m_u = go on.ticket.state
       where
         b : World S
         b = happens S model x v (Deliver i free)
@@ -157,7 +165,7 @@ module _ (S : Type 0) (model : StoreModel S) (x : Rules) (key : Key) (ask : Ask)
         z = happens S model x (run S model x between (happens S model x v (Deliver i free))) (Deliver (length v.net.posts) other)
 
         r : Brings v (happens S model x v (Deliver i free))
-        r = brings v s h young i free m finds
+        r = brings v s bounded h young i free m finds
 
         post : Post
         post = post_of key v.net.now (answer_to x key ask r.reply)
@@ -168,8 +176,8 @@ module _ (S : Type 0) (model : StoreModel S) (x : Rules) (key : Key) (ask : Ask)
         in_u : slice_get u.net.posts (length v.net.posts) ≡ Some post
         in_u = path_posts x Any b.net u.net (run_steps x S model between b) (length v.net.posts) post in_b
 
-        arrives : is_deliverable x u.net.now (length v.net.posts) u.net.posts post ≡ true
-        arrives = subst (λ (q : Post). is_deliverable x u.net.now (length v.net.posts) u.net.posts q ≡ true)
+        arrives : is_deliverable x u.net (length v.net.posts) post ≡ true
+        arrives = subst (λ (q : Post). is_deliverable x u.net (length v.net.posts) q ≡ true)
             (some_is m_u.post post (sym m_u.at ∙ in_u)) m_u.arrives
 
         grown : Grows u.net.log z.net.log
@@ -180,11 +188,11 @@ module _ (S : Type 0) (model : StoreModel S) (x : Rules) (key : Key) (ask : Ask)
             (path_log x Any b.net u.net (run_steps x S model between b) (Performed number (request_of ask) r.reply)
             (subst (λ (k : ℕ). Has (Performed k (request_of ask) r.reply) b.net.log) h.number_is (r.served).performed))
 
-        go : PatientOrOver x key ask number (u.net.asks_from key.client) u.net.now on.ticket.ticket u.net.log → IsAnswered number ask z.net.log
-        go (inr (idle, inl answered)) = answered_grows x key ask number u.net.log z.net.log grown answered
-        go (inr (idle, inr lost)) = absurd (omega arith)
+        go : PatientOrOver x key ask number made (u.net.asks_from key.client) (client_now u.net key) on.ticket.ticket u.net.log → IsAnswered number ask z.net.log
+        go (inr (idle, inl answered)) = answered_grows x key ask number made u.net.log z.net.log grown answered
+        go (inr (idle, inr lost)) = absurd lost
         go (inl p) =
-            let now = (r.served).answered between
+            let now = (r.served).answered between (subst (λ (k : ℕ). StaysSince u.net key k) (sym h.made_is) stays)
             (record { ticket = on.ticket.ticket; at = on.ticket.at; going = ap is_idle p.waits; in_time = omega arith }) (length v.net.posts)
             (record { post = post; at = in_u; key_is = refl; apdu_is = refl; arrives = arrives }) other in (
               r.reply,
@@ -193,52 +201,73 @@ module _ (S : Type 0) (model : StoreModel S) (x : Rules) (key : Key) (ask : Ask)
                   (sym (now.log ∙ ap (λ (k : ℕ). Ended k (Answered r.reply) ∷ u.net.log) h.number_is)) (inl refl),
             )
 
-    robust : (w : World S) → Kept S model opening W x bound w → On w → IsRobust S model x key ask number w
-    robust w s h = record {
-      waits = λ events served stays young. waiting_of (run S model x events w) stays (run_on events w served h young);
-      repeats = λ events as_client as_server served young t at awaits due there.
-          sent_again (run S model x events w) (run_on events w served h young) young t at awaits due as_client as_server there;
+    robust : (w : World S) → Kept S model opening W x bound w → Bounded w.net → On w → IsRobust S model x key ask number w
+    robust w s bounded h = record {
+      waits = λ events served stays young. waiting_of (run S model x events w) (run_on events w served bounded h (stays_at w (run S model x events w) h stays) young);
+      repeats = λ events as_client as_server served stays young t at awaits due there.
+          sent_again (run S model x events w) (run_on events w served bounded h (stays_at w (run S model x events w) h stays) young) young t at awaits due as_client as_server there;
       answered = λ before between i free other answer served stays young m m_u.
           let sp = split before (Deliver i free) between w served in
           let v = run S model x before w in
           let b = happens S model x v (Deliver i free) in
           let u = run S model x between b in
-          let le = path_now x Any b.net u.net (run_steps x S model between b) in
-          let first = path_now x Any v.net b.net (event_steps x S model v (Deliver i free)) in
-          let on_v = run_on before w sp.0 h (omega arith) in
-          through v (run_kept S model opening W x bound before w s) on_v (omega arith) i free m sp.1 between answer other
-          (run_on between b sp.2 (event_on v (Deliver i free) sp.1 on_v (omega arith)) young) stays young m_u;
+          let bound_v = path_bounded x Any w.net v.net (run_steps x S model before w) bounded in
+          let bound_b = path_bounded x Any v.net b.net (event_steps x S model v (Deliver i free)) bound_v in
+          let stays_u = stays_at w u h stays in
+          let le_b = path_restarted x Any b.net u.net (run_steps x S model between b) bound_b key.client in
+          let le_v = path_restarted x Any v.net b.net (event_steps x S model v (Deliver i free)) bound_v key.client in
+          let stays_b : Stays_ b = omega arith in
+          let stays_v : Stays_ v = omega arith in
+          let runs_v = made_path x Any key ask.first made w.net v.net (run_steps x S model before w) bounded stays_v h.clock in
+          let runs_b = made_path x Any key ask.first made v.net b.net (event_steps x S model v (Deliver i free)) bound_v stays_b runs_v in
+          let le = here_path x Any key ask.first made b.net u.net (run_steps x S model between b) bound_b stays_u runs_b in
+          let first = here_path x Any key ask.first made v.net b.net (event_steps x S model v (Deliver i free)) bound_v stays_b runs_v in
+          let on_v = run_on before w sp.0 bounded h stays_v (omega arith) in
+          through v (run_kept S model opening W x bound before w s) bound_v on_v (omega arith) i free m sp.1 between answer other
+          (run_on between b sp.2 bound_b (event_on v (Deliver i free) sp.1 bound_v on_v stays_b (omega arith)) stays_u young) stays_u young m_u;
     }
+      where
+        stays_at : (y u : World S) → On y → StaysSince u.net key (y.net.made key) → Stays_ u
+        stays_at y u on stays = subst (λ (k : ℕ). StaysSince u.net key k) on.made_is stays
 
 -- An ask is made.
 pub asked_on : (W : ℕ) (x : Rules) (n : Net) → NetSound W n → (key : Key) (choice : ℕ) (front : Octets) (rest : List Octets)
     → Calm n → is_id_held n key ≡ false
-    → Waits x key (ask_of n.now choice true front rest) n.asks (asked_at x n key (ask_of n.now choice true front rest))
+    → Waits x key (ask_of (client_now n key) choice true front rest) n.asks n.now (asked_at x n key (ask_of (client_now n key) choice true front rest))
 asked_on W x n s key choice front rest calm free = record {
-  clock = omega arith;
+  clock = record {
+    timely = (calm key).timely;
+    client_told = (calm key).client;
+    server_told = (calm key).server;
+    stays = spent.lives;
+    since = since_now n.pace n.now (n.client_clocks key.client) (calm key).client;
+  };
   entry = inl (none_live (n.entries key) (λ e at. spent.dead e at));
   posts = λ i q at is young. posts i q at is young (got n.posts (post_of key n.now (request_to x key ask) ∷ []) i q at);
   ticket = record {
-    ticket = client.asked_ticket (client_context x key n.now) ask;
-    at = set_same n.tickets key (Some (client.asked_ticket (client_context x key n.now) ask));
+    ticket = client.asked_ticket (client_context x key (client_now n key)) ask;
+    at = set_same n.tickets key (Some (client.asked_ticket (client_context x key (client_now n key)) ask));
     is = refl;
     state = inl (record { waits = refl; few = omega arith; since = omega arith; passed = omega arith });
   };
   number_is = set_same n.numbers key n.asks;
+  made_is = set_same n.made key n.now;
 }
   where
     ask : Ask
-    ask = ask_of n.now choice true front rest
+    ask = ask_of (client_now n key) choice true front rest
 
     spent : IsSpent (one n key)
     spent = spent_free W n s calm key free
 
-    none_live : (o : Option ServerTransaction) → ((e : ServerTransaction) → o ≡ Some e → e.begin + KEEP < n.now) → is_none_live n.now o ≡ true
+    none_live : (o : Option ServerTransaction) → ((e : ServerTransaction) → o ≡ Some e → e.begin + KEEP < server_now n key) → is_none_live (server_now n key) o ≡ true
     none_live None d = refl
     none_live (Some e) d =
-        let lt = d e refl in let dead : is_live n.now e ≡ false = grind (arith, nat_tests) in ap (λ b. if b then false else true) dead
+        let lt = d e refl in
+        let dead : is_live (server_now n key) e ≡ false = grind (arith, nat_tests) in
+        ap (λ b. if b then false else true) dead
 
-    old : (i : ℕ) (q : Post) → slice_get n.posts i ≡ Some q → q.key ≡ key → n.now - q.copy.moment ≤ LIFE → ⊥
+    old : (i : ℕ) (q : Post) → slice_get n.posts i ≡ Some q → q.key ≡ key → n.now - q.copy.moment ≤ n.pace.life → ⊥
     old i q at is young = spent.old (later q.key i n.posts) q.copy
         (subst (λ (k : Key). slice_get (copies_of k n.posts) (later q.key i n.posts) ≡ Some q.copy) is (copy_at i n.posts q at)) young
 
@@ -246,27 +275,31 @@ asked_on W x n s key choice front rest calm free = record {
     asked_log = Asked n.asks key.client key.server (request_of ask) ∷ n.log
 
     posts : (i : ℕ) (q : Post) → slice_get (n.posts ++ post_of key n.now (request_to x key ask) ∷ []) i ≡ Some q → q.key ≡ key
-        → n.now - q.copy.moment ≤ LIFE
+        → n.now - q.copy.moment ≤ n.pace.life
         → (slice_get n.posts i ≡ Some q) ⊎ ((j : ℕ) × (slice_get (post_of key n.now (request_to x key ask) ∷ []) j ≡ Some q))
-        → IsFine x key ask n.asks asked_log q.copy.apdu
+        → IsFine x key ask n.asks n.now asked_log q.copy.apdu
     posts i q at is young (inl was) = absurd (old i q was is young)
     posts i q at is young (inr new) =
-        of_map (IsFine x key ask n.asks asked_log) key n.now (request_to x key ask ∷ []) (inl refl, tt) new.0 q new.1
+        of_map (IsFine x key ask n.asks n.now asked_log) key n.now (request_to x key ask ∷ []) (inl refl, tt) new.0 q new.1
 
 module _ (S : Type 0) (model : StoreModel S) (opening : ℕ → S) (W : ℕ) (x : Rules) (bound : IsBounded W x) where
-  repeats_suffice : (w : World S) → Kept S model opening W x bound w → RepeatsSuffice S model x w
-  repeats_suffice w s key choice front rest free =
+  repeats_suffice : (w : World S) → Kept S model opening W x bound w → Bounded w.net → RepeatsSuffice S model x w
+  repeats_suffice w s bounded key choice front rest free =
       subst (λ (u : World S). IsRobust S model x key ask w.net.asks u) (sym path)
-      (robust S model x key ask w.net.asks refl opening W bound (ask_made S x w key ask)
+      (robust S model x key ask w.net.asks w.net.now refl opening W bound (ask_made S x w key ask)
       (subst (λ (u : World S). Kept S model opening W x bound u) path (event_kept S model opening W x bound w s (MakeAsk key choice true front rest)))
+      (subst (λ (u : World S). Bounded u.net) path (path_bounded x Any w.net (happens S model x w (MakeAsk key choice true front rest)).net
+      (event_steps x S model w (MakeAsk key choice true front rest)) bounded))
       (asked_on W x w.net s.net key choice front rest s.calm free))
     where
       ask : Ask
-      ask = ask_of w.net.now choice true front rest
+      ask = ask_of (client_now w.net key) choice true front rest
 
       path : happens S model x w (MakeAsk key choice true front rest) ≡ ask_made S x w key ask
       path = ap (λ b. if b then w else ask_made S x w key ask) free
 
-  pub all_repeats_suffice : (events : List Event) → RepeatsSuffice S model x (run S model x events (start S opening))
-  all_repeats_suffice events = repeats_suffice (run S model x events (start S opening))
-      (run_kept S model opening W x bound events (start S opening) (start_kept S model opening W x bound))
+  pub all_repeats_suffice : (pace : Pace) → IsTimely pace → (clocks : ℕ → ℕ) → (events : List Event)
+      → RepeatsSuffice S model x (run S model x events (start S pace clocks opening))
+  all_repeats_suffice pace timely clocks events = repeats_suffice (run S model x events (start S pace clocks opening))
+      (run_kept S model opening W x bound events (start S pace clocks opening) (start_kept S model opening W x bound pace timely clocks))
+      (bounded_in S model opening W x bound pace timely clocks events)

@@ -9,14 +9,14 @@ use Rattle.bac_protocol.specs.Wire.{pieces_from}
 use Rattle.bac_protocol.specs.Log.{StoreModel}
 use Rattle.bac_protocol.specs.Transaction.{Key, Rules}
 use Rattle.bac_protocol.proofs.Facts.{pieces_length}
-use Rattle.bac_protocol.proofs.Queue.{TransactionPair}
+use Rattle.bac_protocol.proofs.Queue.{Nows, TransactionPair}
 use Rattle.bac_protocol.proofs.Windows.{next_window}
 use Rattle.bac_protocol.proofs.Carries.{Sender, moved, Fitting}
 use Rattle.bac_liveness.proofs.Deliveries.{Within, within_then}
 use Rattle.bac_liveness.proofs.Acks.{acks_read, moving}
 use Rattle.bac_liveness.proofs.Windows.{repeated, length_repeated, quiet, takes_old, Channel, Acked, naks_on, took_at, quiet_on, fresh_on}
 
-module _ (S : Type 0) (model : StoreModel S) (x : Rules) (now number : ℕ) (key : Key) (actual own : ℕ) (ps : List Octets)
+module _ (S : Type 0) (model : StoreModel S) (x : Rules) (now : Nows) (number : ℕ) (key : Key) (actual own : ℕ) (ps : List Octets)
     (sizes : Fitting x.overtake actual own ps) (near : actual < 256) (c : Channel S model x now number key actual own ps) where
   abbrev n : ℕ
   n = length ps
@@ -111,9 +111,9 @@ module _ (S : Type 0) (model : StoreModel S) (x : Rules) (now number : ℕ) (key
       let tail = repeated (1 + d) nak in
       let e = length_repeated (1 + d) nak in
       let g : t ≡ q + 1 = omega arith in
-      let three = quiet_on S model x now number key actual own ps sizes near c r (r + k) (q + 1) k s (quiet inc) now tail refl (omega arith) (omega arith)
+      let three = quiet_on S model x now number key actual own ps sizes near c r (r + k) (q + 1) k s (quiet inc) c.moment tail refl (omega arith) (omega arith)
       (omega arith) (omega arith) c.in_time h.actual_is (omega arith) (subst (λ (i : ℕ). inc.parts ≡ take i ps) g h.parts) in
-      let mid = c.ends s (quiet inc) now (pieces_from c.piece (q + 1) (r + k) ++ tail) in
+      let mid = c.ends s (quiet inc) c.moment (pieces_from c.piece (q + 1) (r + k) ++ tail) in
       let z = took_at S model x now number key actual own ps sizes near c mid r s (q + 1 + r) (t + r) k tail (omega arith) three in
       let end = c.ends s z.inc z.m (pieces_from c.piece (t + r) k ++ tail) in
       record {
@@ -133,7 +133,7 @@ module _ (S : Type 0) (model : StoreModel S) (x : Rules) (now number : ℕ) (key
           new = omega arith;
           old = omega arith;
           reaches = within_then S model x now number key (1 + d) r (suc d + r) from mid end (omega arith)
-              (within_then S model x now number key 1 d (1 + d) from (c.ends s (quiet inc) now (rest ++ nak ∷ [])) mid (omega arith) one two) z.reaches;
+              (within_then S model x now number key 1 d (1 + d) from (c.ends s (quiet inc) c.moment (rest ++ nak ∷ [])) mid (omega arith) one two) z.reaches;
         };
         some = λ some none part. omega arith;
       }

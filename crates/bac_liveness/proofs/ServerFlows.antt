@@ -30,7 +30,7 @@ use Rattle.bac_protocol.proofs.Facts.{all_map, pieces_all, pieces_length}
 use Rattle.bac_protocol.proofs.Sound.{IsUnderway}
 use Rattle.bac_protocol.proofs.Transfer.{moved, acknowledged_cases, piece_at_is, takes_cases, takes_below}
 use Rattle.bac_protocol.proofs.Ways.{way_cut}
-use Rattle.bac_liveness.proofs.Flow.{reach, NearDown, AllDown, all_down, reply_window_near, TakenUp, IsReplySender, StateMade, Flow}
+use Rattle.bac_liveness.proofs.Flow.{Hands, reach, NearDown, AllDown, all_down, reply_window_near, TakenUp, IsReplySender, StateMade, Flow}
 use Rattle.bac_liveness.proofs.Flow.{EntryFlows}
 use Rattle.bac_liveness.proofs.ClientFlows.{window_bound, reach_moved}
 
@@ -61,11 +61,11 @@ reply_is_quiet d choice reply.Simple = tt
 reply_is_quiet d choice (reply.Complex o) = tt
 reply_is_quiet d choice (reply.Error class code) = tt
 
-module _ (V W : ℕ) (x : Rules) (key : Key) (now : ℕ) (ask : Ask) (repeats : ℕ) (phase : Phase) (o : Option ServerTransaction) (copies : List Copy)
+module _ (V W : ℕ) (x : Rules) (key : Key) (now : Hands) (ask : Ask) (repeats : ℕ) (phase : Phase) (o : Option ServerTransaction) (copies : List Copy)
     (flow : Flow W x key now ask repeats phase o copies) (some : 0 < lesser_window x key) (bounded : lesser_window x key ≤ W)
     (own_is : lesser_window x key ≤ (x.settings key.server).window) (room : V + 2 * W ≤ 255) where
   abbrev d : Context
-  d = server_context x key now
+  d = server_context x key now.server
 
   abbrev L : ℕ
   L = lesser_window x key
@@ -81,7 +81,7 @@ module _ (V W : ℕ) (x : Rules) (key : Key) (now : ℕ) (ask : Ask) (repeats : 
   Taken_ t = FirstPass (λ a s. t ≤ s)
 
   abbrev pub DownOf : List Apdu → State → Type 0
-  DownOf sends (SegmentedResponse out transfer since) = AllDown W now out.pieces (reach out) (sent now sends copies)
+  DownOf sends (SegmentedResponse out transfer since) = AllDown W now out.pieces (reach out) (sent now.now sends copies)
       × ((inc : Incoming) → phase ≡ SegmentedConf inc → length inc.parts ≤ reach out)
   DownOf sends _ = Unit {0}
 
@@ -97,7 +97,7 @@ module _ (V W : ℕ) (x : Rules) (key : Key) (now : ℕ) (ask : Ask) (repeats : 
 
   abbrev pub EntryFine : List Apdu → Option ServerTransaction → Type 0
   EntryFine sends None = Unit {0}
-  EntryFine sends (Some e) = ask.first ≤ e.begin → IsOf e × IsFine sends e.state
+  EntryFine sends (Some e) = is_live now.server e ≡ true → IsOf e × IsFine sends e.state
 
   abbrev pub Fine : server.Reaction → Type 0
   Fine v = Each IsDown v.sends × EntryFine v.sends v.entry
@@ -106,8 +106,8 @@ module _ (V W : ℕ) (x : Rules) (key : Key) (now : ℕ) (ask : Ask) (repeats : 
   either_fine true v u h k = h
   either_fine false v u h k = k
 
-  pub entry_flows : (v : server.Reaction) → Fine v → (e : ServerTransaction) → v.entry ≡ Some e → ask.first ≤ e.begin
-      → EntryFlows W x key now ask repeats phase e (sent now v.sends copies)
+  pub entry_flows : (v : server.Reaction) → Fine v → (e : ServerTransaction) → v.entry ≡ Some e → is_live now.server e ≡ true
+      → EntryFlows W x key now ask repeats phase e (sent now.now v.sends copies)
   entry_flows v h e at begun =
       let f = subst (λ (y : Option ServerTransaction). EntryFine v.sends y) at h.1 begun in
       let g = f.1 in
@@ -120,11 +120,11 @@ module _ (V W : ℕ) (x : Rules) (key : Key) (now : ℕ) (ask : Ask) (repeats : 
 
   -- What was before.
 
-  quiet_down : (ps : List Octets) (s : ℕ) (sends : List Apdu) → Each IsQuiet sends → AllDown W now ps s copies → AllDown W now ps s (sent now sends copies)
+  quiet_down : (ps : List Octets) (s : ℕ) (sends : List Apdu) → Each IsQuiet sends → AllDown W now ps s copies → AllDown W now ps s (sent now.now sends copies)
   quiet_down ps s sends quiet old = all_down W now s s ps sends copies (omega arith) (omega arith)
       (all_map IsQuiet (λ a. (k : ℕ) → NearDown W ps s k a) (λ a h k. quiet_near W ps s k a h) sends quiet) old
 
-  old_down : (e : ServerTransaction) → o ≡ Some e → ask.first ≤ e.begin → (sends : List Apdu) → Each IsQuiet sends → (st : State) → e.state ≡ st → DownOf sends st
+  old_down : (e : ServerTransaction) → o ≡ Some e → is_live now.server e ≡ true → (sends : List Apdu) → Each IsQuiet sends → (st : State) → e.state ≡ st → DownOf sends st
   old_down e at begun sends quiet (SegmentedResponse out transfer since) is = (
     quiet_down out.pieces (reach out) sends quiet (flow.sent_down e at begun out transfer since is),
     λ inc f. flow.taken_down inc f e at begun out transfer since is,
@@ -133,7 +133,7 @@ module _ (V W : ℕ) (x : Rules) (key : Key) (now : ℕ) (ask : Ask) (repeats : 
   old_down e at begun sends quiet (Done kept) is = tt
   old_down e at begun sends quiet Dropped is = tt
 
-  old_fine : (e : ServerTransaction) → o ≡ Some e → ask.first ≤ e.begin → (sends : List Apdu) → Each IsQuiet sends → IsOf e × IsFine sends e.state
+  old_fine : (e : ServerTransaction) → o ≡ Some e → is_live now.server e ≡ true → (sends : List Apdu) → Each IsQuiet sends → IsOf e × IsFine sends e.state
   old_fine e at begun sends quiet =
       let m = flow.made e at begun in (
         record { limits = m.limits; request = m.request },
@@ -149,7 +149,7 @@ module _ (V W : ℕ) (x : Rules) (key : Key) (now : ℕ) (ask : Ask) (repeats : 
   rests_fine (Some e) at sends down quiet = (down, λ begun. old_fine e at begun sends quiet)
 
   -- the entry goes on in another state
-  becomes_fine : (e : ServerTransaction) → o ≡ Some e → (st : State) (sends : List Apdu) → Each IsDown sends → (ask.first ≤ e.begin → IsFine sends st)
+  becomes_fine : (e : ServerTransaction) → o ≡ Some e → (st : State) (sends : List Apdu) → Each IsDown sends → (is_live now.server e ≡ true → IsFine sends st)
       → Fine (server.becomes e st sends)
   becomes_fine e at st sends down fine = (down, λ begun. let m = flow.made e at begun in (record { limits = m.limits; request = m.request }, fine begun))
 
@@ -169,9 +169,9 @@ module _ (V W : ℕ) (x : Rules) (key : Key) (now : ℕ) (ask : Ask) (repeats : 
 
     -- a new entry, or one that goes on, in that state
     abbrev Begins : ServerTransaction → Type 0
-    Begins e = ask.first ≤ e.begin → IsOf e
+    Begins e = is_live now.server e ≡ true → IsOf e
 
-    begins_in : (e : ServerTransaction) → Begins e → (st : State) (sends : List Apdu) → Each IsDown sends → (ask.first ≤ e.begin → IsFine sends st)
+    begins_in : (e : ServerTransaction) → Begins e → (st : State) (sends : List Apdu) → Each IsDown sends → (is_live now.server e ≡ true → IsFine sends st)
         → Fine (server.becomes e st sends)
     begins_in e of st sends down fine =
         (down, λ begun. let f = of begun in (record { limits = f.limits; request = f.request }, fine begun))
@@ -184,7 +184,7 @@ module _ (V W : ℕ) (x : Rules) (key : Key) (now : ℕ) (ask : Ask) (repeats : 
 
     segments_fine : (e : ServerTransaction) → IsOf e → (acks : List Apdu) → Each IsQuiet acks → Taken_ n → (p : reply) (ps : List Octets)
         → reply_way_of d.settings e.limits p ≡ InSegments ps
-        → IsFine (acks ++ server.reply_piece d e.choice ps 0 ∷ []) (SegmentedResponse (outgoing ps) Running now)
+        → IsFine (acks ++ server.reply_piece d e.choice ps 0 ∷ []) (SegmentedResponse (outgoing ps) Running now.server)
     segments_fine e of acks quiet all p ps is =
         let some_piece = (way_cut d.settings e.limits p ps is).some in
         let sends = acks ++ server.reply_piece d e.choice ps 0 ∷ [] in
@@ -247,15 +247,15 @@ module _ (V W : ℕ) (x : Rules) (key : Key) (now : ℕ) (ask : Ask) (repeats : 
     segment_fine : (e : ServerTransaction) → Begins e → (number window : ℕ) (y : Taking) → TakeFine y
         → Fine (server.request_segment_taken d service e number window y)
     segment_fine e of number window (Taken true inc) h =
-        begins_in e of (State.SegmentedRequest inc now) (server.server_ack d false number window ∷ []) (refl, tt)
-        (λ begun. reassembly_fine inc now (server.server_ack d false number window ∷ []) h)
+        begins_in e of (State.SegmentedRequest inc now.server) (server.server_ack d false number window ∷ []) (refl, tt)
+        (λ begun. reassembly_fine inc now.server (server.server_ack d false number window ∷ []) h)
     segment_fine e of number window (Taken false inc) h =
-        begins_in e of (State.SegmentedRequest inc now) [] tt (λ begun. reassembly_fine inc now [] h)
+        begins_in e of (State.SegmentedRequest inc now.server) [] tt (λ begun. reassembly_fine inc now.server [] h)
     segment_fine e of number window (Whole parts) h =
         performs_fine e of (server.server_ack d false number window ∷ []) (refl, tt) (tt, tt) (join parts) h
     segment_fine e of number window (Nak inc) h =
-        begins_in e of (State.SegmentedRequest inc now) (server.server_ack d true ((length inc.parts - 1) % 256) window ∷ []) (refl, tt)
-        (λ begun. reassembly_fine inc now (server.server_ack d true ((length inc.parts - 1) % 256) window ∷ []) h)
+        begins_in e of (State.SegmentedRequest inc now.server) (server.server_ack d true ((length inc.parts - 1) % 256) window ∷ []) (refl, tt)
+        (λ begun. reassembly_fine inc now.server (server.server_ack d true ((length inc.parts - 1) % 256) window ∷ []) h)
     segment_fine e of number window TooLong h =
         begins_in e of Dropped (server.server_abort d BUFFER_OVERFLOW ∷ []) (refl, tt) (λ begun. dropped_fine (server.server_abort d BUFFER_OVERFLOW ∷ []))
 
@@ -299,12 +299,12 @@ module _ (V W : ℕ) (x : Rules) (key : Key) (now : ℕ) (ask : Ask) (repeats : 
   abbrev Given : Outgoing → Type 0
   Given out = AllDown W now out.pieces (reach out) copies × ((inc : Incoming) → phase ≡ SegmentedConf inc → length inc.parts ≤ reach out)
 
-  given_of : (e : ServerTransaction) → o ≡ Some e → ask.first ≤ e.begin → (out : Outgoing) (transfer : server.Transfer) (since : ℕ)
+  given_of : (e : ServerTransaction) → o ≡ Some e → is_live now.server e ≡ true → (out : Outgoing) (transfer : server.Transfer) (since : ℕ)
       → e.state ≡ SegmentedResponse out transfer since → Given out
   given_of e at begun out transfer since is =
       (flow.sent_down e at begun out transfer since is, λ inc f. flow.taken_down inc f e at begun out transfer since is)
 
-  response_fine : (e : ServerTransaction) → o ≡ Some e → ask.first ≤ e.begin → (out next : Outgoing) (transfer transfer' : server.Transfer) (since since' : ℕ)
+  response_fine : (e : ServerTransaction) → o ≡ Some e → is_live now.server e ≡ true → (out next : Outgoing) (transfer transfer' : server.Transfer) (since since' : ℕ)
       → e.state ≡ SegmentedResponse out transfer since → next.pieces ≡ out.pieces → IsReplySender L next → reach out ≤ reach next
       → (sends : List Apdu) → reach next ≤ reach out + length sends → Each (λ a. (k : ℕ) → NearDown W out.pieces (reach next) k a) sends
       → IsFine sends (SegmentedResponse next transfer' since')
@@ -319,28 +319,28 @@ module _ (V W : ℕ) (x : Rules) (key : Key) (now : ℕ) (ask : Ask) (repeats : 
         );
         up = λ out' all f full. subst (λ (st : State). TakenUp n (reach out') st) is (flow.taken_up out' all f full e at begun);
         down = (
-          subst (λ (ps : List Octets). AllDown W now ps (reach next) (sent now sends copies)) (sym same)
+          subst (λ (ps : List Octets). AllDown W now ps (reach next) (sent now.now sends copies)) (sym same)
               (all_down W now (reach out) (reach next) out.pieces sends copies onward few near g.0),
           λ inc f. let h = g.1 inc f in omega arith,
         );
       }
 
-  sender_of : (e : ServerTransaction) → o ≡ Some e → ask.first ≤ e.begin → (out : Outgoing) (transfer : server.Transfer) (since : ℕ)
+  sender_of : (e : ServerTransaction) → o ≡ Some e → is_live now.server e ≡ true → (out : Outgoing) (transfer : server.Transfer) (since : ℕ)
       → e.state ≡ SegmentedResponse out transfer since → IsReplySender L out
   sender_of e at begun out transfer since is =
       (subst (λ (st : State). StateMade x key st) is ((flow.made e at begun).state)).0
 
   window_fine : (e : ServerTransaction) → o ≡ Some e → (out next : Outgoing) (transfer : server.Transfer) (since : ℕ)
-      → e.state ≡ SegmentedResponse out transfer since → next.pieces ≡ out.pieces → (ask.first ≤ e.begin → IsReplySender L next)
-      → (ask.first ≤ e.begin → (reach out ≤ reach next) × (reach next ≤ reach out + in_window next)) → Fine (server.sends_reply_window d e next)
+      → e.state ≡ SegmentedResponse out transfer since → next.pieces ≡ out.pieces → (is_live now.server e ≡ true → IsReplySender L next)
+      → (is_live now.server e ≡ true → (reach out ≤ reach next) × (reach next ≤ reach out + in_window next)) → Fine (server.sends_reply_window d e next)
   window_fine e at out next transfer since is same sender moves =
-      becomes_fine e at (SegmentedResponse next Running now) (server.reply_window d e.choice next)
+      becomes_fine e at (SegmentedResponse next Running now.server) (server.reply_window d e.choice next)
       (pieces_all IsDown (server.reply_piece d e.choice next.pieces) next.first (in_window next) (λ p lo hi. refl))
       (λ begun.
       let len = pieces_length (server.reply_piece d e.choice next.pieces) next.first (in_window next) in
       let m = moves begun in
       let m1 = m.1 in
-      response_fine e at begun out next transfer Running since now is same (sender begun) m.0 (server.reply_window d e.choice next) (omega arith)
+      response_fine e at begun out next transfer Running since now.server is same (sender begun) m.0 (server.reply_window d e.choice next) (omega arith)
       (subst (λ (ps : List Octets). Each (λ a. (k : ℕ) → NearDown W ps (reach next) k a) (server.reply_window d e.choice next)) same
       (reply_window_near W d e.choice next (window_bound L W next some bounded ((sender begun).window)))))
 
@@ -370,12 +370,12 @@ module _ (V W : ℕ) (x : Rules) (key : Key) (now : ℕ) (ask : Ask) (repeats : 
       next : Outgoing
       next = moved d.settings.window out number window
 
-      sender_next : ahead number out.first < in_window out → ask.first ≤ e.begin → IsReplySender L next
+      sender_next : ahead number out.first < in_window out → is_live now.server e ≡ true → IsReplySender L next
       sender_next reads begun =
           let s = sender_of e at begun out transfer since is in
           record { within = omega arith; window = inr (omega arith, omega arith) }
 
-      moves_next : ahead number out.first < in_window out → ask.first ≤ e.begin
+      moves_next : ahead number out.first < in_window out → is_live now.server e ≡ true
           → (reach out ≤ reach next) × (reach next ≤ reach out + in_window next)
       moves_next reads begun =
           let s = sender_of e at begun out transfer since is in
@@ -386,13 +386,13 @@ module _ (V W : ℕ) (x : Rules) (key : Key) (now : ℕ) (ask : Ask) (repeats : 
       moved_fine reads = go (is_finished next) refl
         where
           go : (b : Bool) → is_finished next ≡ b
-              → Fine (if b then server.becomes e (SegmentedResponse next Finished now) [] else server.sends_reply_window d e next)
+              → Fine (if b then server.becomes e (SegmentedResponse next Finished now.server) [] else server.sends_reply_window d e next)
           go true f =
               let all : length out.pieces ≤ next.first = grind (arith, nat_tests) in
-              becomes_fine e at (SegmentedResponse next Finished now) [] tt
+              becomes_fine e at (SegmentedResponse next Finished now.server) [] tt
               (λ begun.
               let m = moves_next reads begun in
-              response_fine e at begun out next transfer Finished since now is refl (sender_next reads begun) m.0 [] (omega arith) tt)
+              response_fine e at begun out next transfer Finished since now.server is refl (sender_next reads begun) m.0 [] (omega arith) tt)
           go false f = window_fine e at out next transfer since is refl (sender_next reads) (moves_next reads)
 
   -- An APDU of the client comes.
@@ -448,7 +448,7 @@ module _ (V W : ℕ) (x : Rules) (key : Key) (now : ℕ) (ask : Ask) (repeats : 
     closed_fine y at _ = rests_fine y at [] tt tt
 
     -- a live entry
-    module _ (e : ServerTransaction) (at : o ≡ Some e) (begun : ask.first ≤ e.begin) where
+    module _ (e : ServerTransaction) (at : o ≡ Some e) (begun : is_live now.server e ≡ true) where
       of_ask : IsOf e
       of_ask = let m = flow.made e at begun in record { limits = m.limits; request = m.request }
 

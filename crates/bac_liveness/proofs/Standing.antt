@@ -1,11 +1,12 @@
 -- After every run the two ends of an open transaction that is in time are in step, so one turn answers its ask.
 use Rattle.std.proofs.Common.{◌≡◌, ℕ, ◌+◌, ◌-◌, ◌<◌, ◌≤◌, ◌⊎◌, Bool, true, false, List, length, take, Option, Some, None, if◌then◌else◌}
 use Rattle.std.proofs.Common.{refl, sym, ap, subst, inl, inr, ◌∙◌, arith}
+use Rattle.std.proofs.Common.{nat_le}
 use Rattle.std.proofs.lemmas.Bool.Decides.{nat_tests}
 use Rattle.bac_segment.specs.Limits.{N_RETRY}
 use Rattle.bac_segment.specs.Window.{Outgoing, Incoming}
 use Rattle.bac_protocol.specs.declared.times.TheConstants.{DEADLINE, KEEP}
-use Rattle.bac_protocol.specs.Client.{Ask, Phase, ClientTransaction}
+use Rattle.bac_protocol.specs.Client.{Ask, Phase, ClientTransaction, is_idle}
 use Rattle.bac_protocol.specs.Client.Phase.{SegmentedRequest, AwaitConfirmation, SegmentedConf, Idle}
 use Rattle.bac_protocol.specs.Server as server
 use Rattle.bac_protocol.specs.Server.{State, ServerTransaction, live_entry, is_live}
@@ -14,7 +15,10 @@ use Rattle.bac_protocol.specs.Log.{Fact, StoreModel}
 use Rattle.bac_protocol.specs.Own.{lesser_window, StateHas, EntryHas, PhaseHas, TicketHas, IsSentByServer, IsLesser}
 use Rattle.bac_protocol.specs.Transaction.{Key, Rules, Copy}
 use Rattle.bac_protocol.specs.World.{World, Event, run, start, copies_of}
-use Rattle.bac_protocol.specs.Claims.{IsBounded}
+use Rattle.bac_protocol.specs.Claims.{Moments, moments_of, HasRestartedSince, IsBegunSince, IsBounded}
+use Rattle.bac_protocol.specs.Pace.{Pace, IsTimely}
+use Rattle.bac_protocol.specs.World.{client_now, server_now}
+use Rattle.bac_protocol.proofs.Paces.{within_most, beyond_least}
 use Rattle.bac_protocol.proofs.Headline.{run_kept, start_kept}
 use Rattle.bac_protocol.proofs.Nets.{sound_at}
 use Rattle.bac_protocol.proofs.Owned.{own_in_run}
@@ -22,12 +26,13 @@ use Rattle.bac_protocol.proofs.Sound.{Up, Down, IsUntaken, ClientFits, IsRead, P
 use Rattle.bac_protocol.proofs.Sound.{IsBegunFor, Sound}
 use Rattle.bac_protocol.proofs.Sound.Up.{Reading, Repeated}
 use Rattle.bac_protocol.proofs.Sound.Down.{Unsent, Sent}
+use Rattle.bac_liveness.specs.Runs.{HasWindows}
 use Rattle.bac_liveness.specs.InStep.{IsAtStart, IsUnderway, AreTogether, StandsSending, StandsWaiting, StandsCollecting, Stands, AreInStep, IsCutFor}
 use Rattle.bac_liveness.specs.AfterPast.{AfterAnyPast, AnsweringRunExists, EndsAreInStep}
 use Rattle.bac_liveness.proofs.Flow.{reach, PhaseFlows, TakenUp, StateMade, Flow}
-use Rattle.bac_liveness.proofs.InRun.{sending_whole, sending_behind}
+use Rattle.bac_liveness.proofs.InRun.{hands_of, sending_whole, sending_behind}
 use Rattle.bac_liveness.proofs.Lifted.{flows_in_run}
-use Rattle.bac_liveness.proofs.Turned.{there}
+use Rattle.bac_liveness.proofs.There.{there}
 use Rattle.bac_liveness.proofs.AnyTurn.{in_step_is_answered, in_step_runs}
 
 at_start : (actual : ℕ) (out : Outgoing) → out.first ≤ 0 → (IsAtStart out ⊎ IsUnderway actual out) → IsAtStart out
@@ -64,10 +69,13 @@ first_pass : (ask : Ask) (repeats t s : ℕ) → ask.whole ≡ false → PassFit
 first_pass ask repeats t s whole (inl is) = absurd (let z = sym whole ∙ is in cc)
 first_pass ask repeats t s whole (inr is) = is
 
-module _ (W : ℕ) (x : Rules) (bound : IsBounded W x) (key : Key) (some : 0 < lesser_window x key) (opens now asks number : ℕ) (t : ClientTransaction) (o : Option ServerTransaction)
-    (copies : List Copy) (log : List Fact) (flow : Flow W x key now t.ask t.repeats t.phase o copies) (up : Up) (down : Down)
-    (s : Sound W key opens now asks number t o copies log up down) (stays : opens ≤ t.ask.first + KEEP) (young : now - t.ask.first ≤ DEADLINE)
+module _ (W : ℕ) (x : Rules) (bound : IsBounded W x) (key : Key) (some : 0 < lesser_window x key) (times : Moments) (asks number : ℕ) (t : ClientTransaction) (o : Option ServerTransaction)
+    (copies : List Copy) (log : List Fact) (flow : Flow W x key (hands_of times) t.ask t.repeats t.phase o copies) (up : Up) (down : Down)
+    (s : Sound W key times asks number t o copies log up down) (stays : o ≡ None → HasRestartedSince times → ⊥) (young : times.client.shows - t.ask.first ≤ DEADLINE)
     (entry_window : EntryHas (IsSentByServer x key) (IsLesser x key) o) (ticket_window : TicketHas (IsLesser x key) (Some t)) where
+  abbrev now : ℕ
+  now = times.server.shows
+
   abbrev L : ℕ
   L = lesser_window x key
 
@@ -80,18 +88,30 @@ module _ (W : ℕ) (x : Rules) (bound : IsBounded W x) (key : Key) (some : 0 < l
   flows_at : (ph : Phase) → t.phase ≡ ph → PhaseFlows L ask t.repeats ph
   flows_at ph is = subst (λ (y : Phase). PhaseFlows L ask t.repeats y) is flow.client
 
-  -- no entry is live: none was begun for the ask
-  unbegun : live_entry now o ≡ None → IsUnbegun number up down log
-  unbegun none = go o refl none s.server
+  -- what was begun for the ask is live
+  alive : is_idle t.phase ≡ false → (e : ServerTransaction) → IsBegunSince times e.begin → is_live now e ≡ true
+  alive going e begun = go (nat_le (now - e.begin) KEEP) refl
     where
-      go : (y : Option ServerTransaction) → o ≡ y → live_entry now y ≡ None → ServerFits W opens number ask y up down log → IsUnbegun number up down log
+      go : (z : Bool) → nat_le (now - e.begin) KEEP ≡ z → nat_le (now - e.begin) KEEP ≡ true
+      go true is = is
+      go false is =
+          let dead : e.begin + KEEP < now = grind (arith, nat_tests) in
+          let late = beyond_least times.pace s.clock.timely KEEP begun.began e.begin times.now times.server s.clock.server begun.since dead in
+          let early = within_most times.pace s.clock.timely DEADLINE times.made t.ask.first times.now times.client s.clock.client (s.clock.counts (s.lives going)).since (omega arith) in
+          let after = begun.after in
+          let keeps = s.clock.timely.keeps in
+          absurd (omega arith)
+
+  -- no entry is live: none was begun for the ask
+  unbegun : is_idle t.phase ≡ false → live_entry now o ≡ None → IsUnbegun number up down log
+  unbegun going none = go o refl none s.server
+    where
+      go : (y : Option ServerTransaction) → o ≡ y → live_entry now y ≡ None → ServerFits W times number ask y up down log → IsUnbegun number up down log
       go None is dead (inl h) = h
-      go None is dead (inr lost) = let since = lost.before in absurd (omega arith)
+      go None is dead (inr lost) = absurd (stays is lost.before)
       go (Some e) is dead (inl past) = past.unbegun
       go (Some e) is dead (inr begun) =
-          let after = begun.after in
-          let clock = s.clock in
-          let live : is_live now e ≡ true = grind (arith, nat_tests) in
+          let live = alive going e begun.begun in
           absurd (let z = ap (λ b. if b then Some e else None) (sym live) ∙ dead in cc)
 
   stands_alone : live_entry now o ≡ None → (ph : Phase) → t.phase ≡ ph → Stands L ask ph None
@@ -100,19 +120,19 @@ module _ (W : ℕ) (x : Rules) (bound : IsBounded W x) (key : Key) (some : 0 < l
       let f = flows_at (SegmentedRequest out all) is in (
         sending_whole W ask out all up down c,
         f.0,
-        at_start L out (none_taken W number ask out all up down log (unbegun none) c) ((f.0).window),
+        at_start L out (none_taken W number ask out all up down log (unbegun (ap is_idle is) none) c) ((f.0).window),
       )
   stands_alone none AwaitConfirmation is =
-      unread_whole W number ask up down log flow.some (unbegun none) ((client_at AwaitConfirmation is).0)
-  stands_alone none (SegmentedConf inc) is = uncollected W number inc up down log (unbegun none) (client_at (SegmentedConf inc) is)
+      unread_whole W number ask up down log flow.some (unbegun (ap is_idle is) none) ((client_at AwaitConfirmation is).0)
+  stands_alone none (SegmentedConf inc) is = uncollected W number inc up down log (unbegun (ap is_idle is) none) (client_at (SegmentedConf inc) is)
   stands_alone none Idle is = tt
 
-  module _ (e : ServerTransaction) (at : o ≡ Some e) (begun : IsBegunFor W number ask e up down log) where
+  module _ (e : ServerTransaction) (at : o ≡ Some e) (begun : IsBegunFor W times number ask e up down log) (live : is_live now e ≡ true) where
     state_at : (st : State) → e.state ≡ st → StateFits W number ask st up down log
     state_at st is = subst (λ (y : State). StateFits W number ask y up down log) is begun.state
 
     made_at : (st : State) → e.state ≡ st → StateMade x key st
-    made_at st is = subst (λ (y : State). StateMade x key y) is ((flow.made e at begun.after).state)
+    made_at st is = subst (λ (y : State). StateMade x key y) is ((flow.made e at live).state)
 
     window_at : (inc : Incoming) (since : ℕ) → e.state ≡ State.SegmentedRequest inc since → inc.window ≡ L
     window_at inc since is = subst (λ (st : State). StateHas (IsSentByServer x key) (IsLesser x key) st) is
@@ -128,7 +148,7 @@ module _ (W : ℕ) (x : Rules) (bound : IsBounded W x) (key : Key) (some : 0 < l
         let taken = front.taken_is in
         let first = sending_behind W ask out all a b down (subst (λ (y : Up). ClientFits W ask (SegmentedRequest out all) y down) up_is c) in
         let full = first_pass ask t.repeats a b fits.in_pieces (subst (λ (y : Up). PassFits ask t.repeats y) up_is s.passes) in
-        let reached = subst (λ (y : State). TakenUp (length ask.pieces) (reach out) y) st (flow.taken_up out all is full e at begun.after) in
+        let reached = subst (λ (y : State). TakenUp (length ask.pieces) (reach out) y) st (flow.taken_up out all is full e at live) in
         let left = front.left in
         record {
           sender = (flows_at (SegmentedRequest out all) is).0;
@@ -155,9 +175,9 @@ module _ (W : ℕ) (x : Rules) (bound : IsBounded W x) (key : Key) (some : 0 < l
     sends_beside out all is (State.SegmentedRequest inc since) st =
         receives out all is inc since st up down refl refl (state_at (State.SegmentedRequest inc since) st)
     sends_beside out all is (Done kept) st =
-        has_sent out all is (λ full. subst (λ (y : State). TakenUp (length ask.pieces) (reach out) y) st (flow.taken_up out all is full e at begun.after))
+        has_sent out all is (λ full. subst (λ (y : State). TakenUp (length ask.pieces) (reach out) y) st (flow.taken_up out all is full e at live))
     sends_beside out all is (SegmentedResponse reply transfer since) st = (
-      has_sent out all is (λ full. subst (λ (y : State). TakenUp (length ask.pieces) (reach out) y) st (flow.taken_up out all is full e at begun.after)),
+      has_sent out all is (λ full. subst (λ (y : State). TakenUp (length ask.pieces) (reach out) y) st (flow.taken_up out all is full e at live)),
       at_start L reply (untaken_start W reply down ((client_at (SegmentedRequest out all) is).untaken)
           ((state_at (SegmentedResponse reply transfer since) st).sends)) (((made_at (SegmentedResponse reply transfer since) st).0).window),
     )
@@ -196,7 +216,7 @@ module _ (W : ℕ) (x : Rules) (bound : IsBounded W x) (key : Key) (some : 0 < l
           window = conf_window inc is;
           parts = c.parts_are ∙ (λ i. take (sym taken i) (sym d'.0 i));
           acknowledged = omega arith;
-          sent = flow.taken_down inc is e at begun.after reply transfer since st;
+          sent = flow.taken_down inc is e at live reply transfer since st;
           left = omega arith;
         }
 
@@ -240,52 +260,60 @@ module _ (W : ℕ) (x : Rules) (bound : IsBounded W x) (key : Key) (some : 0 < l
 
     in_step_beside : AreInStep x key ask t.phase (Some e)
     in_step_beside =
-        let m = flow.made e at begun.after in
+        let m = flow.made e at live in
         record {
           some = flow.some;
           entry = record { choice = begun.choice; limits = m.limits; request = m.request; cut = cut_at e.state m.state };
           stand = stands_beside t.phase refl;
         }
 
-  live_begun_for : (e : ServerTransaction) → o ≡ Some e → is_live now e ≡ true → IsBegunFor W number ask e up down log
-  live_begun_for e at live = go (subst (λ (y : Option ServerTransaction). ServerFits W opens number ask y up down log) at s.server)
+  live_begun_for : (e : ServerTransaction) → o ≡ Some e → is_live now e ≡ true → IsBegunFor W times number ask e up down log
+  live_begun_for e at live = go (subst (λ (y : Option ServerTransaction). ServerFits W times number ask y up down log) at s.server)
     where
-      go : ServerFits W opens number ask (Some e) up down log → IsBegunFor W number ask e up down log
-      go (inl past) = let d = past.dead in let c = s.clock in absurd (grind (arith, nat_tests))
+      go : ServerFits W times number ask (Some e) up down log → IsBegunFor W times number ask e up down log
+      go (inl past) = let d = past.dead in absurd (grind (arith, nat_tests))
       go (inr begun) = begun
 
   pub in_step : (y : Option ServerTransaction) → live_entry now o ≡ y → AreInStep x key ask t.phase y
   in_step None none = record { some = flow.some; entry = tt; stand = stands_alone none t.phase refl }
   in_step (Some e) is =
       let f = there now o e is in
-      in_step_beside e f.at (live_begun_for e f.at f.live)
+      in_step_beside e f.at (live_begun_for e f.at f.live) f.live
 
-pub ends_in_step : (S : Type 0) (model : StoreModel S) (opening : ℕ → S) (W : ℕ) (x : Rules) → IsBounded W x → (events : List Event)
-    → EndsAreInStep S x (run S model x events (start S opening))
-ends_in_step S model opening W x bound events key windows t at stays young =
-    let w = run S model x events (start S opening) in
-    let s = run_kept S model opening W x bound events (start S opening) (start_kept S model opening W x bound) in
+pub stands_in_step : (S : Type 0) (model : StoreModel S) (opening : ℕ → S) (W : ℕ) (x : Rules) → IsBounded W x → (pace : Pace) → IsTimely pace → (clocks : ℕ → ℕ)
+    → (events : List Event) → (let w = run S model x events (start S pace clocks opening) in (key : Key) → HasWindows x key → (t : ClientTransaction)
+    → w.net.tickets key ≡ Some t → (w.net.entries key ≡ None → HasRestartedSince (moments_of w.net key) → ⊥) → client_now w.net key - t.ask.first ≤ DEADLINE
+    → AreInStep x key t.ask t.phase (live_entry (server_now w.net key) (w.net.entries key)))
+stands_in_step S model opening W x bound pace timely clocks events key windows t at stays young =
+    let w = run S model x events (start S pace clocks opening) in
+    let s = run_kept S model opening W x bound events (start S pace clocks opening) (start_kept S model opening W x bound pace timely clocks) in
     let a = windows.client in
     let b = windows.server in
     let some : 0 < lesser_window x key = omega arith in
-    let flow = flows_in_run W x bound key some S model opening events t at in
-    let own = own_in_run x S model opening events in
+    let flow = flows_in_run W x bound key some S model opening pace timely clocks events t at in
+    let own = own_in_run x S model pace clocks opening events in
     let f = sound_at W w.net key (Some t) at s.net in
-    in_step W x bound key some (w.net.serves_from key.server) w.net.now w.net.asks (w.net.numbers key) t (w.net.entries key) (copies_of key w.net.posts) w.net.log flow f.0 f.1 f.2
+    in_step W x bound key some (moments_of w.net key) w.net.asks (w.net.numbers key) t (w.net.entries key) (copies_of key w.net.posts) w.net.log flow f.0 f.1 f.2
     stays young (own.entries key) (subst (λ (y : Option ClientTransaction). TicketHas (IsLesser x key) y) at (own.tickets key))
-    (live_entry w.net.now (w.net.entries key)) refl
+    (live_entry (server_now w.net key) (w.net.entries key)) refl
 
-module _ (S : Type 0) (model : StoreModel S) (opening : ℕ → S) (W : ℕ) (x : Rules) (bound : IsBounded W x) (events : List Event) where
+pub ends_in_step : (S : Type 0) (model : StoreModel S) (opening : ℕ → S) (W : ℕ) (x : Rules) → IsBounded W x → (pace : Pace) → IsTimely pace → (clocks : ℕ → ℕ)
+    → (events : List Event) → EndsAreInStep S x (run S model x events (start S pace clocks opening))
+ends_in_step S model opening W x bound pace timely clocks events key windows t at stays young =
+    stands_in_step S model opening W x bound pace timely clocks events key windows t at (λ none. stays) young
+
+module _ (S : Type 0) (model : StoreModel S) (opening : ℕ → S) (W : ℕ) (x : Rules) (bound : IsBounded W x) (pace : Pace) (timely : IsTimely pace)
+    (clocks : ℕ → ℕ) (events : List Event) where
   abbrev reached : World S
-  reached = run S model x events (start S opening)
+  reached = run S model x events (start S pace clocks opening)
 
   pub after_any_past : AfterAnyPast S model x reached
   after_any_past key t at stays good p can as_client as_server turn count v straight stops =
-      in_step_is_answered S model opening W x bound events key t at
-      (ends_in_step S model opening W x bound events key (record { client = good.client; server = good.server }) t at stays can.in_time)
+      in_step_is_answered S model opening W x bound pace timely clocks events key t at
+      (ends_in_step S model opening W x bound pace timely clocks events key (record { client = good.client; server = good.server }) t at stays can.in_time)
       good p can as_client as_server turn count v straight stops
 
   pub answering_run : AnsweringRunExists S model x reached
   answering_run key t at stays good p can =
-      in_step_runs S model opening W x bound reached (run_kept S model opening W x bound events (start S opening) (start_kept S model opening W x bound))
-      key t at good p can (ends_in_step S model opening W x bound events key (record { client = good.client; server = good.server }) t at stays can.in_time)
+      in_step_runs S model opening W x bound reached (run_kept S model opening W x bound events (start S pace clocks opening) (start_kept S model opening W x bound pace timely clocks))
+      key t at good p can (ends_in_step S model opening W x bound pace timely clocks events key (record { client = good.client; server = good.server }) t at stays can.in_time)

@@ -27,27 +27,12 @@ use Rattle.bac_protocol.proofs.Headline.{Kept}
 use Rattle.bac_protocol.proofs.Keys.{set_same}
 use Rattle.bac_protocol.proofs.Sound.{Up, Down, IsKeptFor, StateFits}
 use Rattle.bac_protocol.proofs.Sound.Down.{Unsent, Sent}
-use Rattle.bac_protocol.proofs.Queue.{TransactionPair}
+use Rattle.bac_protocol.proofs.Queue.{Nows, TransactionPair}
 use Rattle.bac_protocol.proofs.Follow.{Shows}
 use Rattle.bac_liveness.specs.AfterPast.{IsAnsweredIn}
 use Rattle.bac_liveness.proofs.Deliveries.{Starts, starts_follow}
 use Rattle.bac_liveness.proofs.RoundTrips.{sound, begun_for}
-
--- a live entry is the entry
-pub record IsThere (now : ℕ) (o : Option ServerTransaction) (e : ServerTransaction) : Type 0 where
-  pub at : o ≡ Some e
-  pub live : is_live now e ≡ true
-
-pub there : (now : ℕ) (o : Option ServerTransaction) (e : ServerTransaction) → live_entry now o ≡ Some e → IsThere now o e
-there now None e is = absurd cc
-there now (Some d) e is = go (is_live now d) refl is
-  where
-    go : (b : Bool) → is_live now d ≡ b → (if b then Some d else None) ≡ Some e → IsThere now (Some d) e
-    go true l h = let same : d ≡ e = cc in record { at = h; live = subst (λ (y : ServerTransaction). is_live now y ≡ true) same l }
-    go false l h = absurd cc
-
-pub live_self : (now : ℕ) (e : ServerTransaction) → is_live now e ≡ true → live_entry now (Some e) ≡ Some e
-live_self now e live = ap (λ b. if b then Some e else None) live
+use Rattle.bac_protocol.specs.World.{client_now, server_now}
 
 -- What was performed, as the log says.
 
@@ -64,27 +49,27 @@ done_fits W number ask kept up (Sent ps a b) log h = absurd h
 
 module _ (S : Type 0) (model : StoreModel S) (opening : ℕ → S) (W : ℕ) (x : Rules) (bound : IsBounded W x) (w : World S)
     (kept_in : Kept S model opening W x bound w) (key : Key) (t : ClientTransaction) (at : w.net.tickets key ≡ Some t) where
-  abbrev now : ℕ
-  now = w.net.now
+  abbrev now : Nows
+  now = record { real = w.net.now; here = client_now w.net key; there = server_now w.net key }
 
   abbrev number : ℕ
   number = w.net.numbers key
 
-  state_fits : (e : ServerTransaction) → w.net.entries key ≡ Some e → is_live now e ≡ true → (st : State) → e.state ≡ st
+  state_fits : (e : ServerTransaction) → w.net.entries key ≡ Some e → is_live now.there e ≡ true → (st : State) → e.state ≡ st
       → (up : Up) × (down : Down) × StateFits W number t.ask st up down w.net.log
   state_fits e entry live st is =
       let known = sound S model opening W x bound w kept_in key t at in
-      let begun = begun_for S model opening W x bound w key t known.0 known.1 known.2 e entry (inl live) in
+      let begun = begun_for S model opening W x bound w key t known.0 known.1 known.2 e entry live in
       (known.0, known.1, subst (λ (y : State). StateFits W number t.ask y known.0 known.1 w.net.log) is begun.state)
 
-  pub done_performed : (e : ServerTransaction) → w.net.entries key ≡ Some e → is_live now e ≡ true → (kept : Apdu) → e.state ≡ Done kept → (p : reply)
-      → kept ≡ server.reply_apdu (server_context x key now) t.ask.choice p → Has (Performed number (request_of t.ask) p) w.net.log
+  pub done_performed : (e : ServerTransaction) → w.net.entries key ≡ Some e → is_live now.there e ≡ true → (kept : Apdu) → e.state ≡ Done kept → (p : reply)
+      → kept ≡ server.reply_apdu (server_context x key now.there) t.ask.choice p → Has (Performed number (request_of t.ask) p) w.net.log
   done_performed e entry live kept is p same =
       let f = state_fits e entry live (Done kept) is in
-      kept_performed number t.ask (server_context x key now) w.net.log p
+      kept_performed number t.ask (server_context x key now.there) w.net.log p
       (subst (λ (a : Apdu). IsKeptFor number t.ask a w.net.log) same (done_fits W number t.ask kept f.0 f.1 w.net.log f.2))
 
-  pub reply_performed : (e : ServerTransaction) → w.net.entries key ≡ Some e → is_live now e ≡ true → (out : Outgoing) (transfer : server.Transfer) (since : ℕ)
+  pub reply_performed : (e : ServerTransaction) → w.net.entries key ≡ Some e → is_live now.there e ≡ true → (out : Outgoing) (transfer : server.Transfer) (since : ℕ)
       → e.state ≡ SegmentedResponse out transfer since → (p : reply) → p ≡ Complex (join out.pieces)
       → Has (Performed number (request_of t.ask) p) w.net.log
   reply_performed e entry live out transfer since is p same =
@@ -93,56 +78,60 @@ module _ (S : Type 0) (model : StoreModel S) (opening : ℕ → S) (W : ℕ) (x 
 
   -- The tick of the client.
 
-  pub ticked : w.net.serves_from key.server ≤ now → (r : client.Reaction) (q : TransactionPair S) → client.client_ticks (client_context x key now) t ≡ r → client.after now t r ≡ q.ticket
+  pub ticked : w.net.serves_from key.server ≤ now.there → (r : client.Reaction) (q : TransactionPair S) → client.client_ticks (client_context x key now.here) t ≡ r → client.after now.here t r ≡ q.ticket
       → client.sends_of r ≡ q.pending → client.ending_of r ≡ None → w.stores ≡ q.stores → w.net.log ≡ q.log
-      → live_entry now (w.net.entries key) ≡ live_entry now q.entry
+      → live_entry now.there (w.net.entries key) ≡ live_entry now.there q.entry
       → Shows S model x now number key (happens S model x w (Tick (key ∷ []) [])) q (length w.net.posts)
   ticked serving r q is ticket sends none stores log entry =
       subst (λ (v : World S). Shows S model x now number key v q (length w.net.posts))
       (sym (ap (ticks_ticket S x w key) at ∙ ap (reacts S w key t) is))
       (record {
-        ticket = set_same w.net.tickets key (Some (client.after now t r)) ∙ ap Some ticket;
+        ticket = set_same w.net.tickets key (Some (client.after now.here t r)) ∙ ap Some ticket;
         entry = entry;
         number_is = refl;
         old = w.net.posts;
-        posts = ap (λ (xs : List Apdu). w.net.posts ++ map (post_of key now) xs) sends;
+        posts = ap (λ (xs : List Apdu). w.net.posts ++ map (post_of key now.real) xs) sends;
         count = refl;
         stores = stores;
         log = ap (λ (o : Option Ending). ended number o w.net.log) none ∙ log;
         moment = refl;
+        here = refl;
+        there = refl;
         opens = serving;
       })
 
   -- The tick of the server: the window of a reply is sent again.
 
-  pub server_ticked : w.net.serves_from key.server ≤ now → (e : ServerTransaction) → w.net.entries key ≡ Some e → is_live now e ≡ true → (out : Outgoing) (since : ℕ)
-      → e.state ≡ SegmentedResponse out Running since → T_SEG ≤ now - since → 0 < out.retries → (q : TransactionPair S) → q.ticket ≡ t
-      → q.entry ≡ Some (record e { state = SegmentedResponse (record out { retries = out.retries - 1 }) Running now })
-      → q.pending ≡ server.reply_window (server_context x key now) e.choice (record out { retries = out.retries - 1 })
+  pub server_ticked : w.net.serves_from key.server ≤ now.there → (e : ServerTransaction) → w.net.entries key ≡ Some e → is_live now.there e ≡ true → (out : Outgoing) (since : ℕ)
+      → e.state ≡ SegmentedResponse out Running since → T_SEG ≤ now.there - since → 0 < out.retries → (q : TransactionPair S) → q.ticket ≡ t
+      → q.entry ≡ Some (record e { state = SegmentedResponse (record out { retries = out.retries - 1 }) Running now.there })
+      → q.pending ≡ server.reply_window (server_context x key now.there) e.choice (record out { retries = out.retries - 1 })
       → q.stores ≡ w.stores → q.log ≡ w.net.log
       → Shows S model x now number key (happens S model x w (Tick [] (key ∷ []))) q (length w.net.posts)
   server_ticked serving e entry live out since is due left q ticket entry_is pending stores log =
       subst (λ (v : World S). Shows S model x now number key v q (length w.net.posts)) (sym (ap (serves S model w key) ticks))
       (record {
         ticket = at ∙ ap Some (sym ticket);
-        entry = ap (live_entry now) (set_same w.net.entries key (Some next) ∙ sym entry_is);
+        entry = ap (live_entry now.there) (set_same w.net.entries key (Some next) ∙ sym entry_is);
         number_is = refl;
         old = w.net.posts;
-        posts = ap (λ (xs : List Apdu). w.net.posts ++ map (post_of key now) xs) (sym pending);
+        posts = ap (λ (xs : List Apdu). w.net.posts ++ map (post_of key now.real) xs) (sym pending);
         count = refl;
         stores = sym stores;
         log = sym log;
         moment = refl;
+        here = refl;
+        there = refl;
         opens = serving;
       })
     where
       d : Context
-      d = server_context x key now
+      d = server_context x key now.there
 
       next : ServerTransaction
-      next = record e { state = SegmentedResponse (record out { retries = out.retries - 1 }) Running now }
+      next = record e { state = SegmentedResponse (record out { retries = out.retries - 1 }) Running now.there }
 
-      late : nat_le T_SEG (now - since) ≡ true
+      late : nat_le T_SEG (now.there - since) ≡ true
       late = grind (arith, nat_tests)
 
       some : nat_eq out.retries 0 ≡ false

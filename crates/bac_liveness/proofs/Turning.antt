@@ -4,7 +4,7 @@ use Rattle.std.proofs.Common.{if◌then◌else◌, nat_le, nat_eq, refl, sym, ap
 use Rattle.std.proofs.lemmas.Bool.Decides.{nat_tests}
 use Rattle.bac_apdu.specs.Apdu.{Apdu}
 use Rattle.bac_segment.specs.Pieces.{join}
-use Rattle.bac_protocol.specs.declared.times.TheConstants.{T_OUT, LIFE}
+use Rattle.bac_protocol.specs.declared.times.TheConstants.{T_OUT}
 use Rattle.bac_protocol.specs.Context.{Context}
 use Rattle.bac_protocol.specs.Service.{Reply}
 use Rattle.bac_protocol.specs.Service.Ending.{TimedOut, Expired}
@@ -20,11 +20,14 @@ use Rattle.bac_protocol.specs.World.Event.{Tick, Deliver}
 use Rattle.bac_protocol.specs.Claims.{IsBounded}
 use Rattle.bac_protocol.proofs.Headline.{Kept, run_kept, event_kept, start_kept}
 use Rattle.bac_protocol.proofs.Keys.{set_same}
-use Rattle.bac_liveness.specs.Runs.{IsOnItsWay}
+use Rattle.bac_protocol.specs.Pace.{Pace, IsTimely}
+use Rattle.bac_protocol.specs.World.{client_now, server_now}
+use Rattle.bac_liveness.specs.Runs.{IsOnItsWay, StaysSince}
 use Rattle.bac_liveness.specs.RoundTrip.{request_to, answer_to, FitsInOne, CanPerform, HasPerformed, IsAnsweredNow, IsServed}
 use Rattle.bac_liveness.specs.Turns.{IsDue, OneTurnSuffices}
 use Rattle.bac_liveness.proofs.Endings.{request_now}
-use Rattle.bac_liveness.proofs.RoundTrips.{trip}
+use Rattle.bac_liveness.proofs.RoundTrips.{trip, sound, bounded_in}
+use Rattle.bac_liveness.proofs.Paths.{Bounded}
 use Rattle.bac_liveness.proofs.Robust.{at_end}
 
 -- the last copy that was sent has no later ones, and may arrive at once
@@ -40,17 +43,17 @@ last_on_its_way S x w key a posts is = record {
   at = ap (λ (ps : List Post). slice_get ps (length posts)) is ∙ at_end posts (post_of key w.net.now a);
   key_is = refl;
   apdu_is = refl;
-  arrives = ap (λ (ps : List Post). is_deliverable x w.net.now (length posts) ps (post_of key w.net.now a)) is
-      ∙ ap (λ (k : ℕ). nat_le (w.net.now - w.net.now) LIFE && nat_le k x.overtake) (none_later key posts (post_of key w.net.now a)) ∙ both;
+  arrives = ap (λ (ps : List Post). is_deliverable x (record w.net { posts = ps }) (length posts) (post_of key w.net.now a)) is
+      ∙ ap (λ (k : ℕ). nat_le (w.net.now - w.net.now) w.net.pace.life && nat_le k x.overtake) (none_later key posts (post_of key w.net.now a)) ∙ both;
 }
   where
-    young : nat_le (w.net.now - w.net.now) LIFE ≡ true
+    young : nat_le (w.net.now - w.net.now) w.net.pace.life ≡ true
     young = grind (arith, nat_tests)
 
     none : nat_le 0 x.overtake ≡ true
     none = grind (arith, nat_tests)
 
-    both : (nat_le (w.net.now - w.net.now) LIFE && nat_le 0 x.overtake) ≡ true
+    both : (nat_le (w.net.now - w.net.now) w.net.pace.life && nat_le 0 x.overtake) ≡ true
     both = ap (λ b. b && nat_le 0 x.overtake) young ∙ none
 
 -- a tick that is due sends the request
@@ -73,8 +76,8 @@ due_repeats c t whole d =
     left = let y = d.left in grind (arith, nat_tests)
 
 module _ (S : Type 0) (model : StoreModel S) (opening : ℕ → S) (W : ℕ) (x : Rules) (bound : IsBounded W x) where
-  module _ (w : World S) (s : Kept S model opening W x bound w) (key : Key) (t : ClientTransaction) (at : w.net.tickets key ≡ Some t) (whole : t.ask.whole ≡ true)
-      (d : IsDue w.net.now t) (p : Reply) (fits : FitsInOne x key t.ask p) (free other : Bool)
+  module _ (w : World S) (s : Kept S model opening W x bound w) (bounded : Bounded w.net) (key : Key) (t : ClientTransaction) (at : w.net.tickets key ≡ Some t) (whole : t.ask.whole ≡ true)
+      (d : IsDue (client_now w.net key) t) (p : Reply) (fits : FitsInOne x key t.ask p) (free other : Bool)
       (can : CanPerform S model w key t.ask free p ⊎ HasPerformed x w.net key t.ask (Some (join t.ask.pieces)) p) where
     -- the tick
     abbrev r : client.Reaction
@@ -84,13 +87,13 @@ module _ (S : Type 0) (model : StoreModel S) (opening : ℕ → S) (W : ℕ) (x 
     v = reacts S w key t r
 
     ticked : happens S model x w (Tick (key ∷ []) []) ≡ v
-    ticked = ap (ticks_ticket S x w key) at ∙ ap (reacts S w key t) (due_repeats (client_context x key w.net.now) t whole d)
+    ticked = ap (ticks_ticket S x w key) at ∙ ap (reacts S w key t) (due_repeats (client_context x key (client_now w.net key)) t whole d)
 
     v_sound : Kept S model opening W x bound v
     v_sound = subst (λ (y : World S). Kept S model opening W x bound y) ticked (event_kept S model opening W x bound w s (Tick (key ∷ []) []))
 
     abbrev t_next : ClientTransaction
-    t_next = client.after w.net.now t r
+    t_next = client.after (client_now w.net key) t r
 
     t_there : v.net.tickets key ≡ Some t_next
     t_there = set_same w.net.tickets key (Some t_next)
@@ -107,11 +110,20 @@ module _ (S : Type 0) (model : StoreModel S) (opening : ℕ → S) (W : ℕ) (x 
     abbrev u : World S
     u = happens S model x v (Deliver (length w.net.posts) free)
 
-    served : IsServed S model x key t.ask p v u
-    served = trip S model opening W x bound v v_sound key t_next t_there p fits whole free (can_now can) (length w.net.posts) request
-
     u_is : u ≡ takes_at_server S model x v key free (request_to x key t.ask)
     u_is = request_now S model x v key (request_to x key t.ask) (length w.net.posts) free refl request
+
+    v_bounded : Bounded v.net
+    v_bounded = record { made = bounded.made; lives = bounded.lives }
+
+    stays : StaysSince w.net key (w.net.made key)
+    stays = (((sound S model opening W x bound w s key t at).2).lives (ap is_idle d.waits))
+
+    stays_u : StaysSince u.net key (w.net.made key)
+    stays_u = subst (λ (y : World S). StaysSince y.net key (w.net.made key)) (sym u_is) stays
+
+    served : IsServed S model x key t.ask p v u
+    served = trip S model opening W x bound v v_sound v_bounded key t_next t_there p fits whole free (can_now can) (length w.net.posts) request
 
     u_now : u.net.now ≡ w.net.now
     u_now = ap (λ (y : World S). y.net.now) u_is
@@ -131,11 +143,11 @@ module _ (S : Type 0) (model : StoreModel S) (opening : ℕ → S) (W : ℕ) (x 
       served.performed,
       subst (λ (k : ℕ). IsAnsweredNow S key (w.net.numbers key) p u (happens S model x u (Deliver k other)))
           (number_is w.net.posts (post_of key w.net.now (request_to x key t.ask)))
-          (served.answered [] (record {
+          (served.answered [] stays_u (record {
             ticket = t_next;
             at = ap (λ (y : World S). y.net.tickets key) u_is ∙ t_there;
             going = ap is_idle d.waits;
-            in_time = let y = d.in_time in let z = u_now in omega arith;
+            in_time = let y = d.in_time in let z : client_now u.net key ≡ client_now w.net key = ap (λ (y : World S). client_now y.net key) u_is in omega arith;
           }) (length v.net.posts) answer other),
     )
 
@@ -146,7 +158,7 @@ module _ (S : Type 0) (model : StoreModel S) (opening : ℕ → S) (W : ℕ) (x 
         Has (Performed (w.net.numbers key) (request_of t.ask) p) y.net.log
         × IsAnsweredNow S key (w.net.numbers key) p y (happens S model x y (Deliver (length w.net.posts + 1) other))) (sym ticked) turn_at_v
 
-  pub turns : (events : List Event) → OneTurnSuffices S model x (run S model x events (start S opening))
-  turns events key t at whole d p fits free other can =
-      turn (run S model x events (start S opening)) (run_kept S model opening W x bound events (start S opening) (start_kept S model opening W x bound))
-      key t at whole d p fits free other can
+  pub turns : (pace : Pace) → IsTimely pace → (clocks : ℕ → ℕ) → (events : List Event) → OneTurnSuffices S model x (run S model x events (start S pace clocks opening))
+  turns pace timely clocks events key t at whole d p fits free other can =
+      turn (run S model x events (start S pace clocks opening)) (run_kept S model opening W x bound events (start S pace clocks opening) (start_kept S model opening W x bound pace timely clocks))
+      (bounded_in S model opening W x bound pace timely clocks events) key t at whole d p fits free other can

@@ -25,7 +25,7 @@ use Rattle.bac_protocol.specs.Transaction.{Key, Rules, client_context, server_co
 use Rattle.bac_protocol.specs.World.{stored}
 use Rattle.bac_protocol.specs.Straight.{WayFits}
 use Rattle.bac_protocol.proofs.Facts.{pieces_length}
-use Rattle.bac_protocol.proofs.Queue.{TransactionPair, step, served, reacted}
+use Rattle.bac_protocol.proofs.Queue.{Nows, TransactionPair, step, served, reacted}
 use Rattle.bac_protocol.proofs.Windows.{takes_last, next_window, finished}
 use Rattle.bac_protocol.proofs.Carries.{Sender, moved, Fitting}
 use Rattle.bac_protocol.proofs.Requested.{kept_state, first_sent}
@@ -35,13 +35,13 @@ use Rattle.bac_liveness.proofs.Acks.{acknowledged_some, acks_read}
 use Rattle.bac_liveness.proofs.Rounds.{IsRound, LastLeft, all_rounds}
 use Rattle.bac_liveness.proofs.Gets.{client_opens, server_lives, lives, performs_is}
 
-module _ (S : Type 0) (model : StoreModel S) (x : Rules) (now number : ℕ) (key : Key) (ask : Ask) (young : client.is_expired now ask ≡ false)
-    (repeats begin : ℕ) (alive : nat_le (now - begin) KEEP ≡ true) (stores : ℕ → S) (log : List Fact) where
+module _ (S : Type 0) (model : StoreModel S) (x : Rules) (now : Nows) (number : ℕ) (key : Key) (ask : Ask) (young : client.is_expired now.here ask ≡ false)
+    (repeats begin : ℕ) (alive : nat_le (now.there - begin) KEEP ≡ true) (stores : ℕ → S) (log : List Fact) where
   abbrev c : Context
-  c = client_context x key now
+  c = client_context x key now.here
 
   abbrev d : Context
-  d = server_context x key now
+  d = server_context x key now.there
 
   abbrev service : Service
   service = model.outcome (stores key.server)
@@ -60,7 +60,7 @@ module _ (S : Type 0) (model : StoreModel S) (x : Rules) (now number : ℕ) (key
   ack nak i = server.server_ack d nak i actual
 
   abbrev pub in_phase : Phase → ClientTransaction
-  in_phase phase = record { ask = ask; phase = phase; repeats = repeats; since = now }
+  in_phase phase = record { ask = ask; phase = phase; repeats = repeats; since = now.here }
 
   abbrev sending : Sender → ClientTransaction
   sending s = in_phase (Phase.SegmentedRequest s.out s.all_sent)
@@ -79,9 +79,9 @@ module _ (S : Type 0) (model : StoreModel S) (x : Rules) (now number : ℕ) (key
   Goes most p q = Within S model x now number key most p q
 
   abbrev pub is_late : ℕ → Bool
-  is_late m = nat_le T_WAIT_FOR_SEG (now - m)
+  is_late m = nat_le T_WAIT_FOR_SEG (now.there - m)
 
-  pub not_late : is_late now ≡ false
+  pub not_late : is_late now.there ≡ false
   not_late = grind (arith, nat_tests)
 
   server_takes : (inc : Incoming) (m t : ℕ) (y : Taking) → is_late m ≡ false → takes inc (t % 256) (nat_lt (t + 1) n) (get_or ask.pieces t []) ≡ y
@@ -95,33 +95,33 @@ module _ (S : Type 0) (model : StoreModel S) (x : Rules) (now number : ℕ) (key
 
   pub acks_one : (s : Sender) (inc inc' : Incoming) (m t : ℕ) (xs : List Apdu) → is_late m ≡ false → inc.window ≡ actual → length xs ≤ x.overtake
       → takes inc (t % 256) (nat_lt (t + 1) n) (get_or ask.pieces t []) ≡ Taken true inc'
-      → Goes 1 (requesting s inc m (piece t ∷ xs)) (requesting s inc' now (xs ++ ack false (t % 256) ∷ []))
+      → Goes 1 (requesting s inc m (piece t ∷ xs)) (requesting s inc' now.there (xs ++ ack false (t % 256) ∷ []))
   acks_one s inc inc' m t xs timely is few e =
       let from = requesting s inc m (piece t ∷ xs) in
-      one_step S model x now number key from (requesting s inc' now (xs ++ ack false (t % 256) ∷ [])) xs (piece t) refl few refl
-      (lives now (taking inc m) alive)
+      one_step S model x now number key from (requesting s inc' now.there (xs ++ ack false (t % 256) ∷ [])) xs (piece t) refl few refl
+      (lives now.there (taking inc m) alive)
       (ap (λ (v : server.Reaction). served S model x now number key from xs v) (server_takes inc m t (Taken true inc') timely e)
-      ∙ ap (λ (i : ℕ). requesting s inc' now (xs ++ server.server_ack d false (t % 256) i ∷ [])) is)
+      ∙ ap (λ (i : ℕ). requesting s inc' now.there (xs ++ server.server_ack d false (t % 256) i ∷ [])) is)
 
   pub keeps_one : (s : Sender) (inc inc' : Incoming) (m t : ℕ) (xs : List Apdu) → is_late m ≡ false → length xs ≤ x.overtake
       → takes inc (t % 256) (nat_lt (t + 1) n) (get_or ask.pieces t []) ≡ Taken false inc'
-      → Goes 1 (requesting s inc m (piece t ∷ xs)) (requesting s inc' now xs)
+      → Goes 1 (requesting s inc m (piece t ∷ xs)) (requesting s inc' now.there xs)
   keeps_one s inc inc' m t xs timely few e =
       let from = requesting s inc m (piece t ∷ xs) in
-      one_step S model x now number key from (requesting s inc' now xs) xs (piece t) refl few refl (lives now (taking inc m) alive)
+      one_step S model x now number key from (requesting s inc' now.there xs) xs (piece t) refl few refl (lives now.there (taking inc m) alive)
       (ap (λ (v : server.Reaction). served S model x now number key from xs v) (server_takes inc m t (Taken false inc') timely e)
-      ∙ ap (λ (ys : List Apdu). requesting s inc' now ys) (append-nil xs))
+      ∙ ap (λ (ys : List Apdu). requesting s inc' now.there ys) (append-nil xs))
 
   pub naks_one : (s : Sender) (inc : Incoming) (m p q : ℕ) (xs : List Apdu) → is_late m ≡ false → inc.window ≡ actual → q + 1 ≡ length inc.parts
       → length xs ≤ x.overtake → takes inc (p % 256) (nat_lt (p + 1) n) (get_or ask.pieces p []) ≡ Nak (quiet inc)
-      → Goes 1 (requesting s inc m (piece p ∷ xs)) (requesting s (quiet inc) now (xs ++ ack true (q % 256) ∷ []))
+      → Goes 1 (requesting s inc m (piece p ∷ xs)) (requesting s (quiet inc) now.there (xs ++ ack true (q % 256) ∷ []))
   naks_one s inc m p q xs timely is taken few e =
       let from = requesting s inc m (piece p ∷ xs) in
       let q_is : length inc.parts - 1 ≡ q = omega arith in
-      one_step S model x now number key from (requesting s (quiet inc) now (xs ++ ack true (q % 256) ∷ [])) xs (piece p) refl few refl
-      (lives now (taking inc m) alive)
+      one_step S model x now number key from (requesting s (quiet inc) now.there (xs ++ ack true (q % 256) ∷ [])) xs (piece p) refl few refl
+      (lives now.there (taking inc m) alive)
       (ap (λ (v : server.Reaction). served S model x now number key from xs v) (server_takes inc m p (Nak (quiet inc)) timely e)
-      ∙ (λ i. requesting s (quiet inc) now (xs ++ server.server_ack d true (q_is i % 256) (is i) ∷ [])))
+      ∙ (λ i. requesting s (quiet inc) now.there (xs ++ server.server_ack d true (q_is i % 256) (is i) ∷ [])))
 
   client_moves : (s : Sender) (nak : Bool) (i : ℕ) (y : Option Outgoing) → acknowledged c.settings.window s.out i actual ≡ y
       → client.client_on_apdu c x.readable (sending s) (ack nak i) ≡ client.moves_request_window c ask.choice s.all_sent y
@@ -129,7 +129,7 @@ module _ (S : Type 0) (model : StoreModel S) (x : Rules) (now number : ℕ) (key
       ∙ ap (λ (z : Option Outgoing). client.moves_request_window c ask.choice s.all_sent z) is
 
   -- the client sends, whatever its server does
-  module _ (o : Option ServerTransaction) (live : is_none_live now o ≡ false) (stores' : ℕ → S) (log' : List Fact) where
+  module _ (o : Option ServerTransaction) (live : is_none_live now.there o ≡ false) (stores' : ℕ → S) (log' : List Fact) where
     abbrev pub with_server : ClientTransaction → List Apdu → TransactionPair S
     with_server t pending = record { ticket = t; entry = o; pending = pending; stores = stores'; log = log' }
 
@@ -185,12 +185,13 @@ module _ (S : Type 0) (model : StoreModel S) (x : Rules) (now number : ℕ) (key
     piece = piece;
     ack = ack;
     is_late = is_late;
+    moment = now.there;
     in_time = not_late;
     acks = acks_one;
     keeps = keeps_one;
     naks = naks_one;
-    moves = λ s inc m. moves_one (Some (taking inc m)) (lives now (taking inc m) alive) stores log s;
-    ignores = λ s inc m. ignores_one (Some (taking inc m)) (lives now (taking inc m) alive) stores log s;
+    moves = λ s inc m. moves_one (Some (taking inc m)) (lives now.there (taking inc m) alive) stores log s;
+    ignores = λ s inc m. ignores_one (Some (taking inc m)) (lives now.there (taking inc m) alive) stores log s;
   }
 
   -- The server's store gives the reply p, which can reach the client.
@@ -256,8 +257,8 @@ module _ (S : Type 0) (model : StoreModel S) (x : Rules) (now number : ℕ) (key
       abbrev LastOf : TransactionPair S → ℕ → Type 0
       LastOf from most = LastLeft S model x now number key actual c.settings.window ask.pieces sizes near carries from most
 
-      abbrev live_after : is_none_live now (Some (performed_entry None)) ≡ false
-      live_after = lives now (performed_entry None) alive
+      abbrev live_after : is_none_live now.there (Some (performed_entry None)) ≡ false
+      live_after = lives now.there (performed_entry None) alive
 
       abbrev acked_next : Sender → ℕ → Sender
       acked_next s q = moved s (next_window actual c.settings.window s.out q)
@@ -284,7 +285,7 @@ module _ (S : Type 0) (model : StoreModel S) (x : Rules) (now number : ℕ) (key
           (takes_last ask.pieces z.inc z.p z.last sizes.few sizes.short z.taken z.parts)
           ∙ ap (λ (i : ℕ). server.request_segment_taken d service (taking z.inc z.m) (z.p % 256) i (Whole ask.pieces)) z.actual_is in
           one_step S model x now number key before (performed (sending z.s) None (xs ++ (ack false (z.p % 256) ∷ sent_first ∷ []))) xs (piece z.p) refl
-          (omega arith) refl (lives now (taking z.inc z.m) alive)
+          (omega arith) refl (lives now.there (taking z.inc z.m) alive)
           (performs_now (sending z.s) (Some (taking z.inc z.m)) None (State.SegmentedRequest z.inc z.m) (piece z.p) (ack false (z.p % 256) ∷ []) xs refl f)
 
       -- and what the client then hears

@@ -28,9 +28,15 @@ use Rattle.bac_protocol.proofs.Dead.{ended_is_silent}
 use Rattle.bac_liveness.specs.Runs.{IsOnItsWay}
 use Rattle.bac_liveness.specs.RoundTrip.{FitsInOne, request_to, answer_to}
 use Rattle.bac_liveness.specs.Repeats.{IsAnswered, PATIENCE}
-use Rattle.bac_liveness.proofs.Paths.{some_is, ask_of, Comes, Step, Path, step_now, grows_ended, grows_performed}
+use Rattle.bac_liveness.specs.Runs.{StaysSince}
+use Rattle.bac_protocol.specs.Pace.{clock_at}
+use Rattle.bac_liveness.proofs.Paths.{Bounded, path_bounded, step_restarted, some_is, ask_of, Comes, Step, Path, step_now, grows_ended, grows_performed}
 use Rattle.bac_liveness.proofs.Paths.Step.{Asks, Serves, Hears, TicksTicket, TicksEntry, Passes, Changes, RestartsClient, RestartsServer}
 use Rattle.bac_liveness.proofs.Paths.Path.{Here, Then}
+use Rattle.bac_protocol.specs.Pace.{Pace, Clock}
+use Rattle.bac_protocol.specs.World.{client_now, server_now, passes}
+use Rattle.bac_protocol.proofs.Paces.{since_now, shows_on}
+use Rattle.bac_liveness.proofs.Clocks.{IsBegunAfter, MadeIn, alive, made_step, begun_passes, here_step, made_path}
 use Rattle.bac_liveness.proofs.Kept.{held_in_time}
 use Rattle.bac_liveness.proofs.Serving.{answer_any_time, answer_not_from_client, answer_ends, performed_entry, answers_first, serves_new, serves_again}
 
@@ -52,16 +58,16 @@ of_map P k now [] h j q e = absurd cc
 of_map P k now (a ∷ more) h zero q e = let is : post_of k now a ≡ q = cc in subst (λ (y : Post). P y.copy.apdu) is h.0
 of_map P k now (a ∷ more) h (suc j) q e = of_map P k now more h.1 j q e
 
-none_later : (now by : ℕ) (o : Option ServerTransaction) → is_none_live now o ≡ true → is_none_live (now + by) o ≡ true
-none_later now by None e = refl
-none_later now by (Some d) e = go (is_live now d) refl (is_live (now + by) d) refl e
+none_later : (now later : ℕ) → now ≤ later → (o : Option ServerTransaction) → is_none_live now o ≡ true → is_none_live later o ≡ true
+none_later now later le None e = refl
+none_later now later le (Some d) e = go (is_live now d) refl (is_live later d) refl e
   where
-    go : (a : Bool) → is_live now d ≡ a → (b : Bool) → is_live (now + by) d ≡ b → (if a then false else true) ≡ true → (if b then false else true) ≡ true
+    go : (a : Bool) → is_live now d ≡ a → (b : Bool) → is_live later d ≡ b → (if a then false else true) ≡ true → (if b then false else true) ≡ true
     go true p b q z = absurd cc
     go false p true q z = absurd (grind (arith, nat_tests))
     go false p false q z = refl
 
-module _ (x : Rules) (key : Key) (ask : Ask) (number : ℕ) where
+module _ (x : Rules) (key : Key) (ask : Ask) (number made : ℕ) where
   -- a reply of the ask
   abbrev pub WasGiven : Reply → List Fact → Type 0
   WasGiven p log = FitsInOne x key ask p × Has (Performed number (request_of ask) p) log
@@ -71,18 +77,24 @@ module _ (x : Rules) (key : Key) (ask : Ask) (number : ℕ) where
   IsFine log a = (a ≡ request_to x key ask) ⊎ ((p : Reply) × (a ≡ answer_to x key ask p) × WasGiven p log)
 
   -- the entry keeps a reply with which it was performed
-  pub record IsDoneFor (o : Option ServerTransaction) (log : List Fact) : Type 0 where
+  pub record IsDoneFor (p : Pace) (now : ℕ) (server : Clock) (o : Option ServerTransaction) (log : List Fact) : Type 0 where
     pub entry : ServerTransaction
     pub at : o ≡ Some entry
-    pub begun : ask.first ≤ entry.begin
+    pub begun : IsBegunAfter p now server made entry.begin
     pub choice : entry.choice ≡ ask.choice
     pub request : entry.request ≡ Some (join ask.pieces)
     pub reply : Reply
     pub state : entry.state ≡ Done (answer_to x key ask reply)
     pub given : WasGiven reply log
 
-  abbrev pub EntryFits : ℕ → Option ServerTransaction → List Fact → Type 0
-  EntryFits now o log = (is_none_live now o ≡ true) ⊎ IsDoneFor o log
+  abbrev pub EntryFits : (p : Pace) (now : ℕ) (server : Clock) → Option ServerTransaction → List Fact → Type 0
+  EntryFits p now server o log = (is_none_live server.shows o ≡ true) ⊎ IsDoneFor p now server o log
+
+  abbrev pub EntryIn : Net → Option ServerTransaction → List Fact → Type 0
+  EntryIn n o log = EntryFits n.pace n.now (n.server_clocks key.server) o log
+
+  abbrev pub DoneFor : Net → Option ServerTransaction → List Fact → Type 0
+  DoneFor n o log = IsDoneFor n.pace n.now (n.server_clocks key.server) o log
 
   -- the ticket waits: each repeat that was used took T_OUT
   pub record Patient (now : ℕ) (t : ClientTransaction) : Type 0 where
@@ -91,9 +103,9 @@ module _ (x : Rules) (key : Key) (ask : Ask) (number : ℕ) where
     pub since : ask.first + (3 - t.repeats) * 3000 ≤ t.since
     pub passed : t.since ≤ now
 
-  -- the ask is answered, or its client restarted since
+  -- the ask is answered
   abbrev pub IsOver : (from : ℕ) → List Fact → Type 0
-  IsOver from log = IsAnswered number ask log ⊎ (ask.first + REST < from)
+  IsOver from log = IsAnswered number ask log ⊎ ⊥
 
   abbrev pub PatientOrOver : (from now : ℕ) → ClientTransaction → List Fact → Type 0
   PatientOrOver from now t log = Patient now t ⊎ ((is_idle t.phase ≡ true) × IsOver from log)
@@ -105,11 +117,12 @@ module _ (x : Rules) (key : Key) (ask : Ask) (number : ℕ) where
     pub state : PatientOrOver from now ticket log
 
   pub record Waits (n : Net) : Type 0 where
-    pub clock : ask.first ≤ n.now
-    pub entry : EntryFits n.now (n.entries key) n.log
-    pub posts : (i : ℕ) (q : Post) → slice_get n.posts i ≡ Some q → q.key ≡ key → n.now - q.copy.moment ≤ LIFE → IsFine n.log q.copy.apdu
-    pub ticket : TicketFits (n.asks_from key.client) n.now (n.tickets key) n.log
+    pub clock : MadeIn n key ask.first made
+    pub entry : EntryIn n (n.entries key) n.log
+    pub posts : (i : ℕ) (q : Post) → slice_get n.posts i ≡ Some q → q.key ≡ key → n.now - q.copy.moment ≤ n.pace.life → IsFine n.log q.copy.apdu
+    pub ticket : TicketFits (n.asks_from key.client) (client_now n key) (n.tickets key) n.log
     pub number_is : n.numbers key ≡ number
+    pub made_is : n.made key ≡ made
 
   -- All this stays as the log grows.
 
@@ -117,9 +130,10 @@ module _ (x : Rules) (key : Key) (ask : Ask) (number : ℕ) where
   fine_grows log new g a (inl h) = inl h
   fine_grows log new g a (inr h) = inr (h.0, h.1, (h.2.0, g (Performed number (request_of ask) h.0) h.2.1))
 
-  entry_grows : (now : ℕ) (o : Option ServerTransaction) (log new : List Fact) → Grows log new → EntryFits now o log → EntryFits now o new
-  entry_grows now o log new g (inl h) = inl h
-  entry_grows now o log new g (inr h) = inr (record {
+  entry_grows : (p : Pace) (now : ℕ) (server : Clock) (o : Option ServerTransaction) (log new : List Fact) → Grows log new → EntryFits p now server o log
+      → EntryFits p now server o new
+  entry_grows p now server o log new g (inl h) = inl h
+  entry_grows p now server o log new g (inr h) = inr (record {
     entry = h.entry;
     at = h.at;
     begun = h.begun;
@@ -146,7 +160,7 @@ module _ (x : Rules) (key : Key) (ask : Ask) (number : ℕ) where
 
   -- the copies after some were sent
   posts_on : (n : Net) (k : Key) (sends : List Apdu) (log : List Fact) → Waits n → Grows n.log log → (k ≡ key → Each (IsFine log) sends)
-      → (i : ℕ) (q : Post) → slice_get (n.posts ++ map (post_of k n.now) sends) i ≡ Some q → q.key ≡ key → n.now - q.copy.moment ≤ LIFE
+      → (i : ℕ) (q : Post) → slice_get (n.posts ++ map (post_of k n.now) sends) i ≡ Some q → q.key ≡ key → n.now - q.copy.moment ≤ n.pace.life
       → IsFine log q.copy.apdu
   posts_on n k sends log h g own i q at is young = go (got n.posts (map (post_of k n.now) sends) i q at)
     where
@@ -157,18 +171,19 @@ module _ (x : Rules) (key : Key) (ask : Ask) (number : ℕ) where
   -- What one end does.
 
   abbrev ClientGoal : Net → ClientTransaction → client.Reaction → Type 0
-  ClientGoal n t r = TicketFits (n.asks_from key.client) n.now (Some (after n.now t r)) (ended number (ending_of r) n.log) × Each (IsFine n.log) (sends_of r)
+  ClientGoal n t r = TicketFits (n.asks_from key.client) (client_now n key) (Some (after (client_now n key) t r)) (ended number (ending_of r) n.log) × Each (IsFine n.log) (sends_of r)
 
   abbrev ServerGoal : Net → server.Reaction → Type 0
-  ServerGoal n v = EntryFits n.now v.entry (performed number v.effect n.log) × Each (IsFine (performed number v.effect n.log)) v.sends
+  ServerGoal n v = EntryIn n v.entry (performed number v.effect n.log) × Each (IsFine (performed number v.effect n.log)) v.sends
 
   client_waits : (n : Net) (k : Key) (t : ClientTransaction) (r : client.Reaction) → Waits n → (k ≡ key → ClientGoal n t r) → Waits (client_acts n k t r)
   client_waits n k t r h own = record {
     clock = h.clock;
-    entry = entry_grows n.now (n.entries key) n.log log g h.entry;
+    entry = entry_grows n.pace n.now (n.server_clocks key.server) (n.entries key) n.log log g h.entry;
     posts = posts_on n k (sends_of r) log h g (λ is. all_grow (sends_of r) (own is).1);
     ticket = go (decide_key k key);
     number_is = h.number_is;
+    made_is = h.made_is;
   }
     where
       log : List Fact
@@ -181,25 +196,26 @@ module _ (x : Rules) (key : Key) (ask : Ask) (number : ℕ) where
       all_grow [] e = tt
       all_grow (a ∷ ms) e = (fine_grows n.log log g a e.0, all_grow ms e.1)
 
-      made : Option ClientTransaction
-      made = Some (after n.now t r)
+      kept : Option ClientTransaction
+      kept = Some (after (client_now n k) t r)
 
-      go : ((k ≡ key) ⊎ (k ≡ key → ⊥)) → TicketFits (n.asks_from key.client) n.now (set_at n.tickets k made key) log
+      go : ((k ≡ key) ⊎ (k ≡ key → ⊥)) → TicketFits (n.asks_from key.client) (client_now n key) (set_at n.tickets k kept key) log
       go (inl is) =
           let own_log : n.numbers k ≡ number = ap n.numbers is ∙ h.number_is in
-          subst (λ (o : Option ClientTransaction). TicketFits (n.asks_from key.client) n.now o log)
-          (sym (subst (λ (j : Key). set_at n.tickets k made j ≡ made) is (set_same n.tickets k made)))
-          (subst (λ (m : ℕ). TicketFits (n.asks_from key.client) n.now made (ended m (ending_of r) n.log)) (sym own_log) (own is).0)
-      go (inr ne) = subst (λ (o : Option ClientTransaction). TicketFits (n.asks_from key.client) n.now o log) (sym (set_other n.tickets k made key ne))
-          (ticket_grows (n.asks_from key.client) n.now (n.tickets key) n.log log g h.ticket)
+          subst (λ (o : Option ClientTransaction). TicketFits (n.asks_from key.client) (client_now n key) o log)
+          (sym (subst (λ (j : Key). set_at n.tickets k kept j ≡ kept) is (set_same n.tickets k kept)))
+          (subst (λ (m : ℕ). TicketFits (n.asks_from key.client) (client_now n key) kept (ended m (ending_of r) n.log)) (sym own_log) (subst (λ (j : Key). TicketFits (n.asks_from key.client) (client_now n key) (Some (after (client_now n j) t r)) (ended number (ending_of r) n.log)) (sym is) (own is).0))
+      go (inr ne) = subst (λ (o : Option ClientTransaction). TicketFits (n.asks_from key.client) (client_now n key) o log) (sym (set_other n.tickets k kept key ne))
+          (ticket_grows (n.asks_from key.client) (client_now n key) (n.tickets key) n.log log g h.ticket)
 
   server_waits : (n : Net) (k : Key) (v : server.Reaction) → Waits n → (k ≡ key → ServerGoal n v) → Waits (server_acts n k v)
   server_waits n k v h own = record {
     clock = h.clock;
     entry = go (decide_key k key);
     posts = posts_on n k v.sends log h g (λ is. subst (λ (m : ℕ). Each (IsFine (performed m v.effect n.log)) v.sends) (sym (own_log is)) (own is).1);
-    ticket = ticket_grows (n.asks_from key.client) n.now (n.tickets key) n.log log g h.ticket;
+    ticket = ticket_grows (n.asks_from key.client) (client_now n key) (n.tickets key) n.log log g h.ticket;
     number_is = h.number_is;
+    made_is = h.made_is;
   }
     where
       log : List Fact
@@ -211,15 +227,15 @@ module _ (x : Rules) (key : Key) (ask : Ask) (number : ℕ) where
       own_log : k ≡ key → n.numbers k ≡ number
       own_log is = ap n.numbers is ∙ h.number_is
 
-      go : ((k ≡ key) ⊎ (k ≡ key → ⊥)) → EntryFits n.now (set_at n.entries k v.entry key) log
-      go (inl is) = subst (λ (o : Option ServerTransaction). EntryFits n.now o log)
+      go : ((k ≡ key) ⊎ (k ≡ key → ⊥)) → EntryIn n (set_at n.entries k v.entry key) log
+      go (inl is) = subst (λ (o : Option ServerTransaction). EntryIn n o log)
           (sym (subst (λ (j : Key). set_at n.entries k v.entry j ≡ v.entry) is (set_same n.entries k v.entry)))
-          (subst (λ (m : ℕ). EntryFits n.now v.entry (performed m v.effect n.log)) (sym (own_log is)) (own is).0)
-      go (inr ne) = subst (λ (o : Option ServerTransaction). EntryFits n.now o log) (sym (set_other n.entries k v.entry key ne))
-          (entry_grows n.now (n.entries key) n.log log g h.entry)
+          (subst (λ (m : ℕ). EntryIn n v.entry (performed m v.effect n.log)) (sym (own_log is)) (own is).0)
+      go (inr ne) = subst (λ (o : Option ServerTransaction). EntryIn n o log) (sym (set_other n.entries k v.entry key ne))
+          (entry_grows n.pace n.now (n.server_clocks key.server) (n.entries key) n.log log g h.entry)
 
   abbrev pub InPatience : Net → Type 0
-  InPatience n = n.now < ask.first + PATIENCE
+  InPatience n = client_now n key < ask.first + PATIENCE
 
   -- The ticket is over, or an answer or its timer comes.
 
@@ -227,17 +243,17 @@ module _ (x : Rules) (key : Key) (ask : Ask) (number : ℕ) where
   idle_stays n t is idle over = (record { ticket = t; at = refl; is = is; state = inr (idle, over) }, tt)
 
   -- what is known of the ticket, by its name
-  pub known : (n : Net) (t : ClientTransaction) → n.tickets key ≡ Some t → Waits n → (t.ask ≡ ask) × PatientOrOver (n.asks_from key.client) n.now t n.log
+  pub known : (n : Net) (t : ClientTransaction) → n.tickets key ≡ Some t → Waits n → (t.ask ≡ ask) × PatientOrOver (n.asks_from key.client) (client_now n key) t n.log
   known n t at h =
       let same : h.ticket.ticket ≡ t = some_is h.ticket.ticket t (sym h.ticket.at ∙ at) in
-      (subst (λ (y : ClientTransaction). y.ask ≡ ask) same h.ticket.is, subst (λ (y : ClientTransaction). PatientOrOver (n.asks_from key.client) n.now y n.log) same h.ticket.state)
+      (subst (λ (y : ClientTransaction). y.ask ≡ ask) same h.ticket.is, subst (λ (y : ClientTransaction). PatientOrOver (n.asks_from key.client) (client_now n key) y n.log) same h.ticket.state)
 
-  hears_answer : (n : Net) → InPatience n → (p : Reply) → WasGiven p n.log → (t : ClientTransaction) → t.ask ≡ ask → PatientOrOver (n.asks_from key.client) n.now t n.log
-      → ClientGoal n t (client.client_on_apdu (client_context x key n.now) x.readable t (answer_to x key ask p))
+  hears_answer : (n : Net) → InPatience n → (p : Reply) → WasGiven p n.log → (t : ClientTransaction) → t.ask ≡ ask → PatientOrOver (n.asks_from key.client) (client_now n key) t n.log
+      → ClientGoal n t (client.client_on_apdu (client_context x key (client_now n key)) x.readable t (answer_to x key ask p))
   hears_answer n young p given t is (inr o) =
-      subst (ClientGoal n t) (sym (ended_is_silent.gets (client_context x key n.now) x.readable t (answer_to x key ask p) o.0)) (idle_stays n t is o.0 o.1)
+      subst (ClientGoal n t) (sym (ended_is_silent.gets (client_context x key (client_now n key)) x.readable t (answer_to x key ask p) o.0)) (idle_stays n t is o.0 o.1)
   hears_answer n young p given t is (inl w) =
-      let c = client_context x key n.now in
+      let c = client_context x key (client_now n key) in
       let first : t.ask.first ≡ ask.first = ap (λ (a : Ask). a.first) is in
       subst (ClientGoal n t) (sym (subst (λ (a : Ask). client.client_on_apdu c x.readable t (answer_to x key a p) ≡ Ends [] (Answered p)) is
       (answer_ends c (server_context x key t.ask.first) x.readable t p w.waits (grind (arith, nat_tests))
@@ -245,18 +261,18 @@ module _ (x : Rules) (key : Key) (ask : Ask) (number : ℕ) where
       (record { ticket = record t { phase = Idle }; at = refl; is = is; state = inr (refl, inl (p, inr given.1, inl refl)) }, tt)
 
   -- an answer that comes to it leaves the ask answered, where its client has not restarted
-  pub told_answered : (n : Net) → Waits n → InPatience n → n.asks_from key.client ≤ ask.first + REST → (t : ClientTransaction) → n.tickets key ≡ Some t → (p : Reply) → WasGiven p n.log
-      → IsAnswered number ask (ended number (ending_of (client.client_on_apdu (client_context x key n.now) x.readable t (answer_to x key ask p))) n.log)
-  told_answered n h young stays t at p given = go (known n t at h).0 (known n t at h).1
+  pub told_answered : (n : Net) → Waits n → InPatience n → (t : ClientTransaction) → n.tickets key ≡ Some t → (p : Reply) → WasGiven p n.log
+      → IsAnswered number ask (ended number (ending_of (client.client_on_apdu (client_context x key (client_now n key)) x.readable t (answer_to x key ask p))) n.log)
+  told_answered n h young t at p given = go (known n t at h).0 (known n t at h).1
     where
-      go : t.ask ≡ ask → PatientOrOver (n.asks_from key.client) n.now t n.log
-          → IsAnswered number ask (ended number (ending_of (client.client_on_apdu (client_context x key n.now) x.readable t (answer_to x key ask p))) n.log)
-      go is (inr (idle, inr lost)) = absurd (omega arith)
+      go : t.ask ≡ ask → PatientOrOver (n.asks_from key.client) (client_now n key) t n.log
+          → IsAnswered number ask (ended number (ending_of (client.client_on_apdu (client_context x key (client_now n key)) x.readable t (answer_to x key ask p))) n.log)
+      go is (inr (idle, inr lost)) = absurd lost
       go is (inr (idle, inl o)) = answered_grows n.log
-          (ended number (ending_of (client.client_on_apdu (client_context x key n.now) x.readable t (answer_to x key ask p))) n.log)
-          (grows_ended number (ending_of (client.client_on_apdu (client_context x key n.now) x.readable t (answer_to x key ask p))) n.log) o
+          (ended number (ending_of (client.client_on_apdu (client_context x key (client_now n key)) x.readable t (answer_to x key ask p))) n.log)
+          (grows_ended number (ending_of (client.client_on_apdu (client_context x key (client_now n key)) x.readable t (answer_to x key ask p))) n.log) o
       go is (inl w) =
-          let c = client_context x key n.now in
+          let c = client_context x key (client_now n key) in
           let first : t.ask.first ≡ ask.first = ap (λ (a : Ask). a.first) is in
           subst (λ (r : client.Reaction). IsAnswered number ask (ended number (ending_of r) n.log))
           (sym (subst (λ (a : Ask). client.client_on_apdu c x.readable t (answer_to x key a p) ≡ Ends [] (Answered p)) is
@@ -309,36 +325,36 @@ module _ (x : Rules) (key : Key) (ask : Ask) (number : ℕ) where
       steps : (r : ℕ) → r ≤ 3 → ask.first + (3 - r) * 3000 ≤ t.since → ask.first + (3 - (r - 1)) * 3000 ≤ now
       steps r few s = let p = w.passed in omega arith
 
-  ticks_timer : (n : Net) → ask.whole ≡ true → InPatience n → (t : ClientTransaction) → t.ask ≡ ask → PatientOrOver (n.asks_from key.client) n.now t n.log
-      → ClientGoal n t (client.client_ticks (client_context x key n.now) t)
+  ticks_timer : (n : Net) → ask.whole ≡ true → InPatience n → (t : ClientTransaction) → t.ask ≡ ask → PatientOrOver (n.asks_from key.client) (client_now n key) t n.log
+      → ClientGoal n t (client.client_ticks (client_context x key (client_now n key)) t)
   ticks_timer n whole young t is (inr o) =
-      subst (ClientGoal n t) (sym (ended_is_silent.ticks (client_context x key n.now) t o.0)) (idle_stays n t is o.0 o.1)
-  ticks_timer n whole young t is (inl w) = go (nat_le T_OUT (n.now - t.since)) refl
+      subst (ClientGoal n t) (sym (ended_is_silent.ticks (client_context x key (client_now n key)) t o.0)) (idle_stays n t is o.0 o.1)
+  ticks_timer n whole young t is (inl w) = go (nat_le T_OUT (client_now n key - t.since)) refl
     where
-      go : (b : Bool) → nat_le T_OUT (n.now - t.since) ≡ b → ClientGoal n t (client.client_ticks (client_context x key n.now) t)
+      go : (b : Bool) → nat_le T_OUT (client_now n key - t.since) ≡ b → ClientGoal n t (client.client_ticks (client_context x key (client_now n key)) t)
       go false e = subst (ClientGoal n t)
-          (sym (ticks_by n.now t is w young ∙ ap (λ b. if b then client.repeats (client_context x key n.now) t else Stays) e))
+          (sym (ticks_by (client_now n key) t is w young ∙ ap (λ b. if b then client.repeats (client_context x key (client_now n key)) t else Stays) e))
           (record { ticket = t; at = refl; is = is; state = inl w }, tt)
       go true e =
-          let due : T_OUT ≤ n.now - t.since = grind (arith, nat_tests) in
+          let due : T_OUT ≤ client_now n key - t.since = grind (arith, nat_tests) in
           let r : client.Reaction = Repeats t.phase (request_to x key ask ∷ []) in
-          subst (ClientGoal n t) (sym (tick_repeats n.now t whole is w young due))
-          (record { ticket = after n.now t r; at = refl; is = is; state = inl (patient_on n.now t w young due) }, (inl refl, tt))
+          subst (ClientGoal n t) (sym (tick_repeats (client_now n key) t whole is w young due))
+          (record { ticket = after (client_now n key) t r; at = refl; is = is; state = inl (patient_on (client_now n key) t w young due) }, (inl refl, tt))
 
   -- The request or a tick comes to the server.
 
-  pub done_live : (n : Net) → InPatience n → (d : IsDoneFor (n.entries key) n.log) → is_live n.now d.entry ≡ true
-  done_live n young d = let b = d.begun in grind (arith, nat_tests)
+  pub done_live : (n : Net) → MadeIn n key ask.first made → InPatience n → (d : DoneFor n (n.entries key) n.log) → is_live (server_now n key) d.entry ≡ true
+  done_live n runs young d = alive n.pace n.now (n.client_clocks key.client) (n.server_clocks key.server) (n.restarted key.client) ask.first made runs (omega arith) d.entry d.begun
 
   -- a delivery finds a free slot of a server that does not wait and a reply that goes in one APDU, where no entry is live
   abbrev pub Finds : Net → ℕ → Bool → Service → Type 0
-  Finds n i free service = IsOnItsWay x n key (request_to x key ask) i → is_none_live n.now (n.entries key) ≡ true
+  Finds n i free service = IsOnItsWay x n key (request_to x key ask) i → is_none_live (server_now n key) (n.entries key) ≡ true
       → (p : Reply) × (is_room n key free ≡ true) × (service ask.choice (join ask.pieces) ≡ Replies p) × FitsInOne x key ask p
 
   abbrev on_request : Net → Service → Option ServerTransaction → Bool → server.Reaction
-  on_request n service o b = server.server_on_apdu (server_context x key n.now) service o b (request_to x key ask)
+  on_request n service o b = server.server_on_apdu (server_context x key (server_now n key)) service o b (request_to x key ask)
 
-  kept_goal : (n : Net) (o : Option ServerTransaction) (d : IsDoneFor o n.log) (sends : List Apdu) → Each (IsFine n.log) sends
+  kept_goal : (n : Net) (o : Option ServerTransaction) (d : DoneFor n o n.log) (sends : List Apdu) → Each (IsFine n.log) sends
       → ServerGoal n (record { entry = Some d.entry; sends = sends; effect = None })
   kept_goal n o d sends fine = (
     inr (record {
@@ -355,18 +371,22 @@ module _ (x : Rules) (key : Key) (ask : Ask) (number : ℕ) where
   )
 
   serves_request : (n : Net) → Waits n → InPatience n → (service : Service) (free : Bool)
-      → (is_none_live n.now (n.entries key) ≡ true → (p : Reply) × (free ≡ true) × (service ask.choice (join ask.pieces) ≡ Replies p) × FitsInOne x key ask p)
-      → EntryFits n.now (n.entries key) n.log → ServerGoal n (on_request n service (n.entries key) free)
+      → (is_none_live (server_now n key) (n.entries key) ≡ true → (p : Reply) × (free ≡ true) × (service ask.choice (join ask.pieces) ≡ Replies p) × FitsInOne x key ask p)
+      → EntryIn n (n.entries key) n.log → ServerGoal n (on_request n service (n.entries key) free)
   serves_request n h young service free finds (inl none) =
       let cl = client_context x key ask.first in
       let y = finds none in
       subst (ServerGoal n) (sym (ap (on_request n service (n.entries key)) y.1
-      ∙ serves_new (server_context x key n.now) cl service (n.entries key) ask y.0 none y.2 (y.3).way
-      ∙ ap (λ (a : Apdu). answers_first (performed_entry n.now cl ask a) ask y.0 a) (answer_any_time x key n.now ask.first ask.choice y.0))) (
+      ∙ serves_new (server_context x key (server_now n key)) cl service (n.entries key) ask y.0 none y.2 (y.3).way
+      ∙ ap (λ (a : Apdu). answers_first (performed_entry (server_now n key) cl ask a) ask y.0 a) (answer_any_time x key (server_now n key) ask.first ask.choice y.0))) (
         inr (record {
-          entry = performed_entry n.now cl ask (answer_to x key ask y.0);
+          entry = performed_entry (server_now n key) cl ask (answer_to x key ask y.0);
           at = refl;
-          begun = h.clock;
+          begun = record {
+            began = n.now;
+            after = h.clock.since.on;
+            since = since_now n.pace n.now (n.server_clocks key.server) h.clock.server_told;
+          };
           choice = refl;
           request = refl;
           reply = y.0;
@@ -377,48 +397,48 @@ module _ (x : Rules) (key : Key) (ask : Ask) (number : ℕ) where
       )
   serves_request n h young service free finds (inr d) =
       subst (ServerGoal n) (sym (ap (λ (o : Option ServerTransaction). on_request n service o free) d.at
-      ∙ serves_again (server_context x key n.now) (client_context x key ask.first) service d.entry free ask (answer_to x key ask d.reply)
-      (done_live n young d) d.state d.choice d.request))
+      ∙ serves_again (server_context x key (server_now n key)) (client_context x key ask.first) service d.entry free ask (answer_to x key ask d.reply)
+      (done_live n h.clock young d) d.state d.choice d.request))
       (kept_goal n (n.entries key) d (answer_to x key ask d.reply ∷ []) (inr (d.reply, refl, d.given), tt))
 
   -- it brings one answer
   pub brings_answer : (n : Net) → Waits n → InPatience n → (service : Service) (free : Bool)
-      → (is_none_live n.now (n.entries key) ≡ true → (p : Reply) × (free ≡ true) × (service ask.choice (join ask.pieces) ≡ Replies p) × FitsInOne x key ask p)
-      → (p : Reply) × ((server.server_on_apdu (server_context x key n.now) service (n.entries key) free (request_to x key ask)).sends ≡ answer_to x key ask p ∷ [])
+      → (is_none_live (server_now n key) (n.entries key) ≡ true → (p : Reply) × (free ≡ true) × (service ask.choice (join ask.pieces) ≡ Replies p) × FitsInOne x key ask p)
+      → (p : Reply) × ((server.server_on_apdu (server_context x key (server_now n key)) service (n.entries key) free (request_to x key ask)).sends ≡ answer_to x key ask p ∷ [])
   brings_answer n h young service free finds = go h.entry
     where
-      go : EntryFits n.now (n.entries key) n.log → (p : Reply) × ((on_request n service (n.entries key) free).sends ≡ answer_to x key ask p ∷ [])
+      go : EntryIn n (n.entries key) n.log → (p : Reply) × ((on_request n service (n.entries key) free).sends ≡ answer_to x key ask p ∷ [])
       go (inl none) =
           let cl = client_context x key ask.first in
           let y = finds none in (
             y.0,
             ap (λ (v : server.Reaction). v.sends) (ap (on_request n service (n.entries key)) y.1
-                ∙ serves_new (server_context x key n.now) cl service (n.entries key) ask y.0 none y.2 (y.3).way)
-                ∙ ap (λ (a : Apdu). a ∷ []) (answer_any_time x key n.now ask.first ask.choice y.0),
+                ∙ serves_new (server_context x key (server_now n key)) cl service (n.entries key) ask y.0 none y.2 (y.3).way)
+                ∙ ap (λ (a : Apdu). a ∷ []) (answer_any_time x key (server_now n key) ask.first ask.choice y.0),
           )
       go (inr d) = (
         d.reply,
         ap (λ (v : server.Reaction). v.sends) (ap (λ (o : Option ServerTransaction). on_request n service o free) d.at
-            ∙ serves_again (server_context x key n.now) (client_context x key ask.first) service d.entry free ask (answer_to x key ask d.reply)
-            (done_live n young d) d.state d.choice d.request),
+            ∙ serves_again (server_context x key (server_now n key)) (client_context x key ask.first) service d.entry free ask (answer_to x key ask d.reply)
+            (done_live n h.clock young d) d.state d.choice d.request),
       )
 
-  ticks_entry : (n : Net) → InPatience n → EntryFits n.now (n.entries key) n.log
-      → ServerGoal n (server.server_ticks (server_context x key n.now) (n.entries key))
-  ticks_entry n young (inl none) = go (n.entries key) none
+  ticks_entry : (n : Net) → MadeIn n key ask.first made → InPatience n → EntryIn n (n.entries key) n.log
+      → ServerGoal n (server.server_ticks (server_context x key (server_now n key)) (n.entries key))
+  ticks_entry n runs young (inl none) = go (n.entries key) none
     where
-      go : (o : Option ServerTransaction) → is_none_live n.now o ≡ true → ServerGoal n (server.server_ticks (server_context x key n.now) o)
+      go : (o : Option ServerTransaction) → is_none_live (server_now n key) o ≡ true → ServerGoal n (server.server_ticks (server_context x key (server_now n key)) o)
       go None e = (inl refl, tt)
-      go (Some d) e = by (is_live n.now d) refl e
+      go (Some d) e = by (is_live (server_now n key) d) refl e
         where
-          by : (b : Bool) → is_live n.now d ≡ b → (if b then false else true) ≡ true
-              → ServerGoal n (if b then server.live_ticks (server_context x key n.now) d d.state else server.rests (Some d) [])
+          by : (b : Bool) → is_live (server_now n key) d ≡ b → (if b then false else true) ≡ true
+              → ServerGoal n (if b then server.live_ticks (server_context x key (server_now n key)) d d.state else server.rests (Some d) [])
           by true is z = absurd cc
           by false is z = (inl e, tt)
-  ticks_entry n young (inr d) =
-      let c = server_context x key n.now in
+  ticks_entry n runs young (inr d) =
+      let c = server_context x key (server_now n key) in
       subst (ServerGoal n) (sym (ap (server.server_ticks c) d.at
-      ∙ ap (λ b. if b then server.live_ticks c d.entry d.entry.state else server.rests (Some d.entry) []) (done_live n young d)
+      ∙ ap (λ b. if b then server.live_ticks c d.entry d.entry.state else server.rests (Some d.entry) []) (done_live n runs young d)
       ∙ ap (λ (st : State). server.live_ticks c d.entry st) d.state))
       (kept_goal n (n.entries key) d [] tt)
 
@@ -426,9 +446,9 @@ module _ (x : Rules) (key : Key) (ask : Ask) (number : ℕ) where
 
   pub fine_comes : (n : Net) → Waits n → (i : ℕ) (q : Post) → Comes x n i q → q.key ≡ key → IsFine n.log q.copy.apdu
   fine_comes n h i q comes is = h.posts i q comes.at is
-      (young (nat_le (n.now - q.copy.moment) LIFE) (nat_le (later q.key i n.posts) x.overtake) refl comes.arrives)
+      (young (nat_le (n.now - q.copy.moment) n.pace.life) (nat_le (later q.key i n.posts) x.overtake) refl comes.arrives)
     where
-      young : (a b : Bool) → nat_le (n.now - q.copy.moment) LIFE ≡ a → (a && b) ≡ true → n.now - q.copy.moment ≤ LIFE
+      young : (a b : Bool) → nat_le (n.now - q.copy.moment) n.pace.life ≡ a → (a && b) ≡ true → n.now - q.copy.moment ≤ n.pace.life
       young true b e f = grind (arith, nat_tests)
       young false b e f = absurd cc
 
@@ -442,18 +462,19 @@ module _ (x : Rules) (key : Key) (ask : Ask) (number : ℕ) where
   fine_down log a down (inr r) = r
 
   key_held : (n : Net) → Waits n → InPatience n → is_id_held n key ≡ true
-  key_held n h young = held_in_time x Finds key number ask n
-      (record { ticket = h.ticket.ticket; at = h.ticket.at; is = h.ticket.is; number_is = h.number_is }) (omega arith)
+  key_held n h young = held_in_time x Finds key number ask made n
+      (record { ticket = h.ticket.ticket; at = h.ticket.at; is = h.ticket.is; number_is = h.number_is; made_is = h.made_is }) h.clock.stays (omega arith)
 
   -- another transaction's ask
   asked_waits : (n : Net) (k : Key) (other : Ask) → (k ≡ key → ⊥) → Waits n → Waits (asked_at x n k other)
   asked_waits n k other ne h = record {
     clock = h.clock;
-    entry = entry_grows n.now (n.entries key) n.log log g h.entry;
-    posts = posts_on n k (sends_of (client.asks (client_context x k n.now) other)) log h g (λ is. absurd (ne is));
-    ticket = subst (λ (o : Option ClientTransaction). TicketFits (n.asks_from key.client) n.now o log) (sym (set_other n.tickets k made key ne))
-        (ticket_grows (n.asks_from key.client) n.now (n.tickets key) n.log log g h.ticket);
+    entry = entry_grows n.pace n.now (n.server_clocks key.server) (n.entries key) n.log log g h.entry;
+    posts = posts_on n k (sends_of (client.asks (client_context x k (client_now n k)) other)) log h g (λ is. absurd (ne is));
+    ticket = subst (λ (o : Option ClientTransaction). TicketFits (n.asks_from key.client) (client_now n key) o log) (sym (set_other n.tickets k next_ticket key ne))
+        (ticket_grows (n.asks_from key.client) (client_now n key) (n.tickets key) n.log log g h.ticket);
     number_is = set_other n.numbers k n.asks key ne ∙ h.number_is;
+    made_is = set_other n.made k n.now key ne ∙ h.made_is;
   }
     where
       log : List Fact
@@ -462,33 +483,54 @@ module _ (x : Rules) (key : Key) (ask : Ask) (number : ℕ) where
       g : Grows n.log log
       g = grows_more (Asked n.asks k.client k.server (request_of other)) n.log
 
-      made : Option ClientTransaction
-      made = Some (client.asked_ticket (client_context x k n.now) other)
+      next_ticket : Option ClientTransaction
+      next_ticket = Some (client.asked_ticket (client_context x k (client_now n k)) other)
 
-  passes_waits : (n : Net) (by : ℕ) → Waits n → Waits (record n { now = n.now + by })
-  passes_waits n by h = record {
-    clock = let c = h.clock in omega arith;
+  passes_waits : (n : Net) (by : ℕ) (clients servers : ℕ → ℕ) → Waits n → Waits (passes n by clients servers)
+  passes_waits n by clients servers h = record {
+    clock = made_step x Finds key ask.first made n (passes n by clients servers) (Passes by clients servers) h.clock.stays h.clock;
     entry = entry_later h.entry;
     posts = λ i q at is young. h.posts i q at is (omega arith);
     ticket = record { ticket = h.ticket.ticket; at = h.ticket.at; is = h.ticket.is; state = state_later h.ticket.state };
     number_is = h.number_is;
+    made_is = h.made_is;
   }
     where
-      entry_later : EntryFits n.now (n.entries key) n.log → EntryFits (n.now + by) (n.entries key) n.log
-      entry_later (inl none) = inl (none_later n.now by (n.entries key) none)
-      entry_later (inr d) = inr d
+      entry_later : EntryIn n (n.entries key) n.log → EntryIn (passes n by clients servers) (n.entries key) n.log
+      entry_later (inl none) = inl (none_later (server_now n key) (server_now (passes n by clients servers) key)
+          (shows_on n.pace h.clock.timely.some by (servers key.server) (n.server_clocks key.server) h.clock.server_told) (n.entries key) none)
+      entry_later (inr d) = inr (record {
+        entry = d.entry;
+        at = d.at;
+        begun = begun_passes x Finds key ask.first made n by clients servers d.entry.begin d.begun;
+        choice = d.choice;
+        request = d.request;
+        reply = d.reply;
+        state = d.state;
+        given = d.given;
+      })
 
-      state_later : PatientOrOver (n.asks_from key.client) n.now h.ticket.ticket n.log → PatientOrOver (n.asks_from key.client) (n.now + by) h.ticket.ticket n.log
-      state_later (inl p) = inl (record { waits = p.waits; few = p.few; since = p.since; passed = let q = p.passed in omega arith })
+      state_later : PatientOrOver (n.asks_from key.client) (client_now n key) h.ticket.ticket n.log
+          → PatientOrOver (n.asks_from key.client) (client_now (passes n by clients servers) key) h.ticket.ticket n.log
+      state_later (inl p) = inl (record {
+        waits = p.waits;
+        few = p.few;
+        since = p.since;
+        passed =
+            let q = p.passed in
+            let on = shows_on n.pace h.clock.timely.some by (clients key.client) (n.client_clocks key.client) h.clock.client_told in
+            omega arith;
+      })
       state_later (inr o) = inr o
 
   changes_waits : (n : Net) (node : ℕ) (change : Octets) → Waits n → Waits (notes_change n node change)
   changes_waits n node change h = record {
     clock = h.clock;
-    entry = entry_grows n.now (n.entries key) n.log log g h.entry;
+    entry = entry_grows n.pace n.now (n.server_clocks key.server) (n.entries key) n.log log g h.entry;
     posts = λ i q at is young. fine_grows n.log log g q.copy.apdu (h.posts i q at is young);
-    ticket = ticket_grows (n.asks_from key.client) n.now (n.tickets key) n.log log g h.ticket;
+    ticket = ticket_grows (n.asks_from key.client) (client_now n key) (n.tickets key) n.log log g h.ticket;
     number_is = h.number_is;
+    made_is = h.made_is;
   }
     where
       log : List Fact
@@ -497,32 +539,31 @@ module _ (x : Rules) (key : Key) (ask : Ask) (number : ℕ) where
       g : Grows n.log log
       g = grows_more (Changed node change) n.log
 
-  -- a restart of its client loses the ticket, and one of its server the entry
-  client_lost : (n : Net) (node : ℕ) → Waits n → Waits (client_restarted n node)
-  client_lost n node h = record {
-    clock = h.clock;
+  -- another client's restart, and one of a server, which loses the entry
+  client_lost : (n : Net) (node exact : ℕ) → StaysSince (client_restarted n node exact) key made → Waits n → Waits (client_restarted n node exact)
+  client_lost n node exact stays h = record {
+    clock = made_step x Finds key ask.first made n (client_restarted n node exact) (RestartsClient node exact) stays h.clock;
     entry = h.entry;
     posts = h.posts;
-    ticket = go (nat_eq key.client node);
+    ticket = go (nat_eq key.client node) stays;
     number_is = h.number_is;
+    made_is = h.made_is;
   }
     where
-      go : (b : Bool) → TicketFits (if b then n.now + REST + 1 else n.asks_from key.client) n.now (if b then lost (n.tickets key) else n.tickets key) n.log
-      go true = record {
-        ticket = record (h.ticket.ticket) { phase = Idle };
-        at = ap lost h.ticket.at;
-        is = h.ticket.is;
-        state = inr (refl, inr (let clock = h.clock in omega arith));
-      }
-      go false = h.ticket
+      go : (b : Bool) → (if b then n.now + 1 else n.restarted key.client) ≤ made
+          → TicketFits (if b then (clock_at n.pace exact).shows + REST + 1 else n.asks_from key.client)
+          (if b then clock_at n.pace exact else n.client_clocks key.client).shows (if b then lost (n.tickets key) else n.tickets key) n.log
+      go true le = let on = h.clock.since.on in absurd (omega arith)
+      go false le = h.ticket
 
-  server_lost : (n : Net) (node : ℕ) (store : Option Octets) → Waits n → Waits (server_restarted n node store)
-  server_lost n node store h = record {
-    clock = h.clock;
+  server_lost : (n : Net) (node exact : ℕ) (store : Option Octets) → Waits n → Waits (server_restarted n node exact store)
+  server_lost n node exact store h = record {
+    clock = made_step x Finds key ask.first made n (server_restarted n node exact store) (RestartsServer node exact store) h.clock.stays h.clock;
     entry = go (nat_eq key.server node);
     posts = λ i q at is young. fine_grows n.log log g q.copy.apdu (h.posts i q at is young);
-    ticket = ticket_grows (n.asks_from key.client) n.now (n.tickets key) n.log log g h.ticket;
+    ticket = ticket_grows (n.asks_from key.client) (client_now n key) (n.tickets key) n.log log g h.ticket;
     number_is = h.number_is;
+    made_is = h.made_is;
   }
     where
       log : List Fact
@@ -531,40 +572,43 @@ module _ (x : Rules) (key : Key) (ask : Ask) (number : ℕ) where
       g : Grows n.log log
       g = grows_more (Restarted node store) n.log
 
-      go : (b : Bool) → EntryFits n.now (if b then None else n.entries key) log
+      go : (b : Bool) → EntryFits n.pace n.now (if b then clock_at n.pace exact else n.server_clocks key.server) (if b then None else n.entries key) log
       go true = inl refl
-      go false = entry_grows n.now (n.entries key) n.log log g h.entry
+      go false = entry_grows n.pace n.now (n.server_clocks key.server) (n.entries key) n.log log g h.entry
 
-  waits_step : ask.whole ≡ true → (n m : Net) → Step x Finds n m → Waits n → InPatience n → Waits m
-  waits_step whole n _ (Asks k choice w front rest free) h young = asked_waits n k (ask_of n.now choice w front rest)
+  waits_step : ask.whole ≡ true → (n m : Net) → Step x Finds n m → StaysSince m key made → Waits n → InPatience n → Waits m
+  waits_step whole n _ (Asks k choice w front rest free) stays h young = asked_waits n k (ask_of (client_now n k) choice w front rest)
       (λ is. let held = ap (is_id_held n) is ∙ key_held n h young in absurd (let z = sym held ∙ free in cc)) h
-  waits_step whole n _ (Serves i q free service comes up finds) h young =
-      server_waits n q.key (server.server_on_apdu (server_context x q.key n.now) service (n.entries q.key) (is_room n q.key free) q.copy.apdu) h (λ is.
+  waits_step whole n _ (Serves i q free service comes up finds) stays h young =
+      server_waits n q.key (server.server_on_apdu (server_context x q.key (server_now n q.key)) service (n.entries q.key) (is_room n q.key free) q.copy.apdu) h (λ is.
       let a = fine_up n.log q.copy.apdu up (fine_comes n h i q comes is) in
-      subst (λ (j : Key). ServerGoal n (server.server_on_apdu (server_context x j n.now) service (n.entries j) (is_room n j free) q.copy.apdu)) (sym is)
-      (subst (λ (y : Apdu). ServerGoal n (server.server_on_apdu (server_context x key n.now) service (n.entries key) (is_room n key free) y)) (sym a)
+      subst (λ (j : Key). ServerGoal n (server.server_on_apdu (server_context x j (server_now n j)) service (n.entries j) (is_room n j free) q.copy.apdu)) (sym is)
+      (subst (λ (y : Apdu). ServerGoal n (server.server_on_apdu (server_context x key (server_now n key)) service (n.entries key) (is_room n key free) y)) (sym a)
       (serves_request n h young service (is_room n key free)
       (finds (record { post = q; at = comes.at; key_is = is; apdu_is = a; arrives = comes.arrives })) h.entry)))
-  waits_step whole n _ (Hears i q t comes down there) h young =
-      client_waits n q.key t (client.client_on_apdu (client_context x q.key n.now) x.readable t q.copy.apdu) h (λ is.
+  waits_step whole n _ (Hears i q t comes down there) stays h young =
+      client_waits n q.key t (client.client_on_apdu (client_context x q.key (client_now n q.key)) x.readable t q.copy.apdu) h (λ is.
       let r = fine_down n.log q.copy.apdu down (fine_comes n h i q comes is) in
       let k = known n t (ap n.tickets (sym is) ∙ there) h in
-      subst (λ (j : Key). ClientGoal n t (client.client_on_apdu (client_context x j n.now) x.readable t q.copy.apdu)) (sym is)
-      (subst (λ (y : Apdu). ClientGoal n t (client.client_on_apdu (client_context x key n.now) x.readable t y)) (sym r.1)
+      subst (λ (j : Key). ClientGoal n t (client.client_on_apdu (client_context x j (client_now n j)) x.readable t q.copy.apdu)) (sym is)
+      (subst (λ (y : Apdu). ClientGoal n t (client.client_on_apdu (client_context x key (client_now n key)) x.readable t y)) (sym r.1)
       (hears_answer n young r.0 r.2 t k.0 k.1)))
-  waits_step whole n _ (TicksTicket k t there) h young =
-      client_waits n k t (client.client_ticks (client_context x k n.now) t) h (λ is.
+  waits_step whole n _ (TicksTicket k t there) stays h young =
+      client_waits n k t (client.client_ticks (client_context x k (client_now n k)) t) h (λ is.
       let y = known n t (ap n.tickets (sym is) ∙ there) h in
-      subst (λ (j : Key). ClientGoal n t (client.client_ticks (client_context x j n.now) t)) (sym is) (ticks_timer n whole young t y.0 y.1))
-  waits_step whole n _ (TicksEntry k) h young =
-      server_waits n k (server.server_ticks (server_context x k n.now) (n.entries k)) h (λ is.
-      subst (λ (j : Key). ServerGoal n (server.server_ticks (server_context x j n.now) (n.entries j))) (sym is) (ticks_entry n young h.entry))
-  waits_step whole n _ (Passes by) h young = passes_waits n by h
-  waits_step whole n _ (Changes node change) h young = changes_waits n node change h
-  waits_step whole n _ (RestartsClient node) h young = client_lost n node h
-  waits_step whole n _ (RestartsServer node store) h young = server_lost n node store h
+      subst (λ (j : Key). ClientGoal n t (client.client_ticks (client_context x j (client_now n j)) t)) (sym is) (ticks_timer n whole young t y.0 y.1))
+  waits_step whole n _ (TicksEntry k) stays h young =
+      server_waits n k (server.server_ticks (server_context x k (server_now n k)) (n.entries k)) h (λ is.
+      subst (λ (j : Key). ServerGoal n (server.server_ticks (server_context x j (server_now n j)) (n.entries j))) (sym is) (ticks_entry n h.clock young h.entry))
+  waits_step whole n _ (Passes by clients servers) stays h young = passes_waits n by clients servers h
+  waits_step whole n _ (Changes node change) stays h young = changes_waits n node change h
+  waits_step whole n _ (RestartsClient node exact) stays h young = client_lost n node exact stays h
+  waits_step whole n _ (RestartsServer node exact store) stays h young = server_lost n node exact store h
 
-  pub waits_path : ask.whole ≡ true → (n m : Net) → Path x Finds n m → Waits n → InPatience m → Waits m
-  waits_path whole n _ Here h young = h
-  waits_path whole n _ (Then l m p s) h young =
-      let earlier : InPatience l = omega (arith, step_now x Finds l m s) in waits_step whole l m s (waits_path whole n l p h earlier) earlier
+  pub waits_path : ask.whole ≡ true → (n m : Net) → Path x Finds n m → Bounded n → Waits n → StaysSince m key made → InPatience m → Waits m
+  waits_path whole n _ Here b h stays young = h
+  waits_path whole n _ (Then l m p s) b h stays young =
+      let before : StaysSince l key made = let le = step_restarted x Finds l m s (path_bounded x Finds n l p b) key.client in omega arith in
+      let on = here_step x Finds key ask.first made l m s stays (made_path x Finds key ask.first made n l p b before h.clock) in
+      let earlier : InPatience l = omega arith in
+      waits_step whole l m s stays (waits_path whole n l p b h before earlier) earlier

@@ -11,7 +11,7 @@ use Rattle.bac_protocol.specs.Wire.{pieces_from}
 use Rattle.bac_protocol.specs.Log.{StoreModel}
 use Rattle.bac_protocol.specs.Transaction.{Key, Rules}
 use Rattle.bac_protocol.proofs.Facts.{pieces_length}
-use Rattle.bac_protocol.proofs.Queue.{TransactionPair}
+use Rattle.bac_protocol.proofs.Queue.{Nows, TransactionPair}
 use Rattle.bac_protocol.proofs.Windows.{after_piece, taken_next, parts_next, takes_one}
 use Rattle.bac_protocol.proofs.Carries.{Sender, moved, Fitting}
 use Rattle.bac_liveness.proofs.Deliveries.{Within, within_then, no_step}
@@ -46,7 +46,7 @@ takes_old inc p more octets below near =
     ap (λ b. if b then (if is_too_long inc octets then TooLong else takes_expected inc more octets) else Nak (quiet inc)) e
 
 -- a sender of these pieces, and that it does what its part says
-pub record Moving (S : Type 0) (model : StoreModel S) (x : Rules) (now number : ℕ) (key : Key) (actual own : ℕ) (ps : List Octets) : Type 0 where
+pub record Moving (S : Type 0) (model : StoreModel S) (x : Rules) (now : Nows) (number : ℕ) (key : Key) (actual own : ℕ) (ps : List Octets) : Type 0 where
   pub sending : Sender → List Apdu → TransactionPair S
   pub piece : ℕ → Apdu
   pub ack : Bool → ℕ → Apdu
@@ -57,28 +57,29 @@ pub record Moving (S : Type 0) (model : StoreModel S) (x : Rules) (now number : 
       → Within S model x now number key 1 (sending s (ack nak i ∷ xs)) (sending s xs)
 
 -- the two ends of a transfer of these pieces, whichever sends, and that they do what their parts say; the receiver's timer runs from a moment
-pub record Channel (S : Type 0) (model : StoreModel S) (x : Rules) (now number : ℕ) (key : Key) (actual own : ℕ) (ps : List Octets) : Type 0 where
+pub record Channel (S : Type 0) (model : StoreModel S) (x : Rules) (now : Nows) (number : ℕ) (key : Key) (actual own : ℕ) (ps : List Octets) : Type 0 where
   pub ends : Sender → Incoming → ℕ → List Apdu → TransactionPair S
   pub piece : ℕ → Apdu
   pub ack : Bool → ℕ → Apdu
   pub is_late : ℕ → Bool
-  pub in_time : is_late now ≡ false
+  pub moment : ℕ  -- of its receiver
+  pub in_time : is_late moment ≡ false
   pub acks : (s : Sender) (inc inc' : Incoming) (m t : ℕ) (xs : List Apdu) → is_late m ≡ false → inc.window ≡ actual → length xs ≤ x.overtake
       → takes inc (t % 256) (nat_lt (t + 1) (length ps)) (get_or ps t []) ≡ Taken true inc'
-      → Within S model x now number key 1 (ends s inc m (piece t ∷ xs)) (ends s inc' now (xs ++ ack false (t % 256) ∷ []))
+      → Within S model x now number key 1 (ends s inc m (piece t ∷ xs)) (ends s inc' moment (xs ++ ack false (t % 256) ∷ []))
   pub keeps : (s : Sender) (inc inc' : Incoming) (m t : ℕ) (xs : List Apdu) → is_late m ≡ false → length xs ≤ x.overtake
       → takes inc (t % 256) (nat_lt (t + 1) (length ps)) (get_or ps t []) ≡ Taken false inc'
-      → Within S model x now number key 1 (ends s inc m (piece t ∷ xs)) (ends s inc' now xs)
+      → Within S model x now number key 1 (ends s inc m (piece t ∷ xs)) (ends s inc' moment xs)
   pub naks : (s : Sender) (inc : Incoming) (m p q : ℕ) (xs : List Apdu) → is_late m ≡ false → inc.window ≡ actual → q + 1 ≡ length inc.parts
       → length xs ≤ x.overtake → takes inc (p % 256) (nat_lt (p + 1) (length ps)) (get_or ps p []) ≡ Nak (quiet inc)
-      → Within S model x now number key 1 (ends s inc m (piece p ∷ xs)) (ends s (quiet inc) now (xs ++ ack true (q % 256) ∷ []))
+      → Within S model x now number key 1 (ends s inc m (piece p ∷ xs)) (ends s (quiet inc) moment (xs ++ ack true (q % 256) ∷ []))
   pub moves : (s : Sender) (inc : Incoming) (m : ℕ) (nak : Bool) (i : ℕ) (out : Outgoing) (xs : List Apdu) → out.pieces ≡ ps → length xs ≤ x.overtake
       → acknowledged own s.out i actual ≡ Some out → is_finished out ≡ false
       → Within S model x now number key 1 (ends s inc m (ack nak i ∷ xs)) (ends (moved s out) inc m (xs ++ pieces_from piece out.first (in_window out)))
   pub ignores : (s : Sender) (inc : Incoming) (m : ℕ) (nak : Bool) (i : ℕ) (xs : List Apdu) → acknowledged own s.out i actual ≡ None
       → Within S model x now number key 1 (ends s inc m (ack nak i ∷ xs)) (ends s inc m xs)
 
-module _ (S : Type 0) (model : StoreModel S) (x : Rules) (now number : ℕ) (key : Key) (actual own : ℕ) (ps : List Octets)
+module _ (S : Type 0) (model : StoreModel S) (x : Rules) (now : Nows) (number : ℕ) (key : Key) (actual own : ℕ) (ps : List Octets)
     (sizes : Fitting x.overtake actual own ps) (near : actual < 256) (c : Channel S model x now number key actual own ps) where
   abbrev n : ℕ
   n = length ps
@@ -89,15 +90,15 @@ module _ (S : Type 0) (model : StoreModel S) (x : Rules) (now number : ℕ) (key
   -- Pieces that were taken before are delivered.
 
   pub naks_on : (d k i p r q : ℕ) (s : Sender) (inc : Incoming) → k ≡ d + r → q + 1 ≡ length inc.parts → p + d ≡ q + 1 → k + i ≤ actual → inc.window ≡ actual
-      → Goes d (c.ends s (quiet inc) now (pieces_from c.piece p k ++ repeated i (c.ack true (q % 256))))
-      (c.ends s (quiet inc) now (pieces_from c.piece (q + 1) r ++ repeated (i + d) (c.ack true (q % 256))))
+      → Goes d (c.ends s (quiet inc) c.moment (pieces_from c.piece p k ++ repeated i (c.ack true (q % 256))))
+      (c.ends s (quiet inc) c.moment (pieces_from c.piece (q + 1) r ++ repeated (i + d) (c.ack true (q % 256))))
   naks_on zero k i p r q s inc len taken at few is =
       let a : p ≡ q + 1 = omega arith in
       let b : k ≡ r = omega arith in
       let e : i ≡ i + 0 = omega arith in
-      no_step S model x now number key (c.ends s (quiet inc) now (pieces_from c.piece p k ++ repeated i (c.ack true (q % 256))))
-      (c.ends s (quiet inc) now (pieces_from c.piece (q + 1) r ++ repeated (i + 0) (c.ack true (q % 256))))
-      (λ j. c.ends s (quiet inc) now (pieces_from c.piece (a j) (b j) ++ repeated (e j) (c.ack true (q % 256))))
+      no_step S model x now number key (c.ends s (quiet inc) c.moment (pieces_from c.piece p k ++ repeated i (c.ack true (q % 256))))
+      (c.ends s (quiet inc) c.moment (pieces_from c.piece (q + 1) r ++ repeated (i + 0) (c.ack true (q % 256))))
+      (λ j. c.ends s (quiet inc) c.moment (pieces_from c.piece (a j) (b j) ++ repeated (e j) (c.ack true (q % 256))))
   naks_on (suc d) zero i p r q s inc len taken at few is = absurd (omega arith)
   naks_on (suc d) (suc k) i p r q s inc len taken at few is =
       let nak = c.ack true (q % 256) in
@@ -107,16 +108,16 @@ module _ (S : Type 0) (model : StoreModel S) (x : Rules) (now number : ℕ) (key
       let a = length-append rest (repeated i nak) in
       let b = pieces_length c.piece (p + 1) k in
       let e = length_repeated i nak in
-      let from = c.ends s (quiet inc) now (c.piece p ∷ xs) in
-      let mid = c.ends s (quiet inc) now (rest ++ repeated (suc i) nak) in
-      let one = subst (λ (ys : List Apdu). Goes 1 from (c.ends s (quiet inc) now ys)) (one_more rest i nak)
-      (c.naks s (quiet inc) now p q xs c.in_time is taken (omega arith)
+      let from = c.ends s (quiet inc) c.moment (c.piece p ∷ xs) in
+      let mid = c.ends s (quiet inc) c.moment (rest ++ repeated (suc i) nak) in
+      let one = subst (λ (ys : List Apdu). Goes 1 from (c.ends s (quiet inc) c.moment ys)) (one_more rest i nak)
+      (c.naks s (quiet inc) c.moment p q xs c.in_time is taken (omega arith)
       (takes_old (quiet inc) p (nat_lt (p + 1) n) (get_or ps p []) (omega arith) (omega arith))) in
       let ih = naks_on d k (suc i) (p + 1) r q s inc (omega arith) taken (omega arith) (omega arith) is in
       let f : suc i + d ≡ i + suc d = omega arith in
       within_then S model x now number key 1 d (suc d) from mid
-      (c.ends s (quiet inc) now (pieces_from c.piece (q + 1) r ++ repeated (i + suc d) nak)) (omega arith) one
-      (subst (λ (j : ℕ). Goes d mid (c.ends s (quiet inc) now (pieces_from c.piece (q + 1) r ++ repeated j nak))) f ih)
+      (c.ends s (quiet inc) c.moment (pieces_from c.piece (q + 1) r ++ repeated (i + suc d) nak)) (omega arith) one
+      (subst (λ (j : ℕ). Goes d mid (c.ends s (quiet inc) c.moment (pieces_from c.piece (q + 1) r ++ repeated j nak))) f ih)
 
   -- Expected pieces are delivered, and none fills a window.
 
@@ -158,7 +159,7 @@ module _ (S : Type 0) (model : StoreModel S) (x : Rules) (now number : ℕ) (key
       let b = pieces_length c.piece (t + 1) j in
       let room = sizes.room in
       let one = c.keeps s inc inc' m t (rest ++ tail) timely (omega arith) e in
-      let ih = quiet_on r j (t + 1) k s inc' now tail (omega arith) (omega arith) (omega arith) (omega arith) (omega arith) c.in_time is
+      let ih = quiet_on r j (t + 1) k s inc' c.moment tail (omega arith) (omega arith) (omega arith) (omega arith) (omega arith) c.in_time is
       (taken_next ps inc t (inc.unacknowledged + 1) taken) (parts_next ps inc t (inc.unacknowledged + 1) (omega arith) parts) in
       let from = c.ends s inc m (c.piece t ∷ (rest ++ tail)) in
       took_at from (suc r) s (t + 1 + r) (t + suc r) k tail (omega arith)
@@ -169,7 +170,7 @@ module _ (S : Type 0) (model : StoreModel S) (x : Rules) (now number : ℕ) (key
         actual_is = ih.actual_is;
         taken = ih.taken;
         parts = ih.parts;
-        reaches = within_then S model x now number key 1 r (suc r) from (c.ends s inc' now (rest ++ tail))
+        reaches = within_then S model x now number key 1 r (suc r) from (c.ends s inc' c.moment (rest ++ tail))
             (c.ends s ih.inc ih.m (pieces_from c.piece (t + 1 + r) k ++ tail)) (omega arith) one ih.reaches;
       })
 
@@ -225,9 +226,9 @@ module _ (S : Type 0) (model : StoreModel S) (x : Rules) (now number : ℕ) (key
           let ack = c.ack false (t % 256) in
           let e = takes_one ps inc t (omega arith) sizes.few sizes.short taken parts true fills in
           let one = c.acks s inc inc' m t rest timely is rest_length e in
-          let h = quiet_on r j (t + 1) k s inc' now (ack ∷ []) (omega arith) (omega arith) (omega arith) (omega arith) (omega arith) c.in_time is
+          let h = quiet_on r j (t + 1) k s inc' c.moment (ack ∷ []) (omega arith) (omega arith) (omega arith) (omega arith) (omega arith) c.in_time is
           (taken_next ps inc t 0 taken) (parts_next ps inc t 0 (omega arith) parts) in
-          let g = took_at (c.ends s inc' now (rest ++ ack ∷ [])) r s (t + 1 + r) (t + suc r) k (ack ∷ []) (omega arith) h in
+          let g = took_at (c.ends s inc' c.moment (rest ++ ack ∷ [])) r s (t + 1 + r) (t + suc r) k (ack ∷ []) (omega arith) h in
           record {
             acked = record {
               inc = g.inc;
@@ -244,7 +245,7 @@ module _ (S : Type 0) (model : StoreModel S) (x : Rules) (now number : ℕ) (key
               few = omega arith;
               new = omega arith;
               old = omega arith;
-              reaches = within_then S model x now number key 1 r (suc r) from (c.ends s inc' now (rest ++ ack ∷ []))
+              reaches = within_then S model x now number key 1 r (suc r) from (c.ends s inc' c.moment (rest ++ ack ∷ []))
                   (c.ends s g.inc g.m (pieces_from c.piece (t + suc r) k ++ ack ∷ [])) (omega arith) one g.reaches;
             };
             some = λ z y. omega arith;
@@ -253,7 +254,7 @@ module _ (S : Type 0) (model : StoreModel S) (x : Rules) (now number : ℕ) (key
           let inc' : Incoming = after_piece ps inc t (inc.unacknowledged + 1) in
           let e = takes_one ps inc t (omega arith) sizes.few sizes.short taken parts false fills in
           let one = c.keeps s inc inc' m t rest timely rest_length e in
-          let ih = next j (t + 1) k a s inc' now (omega arith) (omega arith) (omega arith) (omega arith) c.in_time is
+          let ih = next j (t + 1) k a s inc' c.moment (omega arith) (omega arith) (omega arith) (omega arith) c.in_time is
           (taken_next ps inc t (inc.unacknowledged + 1) taken) (parts_next ps inc t (inc.unacknowledged + 1) (omega arith) parts) in
           let g = ih.acked in
           let at : t + 1 + r ≡ t + suc r = omega arith in
@@ -276,16 +277,16 @@ module _ (S : Type 0) (model : StoreModel S) (x : Rules) (now number : ℕ) (key
               few = g.few;
               new = g.new;
               old = omega arith;
-              reaches = within_then S model x now number key 1 r (suc r) from (c.ends s inc' now rest)
+              reaches = within_then S model x now number key 1 r (suc r) from (c.ends s inc' c.moment rest)
                   (c.ends s g.inc g.m (pieces_from c.piece (t + suc r) k ++ repeated g.acks (c.ack g.nak (g.q % 256)))) (omega arith) one
-                  (subst (λ (i : ℕ). Goes r (c.ends s inc' now rest)
+                  (subst (λ (i : ℕ). Goes r (c.ends s inc' c.moment rest)
                   (c.ends s g.inc g.m (pieces_from c.piece i k ++ repeated g.acks (c.ack g.nak (g.q % 256))))) at g.reaches);
             };
             some = λ z y. more not_first not_full ih y;
           }
         where
           more : 0 < t → inc.unacknowledged + 1 < actual
-              → (ih : Fresh (c.ends s (after_piece ps inc t (inc.unacknowledged + 1)) now rest) r s a (t + 1 + r) k (inc.unacknowledged + 1) r (t + 1))
+              → (ih : Fresh (c.ends s (after_piece ps inc t (inc.unacknowledged + 1)) c.moment rest) r s a (t + 1 + r) k (inc.unacknowledged + 1) r (t + 1))
               → ((actual ≤ inc.unacknowledged + suc r) ⊎ (t ≡ 0)) → 0 < ih.acked.acks
           more first full ih (inl le) = ih.some (omega arith) (inl (omega arith))
           more first full ih (inr is) = absurd (omega arith)

@@ -18,9 +18,14 @@ use Rattle.bac_protocol.specs.Transaction.{Key, Rules, server_context}
 use Rattle.bac_protocol.specs.World.{World, happens}
 use Rattle.bac_protocol.specs.World.Event.{Tick}
 use Rattle.bac_protocol.specs.Straight.{AreStraight, Straight, Stops, RequestFits, WayFits, KindFits, way_to, way_count, request_count, is_ended}
-use Rattle.bac_protocol.specs.Claims.{ServerStays}
+use Rattle.bac_protocol.specs.Claims.{HasRestartedSince, moments_of}
+use Rattle.bac_protocol.specs.World.{Net, client_now, server_now}
 use Rattle.bac_liveness.specs.Runs.{HasWindows}
 use Rattle.bac_liveness.specs.InStep.{AreInStep}
+
+-- its server has not restarted since the ask
+abbrev pub ServerStays : Net → Key → Type 0
+ServerStays n key = HasRestartedSince (moments_of n key) → ⊥
 
 -- Whose timer is due.
 
@@ -64,24 +69,24 @@ Keeps x key now t p Dropped fresh = ⊥
 abbrev pub Gives : (S : Type 0) → StoreModel S → Rules → World S → Key → ClientTransaction → Reply → Option ServerTransaction → Type 0
 Gives S model x w key t p None = model.outcome (w.stores key.server) t.ask.choice (join t.ask.pieces) ≡ Replies p
 Gives S model x w key t p (Some e) =
-    Keeps x key w.net.now t p e.state (model.outcome (w.stores key.server) t.ask.choice (join t.ask.pieces) ≡ Replies p)
+    Keeps x key (server_now w.net key) t p e.state (model.outcome (w.stores key.server) t.ask.choice (join t.ask.pieces) ≡ Replies p)
 
 -- an open ticket, in time, whose request can go and whose reply can reach it; its server does not wait after a restart
 pub record CanStill (S : Type 0) (model : StoreModel S) (x : Rules) (w : World S) (key : Key) (t : ClientTransaction) (p : Reply) : Type 0 where
   pub going : is_idle t.phase ≡ false
-  pub in_time : w.net.now - t.ask.first ≤ DEADLINE
-  pub serving : w.net.serves_from key.server ≤ w.net.now
+  pub in_time : client_now w.net key - t.ask.first ≤ DEADLINE
+  pub serving : w.net.serves_from key.server ≤ server_now w.net key
   pub request : RequestFits t.ask.whole t.ask.pieces
   pub way : WayFits (way_to x key p)
   pub kind : KindFits x.readable t.ask.choice p
-  pub gives : Gives S model x w key t p (live_entry w.net.now (w.net.entries key))
+  pub gives : Gives S model x w key t p (live_entry (server_now w.net key) (w.net.entries key))
 
 -- one of the two ends has its turn: its tick alone
 abbrev pub IsTurn : (S : Type 0) → World S → Key → ClientTransaction → (as_client as_server : List Key) → Type 0
 IsTurn S w key t as_client as_server =
-    let o = live_entry w.net.now (w.net.entries key) in
-    (ClientIsDue w.net.now t t.phase × TakesRequest w.net.now o × (as_client ≡ key ∷ []) × (as_server ≡ []))
-    ⊎ (ServerIsDue w.net.now o × (as_client ≡ []) × (as_server ≡ key ∷ []))
+    let o = live_entry (server_now w.net key) (w.net.entries key) in
+    (ClientIsDue (client_now w.net key) t t.phase × TakesRequest (server_now w.net key) o × (as_client ≡ key ∷ []) × (as_server ≡ []))
+    ⊎ (ServerIsDue (server_now w.net key) o × (as_client ≡ []) × (as_server ≡ key ∷ []))
 
 -- the ask has ended with the reply with which it was performed, after at most so many deliveries
 pub record IsAnsweredIn (S : Type 0) (x : Rules) (key : Key) (t : ClientTransaction) (number : ℕ) (p : Reply) (count : ℕ) (new : World S) : Type 0 where
@@ -115,19 +120,19 @@ TurnRunsOut S model x w key t =
 -- so it is wherever the two ends are in step
 abbrev pub InStepIsAnswered : (S : Type 0) → StoreModel S → Rules → World S → Type 0
 InStepIsAnswered S model x w =
-    (key : Key) (t : ClientTransaction) → w.net.tickets key ≡ Some t → AreInStep x key t.ask t.phase (live_entry w.net.now (w.net.entries key))
+    (key : Key) (t : ClientTransaction) → w.net.tickets key ≡ Some t → AreInStep x key t.ask t.phase (live_entry (server_now w.net key) (w.net.entries key))
     → TurnAnswers S model x w key t
 
 -- after any past in which its server has not restarted since the ask
 abbrev pub AfterAnyPast : (S : Type 0) → StoreModel S → Rules → World S → Type 0
-AfterAnyPast S model x w = (key : Key) (t : ClientTransaction) → w.net.tickets key ≡ Some t → ServerStays w.net key t.ask → TurnAnswers S model x w key t
+AfterAnyPast S model x w = (key : Key) (t : ClientTransaction) → w.net.tickets key ≡ Some t → ServerStays w.net key → TurnAnswers S model x w key t
 
 -- and such a run exists
 abbrev pub AnsweringRunExists : (S : Type 0) → StoreModel S → Rules → World S → Type 0
-AnsweringRunExists S model x w = (key : Key) (t : ClientTransaction) → w.net.tickets key ≡ Some t → ServerStays w.net key t.ask → TurnRunsOut S model x w key t
+AnsweringRunExists S model x w = (key : Key) (t : ClientTransaction) → w.net.tickets key ≡ Some t → ServerStays w.net key → TurnRunsOut S model x w key t
 
 -- the two ends of each transaction are in step whose ask is in time, and whose server has not restarted since
 abbrev pub EndsAreInStep : (S : Type 0) → Rules → World S → Type 0
 EndsAreInStep S x w =
-    (key : Key) → HasWindows x key → (t : ClientTransaction) → w.net.tickets key ≡ Some t → ServerStays w.net key t.ask → w.net.now - t.ask.first ≤ DEADLINE
-    → AreInStep x key t.ask t.phase (live_entry w.net.now (w.net.entries key))
+    (key : Key) → HasWindows x key → (t : ClientTransaction) → w.net.tickets key ≡ Some t → ServerStays w.net key → client_now w.net key - t.ask.first ≤ DEADLINE
+    → AreInStep x key t.ask t.phase (live_entry (server_now w.net key) (w.net.entries key))

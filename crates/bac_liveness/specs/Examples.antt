@@ -11,11 +11,12 @@ use Rattle.bac_protocol.specs.Client.{Ask, ClientTransaction, asked_ticket}
 use Rattle.bac_protocol.specs.Log.{Fact}
 use Rattle.bac_protocol.specs.Log.Fact.{Asked, Performed, Ended, Changed}
 use Rattle.bac_protocol.specs.Transaction.{client_context}
-use Rattle.bac_protocol.specs.World.{World, Event, is_id_held, net_start, run, start}
-use Rattle.bac_protocol.specs.World.Event.{MakeAsk, Deliver, Tick, Noise, Advance, Change}
+use Rattle.bac_protocol.specs.Pace.{one_clock}
+use Rattle.bac_protocol.specs.World.{World, Event, client_now, server_now, is_id_held, net_start, run, start}
+use Rattle.bac_protocol.specs.World.Event.{MakeAsk, Deliver, Tick, Noise, Change}
 use Rattle.bac_protocol.specs.Claims.{IsBounded}
 use Rattle.bac_protocol.specs.Straight.{AreStraight}
-use Rattle.bac_protocol.specs.Examples.{key, model, rules, tick, ask_append, append, position, position_apdu, zeros}
+use Rattle.bac_protocol.specs.Examples.{elapse, key, model, rules, tick, ask_append, append, position, position_apdu, zeros}
 use Rattle.bac_liveness.specs.Runs.{Throughout, IsOnItsWay, HasWindows}
 use Rattle.bac_liveness.specs.RoundTrip.{FitsInOne, CanPerform, HasPerformed, IsOpenInTime, request_to, segment_to}
 use Rattle.bac_liveness.specs.Repeats.{PATIENCE, FindsServer}
@@ -25,7 +26,7 @@ use Rattle.bac_liveness.specs.AfterPast.{CanStill, IsTurn}
 
 -- the world after these events, where node 1 answers each request of node 0 so
 abbrev pub world : Reply → List Event → World ℕ
-world p events = run ℕ (model p) (rules 3) events (start ℕ (λ node. 0))
+world p events = run ℕ (model p) (rules 3) events (start ℕ one_clock (λ node. 0) (λ node. 0))
 
 -- an ask of one APDU, and one of two pieces; each is made at 0
 abbrev pub whole_ask : Ask
@@ -57,16 +58,16 @@ was_performed octets p = Performed 0 (record { choice = 7; service = octets }) p
 pub record LateTick : Type 0 where
   pub bounded : IsBounded 3 (rules 3)
   pub ticket : (world position (ask_append ∷ [])).net.tickets key ≡ Some (ticket_of whole_ask)
-  pub late : DEADLINE < (world position (ask_append ∷ Advance 60001 ∷ [])).net.now - 0
+  pub late : DEADLINE < client_now (world position (ask_append ∷ elapse 60001 ∷ [])).net key - 0
   pub client : Contains (key ∷ []) key
-  pub ends : (world position (ask_append ∷ Advance 60001 ∷ Tick (key ∷ []) [] ∷ [])).net.log ≡ Ended 0 Expired ∷ was_asked append ∷ []
+  pub ends : (world position (ask_append ∷ elapse 60001 ∷ Tick (key ∷ []) [] ∷ [])).net.log ≡ Ended 0 Expired ∷ was_asked append ∷ []
 
 -- a tick at 58,000 sends the request again, which is performed; its answer arrives at 60,001
 abbrev pub late_answer : List Event
-late_answer = ask_append ∷ Advance 58000 ∷ tick ∷ Deliver 1 true ∷ Advance 2001 ∷ []
+late_answer = ask_append ∷ elapse 58000 ∷ tick ∷ Deliver 1 true ∷ elapse 2001 ∷ []
 
 pub record LateAnswer : Type 0 where
-  pub late : DEADLINE < (world position late_answer).net.now - 0
+  pub late : DEADLINE < client_now (world position late_answer).net key - 0
   pub answer : IsOnItsWay (rules 3) (world position late_answer).net key position_apdu 2
   pub ends : (world position (late_answer ++ Deliver 2 true ∷ [])).net.log
       ≡ Ended 0 Expired ∷ was_performed append position ∷ was_asked append ∷ []
@@ -75,11 +76,11 @@ pub record LateAnswer : Type 0 where
 
 -- the first copy is late: the request is sent again at 3,000, and the second copy arrives
 abbrev pub sent_twice : List Event
-sent_twice = ask_append ∷ Advance 3000 ∷ tick ∷ []
+sent_twice = ask_append ∷ elapse 3000 ∷ tick ∷ []
 
 -- then the first copy comes, and noise, the server's store changes, and the client's timer is due again; the answer to the second arrives at 6,000
 abbrev pub performed_once : List Event
-performed_once = sent_twice ++ Deliver 1 true ∷ Deliver 0 true ∷ Noise ∷ Change 1 (5 ∷ []) ∷ Advance 3000 ∷ tick ∷ []
+performed_once = sent_twice ++ Deliver 1 true ∷ Deliver 0 true ∷ Noise ∷ Change 1 (5 ∷ []) ∷ elapse 3000 ∷ tick ∷ []
 
 pub record OneRoundTrip : Type 0 where
   pub ticket : (world position sent_twice).net.tickets key ≡ Some (record (ticket_of whole_ask) { repeats = 2; since = 3000 })
@@ -93,7 +94,7 @@ pub record OneRoundTrip : Type 0 where
 
 -- the answer to the copy that was performed is lost; the next copy finds its reply kept
 abbrev pub answer_lost : List Event
-answer_lost = ask_append ∷ Deliver 0 true ∷ Advance 3000 ∷ tick ∷ []
+answer_lost = ask_append ∷ Deliver 0 true ∷ elapse 3000 ∷ tick ∷ []
 
 pub record SecondRoundTrip : Type 0 where
   pub ticket : (world position answer_lost).net.tickets key ≡ Some (record (ticket_of whole_ask) { repeats = 2; since = 3000 })
@@ -104,7 +105,7 @@ pub record SecondRoundTrip : Type 0 where
 
 -- a request of two segments was performed, and the last SegmentACK and the answer are lost; segment 1 is sent again at 2,000, and brings the answer
 abbrev pub segment_again : List Event
-segment_again = ask_two ∷ Deliver 0 true ∷ Deliver 1 true ∷ Deliver 2 true ∷ Advance 2000 ∷ tick ∷ []
+segment_again = ask_two ∷ Deliver 0 true ∷ Deliver 1 true ∷ Deliver 2 true ∷ elapse 2000 ∷ tick ∷ []
 
 pub record RoundTripOfSegment : Type 0 where
   pub windows : HasWindows (rules 3) key
@@ -121,17 +122,17 @@ pub record RoundTripOfSegment : Type 0 where
 
 -- three sendings are lost; the fourth, at 9,000, gets through, and its answer arrives at 11,999
 abbrev pub before_fourth : List Event
-before_fourth = Advance 3000 ∷ tick ∷ Advance 3000 ∷ tick ∷ Advance 3000 ∷ tick ∷ []
+before_fourth = elapse 3000 ∷ tick ∷ elapse 3000 ∷ tick ∷ elapse 3000 ∷ tick ∷ []
 
 abbrev pub until_answer : List Event
-until_answer = before_fourth ++ Deliver 3 true ∷ Advance 2999 ∷ []
+until_answer = before_fourth ++ Deliver 3 true ∷ elapse 2999 ∷ []
 
 pub record FourthSending : Type 0 where
-  pub free : is_id_held net_start key ≡ false
-  pub ticket : (world position (ask_append ∷ Advance 3000 ∷ [])).net.tickets key ≡ Some (ticket_of whole_ask)
-  pub due : T_OUT ≤ (world position (ask_append ∷ Advance 3000 ∷ [])).net.now - 0
+  pub free : is_id_held (net_start one_clock (λ node. 0)) key ≡ false
+  pub ticket : (world position (ask_append ∷ elapse 3000 ∷ [])).net.tickets key ≡ Some (ticket_of whole_ask)
+  pub due : T_OUT ≤ client_now (world position (ask_append ∷ elapse 3000 ∷ [])).net key - 0
   pub finds : Throughout ℕ (model position) (rules 3) (FindsServer ℕ (model position) (rules 3) key whole_ask) until_answer (world position (ask_append ∷ []))
-  pub young : (world position (ask_append ∷ until_answer)).net.now < 0 + PATIENCE
+  pub young : client_now (world position (ask_append ∷ until_answer)).net key < 0 + PATIENCE
   pub request : IsOnItsWay (rules 3) (world position (ask_append ∷ before_fourth)).net key (request_to (rules 3) key whole_ask) 3
   pub answer : IsOnItsWay (rules 3) (world position (ask_append ∷ until_answer)).net key position_apdu 4
   pub ends : (world position (ask_append ∷ until_answer ++ Deliver 4 true ∷ [])).net.log
@@ -141,11 +142,11 @@ pub record FourthSending : Type 0 where
 
 -- two sendings are lost, and the next tick comes only at 40,000: it is due, with two repeats left
 abbrev pub late_turn : List Event
-late_turn = ask_append ∷ Advance 3000 ∷ tick ∷ Advance 37000 ∷ []
+late_turn = ask_append ∷ elapse 3000 ∷ tick ∷ elapse 37000 ∷ []
 
 pub record LateTurn : Type 0 where
   pub ticket : (world position late_turn).net.tickets key ≡ Some (record (ticket_of whole_ask) { repeats = 2; since = 3000 })
-  pub due : IsDue (world position late_turn).net.now (record (ticket_of whole_ask) { repeats = 2; since = 3000 })
+  pub due : IsDue (client_now (world position late_turn).net key) (record (ticket_of whole_ask) { repeats = 2; since = 3000 })
   pub performs : CanPerform ℕ (model position) (world position late_turn) key whole_ask true position
   pub ends : (world position (late_turn ++ Tick (key ∷ []) [] ∷ Deliver 2 true ∷ Deliver 3 true ∷ [])).net.log
       ≡ Ended 0 (Answered position) ∷ was_performed append position ∷ was_asked append ∷ []
@@ -157,7 +158,7 @@ abbrev pub server_tick : Event
 server_tick = Tick [] (key ∷ [])
 
 abbrev pub stopped_reply : List Event
-stopped_reply = ask_append ∷ Deliver 0 true ∷ Advance 2000 ∷ server_tick ∷ Advance 2000 ∷ server_tick ∷ Advance 2000 ∷ server_tick ∷ Advance 2000
+stopped_reply = ask_append ∷ Deliver 0 true ∷ elapse 2000 ∷ server_tick ∷ elapse 2000 ∷ server_tick ∷ elapse 2000 ∷ server_tick ∷ elapse 2000
     ∷ server_tick ∷ Tick (key ∷ []) [] ∷ []
 
 pub record StoppedReply : Type 0 where
@@ -178,7 +179,7 @@ ask_ten = MakeAsk key 7 false (0 ∷ []) ((1 ∷ []) ∷ (2 ∷ []) ∷ (3 ∷ [
 
 -- segments 0 and 1 arrive, segments 2 and 3 are lost, and the client's timer is due
 abbrev pub half_window : List Event
-half_window = ask_ten ∷ Deliver 0 true ∷ Deliver 1 true ∷ Deliver 2 true ∷ Advance 2000 ∷ []
+half_window = ask_ten ∷ Deliver 0 true ∷ Deliver 1 true ∷ Deliver 2 true ∷ elapse 2000 ∷ []
 
 -- so many copies are delivered, each once, in order of sending
 abbrev pub deliveries : (number count : ℕ) → List Event

@@ -14,10 +14,10 @@ use Rattle.bac_protocol.specs.Server.State.{Done}
 use Rattle.bac_protocol.specs.Log.{Has, StoreModel}
 use Rattle.bac_protocol.specs.Log.Fact.{Performed, Ended}
 use Rattle.bac_protocol.specs.Transaction.{Key, Rules, client_context, server_context}
-use Rattle.bac_protocol.specs.World.{Net, World, Event, happens, run, post_of}
+use Rattle.bac_protocol.specs.World.{Net, World, Event, client_now, server_now, happens, run, post_of}
 use Rattle.bac_protocol.specs.World.Event.{Deliver}
 use Rattle.bac_protocol.specs.Straight.{KindFits, way_to, is_ended}
-use Rattle.bac_liveness.specs.Runs.{IsOnItsWay, HasWindows}
+use Rattle.bac_liveness.specs.Runs.{IsOnItsWay, HasWindows, StaysSince}
 
 -- the request of an ask in one APDU, piece n of it as a segment, and a reply to it in one APDU
 abbrev pub request_to : Rules → Key → Ask → Apdu
@@ -36,16 +36,16 @@ pub record FitsInOne (x : Rules) (key : Key) (ask : Ask) (p : Reply) : Type 0 wh
 
 -- the server performs the request when it comes: no entry is live, a slot is free, it does not wait after a restart, and its store gives that reply
 pub record CanPerform (S : Type 0) (model : StoreModel S) (w : World S) (key : Key) (ask : Ask) (free : Bool) (p : Reply) : Type 0 where
-  pub none : is_none_live w.net.now (w.net.entries key) ≡ true
+  pub none : is_none_live (server_now w.net key) (w.net.entries key) ≡ true
   pub slot : free ≡ true
-  pub serving : w.net.serves_from key.server ≤ w.net.now
+  pub serving : w.net.serves_from key.server ≤ server_now w.net key
   pub outcome : model.outcome (w.stores key.server) ask.choice (join ask.pieces) ≡ Replies p
 
 -- or it has performed it: its entry is done and keeps that reply, and beside it the service data of a request that came without SEG
 pub record HasPerformed (x : Rules) (n : Net) (key : Key) (ask : Ask) (request : Option Octets) (p : Reply) : Type 0 where
   pub entry : ServerTransaction
   pub at : n.entries key ≡ Some entry
-  pub live : is_live n.now entry ≡ true
+  pub live : is_live (server_now n key) entry ≡ true
   pub request_is : entry.request ≡ request
   pub state : entry.state ≡ Done (answer_to x key ask p)
 
@@ -54,7 +54,7 @@ pub record IsOpenInTime (n : Net) (key : Key) (ask : Ask) : Type 0 where
   pub ticket : ClientTransaction
   pub at : n.tickets key ≡ Some ticket
   pub going : is_idle ticket.phase ≡ false
-  pub in_time : n.now - ask.first ≤ DEADLINE
+  pub in_time : client_now n key - ask.first ≤ DEADLINE
 
 -- the ticket ends now, and the log says with which reply
 pub record IsAnsweredNow (S : Type 0) (key : Key) (number : ℕ) (p : Reply) (old new : World S) : Type 0 where
@@ -67,7 +67,7 @@ pub record IsServed (S : Type 0) (model : StoreModel S) (x : Rules) (key : Key) 
   pub performed : Has (Performed (w.net.numbers key) (request_of ask) p) u.net.log
   pub sent : u.net.posts ≡ w.net.posts ++ post_of key w.net.now (answer_to x key ask p) ∷ []
   pub answered : (events : List Event)
-      → (let v = run S model x events u in IsOpenInTime v.net key ask
+      → (let v = run S model x events u in StaysSince v.net key (w.net.made key) → IsOpenInTime v.net key ask
       → (number : ℕ) → IsOnItsWay x v.net key (answer_to x key ask p) number → (free : Bool)
       → IsAnsweredNow S key (w.net.numbers key) p v (happens S model x v (Deliver number free)))
 

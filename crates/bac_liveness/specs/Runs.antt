@@ -1,5 +1,5 @@
 -- What is said of a run: of each of its events, of the endings in its log, and of a copy that is on its way.
-use Rattle.std.specs.Prelude.{◌≡◌, ℕ, suc, ◌<◌, true, List, [], ◌∷◌, Some, slice_get, if◌then◌else◌, nat_eq}
+use Rattle.std.specs.Prelude.{◌≡◌, ℕ, suc, ◌<◌, ◌≤◌, true, List, [], ◌∷◌, Some, slice_get, if◌then◌else◌, nat_eq}
 use Rattle.bac_apdu.specs.Apdu.{Apdu}
 use Rattle.bac_protocol.specs.Log.{Fact, StoreModel}
 use Rattle.bac_protocol.specs.Log.Fact.{Asked, Performed, Ended, Changed, Restarted}
@@ -26,9 +26,13 @@ pub record IsOnItsWay (x : Rules) (n : Net) (key : Key) (a : Apdu) (number : ℕ
   pub at : slice_get n.posts number ≡ Some post
   pub key_is : post.key ≡ key
   pub apdu_is : post.copy.apdu ≡ a
-  pub arrives : is_deliverable x n.now number n.posts post ≡ true
+  pub arrives : is_deliverable x n number post ≡ true
 
 -- both ends of a transaction propose windows of at least 1
 pub record HasWindows (x : Rules) (key : Key) : Type 0 where
   pub client : 0 < (x.settings key.client).window
   pub server : 0 < (x.settings key.server).window
+
+-- the client has not restarted since that real moment
+abbrev pub StaysSince : Net → Key → ℕ → Type 0
+StaysSince n key made = n.restarted key.client ≤ made

@@ -9,7 +9,7 @@ use Rattle.bac_protocol.specs.Server.State.{SegmentedResponse}
 use Rattle.bac_protocol.specs.Server.Transfer.{Running, Stopped}
 use Rattle.bac_protocol.specs.Log.{StoreModel}
 use Rattle.bac_protocol.specs.Transaction.{Key, Rules, server_context}
-use Rattle.bac_protocol.specs.World.{Net, World, happens, post_of}
+use Rattle.bac_protocol.specs.World.{Net, World, server_now, happens, post_of}
 use Rattle.bac_protocol.specs.World.Event.{Deliver}
 use Rattle.bac_liveness.specs.Runs.{IsOnItsWay}
 use Rattle.bac_liveness.specs.RoundTrip.{request_to, segment_to}
@@ -18,15 +18,15 @@ use Rattle.bac_liveness.specs.RoundTrip.{request_to, segment_to}
 pub record HasStopped (n : Net) (key : Key) (request : Option Octets) (out : Outgoing) : Type 0 where
   pub entry : ServerTransaction
   pub at : n.entries key ≡ Some entry
-  pub live : is_live n.now entry ≡ true
+  pub live : is_live (server_now n key) entry ≡ true
   pub request_is : entry.request ≡ request
   pub since : ℕ
   pub state : entry.state ≡ SegmentedResponse out Stopped since
 
 -- the window is sent again from its first unacknowledged segment on, with full retries; nothing is performed
 pub record GoesOnWith (x : Rules) (key : Key) (choice : ℕ) (entry : ServerTransaction) (out : Outgoing) (old new : Net) : Type 0 where
-  pub sent : new.posts ≡ old.posts ++ map (post_of key old.now) (reply_window (server_context x key old.now) choice (resume out))
-  pub entry_is : new.entries key ≡ Some (record entry { state = SegmentedResponse (resume out) Running old.now })
+  pub sent : new.posts ≡ old.posts ++ map (post_of key old.now) (reply_window (server_context x key (server_now old key)) choice (resume out))
+  pub entry_is : new.entries key ≡ Some (record entry { state = SegmentedResponse (resume out) Running (server_now old key) })
   pub log : new.log ≡ old.log
 
 -- each copy of a request of one APDU that is delivered does that, and each segment of one in segments

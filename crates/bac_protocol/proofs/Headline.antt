@@ -2,7 +2,7 @@
 use Rattle.std.proofs.Common.{◌≡◌, ℕ, ◌-◌, ◌<◌, ◌≤◌, Bool, true, false, ◌&&◌, List, [], ◌∷◌, ◌++◌, Option, Some, None, slice_get, if◌then◌else◌}
 use Rattle.std.proofs.Common.{nat_le, nat_eq, ◌∙◌, refl, sym, ap, subst, inl, inr, arith}
 use Rattle.std.proofs.lemmas.Bool.Decides.{nat_tests}
-use Rattle.bac_protocol.specs.Times.{LIFE}
+use Rattle.bac_protocol.specs.Pace.{Pace, IsTimely}
 use Rattle.bac_protocol.specs.Service.{Octets, Request, Ending}
 use Rattle.bac_protocol.specs.Wire.{is_from_client}
 use Rattle.bac_protocol.specs.Client as client
@@ -14,7 +14,7 @@ use Rattle.bac_protocol.specs.Log.Fact.{Asked, Performed, Ended, Changed, Restar
 use Rattle.bac_protocol.specs.Transaction.{Key, Rules, Copy, ended, client_context, server_context}
 use Rattle.bac_protocol.specs.World.{Net, World, Post, Event, later, client_acts, server_acts, asked_at, is_id_held, is_room, service_of, reacts}
 use Rattle.bac_protocol.specs.World.{serves, ask_made, takes_at_client, takes_at_server, arrives, delivered, ticks_ticket, ticks_as_client}
-use Rattle.bac_protocol.specs.World.{ticks_as_server, stored, happens, run, start}
+use Rattle.bac_protocol.specs.World.{ticks_as_server, stored, happens, run, start, client_now, server_now}
 use Rattle.bac_protocol.specs.World.Event.{MakeAsk, Deliver, Tick, Noise, Advance, Change, RestartClient, RestartServer}
 use Rattle.bac_protocol.specs.Claims.{IsBounded}
 use Rattle.bac_protocol.proofs.Alone.{one}
@@ -141,13 +141,13 @@ module _ (S : Type 0) (model : StoreModel S) (opening : ℕ → S) (W : ℕ) (x 
 
   asks_kept : (w : World S) → Kept w → (key : Key) (choice : ℕ) (whole : Bool) (front : Octets) (rest : List Octets) (b : Bool)
       → is_id_held w.net key ≡ b
-      → Kept (if b then w else ask_made S x w key (record { first = w.net.now; choice = choice; whole = whole; pieces = front ∷ rest }))
+      → Kept (if b then w else ask_made S x w key (record { first = client_now w.net key; choice = choice; whole = whole; pieces = front ∷ rest }))
   asks_kept w s key choice whole front rest true e = s
   asks_kept w s key choice whole front rest false e =
       record { net = sound; calm = calm_asked x w.net s.calm key (id_free w.net key e).0 choice whole (front ∷ rest); once = (w.stores, ((net_log W (asked_at x w.net key ask) sound).orderly.0, λ node. refl), s.once) }
     where
       ask : Ask
-      ask = record { first = w.net.now; choice = choice; whole = whole; pieces = front ∷ rest }
+      ask = record { first = client_now w.net key; choice = choice; whole = whole; pieces = front ∷ rest }
 
       sound : NetSound W (asked_at x w.net key ask)
       sound = net_asked W bound.some x w.net key s.net (spent_free W w.net s.net s.calm key e) choice whole front rest
@@ -157,7 +157,7 @@ module _ (S : Type 0) (model : StoreModel S) (opening : ℕ → S) (W : ℕ) (x 
     k : ℕ
     k = later p.key number w.net.posts
 
-    arrives_kept : (o : Option ClientTransaction) → w.net.tickets p.key ≡ o → w.net.now - p.copy.moment ≤ LIFE → later p.key number w.net.posts ≤ x.overtake
+    arrives_kept : (o : Option ClientTransaction) → w.net.tickets p.key ≡ o → w.net.now - p.copy.moment ≤ w.net.pace.life → later p.key number w.net.posts ≤ x.overtake
         → (free up : Bool) → is_from_client p.copy.apdu ≡ up → Kept (if up then takes_at_server S model x w p.key free p.copy.apdu else takes_at_client S x w p.key p.copy.apdu o)
     arrives_kept None at young few free up way =
         absurd (none_there (later p.key number w.net.posts) p.copy
@@ -166,25 +166,25 @@ module _ (S : Type 0) (model : StoreModel S) (opening : ℕ → S) (W : ℕ) (x 
     arrives_kept (Some t) at young few free true way =
         let f = sound_at W w.net p.key (Some t) at s.net in
         let says = ((f.2).arriving (later p.key number w.net.posts) p.copy (copy_at number w.net.posts p at_number) young).1 in
-        let v = server.server_on_apdu (server_context x p.key w.net.now) (service_of S model w p.key) (w.net.entries p.key) (is_room w.net p.key free) p.copy.apdu in
-        serves_kept w s p.key t at v (gets_served (server_context x p.key w.net.now) (service_of S model w p.key)
+        let v = server.server_on_apdu (server_context x p.key (server_now w.net p.key)) (service_of S model w p.key) (w.net.entries p.key) (is_room w.net p.key free) p.copy.apdu in
+        serves_kept w s p.key t at v (gets_served (server_context x p.key (server_now w.net p.key)) (service_of S model w p.key)
         (w.net.entries p.key) (is_room w.net p.key free) p.copy.apdu)
         (net_server W w.net p.key t at s.net v
         (server_gets_kept W x.overtake bound.some bound.room (x.settings p.key.server) (bound.windows p.key.server) (service_of S model w p.key) p.key
         (one w.net p.key) t (w.net.entries p.key) f.0 f.1 f.2 (is_room w.net p.key free) (room_opens w.net p.key free) p.copy.moment (later p.key number w.net.posts) few young p.copy.apdu says))
-        (calm_gets w.net s.calm p.key (server_context x p.key w.net.now) refl refl (service_of S model w p.key) (is_room w.net p.key free)
+        (calm_gets w.net s.calm p.key (server_context x p.key (server_now w.net p.key)) refl refl (service_of S model w p.key) (is_room w.net p.key free)
         (room_opens w.net p.key free) (later p.key number w.net.posts) p.copy (copy_at number w.net.posts p at_number) young way)
     arrives_kept (Some t) at young few free false way =
         let f = sound_at W w.net p.key (Some t) at s.net in
         let says = ((f.2).arriving (later p.key number w.net.posts) p.copy (copy_at number w.net.posts p at_number) young).1 in
-        let r = client.client_on_apdu (client_context x p.key w.net.now) x.readable t p.copy.apdu in
+        let r = client.client_on_apdu (client_context x p.key (client_now w.net p.key)) x.readable t p.copy.apdu in
         reacts_kept w s p.key t r
         (net_client W w.net p.key t at s.net r
         (client_gets_kept W x.overtake bound.some bound.room (x.settings p.key.client) (bound.windows p.key.client) x.readable p.key
         (one w.net p.key) t f.0 f.1 f.2 p.copy.moment (later p.key number w.net.posts) few p.copy.apdu says))
-        (calm_client w.net s.calm p.key t at r (ended_is_silent.gets (client_context x p.key w.net.now) x.readable t p.copy.apdu))
+        (calm_client w.net s.calm p.key t at r (ended_is_silent.gets (client_context x p.key (client_now w.net p.key)) x.readable t p.copy.apdu))
 
-    by_test : (free a b : Bool) → nat_le (w.net.now - p.copy.moment) LIFE ≡ a → nat_le (later p.key number w.net.posts) x.overtake ≡ b
+    by_test : (free a b : Bool) → nat_le (w.net.now - p.copy.moment) w.net.pace.life ≡ a → nat_le (later p.key number w.net.posts) x.overtake ≡ b
         → Kept (if a && b then arrives S model x w p.key free p.copy.apdu else w)
     by_test free true true young few = arrives_kept (w.net.tickets p.key) refl (grind (arith, nat_tests)) (grind (arith, nat_tests)) free
         (is_from_client p.copy.apdu) refl
@@ -194,7 +194,7 @@ module _ (S : Type 0) (model : StoreModel S) (opening : ℕ → S) (W : ℕ) (x 
   delivered_kept : (w : World S) → Kept w → (number : ℕ) (free : Bool) (o : Option Post) → slice_get w.net.posts number ≡ o
       → Kept (delivered S model x w number free o)
   delivered_kept w s number free None e = s
-  delivered_kept w s number free (Some p) e = by_test w s number p e free (nat_le (w.net.now - p.copy.moment) LIFE)
+  delivered_kept w s number free (Some p) e = by_test w s number p e free (nat_le (w.net.now - p.copy.moment) w.net.pace.life)
       (nat_le (later p.key number w.net.posts) x.overtake) refl refl
 
   -- a ticket's tick
@@ -202,11 +202,11 @@ module _ (S : Type 0) (model : StoreModel S) (opening : ℕ → S) (W : ℕ) (x 
   ticket_kept w s key None at = s
   ticket_kept w s key (Some t) at =
       let f = sound_at W w.net key (Some t) at s.net in
-      let r = client.client_ticks (client_context x key w.net.now) t in
+      let r = client.client_ticks (client_context x key (client_now w.net key)) t in
       reacts_kept w s key t r (net_client W w.net key t at s.net r
       (client_ticks_kept W x.overtake bound.some bound.room (x.settings key.client) (bound.windows key.client) x.readable key
       (one w.net key) t f.0 f.1 f.2))
-      (calm_client w.net s.calm key t at r (ended_is_silent.ticks (client_context x key w.net.now) t))
+      (calm_client w.net s.calm key t at r (ended_is_silent.ticks (client_context x key (client_now w.net key)) t))
 
   clients_kept : (keys : List Key) (w : World S) → Kept w → Kept (ticks_as_client S x keys w)
   clients_kept [] w s = s
@@ -217,21 +217,21 @@ module _ (S : Type 0) (model : StoreModel S) (opening : ℕ → S) (W : ℕ) (x 
   quiet w key v e = subst (IsServed (service_of S model w key)) (sym e) tt
 
   entry_kept : (w : World S) → Kept w → (key : Key) (o : Option ClientTransaction) → w.net.tickets key ≡ o
-      → Kept (serves S model w key (server.server_ticks (server_context x key w.net.now) (w.net.entries key)))
+      → Kept (serves S model w key (server.server_ticks (server_context x key (server_now w.net key)) (w.net.entries key)))
   entry_kept w s key (Some t) at =
       let f = sound_at W w.net key (Some t) at s.net in
-      let v = server.server_ticks (server_context x key w.net.now) (w.net.entries key) in
-      serves_kept w s key t at v (quiet w key v (ticks_quiet (server_context x key w.net.now) (w.net.entries key)))
+      let v = server.server_ticks (server_context x key (server_now w.net key)) (w.net.entries key) in
+      serves_kept w s key t at v (quiet w key v (ticks_quiet (server_context x key (server_now w.net key)) (w.net.entries key)))
       (net_server W w.net key t at s.net v (server_ticks_kept W x.overtake bound.some bound.room (x.settings key.server) (bound.windows key.server)
       (service_of S model w key) key (one w.net key) t (w.net.entries key) f.0 f.1 f.2))
-      (calm_ticks w.net s.calm key (server_context x key w.net.now) refl refl)
+      (calm_ticks w.net s.calm key (server_context x key (server_now w.net key)) refl refl)
   entry_kept w s key None at = go (w.net.entries key) refl (sound_at W w.net key None at s.net).no_entry
     where
       all_there : (posts : List Post) → posts ++ [] ≡ posts
       all_there [] = refl
       all_there (p ∷ posts) = ap (λ ps. p ∷ ps) (all_there posts)
 
-      go : (o : Option ServerTransaction) → w.net.entries key ≡ o → o ≡ None → Kept (serves S model w key (server.server_ticks (server_context x key w.net.now) o))
+      go : (o : Option ServerTransaction) → w.net.entries key ≡ o → o ≡ None → Kept (serves S model w key (server.server_ticks (server_context x key (server_now w.net key)) o))
       go (Some e) is nil = absurd cc
       go None is nil = subst (λ (n : Net). Kept (record { net = n; stores = w.stores }))
           (λ i. record (w.net) { entries = sym (set_nothing w.net.entries key None is) i; posts = sym (all_there w.net.posts) i }) s
@@ -239,27 +239,27 @@ module _ (S : Type 0) (model : StoreModel S) (opening : ℕ → S) (W : ℕ) (x 
   servers_kept : (keys : List Key) (w : World S) → Kept w → Kept (ticks_as_server S model x keys w)
   servers_kept [] w s = s
   servers_kept (key ∷ keys) w s = servers_kept keys (serves S model w key
-      (server.server_ticks (server_context x key w.net.now) (w.net.entries key))) (entry_kept w s key (w.net.tickets key) refl)
+      (server.server_ticks (server_context x key (server_now w.net key)) (w.net.entries key))) (entry_kept w s key (w.net.tickets key) refl)
 
   pub event_kept : (w : World S) → Kept w → (e : Event) → Kept (happens S model x w e)
   event_kept w s (MakeAsk key choice whole front rest) = asks_kept w s key choice whole front rest (is_id_held w.net key) refl
   event_kept w s (Deliver number free) = delivered_kept w s number free (slice_get w.net.posts number) refl
   event_kept w s (Tick as_client as_server) = servers_kept as_server (ticks_as_client S x as_client w) (clients_kept as_client w s)
   event_kept w s Noise = s
-  event_kept w s (Advance by) = record { net = net_later W by w.net s.net; calm = calm_later w.net by s.calm; once = s.once }
+  event_kept w s (Advance by clients servers) = record { net = net_later W by clients servers w.net s.net; calm = calm_later w.net by clients servers s.calm; once = s.once }
   event_kept w s (Change node change) = record {
     net = net_changed W w.net node change s.net;
     calm = calm_changed w.net node change s.calm;
     once = (w.stores, λ n. refl, s.once);
   }
-  event_kept w s (RestartClient node) = record {
-    net = net_client_restarted W w.net node s.net;
-    calm = calm_client_restarted w.net node s.calm;
+  event_kept w s (RestartClient node exact) = record {
+    net = net_client_restarted W w.net node exact s.net;
+    calm = calm_client_restarted w.net node exact s.calm;
     once = s.once;
   }
-  event_kept w s (RestartServer node store) = record {
-    net = net_server_restarted W w.net node store s.net;
-    calm = calm_server_restarted w.net node store s.calm;
+  event_kept w s (RestartServer node exact store) = record {
+    net = net_server_restarted W w.net node exact store s.net;
+    calm = calm_server_restarted w.net node exact store s.calm;
     once = (w.stores, λ n. refl, s.once);
   }
 
@@ -267,8 +267,10 @@ module _ (S : Type 0) (model : StoreModel S) (opening : ℕ → S) (W : ℕ) (x 
   run_kept [] w s = s
   run_kept (e ∷ es) w s = run_kept es (happens S model x w e) (event_kept w s e)
 
-  pub start_kept : Kept (start S opening)
-  start_kept = record { net = net_starts W; calm = calm_start; once = λ node. refl }
+  module _ (pace : Pace) (timely : IsTimely pace) (clocks : ℕ → ℕ) where
+    pub start_kept : Kept (start S pace clocks opening)
+    start_kept = record { net = net_starts W pace clocks; calm = calm_start pace clocks timely; once = λ node. refl }
 
-  pub headline : (events : List Event) → IsOnce S model opening (run S model x events (start S opening)).net.log (run S model x events (start S opening)).stores
-  headline events = (run_kept events (start S opening) start_kept).once
+    pub headline : (events : List Event)
+        → IsOnce S model opening (run S model x events (start S pace clocks opening)).net.log (run S model x events (start S pace clocks opening)).stores
+    headline events = (run_kept events (start S pace clocks opening) start_kept).once

@@ -1,11 +1,14 @@
 -- What holds of one transaction holds of each of many.
-use Rattle.std.proofs.Common.{◌≡◌, ℕ, ◌+◌, ◌<◌, ◌≤◌, ◌≢◌, ◌⊎◌, Bool, true, false, not, List, ◌∷◌, Option, Some, None}
-use Rattle.std.proofs.Common.{nat_lt, nat_eq, refl, sym, if◌then◌else◌}
+use Rattle.std.proofs.Common.{◌≡◌, ℕ, ◌+◌, ◌<◌, ◌≤◌, ◌≢◌, ◌⊎◌, Bool, true, false, not, ◌&&◌, List, ◌∷◌, Option, Some, None}
+use Rattle.std.proofs.Common.{nat_le, nat_lt, nat_eq, refl, sym, if◌then◌else◌}
 use Rattle.std.proofs.Common.{ap, subst, inl, inr, ◌∙◌, arith, zero-add}
 use Rattle.std.proofs.lemmas.Bool.Decides.{nat_tests}
 use Rattle.bac_apdu.specs.Apdu.{Apdu}
 use Rattle.bac_apdu.specs.Apdu.Apdu.{SimpleAck, ComplexAck, Error, Reject, Abort}
-use Rattle.bac_protocol.specs.Times.{KEEP}
+use Rattle.bac_protocol.specs.Times.{DEADLINE, KEEP}
+use Rattle.bac_protocol.specs.Pace.{Pace, clock_at, goes_on, steps, IsShown}
+use Rattle.bac_protocol.specs.Claims.{Moments, moments_of, IsBegunSince, HasRestartedSince}
+use Rattle.bac_protocol.proofs.Paces.{shown_at, since_now, since_later, shows_on, within_most}
 use Rattle.bac_protocol.specs.Service.{Octets, Ending}
 use Rattle.bac_protocol.specs.Client as client
 use Rattle.bac_protocol.specs.Client.{Ask, request_of, Phase, ClientTransaction}
@@ -17,13 +20,13 @@ use Rattle.bac_protocol.specs.Log.{Fact, asks_in, IsUnperformed, IsUnended, IsOr
 use Rattle.bac_protocol.specs.Log.Fact.{Asked, Performed, Ended, Changed, Restarted}
 use Rattle.bac_protocol.specs.Transaction.{Key, Rules, ended, performed, client_context}
 use Rattle.bac_protocol.specs.World.{Net, set_at, client_acts, server_acts, asked_at, notes_change, is_room, net_start}
-use Rattle.bac_protocol.specs.World.{lost, client_restarted, server_restarted}
+use Rattle.bac_protocol.specs.World.{lost, client_restarted, server_restarted, client_now, server_now, passes, is_lost, is_in_time}
 use Rattle.bac_protocol.proofs.Alone.{Transaction, client_does, server_does, asked_by, one}
-use Rattle.bac_protocol.proofs.Sound.{OfAsk, IsOfOther, IsBelow, Up, Down, IsKeptFor, IsUnbegun, StateFits, WasGiven, ServerFits, IsOpenIn, IsSoundAt, IsSound}
+use Rattle.bac_protocol.proofs.Sound.{OfAsk, IsOfOther, IsBelow, Up, Down, IsKeptFor, IsUnbegun, StateFits, WasGiven, ServerFits, IsOpenIn, IsCounted, IsTimed, IsSoundAt, IsSound}
 use Rattle.bac_protocol.proofs.Sound.Up.{Reading}
 use Rattle.bac_protocol.proofs.Sound.Down.{Unsent, Sent}
 use Rattle.bac_protocol.proofs.ClientKeeps.{lost_more, state_read, state_performed}
-use Rattle.bac_protocol.proofs.Facts.{of_ask, below_has, says_goes, up_same, down_same, grows_more}
+use Rattle.bac_protocol.proofs.Facts.{of_ask, below_has, says_goes, says_later, up_same, down_same, grows_more}
 use Rattle.bac_protocol.proofs.Asks.{IsSpent, asked_sound}
 use Rattle.bac_protocol.proofs.Keys.{decide_key, set_same, set_other, copies_posted, copies_other}
 
@@ -73,14 +76,14 @@ state_more W number ask f log (SegmentedResponse out transfer since) up down ne 
 state_more W number ask f log Dropped (Reading t s) Unsent ne h = (h.0, unperformed_more number f log ne h.1)
 state_more W number ask f log _ _ _ ne h = absurd h
 
-server_more : (W opens number : ℕ) (ask : Ask) (f : Fact) (log : List Fact) (up : Up) (down : Down) (o : Option ServerTransaction) → IsOfOther number f
-    → ServerFits W opens number ask o up down log → ServerFits W opens number ask o up down (f ∷ log)
-server_more W opens number ask f log up down None ne (inl h) = inl (unbegun_more number f log up down ne h)
-server_more W opens number ask f log up down None ne (inr h) = inr (lost_more opens number ask f log up down h)
-server_more W opens number ask f log up down (Some e) ne (inl h) =
+server_more : (W : ℕ) (times : Moments) (number : ℕ) (ask : Ask) (f : Fact) (log : List Fact) (up : Up) (down : Down) (o : Option ServerTransaction) → IsOfOther number f
+    → ServerFits W times number ask o up down log → ServerFits W times number ask o up down (f ∷ log)
+server_more W times number ask f log up down None ne (inl h) = inl (unbegun_more number f log up down ne h)
+server_more W times number ask f log up down None ne (inr h) = inr (lost_more times number ask f log up down h)
+server_more W times number ask f log up down (Some e) ne (inl h) =
     inl (record { dead = h.dead; unbegun = unbegun_more number f log up down ne h.unbegun })
-server_more W opens number ask f log up down (Some e) ne (inr h) = inr
-    (record { after = h.after; before = h.before; choice = h.choice; state = state_more W number ask f log e.state up down ne h.state })
+server_more W times number ask f log up down (Some e) ne (inr h) = inr
+    (record { begun = h.begun; choice = h.choice; state = state_more W number ask f log e.state up down ne h.state })
 
 -- what any transaction's soundness says of the log
 pub record IsLogOf (asks : ℕ) (log : List Fact) : Type 0 where
@@ -112,15 +115,16 @@ elsewhere W asks' key f w (Some t) log ne s = (
     counted = log.counted;
     orderly = log.orderly;
     asked = inr (s.2).asked;
+    lives = (s.2).lives;
     unended = open_more t.phase w.number f w.log (ne t refl) (s.2).unended;
     client = (s.2).client;
     passes = (s.2).passes;
-    server = server_more W w.opens w.number t.ask f w.log s.0 s.1 w.entry (ne t refl) (s.2).server;
+    server = server_more W w.times w.number t.ask f w.log s.0 s.1 w.entry (ne t refl) (s.2).server;
     upload = (s.2).upload;
     download = (s.2).download;
     arriving = λ k c e young. let h = (s.2).arriving k c e young in (
       h.0,
-      rw zero-add at (says_goes W 0 c.moment k w.number t.ask w.log (f ∷ w.log) s.0 s.0 s.1 s.1 (grows_more f w.log) (up_same 0 s.0)
+      rw zero-add at (says_goes W w.times 0 c.moment k w.number t.ask w.log (f ∷ w.log) s.0 s.0 s.1 s.1 (grows_more f w.log) (up_same 0 s.0)
           (down_same 0 s.1) c.apdu h.1),
     );
   },
@@ -226,13 +230,13 @@ net_client W n key t at s r own = net_keeps W n (client_acts n key t r) key s
     (adds (client.ending_of r))
   where
     made : Option ClientTransaction
-    made = Some (client.after n.now t r)
+    made = Some (client.after (client_now n key) t r)
 
     adds : (o : Option Ending) → ((ended (n.numbers key) o n.log ≡ n.log) × (n.asks ≡ n.asks)) ⊎
         ((f : Fact) × (ended (n.numbers key) o n.log ≡ f ∷ n.log)
-        × ((u : ClientTransaction) × (set_at n.tickets key (Some (client.after n.now t r)) key ≡ Some u) × (OfAsk (λ m. m ≡ n.numbers key) f)))
+        × ((u : ClientTransaction) × (set_at n.tickets key (Some (client.after (client_now n key) t r)) key ≡ Some u) × (OfAsk (λ m. m ≡ n.numbers key) f)))
     adds None = inl (refl, refl)
-    adds (Some how) = inr (Ended (n.numbers key) how, refl, (client.after n.now t r, set_same n.tickets key (Some (client.after n.now t r)), refl))
+    adds (Some how) = inr (Ended (n.numbers key) how, refl, (client.after (client_now n key) t r, set_same n.tickets key (Some (client.after (client_now n key) t r)), refl))
 
 pub net_server : (W : ℕ) (n : Net) (key : Key) (t : ClientTransaction) → n.tickets key ≡ Some t → NetSound W n → (v : server.Reaction)
     → IsSound W key (server_does (record (one n key) { ticket = Some t }) v) → NetSound W (server_acts n key v)
@@ -260,10 +264,11 @@ net_server W n key t at s v own = net_keeps W n (server_acts n key v) key s
 
 pub net_asked : (W : ℕ) → 0 < W → (x : Rules) (n : Net) (key : Key) → NetSound W n → IsSpent (one n key)
     → (choice : ℕ) (whole : Bool) (front : Octets) (rest : List Octets)
-    → NetSound W (asked_at x n key (record { first = n.now; choice = choice; whole = whole; pieces = front ∷ rest }))
+    → NetSound W (asked_at x n key (record { first = client_now n key; choice = choice; whole = whole; pieces = front ∷ rest }))
 net_asked W some x n key s spent choice whole front rest = net_keeps W n (asked_at x n key ask) key s
     (subst (λ (w : Transaction). IsSound W key w) (λ i. record
     (asked_by x key (one n key) ask) {
+      times = record (moments_of n key) { made = sym (set_same n.made key n.now) i; until = sym (set_same n.until key n.now) i };
       number = sym (set_same n.numbers key n.asks) i;
       ticket = sym (set_same n.tickets key (Some made)) i;
       copies =
@@ -271,6 +276,7 @@ net_asked W some x n key s spent choice whole front rest = net_keeps W n (asked_
     }) (asked_sound W some x key (one n key) spent choice front rest whole))
     (λ k ne i. record (one n k) {
       asks = n.asks + 1;
+      times = record (moments_of n k) { made = set_other n.made key n.now k ne i; until = set_other n.until key n.now k ne i };
       log = Asked n.asks key.client key.server (request_of ask) ∷ n.log;
       number =
           set_other n.numbers key n.asks k ne i;
@@ -281,19 +287,19 @@ net_asked W some x n key s spent choice whole front rest = net_keeps W n (asked_
     (inr (Asked n.asks key.client key.server (request_of ask), refl, (made, set_same n.tickets key (Some made), sym (set_same n.numbers key n.asks))))
   where
     ask : Ask
-    ask = record { first = n.now; choice = choice; whole = whole; pieces = front ∷ rest }
+    ask = record { first = client_now n key; choice = choice; whole = whole; pieces = front ∷ rest }
 
     made : ClientTransaction
-    made = client.asked_ticket (client_context x key n.now) ask
+    made = client.asked_ticket (client_context x key (client_now n key)) ask
 
     sends : List Apdu
-    sends = client.sends_of (client.asks (client_context x key n.now) ask)
+    sends = client.sends_of (client.asks (client_context x key (client_now n key)) ask)
 
 -- a server that begins entries does not wait
-pub room_opens : (n : Net) (key : Key) (free : Bool) → is_room n key free ≡ true → n.serves_from key.server ≤ n.now
-room_opens n key true e = go (nat_lt n.now (n.serves_from key.server)) refl e
+pub room_opens : (n : Net) (key : Key) (free : Bool) → is_room n key free ≡ true → n.serves_from key.server ≤ server_now n key
+room_opens n key true e = go (nat_lt (server_now n key) (n.serves_from key.server)) refl e
   where
-    go : (b : Bool) → nat_lt n.now (n.serves_from key.server) ≡ b → not b ≡ true → n.serves_from key.server ≤ n.now
+    go : (b : Bool) → nat_lt (server_now n key) (n.serves_from key.server) ≡ b → not b ≡ true → n.serves_from key.server ≤ server_now n key
     go true is h = absurd cc
     go false is h = grind (arith, nat_tests)
 room_opens n key false e = absurd cc
@@ -305,40 +311,68 @@ given_by : (W number : ℕ) (ask : Ask) (log : List Fact) (st : State) (up : Up)
 given_by W number ask log st up Unsent h = tt
 given_by W number ask log st up (Sent ps a b) h = (state_read W number ask log up ps a b st h, state_performed W number ask log ps a b st up h)
 
--- the entry is lost
-server_lost : (W opens now number : ℕ) (ask : Ask) (log : List Fact) (up : Up) (down : Down) (o : Option ServerTransaction) → ask.first ≤ now
-    → ServerFits W opens number ask o up down log → ServerFits W (now + KEEP + 1) number ask None up down log
-server_lost W opens now number ask log up down None clock (inl h) = inl h
-server_lost W opens now number ask log up down None clock (inr h) = inr (record { before = omega arith; given = h.given })
-server_lost W opens now number ask log up down (Some e) clock (inl h) = inl h.unbegun
-server_lost W opens now number ask log up down (Some e) clock (inr h) =
-    inr (record { before = omega arith; given = given_by W number ask log e.state up down h.state })
+-- its times, where its server restarts now
+abbrev restarting : (exact : ℕ) → Moments → Moments
+restarting exact times =
+    record times { server = clock_at times.pace exact; opens = (clock_at times.pace exact).shows + KEEP + 1 }
 
-loses_entry : (W : ℕ) (key : Key) (w : Transaction) (o : Option ClientTransaction) → IsSoundAt W key o w
-    → IsSoundAt W key o (record w { entry = None; opens = w.now + KEEP + 1 })
-loses_entry W key w None s =
+restarts_now : (exact : ℕ) (times : Moments) → 0 < times.pace.grain → times.made ≤ times.now → HasRestartedSince (restarting exact times)
+restarts_now exact times some on = record {
+  restarted = times.now;
+  shown = (clock_at times.pace exact).shows;
+  after = on;
+  since = since_now times.pace times.now (clock_at times.pace exact) (shown_at times.pace some exact);
+  opens_is = refl;
+}
+
+-- the entry is lost
+server_lost : (W exact : ℕ) (times : Moments) (number : ℕ) (ask : Ask) (log : List Fact) (up : Up) (down : Down) (o : Option ServerTransaction)
+    → 0 < times.pace.grain → times.made ≤ times.now
+    → ServerFits W times number ask o up down log → ServerFits W (restarting exact times) number ask None up down log
+server_lost W exact times number ask log up down None some on (inl h) = inl h
+server_lost W exact times number ask log up down None some on (inr h) = inr (record { before = restarts_now exact times some on; given = h.given })
+server_lost W exact times number ask log up down (Some e) some on (inl h) = inl h.unbegun
+server_lost W exact times number ask log up down (Some e) some on (inr h) =
+    inr (record { before = restarts_now exact times some on; given = given_by W number ask log e.state up down h.state })
+
+counted_restarting : (exact : ℕ) (times : Moments) (first : ℕ) → IsCounted times first → IsCounted (restarting exact times) first
+counted_restarting exact times first h =
+    record { since = h.since; sends = h.sends; last = h.last; last_early = h.last_early; last_since = h.last_since }
+
+loses_entry : (W exact : ℕ) (key : Key) (w : Transaction) (o : Option ClientTransaction) → IsSoundAt W key o w
+    → IsSoundAt W key o (record w { entry = None; times = restarting exact w.times })
+loses_entry W exact key w None s =
     record { no_entry = refl; no_copies = s.no_copies; numbers = s.numbers; counted = s.counted; orderly = s.orderly }
-loses_entry W key w (Some t) s = (
+loses_entry W exact key w (Some t) s = (
   s.0,
   s.1,
   record {
-    clock = (s.2).clock;
+    clock = record {
+      timely = (s.2).clock.timely;
+      client = (s.2).clock.client;
+      server = shown_at w.times.pace (s.2).clock.timely.some exact;
+      on = (s.2).clock.on;
+      until_on = (s.2).clock.until_on;
+      early = (s.2).clock.early;
+      counts = λ le. counted_restarting exact w.times t.ask.first ((s.2).clock.counts le);
+    };
     numbers = (s.2).numbers;
     counted = (s.2).counted;
     orderly = (s.2).orderly;
     asked = (s.2).asked;
     unended = (s.2).unended;
+    lives = (s.2).lives;
     client = (s.2).client;
     passes = (s.2).passes;
-    server = server_lost W w.opens w.now w.number t.ask w.log s.0 s.1 w.entry (s.2).clock (s.2).server;
+    server = server_lost W exact w.times w.number t.ask w.log s.0 s.1 w.entry (s.2).clock.timely.some (s.2).clock.on (s.2).server;
     upload = (s.2).upload;
     download = (s.2).download;
     arriving = (s.2).arriving;
   },
 )
 
-pub net_server_restarted : (W : ℕ) (n : Net) (node : ℕ) (store : Option Octets) → NetSound W n → NetSound W (server_restarted n node store)
-net_server_restarted W n node store s = record { each = λ key. each key (nat_eq key.server node); apart = s.apart }
+pub net_server_restarted : (W : ℕ) (n : Net) (node exact : ℕ) (store : Option Octets) → NetSound W n → NetSound W (server_restarted n node exact store)
+net_server_restarted W n node exact store s = record { each = λ key. each key (nat_eq key.server node); apart = s.apart }
   where
     log : (key : Key) → IsLogOf n.asks (Restarted node store ∷ n.log)
     log key =
@@ -347,29 +381,67 @@ net_server_restarted W n node store s = record { each = λ key. each key (nat_eq
 
     each : (key : Key) (b : Bool) → IsSoundAt W key (n.tickets key) (record (one n key) {
       entry = if b then None else n.entries key;
-      opens = if b then n.now + KEEP + 1 else n.serves_from key.server;
+      times =
+          record (moments_of n key) {
+            server = if b then clock_at n.pace exact else n.server_clocks key.server;
+            opens = if b then (clock_at n.pace exact).shows + KEEP + 1 else n.serves_from key.server;
+          };
       log = Restarted node store ∷ n.log;
     })
-    each key true = elsewhere W n.asks key (Restarted node store) (record (one n key) { entry = None; opens = n.now + KEEP + 1 }) (n.tickets key) (log key)
-        (λ t at. tt) (loses_entry W key (one n key) (n.tickets key) (s.each key))
+    each key true = elsewhere W n.asks key (Restarted node store) (record (one n key) { entry = None; times = restarting exact (moments_of n key) }) (n.tickets key) (log key)
+        (λ t at. tt) (loses_entry W exact key (one n key) (n.tickets key) (s.each key))
     each key false = elsewhere W n.asks key (Restarted node store) (one n key) (n.tickets key) (log key) (λ t at. tt) (s.each key)
 
+-- its times, where its client restarts now
+abbrev renewing : (exact : ℕ) → Moments → Moments
+renewing exact times = record times { client = clock_at times.pace exact; restarted = times.now + 1 }
+
+begun_renewing : (exact : ℕ) (times : Moments) (begin : ℕ) → IsBegunSince times begin → IsBegunSince (renewing exact times) begin
+begun_renewing exact times begin h = record { began = h.began; after = h.after; before = h.before; since = h.since }
+
+server_renewing : (W exact : ℕ) (times : Moments) (number : ℕ) (ask : Ask) (log : List Fact) (up : Up) (down : Down) (o : Option ServerTransaction)
+    → ServerFits W times number ask o up down log → ServerFits W (renewing exact times) number ask o up down log
+server_renewing W exact times number ask log up down None (inl h) = inl h
+server_renewing W exact times number ask log up down None (inr h) = inr (record {
+  before = record {
+    restarted = h.before.restarted;
+    shown = h.before.shown;
+    after = h.before.after;
+    since = h.before.since;
+    opens_is = h.before.opens_is;
+  };
+  given = h.given;
+})
+server_renewing W exact times number ask log up down (Some e) (inl h) = inl (record { dead = h.dead; unbegun = h.unbegun })
+server_renewing W exact times number ask log up down (Some e) (inr h) =
+    inr (record { begun = begun_renewing exact times e.begin h.begun; choice = h.choice; state = h.state })
+
 -- the ticket is lost
-loses_ticket : (W : ℕ) (key : Key) (w : Transaction) (o : Option ClientTransaction) → IsSoundAt W key o w → IsSoundAt W key (lost o) w
-loses_ticket W key w None s = s
-loses_ticket W key w (Some t) s = (
+loses_ticket : (W exact : ℕ) (key : Key) (w : Transaction) (o : Option ClientTransaction) → IsSoundAt W key o w
+    → IsSoundAt W key (lost o) (record w { times = renewing exact w.times })
+loses_ticket W exact key w None s = record { no_entry = s.no_entry; no_copies = s.no_copies; numbers = s.numbers; counted = s.counted; orderly = s.orderly }
+loses_ticket W exact key w (Some t) s = (
   s.0,
   s.1,
   record {
-    clock = (s.2).clock;
+    clock = record {
+      timely = (s.2).clock.timely;
+      client = shown_at w.times.pace (s.2).clock.timely.some exact;
+      server = (s.2).clock.server;
+      on = (s.2).clock.on;
+      until_on = (s.2).clock.until_on;
+      early = (s.2).clock.early;
+      counts = λ le. let on = (s.2).clock.on in absurd (omega arith);
+    };
     numbers = (s.2).numbers;
     counted = (s.2).counted;
     orderly = (s.2).orderly;
     asked = (s.2).asked;
     unended = tt;
+    lives = λ going. absurd cc;
     client = tt;
     passes = (s.2).passes;
-    server = (s.2).server;
+    server = server_renewing W exact w.times w.number t.ask w.log s.0 s.1 w.entry (s.2).server;
     upload = (s.2).upload;
     download = (s.2).download;
     arriving = (s.2).arriving;
@@ -387,15 +459,22 @@ was_there None true x e = absurd cc
 was_there None false x e = absurd cc
 was_there (Some t) b x e = (t, refl)
 
-pub net_client_restarted : (W : ℕ) (n : Net) (node : ℕ) → NetSound W n → NetSound W (client_restarted n node)
-net_client_restarted W n node s = record { each = λ key. each key (nat_eq key.client node); apart = apart }
+pub net_client_restarted : (W : ℕ) (n : Net) (node exact : ℕ) → NetSound W n → NetSound W (client_restarted n node exact)
+net_client_restarted W n node exact s = record { each = λ key. each key (nat_eq key.client node); apart = apart }
   where
     each : (key : Key) (b : Bool) → IsSoundAt W key (if b then lost (n.tickets key) else n.tickets key)
-        (record (one n key) { ticket = if b then lost (n.tickets key) else n.tickets key })
-    each key true = with_ticket W key (one n key) (lost (n.tickets key)) (lost (n.tickets key)) (loses_ticket W key (one n key) (n.tickets key) (s.each key))
+        (record (one n key) {
+          ticket = if b then lost (n.tickets key) else n.tickets key;
+          times = record (moments_of n key) {
+            client = if b then clock_at n.pace exact else n.client_clocks key.client;
+            restarted = if b then n.now + 1 else n.restarted key.client;
+          };
+        })
+    each key true = with_ticket W key (record (one n key) { times = renewing exact (moments_of n key) }) (lost (n.tickets key)) (lost (n.tickets key))
+        (loses_ticket W exact key (one n key) (n.tickets key) (s.each key))
     each key false = s.each key
 
-    apart : (a b : Key) (x y : ClientTransaction) → (client_restarted n node).tickets a ≡ Some x → (client_restarted n node).tickets b ≡ Some y
+    apart : (a b : Key) (x y : ClientTransaction) → (client_restarted n node exact).tickets a ≡ Some x → (client_restarted n node exact).tickets b ≡ Some y
         → n.numbers a ≡ n.numbers b → a ≡ b
     apart a b x y at at' same =
         let t = was_there (n.tickets a) (nat_eq a.client node) x at in
@@ -415,32 +494,144 @@ net_changed W n node change s = record {
 
 -- Time.
 
-later_moment : (W by : ℕ) (key : Key) (w : Transaction) (o : Option ClientTransaction) → IsSoundAt W key o w → IsSoundAt W key o (record w { now = w.now + by })
-later_moment W by key w None s = record { no_entry = s.no_entry; no_copies = s.no_copies; numbers = s.numbers; counted = s.counted; orderly = s.orderly }
-later_moment W by key w (Some t) s = (
-  s.0,
-  s.1,
-  record {
-    clock = omega (arith, (s.2).clock);
-    numbers = (s.2).numbers;
-    counted = (s.2).counted;
-    orderly = (s.2).orderly;
-    asked = (s.2).asked;
-    unended = (s.2).unended;
-    client = (s.2).client;
-    passes = (s.2).passes;
-    server = (s.2).server;
-    upload = (s.2).upload;
-    download = (s.2).download;
-    arriving = λ k c d young. (s.2).arriving k c d (omega arith);
-  },
-)
+-- its times after that, where its client was last in time then
+abbrev passing : (by a b until : ℕ) → Moments → Moments
+passing by a b until times =
+    record times { until = until; now = times.now + by; client = goes_on times.pace by a times.client; server = goes_on times.pace by b times.server }
 
-pub net_later : (W by : ℕ) (n : Net) → NetSound W n → NetSound W (record n { now = n.now + by })
-net_later W by n s = record { each = λ key. later_moment W by key (one n key) (n.tickets key) (s.each key); apart = s.apart }
+module _ (by a b until : ℕ) (times : Moments) (later : times.until ≤ until) where
+  begun_later : (begin : ℕ) → IsBegunSince times begin → IsBegunSince (passing by a b until times) begin
+  begun_later begin h = record {
+    began = h.began;
+    after = h.after;
+    before = let before = h.before in omega arith;
+    since = since_later times.pace h.began begin times.now by b times.server h.since;
+  }
 
-pub net_starts : (W : ℕ) → NetSound W net_start
-net_starts W = record {
+  restarted_later : HasRestartedSince times → HasRestartedSince (passing by a b until times)
+  restarted_later h = record {
+    restarted = h.restarted;
+    shown = h.shown;
+    after = h.after;
+    since = since_later times.pace h.restarted h.shown times.now by b times.server h.since;
+    opens_is = h.opens_is;
+  }
+
+  server_later : (W number : ℕ) (ask : Ask) (log : List Fact) (up : Up) (down : Down) (o : Option ServerTransaction) → IsTimed times ask.first
+      → ServerFits W times number ask o up down log → ServerFits W (passing by a b until times) number ask o up down log
+  server_later W number ask log up down None timed (inl h) = inl h
+  server_later W number ask log up down None timed (inr h) = inr (record { before = restarted_later h.before; given = h.given })
+  server_later W number ask log up down (Some e) timed (inl h) = inl (record {
+    dead = let dead = h.dead in let on = shows_on times.pace timed.timely.some by b times.server timed.server in omega arith;
+    unbegun = h.unbegun;
+  })
+  server_later W number ask log up down (Some e) timed (inr h) = inr (record { begun = begun_later e.begin h.begun; choice = h.choice; state = h.state })
+
+  moment_later : (W : ℕ) (key : Key) (w : Transaction) (t : ClientTransaction) → w.times ≡ times → IsTimed (passing by a b until times) t.ask.first
+      → IsSoundAt W key (Some t) (record w { times = times }) → IsSoundAt W key (Some t) (record w { times = passing by a b until times })
+  moment_later W key w t is timed s = (
+    s.0,
+    s.1,
+    record {
+      clock = timed;
+      numbers = (s.2).numbers;
+      counted = (s.2).counted;
+      orderly = (s.2).orderly;
+      asked = (s.2).asked;
+      unended = (s.2).unended;
+      lives = (s.2).lives;
+      client = (s.2).client;
+      passes = (s.2).passes;
+      server = server_later W w.number t.ask w.log s.0 s.1 w.entry (s.2).clock (s.2).server;
+      upload = (s.2).upload;
+      download = (s.2).download;
+      arriving = λ k c d young.
+          let h = (s.2).arriving k c d (omega arith) in
+          (h.0, says_later W w.number k c.moment times (passing by a b until times) later (omega arith) t.ask w.log s.0 s.1 c.apdu h.1);
+    },
+  )
+
+-- its client is in time, or not any more, or lost the ticket
+abbrev next_until : (by a : ℕ) → Moments → (lost : Bool) → Option ClientTransaction → ℕ
+next_until by a times lost o = if not lost && is_in_time (goes_on times.pace by a times.client).shows o then times.now + by else times.until
+
+timed_lost : (by a b first : ℕ) (times : Moments) → IsTimed times first → (times.made < times.restarted) → IsTimed (passing by a b times.until times) first
+timed_lost by a b first times h lost = record {
+  timely = h.timely;
+  client = shown_at times.pace h.timely.some (times.client.exact + steps times.pace by a);
+  server = shown_at times.pace h.timely.some (times.server.exact + steps times.pace by b);
+  on = let on = h.on in omega arith;
+  until_on = let on = h.until_on in omega arith;
+  early = h.early;
+  counts = λ le. absurd (omega arith);
+}
+
+timed_later : (by a b first : ℕ) (times : Moments) → IsTimed times first → times.restarted ≤ times.made
+    → (z : Bool) → nat_le (goes_on times.pace by a times.client).shows (first + DEADLINE) ≡ z
+    → IsTimed (passing by a b (if z then times.now + by else times.until) times) first
+timed_later by a b first times h stays true is =
+    let counted = h.counts stays in
+    let since = since_later times.pace times.made first times.now by a times.client counted.since in
+    let client = shown_at times.pace h.timely.some (times.client.exact + steps times.pace by a) in
+    let le : (goes_on times.pace by a times.client).shows ≤ first + DEADLINE = grind (arith, nat_tests) in
+    record {
+      timely = h.timely;
+      client = client;
+      server = shown_at times.pace h.timely.some (times.server.exact + steps times.pace by b);
+      on = let on = h.on in omega arith;
+      until_on = omega arith;
+      early = within_most times.pace h.timely DEADLINE times.made first (times.now + by) (goes_on times.pace by a times.client) client since le;
+      counts = λ stays'. record {
+        since = since;
+        sends = λ in_time. omega arith;
+        last = (goes_on times.pace by a times.client).shows;
+        last_early = le;
+        last_since = since_now times.pace (times.now + by) (goes_on times.pace by a times.client) client;
+      };
+    }
+timed_later by a b first times h stays false is =
+    let counted = h.counts stays in
+    let not_le : (goes_on times.pace by a times.client).shows ≤ first + DEADLINE → ⊥ = λ le. grind (arith, nat_tests) in
+    record {
+      timely = h.timely;
+      client = shown_at times.pace h.timely.some (times.client.exact + steps times.pace by a);
+      server = shown_at times.pace h.timely.some (times.server.exact + steps times.pace by b);
+      on = let on = h.on in omega arith;
+      until_on = let on = h.until_on in omega arith;
+      early = h.early;
+      counts = λ stays'. record {
+        since = since_later times.pace times.made first times.now by a times.client counted.since;
+        sends = λ in_time. absurd (not_le in_time);
+        last = counted.last;
+        last_early = counted.last_early;
+        last_since = since_later times.pace times.until counted.last times.now by a times.client counted.last_since;
+      };
+    }
+
+until_later : (times : Moments) (by : ℕ) → times.until ≤ times.now → (z : Bool) → times.until ≤ (if z then times.now + by else times.until)
+until_later times by le true = omega arith
+until_later times by le false = omega arith
+
+later_moment : (W by a b : ℕ) (key : Key) (w : Transaction) (o : Option ClientTransaction) → (lost : Bool) → nat_lt w.times.made w.times.restarted ≡ lost
+    → IsSoundAt W key o w → IsSoundAt W key o (record w { times = passing by a b (next_until by a w.times lost o) w.times })
+later_moment W by a b key w None lost is s =
+    record { no_entry = s.no_entry; no_copies = s.no_copies; numbers = s.numbers; counted = s.counted; orderly = s.orderly }
+later_moment W by a b key w (Some t) true is s =
+    moment_later by a b w.times.until w.times (omega arith) W key w t refl
+    (timed_lost by a b t.ask.first w.times (s.2).clock (grind (arith, nat_tests))) s
+later_moment W by a b key w (Some t) false is s =
+    let z = nat_le (goes_on w.times.pace by a w.times.client).shows (t.ask.first + DEADLINE) in
+    moment_later by a b (if z then w.times.now + by else w.times.until) w.times (until_later w.times by (s.2).clock.until_on z) W key w t refl
+    (timed_later by a b t.ask.first w.times (s.2).clock (grind (arith, nat_tests)) z refl) s
+
+pub net_later : (W by : ℕ) (clients servers : ℕ → ℕ) (n : Net) → NetSound W n → NetSound W (passes n by clients servers)
+net_later W by clients servers n s = record {
+  each = λ key. later_moment W by (clients key.client) (servers key.server) key (one n key) (n.tickets key) (is_lost n key) refl (s.each key);
+  apart = s.apart;
+}
+
+pub net_starts : (W : ℕ) (pace : Pace) (clocks : ℕ → ℕ) → NetSound W (net_start pace clocks)
+net_starts W pace clocks = record {
   each = λ key. record { no_entry = refl; no_copies = refl; numbers = tt; counted = refl; orderly = tt };
   apart =
       λ a b x y at at' same. absurd cc;

@@ -3,7 +3,8 @@ use Rattle.std.proofs.Common.{◌≡◌, ℕ, zero, suc, ◌-◌, ◌⊎◌, Boo
 use Rattle.std.proofs.Common.{if◌then◌else◌, nat_le, nat_eq, refl, sym, subst, inl, inr, arith}
 use Rattle.bac_apdu.specs.Apdu.{Apdu}
 use Rattle.bac_apdu.specs.Apdu.Apdu.{ConfirmedRequest, ComplexAck}
-use Rattle.bac_protocol.specs.Times.{LIFE}
+use Rattle.bac_protocol.specs.Pace.{Pace}
+use Rattle.bac_protocol.specs.World.{client_now, server_now}
 use Rattle.bac_protocol.specs.Wire.{is_from_client, Each}
 use Rattle.bac_protocol.specs.Client as client
 use Rattle.bac_protocol.specs.Client.{Ask, ClientTransaction, new_ticket}
@@ -113,16 +114,16 @@ module _ (x : Rules) where
   abbrev IsOwn : Key → ℕ → client.Reaction → Type 0
   IsOwn key now r = Own (client_context x key now) x.readable (IsSentByClient x key) (IsLesser x key) (client_has key now) r
 
-  client_owned : (n : Net) → Owned n → (key : Key) (t : ClientTransaction) → PhaseHas (IsLesser x key) t.phase → (r : client.Reaction) → IsOwn key n.now r
+  client_owned : (n : Net) → Owned n → (key : Key) (t : ClientTransaction) → PhaseHas (IsLesser x key) t.phase → (r : client.Reaction) → IsOwn key (client_now n key) r
       → Owned (client_acts n key t r)
   client_owned n h key t k r own =
-      let c = client_context x key n.now in
-      let sends = own_sends c x.readable (IsSentByClient x key) (IsLesser x key) (client_has key n.now) r own in
-      let next = own_after c x.readable (IsSentByClient x key) (IsLesser x key) (client_has key n.now) t k r own in
+      let c = client_context x key (client_now n key) in
+      let sends = own_sends c x.readable (IsSentByClient x key) (IsLesser x key) (client_has key (client_now n key)) r own in
+      let next = own_after c x.readable (IsSentByClient x key) (IsLesser x key) (client_has key (client_now n key)) t k r own in
       record {
         posts = own_join n.posts (map (post_of key n.now) (client.sends_of r)) h.posts (from_client key n.now (client.sends_of r) sends);
         entries = h.entries;
-        tickets = tickets_set n.tickets h.tickets key (Some (client.after n.now t r)) next;
+        tickets = tickets_set n.tickets h.tickets key (Some (client.after (client_now n key) t r)) next;
       }
 
   server_owned : (n : Net) → Owned n → (key : Key) (v : server.Reaction) → IsOwnAs (IsSentByServer x key) (IsLesser x key) v
@@ -137,12 +138,12 @@ module _ (x : Rules) where
     ask_owned : (w : World S) → Owned w.net → (key : Key) (ask : Ask) (b : Bool) → Owned (if b then w else ask_made S x w key ask).net
     ask_owned w h key ask true = h
     ask_owned w h key ask false =
-        let c = client_context x key w.net.now in
+        let c = client_context x key (client_now w.net key) in
         let now = w.net.now in
         let r = client.asks c ask in
-        let own = asks_own c x.readable (IsSentByClient x key) (IsLesser x key) (client_has key w.net.now) ask in
-        let sends = own_sends c x.readable (IsSentByClient x key) (IsLesser x key) (client_has key w.net.now) r own in
-        let next = own_after c x.readable (IsSentByClient x key) (IsLesser x key) (client_has key w.net.now) (new_ticket now ask) tt r own in
+        let own = asks_own c x.readable (IsSentByClient x key) (IsLesser x key) (client_has key (client_now w.net key)) ask in
+        let sends = own_sends c x.readable (IsSentByClient x key) (IsLesser x key) (client_has key (client_now w.net key)) r own in
+        let next = own_after c x.readable (IsSentByClient x key) (IsLesser x key) (client_has key (client_now w.net key)) (new_ticket (client_now w.net key) ask) tt r own in
         record {
           posts = own_join w.net.posts (map (post_of key now) (client.sends_of r)) h.posts (from_client key now (client.sends_of r) sends);
           entries = h.entries;
@@ -153,23 +154,23 @@ module _ (x : Rules) where
         → TicketHas (IsLesser x key) o → Owned (takes_at_client S x w key a o).net
     takes_owned w h key a down sent None k = h
     takes_owned w h key a down sent (Some t) k =
-        let c = client_context x key w.net.now in
+        let c = client_context x key (client_now w.net key) in
         client_owned w.net h key t k (client.client_on_apdu c x.readable t a)
-        (gets_own c x.readable (IsSentByClient x key) (IsLesser x key) (client_has key w.net.now) t k a (begins_answer key a down sent))
+        (gets_own c x.readable (IsSentByClient x key) (IsLesser x key) (client_has key (client_now w.net key)) t k a (begins_answer key a down sent))
 
     arrives_owned : (w : World S) → Owned w.net → (key : Key) (free : Bool) (a : Apdu) → IsSent key a → (up : Bool) → is_from_client a ≡ up
         → Owned (if up then takes_at_server S model x w key free a else takes_at_client S x w key a (w.net.tickets key)).net
     arrives_owned w h key free a sent true up =
-        let c = server_context x key w.net.now in
+        let c = server_context x key (server_now w.net key) in
         server_owned w.net h key (server.server_on_apdu c (service_of S model w key) (w.net.entries key) (is_room w.net key free) a)
-        (server_gets_own c (service_of S model w key) (IsSentByServer x key) (IsLesser x key) (server_has key w.net.now) (w.net.entries key) (is_room w.net key free) a
+        (server_gets_own c (service_of S model w key) (IsSentByServer x key) (IsLesser x key) (server_has key (server_now w.net key)) (w.net.entries key) (is_room w.net key free) a
         (begins_request key a up sent) (h.entries key))
     arrives_owned w h key free a sent false down = takes_owned w h key a down sent (w.net.tickets key) (h.tickets key)
 
     delivered_owned : (w : World S) → Owned w.net → (number : ℕ) (free : Bool) (o : Option Post) → slice_get w.net.posts number ≡ o
         → Owned (delivered S model x w number free o).net
     delivered_owned w h number free None e = h
-    delivered_owned w h number free (Some p) e = go (nat_le (w.net.now - p.copy.moment) LIFE && nat_le (later p.key number w.net.posts) x.overtake)
+    delivered_owned w h number free (Some p) e = go (nat_le (w.net.now - p.copy.moment) w.net.pace.life && nat_le (later p.key number w.net.posts) x.overtake)
       where
         go : (b : Bool) → Owned (if b then arrives S model x w p.key free p.copy.apdu else w).net
         go true = arrives_owned w h p.key free p.copy.apdu (own_at w.net.posts h.posts number p e) (is_from_client p.copy.apdu) refl
@@ -178,9 +179,9 @@ module _ (x : Rules) where
     ticket_owned : (w : World S) → Owned w.net → (key : Key) (o : Option ClientTransaction) → TicketHas (IsLesser x key) o → Owned (ticks_ticket S x w key o).net
     ticket_owned w h key None k = h
     ticket_owned w h key (Some t) k =
-        let c = client_context x key w.net.now in
+        let c = client_context x key (client_now w.net key) in
         client_owned w.net h key t k (client.client_ticks c t)
-        (ticks_own c x.readable (IsSentByClient x key) (IsLesser x key) (client_has key w.net.now) t k)
+        (ticks_own c x.readable (IsSentByClient x key) (IsLesser x key) (client_has key (client_now w.net key)) t k)
 
     clients_owned : (keys : List Key) (w : World S) → Owned w.net → Owned (ticks_as_client S x keys w).net
     clients_owned [] w h = h
@@ -190,20 +191,20 @@ module _ (x : Rules) where
     servers_owned : (keys : List Key) (w : World S) → Owned w.net → Owned (ticks_as_server S model x keys w).net
     servers_owned [] w h = h
     servers_owned (key ∷ keys) w h =
-        let c = server_context x key w.net.now in
+        let c = server_context x key (server_now w.net key) in
         let v = server.server_ticks c (w.net.entries key) in
         servers_owned keys (serves S model w key v) (server_owned w.net h key v
-        (server_ticks_own c (IsSentByServer x key) (IsLesser x key) (server_has key w.net.now) (w.net.entries key) (h.entries key)))
+        (server_ticks_own c (IsSentByServer x key) (IsLesser x key) (server_has key (server_now w.net key)) (w.net.entries key) (h.entries key)))
 
     event_owned : (w : World S) → Owned w.net → (e : Event) → Owned (happens S model x w e).net
     event_owned w h (MakeAsk key choice whole front rest) = ask_owned w h key
-        (record { first = w.net.now; choice = choice; whole = whole; pieces = front ∷ rest }) (is_id_held w.net key)
+        (record { first = client_now w.net key; choice = choice; whole = whole; pieces = front ∷ rest }) (is_id_held w.net key)
     event_owned w h (Deliver number free) = delivered_owned w h number free (slice_get w.net.posts number) refl
     event_owned w h (Tick as_client as_server) = servers_owned as_server (ticks_as_client S x as_client w) (clients_owned as_client w h)
     event_owned w h Noise = h
-    event_owned w h (Advance by) = record { posts = h.posts; entries = h.entries; tickets = h.tickets }
+    event_owned w h (Advance by clients servers) = record { posts = h.posts; entries = h.entries; tickets = h.tickets }
     event_owned w h (Change node change) = record { posts = h.posts; entries = h.entries; tickets = h.tickets }
-    event_owned w h (RestartClient node) = record { posts = h.posts; entries = h.entries; tickets = λ key. go key (nat_eq key.client node) }
+    event_owned w h (RestartClient node exact) = record { posts = h.posts; entries = h.entries; tickets = λ key. go key (nat_eq key.client node) }
       where
         go : (key : Key) (b : Bool) → TicketHas (IsLesser x key) (if b then lost (w.net.tickets key) else w.net.tickets key)
         go key true = over (w.net.tickets key)
@@ -212,7 +213,7 @@ module _ (x : Rules) where
             over None = tt
             over (Some t) = tt
         go key false = h.tickets key
-    event_owned w h (RestartServer node store) = record { posts = h.posts; entries = λ key. go key (nat_eq key.server node); tickets = h.tickets }
+    event_owned w h (RestartServer node exact store) = record { posts = h.posts; entries = λ key. go key (nat_eq key.server node); tickets = h.tickets }
       where
         go : (key : Key) (b : Bool) → EntryHas (IsSentByServer x key) (IsLesser x key) (if b then None else w.net.entries key)
         go key true = tt
@@ -222,7 +223,7 @@ module _ (x : Rules) where
     run_owned [] w h = h
     run_owned (e ∷ es) w h = run_owned es (happens S model x w e) (event_owned w h e)
 
-    pub own_in_run : (opening : ℕ → S) (events : List Event) → AreOwn x (run S model x events (start S opening)).net
-    own_in_run opening events =
-        let h = run_owned events (start S opening) (record { posts = tt; entries = λ key. tt; tickets = λ key. tt }) in
-        record { posts = own_at (run S model x events (start S opening)).net.posts h.posts; entries = h.entries; tickets = h.tickets }
+    pub own_in_run : (pace : Pace) (clocks : ℕ → ℕ) (opening : ℕ → S) (events : List Event) → AreOwn x (run S model x events (start S pace clocks opening)).net
+    own_in_run pace clocks opening events =
+        let h = run_owned events (start S pace clocks opening) (record { posts = tt; entries = λ key. tt; tickets = λ key. tt }) in
+        record { posts = own_at (run S model x events (start S pace clocks opening)).net.posts h.posts; entries = h.entries; tickets = h.tickets }

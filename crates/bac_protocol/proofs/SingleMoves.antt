@@ -1,8 +1,10 @@
 -- After any moves a net is in order.
-use Rattle.std.proofs.Common.{◌≡◌, ℕ, ◌-◌, ◌≤◌, Bool, true, false, ◌&&◌, List, [], ◌∷◌, ◌++◌, Option, Some, None, slice_get, nat_le, refl, sym, ap, subst}
+use Rattle.std.proofs.Common.{◌≡◌, ℕ, ◌+◌, ◌-◌, ◌<◌, ◌≤◌, Bool, true, false, ◌&&◌, List, [], ◌∷◌, ◌++◌, Option, Some, None, slice_get, nat_le, refl, sym, ap, subst}
 use Rattle.std.proofs.Common.{arith, if◌then◌else◌}
 use Rattle.std.proofs.lemmas.Bool.Decides.{nat_tests}
-use Rattle.bac_protocol.specs.Times.{LIFE}
+use Rattle.bac_protocol.specs.Times.{KEEP}
+use Rattle.bac_protocol.specs.Pace.{Pace, IsTimely}
+use Rattle.bac_protocol.specs.Server.{is_none_live}
 use Rattle.bac_protocol.specs.Service.{Octets}
 use Rattle.bac_protocol.specs.Service.Outcome.{Rejects}
 use Rattle.bac_protocol.specs.Wire.{is_from_client}
@@ -11,7 +13,7 @@ use Rattle.bac_protocol.specs.Client.{Ask, ClientTransaction}
 use Rattle.bac_protocol.specs.Server as server
 use Rattle.bac_protocol.specs.Server.{ServerTransaction, Service}
 use Rattle.bac_protocol.specs.Transaction.{Key, Rules, client_context, server_context, Copy}
-use Rattle.bac_protocol.specs.World.{Net, Post, later, server_acts, asked_at, is_id_held, is_room, net_start}
+use Rattle.bac_protocol.specs.World.{Net, Post, later, server_acts, asked_at, is_id_held, is_room, net_start, client_now, server_now}
 use Rattle.bac_protocol.specs.Claims.{IsBounded}
 use Rattle.bac_protocol.specs.Moves.{Move, taken_by_client, taken_by_server, arrived, ticket_ticked, moved, IsReached, IsInOrder, SetsOnePlace}
 use Rattle.bac_protocol.specs.Moves.Move.{Asks, Arrives, TicksTicket, TicksEntry, Passes, Changes, RestartsClient, RestartsServer}
@@ -26,7 +28,13 @@ use Rattle.bac_protocol.proofs.Calm.{Calm, calm_client, calm_gets, calm_ticks, c
 use Rattle.bac_protocol.proofs.Calm.{calm_changed, calm_start, id_free, spent_free}
 use Rattle.bac_protocol.proofs.Dead.{ended_is_silent}
 use Rattle.bac_protocol.proofs.Headline.{net_log}
-use Rattle.bac_protocol.proofs.StraightRuns.{none_live_of}
+
+none_live_of : (now : ℕ) (o : Option ServerTransaction) → ((e : ServerTransaction) → o ≡ Some e → e.begin + KEEP < now) → is_none_live now o ≡ true
+none_live_of now None dead = refl
+none_live_of now (Some e) dead =
+    let d = dead e refl in
+    let f : nat_le (now - e.begin) KEEP ≡ false = grind (arith, nat_tests) in
+    ap (λ b. if b then false else true) f
 
 none_there : (k : ℕ) (c : Copy) → slice_get [] k ≡ Some c → ⊥
 none_there k c e = cc
@@ -45,38 +53,38 @@ module _ (W : ℕ) (x : Rules) (bound : IsBounded W x) where
       (subst (λ (cs : List Copy). slice_get cs (later p.key number n.posts) ≡ Some p.copy) (sound_at W n p.key None is s.net).no_copies
       (copy_at number n.posts p at))
 
-  arrives_sound : (n : Net) → Sound n → (number : ℕ) (p : Post) → slice_get n.posts number ≡ Some p → n.now - p.copy.moment ≤ LIFE
+  arrives_sound : (n : Net) → Sound n → (number : ℕ) (p : Post) → slice_get n.posts number ≡ Some p → n.now - p.copy.moment ≤ n.pace.life
       → later p.key number n.posts ≤ x.overtake → (free : Bool) (service : Service) (o : Option ClientTransaction) → n.tickets p.key ≡ o → (up : Bool)
       → is_from_client p.copy.apdu ≡ up → Sound (if up then taken_by_server x n p free service else taken_by_client x n p o)
   arrives_sound n s number p at young few free service None is up way = absurd (posted n s number p at is)
   arrives_sound n s number p at young few free service (Some t) is true way =
       let f = sound_at W n p.key (Some t) is s.net in
       let says = ((f.2).arriving (later p.key number n.posts) p.copy (copy_at number n.posts p at) young).1 in
-      let v = server.server_on_apdu (server_context x p.key n.now) service (n.entries p.key) (is_room n p.key free) p.copy.apdu in
+      let v = server.server_on_apdu (server_context x p.key (server_now n p.key)) service (n.entries p.key) (is_room n p.key free) p.copy.apdu in
       record {
         net = net_server W n p.key t is s.net v
             (server_gets_kept W x.overtake bound.some bound.room (x.settings p.key.server) (bound.windows p.key.server) service p.key
             (one n p.key) t (n.entries p.key) f.0 f.1 f.2 (is_room n p.key free) (room_opens n p.key free) p.copy.moment (later p.key number n.posts) few young p.copy.apdu says);
-        calm = calm_gets n s.calm p.key (server_context x p.key n.now) refl refl service (is_room n p.key free) (room_opens n p.key free) (later p.key number n.posts) p.copy
+        calm = calm_gets n s.calm p.key (server_context x p.key (server_now n p.key)) refl refl service (is_room n p.key free) (room_opens n p.key free) (later p.key number n.posts) p.copy
             (copy_at number n.posts p at) young way;
       }
   arrives_sound n s number p at young few free service (Some t) is false way =
       let f = sound_at W n p.key (Some t) is s.net in
       let says = ((f.2).arriving (later p.key number n.posts) p.copy (copy_at number n.posts p at) young).1 in
-      let r = client.client_on_apdu (client_context x p.key n.now) x.readable t p.copy.apdu in
+      let r = client.client_on_apdu (client_context x p.key (client_now n p.key)) x.readable t p.copy.apdu in
       record {
         net = net_client W n p.key t is s.net r
             (client_gets_kept W x.overtake bound.some bound.room (x.settings p.key.client) (bound.windows p.key.client) x.readable p.key
             (one n p.key) t f.0 f.1 f.2 p.copy.moment (later p.key number n.posts) few p.copy.apdu says);
-        calm = calm_client n s.calm p.key t is r (ended_is_silent.gets (client_context x p.key n.now) x.readable t p.copy.apdu);
+        calm = calm_client n s.calm p.key t is r (ended_is_silent.gets (client_context x p.key (client_now n p.key)) x.readable t p.copy.apdu);
       }
 
   arrived_sound : (n : Net) → Sound n → (number : ℕ) (free : Bool) (service : Service) (o : Option Post) → slice_get n.posts number ≡ o
       → Sound (arrived x n number free service o)
   arrived_sound n s number free service None at = s
-  arrived_sound n s number free service (Some p) at = go (nat_le (n.now - p.copy.moment) LIFE) (nat_le (later p.key number n.posts) x.overtake) refl refl
+  arrived_sound n s number free service (Some p) at = go (nat_le (n.now - p.copy.moment) n.pace.life) (nat_le (later p.key number n.posts) x.overtake) refl refl
     where
-      go : (a b : Bool) → nat_le (n.now - p.copy.moment) LIFE ≡ a → nat_le (later p.key number n.posts) x.overtake ≡ b
+      go : (a b : Bool) → nat_le (n.now - p.copy.moment) n.pace.life ≡ a → nat_le (later p.key number n.posts) x.overtake ≡ b
           → Sound (if a && b then (if is_from_client p.copy.apdu then taken_by_server x n p free service else taken_by_client x n p (n.tickets p.key)) else n)
       go true true young few = arrives_sound n s number p at (grind (arith, nat_tests)) (grind (arith, nat_tests)) free service (n.tickets p.key) refl
           (is_from_client p.copy.apdu) refl
@@ -87,35 +95,35 @@ module _ (W : ℕ) (x : Rules) (bound : IsBounded W x) where
   ticket_sound n s key None is = s
   ticket_sound n s key (Some t) is =
       let f = sound_at W n key (Some t) is s.net in
-      let r = client.client_ticks (client_context x key n.now) t in
+      let r = client.client_ticks (client_context x key (client_now n key)) t in
       record {
         net = net_client W n key t is s.net r
             (client_ticks_kept W x.overtake bound.some bound.room (x.settings key.client) (bound.windows key.client) x.readable key
             (one n key) t f.0 f.1 f.2);
-        calm = calm_client n s.calm key t is r (ended_is_silent.ticks (client_context x key n.now) t);
+        calm = calm_client n s.calm key t is r (ended_is_silent.ticks (client_context x key (client_now n key)) t);
       }
 
   entry_sound : (n : Net) → Sound n → (key : Key) (o : Option ClientTransaction) → n.tickets key ≡ o
-      → Sound (server_acts n key (server.server_ticks (server_context x key n.now) (n.entries key)))
+      → Sound (server_acts n key (server.server_ticks (server_context x key (server_now n key)) (n.entries key)))
   entry_sound n s key (Some t) is =
       let f = sound_at W n key (Some t) is s.net in
-      let v = server.server_ticks (server_context x key n.now) (n.entries key) in
+      let v = server.server_ticks (server_context x key (server_now n key)) (n.entries key) in
       record {
         net = net_server W n key t is s.net v
             (server_ticks_kept W x.overtake bound.some bound.room (x.settings key.server) (bound.windows key.server)
             (λ choice octets. Rejects 0) key (one n key) t (n.entries key) f.0 f.1 f.2);
-        calm = calm_ticks n s.calm key (server_context x key n.now) refl refl;
+        calm = calm_ticks n s.calm key (server_context x key (server_now n key)) refl refl;
       }
   entry_sound n s key None is = go (n.entries key) refl (sound_at W n key None is s.net).no_entry
     where
-      go : (o : Option ServerTransaction) → n.entries key ≡ o → o ≡ None → Sound (server_acts n key (server.server_ticks (server_context x key n.now) o))
+      go : (o : Option ServerTransaction) → n.entries key ≡ o → o ≡ None → Sound (server_acts n key (server.server_ticks (server_context x key (server_now n key)) o))
       go (Some e) is nil = absurd cc
       go None is nil = subst (λ (m : Net). Sound m)
           (λ i. record n { entries = sym (set_nothing n.entries key None is) i; posts = sym (all_there n.posts) i }) s
 
   asks_sound : (n : Net) → Sound n → (key : Key) (choice : ℕ) (whole : Bool) (front : Octets) (rest : List Octets) (b : Bool)
       → is_id_held n key ≡ b
-      → Sound (if b then n else asked_at x n key (record { first = n.now; choice = choice; whole = whole; pieces = front ∷ rest }))
+      → Sound (if b then n else asked_at x n key (record { first = client_now n key; choice = choice; whole = whole; pieces = front ∷ rest }))
   asks_sound n s key choice whole front rest true e = s
   asks_sound n s key choice whole front rest false e = record {
     net = net_asked W bound.some x n key s.net (spent_free W n s.net s.calm key e) choice whole front rest;
@@ -127,34 +135,35 @@ module _ (W : ℕ) (x : Rules) (bound : IsBounded W x) where
   move_sound n s (Arrives number free service) = arrived_sound n s number free service (slice_get n.posts number) refl
   move_sound n s (TicksTicket key) = ticket_sound n s key (n.tickets key) refl
   move_sound n s (TicksEntry key) = entry_sound n s key (n.tickets key) refl
-  move_sound n s (Passes by) = record { net = net_later W by n s.net; calm = calm_later n by s.calm }
+  move_sound n s (Passes by clients servers) = record { net = net_later W by clients servers n s.net; calm = calm_later n by clients servers s.calm }
   move_sound n s (Changes node change) = record { net = net_changed W n node change s.net; calm = calm_changed n node change s.calm }
-  move_sound n s (RestartsClient node) = record { net = net_client_restarted W n node s.net; calm = calm_client_restarted n node s.calm }
-  move_sound n s (RestartsServer node store) =
-      record { net = net_server_restarted W n node store s.net; calm = calm_server_restarted n node store s.calm }
+  move_sound n s (RestartsClient node exact) = record { net = net_client_restarted W n node exact s.net; calm = calm_client_restarted n node exact s.calm }
+  move_sound n s (RestartsServer node exact store) =
+      record { net = net_server_restarted W n node exact store s.net; calm = calm_server_restarted n node exact store s.calm }
 
-  reached_sound : (n : Net) → IsReached x net_start n → Sound n
-  reached_sound _ Still = record { net = net_starts W; calm = calm_start }
-  reached_sound _ (Moved n m h) = move_sound n (reached_sound n h) m
+  module _ (pace : Pace) (timely : IsTimely pace) (clocks : ℕ → ℕ) where
+    reached_sound : (n : Net) → IsReached x (net_start pace clocks) n → Sound n
+    reached_sound _ Still = record { net = net_starts W pace clocks; calm = calm_start pace clocks timely }
+    reached_sound _ (Moved n m h) = move_sound n (reached_sound n h) m
 
-  pub reached_net : (n : Net) → IsReached x net_start n → NetSound W n
-  reached_net n h = (reached_sound n h).net
+    pub reached_net : (n : Net) → IsReached x (net_start pace clocks) n → NetSound W n
+    reached_net n h = (reached_sound n h).net
 
-  pub reached_calm : (n : Net) → IsReached x net_start n → Calm n
-  reached_calm n h = (reached_sound n h).calm
+    pub reached_calm : (n : Net) → IsReached x (net_start pace clocks) n → Calm n
+    reached_calm n h = (reached_sound n h).calm
 
-  pub in_order : (n : Net) → IsReached x net_start n → IsInOrder n
-  in_order n h =
-      let s = reached_sound n h in
-      record {
-        orderly = (net_log W n s.net).orderly;
-        counted = (net_log W n s.net).counted;
-        asked = λ key t is. ((sound_at W n key (Some t) is s.net).2).asked;
-        posted = posted n s;
-        entered = λ key is. (sound_at W n key None is s.net).no_entry;
-        own = λ key. (s.calm key).own;
-        dead = λ key free. none_live_of n.now (n.entries key) (spent_free W n s.net s.calm key free).dead;
-      }
+    pub in_order : (n : Net) → IsReached x (net_start pace clocks) n → IsInOrder n
+    in_order n h =
+        let s = reached_sound n h in
+        record {
+          orderly = (net_log W n s.net).orderly;
+          counted = (net_log W n s.net).counted;
+          asked = λ key t is. ((sound_at W n key (Some t) is s.net).2).asked;
+          posted = posted n s;
+          entered = λ key is. (sound_at W n key None is s.net).no_entry;
+          own = λ key. (s.calm key).own;
+          dead = λ key free. none_live_of (server_now n key) (n.entries key) (spent_free W n s.net s.calm key free).dead;
+        }
 
 -- One place of a table.
 pub sets_one_place : {A : Type 0} → SetsOnePlace A

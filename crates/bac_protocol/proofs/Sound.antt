@@ -5,9 +5,10 @@ use Rattle.bac_apdu.specs.Apdu.Apdu.{ConfirmedRequest, UnconfirmedRequest, Simpl
 use Rattle.bac_segment.specs.Limits.{N_RETRY}
 use Rattle.bac_segment.specs.Pieces.{join}
 use Rattle.bac_segment.specs.Window.{Outgoing, Incoming}
-use Rattle.bac_protocol.specs.Times.{LIFE, DEADLINE, KEEP}
+use Rattle.bac_protocol.specs.Times.{DEADLINE, KEEP}
+use Rattle.bac_protocol.specs.Pace.{IsTimely, IsShown, Since, most}
 use Rattle.bac_protocol.specs.Service.{Octets, Reply as reply}
-use Rattle.bac_protocol.specs.Client.{Ask, request_of, Phase, ClientTransaction}
+use Rattle.bac_protocol.specs.Client.{Ask, request_of, Phase, ClientTransaction, is_idle}
 use Rattle.bac_protocol.specs.Client.Phase.{AwaitConfirmation, SegmentedConf, Idle}
 use Rattle.bac_protocol.specs.Server.{State, ServerTransaction}
 use Rattle.bac_protocol.specs.Server.State.{Done, SegmentedResponse, Dropped}
@@ -15,7 +16,7 @@ use Rattle.bac_protocol.specs.Log.{Fact, Has, asks_in, IsUnperformed, IsUnended,
 use Rattle.bac_protocol.specs.Log.Fact.{Asked, Performed, Ended, Changed, Restarted}
 use Rattle.bac_protocol.specs.Transaction.{Key, Copy}
 use Rattle.bac_protocol.proofs.Alone.{Transaction}
-use Rattle.bac_protocol.specs.Claims.{EachCopy, IsPieceOf, WasPerformed, IsPiece, IsAck}
+use Rattle.bac_protocol.specs.Claims.{Moments, client_until, server_until, IsBegunSince, HasRestartedSince, EachCopy, IsPieceOf, WasPerformed, IsPiece, IsAck}
 
 -- The log.
 
@@ -83,37 +84,30 @@ abbrev pub IsAckDown : ℕ → Down → ℕ → ℕ → Type 0
 IsAckDown W Unsent k number = ⊥
 IsAckDown W (Sent pieces taken sent) k number = IsAck W taken sent k number
 
--- the last moments at which the two ends send for an ask
-abbrev pub client_until : Ask → ℕ
-client_until ask = ask.first + DEADLINE
-
-abbrev pub server_until : Ask → ℕ
-server_until ask = ask.first + DEADLINE + LIFE + KEEP
-
 -- a copy with k later ones is of this ask, and was sent in time
-abbrev pub Says : ℕ → ℕ → Ask → List Fact → Up → Down → ℕ → ℕ → Apdu → Type 0
-Says W number ask log up down moment k (ConfirmedRequest limits id None choice octets) = (moment ≤ client_until ask) × (ask.whole ≡ true)
+abbrev pub Says : ℕ → Moments → ℕ → Ask → List Fact → Up → Down → ℕ → ℕ → Apdu → Type 0
+Says W times number ask log up down moment k (ConfirmedRequest limits id None choice octets) = (moment ≤ client_until times) × (ask.whole ≡ true)
     × (choice ≡ ask.choice) × (octets ≡ join ask.pieces)
-Says W number ask log up down moment k (ConfirmedRequest limits id (Some segment) choice octets) = (moment ≤ client_until ask) × (ask.whole ≡ false)
+Says W times number ask log up down moment k (ConfirmedRequest limits id (Some segment) choice octets) = (moment ≤ client_until times) × (ask.whole ≡ false)
     × (choice ≡ ask.choice) × IsPieceUp W ask up k segment octets
-Says W number ask log up down moment k (UnconfirmedRequest choice octets) = ⊥
-Says W number ask log up down moment k (SimpleAck id choice) = (moment ≤ server_until ask) × WasPerformed number ask reply.Simple log
+Says W times number ask log up down moment k (UnconfirmedRequest choice octets) = ⊥
+Says W times number ask log up down moment k (SimpleAck id choice) = (moment ≤ server_until times) × WasPerformed number ask reply.Simple log
     × (choice ≡ ask.choice)
-Says W number ask log up down moment k (ComplexAck id None choice octets) = (moment ≤ server_until ask)
+Says W times number ask log up down moment k (ComplexAck id None choice octets) = (moment ≤ server_until times)
     × WasPerformed number ask (reply.Complex octets) log × (choice ≡ ask.choice)
-Says W number ask log up down moment k (ComplexAck id (Some segment) choice octets) = (moment ≤ server_until ask)
+Says W times number ask log up down moment k (ComplexAck id (Some segment) choice octets) = (moment ≤ server_until times)
     × IsPieceDown W down k segment octets × (choice ≡ ask.choice)
-Says W number ask log up down moment k (SegmentAck true id ack) = (moment ≤ server_until ask) × IsAckUp W up k ack.number
-Says W number ask log up down moment k (SegmentAck false id ack) = (moment ≤ client_until ask) × IsAckDown W down k ack.number
-Says W number ask log up down moment k (Error id choice class code) = (moment ≤ server_until ask)
+Says W times number ask log up down moment k (SegmentAck true id ack) = (moment ≤ server_until times) × IsAckUp W up k ack.number
+Says W times number ask log up down moment k (SegmentAck false id ack) = (moment ≤ client_until times) × IsAckDown W down k ack.number
+Says W times number ask log up down moment k (Error id choice class code) = (moment ≤ server_until times)
     × WasPerformed number ask (reply.Error class code) log × (choice ≡ ask.choice)
-Says W number ask log up down moment k (Reject id reason) = moment ≤ server_until ask
-Says W number ask log up down moment k (Abort true id reason) = moment ≤ server_until ask
-Says W number ask log up down moment k (Abort false id reason) = moment ≤ client_until ask
+Says W times number ask log up down moment k (Reject id reason) = moment ≤ server_until times
+Says W times number ask log up down moment k (Abort true id reason) = moment ≤ server_until times
+Says W times number ask log up down moment k (Abort false id reason) = moment ≤ client_until times
 
 -- a copy that is young enough to arrive was sent since the ask was made, and is of it
-abbrev pub Fits : ℕ → ℕ → ℕ → Ask → List Fact → Up → Down → ℕ → Copy → Type 0
-Fits W now number ask log up down k c = now - c.moment ≤ LIFE → (ask.first ≤ c.moment) × Says W number ask log up down c.moment k c.apdu
+abbrev pub Fits : ℕ → Moments → ℕ → Ask → List Fact → Up → Down → ℕ → Copy → Type 0
+Fits W times number ask log up down k c = times.now - c.moment ≤ times.pace.life → (times.made ≤ c.moment) × Says W times number ask log up down c.moment k c.apdu
 
 -- The client.
 
@@ -192,15 +186,14 @@ StateFits W number ask Dropped (Reading taken sent) Unsent log = (taken < length
 StateFits W number ask _ _ _ log = ⊥
 
 -- the entry was begun for the ask
-pub record IsBegunFor (W number : ℕ) (ask : Ask) (e : ServerTransaction) (up : Up) (down : Down) (log : List Fact) : Type 0 where
-  pub after : ask.first ≤ e.begin
-  pub before : e.begin ≤ ask.first + DEADLINE + LIFE
+pub record IsBegunFor (W : ℕ) (times : Moments) (number : ℕ) (ask : Ask) (e : ServerTransaction) (up : Up) (down : Down) (log : List Fact) : Type 0 where
+  pub begun : IsBegunSince times e.begin
   pub choice : e.choice ≡ ask.choice
   pub state : StateFits W number ask e.state up down log
 
--- the entry was dead before the ask was made
-pub record IsPastFor (number : ℕ) (ask : Ask) (e : ServerTransaction) (up : Up) (down : Down) (log : List Fact) : Type 0 where
-  pub dead : e.begin + KEEP < ask.first
+-- the entry was dead before the ask was made, and is
+pub record IsPastFor (times : Moments) (number : ℕ) (ask : Ask) (e : ServerTransaction) (up : Up) (down : Down) (log : List Fact) : Type 0 where
+  pub dead : e.begin + KEEP < times.server.shows
   pub unbegun : IsUnbegun number up down log
 
 -- pieces of a reply were sent for the request, which was read and performed
@@ -209,13 +202,13 @@ WasGiven number ask up Unsent log = Unit {0}
 WasGiven number ask up (Sent pieces taken sent) log = IsRead ask up × WasPerformed number ask (reply.Complex (join pieces)) log
 
 -- the server restarted since the ask, and lost what it had begun for it
-pub record IsLostFor (opens number : ℕ) (ask : Ask) (up : Up) (down : Down) (log : List Fact) : Type 0 where
-  pub before : ask.first + KEEP < opens
+pub record IsLostFor (times : Moments) (number : ℕ) (ask : Ask) (up : Up) (down : Down) (log : List Fact) : Type 0 where
+  pub before : HasRestartedSince times
   pub given : WasGiven number ask up down log
 
-abbrev pub ServerFits : ℕ → ℕ → ℕ → Ask → Option ServerTransaction → Up → Down → List Fact → Type 0
-ServerFits W opens number ask None up down log = IsUnbegun number up down log ⊎ IsLostFor opens number ask up down log
-ServerFits W opens number ask (Some e) up down log = IsPastFor number ask e up down log ⊎ IsBegunFor W number ask e up down log
+abbrev pub ServerFits : ℕ → Moments → ℕ → Ask → Option ServerTransaction → Up → Down → List Fact → Type 0
+ServerFits W times number ask None up down log = IsUnbegun number up down log ⊎ IsLostFor times number ask up down log
+ServerFits W times number ask (Some e) up down log = IsPastFor times number ask e up down log ⊎ IsBegunFor W times number ask e up down log
 
 -- All of it.
 
@@ -233,20 +226,39 @@ IsOpenIn AwaitConfirmation n log = IsUnended n log
 IsOpenIn (SegmentedConf inc) n log = IsUnended n log
 IsOpenIn Idle n log = Unit {0}
 
-pub record Sound (W : ℕ) (key : Key) (opens now asks number : ℕ) (t : ClientTransaction) (entry : Option ServerTransaction) (copies : List Copy) (log : List Fact) (up : Up)
+-- the ask was made when its client's clock showed so much, and its client was last in time when it showed no more than DEADLINE more
+pub record IsCounted (times : Moments) (first : ℕ) : Type 0 where
+  pub since : Since times.pace times.made first times.now times.client
+  pub sends : times.client.shows ≤ first + DEADLINE → times.now ≤ times.until
+  pub last : ℕ
+  pub last_early : last ≤ first + DEADLINE
+  pub last_since : Since times.pace times.until last times.now times.client
+
+-- the clocks show their milliseconds, and the times of the machines fit their pace; so it is where the client has not restarted since the ask
+pub record IsTimed (times : Moments) (first : ℕ) : Type 0 where
+  pub timely : IsTimely times.pace
+  pub client : IsShown times.pace times.client
+  pub server : IsShown times.pace times.server
+  pub on : times.made ≤ times.now
+  pub until_on : times.until ≤ times.now
+  pub early : times.until ≤ times.made + most times.pace DEADLINE
+  pub counts : times.restarted ≤ times.made → IsCounted times first
+
+pub record Sound (W : ℕ) (key : Key) (times : Moments) (asks number : ℕ) (t : ClientTransaction) (entry : Option ServerTransaction) (copies : List Copy) (log : List Fact) (up : Up)
     (down : Down) : Type 0 where
-  pub clock : t.ask.first ≤ now
+  pub clock : IsTimed times t.ask.first
   pub numbers : IsBelow asks log
   pub counted : asks ≡ asks_in log
   pub orderly : IsOrderly log
   pub asked : Has (Asked number key.client key.server (request_of t.ask)) log
   pub unended : IsOpenIn t.phase number log
+  pub lives : is_idle t.phase ≡ false → times.restarted ≤ times.made
   pub client : ClientFits W t.ask t.phase up down
   pub passes : PassFits t.ask t.repeats up
-  pub server : ServerFits W opens number t.ask entry up down log
+  pub server : ServerFits W times number t.ask entry up down log
   pub upload : UpFits W t.ask up
   pub download : DownFits W down
-  pub arriving : EachCopy (λ k c. Fits W now number t.ask log up down k c) copies
+  pub arriving : EachCopy (λ k c. Fits W times number t.ask log up down k c) copies
 
 -- nothing was asked yet of this transaction
 pub record IsFresh (asks : ℕ) (entry : Option ServerTransaction) (copies : List Copy) (log : List Fact) : Type 0 where
@@ -258,7 +270,7 @@ pub record IsFresh (asks : ℕ) (entry : Option ServerTransaction) (copies : Lis
 
 abbrev pub IsSoundAt : ℕ → Key → Option ClientTransaction → Transaction → Type 0
 IsSoundAt W key None w = IsFresh w.asks w.entry w.copies w.log
-IsSoundAt W key (Some t) w = (up : Up) × (down : Down) × Sound W key w.opens w.now w.asks w.number t w.entry w.copies w.log up down
+IsSoundAt W key (Some t) w = (up : Up) × (down : Down) × Sound W key w.times w.asks w.number t w.entry w.copies w.log up down
 
 abbrev pub IsSound : ℕ → Key → Transaction → Type 0
 IsSound W key w = IsSoundAt W key w.ticket w

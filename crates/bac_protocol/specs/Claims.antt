@@ -7,7 +7,8 @@ use Rattle.bac_segment.specs.Limits.{N_RETRY}
 use Rattle.bac_segment.specs.Numbers.{ahead}
 use Rattle.bac_segment.specs.Pieces.{join, piece_at}
 use Rattle.bac_segment.specs.Window.{Outgoing, in_window, Incoming}
-use Rattle.bac_protocol.specs.Times.{LIFE, DEADLINE, KEEP, REST}
+use Rattle.bac_protocol.specs.Times.{DEADLINE, KEEP, REST}
+use Rattle.bac_protocol.specs.Pace.{Pace, Clock, most, Since}
 use Rattle.bac_protocol.specs.Service.{Octets, Reply as reply}
 use Rattle.bac_protocol.specs.Wire.{is_from_client}
 use Rattle.bac_protocol.specs.Client.{Ask, request_of, Phase, ClientTransaction}
@@ -30,14 +31,59 @@ abbrev pub EachCopy : (ℕ → Copy → Type 0) → List Copy → Type 0
 EachCopy P copies = (k : ℕ) (c : Copy) → slice_get copies k ≡ Some c → P k c
 
 -- copy c, with k later ones, may arrive
-abbrev pub MayArrive : (overtake now : ℕ) → ℕ → Copy → Type 0
-MayArrive overtake now k c = (now - c.moment ≤ LIFE) × (k ≤ overtake)
+abbrev pub MayArrive : Rules → Net → ℕ → Copy → Type 0
+MayArrive x n k c = (n.now - c.moment ≤ n.pace.life) × (k ≤ x.overtake)
+
+-- The times of one transaction: real ones, and what the clocks of its ends show.
+pub record Moments : Type 0 where
+  pub pace : Pace
+  pub made : ℕ  -- the real moment at which its newest ask was made
+  pub until : ℕ  -- the last one, so far, at which its client was in time to send for it
+  pub now : ℕ
+  pub client : Clock
+  pub server : Clock
+  pub restarted : ℕ  -- one more than the real moment at which its client restarted last
+  pub opens : ℕ  -- the first moment, by its server's clock, at which the server begins entries
+
+abbrev pub moments_of : Net → Key → Moments
+moments_of n key = record {
+  pace = n.pace;
+  made = n.made key;
+  until = n.until key;
+  now = n.now;
+  client = n.client_clocks key.client;
+  server = n.server_clocks key.server;
+  restarted = n.restarted key.client;
+  opens = n.serves_from key.server;
+}
+
+-- the last real moment at which the client sends for the ask, and the server
+abbrev pub client_until : Moments → ℕ
+client_until m = m.until
+
+abbrev pub server_until : Moments → ℕ
+server_until m = m.until + m.pace.life + most m.pace KEEP
+
+-- what the server's clock showed then, it showed since the ask was made, and while a request of it could arrive
+pub record IsBegunSince (m : Moments) (begin : ℕ) : Type 0 where
+  pub began : ℕ
+  pub after : m.made ≤ began
+  pub before : began ≤ m.until + m.pace.life
+  pub since : Since m.pace began begin m.now m.server
+
+-- the server restarted since the ask was made
+pub record HasRestartedSince (m : Moments) : Type 0 where
+  pub restarted : ℕ
+  pub shown : ℕ
+  pub after : m.made ≤ restarted
+  pub since : Since m.pace restarted shown m.now m.server
+  pub opens_is : m.opens ≡ shown + KEEP + 1
 
 -- the world's copy of that number stands among those of its transaction at the number of later ones, and is deliverable exactly where it may arrive
 pub record IsInPlace (x : Rules) (n : Net) (number : ℕ) (p : Post) : Type 0 where
   pub place : slice_get (copies_of p.key n.posts) (later p.key number n.posts) ≡ Some p.copy
-  pub arrives : is_deliverable x n.now number n.posts p ≡ true → MayArrive x.overtake n.now (later p.key number n.posts) p.copy
-  pub only : MayArrive x.overtake n.now (later p.key number n.posts) p.copy → is_deliverable x n.now number n.posts p ≡ true
+  pub arrives : is_deliverable x n number p ≡ true → MayArrive x n (later p.key number n.posts) p.copy
+  pub only : MayArrive x n (later p.key number n.posts) p.copy → is_deliverable x n number p ≡ true
 
 -- piece p of these, as a segment carries it
 pub record IsPieceAt (pieces : List Octets) (p : ℕ) (segment : Segment) (octets : Octets) : Type 0 where
@@ -71,33 +117,32 @@ IsOfAsk number ask log (ComplexAck invoke_id (Some segment) choice service) =
 IsOfAsk number ask log (Error invoke_id choice class code) = (choice ≡ ask.choice) × WasPerformed number ask (reply.Error class code) log
 IsOfAsk number ask log _ = Unit {0}
 
--- the last moment at which an APDU of the ask is sent: its client sends for DEADLINE; a copy that it sent then may arrive a LIFE later, and begin
--- an entry, for which its server sends while it is live
-abbrev pub sent_until : Ask → Apdu → ℕ
-sent_until ask apdu = if is_from_client apdu then ask.first + DEADLINE else ask.first + DEADLINE + LIFE + KEEP
+-- the last moment at which an APDU of the ask is sent: its client sends for DEADLINE; a copy that it sent then may arrive a life of copies later, and
+-- begin an entry, for which its server sends while it is live
+abbrev pub sent_until : Moments → Apdu → ℕ
+sent_until m apdu = if is_from_client apdu then client_until m else server_until m
 
 -- a copy is of that ask, and was sent since it was made and while its ends send for it
-pub record IsCopyOf (number : ℕ) (ask : Ask) (log : List Fact) (c : Copy) : Type 0 where
-  pub after : ask.first ≤ c.moment
-  pub before : c.moment ≤ sent_until ask c.apdu
+pub record IsCopyOf (m : Moments) (number : ℕ) (ask : Ask) (log : List Fact) (c : Copy) : Type 0 where
+  pub after : m.made ≤ c.moment
+  pub before : c.moment ≤ sent_until m c.apdu
   pub is_of : IsOfAsk number ask log c.apdu
 
 -- an entry was begun for the ask
-pub record IsEntryOf (ask : Ask) (e : ServerTransaction) : Type 0 where
-  pub after : ask.first ≤ e.begin
-  pub before : e.begin ≤ ask.first + DEADLINE + LIFE
+pub record IsEntryOf (m : Moments) (ask : Ask) (e : ServerTransaction) : Type 0 where
+  pub begun : IsBegunSince m e.begin
   pub choice : e.choice ≡ ask.choice
 
 -- an entry that is live was begun for that ask
-abbrev pub LiveIsOf : ℕ → Ask → Option ServerTransaction → Type 0
-LiveIsOf now ask None = Unit {0}
-LiveIsOf now ask (Some e) = is_live now e ≡ true → IsEntryOf ask e
+abbrev pub LiveIsOf : Moments → Ask → Option ServerTransaction → Type 0
+LiveIsOf m ask None = Unit {0}
+LiveIsOf m ask (Some e) = is_live m.server.shows e ≡ true → IsEntryOf m ask e
 
 -- each copy of the transaction that may arrive is of its newest ask, and so is its entry, where it is live
 pub record IsOfNewest (x : Rules) (n : Net) (key : Key) (t : ClientTransaction) : Type 0 where
   pub asked : Has (Asked (n.numbers key) key.client key.server (request_of t.ask)) n.log
-  pub copies : EachCopy (λ k c. MayArrive x.overtake n.now k c → IsCopyOf (n.numbers key) t.ask n.log c) (copies_of key n.posts)
-  pub entry : LiveIsOf n.now t.ask (n.entries key)
+  pub copies : EachCopy (λ k c. MayArrive x n k c → IsCopyOf (moments_of n key) (n.numbers key) t.ask n.log c) (copies_of key n.posts)
+  pub entry : LiveIsOf (moments_of n key) t.ask (n.entries key)
 
 -- where there was no ask, there is nothing
 pub record IsUnasked (n : Net) (key : Key) : Type 0 where
@@ -163,11 +208,11 @@ IsNearDown W pieces taken sent k _ = Unit {0}
 
 -- in a pass over so many pieces, taken ≤ sent ≤ taken + W; the whole number p of each copy that may arrive has p < sent ≤ p + 1 + W + k, and it is
 -- read as it was meant
-pub record IsNearPass (W overtake now total taken sent : ℕ) (near : ℕ → Apdu → Type 0) (copies : List Copy) : Type 0 where
+pub record IsNearPass (W : ℕ) (x : Rules) (n : Net) (total taken sent : ℕ) (near : ℕ → Apdu → Type 0) (copies : List Copy) : Type 0 where
   pub taken_sent : taken ≤ sent
   pub sent_taken : sent ≤ taken + W
   pub sent_total : sent ≤ total
-  pub copies_near : EachCopy (λ k c. MayArrive overtake now k c → near k c.apdu) copies
+  pub copies_near : EachCopy (λ k c. MayArrive x n k c → near k c.apdu) copies
 
 -- so many pieces were taken: the first of them
 pub record HasFront (pieces : List Octets) (inc : Incoming) (taken : ℕ) : Type 0 where
@@ -181,22 +226,14 @@ StateHasTaken pieces (Done kept) taken = taken ≡ length pieces
 StateHasTaken pieces (SegmentedResponse out transfer since) taken = taken ≡ length pieces
 StateHasTaken pieces Dropped taken = taken < length pieces
 
--- the client has not restarted since the ask was made: it would wait longer
-abbrev pub ClientStays : Net → Key → Ask → Type 0
-ClientStays n key ask = n.asks_from key.client ≤ ask.first + REST
-
--- nor has the server
-abbrev pub ServerStays : Net → Key → Ask → Type 0
-ServerStays n key ask = n.serves_from key.server ≤ ask.first + KEEP
-
--- the server restarted since the ask was made
-abbrev pub RestartedSince : Net → Key → Ask → Type 0
-RestartedSince n key ask = ask.first + KEEP < n.serves_from key.server
+-- the client has not restarted since the newest ask was made
+abbrev pub ClientStays : Net → Key → Type 0
+ClientStays n key = n.restarted key.client ≤ n.made key
 
 -- and it has taken none, where no entry was begun for the ask; where it restarted since, it may have taken any
-abbrev pub ServerHasTaken : (lost : Type 0) → Ask → Option ServerTransaction → ℕ → Type 0
-ServerHasTaken lost ask None taken = (taken ≡ 0) ⊎ lost
-ServerHasTaken lost ask (Some e) taken = ((e.begin < ask.first) × (taken ≡ 0)) ⊎ ((ask.first ≤ e.begin) × StateHasTaken ask.pieces e.state taken)
+abbrev pub ServerHasTaken : Moments → Ask → Option ServerTransaction → ℕ → Type 0
+ServerHasTaken m ask None taken = (taken ≡ 0) ⊎ HasRestartedSince m
+ServerHasTaken m ask (Some e) taken = ((is_live m.server.shows e ≡ false) × (taken ≡ 0)) ⊎ (IsBegunSince m e.begin × StateHasTaken ask.pieces e.state taken)
 
 -- where the request's sender stands: it sends; all was acknowledged; a segment of its reply came; or its ticket is over, and it sends no more
 abbrev pub ClientIsInWindow : ℕ → Ask → Phase → (taken sent : ℕ) → Type 0
@@ -209,9 +246,9 @@ ClientIsInWindow W ask Idle taken sent = Unit {0}
 pub record IsRequestPass (W : ℕ) (x : Rules) (n : Net) (key : Key) (t : ClientTransaction) : Type 0 where
   pub taken : ℕ
   pub sent : ℕ
-  pub server : ServerHasTaken (RestartedSince n key t.ask) t.ask (n.entries key) taken
+  pub server : ServerHasTaken (moments_of n key) t.ask (n.entries key) taken
   pub client : ClientIsInWindow W t.ask t.phase taken sent
-  pub pass : IsNearPass W x.overtake n.now (length t.ask.pieces) taken sent (IsNearUp W t.ask.pieces taken sent) (copies_of key n.posts)
+  pub pass : IsNearPass W x n (length t.ask.pieces) taken sent (IsNearUp W t.ask.pieces taken sent) (copies_of key n.posts)
 
 -- a request in segments is in its first pass until a repeat is made
 abbrev pub RequestsAreInWindow : ℕ → Rules → Net → Type 0
@@ -232,7 +269,7 @@ pub record IsReplyPass (W : ℕ) (x : Rules) (n : Net) (key : Key) (t : ClientTr
   pub performed : WasPerformed (n.numbers key) t.ask (reply.Complex (join out.pieces)) n.log
   pub client : ClientHasTaken out.pieces t.phase taken
   pub server : IsInWindow W out taken sent
-  pub pass : IsNearPass W x.overtake n.now (length out.pieces) taken sent (IsNearDown W out.pieces taken sent) (copies_of key n.posts)
+  pub pass : IsNearPass W x n (length out.pieces) taken sent (IsNearDown W out.pieces taken sent) (copies_of key n.posts)
 
 -- where no reply was begun in segments, no segment of one may arrive, and no SegmentACK of its client
 abbrev pub IsOfNoPass : Apdu → Type 0
@@ -242,7 +279,7 @@ IsOfNoPass _ = Unit {0}
 
 -- no segment of a reply may arrive
 abbrev pub IsUnsent : Rules → Net → Key → Type 0
-IsUnsent x n key = EachCopy (λ k c. MayArrive x.overtake n.now k c → IsOfNoPass c.apdu) (copies_of key n.posts)
+IsUnsent x n key = EachCopy (λ k c. MayArrive x n k c → IsOfNoPass c.apdu) (copies_of key n.posts)
 
 -- the pass of a reply whose server restarted in it, and gives no more of it
 pub record IsLostPass (W : ℕ) (x : Rules) (n : Net) (key : Key) (t : ClientTransaction) : Type 0 where
@@ -251,7 +288,7 @@ pub record IsLostPass (W : ℕ) (x : Rules) (n : Net) (key : Key) (t : ClientTra
   pub sent : ℕ
   pub performed : WasPerformed (n.numbers key) t.ask (reply.Complex (join pieces)) n.log
   pub client : ClientHasTaken pieces t.phase taken
-  pub pass : IsNearPass W x.overtake n.now (length pieces) taken sent (IsNearDown W pieces taken sent) (copies_of key n.posts)
+  pub pass : IsNearPass W x n (length pieces) taken sent (IsNearDown W pieces taken sent) (copies_of key n.posts)
 
 -- in SEGMENTED_RESPONSE the one pass of the reply goes on; otherwise it has not begun
 abbrev pub StateHasReplyPass : (W : ℕ) → Rules → Net → Key → ClientTransaction → State → Type 0
@@ -260,9 +297,10 @@ StateHasReplyPass W x n key t _ = IsUnsent x n key
 
 -- the same of an entry, which may be of an earlier ask
 abbrev pub ServerHasReplyPass : (W : ℕ) → Rules → Net → Key → ClientTransaction → Option ServerTransaction → Type 0
-ServerHasReplyPass W x n key t None = IsUnsent x n key ⊎ (RestartedSince n key t.ask × IsLostPass W x n key t)
+ServerHasReplyPass W x n key t None = IsUnsent x n key ⊎ (HasRestartedSince (moments_of n key) × IsLostPass W x n key t)
 ServerHasReplyPass W x n key t (Some e) =
-    ((e.begin < t.ask.first) × IsUnsent x n key) ⊎ ((t.ask.first ≤ e.begin) × StateHasReplyPass W x n key t e.state)
+    ((is_live (moments_of n key).server.shows e ≡ false) × IsUnsent x n key)
+    ⊎ (IsBegunSince (moments_of n key) e.begin × StateHasReplyPass W x n key t e.state)
 
 -- a reply in segments is given in one pass by the entry that was begun for the ask, also after the ticket's end
 abbrev pub RepliesAreInWindow : ℕ → Rules → Net → Type 0
@@ -285,9 +323,9 @@ HasReply (SegmentedResponse out transfer since) = Unit {0}
 HasReply Dropped = ⊥
 
 -- the entry was begun for this ask, is live and keeps a reply
-abbrev pub IsLiveWithReply : ℕ → Ask → Option ServerTransaction → Type 0
-IsLiveWithReply now ask None = ⊥
-IsLiveWithReply now ask (Some e) = (ask.first ≤ e.begin) × (is_live now e ≡ true) × HasReply e.state
+abbrev pub IsLiveWithReply : Moments → Option ServerTransaction → Type 0
+IsLiveWithReply m None = ⊥
+IsLiveWithReply m (Some e) = IsBegunSince m e.begin × (is_live m.server.shows e ≡ true) × HasReply e.state
 
 -- a segment of a request
 abbrev pub IsSegmentOfRequest : Apdu → Type 0
@@ -298,5 +336,5 @@ IsSegmentOfRequest _ = ⊥
 abbrev pub LaterPassesFindReply : Rules → Net → Type 0
 LaterPassesFindReply x n =
     (key : Key) (t : ClientTransaction) → n.tickets key ≡ Some t → t.ask.whole ≡ false → IsPastFirstPass t.phase t.repeats
-    → EachCopy (λ k c. MayArrive x.overtake n.now k c → IsSegmentOfRequest c.apdu
-    → RestartedSince n key t.ask ⊎ IsLiveWithReply n.now t.ask (n.entries key)) (copies_of key n.posts)
+    → EachCopy (λ k c. MayArrive x n k c → IsSegmentOfRequest c.apdu
+    → HasRestartedSince (moments_of n key) ⊎ IsLiveWithReply (moments_of n key) (n.entries key)) (copies_of key n.posts)

@@ -9,7 +9,7 @@ use Rattle.bac_protocol.specs.Log.{Has, asks_in, IsOrderly}
 use Rattle.bac_protocol.specs.Log.Fact.{Asked}
 use Rattle.bac_protocol.specs.Transaction.{Key, Rules, client_context, server_context}
 use Rattle.bac_protocol.specs.World.{Net, Post, set_at, asked_at, client_acts, server_acts, notes_change, is_deliverable}
-use Rattle.bac_protocol.specs.World.{is_id_held, is_room, client_restarted, server_restarted}
+use Rattle.bac_protocol.specs.World.{is_id_held, is_room, client_restarted, server_restarted, client_now, server_now, passes}
 use Rattle.bac_protocol.specs.Own.{IsOwnEntry}
 
 -- an ask; a copy arrives, at a server with that service; one ticket's tick; one entry's tick; time passes; a node changes its own store; a node's client
@@ -19,46 +19,46 @@ pub data Move : Type 0 where
   Arrives : (number : ℕ) (free : Bool) (service : Service) → Move
   TicksTicket : (key : Key) → Move
   TicksEntry : (key : Key) → Move
-  Passes : (by : ℕ) → Move
+  Passes : (by : ℕ) (clients servers : ℕ → ℕ) → Move
   Changes : (node : ℕ) (change : Octets) → Move
-  RestartsClient : (node : ℕ) → Move
-  RestartsServer : (node : ℕ) (store : Option Octets) → Move
+  RestartsClient : (node exact : ℕ) → Move
+  RestartsServer : (node exact : ℕ) (store : Option Octets) → Move
 
 -- a copy reaches its client (clause 5.4.4); without a ticket it is dropped
 abbrev pub taken_by_client : Rules → Net → Post → Option ClientTransaction → Net
 taken_by_client x n p None = n
-taken_by_client x n p (Some t) = client_acts n p.key t (client_on_apdu (client_context x p.key n.now) x.readable t p.copy.apdu)
+taken_by_client x n p (Some t) = client_acts n p.key t (client_on_apdu (client_context x p.key (client_now n p.key)) x.readable t p.copy.apdu)
 
 -- a copy reaches its server, whose service says so (clause 5.4.5)
 abbrev pub taken_by_server : Rules → Net → Post → (free : Bool) → Service → Net
 taken_by_server x n p free service =
-    server_acts n p.key (server_on_apdu (server_context x p.key n.now) service (n.entries p.key) (is_room n p.key free) p.copy.apdu)
+    server_acts n p.key (server_on_apdu (server_context x p.key (server_now n p.key)) service (n.entries p.key) (is_room n p.key free) p.copy.apdu)
 
 -- the copy of that number arrives, if it is deliverable
 abbrev pub arrived : Rules → Net → (number : ℕ) → (free : Bool) → Service → Option Post → Net
 arrived x n number free service None = n
 arrived x n number free service (Some p) =
-    if is_deliverable x n.now number n.posts p
+    if is_deliverable x n number p
     then (if is_from_client p.copy.apdu then taken_by_server x n p free service else taken_by_client x n p (n.tickets p.key))
     else n
 
 -- a tick of one ticket
 abbrev pub ticket_ticked : Rules → Net → Key → Option ClientTransaction → Net
 ticket_ticked x n key None = n
-ticket_ticked x n key (Some t) = client_acts n key t (client_ticks (client_context x key n.now) t)
+ticket_ticked x n key (Some t) = client_acts n key t (client_ticks (client_context x key (client_now n key)) t)
 
 -- the net after a move
 abbrev pub moved : Rules → Net → Move → Net
 moved x n (Asks key choice whole front rest) =
     if is_id_held n key then n
-    else asked_at x n key (record { first = n.now; choice = choice; whole = whole; pieces = front ∷ rest })
+    else asked_at x n key (record { first = client_now n key; choice = choice; whole = whole; pieces = front ∷ rest })
 moved x n (Arrives number free service) = arrived x n number free service (slice_get n.posts number)
 moved x n (TicksTicket key) = ticket_ticked x n key (n.tickets key)
-moved x n (TicksEntry key) = server_acts n key (server_ticks (server_context x key n.now) (n.entries key))
-moved x n (Passes by) = record n { now = n.now + by }
+moved x n (TicksEntry key) = server_acts n key (server_ticks (server_context x key (server_now n key)) (n.entries key))
+moved x n (Passes by clients servers) = passes n by clients servers
 moved x n (Changes node change) = notes_change n node change
-moved x n (RestartsClient node) = client_restarted n node
-moved x n (RestartsServer node store) = server_restarted n node store
+moved x n (RestartsClient node exact) = client_restarted n node exact
+moved x n (RestartsServer node exact store) = server_restarted n node exact store
 
 -- a net to which moves lead
 pub data IsReached (x : Rules) (from : Net) : Net → Type 0 where
@@ -78,7 +78,7 @@ pub record IsInOrder (n : Net) : Type 0 where
   -- entries are their transaction's own
   pub own : (key : Key) → IsOwnEntry key.invoke_id (n.entries key)
   -- no entry is live for an invoke ID that is free, where the client does not wait after a restart
-  pub dead : (key : Key) → is_id_held n key ≡ false → is_none_live n.now (n.entries key) ≡ true
+  pub dead : (key : Key) → is_id_held n key ≡ false → is_none_live (server_now n key) (n.entries key) ≡ true
 
 -- What stands in a table by key after one place was set.
 pub record SetsOnePlace (A : Type 0) : Type 0 where

@@ -2,7 +2,8 @@
 use Rattle.std.specs.Prelude.{◌≡◌, ℕ, zero, suc, ◌+◌, ◌-◌, Bool, false, ◌&&◌, not, List, [], ◌∷◌, ◌++◌, map, Option, Some, None, slice_get, if◌then◌else◌}
 use Rattle.std.specs.Prelude.{◌||◌, nat_le, nat_lt, nat_eq}
 use Rattle.bac_apdu.specs.Apdu.{Apdu}
-use Rattle.bac_protocol.specs.Times.{LIFE, KEEP, REST}
+use Rattle.bac_protocol.specs.Times.{DEADLINE, KEEP, REST}
+use Rattle.bac_protocol.specs.Pace.{Pace, Clock, clock_at, goes_on}
 use Rattle.bac_protocol.specs.Service.{Octets}
 use Rattle.bac_protocol.specs.Wire.{is_from_client}
 use Rattle.bac_protocol.specs.Client.{Ask, request_of, Phase, ClientTransaction, after, sends_of, ending_of, asked_ticket, asks, client_on_apdu, client_ticks, is_held}
@@ -25,15 +26,28 @@ pub record Post : Type 0 where
 
 -- all but the stores
 pub record Net : Type 0 where
-  pub now : ℕ
+  pub pace : Pace  -- it never changes
+  pub now : ℕ  -- real time
+  pub client_clocks : ℕ → Clock  -- the clock of each node's client
+  pub server_clocks : ℕ → Clock  -- and of its server; one that restarts begins with a new clock
   pub asks : ℕ  -- how many asks there were
   pub numbers : Key → ℕ  -- the number of each transaction's newest ask
+  pub made : Key → ℕ  -- and the real moment at which it was made
+  pub until : Key → ℕ  -- and the last one, so far, at which its client was in time to send for it
   pub tickets : Key → Option ClientTransaction
   pub entries : Key → Option ServerTransaction
   pub posts : List Post  -- every copy that was sent, oldest first, numbered from 0
   pub log : List Fact  -- newest first
   pub asks_from : ℕ → ℕ  -- the first moment at which each node asks; 0 where its client never restarted
+  pub restarted : ℕ → ℕ  -- one more than the real moment at which each node's client restarted last; 0 where it never did
   pub serves_from : ℕ → ℕ  -- the first moment at which each node begins entries; 0 where its server never restarted
+
+-- what a transaction's client is told of time, and what its server is
+abbrev pub client_now : Net → Key → ℕ
+client_now n key = (n.client_clocks key.client).shows
+
+abbrev pub server_now : Net → Key → ℕ
+server_now n key = (n.server_clocks key.server).shows
 
 -- the whole: a store for each node
 pub record World (S : Type 0) : Type 0 where
@@ -54,8 +68,8 @@ later key zero (p ∷ posts) = count_of key posts
 later key (suc number) (p ∷ posts) = later key number posts
 
 -- a copy is deliverable while it is young and not overtaken by too many of its transaction
-abbrev pub is_deliverable : Rules → (now number : ℕ) → List Post → Post → Bool
-is_deliverable x now number posts p = nat_le (now - p.copy.moment) LIFE && nat_le (later p.key number posts) x.overtake
+abbrev pub is_deliverable : Rules → Net → (number : ℕ) → Post → Bool
+is_deliverable x n number p = nat_le (n.now - p.copy.moment) n.pace.life && nat_le (later p.key number n.posts) x.overtake
 
 -- the copies of one transaction, newest first, in front of others
 abbrev pub copies_before : Key → List Post → List Copy → List Copy
@@ -80,7 +94,7 @@ set_at f key a k = if same_key key k then a else f k
 abbrev pub client_acts : Net → Key → ClientTransaction → client.Reaction → Net
 client_acts n key t r =
     record n {
-      tickets = set_at n.tickets key (Some (after n.now t r));
+      tickets = set_at n.tickets key (Some (after (client_now n key) t r));
       posts = n.posts ++ map (post_of key n.now) (sends_of r);
       log = ended (n.numbers key) (ending_of r) n.log;
     }
@@ -97,10 +111,12 @@ server_acts n key v =
 -- an accepted ask
 abbrev pub asked_at : Rules → Net → Key → Ask → Net
 asked_at x n key ask =
-    let c = client_context x key n.now in
+    let c = client_context x key (client_now n key) in
     record n {
       asks = n.asks + 1;
       numbers = set_at n.numbers key n.asks;
+      made = set_at n.made key n.now;
+      until = set_at n.until key n.now;
       tickets = set_at n.tickets key (Some (asked_ticket c ask));
       posts = n.posts ++ map (post_of key n.now) (sends_of (asks c ask));
       log = Asked n.asks key.client key.server (request_of ask) ∷ n.log;
@@ -140,10 +156,10 @@ pub data Event : Type 0 where
   Deliver : (number : ℕ) (free : Bool) → Event  -- free: whether a slot of the server's reply table has no live entry
   Tick : (as_client as_server : List Key) → Event  -- a node's tickets, and then its entries, in order
   Noise : Event  -- octets that are no datagram with an APDU
-  Advance : (by : ℕ) → Event
+  Advance : (by : ℕ) (clients servers : ℕ → ℕ) → Event  -- so much real time passes; each clock goes on as far as that, within its pace
   Change : (node : ℕ) (change : Octets) → Event
-  RestartClient : (node : ℕ) → Event  -- its tickets are lost
-  RestartServer : (node : ℕ) (store : Option Octets) → Event  -- its entries are lost; its store is as it was, or that one
+  RestartClient : (node exact : ℕ) → Event  -- its tickets are lost
+  RestartServer : (node exact : ℕ) (store : Option Octets) → Event  -- its entries are lost; its store is as it was, or that one
 
 -- whether an invoke ID is held for that server
 abbrev pub is_key_held : ℕ → Option ClientTransaction → Bool
@@ -154,48 +170,46 @@ is_key_held now (Some t) = is_held now t
 
 -- a restarted client asks nothing before that moment
 abbrev pub waits_to_ask : Net → Key → Bool
-waits_to_ask n key = nat_lt n.now (n.asks_from key.client)
+waits_to_ask n key = nat_lt (client_now n key) (n.asks_from key.client)
 
 -- a restarted server begins no entry before that moment
 abbrev pub waits_to_serve : Net → Key → Bool
-waits_to_serve n key = nat_lt n.now (n.serves_from key.server)
+waits_to_serve n key = nat_lt (server_now n key) (n.serves_from key.server)
 
--- a ticket that a restart took holds no invoke ID once its client asks again: its ask was made REST and more before that
-abbrev pub is_held_since : (from now : ℕ) → Option ClientTransaction → Bool
-is_held_since from now None = false
-is_held_since from now (Some t) = nat_le from (t.ask.first + REST) && is_held now t
+-- a restart of its client took the ticket: its ask was made before it
+abbrev pub is_lost : Net → Key → Bool
+is_lost n key = nat_lt (n.made key) (n.restarted key.client)
 
--- whether its client can't ask under that key: it waits, or holds the invoke ID
+-- whether its client can't ask under that key: it waits, or holds the invoke ID; a ticket that was lost holds none once its client asks again
 abbrev pub is_id_held : Net → Key → Bool
-is_id_held n key = waits_to_ask n key || is_held_since (n.asks_from key.client) n.now (n.tickets key)
+is_id_held n key = waits_to_ask n key || (not (is_lost n key) && is_key_held (client_now n key) (n.tickets key))
 
 -- whether its server may begin an entry: a slot is free, and it does not wait
 abbrev pub is_room : Net → Key → (free : Bool) → Bool
 is_room n key free = free && not (waits_to_serve n key)
-
--- the function with another value at one node
-abbrev pub set_node : (ℕ → ℕ) → (node moment : ℕ) → ℕ → ℕ
-set_node from node moment n = if nat_eq n node then moment else from n
 
 -- a ticket that was lost takes nothing any more, and how its ask ends is not known: it stands here as idle, since its copies are on their way
 abbrev pub lost : Option ClientTransaction → Option ClientTransaction
 lost None = None
 lost (Some t) = Some (record t { phase = Idle })
 
--- a node's client restarts: its tickets are lost, and it asks again once more than REST has passed
-abbrev pub client_restarted : Net → (node : ℕ) → Net
-client_restarted n node =
+-- a node's client restarts, with a new clock: its tickets are lost, and it asks again once more than REST has passed
+abbrev pub client_restarted : Net → (node exact : ℕ) → Net
+client_restarted n node exact =
     record n {
       tickets = λ key. if nat_eq key.client node then lost (n.tickets key) else n.tickets key;
-      asks_from = set_node n.asks_from node (n.now + REST + 1);
+      client_clocks = λ m. if nat_eq m node then clock_at n.pace exact else n.client_clocks m;
+      restarted = λ m. if nat_eq m node then n.now + 1 else n.restarted m;
+      asks_from = λ m. if nat_eq m node then (clock_at n.pace exact).shows + REST + 1 else n.asks_from m;
     }
 
--- a node's server restarts: its entries are lost, and it begins entries again once more than KEEP has passed
-abbrev pub server_restarted : Net → (node : ℕ) → (store : Option Octets) → Net
-server_restarted n node store =
+-- a node's server restarts, with a new clock: its entries are lost, and it begins entries again once more than KEEP has passed
+abbrev pub server_restarted : Net → (node exact : ℕ) → (store : Option Octets) → Net
+server_restarted n node exact store =
     record n {
       entries = λ key. if nat_eq key.server node then None else n.entries key;
-      serves_from = set_node n.serves_from node (n.now + KEEP + 1);
+      server_clocks = λ m. if nat_eq m node then clock_at n.pace exact else n.server_clocks m;
+      serves_from = λ m. if nat_eq m node then (clock_at n.pace exact).shows + KEEP + 1 else n.serves_from m;
       log = Restarted node store ∷ n.log;
     }
 
@@ -206,12 +220,12 @@ service_of S model w key = model.outcome (w.stores key.server)
 -- an APDU reaches the client (clause 5.4.4); without a ticket it is dropped
 abbrev pub takes_at_client : (S : Type 0) → Rules → World S → Key → Apdu → Option ClientTransaction → World S
 takes_at_client S x w key a None = w
-takes_at_client S x w key a (Some t) = reacts S w key t (client_on_apdu (client_context x key w.net.now) x.readable t a)
+takes_at_client S x w key a (Some t) = reacts S w key t (client_on_apdu (client_context x key (client_now w.net key)) x.readable t a)
 
 -- an APDU reaches the server (clause 5.4.5)
 abbrev pub takes_at_server : (S : Type 0) → StoreModel S → Rules → World S → Key → (free : Bool) → Apdu → World S
 takes_at_server S model x w key free a = serves S model w key
-    (server_on_apdu (server_context x key w.net.now) (service_of S model w key) (w.net.entries key) (is_room w.net key free) a)
+    (server_on_apdu (server_context x key (server_now w.net key)) (service_of S model w key) (w.net.entries key) (is_room w.net key free) a)
 
 -- a copy reaches the other end of its transaction
 abbrev pub arrives : (S : Type 0) → StoreModel S → Rules → World S → Key → (free : Bool) → Apdu → World S
@@ -220,12 +234,12 @@ arrives S model x w key free a = if is_from_client a then takes_at_server S mode
 -- one that is not deliverable is lost
 abbrev pub delivered : (S : Type 0) → StoreModel S → Rules → World S → (number : ℕ) → (free : Bool) → Option Post → World S
 delivered S model x w number free None = w
-delivered S model x w number free (Some p) = if is_deliverable x w.net.now number w.net.posts p then arrives S model x w p.key free p.copy.apdu else w
+delivered S model x w number free (Some p) = if is_deliverable x w.net number p then arrives S model x w p.key free p.copy.apdu else w
 
 -- a tick of one ticket
 abbrev pub ticks_ticket : (S : Type 0) → Rules → World S → Key → Option ClientTransaction → World S
 ticks_ticket S x w key None = w
-ticks_ticket S x w key (Some t) = reacts S w key t (client_ticks (client_context x key w.net.now) t)
+ticks_ticket S x w key (Some t) = reacts S w key t (client_ticks (client_context x key (client_now w.net key)) t)
 
 -- a tick of these tickets, one after the other
 abbrev pub ticks_as_client : (S : Type 0) → Rules → List Key → World S → World S
@@ -236,25 +250,41 @@ ticks_as_client S x (key ∷ keys) w = ticks_as_client S x keys (ticks_ticket S 
 abbrev pub ticks_as_server : (S : Type 0) → StoreModel S → Rules → List Key → World S → World S
 ticks_as_server S model x [] w = w
 ticks_as_server S model x (key ∷ keys) w = ticks_as_server S model x keys
-    (serves S model w key (server_ticks (server_context x key w.net.now) (w.net.entries key)))
+    (serves S model w key (server_ticks (server_context x key (server_now w.net key)) (w.net.entries key)))
 
 -- an accepted ask; no store changes
 abbrev pub ask_made : (S : Type 0) → Rules → World S → Key → Ask → World S
 ask_made S x w key ask = record { net = asked_at x w.net key ask; stores = w.stores }
 
+-- whether a ticket's client, whose clock shows so much, is in time to send for it
+abbrev pub is_in_time : (shows : ℕ) → Option ClientTransaction → Bool
+is_in_time shows None = false
+is_in_time shows (Some t) = nat_le shows (t.ask.first + DEADLINE)
+
+-- real time passes, and each clock goes on
+abbrev pub passes : Net → (by : ℕ) → (clients servers : ℕ → ℕ) → Net
+passes n by clients servers =
+    record n {
+      now = n.now + by;
+      client_clocks = λ node. goes_on n.pace by (clients node) (n.client_clocks node);
+      server_clocks = λ node. goes_on n.pace by (servers node) (n.server_clocks node);
+      until = λ key.
+          if not (is_lost n key) && is_in_time (goes_on n.pace by (clients key.client) (n.client_clocks key.client)).shows (n.tickets key) then n.now + by else n.until key;
+    }
+
 -- the world after an event; an ask whose invoke ID is held, or whose client waits, is refused, and changes nothing
 abbrev pub happens : (S : Type 0) → StoreModel S → Rules → World S → Event → World S
 happens S model x w (MakeAsk key choice whole front rest) =
     if is_id_held w.net key then w
-    else ask_made S x w key (record { first = w.net.now; choice = choice; whole = whole; pieces = front ∷ rest })
+    else ask_made S x w key (record { first = client_now w.net key; choice = choice; whole = whole; pieces = front ∷ rest })
 happens S model x w (Deliver number free) = delivered S model x w number free (slice_get w.net.posts number)
 happens S model x w (Tick as_client as_server) = ticks_as_server S model x as_server (ticks_as_client S x as_client w)
 happens S model x w Noise = w
-happens S model x w (Advance by) = record { net = record w.net { now = w.net.now + by }; stores = w.stores }
+happens S model x w (Advance by clients servers) = record { net = passes w.net by clients servers; stores = w.stores }
 happens S model x w (Change node change) = record { net = notes_change w.net node change; stores = changed_at S model node change w.stores }
-happens S model x w (RestartClient node) = record { net = client_restarted w.net node; stores = w.stores }
-happens S model x w (RestartServer node store) =
-    record { net = server_restarted w.net node store; stores = restarted_at S model node store w.stores }
+happens S model x w (RestartClient node exact) = record { net = client_restarted w.net node exact; stores = w.stores }
+happens S model x w (RestartServer node exact store) =
+    record { net = server_restarted w.net node exact store; stores = restarted_at S model node store w.stores }
 
 -- the world after these events, in their order
 abbrev pub run : (S : Type 0) → StoreModel S → Rules → List Event → World S → World S
@@ -265,33 +295,40 @@ run S model x (e ∷ es) w = run S model x es (happens S model x w e)
 abbrev pub MakeNoChange : List Event → Type 0
 MakeNoChange [] = Unit {0}
 MakeNoChange (Change node change ∷ es) = ⊥
-MakeNoChange (RestartServer node store ∷ es) = (store ≡ None) × MakeNoChange es
+MakeNoChange (RestartServer node exact store ∷ es) = (store ≡ None) × MakeNoChange es
 MakeNoChange (e ∷ es) = MakeNoChange es
 
 -- in these events no node restarts
 abbrev pub MakeNoRestart : List Event → Type 0
 MakeNoRestart [] = Unit {0}
-MakeNoRestart (RestartClient node ∷ es) = ⊥
-MakeNoRestart (RestartServer node store ∷ es) = ⊥
+MakeNoRestart (RestartClient node exact ∷ es) = ⊥
+MakeNoRestart (RestartServer node exact store ∷ es) = ⊥
 MakeNoRestart (e ∷ es) = MakeNoRestart es
 
 -- each node asks and begins entries at any moment
 pub record NeverRestarted (n : Net) : Type 0 where
   pub asks : (node : ℕ) → n.asks_from node ≡ 0
   pub serves : (node : ℕ) → n.serves_from node ≡ 0
+  pub lives : (node : ℕ) → n.restarted node ≡ 0
 
 -- so no end waits: an invoke ID is held by its ticket alone, and a free slot is room for an entry
 pub record NeverWaits (n : Net) : Type 0 where
-  pub held : (key : Key) → is_id_held n key ≡ is_key_held n.now (n.tickets key)
+  pub held : (key : Key) → is_id_held n key ≡ is_key_held (client_now n key) (n.tickets key)
   pub room : (key : Key) (free : Bool) → is_room n key free ≡ free
 
--- nothing was asked or sent yet, and nothing restarted
-abbrev pub net_start : Net
-net_start =
+-- nothing was asked or sent yet, and nothing restarted; each clock begins where it likes
+abbrev pub net_start : Pace → (clocks : ℕ → ℕ) → Net
+net_start pace clocks =
     record {
+      pace = pace;
       now = 0;
+      client_clocks = λ node. clock_at pace (clocks node);
+      server_clocks = λ node. clock_at pace (clocks node);
+      restarted = λ node. 0;
       asks = 0;
       numbers = λ key. 0;
+      made = λ key. 0;
+      until = λ key. 0;
       tickets = λ key. None;
       entries = λ key. None;
       posts = [];
@@ -300,6 +337,6 @@ net_start =
       serves_from = λ node. 0;
     }
 
--- the world before its first event, with these opening stores
-abbrev pub start : (S : Type 0) → (opening : ℕ → S) → World S
-start S opening = record { net = net_start; stores = opening }
+-- the world before its first event, with these opening stores, and clocks of that pace that begin so
+abbrev pub start : (S : Type 0) → Pace → (clocks : ℕ → ℕ) → (opening : ℕ → S) → World S
+start S pace clocks opening = record { net = net_start pace clocks; stores = opening }

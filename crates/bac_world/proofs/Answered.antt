@@ -28,7 +28,7 @@ use Rattle.bac_world.specs.Node.{Node, Outcome, IsServerTurn, NodeAsks}
 use Rattle.bac_world.specs.Once.{Fact}
 use Rattle.bac_world.specs.World.{World, Copy, Note, Hears, IsAsked, IsDelivered, IsFreshNode, IsCopied, link_at, peer_at}
 use Rattle.bac_world.specs.Examples.{REQUEST, REPLY, STORE, ASKED}
-use Rattle.bac_world.specs.AnsweredRun.{LIMITS, SETTINGS, link, node, OPENING, LOG, AnsweredRun}
+use Rattle.bac_world.specs.AnsweredRun.{TIME, LIMITS, SETTINGS, link, node, OPENING, LOG, AnsweredRun}
 
 abbrev pub SERVICE_DATA : Octets
 SERVICE_DATA = 12 ∷ 0 ∷ 0 ∷ 0 ∷ 5 ∷ 25 ∷ 85 ∷ []
@@ -98,7 +98,7 @@ abbrev pub NOTES : List Note
 NOTES = record { key = record { client = 0; server = 1; invoke_id = 0 }; ticket = 0 } ∷ []
 
 abbrev pub SECOND : World
-SECOND = record { nodes = ASKED_NODE ∷ node 1 ∷ []; now = 0; copies = copy 0 1 ASK ∷ []; log = ASKED; notes = NOTES }
+SECOND = record { nodes = ASKED_NODE ∷ node 1 ∷ []; time = TIME; copies = copy 0 1 ASK ∷ []; log = ASKED; notes = NOTES }
 
 pub ask_copied : IsCopied OPENING.nodes 0 0 (datagram (link 1) ASK) (copy 0 1 ASK)
 ask_copied = record {
@@ -146,7 +146,7 @@ asked = record {
   sends = datagram (link 1) ASK ∷ [];
   asks = asks;
   nodes = record { here = refl; others = others_first ASKED_NODE (node 0) (node 1) };
-  now = refl;
+  time = refl;
   sent = copy 0 1 ASK ∷ [];
   copies = refl;
   copied = (ask_copied, tt);
@@ -193,7 +193,7 @@ abbrev pub THIRD : World
 THIRD =
     record {
       nodes = ASKED_NODE ∷ SERVED_NODE ∷ [];
-      now = 0;
+      time = TIME;
       copies = copy 0 1 ASK ∷ copy 1 0 ANSWER ∷ [];
       log = Fact.Performed 0 REQUEST REPLY ∷ ASKED;
       notes = NOTES;
@@ -230,7 +230,7 @@ served = record {
   });
   acts = record {
     nodes = record { here = refl; others = others_second SERVED_NODE (node 1) ASKED_NODE };
-    now = refl;
+    time = refl;
     notes = refl;
     sent = copy 1 0 ANSWER ∷ [];
     copies = refl;
@@ -253,7 +253,7 @@ abbrev ENDED : Outcome
 ENDED = record { sends = []; performed = None; ended = record { ticket = 0; how = Answered REPLY } ∷ []; dropped = None }
 
 abbrev pub LAST : World
-LAST = record { nodes = ENDED_NODE ∷ SERVED_NODE ∷ []; now = 0; copies = THIRD.copies; log = LOG; notes = NOTES }
+LAST = record { nodes = ENDED_NODE ∷ SERVED_NODE ∷ []; time = TIME; copies = THIRD.copies; log = LOG; notes = NOTES }
 
 heard : Hears THIRD 0 (link 1) (copy 1 0 ANSWER).octets LAST
 heard = record {
@@ -270,7 +270,7 @@ heard = record {
   });
   acts = record {
     nodes = record { here = refl; others = others_first ENDED_NODE ASKED_NODE SERVED_NODE };
-    now = refl;
+    time = refl;
     notes = refl;
     sent = [];
     copies = refl;
@@ -310,6 +310,7 @@ answered_run = record {
     nodes = each_node IsFreshNode (fresh_node 0) (fresh_node 1);
     apart = links_apart;
     now = refl;
+    clocks = λ i. refl;
     copies = refl;
     log = refl;
     notes = refl;

@@ -1,5 +1,5 @@
 -- An accepted ask.
-use Rattle.std.proofs.Common.{◌≡◌, ℕ, ◌+◌, ◌<◌, ◌⊎◌, Bool, true, false, ◌&&◌, ◌||◌, List, [], ◌∷◌, ◌++◌, map, length, Option, Some, None}
+use Rattle.std.proofs.Common.{not, ◌≡◌, ℕ, zero, suc, ◌+◌, ◌<◌, ◌⊎◌, Bool, true, false, ◌&&◌, ◌||◌, List, [], ◌∷◌, ◌++◌, map, length, Option, Some, None}
 use Rattle.std.proofs.Common.{slice_get, if◌then◌else◌, nat_eq, nat_le, nat_lt, refl, sym, ap, subst, inl, inr, ◌∙◌, arith}
 use Rattle.std.proofs.lemmas.Bool.Decides.{nat_tests}
 use Rattle.bac_apdu.specs.Apdu.{Apdu, Limits}
@@ -15,7 +15,7 @@ use Rattle.bac_protocol.specs.declared.times.TheConstants.{REST}
 use Rattle.bac_protocol.specs.Client as machine
 use Rattle.bac_protocol.specs.Client.{Ask, ClientTransaction, asked_ticket, asks, sends_of}
 use Rattle.bac_protocol.specs.Transaction.{Key, Rules, client_context}
-use Rattle.bac_protocol.specs.World.{Net, set_at, post_of, is_held_since, asked_at}
+use Rattle.bac_protocol.specs.World.{Net, set_at, post_of, asked_at}
 use Rattle.bac_protocol.specs.World as net
 use Rattle.bac_protocol.specs.Claims.{IsBounded}
 use Rattle.bac_protocol.proofs.Dead.{ended_is_silent}
@@ -32,9 +32,13 @@ use Rattle.bac_transaction.proofs.ClientTables.{is_untaken, least_around_is, no_
 use Rattle.bac_transaction.proofs.Holding.{held_is}
 use Rattle.bac_world.specs.Node.{Node}
 use Rattle.bac_world.specs.Once.{Fact, Stores, IsOnce}
-use Rattle.bac_world.specs.World.{World, Note, Copy, stores_of, newest, ask_of, peer_at, IsCopied, IsAsked}
+use Rattle.bac_world.specs.World.{World, Time, Note, Copy, stores_of, newest, ask_of, peer_at, IsCopied, IsAsked}
 use Rattle.bac_transaction.proofs.KeyedSlots.{slot, passing, passing_value, passing_distinct, put_same, put_other, put_distinct}
 use Rattle.bac_transaction.proofs.KeyedSlots.{each_at, each_so, each_passing, each_put}
+use Rattle.bac_protocol.specs.World.{client_now, server_now, is_lost, is_key_held}
+use Rattle.bac_world.specs.World.{told}
+use Rattle.bac_world.proofs.Bridge.{here_at, there_at}
+use Rattle.bac_protocol.specs.Pace.{Clock}
 use Rattle.bac_world.proofs.Machines.{Sound, counted, asked}
 use Rattle.bac_world.proofs.Pairs.{pairwise_join, append_none}
 use Rattle.bac_world.proofs.Logs.{FactMeans, asks_counted}
@@ -115,50 +119,50 @@ abbrev pub holds : ℕ → Client → Bool
 holds now s = is_held now s.held
 
 -- a ticket that is not held is gone, and stays gone
-pub gone_unheld : (from now : ℕ) (t : ClientTransaction) → machine.is_held now t ≡ false → IsGone from now (Some t)
-gone_unheld from now t unheld = record { over = ended_is_silent.unheld now t unheld; free = both (nat_le from (t.ask.first + REST)) }
+pub gone_unheld : (gone : Bool) (now : ℕ) (t : ClientTransaction) → machine.is_held now t ≡ false → IsGone gone now (Some t)
+gone_unheld gone now t unheld = record { over = ended_is_silent.unheld now t unheld; free = both gone }
   where
-    both : (b : Bool) → (b && machine.is_held now t) ≡ false
-    both true = unheld
-    both false = refl
+    both : (b : Bool) → (not b && machine.is_held now t) ≡ false
+    both true = refl
+    both false = unheld
 
 -- a slot that is not held may go
-fits_kept : (from now : ℕ) (notes : List Note) (i number : ℕ) (o : Option Client) (t : Option ClientTransaction) → TicketFits from now notes i number o t
-    → TicketFits from now notes i number (keep (holds now) o) t
-fits_kept from now notes i number None t h = h
-fits_kept from now notes i number (Some s) None h = absurd h
-fits_kept from now notes i number (Some s) (Some t) h = go (is_held now s.held) refl
+fits_kept : (gone : Bool) (now : ℕ) (notes : List Note) (i number : ℕ) (o : Option Client) (t : Option ClientTransaction) → TicketFits gone now notes i number o t
+    → TicketFits gone now notes i number (keep (holds now) o) t
+fits_kept gone now notes i number None t h = h
+fits_kept gone now notes i number (Some s) None h = absurd h
+fits_kept gone now notes i number (Some s) (Some t) h = go (is_held now s.held) refl
   where
-    go : (b : Bool) → is_held now s.held ≡ b → TicketFits from now notes i number (if b then Some s else None) (Some t)
+    go : (b : Bool) → is_held now s.held ≡ b → TicketFits gone now notes i number (if b then Some s else None) (Some t)
     go true is = h
-    go false is = gone_unheld from now t (sym (held_is now t) ∙ sym (ap (is_held now) h.held) ∙ is)
+    go false is = gone_unheld gone now t (sym (held_is now t) ∙ sym (ap (is_held now) h.held) ∙ is)
 
 -- where an invoke ID is not held for the peer, no ticket of its client's life holds it
-pub free_ticket : (from now : ℕ) (notes : List Note) (i number : ℕ) (o : Option Client) (t : Option ClientTransaction) → TicketFits from now notes i number o t
-    → is_held_there now o ≡ false → is_held_since from now t ≡ false
-free_ticket from now notes i number None t h free = h.free
-free_ticket from now notes i number (Some s) None h free = absurd h
-free_ticket from now notes i number (Some s) (Some t) h free =
-    (gone_unheld from now t (sym (held_is now t) ∙ sym (ap (is_held now) h.held) ∙ free)).free
+pub free_ticket : (gone : Bool) (now : ℕ) (notes : List Note) (i number : ℕ) (o : Option Client) (t : Option ClientTransaction) → TicketFits gone now notes i number o t
+    → is_held_there now o ≡ false → (not gone && is_key_held now t) ≡ false
+free_ticket gone now notes i number None t h free = h.free
+free_ticket gone now notes i number (Some s) None h free = absurd h
+free_ticket gone now notes i number (Some s) (Some t) h free =
+    (gone_unheld gone now t (sym (held_is now t) ∙ sym (ap (is_held now) h.held) ∙ free)).free
 
 -- so its client can ask under that key, where it does not wait
-pub key_free : (n : Net) (key : Key) (e : ClientEnd) → e.asks_from ≡ n.asks_from key.client → waits_to_ask n.now e ≡ false
-    → is_held_since (n.asks_from key.client) n.now (n.tickets key) ≡ false → net.is_id_held n key ≡ false
+pub key_free : (n : Net) (key : Key) (e : ClientEnd) → e.asks_from ≡ n.asks_from key.client → waits_to_ask (client_now n key) e ≡ false
+    → (not (is_lost n key) && is_key_held (client_now n key) (n.tickets key)) ≡ false → net.is_id_held n key ≡ false
 key_free n key e from awake free =
-    ap (λ (y : ℕ). nat_lt n.now y || is_held_since (n.asks_from key.client) n.now (n.tickets key)) (sym from)
-    ∙ ap (λ (b : Bool). b || is_held_since (n.asks_from key.client) n.now (n.tickets key)) awake ∙ free
+    ap (λ (y : ℕ). nat_lt (client_now n key) y || (not (is_lost n key) && is_key_held (client_now n key) (n.tickets key))) (sym from)
+    ∙ ap (λ (b : Bool). b || (not (is_lost n key) && is_key_held (client_now n key) (n.tickets key))) awake ∙ free
 
 pub free_kept : (now : ℕ) (o : Option Client) → is_held_there now o ≡ false → keep (holds now) o ≡ None
 free_kept now None e = refl
 free_kept now (Some s) e = ap (λ b. if b then Some s else None) e
 
 -- another note is nothing to a slot of another client or of an earlier ticket
-fits_noted : (from now : ℕ) (notes : List Note) (note : Note) (i number : ℕ) (o : Option Client) (t : Option ClientTransaction)
+fits_noted : (gone : Bool) (now : ℕ) (notes : List Note) (note : Note) (i number : ℕ) (o : Option Client) (t : Option ClientTransaction)
     → ((s : Client) → o ≡ Some s → (nat_eq note.key.client i && nat_eq note.ticket s.number) ≡ false)
-    → TicketFits from now notes i number o t → TicketFits from now (note ∷ notes) i number o t
-fits_noted from now notes note i number None t other h = h
-fits_noted from now notes note i number (Some s) None other h = absurd h
-fits_noted from now notes note i number (Some s) (Some t) other h = record {
+    → TicketFits gone now notes i number o t → TicketFits gone now (note ∷ notes) i number o t
+fits_noted gone now notes note i number None t other h = h
+fits_noted gone now notes note i number (Some s) None other h = absurd h
+fits_noted gone now notes note i number (Some s) (Some t) other h = record {
   held = h.held;
   noted = λ still_open. ap (λ b. if b then Some (length notes) else ask_of i s.number notes) (other s refl) ∙ h.noted still_open;
 }
@@ -181,8 +185,8 @@ module _ (links : ℕ → Option Octets) (apart : (i j : ℕ) (l : Octets) → l
     (bound : IsBounded W x) where
   -- What an ask makes of the client's slots.
   module _ (n : Net) (notes : List Note) (number_is : n.asks ≡ length notes) (key : Key) (l : Octets) (at : links key.server ≡ Some l) (ask : Ask)
-      (e : ClientEnd) (h : ClientsFit links apart n.now notes n key.client e)
-      (free : is_held_there n.now (value_at same_key (slot_key l key.invoke_id) e.slots) ≡ false) where
+      (e : ClientEnd) (h : ClientsFit links apart (here_at n key.client) notes n key.client e)
+      (free : is_held_there (here_at n key.client) (value_at same_key (slot_key l key.invoke_id) e.slots) ≡ false) where
     abbrev pub note : Note
     note = record { key = key; ticket = e.asked }
 
@@ -190,7 +194,7 @@ module _ (links : ℕ → Option Octets) (apart : (i j : ℕ) (l : Octets) → l
     m = asked_at x n key ask
 
     abbrev made : ClientTransaction
-    made = asked_ticket (client_context x key n.now) ask
+    made = asked_ticket (client_context x key (here_at n key.client)) ask
 
     abbrev client : Client
     client = record { number = e.asked; held = kept made }
@@ -199,10 +203,10 @@ module _ (links : ℕ → Option Octets) (apart : (i j : ℕ) (l : Octets) → l
     p = slot_key l key.invoke_id
 
     abbrev pub ended : ClientEnd
-    ended = record e { slots = passing Client (holds n.now) e.slots ++ slot Client p n.now client ∷ []; asked = e.asked + 1 }
+    ended = record e { slots = passing Client (holds (here_at n key.client)) e.slots ++ slot Client p (here_at n key.client) client ∷ []; asked = e.asked + 1 }
 
-    gone : value_at same_key p (passing Client (holds n.now) e.slots) ≡ None
-    gone = passing_value Client (holds n.now) p e.slots h.distinct ∙ free_kept n.now (value_at same_key p e.slots) free
+    gone : value_at same_key p (passing Client (holds (here_at n key.client)) e.slots) ≡ None
+    gone = passing_value Client (holds (here_at n key.client)) p e.slots h.distinct ∙ free_kept (here_at n key.client) (value_at same_key p e.slots) free
 
     earlier : (q : PeerKey) (z : Client) → value_at same_key q e.slots ≡ Some z → (nat_eq key.client key.client && nat_eq e.asked z.number) ≡ false
     earlier q z is =
@@ -214,21 +218,21 @@ module _ (links : ℕ → Option Octets) (apart : (i j : ℕ) (l : Octets) → l
         ∙ ap (λ b. if b then Some (length notes) else ask_of key.client e.asked notes) (equal_self e.asked)
         ∙ ap Some (sym number_is ∙ sym (set_same n.numbers key n.asks))
 
-    fit : TicketFits (n.asks_from key.client) n.now (note ∷ notes) key.client (m.numbers key) (value_at same_key p ended.slots) (m.tickets key)
-    fit = subst (λ (o : Option Client). TicketFits (n.asks_from key.client) n.now (note ∷ notes) key.client (m.numbers key) o (m.tickets key))
-        (sym (put_same Client p n.now client (passing Client (holds n.now) e.slots) gone))
-        (subst (λ (o : Option ClientTransaction). TicketFits (n.asks_from key.client) n.now (note ∷ notes) key.client (m.numbers key) (Some client) o)
+    fit : TicketFits (is_lost m key) (here_at n key.client) (note ∷ notes) key.client (m.numbers key) (value_at same_key p ended.slots) (m.tickets key)
+    fit = subst (λ (o : Option Client). TicketFits (is_lost m key) (here_at n key.client) (note ∷ notes) key.client (m.numbers key) o (m.tickets key))
+        (sym (put_same Client p (here_at n key.client) client (passing Client (holds (here_at n key.client)) e.slots) gone))
+        (subst (λ (o : Option ClientTransaction). TicketFits (is_lost m key) (here_at n key.client) (note ∷ notes) key.client (m.numbers key) (Some client) o)
         (sym (set_same n.tickets key (Some made))) (record { held = refl; noted = λ still_open. own }))
 
     found : (s : ℕ) (l' : Octets) (id : ℕ) → links s ≡ Some l' → ((key ≡ key_of key.client s id) ⊎ (key ≡ key_of key.client s id → ⊥))
-        → TicketFits (n.asks_from key.client) n.now (note ∷ notes) key.client (m.numbers (key_of key.client s id)) (value_at same_key (slot_key l' id) ended.slots)
+        → TicketFits (is_lost m (key_of key.client s id)) (here_at n key.client) (note ∷ notes) key.client (m.numbers (key_of key.client s id)) (value_at same_key (slot_key l' id) ended.slots)
         (m.tickets (key_of key.client s id))
     found s l' id at' (inl is) =
         let link : l ≡ l' = let f : Some l ≡ Some l' = sym at ∙ ap (λ (k : Key). links k.server) is ∙ at' in cc in
-        let moved : TicketFits (n.asks_from key.client) n.now (note ∷ notes) key.client (m.numbers (key_of key.client s id)) (value_at same_key p ended.slots)
+        let moved : TicketFits (is_lost m (key_of key.client s id)) (here_at n key.client) (note ∷ notes) key.client (m.numbers (key_of key.client s id)) (value_at same_key p ended.slots)
         (m.tickets (key_of key.client s id)) =
-        subst (λ (k : Key). TicketFits (n.asks_from key.client) n.now (note ∷ notes) key.client (m.numbers k) (value_at same_key p ended.slots) (m.tickets k)) is fit in
-        subst (λ (q : PeerKey). TicketFits (n.asks_from key.client) n.now (note ∷ notes) key.client (m.numbers (key_of key.client s id)) (value_at same_key q ended.slots)
+        subst (λ (k : Key). TicketFits (is_lost m k) (here_at n key.client) (note ∷ notes) key.client (m.numbers k) (value_at same_key p ended.slots) (m.tickets k)) is fit in
+        subst (λ (q : PeerKey). TicketFits (is_lost m (key_of key.client s id)) (here_at n key.client) (note ∷ notes) key.client (m.numbers (key_of key.client s id)) (value_at same_key q ended.slots)
         (m.tickets (key_of key.client s id))) (λ j. slot_key (link j) (is j).invoke_id) moved
     found s l' id at' (inr ne) =
         let other : p ≡ slot_key l' id → ⊥ = λ is.
@@ -237,31 +241,33 @@ module _ (links : ℕ → Option Octets) (apart : (i j : ℕ) (l : Octets) → l
         ne (λ j. key_of key.client (node j) (is j).invoke_id) in
         let q : PeerKey = slot_key l' id in
         let k : Key = key_of key.client s id in
-        let look : value_at same_key q ended.slots ≡ keep (holds n.now) (value_at same_key q e.slots) =
-        put_other Client p q n.now client (passing Client (holds n.now) e.slots) other ∙ passing_value Client (holds n.now) q e.slots h.distinct in
-        let before : TicketFits (n.asks_from key.client) n.now (note ∷ notes) key.client (n.numbers k) (value_at same_key q e.slots) (n.tickets k) =
-        fits_noted (n.asks_from key.client) n.now notes note key.client (n.numbers k) (value_at same_key q e.slots) (n.tickets k) (earlier q) (h.found s l' id at') in
-        let after : TicketFits (n.asks_from key.client) n.now (note ∷ notes) key.client (n.numbers k) (keep (holds n.now) (value_at same_key q e.slots)) (n.tickets k) =
-        fits_kept (n.asks_from key.client) n.now (note ∷ notes) key.client (n.numbers k) (value_at same_key q e.slots) (n.tickets k) before in
-        subst (λ (o : Option Client). TicketFits (n.asks_from key.client) n.now (note ∷ notes) key.client (m.numbers k) o (m.tickets k)) (sym look)
-        (subst (λ (y : ℕ). TicketFits (n.asks_from key.client) n.now (note ∷ notes) key.client y (keep (holds n.now) (value_at same_key q e.slots)) (m.tickets k))
+        let look : value_at same_key q ended.slots ≡ keep (holds (here_at n key.client)) (value_at same_key q e.slots) =
+        put_other Client p q (here_at n key.client) client (passing Client (holds (here_at n key.client)) e.slots) other ∙ passing_value Client (holds (here_at n key.client)) q e.slots h.distinct in
+        let before : TicketFits (is_lost n k) (here_at n key.client) (note ∷ notes) key.client (n.numbers k) (value_at same_key q e.slots) (n.tickets k) =
+        fits_noted (is_lost n k) (here_at n key.client) notes note key.client (n.numbers k) (value_at same_key q e.slots) (n.tickets k) (earlier q) (h.found s l' id at') in
+        let after : TicketFits (is_lost n k) (here_at n key.client) (note ∷ notes) key.client (n.numbers k) (keep (holds (here_at n key.client)) (value_at same_key q e.slots)) (n.tickets k) =
+        fits_kept (is_lost n k) (here_at n key.client) (note ∷ notes) key.client (n.numbers k) (value_at same_key q e.slots) (n.tickets k) before in
+        subst (λ (o : Option Client). TicketFits (is_lost m k) (here_at n key.client) (note ∷ notes) key.client (m.numbers k) o (m.tickets k)) (sym look)
+        (subst (λ (z : ℕ). TicketFits (nat_lt z (n.restarted key.client)) (here_at n key.client) (note ∷ notes) key.client (m.numbers k) (keep (holds (here_at n key.client)) (value_at same_key q e.slots)) (m.tickets k))
+        (sym (set_other n.made key n.now k ne))
+        (subst (λ (y : ℕ). TicketFits (is_lost n k) (here_at n key.client) (note ∷ notes) key.client y (keep (holds (here_at n key.client)) (value_at same_key q e.slots)) (m.tickets k))
         (sym (set_other n.numbers key n.asks k ne))
-        (subst (λ (o : Option ClientTransaction). TicketFits (n.asks_from key.client) n.now (note ∷ notes) key.client (n.numbers k) (keep (holds n.now) (value_at same_key q e.slots)) o)
-        (sym (set_other n.tickets key (Some made) k ne)) after))
+        (subst (λ (o : Option ClientTransaction). TicketFits (is_lost n k) (here_at n key.client) (note ∷ notes) key.client (n.numbers k) (keep (holds (here_at n key.client)) (value_at same_key q e.slots)) o)
+        (sym (set_other n.tickets key (Some made) k ne)) after)))
 
-    pub ask_fits : ClientsFit links apart n.now (note ∷ notes) (asked_at x n key ask) key.client ended
+    pub ask_fits : ClientsFit links apart (here_at n key.client) (note ∷ notes) (asked_at x n key ask) key.client ended
     ask_fits = record {
-      distinct = put_distinct Client p n.now client (passing Client (holds n.now) e.slots) (passing_distinct Client (holds n.now) e.slots h.distinct) gone;
-      known = each_put Client (λ y v. IsKnown links apart y × (v.number < e.asked + 1)) p n.now client (passing Client (holds n.now) e.slots)
+      distinct = put_distinct Client p (here_at n key.client) client (passing Client (holds (here_at n key.client)) e.slots) (passing_distinct Client (holds (here_at n key.client)) e.slots h.distinct) gone;
+      known = each_put Client (λ y v. IsKnown links apart y × (v.number < e.asked + 1)) p (here_at n key.client) client (passing Client (holds (here_at n key.client)) e.slots)
           (record { node = key.server; link = l; at = at; peer = refl }, omega arith)
-          (each_passing Client (λ y v. IsKnown links apart y × (v.number < e.asked + 1)) (holds n.now) e.slots
+          (each_passing Client (λ y v. IsKnown links apart y × (v.number < e.asked + 1)) (holds (here_at n key.client)) e.slots
           (each_so Client (λ y v. IsKnown links apart y × (v.number < e.asked)) (λ y v. IsKnown links apart y × (v.number < e.asked + 1))
           (λ y v k. (k.0, let lt = k.1 in omega arith)) e.slots h.known));
       found = λ s l' id at'. found s l' id at' (decide_key key (key_of key.client s id));
     }
 
-    pub others_noted : (j : ℕ) (a : Node) → (j ≡ key.client → ⊥) → NodeFits links apart x n.now notes n j a
-        → NodeFits links apart x n.now (note ∷ notes) (asked_at x n key ask) j a
+    pub others_noted : (j : ℕ) (a : Node) → (j ≡ key.client → ⊥) → NodeFits links apart x (here_at n j) (there_at n j) notes n j a
+        → NodeFits links apart x (here_at n j) (there_at n j) (note ∷ notes) (asked_at x n key ask) j a
     others_noted j a ne f = record {
       settings = f.settings;
       link = f.link;
@@ -274,13 +280,15 @@ module _ (links : ℕ → Option Octets) (apart : (i j : ℕ) (l : Octets) → l
             let k : Key = key_of j s id in
             let away : key ≡ k → ⊥ = λ is. ne (sym (ap (λ (y : Key). y.client) is)) in
             let q : PeerKey = slot_key l' id in
-            let before : TicketFits (n.asks_from j) n.now (note ∷ notes) j (n.numbers k) (value_at same_key q a.clients.slots) (n.tickets k) =
-            fits_noted (n.asks_from j) n.now notes note j (n.numbers k) (value_at same_key q a.clients.slots) (n.tickets k)
+            let before : TicketFits (is_lost n k) (here_at n j) (note ∷ notes) j (n.numbers k) (value_at same_key q a.clients.slots) (n.tickets k) =
+            fits_noted (is_lost n k) (here_at n j) notes note j (n.numbers k) (value_at same_key q a.clients.slots) (n.tickets k)
             (λ z is. ap (λ b. b && nat_eq e.asked z.number) (differ key.client j (λ same. ne (sym same)))) (f.clients.found s l' id at') in
-            subst (λ (y : ℕ). TicketFits (n.asks_from j) n.now (note ∷ notes) j y (value_at same_key q a.clients.slots) (m.tickets k))
+            subst (λ (z : ℕ). TicketFits (nat_lt z (n.restarted j)) (here_at n j) (note ∷ notes) j (m.numbers k) (value_at same_key q a.clients.slots) (m.tickets k))
+            (sym (set_other n.made key n.now k away))
+            (subst (λ (y : ℕ). TicketFits (is_lost n k) (here_at n j) (note ∷ notes) j y (value_at same_key q a.clients.slots) (m.tickets k))
             (sym (set_other n.numbers key n.asks k away))
-            (subst (λ (o : Option ClientTransaction). TicketFits (n.asks_from j) n.now (note ∷ notes) j (n.numbers k) (value_at same_key q a.clients.slots) o)
-            (sym (set_other n.tickets key (Some made) k away)) before);
+            (subst (λ (o : Option ClientTransaction). TicketFits (is_lost n k) (here_at n j) (note ∷ notes) j (n.numbers k) (value_at same_key q a.clients.slots) o)
+            (sym (set_other n.tickets key (Some made) k away)) before));
       };
       servers = record { distinct = f.servers.distinct; known = f.servers.known; found = f.servers.found };
     }
@@ -288,7 +296,7 @@ module _ (links : ℕ → Option Octets) (apart : (i j : ℕ) (l : Octets) → l
   -- What it makes of the world.
   module _ (w w' : World) (n : Net) (h : Over links apart W x w n) (i s : ℕ) (limits : Limits) (r : Request) (step : IsAsked w i s limits r w')
       (server_at : links s ≡ Some step.link)
-      (parts : IsAccepted (x.settings i) n.now (peer_at step.link) (choice_of r) step.asks.octets step.before.clients step.accepted) where
+      (parts : IsAccepted (x.settings i) (here_at n i) (peer_at step.link) (choice_of r) step.asks.octets step.before.clients step.accepted) where
     abbrev a : Node
     a = step.before
 
@@ -296,10 +304,10 @@ module _ (links : ℕ → Option Octets) (apart : (i j : ℕ) (l : Octets) → l
     key = key_of i s parts.id
 
     abbrev ask : Ask
-    ask = record { first = n.now; choice = choice_of r; whole = parts.whole; pieces = parts.front ∷ parts.rest }
+    ask = record { first = here_at n i; choice = choice_of r; whole = parts.whole; pieces = parts.front ∷ parts.rest }
 
     abbrev context : Context
-    context = client_context x key n.now
+    context = client_context x key (here_at n i)
 
     abbrev after : Net
     after = asked_at x n key ask
@@ -309,7 +317,7 @@ module _ (links : ℕ → Option Octets) (apart : (i j : ℕ) (l : Octets) → l
 
     free : net.is_id_held n key ≡ false
     free = key_free n key a.clients fits.asks parts.awake
-        (free_ticket (n.asks_from i) n.now w.notes i (n.numbers key) (value_at same_key (slot_key step.link parts.id) a.clients.slots) (n.tickets key)
+        (free_ticket (is_lost n key) (here_at n i) w.notes i (n.numbers key) (value_at same_key (slot_key step.link parts.id) a.clients.slots) (n.tickets key)
         (fits.clients.found s step.link parts.id server_at) parts.free)
 
     sound : Sound x after
@@ -324,10 +332,10 @@ module _ (links : ℕ → Option Octets) (apart : (i j : ℕ) (l : Octets) → l
     notes_is : w'.notes ≡ note' ∷ w.notes
     notes_is = step.notes ∙ ap (λ (y : Accepted). record { key = key_of i s y.invoke_id; ticket = y.ticket } ∷ w.notes) parts.is
 
-    node_is : step.after ≡ record a { latest = w.now; clients = ended' }
-    node_is = step.asks.node ∙ ap (λ (y : Accepted). record a { latest = w.now; clients = y.end }) parts.is
+    node_is : step.after ≡ record a { latest = told w i; clients = ended' }
+    node_is = step.asks.node ∙ ap (λ (y : Accepted). record a { latest = told w i; clients = y.end }) parts.is
 
-    made_fits : NodeFits links apart x n.now (note' ∷ w.notes) after i (record a { latest = w.now; clients = ended' })
+    made_fits : NodeFits links apart x (here_at n i) (there_at n i) (note' ∷ w.notes) after i (record a { latest = told w i; clients = ended' })
     made_fits = record {
       settings = fits.settings;
       link = fits.link;
@@ -337,12 +345,12 @@ module _ (links : ℕ → Option Octets) (apart : (i j : ℕ) (l : Octets) → l
       servers = record { distinct = fits.servers.distinct; known = fits.servers.known; found = fits.servers.found };
     }
 
-    nodes : (j : ℕ) (b : Node) → slice_get w'.nodes j ≡ Some b → ((j ≡ i) ⊎ (j ≡ i → ⊥)) → NodeFits links apart x n.now (note' ∷ w.notes) after j b
+    nodes : (j : ℕ) (b : Node) → slice_get w'.nodes j ≡ Some b → ((j ≡ i) ⊎ (j ≡ i → ⊥)) → NodeFits links apart x (here_at n j) (there_at n j) (note' ∷ w.notes) after j b
     nodes j b at (inl is) =
         let there : slice_get w'.nodes i ≡ Some b = subst (λ (k : ℕ). slice_get w'.nodes k ≡ Some b) is at in
         let same : step.after ≡ b = let e : Some step.after ≡ Some b = sym step.nodes.here ∙ there in cc in
-        subst (λ (k : ℕ). NodeFits links apart x n.now (note' ∷ w.notes) after k b) (sym is)
-        (subst (λ (d : Node). NodeFits links apart x n.now (note' ∷ w.notes) after i d) (sym node_is ∙ same) made_fits)
+        subst (λ (k : ℕ). NodeFits links apart x (here_at n k) (there_at n k) (note' ∷ w.notes) after k b) (sym is)
+        (subst (λ (d : Node). NodeFits links apart x (here_at n i) (there_at n i) (note' ∷ w.notes) after i d) (sym node_is ∙ same) made_fits)
     nodes j b at (inr ne) = others_noted n w.notes h.asks key step.link server_at ask a.clients fits.clients parts.free j b ne
         (h.nodes j b (sym (step.nodes.others j ne) ∙ at))
 
@@ -370,10 +378,13 @@ module _ (links : ℕ → Option Octets) (apart : (i j : ℕ) (l : Octets) → l
 
     over : Over links apart W x w' after
     over = record {
-      now = h.now ∙ sym step.now;
+      now = h.now ∙ sym (ap (λ (t : Time). t.now) step.time);
+      pace = h.pace ∙ sym (ap (λ (t : Time). t.pace) step.time);
+      here = λ j. h.here j ∙ sym (ap (λ (t : Time). t.clocks j) step.time);
+      there = λ j. h.there j ∙ sym (ap (λ (t : Time). t.clocks j) step.time);
       asks = asks_is;
       linked = linked_with links w.nodes w'.nodes i a step.after step.nodes step.at (ap (λ (d : Node). d.link) node_is) h.linked;
-      nodes = λ j b at. subst (λ (l : List Note). NodeFits links apart x n.now l after j b) (sym notes_is) (nodes j b at (decide_number j i));
+      nodes = λ j b at. subst (λ (l : List Note). NodeFits links apart x (here_at n j) (there_at n j) l after j b) (sym notes_is) (nodes j b at (decide_number j i));
       noted = λ k t at. ap (newest k) notes_is ∙ noted k t at (decide_key key k);
       posts = subst (λ (l : List Copy). Pairwise (IsCopyOf links apart) after.posts l) (sym step.copies)
           (pairwise_join (IsCopyOf links apart) n.posts (map (post_of key n.now) sends) w.copies step.sent h.posts copies);
@@ -393,7 +404,7 @@ module _ (links : ℕ → Option Octets) (apart : (i j : ℕ) (l : Octets) → l
     )
 
     pub asks_with : Goes links apart W x w w' (asked_at x n (key_of i s parts.id)
-        (record { first = n.now; choice = choice_of r; whole = parts.whole; pieces = parts.front ∷ parts.rest }))
+        (record { first = here_at n i; choice = choice_of r; whole = parts.whole; pieces = parts.front ∷ parts.rest }))
     asks_with = record { bridge = over; once = once }
 
   pub asks_over : (w w' : World) (n : Net) → Over links apart W x w n → (client server : ℕ) (limits : Limits) (r : Request)
@@ -402,7 +413,7 @@ module _ (links : ℕ → Option Octets) (apart : (i j : ℕ) (l : Octets) → l
       let fits : Fits links apart W x w n n i step.before = h.nodes i step.before step.at in
       let asked_of : Settings → ℕ → AskOutcome =
       λ c now. requester_ask c now (peer_at step.link) limits (choice_of r) step.asks.octets step.before.clients in
-      let parts = accepted_is (x.settings i) n.now (peer_at step.link) (choice_of r) step.asks.octets step.before.clients step.accepted limits
-      (subst (λ (y : Settings). asked_of y n.now ≡ Asked step.accepted) fits.settings
-      (subst (λ (y : ℕ). asked_of step.before.settings y ≡ Asked step.accepted) (sym h.now) step.asks.accepted)) in
+      let parts = accepted_is (x.settings i) (here_at n i) (peer_at step.link) (choice_of r) step.asks.octets step.before.clients step.accepted limits
+      (subst (λ (y : Settings). asked_of y (here_at n i) ≡ Asked step.accepted) fits.settings
+      (subst (λ (y : ℕ). asked_of step.before.settings y ≡ Asked step.accepted) (sym (ap (λ (y : Clock). y.shows) (h.here i))) step.asks.accepted)) in
       (_, asks_with w w' n h i s limits r step (sym (h.linked s) ∙ step.peer) parts)

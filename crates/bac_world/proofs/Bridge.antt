@@ -1,5 +1,5 @@
 -- What a world on datagrams and bac_protocol's net have in common.
-use Rattle.std.proofs.Common.{◌≡◌, ℕ, zero, suc, ◌<◌, Bool, true, false, List, [], ◌∷◌, map, length, Option, Some, None, slice_get}
+use Rattle.std.proofs.Common.{◌≡◌, ℕ, zero, suc, ◌<◌, ◌&&◌, not, Bool, true, false, List, [], ◌∷◌, map, length, Option, Some, None, slice_get}
 use Rattle.std.proofs.Common.{if◌then◌else◌, refl, sym, ap, subst, ◌∙◌, ◌≤◌}
 use Rattle.bac_apdu.specs.Apdu.{Apdu}
 use Rattle.bac_apdu.specs.Spelling.{SpellsApdu, is_confirmed_request}
@@ -15,7 +15,7 @@ use Rattle.bac_protocol.specs.Client.{ClientTransaction, is_idle}
 use Rattle.bac_protocol.specs.Server.{ServerTransaction, live_entry}
 use Rattle.bac_protocol.specs.Transaction.{Key, Rules}
 use Rattle.bac_protocol.specs.Straight.{is_ended}
-use Rattle.bac_protocol.specs.World.{Net, Post, post_of, is_held_since}
+use Rattle.bac_protocol.specs.World.{Net, Post, post_of, is_key_held, is_lost}
 use Rattle.bac_protocol.specs.World as machine
 use Rattle.bac_slots.specs.Slots.{value_at, IsDistinct}
 use Rattle.bac_transaction.specs.Keys.{PeerKey, same_key}
@@ -36,6 +36,12 @@ framed_means from to a b q octets f short m =
 
 -- The relation.
 
+abbrev pub here_at : Net → ℕ → ℕ
+here_at n i = (n.client_clocks i).shows
+
+abbrev pub there_at : Net → ℕ → ℕ
+there_at n i = (n.server_clocks i).shows
+
 abbrev pub key_of : (client server invoke_id : ℕ) → Key
 key_of c s id = record { client = c; server = s; invoke_id = id }
 
@@ -47,15 +53,15 @@ pub record SlotFits (notes : List Note) (client number : ℕ) (s : Client) (t : 
   pub noted : is_idle t.phase ≡ false → ask_of client s.number notes ≡ Some number
 
 -- nothing is left of a ticket but its copies: it is over, and holds no invoke ID of a client that asks from then on
-pub record IsGone (from now : ℕ) (o : Option ClientTransaction) : Type 0 where
+pub record IsGone (gone : Bool) (now : ℕ) (o : Option ClientTransaction) : Type 0 where
   pub over : is_ended o ≡ true
-  pub free : is_held_since from now o ≡ false
+  pub free : (not gone && is_key_held now o) ≡ false
 
 -- a slot is its ticket's, and where there is none the ticket is gone
-abbrev pub TicketFits : (from now : ℕ) → List Note → (client number : ℕ) → Option Client → Option ClientTransaction → Type 0
-TicketFits from now notes client number None o = IsGone from now o
-TicketFits from now notes client number (Some s) None = ⊥
-TicketFits from now notes client number (Some s) (Some t) = SlotFits notes client number s t
+abbrev pub TicketFits : (gone : Bool) (now : ℕ) → List Note → (client number : ℕ) → Option Client → Option ClientTransaction → Type 0
+TicketFits gone now notes client number None o = IsGone gone now o
+TicketFits gone now notes client number (Some s) None = ⊥
+TicketFits gone now notes client number (Some s) (Some t) = SlotFits notes client number s t
 
 -- entries are alike while they are live
 abbrev pub EntryFits : (now : ℕ) → (a b : Option ServerTransaction) → Type 0
@@ -77,7 +83,7 @@ module _ (links : ℕ → Option Octets) (apart : (i j : ℕ) (l : Octets) → l
     pub distinct : IsDistinct same_key e.slots
     pub known : EachSlot Client (λ p s. IsKnown p × (s.number < e.asked)) e.slots
     pub found : (s : ℕ) (l : Octets) (id : ℕ) → links s ≡ Some l
-        → TicketFits (n.asks_from i) now notes i (n.numbers (key_of i s id)) (value_at same_key (slot_key l id) e.slots) (n.tickets (key_of i s id))
+        → TicketFits (is_lost n (key_of i s id)) now notes i (n.numbers (key_of i s id)) (value_at same_key (slot_key l id) e.slots) (n.tickets (key_of i s id))
 
   pub record ServersFit (now : ℕ) (n : Net) (i : ℕ) (e : ServerEnd) : Type 0 where
     pub distinct : IsDistinct same_key e.slots
@@ -85,13 +91,13 @@ module _ (links : ℕ → Option Octets) (apart : (i j : ℕ) (l : Octets) → l
     pub found : (c : ℕ) (l : Octets) (id : ℕ) → links c ≡ Some l
         → EntryFits now (value_at same_key (slot_key l id) e.slots) (n.entries (key_of c i id))
 
-  pub record NodeFits (x : Rules) (now : ℕ) (notes : List Note) (n : Net) (i : ℕ) (a : Node) : Type 0 where
+  pub record NodeFits (x : Rules) (here there : ℕ) (notes : List Note) (n : Net) (i : ℕ) (a : Node) : Type 0 where
     pub settings : a.settings ≡ x.settings i
     pub link : links i ≡ Some a.link
     pub asks : a.clients.asks_from ≡ n.asks_from i
     pub serves : a.servers.serves_from ≡ n.serves_from i
-    pub clients : ClientsFit now notes n i a.clients
-    pub servers : ServersFit now n i a.servers
+    pub clients : ClientsFit here notes n i a.clients
+    pub servers : ServersFit there n i a.servers
 
   -- a copy is the one frame of its post's APDU
   pub record IsCopyOf (p : Post) (c : Copy) : Type 0 where
@@ -107,10 +113,13 @@ module _ (links : ℕ → Option Octets) (apart : (i j : ℕ) (l : Octets) → l
     pub short : IsShort p.copy.apdu
 
   pub record Bridge (W : ℕ) (x : Rules) (w : World) (n : Net) : Type 0 where
-    pub now : n.now ≡ w.now
+    pub now : n.now ≡ w.time.now
+    pub pace : n.pace ≡ w.time.pace
+    pub here : (i : ℕ) → n.client_clocks i ≡ w.time.clocks i
+    pub there : (i : ℕ) → n.server_clocks i ≡ w.time.clocks i
     pub asks : n.asks ≡ length w.notes
     pub linked : (i : ℕ) → link_at w.nodes i ≡ links i
-    pub nodes : (i : ℕ) (a : Node) → slice_get w.nodes i ≡ Some a → NodeFits x n.now w.notes n i a
+    pub nodes : (i : ℕ) (a : Node) → slice_get w.nodes i ≡ Some a → NodeFits x (here_at n i) (there_at n i) w.notes n i a
     pub noted : (key : Key) (t : ClientTransaction) → n.tickets key ≡ Some t → newest key w.notes ≡ Some (n.numbers key)
     pub posts : Pairwise IsCopyOf n.posts w.copies
     pub log : Pairwise FactMeans n.log w.log

@@ -17,6 +17,10 @@ use Rattle.bac_transaction.specs.Ends.TransactionSlot.{Open, Closed}
 use Rattle.bac_world.specs.Once.{Fact}
 use Rattle.bac_world.specs.World.{World, Note, Copy, AreEnded, peer_at, IsCopied}
 use Rattle.bac_transaction.proofs.KeyedSlots.{EachSlot, slot}
+use Rattle.bac_protocol.specs.World.{client_now, server_now, is_lost, is_key_held}
+use Rattle.bac_world.specs.World.{told}
+use Rattle.bac_world.proofs.Bridge.{here_at, there_at}
+use Rattle.bac_protocol.specs.Pace.{Clock}
 use Rattle.bac_world.proofs.Changes.{look, Change, look_first, look_next, look_here, look_same, change_rest}
 use Rattle.bac_world.proofs.Leads.{Leads}
 use Rattle.bac_world.proofs.Leads.Leads.{TicksTicket}
@@ -48,15 +52,15 @@ module _ (links : ℕ → Option Octets) (apart : (i j : ℕ) (l : Octets) → l
   c = x.settings i
 
   abbrev tick : PeerKey → Client → Client
-  tick = client_tick (x.settings i) n.now
+  tick = client_tick (x.settings i) (here_at n i)
 
   -- the slots of that list go on, while these copies and facts are there
   abbrev Folds : List ClientSlot → Type 0
   Folds os = IsDistinct same_key os → EachSlot Client (λ p v. IsKnown links apart p) os → Change Client tick all os
       → (copies : List Copy) (log : List Fact) (m : Net) → Reached links apart W x w i n (look Client tick all os) copies log m
       → (ds : List Datagram) (cs : List Copy) (fs : List EndedView) (log' : List Fact)
-      → Pairwise IsSent (from_each (client_tick_sends (x.settings i) n.now) os) ds → Pairwise (IsCopied w.nodes n.now i) ds cs
-      → Pairwise IsEndedView (from_each (client_tick_ends (x.settings i) n.now) os) fs → AreEnded w.notes i fs log log'
+      → Pairwise IsSent (from_each (client_tick_sends (x.settings i) (here_at n i)) os) ds → Pairwise (IsCopied w.nodes n.now i) ds cs
+      → Pairwise IsEndedView (from_each (client_tick_ends (x.settings i) (here_at n i)) os) fs → AreEnded w.notes i fs log log'
       → (m' : Net) × Reached links apart W x w i n (λ q. value_at same_key q all) (copies ++ cs) log' m'
 
   no_slots : Folds []
@@ -88,18 +92,18 @@ module _ (links : ℕ → Option Octets) (apart : (i j : ℕ) (l : Octets) → l
     one_open t distinct known change copies log m r ds cs fs log' sent copied finished logged =
         let v : Client = record { number = k; held = Open t } in
         let key : Key = key_of i node id in
-        let did : client.Reaction = client_ticks (client_context x key n.now) t in
-        let d = pairwise_split IsSent (to_all (peer_at l) (client.sends_of did)) (from_each (client_tick_sends c n.now) os) ds sent in
+        let did : client.Reaction = client_ticks (client_context x key (here_at n i)) t in
+        let d = pairwise_split IsSent (to_all (peer_at l) (client.sends_of did)) (from_each (client_tick_sends c (here_at n i)) os) ds sent in
         let e = pairwise_split (IsCopied w.nodes n.now i) d.front d.rest cs
         (subst (λ (z : List Datagram). Pairwise (IsCopied w.nodes n.now i) z cs) d.is copied) in
-        let f = pairwise_split IsEndedView (ended_with k t.ask.choice (client.ending_of did)) (from_each (client_tick_ends c n.now) os) fs finished in
+        let f = pairwise_split IsEndedView (ended_with k t.ask.choice (client.ending_of did)) (from_each (client_tick_ends c (here_at n i)) os) fs finished in
         let g = ended_split w.notes i f.front f.rest log log' (subst (λ (z : List EndedView). AreEnded w.notes i z log log') f.is logged) in
         let next = reacts links apart W x bound w n key l li from at (look Client tick all (slot Client p begin v ∷ os)) (look Client tick all os)
         copies log m r h.linked k t (look_first Client tick all p begin v os) did
         (λ is. subst (λ (z : ℕ). Sound x (client_acts m key t (client_ticks (client_context x key z) t))
-        × Leads x n (client_acts m key t (client_ticks (client_context x key z) t))) r.now
+        × Leads x n (client_acts m key t (client_ticks (client_context x key z) t))) (ap (λ (f : ℕ → Clock). (f i).shows) r.alike.here)
         (ticks_at_client W x bound m r.sound key t is, TicksTicket m key t r.leads is))
-        (client_sends_own.ticks (client_context x key n.now) t)
+        (client_sends_own.ticks (client_context x key (here_at n i)) t)
         (look_here Client tick all p begin v os distinct.0 change)
         (λ q ne. look_next Client tick all p begin v os q ne)
         d.front e.front d.first e.first f.front g.between f.first g.first in

@@ -3,7 +3,6 @@ use Rattle.std.proofs.Common.{◌≡◌, ℕ, ◌-◌, ◌≤◌, ◌<◌, true,
 use Rattle.std.proofs.Common.{refl, sym, ap, subst, ◌∙◌}
 use Rattle.bac_apdu.specs.Apdu.{Apdu}
 use Rattle.bac_service.specs.Services.{reads_reply}
-use Rattle.bac_protocol.specs.declared.times.TheConstants.{LIFE}
 use Rattle.bac_protocol.specs.Context.{Settings, Context}
 use Rattle.bac_protocol.specs.Service as machine
 use Rattle.bac_protocol.specs.Service.{Octets}
@@ -31,6 +30,10 @@ use Rattle.bac_world.specs.Node.{Node, Outcome, IsClientTurn}
 use Rattle.bac_world.specs.Once.{Fact, IsOnce}
 use Rattle.bac_world.specs.World.{World, Copy, stores_of, Acts, AreLogged, AreEnded, IsCopied}
 use Rattle.bac_transaction.proofs.KeyedSlots.{EachSlot, with_same, with_other, with_distinct, each_with, each_at}
+use Rattle.bac_protocol.specs.World.{client_now, server_now, is_lost, is_key_held}
+use Rattle.bac_world.specs.World.{told}
+use Rattle.bac_world.proofs.Bridge.{here_at, there_at}
+use Rattle.bac_protocol.specs.Pace.{Clock}
 use Rattle.bac_world.proofs.Leads.Leads.{Here, Hears}
 use Rattle.bac_world.proofs.Machines.{gets_at_client, may_arrive}
 use Rattle.bac_world.proofs.Pairs.{pairwise_none, append_none}
@@ -44,19 +47,19 @@ hears_nothing : (x : Rules) (n : Net) (p : Post) (o : Option ClientTransaction) 
     → taken_by_client x n p o ≡ n
 hears_nothing x n p None is over = refl
 hears_nothing x n p (Some t) is over =
-    ap (client_acts n p.key t) (ended_is_silent.gets (client_context x p.key n.now) x.readable t p.copy.apdu (over t refl))
+    ap (client_acts n p.key t) (ended_is_silent.gets (client_context x p.key (client_now n p.key)) x.readable t p.copy.apdu (over t refl))
     ∙ (λ i. record n { tickets = set_nothing n.tickets p.key (Some t) is i; posts = append_none n.posts i })
 
 module _ (links : ℕ → Option Octets) (apart : (i j : ℕ) (l : Octets) → links i ≡ Some l → links j ≡ Some l → i ≡ j) (W : ℕ) (x : Rules) where
   -- what was reached is a step of the world
   pub arrived : (w w' : World) (n : Net) → Over links apart W x w n → (i : ℕ) (a b : Node) (o : Outcome) → slice_get w.nodes i ≡ Some a
       → (acts : Acts w i b o w') → o.performed ≡ None
-      → (e : ClientEnd) → b ≡ record a { latest = w.now; clients = e } → e.asks_from ≡ a.clients.asks_from
+      → (e : ClientEnd) → b ≡ record a { latest = told w i; clients = e } → e.asks_from ≡ a.clients.asks_from
       → IsDistinct same_key e.slots → EachSlot Client (λ p s. IsKnown links apart p × (s.number < e.asked)) e.slots
       → (m : Net) → Reached links apart W x w i n (λ p. value_at same_key p e.slots) (w.copies ++ acts.sent) acts.between m
       → Goes links apart W x w w' m
   arrived w w' n h i a b o at acts quiet e b_is from distinct known m r = record {
-    bridge = acts_over links apart W x w w' n m h i a b o at acts r.now r.asks r.noted (ap (λ (d : Node). d.link) b_is)
+    bridge = acts_over links apart W x w w' n m h i a b o at acts r.alike r.asks r.noted (ap (λ (d : Node). d.link) b_is)
         (subst (λ (d : Node). Fits links apart W x w n m i d) (sym b_is) made)
         r.others r.posts (subst (λ (lg : List Fact). Pairwise FactMeans m.log lg) (sym log_is) r.log) r.sound;
     once = λ opening once. subst (λ (lg : List Fact). IsOnce opening lg (stores_of w'.nodes)) (sym log_is)
@@ -67,7 +70,7 @@ module _ (links : ℕ → Option Octets) (apart : (i j : ℕ) (l : Octets) → l
       fits : Fits links apart W x w n n i a
       fits = h.nodes i a at
 
-      made : Fits links apart W x w n m i (record a { latest = w.now; clients = e })
+      made : Fits links apart W x w n m i (record a { latest = told w i; clients = e })
       made = record {
         settings = fits.settings;
         link = fits.link;
@@ -77,7 +80,7 @@ module _ (links : ℕ → Option Octets) (apart : (i j : ℕ) (l : Octets) → l
         servers = record {
           distinct = fits.servers.distinct;
           known = fits.servers.known;
-          found = λ c l id at'. fits.servers.found c l id at' ∙ ap (λ f. live_entry n.now (f (key_of c i id))) (sym r.entries);
+          found = λ c l id at'. fits.servers.found c l id at' ∙ ap (λ f. live_entry (there_at n i) (f (key_of c i id))) (sym r.entries);
         };
       }
 
@@ -86,7 +89,7 @@ module _ (links : ℕ → Option Octets) (apart : (i j : ℕ) (l : Octets) → l
 
   -- a step in which nothing goes out and nothing ends
   pub quiet : (w w' : World) (n : Net) → Over links apart W x w n → (i : ℕ) (a b : Node) (o : Outcome) → slice_get w.nodes i ≡ Some a
-      → Acts w i b o w' → o.performed ≡ None → o.sends ≡ [] → o.ended ≡ [] → b ≡ record a { latest = w.now } → Goes links apart W x w w' n
+      → Acts w i b o w' → o.performed ≡ None → o.sends ≡ [] → o.ended ≡ [] → b ≡ record a { latest = told w i } → Goes links apart W x w w' n
   quiet w w' n h i a b o at acts performed sends ends b_is =
       arrived w w' n h i a b o at acts performed a.clients b_is refl fits.clients.distinct fits.clients.known n
       (subst (λ (l : List Copy). Reached links apart W x w i n look l acts.between n) (sym copies_is)
@@ -99,8 +102,8 @@ module _ (links : ℕ → Option Octets) (apart : (i j : ℕ) (l : Octets) → l
       look p = value_at same_key p a.clients.slots
 
       sent_is : acts.sent ≡ []
-      sent_is = pairwise_none (IsCopied w.nodes w.now i) acts.sent
-          (subst (λ (ds : List Datagram). Pairwise (IsCopied w.nodes w.now i) ds acts.sent) sends acts.copied)
+      sent_is = pairwise_none (IsCopied w.nodes w.time.now i) acts.sent
+          (subst (λ (ds : List Datagram). Pairwise (IsCopied w.nodes w.time.now i) ds acts.sent) sends acts.copied)
 
       copies_is : w.copies ++ acts.sent ≡ w.copies
       copies_is = ap (λ (l : List Copy). w.copies ++ l) sent_is ∙ append_none w.copies
@@ -111,11 +114,11 @@ module _ (links : ℕ → Option Octets) (apart : (i j : ℕ) (l : Octets) → l
   -- an APDU of a server was heard
   pub hears : (bound : IsBounded W x) → x.readable ≡ reads_reply → (w w' : World) (n : Net) → Over links apart W x w n → (number : ℕ) (p : Post) (c : Copy)
       → slice_get n.posts number ≡ Some p
-      → IsCopyOf links apart p c → n.now - p.copy.moment ≤ LIFE → net.later p.key number n.posts ≤ x.overtake
+      → IsCopyOf links apart p c → n.now - p.copy.moment ≤ n.pace.life → net.later p.key number n.posts ≤ x.overtake
       → is_from_client p.copy.apdu ≡ false → c.from ≡ p.key.server → c.to ≡ p.key.client
       → (a b : Node) (o : Outcome) → slice_get w.nodes c.to ≡ Some a → (l : Octets) → links c.from ≡ Some l
-      → IsClientTurn (requester_on_apdu_at a.settings reads_reply w.now p.copy.apdu a.clients (slot_key l (invoke_id_of p.copy.apdu))
-      (value_at same_key (slot_key l (invoke_id_of p.copy.apdu)) a.clients.slots)) w.now a b o
+      → IsClientTurn (requester_on_apdu_at a.settings reads_reply (told w c.to) p.copy.apdu a.clients (slot_key l (invoke_id_of p.copy.apdu))
+      (value_at same_key (slot_key l (invoke_id_of p.copy.apdu)) a.clients.slots)) (told w c.to) a b o
       → Acts w c.to b o w' → Goes links apart W x w w' (taken_by_client x n p (n.tickets p.key))
   hears bound readable w w' n h number p c at copied young few down from_is to_is a b o node l link turn acts =
       go (value_at same_key q a.clients.slots) refl turn'
@@ -145,35 +148,39 @@ module _ (links : ℕ → Option Octets) (apart : (i j : ℕ) (l : Octets) → l
       s = x.settings key.client
 
       context : Context
-      context = client_context x key n.now
+      context = client_context x key (client_now n key)
 
       heard : Settings → machine.Readable → (id now : ℕ) → ClientTurn
       heard c readable id now = requester_on_apdu_at c readable now apdu a.clients (slot_key l id) (value_at same_key (slot_key l id) a.clients.slots)
 
-      turn' : IsClientTurn (heard s x.readable key.invoke_id n.now) w.now a b o
-      turn' = subst (λ (y : Settings). IsClientTurn (heard y x.readable key.invoke_id n.now) w.now a b o) fits.settings
-          (subst (λ (y : machine.Readable). IsClientTurn (heard a.settings y key.invoke_id n.now) w.now a b o) (sym readable)
-          (subst (λ (y : ℕ). IsClientTurn (heard a.settings reads_reply y n.now) w.now a b o) copied.invoke
-          (subst (λ (y : ℕ). IsClientTurn (heard a.settings reads_reply (invoke_id_of apdu) y) w.now a b o) (sym h.now) turn)))
+      here_is : here_at n key.client ≡ told w key.client
+      here_is = ap (λ (y : Clock). y.shows) (h.here key.client)
+
+      turn' : IsClientTurn (heard s x.readable key.invoke_id (here_at n key.client)) (told w key.client) a b o
+      turn' = subst (λ (y : Settings). IsClientTurn (heard y x.readable key.invoke_id (here_at n key.client)) (told w key.client) a b o) fits.settings
+          (subst (λ (y : machine.Readable). IsClientTurn (heard a.settings y key.invoke_id (here_at n key.client)) (told w key.client) a b o) (sym readable)
+          (subst (λ (y : ℕ). IsClientTurn (heard a.settings reads_reply y (here_at n key.client)) (told w key.client) a b o) copied.invoke
+          (subst (λ (y : ℕ). IsClientTurn (heard a.settings reads_reply (invoke_id_of apdu) y) (told w key.client) a b o) (sym here_is)
+          (subst (λ (i : ℕ). IsClientTurn (heard a.settings reads_reply (invoke_id_of apdu) (told w i)) (told w i) a b o) to_is turn))))
 
       made_net : Net
       made_net = taken_by_client x n p (n.tickets key)
 
-      fit : TicketFits (n.asks_from key.client) n.now w.notes key.client (n.numbers key) (value_at same_key q a.clients.slots) (n.tickets key)
+      fit : TicketFits (is_lost n key) (here_at n key.client) w.notes key.client (n.numbers key) (value_at same_key q a.clients.slots) (n.tickets key)
       fit = fits.clients.found key.server l key.invoke_id server_at
 
-      unheard : ((u : ClientTransaction) → n.tickets key ≡ Some u → is_idle u.phase ≡ true) → IsClientTurn (stays a.clients) w.now a b o
+      unheard : ((u : ClientTransaction) → n.tickets key ≡ Some u → is_idle u.phase ≡ true) → IsClientTurn (stays a.clients) (told w key.client) a b o
           → Goes links apart W x w w' made_net
       unheard over t = subst (λ (m : Net). Goes links apart W x w w' m) (sym (hears_nothing x n p (n.tickets key) refl over))
           (quiet w w' n h key.client a b o node' acts' t.performed (pairwise_none IsSent o.sends t.sends) (pairwise_none IsEndedView o.ended t.ended) t.node)
 
       goes : (k : ℕ) (t : ClientTransaction) → value_at same_key q a.clients.slots ≡ Some (record { number = k; held = Open t })
-          → IsClientTurn (client_goes n.now a.clients q k t (client_on_apdu context x.readable t apdu)) w.now a b o
+          → IsClientTurn (client_goes (here_at n key.client) a.clients q k t (client_on_apdu context x.readable t apdu)) (told w key.client) a b o
           → Goes links apart W x w w' made_net
       goes k t found turn = subst (λ (m : Net). Goes links apart W x w w' m) (sym (ap (taken_by_client x n p) open_is))
           (arrived w w' n h key.client a b o node' acts' turn.performed made turn.node refl
-          (with_distinct Client q (client_after n.now k t r) a.clients.slots fits.clients.distinct)
-          (each_with Client Known q (client_after n.now k t r) a.clients.slots
+          (with_distinct Client q (client_after (here_at n key.client) k t r) a.clients.slots fits.clients.distinct)
+          (each_with Client Known q (client_after (here_at n key.client) k t r) a.clients.slots
           (each_at Client Known q (record { number = k; held = Open t }) a.clients.slots fits.clients.known found) fits.clients.known)
           (client_acts n key t r)
           (reacts links apart W x bound w n key l a.link fits.link server_at (λ y. value_at same_key y a.clients.slots)
@@ -184,8 +191,8 @@ module _ (links : ℕ → Option Octets) (apart : (i j : ℕ) (l : Octets) → l
             Hears n number p t Here at (may_arrive W x bound n number p young few) down is,
           ))
           (client_sends_own.gets context x.readable t apdu)
-          (with_same Client q (client_after n.now k t r) (record { number = k; held = Open t }) a.clients.slots found)
-          (λ y ne. with_other Client q y (client_after n.now k t r) a.clients.slots ne)
+          (with_same Client q (client_after (here_at n key.client) k t r) (record { number = k; held = Open t }) a.clients.slots found)
+          (λ y ne. with_other Client q y (client_after (here_at n key.client) k t r) a.clients.slots ne)
           o.sends acts'.sent turn.sends
           (subst (λ (tm : ℕ). Pairwise (IsCopied w.nodes tm key.client) o.sends acts'.sent) (sym h.now) acts'.copied)
           o.ended acts'.between turn.ended acts'.ended))
@@ -194,28 +201,28 @@ module _ (links : ℕ → Option Octets) (apart : (i j : ℕ) (l : Octets) → l
           Known y z = IsKnown links apart y × (z.number < a.clients.asked)
 
           open_is : n.tickets key ≡ Some t
-          open_is = (ticket_at (n.asks_from key.client) n.now w.notes key.client (n.numbers key) k t (n.tickets key)
-              (subst (λ (y : Option Client). TicketFits (n.asks_from key.client) n.now w.notes key.client (n.numbers key) y (n.tickets key)) found fit)).0
+          open_is = (ticket_at (is_lost n key) (here_at n key.client) w.notes key.client (n.numbers key) k t (n.tickets key)
+              (subst (λ (y : Option Client). TicketFits (is_lost n key) (here_at n key.client) w.notes key.client (n.numbers key) y (n.tickets key)) found fit)).0
 
           r : client.Reaction
           r = client_on_apdu context x.readable t apdu
 
           made : ClientEnd
-          made = record (a.clients) { slots = with_value same_key q (client_after n.now k t r) a.clients.slots }
+          made = record (a.clients) { slots = with_value same_key q (client_after (here_at n key.client) k t r) a.clients.slots }
 
       held : (k : ℕ) (y : TransactionSlot) → value_at same_key q a.clients.slots ≡ Some (record { number = k; held = y })
-          → IsClientTurn (requester_on_apdu_in_slot s x.readable n.now apdu a.clients q k y) w.now a b o
+          → IsClientTurn (requester_on_apdu_in_slot s x.readable (here_at n key.client) apdu a.clients q k y) (told w key.client) a b o
           → Goes links apart W x w w' made_net
       held k (Closed first) is turn = unheard
-          (λ u at. closed_idle (n.asks_from key.client) n.now w.notes key.client (n.numbers key) k first u (subst (λ (y : Option ClientTransaction).
-          TicketFits (n.asks_from key.client) n.now w.notes key.client (n.numbers key) (Some (record { number = k; held = Closed first })) y) at
-          (subst (λ (y : Option Client). TicketFits (n.asks_from key.client) n.now w.notes key.client (n.numbers key) y (n.tickets key)) is fit))) turn
+          (λ u at. closed_idle (is_lost n key) (here_at n key.client) w.notes key.client (n.numbers key) k first u (subst (λ (y : Option ClientTransaction).
+          TicketFits (is_lost n key) (here_at n key.client) w.notes key.client (n.numbers key) (Some (record { number = k; held = Closed first })) y) at
+          (subst (λ (y : Option Client). TicketFits (is_lost n key) (here_at n key.client) w.notes key.client (n.numbers key) y (n.tickets key)) is fit))) turn
       held k (Open t) is turn = goes k t is turn
 
       go : (found : Option Client) → value_at same_key q a.clients.slots ≡ found
-          → IsClientTurn (requester_on_apdu_at s x.readable n.now apdu a.clients q found) w.now a b o
+          → IsClientTurn (requester_on_apdu_at s x.readable (here_at n key.client) apdu a.clients q found) (told w key.client) a b o
           → Goes links apart W x w w' made_net
       go None is turn = unheard
           (λ u at. sym (ap is_ended at)
-          ∙ (subst (λ (y : Option Client). TicketFits (n.asks_from key.client) n.now w.notes key.client (n.numbers key) y (n.tickets key)) is fit).over) turn
+          ∙ (subst (λ (y : Option Client). TicketFits (is_lost n key) (here_at n key.client) w.notes key.client (n.numbers key) y (n.tickets key)) is fit).over) turn
       go (Some v) is turn = held v.number v.held is turn

@@ -9,11 +9,9 @@ use Rattle.bac_service.specs.Services.{reads_reply}
 use Rattle.bac_store.specs.Stores.{Store}
 use Rattle.bac_store.specs.AtNode as at_node
 use Rattle.bac_store.specs.AtNode.{changed}
-use Rattle.bac_protocol.specs.declared.times.TheConstants.{LIFE}
 use Rattle.bac_protocol.specs.Context.{Settings}
 use Rattle.bac_protocol.specs.Service.{Octets}
 use Rattle.bac_protocol.specs.Wire.{is_from_client}
-use Rattle.bac_protocol.specs.declared.times.TheConstants.{REST}
 use Rattle.bac_protocol.specs.Client as client
 use Rattle.bac_protocol.specs.Client.{ClientTransaction}
 use Rattle.bac_protocol.specs.Server.{ServerTransaction, live_entry}
@@ -29,11 +27,16 @@ use Rattle.bac_transaction.specs.Ends.{Client}
 use Rattle.bac_transaction.specs.Services.{service_of}
 use Rattle.bac_world.specs.Node.{Node, Outcome, IsDropped, IsHeard, IsHeardBy, NodeOn, with_change}
 use Rattle.bac_world.specs.Once.{Fact, Stores, IsOnce, MayChange, with_changed}
-use Rattle.bac_world.specs.World.{World, Event, Copy, Note, link_at, stores_of, newest, later, peer_at, Acts, DeliversIf, Delivers, HearsNoise}
+use Rattle.bac_world.specs.World.{World, Time, passes, Event, Copy, Note, link_at, stores_of, newest, later, peer_at, Acts, DeliversIf, Delivers, HearsNoise}
 use Rattle.bac_world.specs.World.{IsChanged, WorldStep, WorldRun, IsFresh, IsBounded}
 use Rattle.bac_world.specs.World.Event.{Ask, Deliver, Noise, Tick, Advance, Change, Restart}
 use Rattle.bac_transaction.proofs.KeyedSlots.{EachSlot}
-use Rattle.bac_world.proofs.Machines.{passed, changes, starts}
+use Rattle.bac_protocol.specs.World.{client_now, server_now, is_lost, is_key_held}
+use Rattle.bac_world.specs.World.{told}
+use Rattle.bac_world.proofs.Bridge.{here_at, there_at}
+use Rattle.bac_protocol.specs.Pace.{Pace, IsTimely, clock_at, goes_on}
+use Rattle.std.proofs.Common.{not}
+use Rattle.bac_world.proofs.Machines.{passed, changes, starts, client_later, server_later}
 use Rattle.bac_world.proofs.Pairs.{IsPaired, pairwise_get}
 use Rattle.bac_world.proofs.Logs.{FactMeans}
 use Rattle.bac_world.proofs.Bridge.{IsKnown, NodeFits, IsCopyOf, IsBetween, IsGone, TicketFits, EntryFits, key_of, slot_key, framed_means, later_alike}
@@ -52,7 +55,7 @@ module _ (links : ℕ → Option Octets) (apart : (i j : ℕ) (l : Octets) → l
   -- Datagrams.
 
   dropped : (w w' : World) (n : Net) → Over links apart W x w n → (i : ℕ) (a b : Node) (o : Outcome) → slice_get w.nodes i ≡ Some a → Acts w i b o w'
-      → (from octets : Octets) → IsDropped w.now from octets a b o → Next links apart W x w w'
+      → (from octets : Octets) → IsDropped (told w i) from octets a b o → Next links apart W x w w'
   dropped w w' n h i a b o at acts from octets d = (
     n,
     quiet links apart W x w w' n h i a b o at acts (ap (λ (y : Outcome). y.performed) d.outcome)
@@ -61,27 +64,27 @@ module _ (links : ℕ → Option Octets) (apart : (i j : ℕ) (l : Octets) → l
 
   -- a copy that may arrive is heard
   module _ (w w' : World) (n : Net) (h : Over links apart W x w n) (number : ℕ) (p : Post) (c : Copy) (at : slice_get n.posts number ≡ Some p)
-      (copied : IsCopyOf links apart p c) (young : n.now - p.copy.moment ≤ LIFE) (few : machine.later p.key number n.posts ≤ x.overtake)
+      (copied : IsCopyOf links apart p c) (young : n.now - p.copy.moment ≤ n.pace.life) (few : machine.later p.key number n.posts ≤ x.overtake)
       (a b : Node) (o : Outcome) (node : slice_get w.nodes c.to ≡ Some a) (l : Octets) (link : links c.from ≡ Some l) (acts : Acts w c.to b o w') where
-    heard_by : (up : Bool) → is_from_client p.copy.apdu ≡ up → IsBetween up p.key c.from c.to → IsHeardBy up (peer_at l) p.copy.apdu w.now a b o
+    heard_by : (up : Bool) → is_from_client p.copy.apdu ≡ up → IsBetween up p.key c.from c.to → IsHeardBy up (peer_at l) p.copy.apdu (told w c.to) a b o
         → Next links apart W x w w'
     heard_by true up between turn =
         (_, (serves links apart W x bound w w' n h number p c at copied young few up between.0 between.1 a b o node l link (service_of a.store) turn acts).0)
     heard_by false down between turn =
         (_, hears links apart W x bound readable w w' n h number p c at copied young few down between.0 between.1 a b o node l link turn acts)
 
-    heard : IsHeard w.now l c.octets a b o → Next links apart W x w w'
+    heard : IsHeard (told w c.to) l c.octets a b o → Next links apart W x w w'
     heard y =
         let one = framed_means l copied.to_link p.copy.apdu y.apdu y.peer c.octets copied.frame copied.short y.means in
         heard_by (is_from_client p.copy.apdu) refl copied.between
-        (subst (λ (q : PeerView). IsHeardBy (is_from_client p.copy.apdu) q p.copy.apdu w.now a b o) one.0
-        (subst (λ (d : Apdu). IsHeardBy (is_from_client d) y.peer d w.now a b o) one.1 y.heard))
+        (subst (λ (q : PeerView). IsHeardBy (is_from_client p.copy.apdu) q p.copy.apdu (told w c.to) a b o) one.0
+        (subst (λ (d : Apdu). IsHeardBy (is_from_client d) y.peer d (told w c.to) a b o) one.1 y.heard))
 
   module _ (w w' : World) (n : Net) (h : Over links apart W x w n) (number : ℕ) (c : Copy) (there : slice_get w.copies number ≡ Some c) where
     post : IsPaired (IsCopyOf links apart) n.posts number c
     post = pairwise_get (IsCopyOf links apart) n.posts w.copies number c h.posts there
 
-    arrives : w.now - c.moment ≤ LIFE → later c.key number w.copies ≤ x.overtake → Delivers w c w' → Next links apart W x w w'
+    arrives : w.time.now - c.moment ≤ w.time.pace.life → later c.key number w.copies ≤ x.overtake → Delivers w c w' → Next links apart W x w w'
     arrives young few y = on y.hears.on
       where
         p : Post
@@ -90,19 +93,21 @@ module _ (links : ℕ → Option Octets) (apart : (i j : ℕ) (l : Octets) → l
         link : links c.from ≡ Some y.link
         link = sym (h.linked c.from) ∙ y.sender
 
-        is_young : n.now - p.copy.moment ≤ LIFE
-        is_young = subst (λ (m : ℕ). m - p.copy.moment ≤ LIFE) (sym h.now) (subst (λ (m : ℕ). w.now - m ≤ LIFE) post.goes.moment young)
+        is_young : n.now - p.copy.moment ≤ n.pace.life
+        is_young = subst (λ (q : Pace). n.now - p.copy.moment ≤ q.life) (sym h.pace)
+            (subst (λ (m : ℕ). m - p.copy.moment ≤ w.time.pace.life) (sym h.now)
+            (subst (λ (m : ℕ). w.time.now - m ≤ w.time.pace.life) post.goes.moment young))
 
         are_few : machine.later p.key number n.posts ≤ x.overtake
         are_few = subst (λ (m : ℕ). m ≤ x.overtake) (later_alike links apart p.key number n.posts w.copies h.posts)
             (subst (λ (k : Key). later k number w.copies ≤ x.overtake) post.goes.key few)
 
-        on : NodeOn w.now y.link c.octets y.hears.before y.hears.after y.hears.outcome → Next links apart W x w w'
+        on : NodeOn (told w c.to) y.link c.octets y.hears.before y.hears.after y.hears.outcome → Next links apart W x w w'
         on (inl z) = dropped w w' n h c.to y.hears.before y.hears.after y.hears.outcome y.hears.at y.hears.acts y.link c.octets z
         on (inr z) = heard w w' n h number p c post.there post.goes is_young are_few y.hears.before y.hears.after y.hears.outcome y.hears.at y.link link
             y.hears.acts z
 
-    delivered : (e f : Bool) → nat_le (w.now - c.moment) LIFE ≡ e → nat_le (later c.key number w.copies) x.overtake ≡ f → DeliversIf (e && f) w c w'
+    delivered : (e f : Bool) → nat_le (w.time.now - c.moment) w.time.pace.life ≡ e → nat_le (later c.key number w.copies) x.overtake ≡ f → DeliversIf (e && f) w c w'
         → Next links apart W x w w'
     delivered false f young few same = same_over w w' n h same
     delivered true false young few same = same_over w w' n h same
@@ -111,35 +116,36 @@ module _ (links : ℕ → Option Octets) (apart : (i j : ℕ) (l : Octets) → l
   noise : (w w' : World) (n : Net) → Over links apart W x w n → (i : ℕ) (from octets : Octets) → HearsNoise w i from octets w' → Next links apart W x w w'
   noise w w' n h i from octets d = on d.hears.on
     where
-      on : NodeOn w.now from octets d.hears.before d.hears.after d.hears.outcome → Next links apart W x w w'
+      on : NodeOn (told w i) from octets d.hears.before d.hears.after d.hears.outcome → Next links apart W x w w'
       on (inl z) = dropped w w' n h i d.hears.before d.hears.after d.hears.outcome d.hears.at d.hears.acts from octets z
       on (inr z) = absurd (d.noise z.peer z.apdu z.means)
 
   -- Time.
 
-  gone_later : (from now by : ℕ) (o : Option ClientTransaction) → IsGone from now o → IsGone from (now + by) o
-  gone_later from now by None h = record { over = refl; free = refl }
-  gone_later from now by (Some t) h = record { over = h.over; free = go (nat_le from (t.ask.first + REST)) h.free }
+  gone_later : (gone : Bool) (now after : ℕ) → now ≤ after → (o : Option ClientTransaction) → IsGone gone now o → IsGone gone after o
+  gone_later gone now after le None h = record { over = refl; free = h.free }
+  gone_later gone now after le (Some t) h = record { over = h.over; free = go gone h.free }
     where
-      go : (b : Bool) → (b && client.is_held now t) ≡ false → (b && client.is_held (now + by) t) ≡ false
-      go true unheld = ended_is_silent.later now (now + by) t (omega arith) unheld
-      go false unheld = refl
+      go : (b : Bool) → (not b && client.is_held now t) ≡ false → (not b && client.is_held after t) ≡ false
+      go false unheld = ended_is_silent.later now after t le unheld
+      go true unheld = refl
 
-  ticket_later : (from now by : ℕ) (notes : List Note) (i number : ℕ) (o : Option Client) (t : Option ClientTransaction) → TicketFits from now notes i number o t
-      → TicketFits from (now + by) notes i number o t
-  ticket_later from now by notes i number None t h = gone_later from now by t h
-  ticket_later from now by notes i number (Some s) None h = absurd h
-  ticket_later from now by notes i number (Some s) (Some t) h = h
+  ticket_later : (gone : Bool) (now after : ℕ) → now ≤ after → (notes : List Note) (i number : ℕ) (o : Option Client) (t : Option ClientTransaction)
+      → TicketFits gone now notes i number o t → TicketFits gone after notes i number o t
+  ticket_later gone now after le notes i number None t h = gone_later gone now after le t h
+  ticket_later gone now after le notes i number (Some s) None h = absurd h
+  ticket_later gone now after le notes i number (Some s) (Some t) h = h
 
-  entry_later : (now by : ℕ) (a b : Option ServerTransaction) → EntryFits now a b → EntryFits (now + by) a b
-  entry_later now by a b h =
-      let le : now ≤ now + by = omega arith in
-      sym (dead_is_none.later now (now + by) a le) ∙ ap (live_entry (now + by)) h ∙ dead_is_none.later now (now + by) b le
+  entry_later : (now after : ℕ) → now ≤ after → (a b : Option ServerTransaction) → EntryFits now a b → EntryFits after a b
+  entry_later now after le a b h = sym (dead_is_none.later now after a le) ∙ ap (live_entry after) h ∙ dead_is_none.later now after b le
 
-  pub advanced_over : (w : World) (n : Net) → Over links apart W x w n → (by : ℕ)
-      → Over links apart W x (record w { now = w.now + by }) (record n { now = n.now + by })
-  advanced_over w n h by = record {
+  pub advanced_over : (w : World) (n : Net) → Over links apart W x w n → (by : ℕ) (own : ℕ → ℕ)
+      → Over links apart W x (record w { time = passes w.time by own }) (machine.passes n by own own)
+  advanced_over w n h by own = record {
     now = ap (λ (t : ℕ). t + by) h.now;
+    pace = h.pace;
+    here = λ i. λ k. goes_on (h.pace k) by (own i) (h.here i k);
+    there = λ i. λ k. goes_on (h.pace k) by (own i) (h.there i k);
     asks = h.asks;
     linked = h.linked;
     nodes = λ i a at. let f = h.nodes i a at in record {
@@ -150,31 +156,33 @@ module _ (links : ℕ → Option Octets) (apart : (i j : ℕ) (l : Octets) → l
       clients = record {
         distinct = f.clients.distinct;
         known = f.clients.known;
-        found = λ s l id at'. ticket_later (n.asks_from i) n.now by w.notes i (n.numbers (key_of i s id)) (value_at same_key (slot_key l id) a.clients.slots)
-            (n.tickets (key_of i s id)) (f.clients.found s l id at');
+        found = λ s l id at'. ticket_later (is_lost n (key_of i s id)) (here_at n i) (goes_on n.pace by (own i) (n.client_clocks i)).shows
+            (client_later W x bound n h.sound (key_of i s id) by (own i)) w.notes i (n.numbers (key_of i s id))
+            (value_at same_key (slot_key l id) a.clients.slots) (n.tickets (key_of i s id)) (f.clients.found s l id at');
       };
       servers = record {
         distinct = f.servers.distinct;
         known = f.servers.known;
-        found = λ c l id at'. entry_later n.now by (value_at same_key (slot_key l id) a.servers.slots) (n.entries (key_of c i id))
+        found = λ c l id at'. entry_later (there_at n i) (goes_on n.pace by (own i) (n.server_clocks i)).shows
+            (server_later W x bound n h.sound (key_of c i id) by (own i)) (value_at same_key (slot_key l id) a.servers.slots) (n.entries (key_of c i id))
             (f.servers.found c l id at');
       };
     };
     noted = h.noted;
     posts = h.posts;
     log = h.log;
-    sound = passed W x bound n by h.sound;
+    sound = passed W x bound n by own own h.sound;
   }
 
-  advanced : (w : World) (n : Net) → Over links apart W x w n → (by : ℕ) → Next links apart W x w (record w { now = w.now + by })
-  advanced w n h by = (record n { now = n.now + by }, record { bridge = advanced_over w n h by; once = λ opening once. once })
+  advanced : (w : World) (n : Net) → Over links apart W x w n → (by : ℕ) (own : ℕ → ℕ) → Next links apart W x w (record w { time = passes w.time by own })
+  advanced w n h by own = (machine.passes n by own own, record { bridge = advanced_over w n h by own; once = λ opening once. once })
 
   -- A change at a node.
 
   -- what the net knows of a node is not its store
-  other_store : (now : ℕ) (notes : List Note) (n : Net) (i : ℕ) (o : Octets) (j : ℕ) (a : Node) (store : Store)
-      → NodeFits links apart x now notes n j a → NodeFits links apart x now notes (notes_change n i o) j (record a { store = store })
-  other_store now notes n i o j a store f = record {
+  other_store : (here there : ℕ) (notes : List Note) (n : Net) (i : ℕ) (o : Octets) (j : ℕ) (a : Node) (store : Store)
+      → NodeFits links apart x here there notes n j a → NodeFits links apart x here there notes (notes_change n i o) j (record a { store = store })
+  other_store here there notes n i o j a store f = record {
     settings = f.settings;
     link = f.link;
     asks = f.asks;
@@ -186,14 +194,17 @@ module _ (links : ℕ → Option Octets) (apart : (i j : ℕ) (l : Octets) → l
   module _ (w w' : World) (n : Net) (h : Over links apart W x w n) (i : ℕ) (c : at_node.Change) (s : IsChanged w i c w') where
     pub changed_over : Over links apart W x w' (notes_change n i [])
     changed_over = record {
-      now = h.now ∙ sym s.now;
+      now = h.now ∙ sym (ap (λ (t : Time). t.now) s.time);
+      pace = h.pace ∙ sym (ap (λ (t : Time). t.pace) s.time);
+      here = λ j. h.here j ∙ sym (ap (λ (t : Time). t.clocks j) s.time);
+      there = λ j. h.there j ∙ sym (ap (λ (t : Time). t.clocks j) s.time);
       asks = h.asks ∙ sym (ap (λ (l : List Note). length l) s.notes);
       linked = linked_with links w.nodes w'.nodes i s.before (with_change c s.before) s.nodes s.at refl h.linked;
-      nodes = λ j a at. subst (λ (l : List Note). NodeFits links apart x n.now l (notes_change n i []) j a) (sym s.notes)
-          (each_with (λ k b. NodeFits links apart x n.now w.notes (notes_change n i []) k b) w.nodes w'.nodes i
+      nodes = λ j a at. subst (λ (l : List Note). NodeFits links apart x (here_at n j) (there_at n j) l (notes_change n i []) j a) (sym s.notes)
+          (each_with (λ k b. NodeFits links apart x (here_at n k) (there_at n k) w.notes (notes_change n i []) k b) w.nodes w'.nodes i
           (with_change c s.before) s.nodes
-          (other_store n.now w.notes n i [] i s.before (changed c s.before.store) (h.nodes i s.before s.at))
-          (λ k b there. other_store n.now w.notes n i [] k b b.store (h.nodes k b there)) j a at);
+          (other_store (here_at n i) (there_at n i) w.notes n i [] i s.before (changed c s.before.store) (h.nodes i s.before s.at))
+          (λ k b there. other_store (here_at n k) (there_at n k) w.notes n i [] k b b.store (h.nodes k b there)) j a at);
       noted = λ key t is. ap (newest key) s.notes ∙ h.noted key t is;
       posts = subst (λ (l : List Copy). Pairwise (IsCopyOf links apart) n.posts l) (sym s.copies) h.posts;
       log = subst (λ (l : List Fact). Pairwise FactMeans (notes_change n i []).log l) (sym s.log) (refl, h.log);
@@ -235,14 +246,14 @@ module _ (links : ℕ → Option Octets) (apart : (i j : ℕ) (l : Octets) → l
   step_over : (w w' : World) (n : Net) → Over links apart W x w n → (e : Event) → WorldStep x.overtake w e w' → Next links apart W x w w'
   step_over w w' n h (Ask client server limits r) (inl s) = asks_over links apart W x bound w w' n h client server limits r s
   step_over w w' n h (Ask client server limits r) (inr s) = same_over w w' n h s.same
-  step_over w w' n h (Deliver number) s = delivered w w' n h number s.copy s.there (nat_le (w.now - s.copy.moment) LIFE)
+  step_over w w' n h (Deliver number) s = delivered w w' n h number s.copy s.there (nat_le (w.time.now - s.copy.moment) w.time.pace.life)
       (nat_le (later s.copy.key number w.copies) x.overtake) refl refl s.goes
   step_over w w' n h (Noise node from octets) (inl s) = noise w w' n h node from octets s
   step_over w w' n h (Noise node from octets) (inr s) = same_over w w' n h s.same
   step_over w w' n h (Tick node) s = tick_over links apart W x bound w w' n h node s
-  step_over w w' n h (Advance by) s = subst (λ (u : World). Next links apart W x w u) (sym s) (advanced w n h by)
+  step_over w w' n h (Advance by own) s = subst (λ (u : World). Next links apart W x w u) (sym s) (advanced w n h by own)
   step_over w w' n h (Change node change) s = changed_next w w' n h node change s
-  step_over w w' n h (Restart node store) s = restarted_next links apart W x bound w w' n h node store s
+  step_over w w' n h (Restart node exact store) s = restarted_next links apart W x bound w w' n h node exact store s
 
   pub run_over : (opening : Stores) (events : List Event) (w w' : World) (n : Net) → Over links apart W x w n → IsOnce opening w.log (stores_of w.nodes)
       → WorldRun x.overtake w events w' → (m : Net) × Over links apart W x w' m × IsOnce opening w'.log (stores_of w'.nodes)
@@ -268,10 +279,13 @@ rules_bounded W overtake w b = record { some = b.some; windows = λ i. go (slice
     go None h = omega arith
     go (Some a) h = h a refl
 
-pub fresh_over : (W overtake : ℕ) (w : World) → (h : IsFresh w) → (b : IsBounded W overtake w)
-    → Over (link_at w.nodes) h.apart W (rules_of overtake w) w net_start
-fresh_over W overtake w h b = record {
+pub fresh_over : (W overtake : ℕ) (w : World) → (h : IsFresh w) → IsTimely w.time.pace → (b : IsBounded W overtake w)
+    → Over (link_at w.nodes) h.apart W (rules_of overtake w) w (net_start w.time.pace (λ i. (w.time.clocks i).exact))
+fresh_over W overtake w h timely b = record {
   now = sym h.now;
+  pace = refl;
+  here = λ i. sym (h.clocks i);
+  there = λ i. sym (h.clocks i);
   asks = sym (ap (λ (l : List Note). length l) h.notes);
   linked = λ i. refl;
   nodes = λ i a at. let f = h.nodes i a at in record {
@@ -282,25 +296,25 @@ fresh_over W overtake w h b = record {
     clients = record {
       distinct = subst (IsDistinct same_key) (sym f.slots) tt;
       known = subst (EachSlot Client (λ p s. IsKnown (link_at w.nodes) h.apart p × (s.number < a.clients.asked))) (sym f.slots) tt;
-      found = λ s l id at'. subst (λ slots. TicketFits 0 0 w.notes i 0 (value_at same_key (slot_key l id) slots) None) (sym f.slots)
+      found = λ s l id at'. subst (λ slots. TicketFits false (clock_at w.time.pace (w.time.clocks i).exact).shows w.notes i 0 (value_at same_key (slot_key l id) slots) None) (sym f.slots)
           (record { over = refl; free = refl });
     };
     servers = record {
       distinct = subst (IsDistinct same_key) (sym f.entries) tt;
       known = subst (EachSlot ServerTransaction (λ p d. IsKnown (link_at w.nodes) h.apart p)) (sym f.entries) tt;
-      found = λ c l id at'. subst (λ slots. EntryFits 0 (value_at same_key (slot_key l id) slots) None) (sym f.entries) refl;
+      found = λ c l id at'. subst (λ slots. EntryFits (clock_at w.time.pace (w.time.clocks i).exact).shows (value_at same_key (slot_key l id) slots) None) (sym f.entries) refl;
     };
   };
   noted = λ key t at. absurd cc;
   posts = subst (λ (l : List Copy). Pairwise (IsCopyOf (link_at w.nodes) h.apart) [] l) (sym h.copies) tt;
   log = subst (λ (l : List Fact). Pairwise FactMeans [] l) (sym h.log) tt;
-  sound = starts W (rules_of overtake w) (rules_bounded W overtake w b);
+  sound = starts W (rules_of overtake w) (rules_bounded W overtake w b) w.time.pace timely (λ i. (w.time.clocks i).exact);
 }
 
-pub headline : (W overtake : ℕ) (w w' : World) → IsFresh w → IsBounded W overtake w → (events : List Event) → WorldRun overtake w events w'
+pub headline : (W overtake : ℕ) (w w' : World) → IsFresh w → IsTimely w.time.pace → IsBounded W overtake w → (events : List Event) → WorldRun overtake w events w'
     → IsOnce (stores_of w.nodes) w'.log (stores_of w'.nodes)
-headline W overtake w w' h b events run =
-    (run_over (link_at w.nodes) h.apart W (rules_of overtake w) (rules_bounded W overtake w b) refl (stores_of w.nodes) events w w' net_start
-    (fresh_over W overtake w h b)
+headline W overtake w w' h timely b events run =
+    (run_over (link_at w.nodes) h.apart W (rules_of overtake w) (rules_bounded W overtake w b) refl (stores_of w.nodes) events w w' (net_start w.time.pace (λ i. (w.time.clocks i).exact))
+    (fresh_over W overtake w h timely b)
     (subst (λ (l : List Fact). IsOnce (stores_of w.nodes) l (stores_of w.nodes)) (sym h.log) (λ node. refl))
     run).2

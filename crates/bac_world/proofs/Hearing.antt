@@ -22,6 +22,11 @@ use Rattle.bac_transaction.specs.Ends.TransactionSlot.{Open, Closed}
 use Rattle.bac_world.specs.Node.{Node}
 use Rattle.bac_world.specs.Once.{Fact, Stores, IsOnce, MayEnd}
 use Rattle.bac_world.specs.World.{World, Note, Copy, link_at, AreEnded, ask_of, newest, peer_at, IsCopied}
+use Rattle.bac_protocol.specs.World.{client_now, server_now, is_lost, is_key_held}
+use Rattle.bac_world.specs.World.{told}
+use Rattle.bac_world.proofs.Bridge.{here_at, there_at}
+use Rattle.bac_protocol.specs.Pace.{Clock}
+use Rattle.bac_world.proofs.Steps.{IsAlike}
 use Rattle.bac_world.proofs.Leads.{Leads}
 use Rattle.bac_world.proofs.Leads.Leads.{Here}
 use Rattle.bac_world.proofs.Machines.{Sound, orderly, asked_of}
@@ -44,15 +49,15 @@ open_is s u e = go (is_idle u.phase) refl e
     go false is e = record { same = (let same : s ≡ u = cc in same); goes_on = is }
 
 -- the ticket of an open slot
-pub ticket_at : (from now : ℕ) (notes : List Note) (i number k : ℕ) (t : ClientTransaction) (o : Option ClientTransaction)
-    → TicketFits from now notes i number (Some (record { number = k; held = Open t })) o → (o ≡ Some t) × (ask_of i k notes ≡ Some number)
-ticket_at from now notes i number k t None h = absurd h
-ticket_at from now notes i number k t (Some u) h = let is = open_is t u h.held in (ap Some (sym is.same), h.noted is.goes_on)
+pub ticket_at : (gone : Bool) (now : ℕ) (notes : List Note) (i number k : ℕ) (t : ClientTransaction) (o : Option ClientTransaction)
+    → TicketFits gone now notes i number (Some (record { number = k; held = Open t })) o → (o ≡ Some t) × (ask_of i k notes ≡ Some number)
+ticket_at gone now notes i number k t None h = absurd h
+ticket_at gone now notes i number k t (Some u) h = let is = open_is t u h.held in (ap Some (sym is.same), h.noted is.goes_on)
 
 -- a slot that has closed is of a ticket that has ended
-pub closed_idle : (from now : ℕ) (notes : List Note) (i number k first : ℕ) (u : ClientTransaction)
-    → TicketFits from now notes i number (Some (record { number = k; held = Closed first })) (Some u) → is_idle u.phase ≡ true
-closed_idle from now notes i number k first u h = go (is_idle u.phase) refl h.held
+pub closed_idle : (gone : Bool) (now : ℕ) (notes : List Note) (i number k first : ℕ) (u : ClientTransaction)
+    → TicketFits gone now notes i number (Some (record { number = k; held = Closed first })) (Some u) → is_idle u.phase ≡ true
+closed_idle gone now notes i number k first u h = go (is_idle u.phase) refl h.held
   where
     go : (b : Bool) → is_idle u.phase ≡ b → Closed first ≡ open_unless b u → b ≡ true
     go true is e = refl
@@ -62,25 +67,25 @@ closed_idle from now notes i number k first u h = go (is_idle u.phase) refl h.he
 
 module _ (links : ℕ → Option Octets) (apart : (i j : ℕ) (l : Octets) → links i ≡ Some l → links j ≡ Some l → i ≡ j) (W : ℕ) (x : Rules) where
   pub record Reached (w : World) (i : ℕ) (n : Net) (look : PeerKey → Option Client) (all : List Copy) (facts : List Fact) (m : Net) : Type 0 where
-    pub now : m.now ≡ n.now
+    pub alike : IsAlike m n
     pub asks : m.asks ≡ n.asks
     pub entries : m.entries ≡ n.entries
     pub asks_from : m.asks_from ≡ n.asks_from
     pub serves_from : m.serves_from ≡ n.serves_from
     pub noted : (key : Key) (t : ClientTransaction) → m.tickets key ≡ Some t → newest key w.notes ≡ Some (m.numbers key)
     pub found : (s : ℕ) (l : Octets) (id : ℕ) → links s ≡ Some l
-        → TicketFits (m.asks_from i) n.now w.notes i (m.numbers (key_of i s id)) (look (slot_key l id)) (m.tickets (key_of i s id))
-    pub others : (j : ℕ) (a : Node) → (j ≡ i → ⊥) → NodeFits links apart x n.now w.notes n j a → NodeFits links apart x n.now w.notes m j a
+        → TicketFits (is_lost m (key_of i s id)) (here_at n i) w.notes i (m.numbers (key_of i s id)) (look (slot_key l id)) (m.tickets (key_of i s id))
+    pub others : (j : ℕ) (a : Node) → (j ≡ i → ⊥) → NodeFits links apart x (here_at n j) (there_at n j) w.notes n j a → NodeFits links apart x (here_at n j) (there_at n j) w.notes m j a
     pub posts : Pairwise (IsCopyOf links apart) m.posts all
     pub log : Pairwise FactMeans m.log facts
     pub once : (opening stores : Stores) → IsOnce opening w.log stores → IsOnce opening facts stores
     pub sound : Sound x m
     pub leads : Leads x n m
 
-  pub reached_none : (w : World) (n : Net) → Over links apart W x w n → (i : ℕ) (a : Node) → NodeFits links apart x n.now w.notes n i a
+  pub reached_none : (w : World) (n : Net) → Over links apart W x w n → (i : ℕ) (a : Node) → NodeFits links apart x (here_at n i) (there_at n i) w.notes n i a
       → Reached w i n (λ p. value_at same_key p a.clients.slots) w.copies w.log n
   reached_none w n h i a fits = record {
-    now = refl;
+    alike = record { now = refl; pace = refl; here = refl; there = refl };
     asks = refl;
     entries = refl;
     asks_from = refl;
@@ -99,13 +104,13 @@ module _ (links : ℕ → Option Octets) (apart : (i j : ℕ) (l : Octets) → l
   pub reached_alike : (w : World) (i : ℕ) (n : Net) (look look' : PeerKey → Option Client) (copies : List Copy) (log : List Fact) (m : Net)
       → ((q : PeerKey) → look q ≡ look' q) → Reached w i n look copies log m → Reached w i n look' copies log m
   reached_alike w i n look look' copies log m same h = record {
-    now = h.now;
+    alike = h.alike;
     asks = h.asks;
     entries = h.entries;
     asks_from = h.asks_from;
     serves_from = h.serves_from;
     noted = h.noted;
-    found = λ s l id at. subst (λ (o : Option Client). TicketFits (m.asks_from i) n.now w.notes i (m.numbers (key_of i s id)) o (m.tickets (key_of i s id)))
+    found = λ s l id at. subst (λ (o : Option Client). TicketFits (is_lost m (key_of i s id)) (here_at n i) w.notes i (m.numbers (key_of i s id)) o (m.tickets (key_of i s id)))
         (same (slot_key l id)) (h.found s l id at);
     others = h.others;
     posts = h.posts;
@@ -123,17 +128,17 @@ module _ (links : ℕ → Option Octets) (apart : (i j : ℕ) (l : Octets) → l
       (there : look (slot_key l key.invoke_id) ≡ Some (record { number = number; held = Open t })) (r : client.Reaction)
       (goes : m.tickets key ≡ Some t → Sound x (client_acts m key t r) × Leads x n (client_acts m key t r))
       (own : Each (IsOfClient key.invoke_id) (client.sends_of r))
-      (here : look' (slot_key l key.invoke_id) ≡ Some (client_after n.now number t r))
+      (here : look' (slot_key l key.invoke_id) ≡ Some (client_after (here_at n key.client) number t r))
       (away : (q : PeerKey) → (slot_key l key.invoke_id ≡ q → ⊥) → look' q ≡ look q) where
     abbrev q : PeerKey
     q = slot_key l key.invoke_id
 
     abbrev made : Option ClientTransaction
-    made = Some (client.after m.now t r)
+    made = Some (client.after (client_now m key) t r)
 
     is : (m.tickets key ≡ Some t) × (ask_of key.client number w.notes ≡ Some (m.numbers key))
-    is = ticket_at (m.asks_from key.client) n.now w.notes key.client (m.numbers key) number t (m.tickets key)
-        (subst (λ (o : Option Client). TicketFits (m.asks_from key.client) n.now w.notes key.client (m.numbers key) o (m.tickets key)) there
+    is = ticket_at (is_lost m key) (here_at n key.client) w.notes key.client (m.numbers key) number t (m.tickets key)
+        (subst (λ (o : Option Client). TicketFits (is_lost m key) (here_at n key.client) w.notes key.client (m.numbers key) o (m.tickets key)) there
         (h.found key.server l key.invoke_id to_at))
 
     sound : Sound x (client_acts m key t r)
@@ -143,32 +148,32 @@ module _ (links : ℕ → Option Octets) (apart : (i j : ℕ) (l : Octets) → l
     noted k u at (inl e) = subst (λ (y : Key). newest y w.notes ≡ Some (m.numbers y)) e (h.noted key t is.0)
     noted k u at (inr ne) = h.noted k u (sym (set_other m.tickets key made k ne) ∙ at)
 
-    fit : TicketFits (m.asks_from key.client) n.now w.notes key.client (m.numbers key) (look' q) (set_at m.tickets key made key)
-    fit = subst (λ (o : Option Client). TicketFits (m.asks_from key.client) n.now w.notes key.client (m.numbers key) o (set_at m.tickets key made key)) (sym here)
-        (subst (λ (o : Option ClientTransaction). TicketFits (m.asks_from key.client) n.now w.notes key.client (m.numbers key) (Some (client_after n.now number t r)) o)
+    fit : TicketFits (is_lost m key) (here_at n key.client) w.notes key.client (m.numbers key) (look' q) (set_at m.tickets key made key)
+    fit = subst (λ (o : Option Client). TicketFits (is_lost m key) (here_at n key.client) w.notes key.client (m.numbers key) o (set_at m.tickets key made key)) (sym here)
+        (subst (λ (o : Option ClientTransaction). TicketFits (is_lost m key) (here_at n key.client) w.notes key.client (m.numbers key) (Some (client_after (here_at n key.client) number t r)) o)
         (sym (set_same m.tickets key made))
-        (record { held = ap (λ (tm : ℕ). kept (client.after tm t r)) (sym h.now); noted = λ f. is.1 }))
+        (record { held = ap (λ (tm : ℕ). kept (client.after tm t r)) (sym (ap (λ (f : ℕ → Clock). (f key.client).shows) h.alike.here)); noted = λ f. is.1 }))
 
     found : (s : ℕ) (l' : Octets) (id : ℕ) → links s ≡ Some l' → ((key ≡ key_of key.client s id) ⊎ (key ≡ key_of key.client s id → ⊥))
-        → TicketFits (m.asks_from key.client) n.now w.notes key.client (m.numbers (key_of key.client s id)) (look' (slot_key l' id)) (set_at m.tickets key made (key_of key.client s id))
+        → TicketFits (is_lost m (key_of key.client s id)) (here_at n key.client) w.notes key.client (m.numbers (key_of key.client s id)) (look' (slot_key l' id)) (set_at m.tickets key made (key_of key.client s id))
     found s l' id at (inl e) =
         let link : l ≡ l' = let f : Some l ≡ Some l' = sym to_at ∙ ap (λ (k : Key). links k.server) e ∙ at in cc in
-        let moved : TicketFits (m.asks_from key.client) n.now w.notes key.client (m.numbers (key_of key.client s id)) (look' q) (set_at m.tickets key made (key_of key.client s id)) =
-        subst (λ (k : Key). TicketFits (m.asks_from key.client) n.now w.notes key.client (m.numbers k) (look' q) (set_at m.tickets key made k)) e fit in
-        subst (λ (p : PeerKey). TicketFits (m.asks_from key.client) n.now w.notes key.client (m.numbers (key_of key.client s id)) (look' p)
+        let moved : TicketFits (is_lost m (key_of key.client s id)) (here_at n key.client) w.notes key.client (m.numbers (key_of key.client s id)) (look' q) (set_at m.tickets key made (key_of key.client s id)) =
+        subst (λ (k : Key). TicketFits (is_lost m k) (here_at n key.client) w.notes key.client (m.numbers k) (look' q) (set_at m.tickets key made k)) e fit in
+        subst (λ (p : PeerKey). TicketFits (is_lost m (key_of key.client s id)) (here_at n key.client) w.notes key.client (m.numbers (key_of key.client s id)) (look' p)
         (set_at m.tickets key made (key_of key.client s id))) (λ j. slot_key (link j) (e j).invoke_id) moved
     found s l' id at (inr ne) =
         let other : q ≡ slot_key l' id → ⊥ = λ e.
         let link : l ≡ l' = ap (λ (p : PeerKey). p.peer.link) e in
         let node : key.server ≡ s = apart key.server s l' (to_at ∙ ap Some link) at in
         ne (λ j. key_of key.client (node j) (e j).invoke_id) in
-        subst (λ (o : Option Client). TicketFits (m.asks_from key.client) n.now w.notes key.client (m.numbers (key_of key.client s id)) o
+        subst (λ (o : Option Client). TicketFits (is_lost m (key_of key.client s id)) (here_at n key.client) w.notes key.client (m.numbers (key_of key.client s id)) o
         (set_at m.tickets key made (key_of key.client s id))) (sym (away (slot_key l' id) other))
-        (subst (λ (o : Option ClientTransaction). TicketFits (m.asks_from key.client) n.now w.notes key.client (m.numbers (key_of key.client s id)) (look (slot_key l' id)) o)
+        (subst (λ (o : Option ClientTransaction). TicketFits (is_lost m (key_of key.client s id)) (here_at n key.client) w.notes key.client (m.numbers (key_of key.client s id)) (look (slot_key l' id)) o)
         (sym (set_other m.tickets key made (key_of key.client s id) ne)) (h.found s l' id at))
 
-    others : (j : ℕ) (a : Node) → (j ≡ key.client → ⊥) → NodeFits links apart x n.now w.notes m j a
-        → NodeFits links apart x n.now w.notes (client_acts m key t r) j a
+    others : (j : ℕ) (a : Node) → (j ≡ key.client → ⊥) → NodeFits links apart x (here_at n j) (there_at n j) w.notes m j a
+        → NodeFits links apart x (here_at n j) (there_at n j) w.notes (client_acts m key t r) j a
     others j a ne f = record {
       settings = f.settings;
       link = f.link;
@@ -178,7 +183,7 @@ module _ (links : ℕ → Option Octets) (apart : (i j : ℕ) (l : Octets) → l
         distinct = f.clients.distinct;
         known = f.clients.known;
         found = λ s l' id at.
-            subst (λ (o : Option ClientTransaction). TicketFits (m.asks_from j) n.now w.notes j (m.numbers (key_of j s id)) (value_at same_key (slot_key l' id) a.clients.slots) o)
+            subst (λ (o : Option ClientTransaction). TicketFits (is_lost m (key_of j s id)) (here_at n j) w.notes j (m.numbers (key_of j s id)) (value_at same_key (slot_key l' id) a.clients.slots) o)
             (sym (set_other m.tickets key made (key_of j s id) (λ e. ne (sym (ap (λ (k : Key). k.client) e))))) (f.clients.found s l' id at);
       };
       servers = record { distinct = f.servers.distinct; known = f.servers.known; found = f.servers.found };
@@ -221,7 +226,7 @@ module _ (links : ℕ → Option Octets) (apart : (i j : ℕ) (l : Octets) → l
     reacts ds cs sent copied fs log' finished logged =
         let end = ends (client.ending_of r) fs log' finished logged (orderly W x bound (client_acts m key t r) sound) in
         record {
-          now = h.now;
+          alike = record { now = h.alike.now; pace = h.alike.pace; here = h.alike.here; there = h.alike.there };
           asks = h.asks;
           entries = h.entries;
           asks_from = h.asks_from;
@@ -232,7 +237,7 @@ module _ (links : ℕ → Option Octets) (apart : (i j : ℕ) (l : Octets) → l
           posts = pairwise_join (IsCopyOf links apart) m.posts (map (post_of key m.now) (client.sends_of r)) copies cs h.posts
               (copies_of links apart w.nodes linked m.now true key key.client key.server li l
               (record { between = (refl, refl); from = from_at; to = to_at }) (client.sends_of r) ds cs own sent
-              (subst (λ (tm : ℕ). Pairwise (IsCopied w.nodes tm key.client) ds cs) (sym h.now) copied));
+              (subst (λ (tm : ℕ). Pairwise (IsCopied w.nodes tm key.client) ds cs) (sym h.alike.now) copied));
           log = end.means;
           once = end.once;
           sound = sound;

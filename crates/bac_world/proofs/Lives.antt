@@ -17,6 +17,7 @@ use Rattle.bac_world.specs.Once.{HasNoRestart}
 use Rattle.bac_world.specs.World.{World, Event, Copy, IsWithNode, Hears, DeliversIf, is_deliverable, peer_at}
 use Rattle.bac_world.specs.World.{WorldStep, WorldRun, RunsOn, MakeNoRestart, MakeRequestsAlone, NeverRestarted, IsFresh}
 use Rattle.bac_world.specs.World.Event.{Ask, Deliver, Noise, Tick, Advance, Change, Restart}
+use Rattle.bac_world.specs.World.{told}
 use Rattle.bac_world.proofs.Steps.{decide_number}
 use Rattle.bac_world.proofs.Asking.{accepted_is}
 use Rattle.bac_world.proofs.Quiet.{after_step}
@@ -99,7 +100,7 @@ with_lived old new j a d there s stays i b at = go (decide_number i j)
 
 hears_lived : (w w' : World) (j : ℕ) (from octets : Octets) → Hears w j from octets w' → (i : ℕ) → LiveOn w.nodes w'.nodes i
 hears_lived w w' j from octets h =
-    with_lived w.nodes w'.nodes j h.before h.after h.at h.acts.nodes (on_stays w.now from octets h.before h.after h.outcome h.on)
+    with_lived w.nodes w'.nodes j h.before h.after h.at h.acts.nodes (on_stays (told w j) from octets h.before h.after h.outcome h.on)
 
 delivers_lived : (b : Bool) (w : World) (c : Copy) (w' : World) → DeliversIf b w c w' → (i : ℕ) → LiveOn w.nodes w'.nodes i
 delivers_lived true w c w' d = hears_lived w w' c.to d.link c.octets d.hears
@@ -107,17 +108,17 @@ delivers_lived false w c w' same = λ i. subst (λ (u : World). LiveOn w.nodes u
 
 step_lived : (overtake : ℕ) (w w' : World) (e : Event) → WorldStep overtake w e w' → (i : ℕ) → RunsOn i (e ∷ []) → LiveOn w.nodes w'.nodes i
 step_lived overtake w w' (Ask client server limits r) (inl s) i on = with_lived w.nodes w'.nodes client s.before s.after s.at s.nodes
-    (asks_stay w.now s.link limits r s.before s.after s.accepted s.sends s.asks) i
+    (asks_stay (told w client) s.link limits r s.before s.after s.accepted s.sends s.asks) i
 step_lived overtake w w' (Ask client server limits r) (inr s) i on = subst (λ (u : World). LiveOn w.nodes u.nodes i) (sym s.same) (same_lived w.nodes i)
-step_lived overtake w w' (Deliver number) s i on = delivers_lived (is_deliverable overtake w.now number w.copies s.copy) w s.copy w' s.goes i
+step_lived overtake w w' (Deliver number) s i on = delivers_lived (is_deliverable overtake w.time.pace.life w.time.now number w.copies s.copy) w s.copy w' s.goes i
 step_lived overtake w w' (Noise node from octets) (inl s) i on = hears_lived w w' node from octets s.hears i
 step_lived overtake w w' (Noise node from octets) (inr s) i on = subst (λ (u : World). LiveOn w.nodes u.nodes i) (sym s.same) (same_lived w.nodes i)
 step_lived overtake w w' (Tick node) s i on =
-    with_lived w.nodes w'.nodes node s.before s.after s.at s.acts.nodes (tick_stays w.now s.before s.after s.outcome s.tick) i
-step_lived overtake w w' (Advance by) s i on = subst (λ (u : World). LiveOn w.nodes u.nodes i) (sym s) (same_lived w.nodes i)
+    with_lived w.nodes w'.nodes node s.before s.after s.at s.acts.nodes (tick_stays (told w node) s.before s.after s.outcome s.tick) i
+step_lived overtake w w' (Advance by own) s i on = subst (λ (u : World). LiveOn w.nodes u.nodes i) (sym s) (same_lived w.nodes i)
 step_lived overtake w w' (Change node c) s i on =
     with_lived w.nodes w'.nodes node s.before _ s.at s.nodes (record { asks = refl; serves = refl }) i
-step_lived overtake w w' (Restart node store) s i on = other_lived w.nodes w'.nodes node _ s.nodes i (λ is. on.0 (sym is))
+step_lived overtake w w' (Restart node exact store) s i on = other_lived w.nodes w'.nodes node _ s.nodes i (λ is. on.0 (sym is))
 
 -- Runs.
 
@@ -126,9 +127,9 @@ first_on i (Ask client server limits r) es h = (tt, h)
 first_on i (Deliver number) es h = (tt, h)
 first_on i (Noise node from octets) es h = (tt, h)
 first_on i (Tick node) es h = (tt, h)
-first_on i (Advance by) es h = (tt, h)
+first_on i (Advance by own) es h = (tt, h)
 first_on i (Change node c) es h = (tt, h)
-first_on i (Restart node store) es h = ((h.0, tt), h.1)
+first_on i (Restart node exact store) es h = ((h.0, tt), h.1)
 
 -- where a node does not restart in a run
 pub run_lived : (overtake : ℕ) (events : List Event) (w w' : World) → WorldRun overtake w events w' → (i : ℕ) → RunsOn i events
@@ -147,9 +148,9 @@ each_on i (Ask client server limits r ∷ es) h = each_on i es h
 each_on i (Deliver number ∷ es) h = each_on i es h
 each_on i (Noise node from octets ∷ es) h = each_on i es h
 each_on i (Tick node ∷ es) h = each_on i es h
-each_on i (Advance by ∷ es) h = each_on i es h
+each_on i (Advance by own ∷ es) h = each_on i es h
 each_on i (Change node c ∷ es) h = each_on i es h
-each_on i (Restart node store ∷ es) h = absurd h
+each_on i (Restart node exact store ∷ es) h = absurd h
 
 -- The log of a run without restarts.
 
@@ -167,10 +168,10 @@ quiet_run overtake (Noise node from octets ∷ es) w w' run calm none = quiet_ru
     (quiet_step overtake w run.0 (Noise node from octets) tt run.1 none)
 quiet_run overtake (Tick node ∷ es) w w' run calm none = quiet_run overtake es run.0 w' run.2 calm
     (quiet_step overtake w run.0 (Tick node) tt run.1 none)
-quiet_run overtake (Advance by ∷ es) w w' run calm none = quiet_run overtake es run.0 w' run.2 calm
-    (quiet_step overtake w run.0 (Advance by) tt run.1 none)
+quiet_run overtake (Advance by own ∷ es) w w' run calm none = quiet_run overtake es run.0 w' run.2 calm
+    (quiet_step overtake w run.0 (Advance by own) tt run.1 none)
 quiet_run overtake (Change node c ∷ es) w w' run calm none = quiet_run overtake es run.0 w' run.2 calm (subst HasNoRestart (sym run.1.log) none)
-quiet_run overtake (Restart node store ∷ es) w w' run calm none = absurd calm
+quiet_run overtake (Restart node exact store ∷ es) w w' run calm none = absurd calm
 
 pub no_restart_in_run : (overtake : ℕ) (w w' : World) → IsFresh w → (events : List Event) → MakeNoRestart events → WorldRun overtake w events w'
     → HasNoRestart w'.log × NeverRestarted w'.nodes

@@ -18,7 +18,13 @@ use Rattle.bac_transaction.specs.Keys.{same_key}
 use Rattle.bac_transaction.specs.Sends.{Pairwise}
 use Rattle.bac_world.specs.Node.{Node, restarted, store_after_restart}
 use Rattle.bac_world.specs.Once.{Fact, IsOnce, with_restarted}
-use Rattle.bac_world.specs.World.{World, Copy, Note, stores_of, newest, IsRestarted}
+use Rattle.bac_world.specs.World.{World, Time, Copy, Note, stores_of, newest, IsRestarted}
+use Rattle.bac_protocol.specs.World.{client_now, server_now, is_lost, is_key_held}
+use Rattle.bac_world.specs.World.{told}
+use Rattle.bac_world.proofs.Bridge.{here_at, there_at}
+use Rattle.bac_protocol.specs.Pace.{Pace, Clock, clock_at}
+use Rattle.std.proofs.Common.{nat_lt, not}
+use Rattle.bac_transaction.specs.Ends.{Client}
 use Rattle.bac_world.proofs.Machines.{restarts, asked_before}
 use Rattle.bac_world.proofs.Logs.{FactMeans}
 use Rattle.bac_world.proofs.Bridge.{NodeFits, IsCopyOf, IsGone, TicketFits, EntryFits, key_of, slot_key}
@@ -35,76 +41,87 @@ away j i ne = go (nat_eq j i) refl
     go false e = refl
 
 -- a lost ticket holds no invoke ID of its client's next life
-gone_lost : (now : ℕ) (o : Option ClientTransaction) → ((t : ClientTransaction) → o ≡ Some t → t.ask.first ≤ now) → IsGone (now + REST + 1) now (lost o)
-gone_lost now None before = record { over = refl; free = refl }
-gone_lost now (Some t) before = record {
+gone_lost : (made now shown : ℕ) (o : Option ClientTransaction) → ((t : ClientTransaction) → o ≡ Some t → made ≤ now) → IsGone (nat_lt made (now + 1)) shown (lost o)
+gone_lost made now shown None before = record { over = refl; free = go (nat_lt made (now + 1)) }
+  where
+    go : (b : Bool) → (not b && false) ≡ false
+    go true = refl
+    go false = refl
+gone_lost made now shown (Some t) before = record {
   over = refl;
-  free = ap (λ (b : Bool). b && client.is_held now (record t { phase = Idle })) late;
+  free = ap (λ (b : Bool). not b && client.is_held shown (record t { phase = Idle })) late;
 }
   where
-    late : nat_le (now + REST + 1) (t.ask.first + REST) ≡ false
-    late = let first : t.ask.first ≤ now = before t refl in grind (arith, nat_tests)
+    late : nat_lt made (now + 1) ≡ true
+    late = let first : made ≤ now = before t refl in grind (arith, nat_tests)
 
 -- what the net makes of it: both ends of that node restart
-abbrev pub restarted_net : Net → ℕ → Net
-restarted_net n i = server_restarted (client_restarted n i) i None
+abbrev pub restarted_net : Net → (i exact : ℕ) → Net
+restarted_net n i exact = server_restarted (client_restarted n i exact) i exact None
 
 module _ (links : ℕ → Option Octets) (apart : (i j : ℕ) (l : Octets) → links i ≡ Some l → links j ≡ Some l → i ≡ j) (W : ℕ) (x : Rules)
-    (bound : IsBounded W x) (w w' : World) (n : Net) (h : Over links apart W x w n) (i : ℕ) (o : Option Store) (s : IsRestarted w i o w') where
+    (bound : IsBounded W x) (w w' : World) (n : Net) (h : Over links apart W x w n) (i exact : ℕ) (o : Option Store) (s : IsRestarted w i exact o w') where
   abbrev m : Net
-  m = server_restarted (client_restarted n i) i None
+  m = server_restarted (client_restarted n i exact) i exact None
 
   abbrev made : Node
-  made = restarted w.now (store_after_restart s.before.store o) s.before
+  made = restarted (clock_at w.time.pace exact).shows (store_after_restart s.before.store o) s.before
 
-  f : NodeFits links apart x n.now w.notes n i s.before
+  f : NodeFits links apart x (here_at n i) (there_at n i) w.notes n i s.before
   f = h.nodes i s.before s.at
 
-  no_ticket : (k : Key) → IsGone (if nat_eq i i then n.now + REST + 1 else n.asks_from i) n.now (if nat_eq i i then lost (n.tickets k) else n.tickets k)
-  no_ticket k = subst (λ (b : Bool). IsGone (if b then n.now + REST + 1 else n.asks_from i) n.now (if b then lost (n.tickets k) else n.tickets k))
-      (sym (self i)) (gone_lost n.now (n.tickets k) (λ t is. asked_before W x bound n h.sound k t is))
+  -- its own ticket, and another client's
+  abbrev TicketIn : (b : Bool) → (j : ℕ) → Option Client → Key → Type 0
+  TicketIn b j v k = TicketFits (nat_lt (n.made k) (if b then n.now + 1 else n.restarted j)) (if b then clock_at n.pace exact else n.client_clocks j).shows
+      w.notes j (n.numbers k) v (if b then lost (n.tickets k) else n.tickets k)
 
-  made_fits : NodeFits links apart x n.now w.notes m i made
+  no_ticket : (k : Key) → TicketIn (nat_eq i i) i None k
+  no_ticket k = subst (λ (b : Bool). TicketIn b i None k)
+      (sym (self i)) (gone_lost (n.made k) n.now (clock_at n.pace exact).shows (n.tickets k) (λ t is. asked_before W x bound n h.sound k t is))
+
+  made_fits : NodeFits links apart x (here_at m i) (there_at m i) w.notes m i made
   made_fits = record {
     settings = f.settings;
     link = f.link;
-    asks = ap (λ (t : ℕ). t + REST + 1) (sym h.now) ∙ sym (ap (λ (b : Bool). if b then n.now + REST + 1 else n.asks_from i) (self i));
-    serves = ap (λ (t : ℕ). t + KEEP + 1) (sym h.now) ∙ sym (ap (λ (b : Bool). if b then n.now + KEEP + 1 else n.serves_from i) (self i));
+    asks = ap (λ (p : Pace). (clock_at p exact).shows + REST + 1) (sym h.pace)
+        ∙ sym (ap (λ (b : Bool). if b then (clock_at n.pace exact).shows + REST + 1 else n.asks_from i) (self i));
+    serves = ap (λ (p : Pace). (clock_at p exact).shows + KEEP + 1) (sym h.pace)
+        ∙ sym (ap (λ (b : Bool). if b then (clock_at n.pace exact).shows + KEEP + 1 else n.serves_from i) (self i));
     clients = record { distinct = tt; known = tt; found = λ p l id at. no_ticket (key_of i p id) };
     servers = record {
       distinct = tt;
       known = tt;
-      found = λ c l id at. ap (λ (b : Bool). live_entry n.now (if b then None else n.entries (key_of c i id))) (sym (self i));
+      found = λ c l id at. ap (λ (b : Bool). live_entry (there_at m i) (if b then None else n.entries (key_of c i id))) (sym (self i));
     };
   }
 
-  others : (j : ℕ) (a : Node) → (j ≡ i → ⊥) → NodeFits links apart x n.now w.notes n j a → NodeFits links apart x n.now w.notes m j a
+  others : (j : ℕ) (a : Node) → (j ≡ i → ⊥) → NodeFits links apart x (here_at n j) (there_at n j) w.notes n j a
+      → NodeFits links apart x (here_at m j) (there_at m j) w.notes m j a
   others j a ne g = record {
     settings = g.settings;
     link = g.link;
-    asks = g.asks ∙ sym (ap (λ (b : Bool). if b then n.now + REST + 1 else n.asks_from j) (away j i ne));
-    serves = g.serves ∙ sym (ap (λ (b : Bool). if b then n.now + KEEP + 1 else n.serves_from j) (away j i ne));
+    asks = g.asks ∙ sym (ap (λ (b : Bool). if b then (clock_at n.pace exact).shows + REST + 1 else n.asks_from j) (away j i ne));
+    serves = g.serves ∙ sym (ap (λ (b : Bool). if b then (clock_at n.pace exact).shows + KEEP + 1 else n.serves_from j) (away j i ne));
     clients = record {
       distinct = g.clients.distinct;
       known = g.clients.known;
-      found = λ p l id at. subst (λ (b : Bool). TicketFits (if b then n.now + REST + 1 else n.asks_from j) n.now w.notes j (n.numbers (key_of j p id))
-          (value_at same_key (slot_key l id) a.clients.slots) (if b then lost (n.tickets (key_of j p id)) else n.tickets (key_of j p id)))
+      found = λ p l id at. subst (λ (b : Bool). TicketIn b j (value_at same_key (slot_key l id) a.clients.slots) (key_of j p id))
           (sym (away j i ne)) (g.clients.found p l id at);
     };
     servers = record {
       distinct = g.servers.distinct;
       known = g.servers.known;
-      found = λ c l id at. subst (λ (b : Bool). EntryFits n.now (value_at same_key (slot_key l id) a.servers.slots)
-          (if b then None else n.entries (key_of c j id))) (sym (away j i ne)) (g.servers.found c l id at);
+      found = λ c l id at. subst (λ (b : Bool). EntryFits (if b then clock_at n.pace exact else n.server_clocks j).shows
+          (value_at same_key (slot_key l id) a.servers.slots) (if b then None else n.entries (key_of c j id))) (sym (away j i ne)) (g.servers.found c l id at);
     };
   }
 
-  fits : (j : ℕ) (c : Node) → slice_get w'.nodes j ≡ Some c → ((j ≡ i) ⊎ (j ≡ i → ⊥)) → NodeFits links apart x n.now w.notes m j c
+  fits : (j : ℕ) (c : Node) → slice_get w'.nodes j ≡ Some c → ((j ≡ i) ⊎ (j ≡ i → ⊥)) → NodeFits links apart x (here_at m j) (there_at m j) w.notes m j c
   fits j c at (inl is) =
       let there : slice_get w'.nodes i ≡ Some c = subst (λ (k : ℕ). slice_get w'.nodes k ≡ Some c) is at in
       let same : made ≡ c = let e : Some made ≡ Some c = sym s.nodes.here ∙ there in cc in
-      subst (λ (k : ℕ). NodeFits links apart x n.now w.notes m k c) (sym is)
-      (subst (λ (d : Node). NodeFits links apart x n.now w.notes m i d) same made_fits)
+      subst (λ (k : ℕ). NodeFits links apart x (here_at m k) (there_at m k) w.notes m k c) (sym is)
+      (subst (λ (d : Node). NodeFits links apart x (here_at m i) (there_at m i) w.notes m i d) same made_fits)
   fits j c at (inr ne) = others j c ne (h.nodes j c (sym (s.nodes.others j ne) ∙ at))
 
   noted : (key : Key) (t : ClientTransaction) (b : Bool) → (if b then lost (n.tickets key) else n.tickets key) ≡ Some t
@@ -116,16 +133,19 @@ module _ (links : ℕ → Option Octets) (apart : (i j : ℕ) (l : Octets) → l
       go None e is = absurd cc
       go (Some u) e is = h.noted key u e
 
-  pub restarted_over : Over links apart W x w' (restarted_net n i)
+  pub restarted_over : Over links apart W x w' (restarted_net n i exact)
   restarted_over = record {
-    now = h.now ∙ sym s.now;
+    now = h.now ∙ sym (ap (λ (t : Time). t.now) s.time);
+    pace = h.pace ∙ sym (ap (λ (t : Time). t.pace) s.time);
+    here = λ j. (λ k. if nat_eq j i then clock_at (h.pace k) exact else h.here j k) ∙ sym (ap (λ (t : Time). t.clocks j) s.time);
+    there = λ j. (λ k. if nat_eq j i then clock_at (h.pace k) exact else h.there j k) ∙ sym (ap (λ (t : Time). t.clocks j) s.time);
     asks = h.asks ∙ sym (ap (λ (l : List Note). length l) s.notes);
     linked = linked_with links w.nodes w'.nodes i s.before made s.nodes s.at refl h.linked;
-    nodes = λ j a at. subst (λ (l : List Note). NodeFits links apart x n.now l m j a) (sym s.notes) (fits j a at (decide_number j i));
+    nodes = λ j a at. subst (λ (l : List Note). NodeFits links apart x (here_at m j) (there_at m j) l m j a) (sym s.notes) (fits j a at (decide_number j i));
     noted = λ key t is. ap (newest key) s.notes ∙ noted key t (nat_eq key.client i) is;
     posts = subst (λ (l : List Copy). Pairwise (IsCopyOf links apart) n.posts l) (sym s.copies) h.posts;
     log = subst (λ (l : List Fact). Pairwise FactMeans m.log l) (sym s.log) (refl, h.log);
-    sound = restarts W x bound n i h.sound;
+    sound = restarts W x bound n i exact h.sound;
   }
 
   stores_restarted : (node : ℕ) → stores_of w'.nodes node ≡ with_restarted i o (stores_of w.nodes) node
@@ -144,7 +164,7 @@ module _ (links : ℕ → Option Octets) (apart : (i j : ℕ) (l : Octets) → l
 
   pub restarted_next : Next links apart W x w w'
   restarted_next = (
-    restarted_net n i,
+    restarted_net n i exact,
     record {
       bridge = restarted_over;
       once = λ opening once. subst (λ (l : List Fact). IsOnce opening l (stores_of w'.nodes)) (sym s.log) (stores_of w.nodes, stores_restarted, once);

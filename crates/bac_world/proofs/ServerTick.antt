@@ -21,6 +21,11 @@ use Rattle.bac_transaction.specs.Ends.{ServerSlot, context_of, server_tick_sends
 use Rattle.bac_world.specs.Node.{Node}
 use Rattle.bac_world.specs.World.{World, Copy, link_at, peer_at, IsCopied}
 use Rattle.bac_transaction.proofs.KeyedSlots.{EachSlot, slot}
+use Rattle.bac_protocol.specs.World.{client_now, server_now, is_lost, is_key_held}
+use Rattle.bac_world.specs.World.{told}
+use Rattle.bac_world.proofs.Bridge.{here_at, there_at}
+use Rattle.bac_protocol.specs.Pace.{Clock}
+use Rattle.bac_world.proofs.Steps.{IsAlike}
 use Rattle.bac_world.proofs.Changes.{look, Change, look_first, look_next, look_here, look_same, change_rest}
 use Rattle.bac_world.proofs.Leads.{Leads}
 use Rattle.bac_world.proofs.Leads.Leads.{TicksEntry}
@@ -40,15 +45,17 @@ module _ (links : ℕ → Option Octets) (apart : (i j : ℕ) (l : Octets) → l
     (bound : IsBounded W x) (w : World) (n k : Net) (linked : (j : ℕ) → link_at w.nodes j ≡ links j) (i : ℕ) (li : Octets) (from : links i ≡ Some li) where
   -- what the entries of a node and the net have in common, while some have gone on since the net was k
   pub record Served (found : PeerKey → Option ServerTransaction) (every : List Copy) (m : Net) : Type 0 where
-    pub now : m.now ≡ n.now
+    pub alike : IsAlike m n
+    pub made : m.made ≡ k.made
+    pub restarted : m.restarted ≡ k.restarted
     pub asks : m.asks ≡ k.asks
     pub numbers : m.numbers ≡ k.numbers
     pub tickets : m.tickets ≡ k.tickets
     pub log : m.log ≡ k.log
     pub asks_from : m.asks_from ≡ k.asks_from
     pub serves_from : m.serves_from ≡ k.serves_from
-    pub entries : (c : ℕ) (l : Octets) (id : ℕ) → links c ≡ Some l → EntryFits n.now (found (slot_key l id)) (m.entries (key_of c i id))
-    pub others : (j : ℕ) (a : Node) → (j ≡ i → ⊥) → NodeFits links apart x n.now w.notes k j a → NodeFits links apart x n.now w.notes m j a
+    pub entries : (c : ℕ) (l : Octets) (id : ℕ) → links c ≡ Some l → EntryFits (there_at n i) (found (slot_key l id)) (m.entries (key_of c i id))
+    pub others : (j : ℕ) (a : Node) → (j ≡ i → ⊥) → NodeFits links apart x (here_at n j) (there_at n j) w.notes k j a → NodeFits links apart x (here_at n j) (there_at n j) w.notes m j a
     pub posts : Pairwise (IsCopyOf links apart) m.posts every
     pub sound : Sound x m
     pub leads : Leads x n m
@@ -58,13 +65,13 @@ module _ (links : ℕ → Option Octets) (apart : (i j : ℕ) (l : Octets) → l
     c = x.settings i
 
     abbrev tick : PeerKey → ServerTransaction → ServerTransaction
-    tick = entry_tick (x.settings i) n.now
+    tick = entry_tick (x.settings i) (there_at n i)
 
     abbrev Folds : List ServerSlot → Type 0
     Folds os = IsDistinct same_key os → EachSlot ServerTransaction (λ p v. IsKnown links apart p) os → Change ServerTransaction tick all os
         → (copies : List Copy) (m : Net) → Served (look ServerTransaction tick all os) copies m
         → (ds : List Datagram) (cs : List Copy)
-        → Pairwise IsSent (from_each (server_tick_sends (x.settings i) n.now) os) ds → Pairwise (IsCopied w.nodes n.now i) ds cs
+        → Pairwise IsSent (from_each (server_tick_sends (x.settings i) (there_at n i)) os) ds → Pairwise (IsCopied w.nodes n.now i) ds cs
         → (m' : Net) × Served (λ q. value_at same_key q all) (copies ++ cs) m'
 
     no_entries : Folds []
@@ -83,70 +90,72 @@ module _ (links : ℕ → Option Octets) (apart : (i j : ℕ) (l : Octets) → l
       key = key_of node i id
 
       abbrev context : Context
-      context = context_of (x.settings i) n.now (slot_key l id)
+      context = context_of (x.settings i) (there_at n i) (slot_key l id)
 
       abbrev did : server.Reaction
       did = server_ticks context (Some d)
 
       module _ (copies : List Copy) (m : Net) (r : Served (look ServerTransaction tick all (slot ServerTransaction (slot_key l id) begin d ∷ os)) copies m)
           (away : IsApart same_key (slot_key l id) os) (change : Change ServerTransaction tick all (slot ServerTransaction (slot_key l id) begin d ∷ os))
-          (live : is_live n.now d ≡ true) where
+          (live : is_live (there_at n i) d ≡ true) where
         abbrev does : server.Reaction
-        does = server_ticks (server_context x key m.now) (m.entries key)
+        does = server_ticks (server_context x key (server_now m key)) (m.entries key)
 
-        fit : live_entry n.now (Some d) ≡ live_entry n.now (m.entries key)
-        fit = ap (live_entry n.now) (sym (look_first ServerTransaction tick all p begin d os)) ∙ r.entries node l id at
+        fit : live_entry (there_at n i) (Some d) ≡ live_entry (there_at n i) (m.entries key)
+        fit = ap (live_entry (there_at n i)) (sym (look_first ServerTransaction tick all p begin d os)) ∙ r.entries node l id at
 
-        same : IsSameReaction n.now did does
+        same : IsSameReaction (there_at n i) did does
         same =
             let e : Option ServerTransaction = m.entries key in
             let ticks : Option ServerTransaction → server.Reaction = server_ticks context in
-            subst (λ (now : ℕ). IsSameReaction n.now did (server_ticks (server_context x key now) e)) (sym r.now)
-            (same_then n.now did (ticks (live_entry n.now (Some d))) (ticks e) (dead_is_none.ticks context (Some d))
-            (same_then n.now (ticks (live_entry n.now (Some d))) (ticks (live_entry n.now e)) (ticks e)
-            (same_of n.now (ticks (live_entry n.now (Some d))) (ticks (live_entry n.now e)) (ap ticks fit))
-            (same_back n.now (ticks e) (ticks (live_entry n.now e)) (dead_is_none.ticks context e))))
+            subst (λ (now : ℕ). IsSameReaction (there_at n i) did (server_ticks (server_context x key now) e)) (sym (ap (λ (f : ℕ → Clock). (f i).shows) r.alike.there))
+            (same_then (there_at n i) did (ticks (live_entry (there_at n i) (Some d))) (ticks e) (dead_is_none.ticks context (Some d))
+            (same_then (there_at n i) (ticks (live_entry (there_at n i) (Some d))) (ticks (live_entry (there_at n i) e)) (ticks e)
+            (same_of (there_at n i) (ticks (live_entry (there_at n i) (Some d))) (ticks (live_entry (there_at n i) e)) (ap ticks fit))
+            (same_back (there_at n i) (ticks e) (ticks (live_entry (there_at n i) e)) (dead_is_none.ticks context e))))
 
         made : look ServerTransaction tick all os p ≡ did.entry
         made = look_here ServerTransaction tick all p begin d os away change ∙ stays_some d did.entry (live_stays_law.ticks context d live)
 
         entries : (c : ℕ) (l' : Octets) (id' : ℕ) → links c ≡ Some l' → ((key ≡ key_of c i id') ⊎ (key ≡ key_of c i id' → ⊥))
-            → EntryFits n.now (look ServerTransaction tick all os (slot_key l' id')) (set_at m.entries key does.entry (key_of c i id'))
+            → EntryFits (there_at n i) (look ServerTransaction tick all os (slot_key l' id')) (set_at m.entries key does.entry (key_of c i id'))
         entries c l' id' at' (inl is) =
             let link : l ≡ l' = let e : Some l ≡ Some l' = sym at ∙ ap (λ (y : Key). links y.client) is ∙ at' in cc in
-            ap (λ (q : PeerKey). live_entry n.now (look ServerTransaction tick all os q)) (λ j. slot_key (sym link j) (sym is j).invoke_id)
-            ∙ ap (live_entry n.now) made ∙ same.entry
-            ∙ ap (live_entry n.now) (sym (set_same m.entries key does.entry) ∙ ap (set_at m.entries key does.entry) is)
+            ap (λ (q : PeerKey). live_entry (there_at n i) (look ServerTransaction tick all os q)) (λ j. slot_key (sym link j) (sym is j).invoke_id)
+            ∙ ap (live_entry (there_at n i)) made ∙ same.entry
+            ∙ ap (live_entry (there_at n i)) (sym (set_same m.entries key does.entry) ∙ ap (set_at m.entries key does.entry) is)
         entries c l' id' at' (inr ne) =
-            ap (live_entry n.now) (look_next ServerTransaction tick all p begin d os (slot_key l' id') (λ is. ne (one_client links apart W x key l at c l' id' at' is)))
+            ap (live_entry (there_at n i)) (look_next ServerTransaction tick all p begin d os (slot_key l' id') (λ is. ne (one_client links apart W x key l at c l' id' at' is)))
             ∙ r.entries c l' id' at'
-            ∙ ap (live_entry n.now) (sym (set_other m.entries key does.entry (key_of c i id') ne))
+            ∙ ap (live_entry (there_at n i)) (sym (set_other m.entries key does.entry (key_of c i id') ne))
 
         goes_on : (ds : List Datagram) (cs : List Copy) → Pairwise IsSent (to_all (peer_at l) did.sends) ds → Pairwise (IsCopied w.nodes n.now i) ds cs
             → Served (look ServerTransaction tick all os) (copies ++ cs) (server_acts m key does)
         goes_on ds cs sent copied = record {
-          now = r.now;
+          alike = record { now = r.alike.now; pace = r.alike.pace; here = r.alike.here; there = r.alike.there };
+          made = r.made;
+          restarted = r.restarted;
           asks = r.asks;
           numbers = r.numbers;
           tickets = r.tickets;
-          log = ap (λ e. performed (m.numbers key) e m.log) (ticks_quiet (server_context x key m.now) (m.entries key)) ∙ r.log;
+          log = ap (λ e. performed (m.numbers key) e m.log) (ticks_quiet (server_context x key (server_now m key)) (m.entries key)) ∙ r.log;
           asks_from = r.asks_from;
           serves_from = r.serves_from;
           entries = λ c l' id' at'. entries c l' id' at' (decide_key key (key_of c i id'));
-          others = λ j a ne f. others_fit links apart W x n.now w.notes m key does j a ne (r.others j a ne f);
+          others = λ j a ne f. others_fit links apart W x (here_at n j) (there_at n j) w.notes m key does j a ne (r.others j a ne f);
           posts = pairwise_join (IsCopyOf links apart) m.posts _ copies cs r.posts
               (copies_of links apart w.nodes linked m.now false key i node li l (record { between = (refl, refl); from = from; to = at })
               does.sends ds cs
-              (each_of_server id does.sends (server_sends_own.ticks (server_context x key m.now) (m.entries key) (own_of W x bound m r.sound key)).0)
+              (each_of_server id does.sends (server_sends_own.ticks (server_context x key (server_now m key)) (m.entries key) (own_of W x bound m r.sound key)).0)
               (subst (λ (y : List Apdu). Pairwise IsSent (to_all (peer_at l) y) ds) same.sends sent)
-              (subst (λ (t : ℕ). Pairwise (IsCopied w.nodes t i) ds cs) (sym r.now) copied));
+              (subst (λ (t : ℕ). Pairwise (IsCopied w.nodes t i) ds cs) (sym r.alike.now) copied));
           sound = ticks_at_server W x bound m r.sound key;
           leads = TicksEntry m key r.leads;
         }
 
-      one_live : Folds os → is_live n.now d ≡ true → Folds (slot ServerTransaction (slot_key l id) begin d ∷ os)
+      one_live : Folds os → is_live (there_at n i) d ≡ true → Folds (slot ServerTransaction (slot_key l id) begin d ∷ os)
       one_live again live distinct known change copies m r ds cs sent copied =
-          let y = pairwise_split IsSent (to_all (peer_at l) did.sends) (from_each (server_tick_sends (x.settings i) n.now) os) ds sent in
+          let y = pairwise_split IsSent (to_all (peer_at l) did.sends) (from_each (server_tick_sends (x.settings i) (there_at n i)) os) ds sent in
           let e = pairwise_split (IsCopied w.nodes n.now i) y.front y.rest cs
           (subst (λ (z : List Datagram). Pairwise (IsCopied w.nodes n.now i) z cs) y.is copied) in
           let next = goes_on copies m r distinct.0 change live y.front e.front y.first e.first in
@@ -158,25 +167,27 @@ module _ (links : ℕ → Option Octets) (apart : (i j : ℕ) (l : Octets) → l
           )
 
       -- one that is not live sends nothing and stays as it is
-      one_dead : Folds os → is_live n.now d ≡ false → Folds (slot ServerTransaction (slot_key l id) begin d ∷ os)
+      one_dead : Folds os → is_live (there_at n i) d ≡ false → Folds (slot ServerTransaction (slot_key l id) begin d ∷ os)
       one_dead again dead distinct known change copies m r ds cs sent copied =
           again distinct.1 known.1 (change_rest ServerTransaction tick all p begin d os distinct.0 change) copies m alike ds cs
           (subst (λ (z : List Send). Pairwise IsSent z ds)
-          (ap (λ (v : server.Reaction). to_all (peer_at l) v.sends ++ from_each (server_tick_sends (x.settings i) n.now) os) still) sent) copied
+          (ap (λ (v : server.Reaction). to_all (peer_at l) v.sends ++ from_each (server_tick_sends (x.settings i) (there_at n i)) os) still) sent) copied
         where
           still : server_ticks context (Some d) ≡ server.rests (Some d) []
           still = ap (λ b. if b then server.live_ticks context d d.state else server.rests (Some d) []) dead
 
           alike : Served (look ServerTransaction tick all os) copies m
           alike = record {
-            now = r.now;
+            alike = record { now = r.alike.now; pace = r.alike.pace; here = r.alike.here; there = r.alike.there };
+            made = r.made;
+            restarted = r.restarted;
             asks = r.asks;
             numbers = r.numbers;
             tickets = r.tickets;
             log = r.log;
             asks_from = r.asks_from;
             serves_from = r.serves_from;
-            entries = λ c l' id' at'. ap (live_entry n.now)
+            entries = λ c l' id' at'. ap (live_entry (there_at n i))
                 (sym (look_same ServerTransaction tick all p begin d os distinct.0 change (ap (λ (v : server.Reaction). entry_or d v.entry) still) (slot_key l' id')))
                 ∙ r.entries c l' id' at';
             others = r.others;
@@ -185,7 +196,7 @@ module _ (links : ℕ → Option Octets) (apart : (i j : ℕ) (l : Octets) → l
             leads = r.leads;
           }
 
-      one_entry : Folds os → (b : Bool) → is_live n.now d ≡ b → Folds (slot ServerTransaction (slot_key l id) begin d ∷ os)
+      one_entry : Folds os → (b : Bool) → is_live (there_at n i) d ≡ b → Folds (slot ServerTransaction (slot_key l id) begin d ∷ os)
       one_entry again true live = one_live again live
       one_entry again false dead = one_dead again dead
 
@@ -193,4 +204,4 @@ module _ (links : ℕ → Option Octets) (apart : (i j : ℕ) (l : Octets) → l
     serves [] = no_entries
     serves (s ∷ os) = λ distinct known.
         subst (λ (p : PeerKey). Folds (slot ServerTransaction p s.begin s.value ∷ os)) (λ j. record { peer = sym known.0.peer j; invoke_id = s.key.invoke_id })
-        (one_entry known.0.node known.0.link s.key.invoke_id known.0.at s.begin s.value os (serves os) (is_live n.now s.value) refl) distinct known
+        (one_entry known.0.node known.0.link s.key.invoke_id known.0.at s.begin s.value os (serves os) (is_live (there_at n i) s.value) refl) distinct known

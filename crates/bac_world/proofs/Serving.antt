@@ -8,7 +8,6 @@ use Rattle.bac_apdu.specs.Apdu.Apdu.{ConfirmedRequest, UnconfirmedRequest, Simpl
 use Rattle.bac_service.specs.Values.{Request}
 use Rattle.bac_service.proofs.OnlySpelling.{one_request}
 use Rattle.bac_store.specs.Changes as change
-use Rattle.bac_protocol.specs.declared.times.TheConstants.{LIFE}
 use Rattle.bac_protocol.specs.Context.{Settings, Context}
 use Rattle.bac_protocol.specs.Service.{Octets}
 use Rattle.bac_protocol.specs.Wire.{is_from_client, is_from_server, Each}
@@ -35,6 +34,10 @@ use Rattle.bac_world.specs.Services.{Performed, ArePerformed, store_after}
 use Rattle.bac_world.specs.Node.{Node, Outcome, IsServerTurn}
 use Rattle.bac_world.specs.Once.{Fact, Has, Stores, IsOnce, MayPerform}
 use Rattle.bac_world.specs.World.{World, Note, Copy, stores_of, IsWithNode, Acts, AreLogged, AreEnded, newest, peer_at, IsCopied}
+use Rattle.bac_protocol.specs.World.{client_now, server_now, is_lost, is_key_held}
+use Rattle.bac_world.specs.World.{told}
+use Rattle.bac_world.proofs.Bridge.{here_at, there_at}
+use Rattle.bac_protocol.specs.Pace.{Clock}
 use Rattle.bac_world.proofs.Machines.{Sound, orderly, asked_of, own_of, gets_at_server, ticket_of}
 use Rattle.bac_world.proofs.Pairs.{pairwise_join}
 use Rattle.bac_world.proofs.Logs.{FactMeans, WasAskedAs, asked_as, unperformed}
@@ -61,10 +64,10 @@ each_of_server id [] h = tt
 each_of_server id (a ∷ sends) h = ((server_is_no_client a h.0.0, h.0.1), each_of_server id sends h.1)
 
 -- where a slot is free its server does not wait
-pub room_is : (n : Net) (key : Key) (e : ServerEnd) → e.serves_from ≡ n.serves_from key.server → machine.is_room n key (is_free n.now e) ≡ is_free n.now e
+pub room_is : (n : Net) (key : Key) (e : ServerEnd) → e.serves_from ≡ n.serves_from key.server → machine.is_room n key (is_free (server_now n key) e) ≡ is_free (server_now n key) e
 room_is n key e from =
-    ap (λ (y : ℕ). is_free n.now e && not (nat_lt n.now y)) (sym from)
-    ∙ twice (nat_lt (count_by (is_slot_live n.now) e.slots) e.capacity) (not (nat_lt n.now e.serves_from))
+    ap (λ (y : ℕ). is_free (server_now n key) e && not (nat_lt (server_now n key) y)) (sym from)
+    ∙ twice (nat_lt (count_by (is_slot_live (server_now n key)) e.slots) e.capacity) (not (nat_lt (server_now n key) e.serves_from))
   where
     twice : (a b : Bool) → ((a && b) && b) ≡ (a && b)
     twice true true = refl
@@ -108,9 +111,9 @@ module _ (links : ℕ → Option Octets) (apart : (i j : ℕ) (l : Octets) → l
     }
 
   -- other nodes see nothing of it
-  pub others_fit : (now : ℕ) (notes : List Note) (n : Net) (key : Key) (u : server.Reaction) (j : ℕ) (a : Node) → (j ≡ key.server → ⊥)
-      → NodeFits links apart x now notes n j a → NodeFits links apart x now notes (server_acts n key u) j a
-  others_fit now notes n key u j a ne h = record {
+  pub others_fit : (here there : ℕ) (notes : List Note) (n : Net) (key : Key) (u : server.Reaction) (j : ℕ) (a : Node) → (j ≡ key.server → ⊥)
+      → NodeFits links apart x here there notes n j a → NodeFits links apart x here there notes (server_acts n key u) j a
+  others_fit here there notes n key u j a ne h = record {
     settings = h.settings;
     link = h.link;
     asks = h.asks;
@@ -120,7 +123,7 @@ module _ (links : ℕ → Option Octets) (apart : (i j : ℕ) (l : Octets) → l
       distinct = h.servers.distinct;
       known = h.servers.known;
       found = λ c l id at. h.servers.found c l id at
-          ∙ ap (live_entry now) (sym (set_other n.entries key u.entry (key_of c j id) (λ is. ne (sym (ap (λ (k : Key). k.server) is)))));
+          ∙ ap (live_entry there) (sym (set_other n.entries key u.entry (key_of c j id) (λ is. ne (sym (ap (λ (k : Key). k.server) is)))));
     };
   }
 
@@ -212,14 +215,14 @@ module _ (links : ℕ → Option Octets) (apart : (i j : ℕ) (l : Octets) → l
       (server_on_apdu (context_of s now (slot_key l id)) service (value_at same_key (slot_key l id) e.slots) (is_free now e) a)
 
   abbrev pub served_so : Net → Post → Service → ServerEnd → server.Reaction
-  served_so n p service e = server_on_apdu (server_context x p.key n.now) service (n.entries p.key) (is_free n.now e) p.copy.apdu
+  served_so n p service e = server_on_apdu (server_context x p.key (server_now n p.key)) service (n.entries p.key) (is_free (server_now n p.key) e) p.copy.apdu
 
   module _ (bound : IsBounded W x) where
     pub serves : (w w' : World) (n : Net) → Over links apart W x w n → (number : ℕ) (p : Post) (c : Copy) → slice_get n.posts number ≡ Some p
-        → IsCopyOf links apart p c → n.now - p.copy.moment ≤ LIFE → machine.later p.key number n.posts ≤ x.overtake
+        → IsCopyOf links apart p c → n.now - p.copy.moment ≤ n.pace.life → machine.later p.key number n.posts ≤ x.overtake
         → is_from_client p.copy.apdu ≡ true → c.from ≡ p.key.client → c.to ≡ p.key.server
         → (a b : Node) (o : Outcome) → slice_get w.nodes c.to ≡ Some a → (l : Octets) → links c.from ≡ Some l → (service : Service)
-        → IsServerTurn (hears_as a.settings w.now service l (invoke_id_of p.copy.apdu) p.copy.apdu a.servers) w.now a b o
+        → IsServerTurn (hears_as a.settings (told w c.to) service l (invoke_id_of p.copy.apdu) p.copy.apdu a.servers) (told w c.to) a b o
         → Acts w c.to b o w'
         → Goes links apart W x w w' (server_acts n p.key (served_so n p service a.servers))
         × ArePerformed a.store (act_at (slot_key l p.key.invoke_id) (served_so n p service a.servers).effect) o.performed
@@ -247,19 +250,23 @@ module _ (links : ℕ → Option Octets) (apart : (i j : ℕ) (l : Octets) → l
         s : Settings
         s = x.settings key.server
 
-        turn' : IsServerTurn (hears_as s n.now service l key.invoke_id apdu a.servers) n.now a b o
-        turn' = subst (λ (y : Settings). IsServerTurn (hears_as y n.now service l key.invoke_id apdu a.servers) n.now a b o) fits.settings
-            (subst (λ (t : ℕ). IsServerTurn (hears_as a.settings t service l key.invoke_id apdu a.servers) t a b o) (sym h.now)
-            (subst (λ (id : ℕ). IsServerTurn (hears_as a.settings w.now service l id apdu a.servers) w.now a b o) copied.invoke turn))
+        there_is : there_at n key.server ≡ told w key.server
+        there_is = ap (λ (y : Clock). y.shows) (h.there key.server)
+
+        turn' : IsServerTurn (hears_as s (there_at n key.server) service l key.invoke_id apdu a.servers) (there_at n key.server) a b o
+        turn' = subst (λ (y : Settings). IsServerTurn (hears_as y (there_at n key.server) service l key.invoke_id apdu a.servers) (there_at n key.server) a b o) fits.settings
+            (subst (λ (t : ℕ). IsServerTurn (hears_as a.settings t service l key.invoke_id apdu a.servers) t a b o) (sym there_is)
+            (subst (λ (id : ℕ). IsServerTurn (hears_as a.settings (told w key.server) service l id apdu a.servers) (told w key.server) a b o) copied.invoke
+            (subst (λ (i : ℕ). IsServerTurn (hears_as a.settings (told w i) service l (invoke_id_of apdu) apdu a.servers) (told w i) a b o) to_is turn)))
 
         q : PeerKey
         q = slot_key l key.invoke_id
 
         context : Context
-        context = server_context x key n.now
+        context = server_context x key (there_at n key.server)
 
         free : Bool
-        free = is_free n.now a.servers
+        free = is_free (there_at n key.server) a.servers
 
         gets : Option ServerTransaction → server.Reaction
         gets e = server_on_apdu context service e free apdu
@@ -270,14 +277,14 @@ module _ (links : ℕ → Option Octets) (apart : (i j : ℕ) (l : Octets) → l
         u : server.Reaction
         u = gets (n.entries key)
 
-        same : IsSameReaction n.now v u
+        same : IsSameReaction (there_at n key.server) v u
         same =
             let o : Option ServerTransaction = value_at same_key q a.servers.slots in
             let e : Option ServerTransaction = n.entries key in
-            same_then n.now v (gets (live_entry n.now o)) u (gets_same context service o free apdu)
-            (same_then n.now (gets (live_entry n.now o)) (gets (live_entry n.now e)) u
-            (same_of n.now (gets (live_entry n.now o)) (gets (live_entry n.now e)) (ap gets (fits.servers.found key.client l key.invoke_id client_at)))
-            (same_back n.now u (gets (live_entry n.now e)) (gets_same context service e free apdu)))
+            same_then (there_at n key.server) v (gets (live_entry (there_at n key.server) o)) u (gets_same context service o free apdu)
+            (same_then (there_at n key.server) (gets (live_entry (there_at n key.server) o)) (gets (live_entry (there_at n key.server) e)) u
+            (same_of (there_at n key.server) (gets (live_entry (there_at n key.server) o)) (gets (live_entry (there_at n key.server) e)) (ap gets (fits.servers.found key.client l key.invoke_id client_at)))
+            (same_back (there_at n key.server) u (gets (live_entry (there_at n key.server) e)) (gets_same context service e free apdu)))
 
         m : Net
         m = server_acts n key u
@@ -287,8 +294,8 @@ module _ (links : ℕ → Option Octets) (apart : (i j : ℕ) (l : Octets) → l
 
         made : Node
         made = record a {
-          latest = n.now;
-          servers = record (a.servers) { slots = put_entry n.now q v.entry a.servers.slots };
+          latest = (there_at n key.server);
+          servers = record (a.servers) { slots = put_entry (there_at n key.server) q v.entry a.servers.slots };
           store = store_after a.store o.performed;
         }
 
@@ -299,7 +306,7 @@ module _ (links : ℕ → Option Octets) (apart : (i j : ℕ) (l : Octets) → l
           asks = fits.asks;
           serves = fits.serves;
           clients = record { distinct = fits.clients.distinct; known = fits.clients.known; found = fits.clients.found };
-          servers = end_fits n.now n key l client_at v u same.entry a.servers fits.servers
+          servers = end_fits (there_at n key.server) n key l client_at v u same.entry a.servers fits.servers
               (none_left context service (value_at same_key q a.servers.slots) free apdu);
         }
 
@@ -331,8 +338,8 @@ module _ (links : ℕ → Option Octets) (apart : (i j : ℕ) (l : Octets) → l
             (orderly W x bound m sound)
 
         over : Over links apart W x w' m
-        over = acts_over links apart W x w w' n m h key.server a b o node' acts' refl refl h.noted (ap (λ (d : Node). d.link) turn'.node)
+        over = acts_over links apart W x w w' n m h key.server a b o node' acts' (record { now = refl; pace = refl; here = refl; there = refl }) refl h.noted (ap (λ (d : Node). d.link) turn'.node)
             (subst (λ (d : Node). Fits links apart W x w n m key.server d) (sym turn'.node) made_fits)
-            (λ j d ne f. others_fit n.now w.notes n key u j d ne f)
+            (λ j d ne f. others_fit (here_at n j) (there_at n j) w.notes n key u j d ne f)
             (pairwise_join (IsCopyOf links apart) n.posts (map (post_of key n.now) u.sends) w.copies acts'.sent h.posts copies)
             logged.log_means sound

@@ -11,10 +11,11 @@ use Rattle.bac_transaction.specs.Sends.{Pairwise}
 use Rattle.bac_world.specs.Node.{Node, Outcome}
 use Rattle.bac_world.specs.Once.{Fact, Stores, AreSame, MayEnter, IsOnce}
 use Rattle.bac_world.specs.Once.Fact.{Asked, Performed, Ended, Changed, Restarted}
-use Rattle.bac_world.specs.World.{World, Note, Copy, link_at, stores_of, IsWithNode, Acts, newest}
+use Rattle.bac_world.specs.World.{World, Time, Note, Copy, link_at, stores_of, IsWithNode, Acts, newest}
 use Rattle.bac_world.proofs.Machines.{Sound}
 use Rattle.bac_world.proofs.Logs.{FactMeans}
-use Rattle.bac_world.proofs.Bridge.{Bridge, NodeFits, IsCopyOf}
+use Rattle.bac_world.proofs.Bridge.{Bridge, NodeFits, IsCopyOf, here_at, there_at}
+use Rattle.bac_protocol.specs.Pace.{Clock}
 
 pub decide_number : (i j : ℕ) → (i ≡ j) ⊎ (i ≡ j → ⊥)
 decide_number i j = go (nat_eq i j) refl
@@ -80,12 +81,19 @@ once_same opening (f ∷ log) stores stores' same h = (h.0, enter_same f log h.0
 
 -- The bridge after a node's call.
 
+-- time is the same in both nets
+pub record IsAlike (m n : Net) : Type 0 where
+  pub now : m.now ≡ n.now
+  pub pace : m.pace ≡ n.pace
+  pub here : m.client_clocks ≡ n.client_clocks
+  pub there : m.server_clocks ≡ n.server_clocks
+
 module _ (links : ℕ → Option Octets) (apart : (i j : ℕ) (l : Octets) → links i ≡ Some l → links j ≡ Some l → i ≡ j) (W : ℕ) (x : Rules) where
   abbrev pub Over : World → Net → Type 0
   Over w n = Bridge links apart W x w n
 
   abbrev pub Fits : World → Net → Net → ℕ → Node → Type 0
-  Fits w n m i a = NodeFits links apart x n.now w.notes m i a
+  Fits w n m i a = NodeFits links apart x (here_at n i) (there_at n i) w.notes m i a
 
   -- the world goes on, and the bridge with it to that net, and the log stays right
   pub record Goes (w w' : World) (m : Net) : Type 0 where
@@ -96,7 +104,7 @@ module _ (links : ℕ → Option Octets) (apart : (i j : ℕ) (l : Octets) → l
   Next w w' = (m : Net) × Goes w w' m
 
   pub acts_over : (w w' : World) (n m : Net) → Over w n → (i : ℕ) (a b : Node) (o : Outcome) → slice_get w.nodes i ≡ Some a → (acts : Acts w i b o w')
-      → m.now ≡ n.now → m.asks ≡ n.asks → ((key : Key) (t : ClientTransaction) → m.tickets key ≡ Some t → newest key w.notes ≡ Some (m.numbers key))
+      → IsAlike m n → m.asks ≡ n.asks → ((key : Key) (t : ClientTransaction) → m.tickets key ≡ Some t → newest key w.notes ≡ Some (m.numbers key))
       → b.link ≡ a.link
       → Fits w n m i b
       → ((j : ℕ) (c : Node) → (j ≡ i → ⊥) → Fits w n n j c → Fits w n m j c)
@@ -104,12 +112,17 @@ module _ (links : ℕ → Option Octets) (apart : (i j : ℕ) (l : Octets) → l
       → Pairwise FactMeans m.log w'.log
       → Sound x m
       → Over w' m
-  acts_over w w' n m h i a b o at acts now asks noted link here others posts log sound = record {
-    now = now ∙ h.now ∙ sym acts.now;
+  acts_over w w' n m h i a b o at acts alike asks noted link here others posts log sound = record {
+    now = alike.now ∙ h.now ∙ sym (ap (λ (t : Time). t.now) acts.time);
+    pace = alike.pace ∙ h.pace ∙ sym (ap (λ (t : Time). t.pace) acts.time);
+    here = λ j. ap (λ (f : ℕ → Clock). f j) alike.here ∙ h.here j ∙ sym (ap (λ (t : Time). t.clocks j) acts.time);
+    there = λ j. ap (λ (f : ℕ → Clock). f j) alike.there ∙ h.there j ∙ sym (ap (λ (t : Time). t.clocks j) acts.time);
     asks = asks ∙ h.asks ∙ sym (ap (λ (l : List Note). length l) acts.notes);
     linked = linked_with links w.nodes w'.nodes i a b acts.nodes at link h.linked;
-    nodes = λ j c at'. subst (λ (t : ℕ). NodeFits links apart x t w'.notes m j c) (sym now)
-        (subst (λ (l : List Note). NodeFits links apart x n.now l m j c) (sym acts.notes) (fits j c at' (decide_number j i)));
+    nodes = λ j c at'.
+        subst (λ (t : ℕ). NodeFits links apart x t (there_at m j) w'.notes m j c) (sym (ap (λ (f : ℕ → Clock). (f j).shows) alike.here))
+        (subst (λ (t : ℕ). NodeFits links apart x (here_at n j) t w'.notes m j c) (sym (ap (λ (f : ℕ → Clock). (f j).shows) alike.there))
+        (subst (λ (l : List Note). NodeFits links apart x (here_at n j) (there_at n j) l m j c) (sym acts.notes) (fits j c at' (decide_number j i))));
     noted = λ key t is. ap (newest key) acts.notes ∙ noted key t is;
     posts = subst (λ (l : List Copy). Pairwise (IsCopyOf links apart) m.posts l) (sym acts.copies) posts;
     log = log;

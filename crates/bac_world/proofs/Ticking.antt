@@ -18,6 +18,11 @@ use Rattle.bac_world.specs.Node.{Node, Outcome, NodeTick}
 use Rattle.bac_world.specs.Once.{Fact, IsOnce}
 use Rattle.bac_world.specs.World.{World, Copy, stores_of, AreLogged, IsCopied, Ticks}
 use Rattle.bac_transaction.proofs.KeyedSlots.{changed, distinct_changed, distinct_in_order, each_changed, each_in_order, each_so}
+use Rattle.bac_protocol.specs.World.{client_now, server_now, is_lost, is_key_held}
+use Rattle.bac_world.specs.World.{told}
+use Rattle.bac_world.proofs.Bridge.{here_at, there_at}
+use Rattle.bac_protocol.specs.Pace.{Clock}
+use Rattle.std.proofs.Common.{nat_lt}
 use Rattle.bac_world.proofs.Changes.{look, look_all, change_all}
 use Rattle.bac_world.proofs.Pairs.{IsSplit, pairwise_split}
 use Rattle.bac_world.proofs.Logs.{FactMeans}
@@ -53,37 +58,50 @@ module _ (links : ℕ → Option Octets) (apart : (i j : ℕ) (l : Octets) → l
   entries = step.before.servers.slots
 
   abbrev f : PeerKey → Client → Client
-  f = client_tick (x.settings i) n.now
+  f = client_tick (x.settings i) (here_at n i)
 
   abbrev g : PeerKey → ServerTransaction → ServerTransaction
-  g = entry_tick (x.settings i) n.now
+  g = entry_tick (x.settings i) (there_at n i)
 
   fits : Fits links apart W x w n n i step.before
   fits = h.nodes i step.before step.at
 
-  tick' : NodeTick n.now step.before step.after step.outcome
-  tick' = subst (λ (t : ℕ). NodeTick t a b o) (sym h.now) step.tick
+  tick' : NodeTick (told w i) step.before step.after step.outcome
+  tick' = step.tick
+
+  here_is : here_at n i ≡ told w i
+  here_is = ap (λ (y : Clock). y.shows) (h.here i)
+
+  there_is : there_at n i ≡ told w i
+  there_is = ap (λ (y : Clock). y.shows) (h.there i)
+
+  -- what is said of a tick at the node's moment, by the two clocks of the net
+  by_both : (P : Settings → ℕ → ℕ → Type 0) → P step.before.settings (told w i) (told w i) → P (x.settings i) (here_at n i) (there_at n i)
+  by_both P said =
+      subst (λ (y : Settings). P y (here_at n i) (there_at n i)) fits.settings
+      (subst (λ (t : ℕ). P a.settings t (there_at n i)) (sym here_is) (subst (λ (t : ℕ). P a.settings (told w i) t) (sym there_is) said))
 
   node_is : step.after ≡ record (step.before) {
-    latest = n.now;
+    latest = told w i;
     clients = record (step.before.clients) { slots = changed Client f clients };
     servers = record (step.before.servers) { slots = changed ServerTransaction g entries };
   }
-  node_is = subst (λ (y : Settings). b ≡ record a {
-    latest = n.now;
-    clients = (requester_tick y n.now a.clients).end;
-    servers = (responder_tick y n.now a.servers).end;
-  }) fits.settings tick'.node
+  node_is = by_both (λ y t u. b ≡ record a {
+    latest = told w i;
+    clients = (requester_tick y t a.clients).end;
+    servers = (responder_tick y u a.servers).end;
+  }) tick'.node
 
   abbrev client_sends : Settings → List Send
-  client_sends y = from_each (client_tick_sends y n.now) (in_order peer_key_cmp clients)
+  client_sends y = from_each (client_tick_sends y (here_at n i)) (in_order peer_key_cmp clients)
 
   abbrev server_sends : Settings → List Send
-  server_sends y = from_each (server_tick_sends y n.now) (in_order peer_key_cmp entries)
+  server_sends y = from_each (server_tick_sends y (there_at n i)) (in_order peer_key_cmp entries)
 
   ds : IsSplit IsSent (client_sends c) (server_sends c) step.outcome.sends
   ds = pairwise_split IsSent (client_sends c) (server_sends c) o.sends
-      (subst (λ (y : Settings). Pairwise IsSent (client_sends y ++ server_sends y) o.sends) fits.settings tick'.sends)
+      (by_both (λ y t u. Pairwise IsSent (from_each (client_tick_sends y t) (in_order peer_key_cmp clients)
+      ++ from_each (server_tick_sends y u) (in_order peer_key_cmp entries)) o.sends) tick'.sends)
 
   cs : IsSplit (IsCopied w.nodes n.now i) ds.front ds.rest step.acts.sent
   cs = pairwise_split (IsCopied w.nodes n.now i) ds.front ds.rest step.acts.sent
@@ -100,21 +118,23 @@ module _ (links : ℕ → Option Octets) (apart : (i j : ℕ) (l : Octets) → l
       (reached_alike links apart W x w i n (λ q. value_at same_key q clients) (look Client f (changed Client f clients) (in_order peer_key_cmp clients))
       w.copies w.log n (λ q. sym (look_all Client f clients fits.clients.distinct q)) (reached_none links apart W x w n h i a fits))
       ds.front cs.front o.ended step.acts.between ds.first cs.first
-      (subst (λ (y : Settings). Pairwise IsEndedView (from_each (client_tick_ends y n.now) (in_order peer_key_cmp clients)) o.ended) fits.settings tick'.ended)
+      (by_both (λ y t u. Pairwise IsEndedView (from_each (client_tick_ends y t) (in_order peer_key_cmp clients)) o.ended) tick'.ended)
       step.acts.ended
 
   start : Served links apart W x bound w n r.0 h.linked i a.link fits.link
       (look ServerTransaction g (changed ServerTransaction g entries) (in_order peer_key_cmp entries)) (w.copies ++ cs.front) r.0
   start = record {
-    now = r.1.now;
+    alike = r.1.alike;
+    made = refl;
+    restarted = refl;
     asks = refl;
     numbers = refl;
     tickets = refl;
     log = refl;
     asks_from = refl;
     serves_from = refl;
-    entries = λ c' l id at. ap (live_entry n.now) (look_all ServerTransaction g entries fits.servers.distinct (slot_key l id)) ∙ fits.servers.found c' l id at
-        ∙ ap (λ (e : Key → Option ServerTransaction). live_entry n.now (e (key_of c' i id))) (sym r.1.entries);
+    entries = λ c' l id at. ap (live_entry (there_at n i)) (look_all ServerTransaction g entries fits.servers.distinct (slot_key l id)) ∙ fits.servers.found c' l id at
+        ∙ ap (λ (e : Key → Option ServerTransaction). live_entry (there_at n i) (e (key_of c' i id))) (sym r.1.entries);
     others = λ j d ne y. y;
     posts = r.1.posts;
     sound = r.1.sound;
@@ -134,12 +154,13 @@ module _ (links : ℕ → Option Octets) (apart : (i j : ℕ) (l : Octets) → l
   log_is : w'.log ≡ step.acts.between
   log_is = subst (λ d. AreLogged w.nodes w.notes i d step.acts.between w'.log) tick'.performed step.acts.logged
 
-  abbrev TicketFound : (from : ℕ → ℕ) → (Key → ℕ) → (Key → Option ClientTransaction) → (s' : ℕ) → Octets → ℕ → Type 0
-  TicketFound from numbers tickets s' l id =
-      TicketFits (from i) n.now w.notes i (numbers (key_of i s' id)) (value_at same_key (slot_key l id) (changed Client f clients)) (tickets (key_of i s' id))
+  abbrev TicketFound : (Key → ℕ) → (ℕ → ℕ) → (Key → ℕ) → (Key → Option ClientTransaction) → (s' : ℕ) → Octets → ℕ → Type 0
+  TicketFound made restarted numbers tickets s' l id =
+      TicketFits (nat_lt (made (key_of i s' id)) (restarted i)) (here_at n i) w.notes i (numbers (key_of i s' id))
+      (value_at same_key (slot_key l id) (changed Client f clients)) (tickets (key_of i s' id))
 
   made : Fits links apart W x w n s.0 i (record (step.before) {
-    latest = n.now;
+    latest = told w i;
     clients = record (step.before.clients) { slots = changed Client f clients };
     servers = record (step.before.servers) { slots = changed ServerTransaction g entries };
   })
@@ -153,12 +174,13 @@ module _ (links : ℕ → Option Octets) (apart : (i j : ℕ) (l : Octets) → l
       known = each_changed Client f (λ p v. IsKnown links apart p × (v.number < a.clients.asked))
           (λ p v y. (
             y.0,
-            subst (λ (z : ℕ). z < a.clients.asked) (sym (number_kept (record { settings = c; invoke_id = p.invoke_id; now = n.now })
+            subst (λ (z : ℕ). z < a.clients.asked) (sym (number_kept (record { settings = c; invoke_id = p.invoke_id; now = here_at n i })
                 v.number v.held)) y.1,
           )) clients fits.clients.known;
-      found = λ s' l id at. subst (λ (y : ℕ → ℕ). TicketFound y s.0.numbers s.0.tickets s' l id) (sym s.1.asks_from)
-          (subst (λ (y : Key → ℕ). TicketFound r.0.asks_from y s.0.tickets s' l id) (sym s.1.numbers)
-          (subst (λ (y : Key → Option ClientTransaction). TicketFound r.0.asks_from r.0.numbers y s' l id) (sym s.1.tickets) (r.1.found s' l id at)));
+      found = λ s' l id at. subst (λ (y : Key → ℕ). TicketFound y s.0.restarted s.0.numbers s.0.tickets s' l id) (sym s.1.made)
+          (subst (λ (y : ℕ → ℕ). TicketFound r.0.made y s.0.numbers s.0.tickets s' l id) (sym s.1.restarted)
+          (subst (λ (y : Key → ℕ). TicketFound r.0.made r.0.restarted y s.0.tickets s' l id) (sym s.1.numbers)
+          (subst (λ (y : Key → Option ClientTransaction). TicketFound r.0.made r.0.restarted r.0.numbers y s' l id) (sym s.1.tickets) (r.1.found s' l id at))));
     };
     servers = record {
       distinct = distinct_changed ServerTransaction g entries fits.servers.distinct;
@@ -171,7 +193,7 @@ module _ (links : ℕ → Option Octets) (apart : (i j : ℕ) (l : Octets) → l
   tick_over = (
     s.0,
     record {
-      bridge = acts_over links apart W x w w' n s.0 h i a b o step.at step.acts (s.1.now) (s.1.asks ∙ r.1.asks)
+      bridge = acts_over links apart W x w w' n s.0 h i a b o step.at step.acts (s.1.alike) (s.1.asks ∙ r.1.asks)
           (λ key t is. r.1.noted key t (ap (λ y. y key) (sym s.1.tickets) ∙ is) ∙ ap Some (ap (λ y. y key) (sym s.1.numbers)))
           (ap (λ (d : Node). d.link) node_is)
           (subst (λ (d : Node). Fits links apart W x w n s.0 i d) (sym node_is) made)

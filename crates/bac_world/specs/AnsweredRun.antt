@@ -4,10 +4,11 @@ use Rattle.bac_apdu.specs.Apdu.{Limits}
 use Rattle.bac_protocol.specs.Context.{Settings}
 use Rattle.bac_protocol.specs.Service.{Octets}
 use Rattle.bac_transaction.specs.Meanings.Ending.{Answered}
+use Rattle.bac_protocol.specs.Pace.{one_clock, clock_at}
 use Rattle.bac_world.specs.Node.{Node}
 use Rattle.bac_world.specs.Once.{Fact}
 use Rattle.bac_world.specs.Once.Fact.{Performed, Ended}
-use Rattle.bac_world.specs.World.{World, Event, WorldRun, IsFresh, IsBounded}
+use Rattle.bac_world.specs.World.{World, Time, Event, WorldRun, IsFresh, IsBounded}
 use Rattle.bac_world.specs.World.Event.{Ask, Deliver}
 use Rattle.bac_world.specs.Examples.{REQUEST, REPLY, STORE, ASKED}
 
@@ -32,8 +33,11 @@ node n =
       store = STORE;
     }
 
+abbrev pub TIME : Time
+TIME = record { pace = one_clock; now = 0; clocks = λ i. clock_at one_clock 0 }
+
 abbrev pub OPENING : World
-OPENING = record { nodes = node 0 ∷ node 1 ∷ []; now = 0; copies = []; log = []; notes = [] }
+OPENING = record { nodes = node 0 ∷ node 1 ∷ []; time = TIME; copies = []; log = []; notes = [] }
 
 -- node 0 asks node 1; the request is delivered, and then the answer
 abbrev pub EVENTS : List Event

@@ -10,7 +10,7 @@ use Rattle.bac_service.specs.Values.{Request}
 use Rattle.bac_store.specs.AtNode as at_node
 use Rattle.bac_store.specs.AtNode.{change_fault}
 use Rattle.bac_store.specs.Stores.{Store}
-use Rattle.bac_protocol.specs.declared.times.TheConstants.{LIFE}
+use Rattle.bac_protocol.specs.Pace.{Pace, Clock, clock_at, goes_on}
 use Rattle.bac_protocol.specs.Service.{Octets}
 use Rattle.bac_protocol.specs.Wire.{is_from_client}
 use Rattle.bac_protocol.specs.Own.{invoke_id_of}
@@ -38,14 +38,32 @@ pub record Note : Type 0 where
   pub key : Key
   pub ticket : ℕ
 
+-- real time, in parts of a millisecond, the clock of each node, and the pace that all keep
+pub record Time : Type 0 where
+  pub pace : Pace
+  pub now : ℕ
+  pub clocks : ℕ → Clock
+
+-- so much passes, and each clock goes on as far as that, within its pace
+abbrev pub passes : Time → (by : ℕ) → (own : ℕ → ℕ) → Time
+passes t by own = record t { now = t.now + by; clocks = λ i. goes_on t.pace by (own i) (t.clocks i) }
+
+-- a node begins with a new clock
+abbrev pub with_clock : Time → ℕ → (exact : ℕ) → Time
+with_clock t i exact = record t { clocks = λ j. if nat_eq j i then clock_at t.pace exact else t.clocks j }
+
 pub record World : Type 0 where
   pub nodes : List Node  -- numbered from 0
-  pub now : ℕ  -- in milliseconds
+  pub time : Time
   pub copies : List Copy  -- oldest first, numbered from 0
   pub log : List Fact  -- newest first
   pub notes : List Note  -- newest first
 
 -- Nodes.
+
+-- what a node is told
+abbrev pub told : World → ℕ → ℕ
+told w i = (w.time.clocks i).shows
 
 abbrev pub link_at : List Node → ℕ → Option Octets
 link_at nodes i = option_map (λ (n : Node). n.link) (slice_get nodes i)
@@ -112,8 +130,8 @@ later key zero (c ∷ copies) = count_of key copies
 later key (suc number) (c ∷ copies) = later key number copies
 
 -- a copy is deliverable while it is young and not overtaken by too many of its transaction (own rule of this profile)
-abbrev pub is_deliverable : (overtake now number : ℕ) → List Copy → Copy → Bool
-is_deliverable overtake now number copies c = nat_le (now - c.moment) LIFE && nat_le (later c.key number copies) overtake
+abbrev pub is_deliverable : (overtake life now number : ℕ) → List Copy → Copy → Bool
+is_deliverable overtake life now number copies c = nat_le (now - c.moment) life && nat_le (later c.key number copies) overtake
 
 -- What a node's call does to the world.
 
@@ -137,11 +155,11 @@ AreLogged nodes notes node (Some p) old new = IsLogged nodes notes node p old ne
 -- the node is another one, what it sends becomes copies, its endings and what it performed enter the log, and nothing else changes
 pub record Acts (old : World) (i : ℕ) (node : Node) (o : Outcome) (new : World) : Type 0 where
   pub nodes : IsWithNode old.nodes i node new.nodes
-  pub now : new.now ≡ old.now
+  pub time : new.time ≡ old.time
   pub notes : new.notes ≡ old.notes
   pub sent : List Copy
   pub copies : new.copies ≡ old.copies ++ sent
-  pub copied : Pairwise (IsCopied old.nodes old.now i) o.sends sent
+  pub copied : Pairwise (IsCopied old.nodes old.time.now i) o.sends sent
   pub between : List Fact
   pub ended : AreEnded old.notes i o.ended old.log between
   pub logged : AreLogged old.nodes old.notes i o.performed between new.log
@@ -152,7 +170,7 @@ pub record Hears (old : World) (i : ℕ) (from octets : Octets) (new : World) : 
   pub at : slice_get old.nodes i ≡ Some before
   pub after : Node
   pub outcome : Outcome
-  pub on : NodeOn old.now from octets before after outcome
+  pub on : NodeOn (told old i) from octets before after outcome
   pub acts : Acts old i after outcome new
 
 -- Events.
@@ -162,9 +180,9 @@ pub data Event : Type 0 where
   Deliver : (number : ℕ) → Event
   Noise : (node : ℕ) (from octets : Octets) → Event
   Tick : (node : ℕ) → Event
-  Advance : (by : ℕ) → Event
+  Advance : (by : ℕ) (own : ℕ → ℕ) → Event
   Change : (node : ℕ) (change : at_node.Change) → Event
-  Restart : (node : ℕ) (store : Option Store) → Event
+  Restart : (node exact : ℕ) (store : Option Store) → Event
 
 -- an accepted ask: it is noted, and enters the log with the next number
 pub record IsAsked (old : World) (client server : ℕ) (limits : Limits) (r : Request) (new : World) : Type 0 where
@@ -175,12 +193,12 @@ pub record IsAsked (old : World) (client server : ℕ) (limits : Limits) (r : Re
   pub after : Node
   pub accepted : Accepted
   pub sends : List Datagram
-  pub asks : NodeAsks old.now (peer_at link) limits r before after accepted sends
+  pub asks : NodeAsks (told old client) (peer_at link) limits r before after accepted sends
   pub nodes : IsWithNode old.nodes client after new.nodes
-  pub now : new.now ≡ old.now
+  pub time : new.time ≡ old.time
   pub sent : List Copy
   pub copies : new.copies ≡ old.copies ++ sent
-  pub copied : Pairwise (IsCopied old.nodes old.now client) sends sent
+  pub copied : Pairwise (IsCopied old.nodes old.time.now client) sends sent
   pub notes : new.notes
       ≡ record { key = record { client = client; server = server; invoke_id = accepted.invoke_id }; ticket = accepted.ticket } ∷ old.notes
   pub log : new.log ≡ Asked (length old.notes) client server r ∷ old.log
@@ -192,7 +210,7 @@ pub record IsRefused (old : World) (client server : ℕ) (limits : Limits) (r : 
   pub link : Octets
   pub peer : link_at old.nodes server ≡ Some link
   pub refusal : Refusal
-  pub why : NodeRefuses old.now (peer_at link) limits r node refusal
+  pub why : NodeRefuses (told old client) (peer_at link) limits r node refusal
   pub same : new ≡ old
 
 -- a copy is delivered to its node, where it is deliverable; otherwise it is lost
@@ -208,7 +226,7 @@ DeliversIf false old c new = new ≡ old
 pub record IsDelivered (overtake : ℕ) (old : World) (number : ℕ) (new : World) : Type 0 where
   pub copy : Copy
   pub there : slice_get old.copies number ≡ Some copy
-  pub goes : DeliversIf (is_deliverable overtake old.now number old.copies copy) old copy new
+  pub goes : DeliversIf (is_deliverable overtake old.time.pace.life old.time.now number old.copies copy) old copy new
 
 -- noise, octets that mean no APDU of a peer, is heard, whatever link it comes from
 pub record HearsNoise (old : World) (i : ℕ) (from octets : Octets) (new : World) : Type 0 where
@@ -227,7 +245,7 @@ pub record Ticks (old : World) (i : ℕ) (new : World) : Type 0 where
   pub at : slice_get old.nodes i ≡ Some before
   pub after : Node
   pub outcome : Outcome
-  pub tick : NodeTick old.now before after outcome
+  pub tick : NodeTick (told old i) before after outcome
   pub acts : Acts old i after outcome new
 
 -- a change at a node itself, where it has no fault: its store is the changed one, and the change enters the log; nothing is sent, and nothing else changes
@@ -236,18 +254,18 @@ pub record IsChanged (old : World) (i : ℕ) (c : at_node.Change) (new : World) 
   pub at : slice_get old.nodes i ≡ Some before
   pub may : change_fault before.store c ≡ None
   pub nodes : IsWithNode old.nodes i (with_change c before) new.nodes
-  pub now : new.now ≡ old.now
+  pub time : new.time ≡ old.time
   pub copies : new.copies ≡ old.copies
   pub notes : new.notes ≡ old.notes
   pub log : new.log ≡ Changed i c ∷ old.log
 
 -- a node restarts, with the store that it has or another one: both its tables are lost, both its ends wait, and the restart enters the log; nothing is sent,
 -- and nothing else changes
-pub record IsRestarted (old : World) (i : ℕ) (store : Option Store) (new : World) : Type 0 where
+pub record IsRestarted (old : World) (i exact : ℕ) (store : Option Store) (new : World) : Type 0 where
   pub before : Node
   pub at : slice_get old.nodes i ≡ Some before
-  pub nodes : IsWithNode old.nodes i (restarted old.now (store_after_restart before.store store) before) new.nodes
-  pub now : new.now ≡ old.now
+  pub nodes : IsWithNode old.nodes i (restarted (clock_at old.time.pace exact).shows (store_after_restart before.store store) before) new.nodes
+  pub time : new.time ≡ with_clock old.time i exact
   pub copies : new.copies ≡ old.copies
   pub notes : new.notes ≡ old.notes
   pub log : new.log ≡ Restarted i store ∷ old.log
@@ -257,9 +275,9 @@ WorldStep overtake old (Ask client server limits r) new = IsAsked old client ser
 WorldStep overtake old (Deliver number) new = IsDelivered overtake old number new
 WorldStep overtake old (Noise node from octets) new = HearsNoise old node from octets new ⊎ LosesOctets old node from octets new
 WorldStep overtake old (Tick node) new = Ticks old node new
-WorldStep overtake old (Advance by) new = new ≡ record old { now = old.now + by }
+WorldStep overtake old (Advance by own) new = new ≡ record old { time = passes old.time by own }
 WorldStep overtake old (Change node change) new = IsChanged old node change new
-WorldStep overtake old (Restart node store) new = IsRestarted old node store new
+WorldStep overtake old (Restart node exact store) new = IsRestarted old node exact store new
 
 abbrev pub WorldRun : (overtake : ℕ) → World → List Event → World → Type 0
 WorldRun overtake old [] new = new ≡ old
@@ -268,13 +286,13 @@ WorldRun overtake old (e ∷ es) new = (u : World) × WorldStep overtake old e u
 -- in these events that node does not restart
 abbrev pub RunsOn : (node : ℕ) → List Event → Type 0
 RunsOn node [] = Unit {0}
-RunsOn node (Restart i store ∷ es) = (i ≢ node) × RunsOn node es
+RunsOn node (Restart i exact store ∷ es) = (i ≢ node) × RunsOn node es
 RunsOn node (e ∷ es) = RunsOn node es
 
 -- in these events no node restarts
 abbrev pub MakeNoRestart : List Event → Type 0
 MakeNoRestart [] = Unit {0}
-MakeNoRestart (Restart i store ∷ es) = ⊥
+MakeNoRestart (Restart i exact store ∷ es) = ⊥
 MakeNoRestart (e ∷ es) = MakeNoRestart es
 
 -- these events are asks, deliveries, noise, ticks and steps of the clock: no node changes its own store, and none restarts
@@ -302,7 +320,8 @@ pub record IsFreshNode (n : Node) : Type 0 where
 pub record IsFresh (w : World) : Type 0 where
   pub nodes : (i : ℕ) (n : Node) → slice_get w.nodes i ≡ Some n → IsFreshNode n
   pub apart : (i j : ℕ) (l : Octets) → link_at w.nodes i ≡ Some l → link_at w.nodes j ≡ Some l → i ≡ j
-  pub now : w.now ≡ 0
+  pub now : w.time.now ≡ 0
+  pub clocks : (i : ℕ) → w.time.clocks i ≡ clock_at w.time.pace (w.time.clocks i).exact
   pub copies : w.copies ≡ []
   pub log : w.log ≡ []
   pub notes : w.notes ≡ []

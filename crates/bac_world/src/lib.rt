@@ -7,6 +7,7 @@ pub mod examples;
 pub mod node;
 
 ghost use Rattle.std.specs.Prelude.{ℕ, List, [], ◌∷◌};
+ghost use Rattle.bac_protocol.specs.Pace.{IsTimely};
 ghost use Rattle.bac_world.specs.Claims.{AreChangesPermitted, AreEndedOnce, ArePerformedOnce, AreReplayed};
 ghost use Rattle.bac_world.specs.Once.{Fact, HasNoChange, HasNoRestart, HasRequestsAlone, IsOnce, IsOnceByRequests};
 ghost use Rattle.bac_world.specs.Once.{IsOnceByRequestsAlone, IsOnceInOneLife, Stores};
@@ -17,7 +18,7 @@ ghost use Rattle.bac_world.specs.World.{stores_of};
 /// request performed and the answer are its own, whole; and each server's store is that of its last start, after the performed requests and the changes
 /// made at that node since, in the log's order: at a restart it stays, or is the one that the log tells.
 pub fn at_most_once()
-    ensures { (W overtake : ℕ) (w w' : World) → IsFresh w → IsBounded W overtake w → (events : List Event) → WorldRun overtake w events w'
+    ensures { (W overtake : ℕ) (w w' : World) → IsFresh w → IsTimely w.time.pace → IsBounded W overtake w → (events : List Event) → WorldRun overtake w events w'
         → IsOnce (stores_of w.nodes) w'.log (stores_of w'.nodes) }
 {}
 

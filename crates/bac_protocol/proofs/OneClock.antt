@@ -1,0 +1,124 @@
+-- Where clocks neither gain nor lose, begin together and count milliseconds, all nodes have one clock.
+use Rattle.std.proofs.Common.{◌≡◌, ℕ, zero, ◌+◌, ◌-◌, ◌*◌, ◌/◌, ◌≤◌, min, max, Bool, true, false, List, [], ◌∷◌, Option, Some, None, slice_get, if◌then◌else◌, nat_eq, refl, ap, ◌∙◌, arith}
+use Rattle.std.proofs.Math.Nat.{mul-zero, min-le_right, le-min, le-max_right}
+use Rattle.bac_apdu.specs.Apdu.{Apdu}
+use Rattle.bac_protocol.specs.Pace.{Pace, Clock, slack, steps, goes_on, clock_at, one_clock}
+use Rattle.bac_protocol.specs.Drift.{KeepsTime, AllKeepTime}
+use Rattle.bac_protocol.specs.Wire.{is_from_client}
+use Rattle.bac_protocol.specs.Client.{Ask, ClientTransaction}
+use Rattle.bac_protocol.specs.Log.{StoreModel}
+use Rattle.bac_protocol.specs.Transaction.{Key, Rules, server_context}
+use Rattle.bac_protocol.specs.Server as server
+use Rattle.bac_protocol.specs.Server.{server_ticks}
+use Rattle.bac_protocol.specs.World.{Net, World, Post, Event, is_deliverable, is_id_held, ask_made, arrives, takes_at_client, takes_at_server}
+use Rattle.bac_protocol.specs.World.{delivered, ticks_ticket, ticks_as_client, ticks_as_server, serves, happens, run, start, client_now, server_now}
+use Rattle.bac_protocol.specs.World.Event.{MakeAsk, Deliver, Tick, Noise, Advance, Change, RestartClient, RestartServer}
+use Rattle.bac_protocol.proofs.Paces.{steps_low, steps_high}
+
+pub record IsTrue (now : ℕ) (c : Clock) : Type 0 where
+  pub exact : c.exact ≡ now
+  pub shows : c.shows ≡ now
+
+-- each clock shows real time
+pub record Is (n : Net) : Type 0 where
+  pub pace : n.pace ≡ one_clock
+  pub clients : (node : ℕ) → IsTrue n.now (n.client_clocks node)
+  pub servers : (node : ℕ) → IsTrue n.now (n.server_clocks node)
+
+module _ (S : Type 0) (model : StoreModel S) (x : Rules) where
+  asked : (w : World S) → Is w.net → (key : Key) (ask : Ask) (held : Bool) → Is (if held then w else ask_made S x w key ask).net
+  asked w h key ask true = h
+  asked w h key ask false = record { pace = h.pace; clients = h.clients; servers = h.servers }
+
+  taken : (w : World S) → Is w.net → (key : Key) (a : Apdu) (o : Option ClientTransaction) → Is (takes_at_client S x w key a o).net
+  taken w h key a None = h
+  taken w h key a (Some t) = record { pace = h.pace; clients = h.clients; servers = h.servers }
+
+  arrived : (w : World S) → Is w.net → (key : Key) (free : Bool) (a : Apdu) (up : Bool)
+      → Is (if up then takes_at_server S model x w key free a else takes_at_client S x w key a (w.net.tickets key)).net
+  arrived w h key free a true = record { pace = h.pace; clients = h.clients; servers = h.servers }
+  arrived w h key free a false = taken w h key a (w.net.tickets key)
+
+  delivered_so : (w : World S) → Is w.net → (number : ℕ) (free : Bool) (o : Option Post) → Is (delivered S model x w number free o).net
+  delivered_so w h number free None = h
+  delivered_so w h number free (Some p) = go (is_deliverable x w.net number p)
+    where
+      go : (b : Bool) → Is (if b then arrives S model x w p.key free p.copy.apdu else w).net
+      go true = arrived w h p.key free p.copy.apdu (is_from_client p.copy.apdu)
+      go false = h
+
+  ticket_ticked : (w : World S) → Is w.net → (key : Key) (o : Option ClientTransaction) → Is (ticks_ticket S x w key o).net
+  ticket_ticked w h key None = h
+  ticket_ticked w h key (Some t) = record { pace = h.pace; clients = h.clients; servers = h.servers }
+
+  clients_ticked : (keys : List Key) (w : World S) → Is w.net → Is (ticks_as_client S x keys w).net
+  clients_ticked [] w h = h
+  clients_ticked (key ∷ keys) w h = clients_ticked keys (ticks_ticket S x w key (w.net.tickets key)) (ticket_ticked w h key (w.net.tickets key))
+
+  servers_ticked : (keys : List Key) (w : World S) → Is w.net → Is (ticks_as_server S model x keys w).net
+  servers_ticked [] w h = h
+  servers_ticked (key ∷ keys) w h =
+      servers_ticked keys (serves S model w key (server_ticks (server_context x key (server_now w.net key)) (w.net.entries key)))
+      (record { pace = h.pace; clients = h.clients; servers = h.servers })
+
+  -- without drift a clock goes on by real time
+  no_slack : (by : ℕ) → slack one_clock by ≡ 0
+  no_slack by = ap (λ (n : ℕ). n / 1000000) (mul-zero by)
+
+  steps_so : (by own : ℕ) → steps one_clock by own ≡ by
+  steps_so by own = let low = steps_low one_clock by own in let high = steps_high one_clock by own in let none = no_slack by in omega arith
+
+  by_one : (n : ℕ) → n / 1 ≡ n
+  by_one n = omega arith
+
+  on : (p : Pace) → p ≡ one_clock → (now by own : ℕ) (c : Clock) → IsTrue now c → IsTrue (now + by) (goes_on p by own c)
+  on p is now by own c h = record { exact = exact; shows = (λ i. exact i / (is i).grain) ∙ by_one (now + by) }
+    where
+      exact : c.exact + steps p by own ≡ now + by
+      exact = (λ i. h.exact i + steps (is i) by own) ∙ ap (λ (k : ℕ). now + k) (steps_so by own)
+
+  anew : (p : Pace) → p ≡ one_clock → (now exact : ℕ) → exact ≡ now → IsTrue now (clock_at p exact)
+  anew p is now exact same = record { exact = same; shows = (λ i. same i / (is i).grain) ∙ by_one now }
+
+  either : (b : Bool) (now : ℕ) (c d : Clock) → IsTrue now c → IsTrue now d → IsTrue now (if b then c else d)
+  either true now c d h k = h
+  either false now c d h k = k
+
+  happened : (w : World S) → Is w.net → (e : Event) → KeepsTime S w e → Is (happens S model x w e).net
+  happened w h (MakeAsk key choice whole front rest) t =
+      asked w h key (record { first = client_now w.net key; choice = choice; whole = whole; pieces = front ∷ rest }) (is_id_held w.net key)
+  happened w h (Deliver number free) t = delivered_so w h number free (slice_get w.net.posts number)
+  happened w h (Tick as_client as_server) t = servers_ticked as_server (ticks_as_client S x as_client w) (clients_ticked as_client w h)
+  happened w h Noise t = h
+  happened w h (Advance by clients servers) t = record {
+    pace = h.pace;
+    clients = λ node. on w.net.pace h.pace w.net.now by (clients node) (w.net.client_clocks node) (h.clients node);
+    servers = λ node. on w.net.pace h.pace w.net.now by (servers node) (w.net.server_clocks node) (h.servers node);
+  }
+  happened w h (Change node change) t = record { pace = h.pace; clients = h.clients; servers = h.servers }
+  happened w h (RestartClient node exact) t = record {
+    pace = h.pace;
+    clients = λ m. either (nat_eq m node) w.net.now (clock_at w.net.pace exact) (w.net.client_clocks m)
+        (anew w.net.pace h.pace w.net.now exact t) (h.clients m);
+    servers = h.servers;
+  }
+  happened w h (RestartServer node exact store) t = record {
+    pace = h.pace;
+    clients = h.clients;
+    servers = λ m. either (nat_eq m node) w.net.now (clock_at w.net.pace exact) (w.net.server_clocks m)
+        (anew w.net.pace h.pace w.net.now exact t) (h.servers m);
+  }
+
+  ran : (events : List Event) (w : World S) → AllKeepTime S model x events w → Is w.net → Is (run S model x events w).net
+  ran [] w t h = h
+  ran (e ∷ es) w t h = ran es (happens S model x w e) t.1 (happened w h e t.0)
+
+  pub one_clock_in_run : (opening : ℕ → S) (events : List Event) → AllKeepTime S model x events (start S one_clock (λ node. 0) opening) → (key : Key)
+      → (let w = run S model x events (start S one_clock (λ node. 0) opening) in (client_now w.net key ≡ w.net.now) × (server_now w.net key ≡ w.net.now))
+  one_clock_in_run opening events t key =
+      let r = ran events (start S one_clock (λ node. 0) opening) t (record {
+        pace = refl;
+        clients = λ node. record { exact = refl; shows = refl };
+        servers = λ node. record { exact = refl; shows = refl };
+      }) in
+      ((r.clients key.client).shows, (r.servers key.server).shows)

@@ -1,0 +1,33 @@
+//! Clocks that go apart: the bound on the life of a copy, and what goes wrong beyond it.
+
+ghost use Rattle.std.specs.Prelude.{◌≡◌, ℕ, List};
+ghost use Rattle.bac_protocol.specs.Drift.{AllKeepTime, Lives, Twice, Mixed};
+ghost use Rattle.bac_protocol.specs.Pace.{one_clock};
+ghost use Rattle.bac_protocol.specs.Log.{StoreModel};
+ghost use Rattle.bac_protocol.specs.Transaction.{Key, Rules};
+ghost use Rattle.bac_protocol.specs.World.{Event, run, start, client_now, server_now};
+
+/// For which lives of a copy the times of the machines suffice.
+#[tactic(auto, using(crate::proofs::AtDrift::lives))]
+pub fn lives_of_copies()
+    ensures { Lives }
+{}
+
+/// With clocks that are fast or slow by a part in a thousand, and copies that live for 4,877 ms, a request is performed twice; with 4,876 it is not.
+#[tactic(auto, using(crate::proofs::AtDrift::performed_twice))]
+pub fn beyond_the_bound()
+    ensures { Twice }
+{}
+
+/// With copies that live for 4,932 ms an ask with a reply in segments ends with a part of the answer of an ask before it, of its invoke ID or of its client's old life.
+#[tactic(auto, using(crate::proofs::AtDrift::answers_mixed))]
+pub fn beyond_the_rest()
+    ensures { Mixed }
+{}
+
+/// Without drift, with clocks that begin together, at a start and at each restart, and count milliseconds, all nodes have one clock in every run, which shows real time.
+pub fn one_clock_without_drift<S>()
+    ensures { (model : StoreModel S) (rules : Rules) (opening : ℕ → S) (events : List Event) → AllKeepTime S model rules events (start S one_clock (λ node. 0) opening)
+        → (key : Key) → (let w = run S model rules events (start S one_clock (λ node. 0) opening) in
+        (client_now w.net key ≡ w.net.now) × (server_now w.net key ≡ w.net.now)) }
+{}
