@@ -143,8 +143,7 @@ module _ (links : ℕ → Option Octets) (apart : (i j : ℕ) (l : Octets) → l
   gives w m over (Deliver number) f = λ w' y d t up on none.
       let same = some_is y on.post (sym t.at ∙ on.at) in
       let found = finds w w' m over number y d t (ap (λ (z : Post). z.key) same ∙ on.key_is) (ap (λ (z : Post). z.copy.apdu) same ∙ on.apdu_is) f none in
-      let node = at w w' m over number y d t (ap (λ (z : Post). z.key) same ∙ on.key_is) (ap (λ (z : Post). z.copy.apdu) same ∙ on.apdu_is) in
-      (
+      let node = at w w' m over number y d t (ap (λ (z : Post). z.key) same ∙ on.key_is) (ap (λ (z : Post). z.copy.apdu) same ∙ on.apdu_is) in (
         found.0,
         ap (λ (k : Key). is_room m its_key (is_free (server_now m k) t.before.servers)) (ap (λ (z : Post). z.key) same ∙ on.key_is)
             ∙ room_is m its_key t.before.servers (over.nodes s t.before node).serves ∙ found.1,
