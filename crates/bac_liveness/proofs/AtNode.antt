@@ -35,8 +35,9 @@ use Rattle.bac_world.proofs.NodeLaws.{heard_as}
 use Rattle.bac_world.proofs.Steps.{Over}
 use Rattle.bac_world.proofs.Headline.{fresh_over, rules_of, rules_bounded}
 use Rattle.bac_liveness.specs.WorldEnds.{IsOpen, finishes_of, expired, HasFinish, HasTicketsApart, TickEnds, AnswerEnds, NodesAreInOrder}
+use Rattle.bac_liveness.proofs.Serving.{late_gets}
 use Rattle.bac_liveness.proofs.Endings.{not_from_client}
-use Rattle.bac_liveness.proofs.WorldEndings.{opened, late_gets, tick_leaves, on_run, opened_net}
+use Rattle.bac_liveness.proofs.WorldEndings.{opened, tick_leaves, on_run, opened_net}
 
 -- Lists of endings.
 

@@ -7,7 +7,7 @@ use Rattle.bac_service.specs.Values.{Request, choice_of}
 use Rattle.bac_service.specs.Requests.{SpellsRequest}
 use Rattle.bac_segment.specs.Pieces.{join}
 use Rattle.bac_store.specs.Stores.{Store}
-use Rattle.bac_protocol.specs.declared.times.TheConstants.{T_OUT}
+use Rattle.bac_protocol.specs.declared.times.TheConstants.{T_OUT, DEADLINE}
 use Rattle.bac_protocol.specs.Context.{Settings}
 use Rattle.bac_protocol.specs.Sizes.{request_way_of}
 use Rattle.bac_protocol.specs.Sizes.Way.{InOne}
@@ -25,7 +25,7 @@ use Rattle.bac_protocol.specs.World.{Net, Post, post_of, asked_at, client_acts, 
 use Rattle.bac_protocol.specs.Moves.{taken_by_client}
 use Rattle.bac_protocol.specs.Straight.{KindFits}
 use Rattle.bac_protocol.specs.Claims as claims
-use Rattle.bac_protocol.specs.Pace.{Clock, IsTimely}
+use Rattle.bac_protocol.specs.Pace.{Pace, Clock, most, IsTimely}
 use Rattle.bac_protocol.proofs.SingleMoves.{reached_net, reached_calm}
 use Rattle.bac_slots.specs.Slots.{value_at}
 use Rattle.bac_transaction.specs.Keys.{PeerKey, same_key}
@@ -50,9 +50,10 @@ use Rattle.bac_liveness.specs.Repeats as machine
 use Rattle.bac_liveness.specs.Repeats.{PATIENCE}
 use Rattle.bac_liveness.specs.WorldRuns.{Throughout}
 use Rattle.bac_liveness.specs.WorldRoundTrip.{MayArrive, IsRequest, CanPerform, IsAnswered, IsFromServer}
-use Rattle.bac_liveness.specs.WorldRepeats.{FindsServer, IsWaiting, IsRobust, RepeatsSuffice}
+use Rattle.bac_liveness.specs.WorldRepeats.{FindsServer, IsSoon, IsWaiting, IsRobust, RepeatsSuffice}
 use Rattle.bac_liveness.proofs.Paths.{some_is, ask_of}
 use Rattle.bac_liveness.proofs.Serving.{answer_not_from_client}
+use Rattle.bac_liveness.proofs.Clocks.{AskedIn, SoonIn, soon_of, asked_path}
 use Rattle.bac_liveness.proofs.Waits.{Waits, Finds, PatientOrOver, WasGiven, waits_path, repeat_left, fine_comes, fine_down, told_answered, brings_answer}
 use Rattle.bac_liveness.proofs.Robust.{asked_on}
 use Rattle.bac_liveness.proofs.Following.{Gives, Followed, Parts, IsTaken, IsServedBy, served_reaction, accepted, asked_free, post, comes, heard_now}
@@ -179,10 +180,21 @@ module _ (links : ℕ → Option Octets) (apart : (i j : ℕ) (l : Octets) → l
   lives : (events : List Event) (w : World) (f : Followed links apart W x bound readable Goes events w first) → RunsOn c events → StaysSince f.net its_key n.now
   lives events w f life = stays links apart W x bound readable old n h c s limits r asked a p f.net (f.lives c life)
 
+  asked_in : (events : List Event) (w : World) (f : Followed links apart W x bound readable Goes events w first)
+      → AskedIn f.net its_key its_ask.first n.now
+  asked_in events w f = asked_path x Goes its_key its_ask.first n.now first f.net f.path first_on.clock
+
+  on_soon : (events : List Event) (w : World) (f : Followed links apart W x bound readable Goes events w first) → SoonIn f.net n.now → On f.net
+  on_soon events w f soon = waits_path x its_key its_ask n.asks n.now whole first f.net f.path first_on soon
+
   on_of : (events : List Event) (w : World) (f : Followed links apart W x bound readable Goes events w first) → RunsOn c events
       → told w c < told old c + PATIENCE → On f.net
-  on_of events w f life young = waits_path x its_key its_ask n.asks n.now whole first f.net f.path
-      (made_bounded links apart W x bound readable old n h c s limits r asked a p) first_on (lives events w f life) (wait_limit w f.net f.over young)
+  on_of events w f life young = on_soon events w f (soon_of f.net its_key its_ask.first n.now (asked_in events w f) (lives events w f life)
+      (let lt = wait_limit w f.net f.over young in omega arith))
+
+  soon_in : (w : World) (m : Net) → Over links apart W x w m → IsSoon old w → SoonIn m n.now
+  soon_in w m over soon = subst (λ (q : Pace). m.now ≤ n.now + most q DEADLINE) (sym over.pace)
+      (let one = over.now in let two = h.now in let le = soon in omega arith)
 
   spelled : SpellsRequest (request_of its_ask).choice r (request_of its_ask).service
   spelled = subst (λ (z : Octets). SpellsRequest (choice_of r) r z) (sym p.joined) a.asks.spelled
@@ -234,17 +246,18 @@ module _ (links : ℕ → Option Octets) (apart : (i j : ℕ) (l : Octets) → l
       o : On f.net
       o = on_of events w f life young
 
-      go : PatientOrOver x its_key its_ask n.asks n.now (client_now f.net its_key) o.ticket.ticket f.net.log
+      go : PatientOrOver x its_key its_ask n.asks n.now (f.net.restarted its_key.client) (client_now f.net its_key) o.ticket.ticket f.net.log
           → IsWaiting w c a.link a.accepted.invoke_id ⊎ IsAnswered (length old.notes) r w.log
       go (inl k) = inl (waiting w f.net f.over (wait_limit w f.net f.over young) o o.ticket.ticket o.ticket.at k.waits
           (λ due. repeat_left x its_key its_ask n.asks n.now (client_now f.net its_key) o.ticket.ticket k (wait_limit w f.net f.over young) due))
-      go (inr (idle, answered)) = inr (answered_as w f.net f.net.log f.over.log (once events w run) answered)
+      go (inr (idle, inr (inl lost))) = let le = lives events w f life in absurd (omega arith)
+      go (inr (idle, inr (inr late))) = let lt = wait_limit w f.net f.over young in absurd (omega arith)
+      go (inr (idle, inl answered)) = inr (answered_as w f.net f.net.log f.over.log (once events w run) answered)
 
   -- A copy of the request brings an answer.
 
-  module _ (w served : World) (m : Net) (over : Over links apart W x w m) (on : On m) (young : client_now m its_key < its_ask.first + PATIENCE) (number : ℕ)
-      (d : Copy)
-      (may : MayArrive x.overtake w number d) (q : IsRequest a.sent d) (f : Finding w (Deliver number))
+  module _ (w served : World) (m : Net) (over : Over links apart W x w m) (on : On m) (soon : SoonIn m n.now)
+      (number : ℕ) (d : Copy) (may : MayArrive x.overtake w number d) (q : IsRequest a.sent d) (f : Finding w (Deliver number))
       (did : WorldStep x.overtake w (Deliver number) served) where
     abbrev y : IsPaired (IsCopyOf links apart) m.posts number d
     y = post links apart W x bound readable w served m over number d may.at
@@ -260,7 +273,7 @@ module _ (links : ℕ → Option Octets) (apart : (i j : ℕ) (l : Octets) → l
 
     brought : (u : Reply) × ((server_on_apdu (server_context x its_key (server_now m its_key)) (service_of taken.before.store) (m.entries its_key)
         (is_free (server_now m its_key) taken.before.servers) (request_to x its_key its_ask)).sends ≡ answer_to x its_key its_ask u ∷ [])
-    brought = brings_answer x its_key its_ask n.asks n.now m on young (service_of taken.before.store) (is_free (server_now m its_key) taken.before.servers)
+    brought = brings_answer x its_key its_ask n.asks n.now m on soon (service_of taken.before.store) (is_free (server_now m its_key) taken.before.servers)
         (λ none. finds w served m over number y.other d taken is.0 is.1 f none)
 
     abbrev gets : Key → Apdu → server.Reaction
@@ -299,7 +312,8 @@ module _ (links : ℕ → Option Octets) (apart : (i j : ℕ) (l : Octets) → l
   -- An answer is delivered.
 
   module _ (events : List Event) (w answered : World) (run : WorldRun x.overtake asked events w) (m : Net) (over : Over links apart W x w m)
-      (on : On m) (young : client_now m its_key < its_ask.first + PATIENCE) (number : ℕ) (d : Copy) (may : MayArrive x.overtake w number d)
+      (kept : StaysSince m its_key n.now) (on : On m) (young : client_now m its_key < its_ask.first + PATIENCE) (number : ℕ) (d : Copy)
+      (may : MayArrive x.overtake w number d)
       (from : IsFromServer c s a.accepted.invoke_id d) (did : WorldStep x.overtake w (Deliver number) answered) where
     abbrev z : IsPaired (IsCopyOf links apart) m.posts number d
     z = post links apart W x bound readable w answered m over number d may.at
@@ -339,17 +353,19 @@ module _ (links : ℕ → Option Octets) (apart : (i j : ℕ) (l : Octets) → l
         (once (events ++ Deliver number ∷ []) answered
         (run_join x.overtake events (Deliver number ∷ []) asked w answered run (answered, did, refl)))
         (subst (λ (k : ℕ). machine.IsAnswered n.asks its_ask (log_after k)) (sym on.number_is)
-        (told_answered x its_key its_ask n.asks n.now m on young on.ticket.ticket on.ticket.at fine.0 fine.2))
+        (told_answered x its_key its_ask n.asks n.now m on kept young on.ticket.ticket on.ticket.at fine.0 fine.2))
 
   pub robust : IsRobust x.overtake old c s limits r asked a
   robust = record {
     waits = λ events w run each life young. waits events w run each life young;
-    brings = λ events w run each life young number d may q f served did.
+    brings = λ events w run each soon number d may q f served did.
         let g = followed events w run each in
-        brings_one w served g.net g.over (on_of events w g life young) (wait_limit w g.net g.over young) number d may q f did;
+        let early = soon_in w g.net g.over soon in
+        brings_one w served g.net g.over (on_soon events w g early) early number d may q f did;
     answers = λ events w run each life young number d may from answered did.
         let g = followed events w run each in
-        is_answered events w answered run g.net g.over (on_of events w g life young) (wait_limit w g.net g.over young) number d may from did;
+        is_answered events w answered run g.net g.over (lives events w g life) (on_of events w g life young) (wait_limit w g.net g.over young)
+        number d may from did;
   }
 
 pub repeats_suffice : (W overtake : ℕ) (opening reached : World) → IsFresh opening → IsTimely opening.time.pace → IsBounded W overtake opening

@@ -35,7 +35,7 @@ use Rattle.bac_liveness.specs.Repeats.{PATIENCE, FindsServer, IsAnswered, IsWait
 use Rattle.bac_liveness.proofs.Paths.{Bounded, path_bounded, path_restarted, some_is, ask_of, Gives, event_steps, run_steps, path_log, path_posts, run_path}
 use Rattle.bac_liveness.proofs.Paths.{Any}
 use Rattle.bac_liveness.proofs.RoundTrips.{room_is, trip, bounded_in}
-use Rattle.bac_liveness.proofs.Clocks.{made_path, here_path}
+use Rattle.bac_liveness.proofs.Clocks.{AskedIn, SoonIn, made_of, soon_of, asked_path, soon_since}
 use Rattle.bac_liveness.proofs.Ticking.{tick_sends}
 use Rattle.bac_liveness.proofs.Waits.{IsFine, DoneFor, PatientOrOver, Waits, Finds, answered_grows, done_live, repeat_left, waits_path, got, of_map}
 
@@ -52,6 +52,9 @@ module _ (S : Type 0) (model : StoreModel S) (x : Rules) (key : Key) (ask : Ask)
 
   abbrev Stays_ : World S → Type 0
   Stays_ w = StaysSince w.net key made
+
+  abbrev Soon_ : World S → Type 0
+  Soon_ w = SoonIn w.net made
 
   -- what is said of events is what is said of the steps that they are
   finds_event : (w : World S) (e : Event) → FindsServer S model x key ask w e → Gives x (Finds x key ask number made) S model w e
@@ -72,15 +75,22 @@ module _ (S : Type 0) (model : StoreModel S) (x : Rules) (key : Key) (ask : Ask)
   finds_run [] w h = tt
   finds_run (e ∷ es) w h = (finds_event w e h.0, finds_run es (happens S model x w e) h.1)
 
-  run_on : (events : List Event) (w : World S) → Throughout S model x (FindsServer S model x key ask) events w → Bounded w.net → On w
-      → Stays_ (run S model x events w) → Young (run S model x events w)
-      → On (run S model x events w)
-  run_on events w served b h stays young = waits_path x key ask number made whole w.net (run S model x events w).net
-      (run_path x (Finds x key ask number made) S model events w (finds_run events w served)) b h stays young
+  run_on : (events : List Event) (w : World S) → Throughout S model x (FindsServer S model x key ask) events w → On w
+      → Soon_ (run S model x events w) → On (run S model x events w)
+  run_on events w served h soon = waits_path x key ask number made whole w.net (run S model x events w).net
+      (run_path x (Finds x key ask number made) S model events w (finds_run events w served)) h soon
 
-  event_on : (w : World S) (e : Event) → FindsServer S model x key ask w e → Bounded w.net → On w → Stays_ (happens S model x w e)
-      → Young (happens S model x w e) → On (happens S model x w e)
-  event_on w e served b h stays young = run_on (e ∷ []) w (served, tt) b h stays young
+  event_on : (w : World S) (e : Event) → FindsServer S model x key ask w e → On w → Soon_ (happens S model x w e) → On (happens S model x w e)
+  event_on w e served h soon = run_on (e ∷ []) w (served, tt) h soon
+
+  -- a client that has not restarted, and is in time, is not late by real time
+  soon_at : (v : World S) → AskedIn v.net key ask.first made → Stays_ v → Young v → Soon_ v
+  soon_at v h stays young = soon_of v.net key ask.first made h stays (omega arith)
+
+  on_at : (events : List Event) (w : World S) → Throughout S model x (FindsServer S model x key ask) events w → On w
+      → Stays_ (run S model x events w) → Young (run S model x events w) → On (run S model x events w)
+  on_at events w served h stays young = run_on events w served h (soon_at (run S model x events w)
+      (asked_path x Any key ask.first made w.net (run S model x events w).net (run_steps x S model events w) h.clock) stays young)
 
   split : (before : List Event) (e : Event) (between : List Event) (w : World S)
       → Throughout S model x (FindsServer S model x key ask) (before ++ e ∷ between) w
@@ -90,30 +100,32 @@ module _ (S : Type 0) (model : StoreModel S) (x : Rules) (key : Key) (ask : Ask)
   split [] e between w h = (tt, h.0, h.1)
   split (f ∷ before) e between w h = let r = split before e between (happens S model x w f) h.1 in ((h.0, r.0), r.1, r.2)
 
-  waiting_of : (w : World S) → On w → IsWaiting w.net key ask ⊎ IsAnswered number ask w.net.log
-  waiting_of w h = go h.ticket.state
+  waiting_of : (w : World S) → On w → Stays_ w → Young w → IsWaiting w.net key ask ⊎ IsAnswered number ask w.net.log
+  waiting_of w h stays young = go h.ticket.state
     where
-      go : PatientOrOver x key ask number made (client_now w.net key) h.ticket.ticket w.net.log
+      go : PatientOrOver x key ask number made (w.net.restarted key.client) (client_now w.net key) h.ticket.ticket w.net.log
           → IsWaiting w.net key ask ⊎ IsAnswered number ask w.net.log
       go (inl p) = inl (record { ticket = h.ticket.ticket; at = h.ticket.at; ask_is = h.ticket.is; waits = p.waits })
-      go (inr (idle, answered)) = inr answered
+      go (inr (idle, inl answered)) = inr answered
+      go (inr (idle, inr (inl lost))) = let le = stays in absurd (omega arith)
+      go (inr (idle, inr (inr late))) = let lt = young in absurd (omega arith)
 
   -- a tick that is due
-  sent_again : (v : World S) → On v → Young v → (t : ClientTransaction) → v.net.tickets key ≡ Some t → t.phase ≡ AwaitConfirmation
+  sent_again : (v : World S) → On v → Stays_ v → Young v → (t : ClientTransaction) → v.net.tickets key ≡ Some t → t.phase ≡ AwaitConfirmation
       → T_OUT ≤ client_now v.net key - t.since
       → (as_client as_server : List Key) → Contains as_client key
       → IsSentAgain x key ask t v.net (happens S model x v (Tick as_client as_server)).net
-  sent_again v h young t at awaits due as_client as_server i =
-      go (subst (λ (y : ClientTransaction). PatientOrOver x key ask number made (client_now v.net key) y v.net.log) same h.ticket.state)
+  sent_again v h stays young t at awaits due as_client as_server i =
+      go (subst (λ (y : ClientTransaction). PatientOrOver x key ask number made (v.net.restarted key.client) (client_now v.net key) y v.net.log) same h.ticket.state)
     where
       same : h.ticket.ticket ≡ t
       same = some_is h.ticket.ticket t (sym h.ticket.at ∙ at)
 
-      go : PatientOrOver x key ask number made (client_now v.net key) t v.net.log
+      go : PatientOrOver x key ask number made (v.net.restarted key.client) (client_now v.net key) t v.net.log
           → IsSentAgain x key ask t v.net (happens S model x v (Tick as_client as_server)).net
       go (inr o) = absurd (let z = sym o.0 ∙ ap is_idle awaits in cc)
       go (inl w) =
-          let sends = tick_sends S model x key ask number made whole v t as_client as_server h.clock at
+          let sends = tick_sends S model x key ask number made whole v t as_client as_server (made_of v.net key ask.first made h.clock stays) at
           (subst (λ (y : ClientTransaction). y.ask ≡ ask) same h.ticket.is) w young due h.entry i in
           record { left = repeat_left x key ask number made (client_now v.net key) t w young due; sent = sends.copies_are; ticket = sends.ticket }
 
@@ -123,10 +135,10 @@ module _ (S : Type 0) (model : StoreModel S) (x : Rules) (key : Key) (ask : Ask)
       reply : Reply
       served : IsServed S model x key ask reply v u
 
-    brings : (v : World S) → Kept S model opening W x bound v → Bounded v.net → On v → Young v → (i : ℕ) (free : Bool)
+    brings : (v : World S) → Kept S model opening W x bound v → Bounded v.net → On v → Soon_ v → (i : ℕ) (free : Bool)
         → IsOnItsWay x v.net key (request_to x key ask) i
         → FindsServer S model x key ask v (Deliver i free) → Brings v (happens S model x v (Deliver i free))
-    brings v s bounded h young i free m finds = go h.entry
+    brings v s bounded h soon i free m finds = go h.entry
       where
         is : h.ticket.ticket.ask ≡ ask
         is = h.ticket.is
@@ -146,15 +158,15 @@ module _ (S : Type 0) (model : StoreModel S) (x : Rules) (key : Key) (ask : Ask)
             → Brings v (happens S model x v (Deliver i free))
         go (inl none) = let f = finds m none in served f.0 f.2 (inl f.1)
         go (inr d) = served d.reply d.given.0
-            (inr (record { entry = d.entry; at = d.at; live = done_live x key ask number made v.net h.clock young d; request_is = d.request; state = d.state }))
+            (inr (record { entry = d.entry; at = d.at; live = done_live x key ask number made v.net h.clock soon d; request_is = d.request; state = d.state }))
 
-    through : (v : World S) → Kept S model opening W x bound v → Bounded v.net → On v → Young v → (i : ℕ) (free : Bool)
+    through : (v : World S) → Kept S model opening W x bound v → Bounded v.net → On v → Soon_ v → (i : ℕ) (free : Bool)
         → IsOnItsWay x v.net key (request_to x key ask) i
         → FindsServer S model x key ask v (Deliver i free) → (between : List Event) (answer : Apdu) (other : Bool)
         → (let u = run S model x between (happens S model x v (Deliver i free)) in
         On u → Stays_ u → Young u → IsOnItsWay x u.net key answer (length v.net.posts)
         → IsAnswered number ask (happens S model x u (Deliver (length v.net.posts) other)).net.log)
-    through v s bounded h young i free m finds between answer other on stays young_u m_u = go on.ticket.state
+    through v s bounded h soon i free m finds between answer other on stays young_u m_u = go on.ticket.state
       where
         b : World S
         b = happens S model x v (Deliver i free)
@@ -166,7 +178,7 @@ module _ (S : Type 0) (model : StoreModel S) (x : Rules) (key : Key) (ask : Ask)
         z = happens S model x (run S model x between (happens S model x v (Deliver i free))) (Deliver (length v.net.posts) other)
 
         r : Brings v (happens S model x v (Deliver i free))
-        r = brings v s bounded h young i free m finds
+        r = brings v s bounded h soon i free m finds
 
         post : Post
         post = post_of key v.net.now (answer_to x key ask r.reply)
@@ -189,8 +201,10 @@ module _ (S : Type 0) (model : StoreModel S) (x : Rules) (key : Key) (ask : Ask)
             (path_log x Any b.net u.net (run_steps x S model between b) (Performed number (request_of ask) r.reply)
             (subst (λ (k : ℕ). Has (Performed k (request_of ask) r.reply) b.net.log) h.number_is (r.served).performed))
 
-        go : PatientOrOver x key ask number made (client_now u.net key) on.ticket.ticket u.net.log → IsAnswered number ask z.net.log
-        go (inr (idle, answered)) = answered_grows x key ask number made u.net.log z.net.log grown answered
+        go : PatientOrOver x key ask number made (u.net.restarted key.client) (client_now u.net key) on.ticket.ticket u.net.log → IsAnswered number ask z.net.log
+        go (inr (idle, inl answered)) = answered_grows x key ask number made u.net.log z.net.log grown answered
+        go (inr (idle, inr (inl lost))) = let le = stays in absurd (omega arith)
+        go (inr (idle, inr (inr late))) = let lt = young_u in absurd (omega arith)
         go (inl p) =
             let now = (r.served).answered between (subst (λ (k : ℕ). StaysSince u.net key k) (sym h.made_is) stays)
             (record { ticket = on.ticket.ticket; at = on.ticket.at; going = ap is_idle p.waits; in_time = omega arith }) (length v.net.posts)
@@ -203,30 +217,30 @@ module _ (S : Type 0) (model : StoreModel S) (x : Rules) (key : Key) (ask : Ask)
 
     robust : (w : World S) → Kept S model opening W x bound w → Bounded w.net → On w → IsRobust S model x key ask number w
     robust w s bounded h = record {
-      waits = λ events served stays young. waiting_of (run S model x events w)
-          (run_on events w served bounded h (stays_at w (run S model x events w) h stays) young);
+      waits = λ events served stays young.
+          let v = run S model x events w in
+          let kept = stays_at w v h stays in
+          waiting_of v (on_at events w served h kept young) kept young;
       repeats = λ events as_client as_server served stays young t at awaits due there.
-          sent_again (run S model x events w) (run_on events w served bounded h
-          (stays_at w (run S model x events w) h stays) young) young t at awaits due as_client as_server there;
+          let v = run S model x events w in
+          let kept = stays_at w v h stays in
+          sent_again v (on_at events w served h kept young) kept young t at awaits due as_client as_server there;
       answered = λ before between i free other answer served stays young m m_u.
           let sp = split before (Deliver i free) between w served in
           let v = run S model x before w in
           let b = happens S model x v (Deliver i free) in
           let u = run S model x between b in
-          let bound_v = path_bounded x Any w.net v.net (run_steps x S model before w) bounded in
-          let bound_b = path_bounded x Any v.net b.net (event_steps x S model v (Deliver i free)) bound_v in
-          let stays_u = stays_at w u h stays in
-          let le_b = path_restarted x Any b.net u.net (run_steps x S model between b) bound_b key.client in
-          let le_v = path_restarted x Any v.net b.net (event_steps x S model v (Deliver i free)) bound_v key.client in
-          let stays_b : Stays_ b = omega arith in
-          let stays_v : Stays_ v = omega arith in
-          let runs_v = made_path x Any key ask.first made w.net v.net (run_steps x S model before w) bounded stays_v h.clock in
-          let runs_b = made_path x Any key ask.first made v.net b.net (event_steps x S model v (Deliver i free)) bound_v stays_b runs_v in
-          let le = here_path x Any key ask.first made b.net u.net (run_steps x S model between b) bound_b stays_u runs_b in
-          let first = here_path x Any key ask.first made v.net b.net (event_steps x S model v (Deliver i free)) bound_v stays_b runs_v in
-          let on_v = run_on before w sp.0 bounded h stays_v (omega arith) in
-          through v (run_kept S model opening W x bound before w s) bound_v on_v (omega arith) i free m sp.1 between answer other
-          (run_on between b sp.2 bound_b (event_on v (Deliver i free) sp.1 bound_v on_v stays_b (omega arith)) stays_u young) stays_u young m_u;
+          let kept = stays_at w u h stays in
+          let asked_v = asked_path x Any key ask.first made w.net v.net (run_steps x S model before w) h.clock in
+          let asked_b = asked_path x Any key ask.first made v.net b.net (event_steps x S model v (Deliver i free)) asked_v in
+          let asked_u = asked_path x Any key ask.first made b.net u.net (run_steps x S model between b) asked_b in
+          let soon_u = soon_at u asked_u kept young in
+          let soon_b = soon_since x Any key ask.first made b.net u.net (run_steps x S model between b) soon_u in
+          let soon_v = soon_since x Any key ask.first made v.net b.net (event_steps x S model v (Deliver i free)) soon_b in
+          let on_v = run_on before w sp.0 h soon_v in
+          let on_b = event_on v (Deliver i free) sp.1 on_v soon_b in
+          through v (run_kept S model opening W x bound before w s) (path_bounded x Any w.net v.net (run_steps x S model before w) bounded) on_v soon_v
+          i free m sp.1 between answer other (run_on between b sp.2 on_b soon_u) kept young m_u;
     }
       where
         stays_at : (y u : World S) → On y → StaysSince u.net key (y.net.made key) → Stays_ u
@@ -241,8 +255,8 @@ asked_on W x n s key choice front rest calm free = record {
     timely = (calm key).timely;
     client_told = (calm key).client;
     server_told = (calm key).server;
-    stays = spent.lives;
-    since = since_now n.pace n.now (n.client_clocks key.client) (calm key).client;
+    on = omega arith;
+    life = inl (record { stays = spent.lives; since = since_now n.pace n.now (n.client_clocks key.client) (calm key).client });
   };
   entry = inl (none_live (n.entries key) (λ e at. spent.dead e at));
   posts = λ i q at is young. posts i q at is young (got n.posts (post_of key n.now (request_to x key ask) ∷ []) i q at);

@@ -187,7 +187,7 @@ module _ (S : Type 0) (model : StoreModel S) (x : Rules) (key : Key) where
         again : client.client_ticks (client_context x key (client_now v.net key)) (after (client_now v.net key) t r) ≡ Stays
         again =
             let next : Patient x key ask number made (client_now v.net key) (after (client_now v.net key) t r) =
-            patient_on x key ask number made (client_now v.net key) t w young due in
+            patient_on x key ask number made (client_now v.net key) t w due in
             let undue : nat_le T_OUT (client_now v.net key - client_now v.net key) ≡ false = grind (arith, nat_tests) in
             ticks_by x key ask number made (client_now v.net key) (after (client_now v.net key) t r) is next young
             ∙ ap (λ b. if b then client.repeats (client_context x key (client_now v.net key)) (after (client_now v.net key) t r) else Stays) undue

@@ -48,6 +48,7 @@ use Rattle.bac_liveness.specs.Runs as net
 use Rattle.bac_liveness.specs.WorldRuns.{Throughout, endings_of}
 use Rattle.bac_liveness.specs.WorldRoundTrip.{MayArrive, IsFromServer}
 use Rattle.bac_liveness.specs.WorldEnds.{IsOpen, EndsInTime, AsksEnd}
+use Rattle.bac_liveness.proofs.Serving.{late_gets}
 use Rattle.bac_liveness.proofs.Paths.{Any, Bounded, Path, bounded_start, path_then, path_log}
 use Rattle.bac_liveness.proofs.Changes.{IdleIsLogged, HasEnded, IsThere, ended_grows, logged_path}
 use Rattle.bac_liveness.proofs.Endings.{Tracked, tracked_path, ended_once}
@@ -166,19 +167,6 @@ tick_leaves now old new o tick key number u is = go (value_at same_key key old.c
         held_in_time (context_of old.settings now key) v.number v.held u (ap (λ (y : Client). y.held) same)
 
 -- An APDU of a server ends an old ticket.
-
-pub late_gets : (readable : Readable) (c : Context) (t : ClientTransaction) (a : Apdu) → is_from_server a ≡ true → is_idle t.phase ≡ false
-    → DEADLINE < c.now - t.ask.first
-    → client.client_on_apdu c readable t a ≡ Ends [] Ending.Expired
-late_gets readable c t a from going late =
-    ap (λ (b : Bool). if b || not (is_from_server a) then Stays else if is_expired c.now t.ask then Ends [] Ending.Expired
-    else client.open_on_apdu c readable t.ask t.phase a) going
-    ∙ ap (λ (b : Bool). if not b then Stays else if is_expired c.now t.ask then Ends [] Ending.Expired
-    else client.open_on_apdu c readable t.ask t.phase a) from
-    ∙ ap (λ (b : Bool). if b then Ends [] Ending.Expired else client.open_on_apdu c readable t.ask t.phase a) expires
-  where
-    expires : is_expired c.now t.ask ≡ true
-    expires = grind (arith, nat_tests)
 
 -- what a copy of a transaction says is sent by its client or by its server
 from_server : (W : ℕ) (times : Moments) (number : ℕ) (ask : Ask) (log : List octets.Fact) (up : Up) (down : Down) (moment k : ℕ) (a : Apdu)

@@ -3,7 +3,8 @@
 use Rattle.std.specs.Prelude.{◌≡◌, ℕ, ◌+◌, ◌-◌, ◌<◌, ◌≤◌, ◌⊎◌, List, [], ◌∷◌, ◌++◌, length, Some, None, slice_get}
 use Rattle.bac_apdu.specs.Apdu.{Limits}
 use Rattle.bac_service.specs.Values.{Request}
-use Rattle.bac_protocol.specs.declared.times.TheConstants.{T_OUT}
+use Rattle.bac_protocol.specs.declared.times.TheConstants.{T_OUT, DEADLINE}
+use Rattle.bac_protocol.specs.Pace.{most}
 use Rattle.bac_protocol.specs.Server.{live_entry}
 use Rattle.bac_protocol.specs.Client.{ClientTransaction}
 use Rattle.bac_protocol.specs.Client.Phase.{AwaitConfirmation}
@@ -39,6 +40,10 @@ pub record IsWaiting (w : World) (client : ℕ) (server_link : List ℕ) (invoke
 abbrev pub InPatience : (client : ℕ) → (old new : World) → Type 0
 InPatience client old new = told new client < told old client + PATIENCE
 
+-- no more real time has passed than while a clock goes on by DEADLINE
+abbrev pub IsSoon : (old new : World) → Type 0
+IsSoon old new = new.time.now ≤ old.time.now + most new.time.pace DEADLINE
+
 -- the next ask, of one APDU, is accepted; as long as each copy of its request that is delivered finds its server, and PATIENCE has not passed:
 pub record IsRobust (overtake : ℕ) (old : World) (client server : ℕ) (limits : Limits) (r : Request) (asked : World)
     (a : IsAsked old client server limits r asked) : Type 0 where
@@ -47,10 +52,9 @@ pub record IsRobust (overtake : ℕ) (old : World) (client server : ℕ) (limits
       → Throughout overtake (FindsServer overtake server a.before a.accepted.invoke_id r a.sent) asked events w run → RunsOn client events
       → InPatience client old w
       → IsWaiting w client a.link a.accepted.invoke_id ⊎ IsAnswered (length old.notes) r w.log
-  -- each copy of its request that is delivered brings one answer, where its client does not restart
+  -- each copy of its request that is delivered brings one answer, also where its client has restarted, so this is by real time
   pub brings : (events : List Event) (w : World) (run : WorldRun overtake asked events w)
-      → Throughout overtake (FindsServer overtake server a.before a.accepted.invoke_id r a.sent) asked events w run → RunsOn client events
-      → InPatience client old w
+      → Throughout overtake (FindsServer overtake server a.before a.accepted.invoke_id r a.sent) asked events w run → IsSoon old w
       → (number : ℕ) (c : Copy) → MayArrive overtake w number c → IsRequest a.sent c
       → FindsServer overtake server a.before a.accepted.invoke_id r a.sent w (Deliver number)
       → (served : World) → WorldStep overtake w (Deliver number) served

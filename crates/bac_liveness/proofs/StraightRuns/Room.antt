@@ -2,8 +2,6 @@
 use Rattle.std.proofs.Common.{◌≡◌, ◌+◌, ◌*◌, ◌/◌, ◌≤◌, ◌<◌, ◌⊎◌, ◌||◌, ℕ, zero, suc, Bool, true, false, not, List, [], ◌∷◌, ◌++◌, filter, count_by, Option}
 use Rattle.std.proofs.Common.{Some, None, slice_get, if◌then◌else◌, nat_eq, nat_le, refl, sym, ap, subst, inl, inr, ◌∙◌, arith}
 use Rattle.std.proofs.lemmas.Bool.Decides.{nat_tests}
-use Rattle.std.proofs.lemmas.Nat.{le-div}
-use Rattle.std.proofs.Math.Nat.{div-zero, div-mul-le_self}
 use Rattle.bac_apdu.specs.Apdu.{Apdu, Limits}
 use Rattle.bac_apdu.specs.Apdu.Apdu.{ConfirmedRequest, UnconfirmedRequest, SimpleAck, ComplexAck, SegmentAck, Error, Reject, Abort}
 use Rattle.bac_npdu.specs.Peers.{PeerView}
@@ -36,6 +34,7 @@ use Rattle.bac_world.specs.World.Event.{Deliver, Noise, Tick, Advance, Change, R
 use Rattle.bac_world.proofs.Steps.{decide_number}
 use Rattle.bac_world.proofs.Asking.{accepted_is}
 use Rattle.bac_liveness.specs.Room.{HasRoom, HaveRoom}
+use Rattle.bac_liveness.proofs.Clocks.{divided}
 use Rattle.bac_liveness.proofs.StraightRuns.Counts.{count, count_changed, count_weaker, count_put, count_with}
 
 -- Entries.
@@ -255,12 +254,6 @@ fresh_room now n fresh = record {
 -- each clock shows its whole milliseconds
 abbrev AreShown : Time → Type 0
 AreShown t = (i : ℕ) → t.clocks i ≡ clock_at t.pace (t.clocks i).exact
-
-divided : (a b grain : ℕ) → a ≤ b → a / grain ≤ b / grain
-divided a b zero le = let e : a / zero ≡ zero = div-zero a in omega arith
-divided a b (suc k) le =
-    let low : a / suc k * suc k ≤ a = div-mul-le_self a (suc k) in
-    le-div (a / suc k) b (suc k) (omega arith) (omega arith)
 
 -- and so it never shows less than before
 goes_on_later : (p : Pace) (by own : ℕ) (c : Clock) → c ≡ clock_at p c.exact → c.shows ≤ (goes_on p by own c).shows
