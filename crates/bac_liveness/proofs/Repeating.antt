@@ -58,8 +58,8 @@ use Rattle.bac_liveness.proofs.Waits.{Waits, Finds, PatientOrOver, WasGiven, wai
 use Rattle.bac_liveness.proofs.Robust.{asked_on}
 use Rattle.bac_liveness.proofs.Following.{Gives, Followed, Parts, IsTaken, IsServedBy, served_reaction, accepted, asked_free, post, comes, heard_now}
 use Rattle.bac_liveness.proofs.Following.{served_over, told_over, run_followed}
-use Rattle.bac_liveness.proofs.Asked.{key, ask, made, made_over, made_bounded, node_at, stays, client_link, server_link, foreign, request_is, is_request}
-use Rattle.bac_liveness.proofs.Asked.{pairwise_rest, just_one}
+use Rattle.bac_liveness.proofs.Asked.{key, ask, made, made_over, node_at, stays, client_link, server_link, foreign, request_is, is_request, pairwise_rest}
+use Rattle.bac_liveness.proofs.Asked.{just_one}
 use Rattle.bac_liveness.proofs.WorldEndings.{run_join, on_run, opened_net}
 use Rattle.bac_liveness.proofs.Performing.{id_is, is_none, entry_is, slot, outcome, way, does, reaction}
 use Rattle.bac_liveness.proofs.Values.{answered_values, reply_kind}

@@ -32,8 +32,7 @@ use Rattle.bac_protocol.proofs.Paces.{since_now}
 use Rattle.bac_liveness.specs.Runs.{Throughout, IsOnItsWay, StaysSince}
 use Rattle.bac_liveness.specs.RoundTrip.{FitsInOne, CanPerform, HasPerformed, IsServed, request_to, answer_to}
 use Rattle.bac_liveness.specs.Repeats.{PATIENCE, FindsServer, IsAnswered, IsWaiting, IsSentAgain, IsRobust, RepeatsSuffice}
-use Rattle.bac_liveness.proofs.Paths.{Bounded, path_bounded, path_restarted, some_is, ask_of, Gives, event_steps, run_steps, path_log, path_posts, run_path}
-use Rattle.bac_liveness.proofs.Paths.{Any}
+use Rattle.bac_liveness.proofs.Paths.{Bounded, path_bounded, some_is, ask_of, Gives, event_steps, run_steps, path_log, path_posts, run_path, Any}
 use Rattle.bac_liveness.proofs.RoundTrips.{room_is, trip, bounded_in}
 use Rattle.bac_liveness.proofs.Clocks.{AskedIn, SoonIn, made_of, soon_of, asked_path, soon_since}
 use Rattle.bac_liveness.proofs.Ticking.{tick_sends}
@@ -116,7 +115,8 @@ module _ (S : Type 0) (model : StoreModel S) (x : Rules) (key : Key) (ask : Ask)
       → (as_client as_server : List Key) → Contains as_client key
       → IsSentAgain x key ask t v.net (happens S model x v (Tick as_client as_server)).net
   sent_again v h stays young t at awaits due as_client as_server i =
-      go (subst (λ (y : ClientTransaction). PatientOrOver x key ask number made (v.net.restarted key.client) (client_now v.net key) y v.net.log) same h.ticket.state)
+      go (subst (λ (y : ClientTransaction). PatientOrOver x key ask number made (v.net.restarted key.client)
+      (client_now v.net key) y v.net.log) same h.ticket.state)
     where
       same : h.ticket.ticket ≡ t
       same = some_is h.ticket.ticket t (sym h.ticket.at ∙ at)
@@ -201,7 +201,8 @@ module _ (S : Type 0) (model : StoreModel S) (x : Rules) (key : Key) (ask : Ask)
             (path_log x Any b.net u.net (run_steps x S model between b) (Performed number (request_of ask) r.reply)
             (subst (λ (k : ℕ). Has (Performed k (request_of ask) r.reply) b.net.log) h.number_is (r.served).performed))
 
-        go : PatientOrOver x key ask number made (u.net.restarted key.client) (client_now u.net key) on.ticket.ticket u.net.log → IsAnswered number ask z.net.log
+        go : PatientOrOver x key ask number made (u.net.restarted key.client) (client_now u.net key) on.ticket.ticket u.net.log
+            → IsAnswered number ask z.net.log
         go (inr (idle, inl answered)) = answered_grows x key ask number made u.net.log z.net.log grown answered
         go (inr (idle, inr (inl lost))) = let le = stays in absurd (omega arith)
         go (inr (idle, inr (inr late))) = let lt = young_u in absurd (omega arith)

@@ -35,7 +35,8 @@ use Rattle.bac_liveness.proofs.Paths.Step.{Asks, Serves, Hears, TicksTicket, Tic
 use Rattle.bac_liveness.proofs.Paths.Path.{Here, Then}
 use Rattle.bac_liveness.proofs.Clocks.{IsBegunAfter, AskedIn, SoonIn, alive_soon, asks_no_more, asked_step, soon_before, begun_passes}
 use Rattle.bac_liveness.proofs.Kept.{held_in_time}
-use Rattle.bac_liveness.proofs.Serving.{answer_any_time, answer_not_from_client, answer_from_server, late_gets, answer_ends, performed_entry, answers_first, serves_new, serves_again}
+use Rattle.bac_liveness.proofs.Serving.{answer_any_time, answer_not_from_client, answer_from_server, late_gets, answer_ends, performed_entry, answers_first}
+use Rattle.bac_liveness.proofs.Serving.{serves_new, serves_again}
 
 -- Lists of copies.
 
@@ -171,7 +172,8 @@ module _ (x : Rules) (key : Key) (ask : Ask) (number made : ℕ) where
   -- What one end does.
 
   abbrev ClientGoal : Net → ClientTransaction → client.Reaction → Type 0
-  ClientGoal n t r = TicketFits (n.restarted key.client) (client_now n key) (Some (after (client_now n key) t r)) (ended number (ending_of r) n.log) × Each (IsFine n.log) (sends_of r)
+  ClientGoal n t r = TicketFits (n.restarted key.client) (client_now n key) (Some (after (client_now n key) t r)) (ended number (ending_of r) n.log)
+      × Each (IsFine n.log) (sends_of r)
 
   abbrev ServerGoal : Net → server.Reaction → Type 0
   ServerGoal n v = EntryIn n v.entry (performed number v.effect n.log) × Each (IsFine (performed number v.effect n.log)) v.sends
@@ -205,8 +207,10 @@ module _ (x : Rules) (key : Key) (ask : Ask) (number made : ℕ) where
           subst (λ (o : Option ClientTransaction). TicketFits (n.restarted key.client) (client_now n key) o log)
           (sym (subst (λ (j : Key). set_at n.tickets k kept j ≡ kept) is (set_same n.tickets k kept)))
           (subst (λ (m : ℕ). TicketFits (n.restarted key.client) (client_now n key) kept (ended m (ending_of r) n.log)) (sym own_log)
-          (subst (λ (j : Key). TicketFits (n.restarted key.client) (client_now n key) (Some (after (client_now n j) t r)) (ended number (ending_of r) n.log)) (sym is) (own is).0))
-      go (inr ne) = subst (λ (o : Option ClientTransaction). TicketFits (n.restarted key.client) (client_now n key) o log) (sym (set_other n.tickets k kept key ne))
+          (subst (λ (j : Key). TicketFits (n.restarted key.client) (client_now n key) (Some (after (client_now n j) t r)) (ended number (ending_of r) n.log))
+          (sym is) (own is).0))
+      go (inr ne) = subst (λ (o : Option ClientTransaction). TicketFits (n.restarted key.client) (client_now n key) o log)
+          (sym (set_other n.tickets k kept key ne))
           (ticket_grows (n.restarted key.client) (client_now n key) (n.tickets key) n.log log g h.ticket)
 
   server_waits : (n : Net) (k : Key) (v : server.Reaction) → Waits n → (k ≡ key → ServerGoal n v) → Waits (server_acts n k v)
@@ -249,7 +253,8 @@ module _ (x : Rules) (key : Key) (ask : Ask) (number made : ℕ) where
   idle_stays n t is idle over = (record { ticket = t; at = refl; is = is; state = inr (idle, over) }, tt)
 
   -- what is known of the ticket, by its name
-  pub known : (n : Net) (t : ClientTransaction) → n.tickets key ≡ Some t → Waits n → (t.ask ≡ ask) × PatientOrOver (n.restarted key.client) (client_now n key) t n.log
+  pub known : (n : Net) (t : ClientTransaction) → n.tickets key ≡ Some t → Waits n → (t.ask ≡ ask)
+      × PatientOrOver (n.restarted key.client) (client_now n key) t n.log
   known n t at h =
       let same : h.ticket.ticket ≡ t = some_is h.ticket.ticket t (sym h.ticket.at ∙ at) in (
         subst (λ (y : ClientTransaction). y.ask ≡ ask) same h.ticket.is,
@@ -283,16 +288,19 @@ module _ (x : Rules) (key : Key) (ask : Ask) (number made : ℕ) where
           (record { ticket = record t { phase = Idle }; at = refl; is = is; state = inr (refl, inl (p, inr given.1, inl refl)) }, tt)
       go true late =
           subst (ClientGoal n t) (sym (late_gets x.readable c t (answer_to x key ask p)
-          (answer_from_server (server_context x key ask.first) ask.choice p) (ap is_idle w.waits) (grind (arith, nat_tests))))
-          (record {
-            ticket = record t { phase = Idle };
-            at = refl;
-            is = is;
-            state = inr (refl, inr (inr (let f = first in grind (arith, nat_tests))));
-          }, tt)
+          (answer_from_server (server_context x key ask.first) ask.choice p) (ap is_idle w.waits) (grind (arith, nat_tests)))) (
+            record {
+              ticket = record t { phase = Idle };
+              at = refl;
+              is = is;
+              state = inr (refl, inr (inr (let f = first in grind (arith, nat_tests))));
+            },
+            tt,
+          )
 
   -- an answer that comes to it leaves the ask answered, where its client has not restarted
-  pub told_answered : (n : Net) → Waits n → StaysSince n key made → InPatience n → (t : ClientTransaction) → n.tickets key ≡ Some t → (p : Reply) → WasGiven p n.log
+  pub told_answered : (n : Net) → Waits n → StaysSince n key made → InPatience n → (t : ClientTransaction) → n.tickets key ≡ Some t → (p : Reply)
+      → WasGiven p n.log
       → IsAnswered number ask (ended number (ending_of (client.client_on_apdu (client_context x key (client_now n key)) x.readable t
       (answer_to x key ask p))) n.log)
   told_answered n h stays young t at p given = go (known n t at h).0 (known n t at h).1
@@ -392,7 +400,11 @@ module _ (x : Rules) (key : Key) (ask : Ask) (number made : ℕ) where
 
     open_goal : (b : Bool) → is_expired (client_now n key) t.ask ≡ b
         → ClientGoal n t (if b then Ends [] Expired else client.open_ticks ticking t AwaitConfirmation)
-    open_goal true late = (given_up (Ended number Expired ∷ n.log) (let f : t.ask.first ≡ ask.first = ap (λ (a : Ask). a.first) is in grind (arith, nat_tests)), tt)
+    open_goal true late = (
+      given_up (Ended number Expired ∷ n.log)
+          (let f : t.ask.first ≡ ask.first = ap (λ (a : Ask). a.first) is in grind (arith, nat_tests)),
+      tt,
+    )
     open_goal false young = timer_goal (nat_le T_OUT (client_now n key - t.since)) refl
 
   ticks_timer : (n : Net) → ask.whole ≡ true → (t : ClientTransaction) → t.ask ≡ ask → PatientOrOver (n.restarted key.client) (client_now n key) t n.log
@@ -546,7 +558,8 @@ module _ (x : Rules) (key : Key) (ask : Ask) (number made : ℕ) where
     clock = h.clock;
     entry = entry_grows n.pace n.now (n.server_clocks key.server) (n.entries key) n.log log g h.entry;
     posts = posts_on n k (sends_of (client.asks (client_context x k (client_now n k)) other)) log h g (λ is. absurd (ne is));
-    ticket = subst (λ (o : Option ClientTransaction). TicketFits (n.restarted key.client) (client_now n key) o log) (sym (set_other n.tickets k next_ticket key ne))
+    ticket = subst (λ (o : Option ClientTransaction). TicketFits (n.restarted key.client) (client_now n key) o log)
+        (sym (set_other n.tickets k next_ticket key ne))
         (ticket_grows (n.restarted key.client) (client_now n key) (n.tickets key) n.log log g h.ticket);
     number_is = set_other n.numbers k n.asks key ne ∙ h.number_is;
     made_is = set_other n.made k n.now key ne ∙ h.made_is;

@@ -1,6 +1,6 @@
 -- Each ask ends, in every world.
-use Rattle.std.proofs.Common.{◌≡◌, ◌⊎◌, ℕ, suc, ◌-◌, ◌<◌, ◌≤◌, Bool, true, false, List, [], ◌∷◌, ◌++◌, length, Option, Some, None, if◌then◌else◌, not, ◌||◌}
-use Rattle.std.proofs.Common.{nat_eq, refl, sym, ap, subst, inl, inr, ◌∙◌, arith}
+use Rattle.std.proofs.Common.{◌≡◌, ◌⊎◌, ℕ, suc, ◌-◌, ◌<◌, ◌≤◌, Bool, true, false, List, [], ◌∷◌, ◌++◌, length, Option, Some, None, if◌then◌else◌, nat_eq, refl}
+use Rattle.std.proofs.Common.{sym, ap, subst, inl, inr, ◌∙◌, arith}
 use Rattle.std.proofs.lemmas.Bool.Decides.{nat_tests}
 use Rattle.bac_apdu.specs.Apdu.{Apdu, Limits}
 use Rattle.bac_apdu.specs.Apdu.Apdu.{ConfirmedRequest, UnconfirmedRequest, SimpleAck, ComplexAck, SegmentAck, Error, Reject, Abort}
@@ -8,7 +8,7 @@ use Rattle.bac_service.specs.Services.{reads_reply}
 use Rattle.bac_service.specs.Values.{Request, choice_of}
 use Rattle.bac_protocol.specs.declared.times.TheConstants.{DEADLINE}
 use Rattle.bac_protocol.specs.Context.{Context}
-use Rattle.bac_protocol.specs.Service.{Octets, Readable, Ending}
+use Rattle.bac_protocol.specs.Service.{Octets, Ending}
 use Rattle.bac_protocol.specs.Wire.{is_from_client, is_from_server}
 use Rattle.bac_protocol.specs.Client as client
 use Rattle.bac_protocol.specs.Client.{Ask, ClientTransaction, Reaction, is_idle, is_expired}

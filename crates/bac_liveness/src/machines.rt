@@ -13,8 +13,9 @@ ghost use Rattle.bac_liveness.specs.RoundTrip.{RoundTripSuffices, RoundTripSuffi
 ghost use Rattle.bac_liveness.specs.Stopped.{StoppedGoesOn};
 ghost use Rattle.bac_liveness.specs.Turns.{OneTurnSuffices};
 
-/// Each ask ends: after any run, more than 60,000 ms after its first sending by its client's clock, a tick of its client leaves it ended, and so does each APDU of a server
-/// that comes for it, whatever happens in between, but for a restart of that client, which loses the ask. The log then has one ending of that ask.
+/// Each ask ends: after any run, more than 60,000 ms after its first sending by its client's clock, a tick of its client leaves it ended, and so does each
+/// APDU of a server that comes for it, whatever happens in between, but for a restart of that client, which loses the ask. The log then has one ending of
+/// that ask.
 pub fn asks_end<S>()
     ensures { (model : StoreModel S) (opening : ℕ → S) (W : ℕ) (rules : Rules) → IsBounded W rules → (pace : Pace) → IsTimely pace → (clocks : ℕ → ℕ)
         → (events : List Event)
