@@ -224,8 +224,7 @@ module _ (S : Type 0) (model : StoreModel S) (opening : ℕ → S) (W : ℕ) (x 
       record { begin = e.begin; choice = of.choice i; limits = of.limits i; request = request i; state = state i }
 
   entry_shows : (e : ServerTransaction) → live_entry now.there (w.net.entries key) ≡ Some e → IsOfAsk x key ask e → (kept : Option Octets) → e.request ≡ kept
-      → (st : State)
-      → e.state ≡ st → live_entry now.there (w.net.entries key) ≡ live_entry now.there (Some (entry_with e.begin kept st))
+      → (st : State) → e.state ≡ st → live_entry now.there (w.net.entries key) ≡ live_entry now.there (Some (entry_with e.begin kept st))
   entry_shows e entry of kept request st state =
       entry ∙ sym (live_self now.there e ((there now.there (w.net.entries key) e entry).live))
       ∙ ap (λ (y : ServerTransaction). live_entry now.there (Some y)) (same_entry e of kept request st state)
@@ -509,8 +508,7 @@ module _ (S : Type 0) (model : StoreModel S) (opening : ℕ → S) (W : ℕ) (x 
       → live_entry now.there (w.net.entries key) ≡ live_entry now.there q.entry → Shows S model x now number key after_tick q (length w.net.posts)
   whole_shows phase ticks is q ticket pending stores log_is entry =
       ticked S model opening W x bound w kept_in key t at can.serving (Repeats t.phase (client.request_apdu c ask ∷ [])) q ticks
-      (ap waiting is ∙ ticket) pending refl
-      stores log_is entry
+      (ap waiting is ∙ ticket) pending refl stores log_is entry
 
   module _ (is : t.phase ≡ AwaitConfirmation) (due : T_OUT ≤ now.here - t.since) (left : 0 < t.repeats) (some : 0 < n) where
     waiting_new : ask.whole ≡ true → live_entry now.there (w.net.entries key) ≡ None
@@ -581,8 +579,7 @@ module _ (S : Type 0) (model : StoreModel S) (opening : ℕ → S) (W : ℕ) (x 
               let big = room in
               let big' = positive in
               let z = again_.segments_answered S model x now number key ask young
-              (t.repeats - 1) e.begin there_is.live None w.stores log p 1 0 now.here anew refl
-              (omega arith) (omega arith) can.kind in
+              (t.repeats - 1) e.begin there_is.live None w.stores log p 1 0 now.here anew refl (omega arith) (omega arith) can.kind in
               let count = count_is whole in
               record {
                 q = q;
@@ -627,8 +624,7 @@ module _ (S : Type 0) (model : StoreModel S) (opening : ℕ → S) (W : ℕ) (x 
                 cheap = omega arith;
                 fin = ends_finish (t.repeats - 1) e.begin there_is.live request (1 + 3 * wc) q refl done
                     (down.ends_then S model x now number key ask young (t.repeats - 1) e.begin there_is.live request w.stores log 1 (3 * wc)
-                    (1 + 3 * wc) q mid p
-                    (omega arith) y z);
+                    (1 + 3 * wc) q mid p (omega arith) y z);
               }
           go false whole =
               let big = room in
@@ -641,8 +637,7 @@ module _ (S : Type 0) (model : StoreModel S) (opening : ℕ → S) (W : ℕ) (x 
               let y = again_.segments_resume S model x now number key ask young (t.repeats - 1) e.begin there_is.live None w.stores log ticket reply_out since
               0 0 refl refl (omega arith) in
               let z = from_start reply_out same cut (t.repeats - 1) e.begin there_is.live None N_RETRY (SegmentedRequest anew true) now.here
-              (sending_waits anew)
-              refl start in
+              (sending_waits anew) refl start in
               let count = count_is whole in
               record {
                 q = q;
@@ -788,8 +783,7 @@ module _ (S : Type 0) (model : StoreModel S) (opening : ℕ → S) (W : ℕ) (x 
     collecting_turn inc is due Dropped state hears stands keeps cut = absurd stands
 
   pub client_turn : (phase : Phase) → t.phase ≡ phase → ClientIsDue now.here t phase → (o : Option ServerTransaction)
-      → live_entry now.there (w.net.entries key) ≡ o
-      → TakesRequest now.there o → AreInStep x key ask phase o → Gives S model x w key t p o → Ready after_tick
+      → live_entry now.there (w.net.entries key) ≡ o → TakesRequest now.there o → AreInStep x key ask phase o → Gives S model x w key t p o → Ready after_tick
   client_turn Idle is due o entry takes step gives = absurd due
   client_turn (SegmentedRequest out all) is due None entry takes step gives =
       let h = step.stand in sending_new out all is due.0 due.1 h.0 h.1 entry h.2 gives
