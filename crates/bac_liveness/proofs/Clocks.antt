@@ -123,6 +123,7 @@ pub record IsWaiting (p : Pace) (now : ℕ) (client : Clock) (restarted from mad
   pub since : Since p moment shown now client
   pub from_is : from ≡ shown + REST + 1
 
+-- an ask by the clocks of its two ends
 pub record IsAsked (p : Pace) (now : ℕ) (client server : Clock) (restarted from first made : ℕ) : Type 0 where
   pub timely : IsTimely p
   pub client_told : IsShown p client
@@ -134,15 +135,7 @@ abbrev pub AskedIn : Net → Key → (first made : ℕ) → Type 0
 AskedIn n key first made =
     IsAsked n.pace n.now (n.client_clocks key.client) (n.server_clocks key.server) (n.restarted key.client) (n.asks_from key.client) first made
 
-pub asked_going : (n : Net) (key : Key) (first made : ℕ) → MadeIn n key first made → AskedIn n key first made
-asked_going n key first made h = record {
-  timely = h.timely;
-  client_told = h.client_told;
-  server_told = h.server_told;
-  on = h.since.on;
-  life = inl (record { stays = h.stays; since = h.since });
-}
-
+-- an ask whose client has not restarted
 pub made_of : (n : Net) (key : Key) (first made : ℕ) → AskedIn n key first made → StaysSince n key made → MadeIn n key first made
 made_of n key first made h stays = go h.life
   where

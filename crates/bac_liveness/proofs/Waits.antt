@@ -242,7 +242,7 @@ module _ (x : Rules) (key : Key) (ask : Ask) (number made : ℕ) where
   abbrev pub InPatience : Net → Type 0
   InPatience n = client_now n key < ask.first + PATIENCE
 
-  -- no more real time has passed since the ask than while a clock goes on by DEADLINE
+  -- no more real time has passed since the ask than may pass while a clock goes on by DEADLINE
   abbrev pub Soon : Net → Type 0
   Soon n = SoonIn n made
 

@@ -40,7 +40,7 @@ pub record IsWaiting (w : World) (client : ℕ) (server_link : List ℕ) (invoke
 abbrev pub InPatience : (client : ℕ) → (old new : World) → Type 0
 InPatience client old new = told new client < told old client + PATIENCE
 
--- no more real time has passed than while a clock goes on by DEADLINE
+-- no more real time has passed than may pass while a clock goes on by DEADLINE
 abbrev pub IsSoon : (old new : World) → Type 0
 IsSoon old new = new.time.now ≤ old.time.now + most new.time.pace DEADLINE
 
