@@ -83,22 +83,14 @@ impl Aged<ClientRules> for Client {
 impl Ticks<ClientRules, PeerKey, Settings> for Client {
     ghost ticked = { value_ticked };
 
-    fn stand_in() -> Client {
-        Client {
-            number: 0,
-            held: TransactionSlot::Closed { first: 0 },
-        }
-    }
-
-    fn tick(self, settings: &Settings, now: u64, key: &PeerKey) -> Client {
-        let Client { number, held } = self;
+    fn tick(&mut self, settings: &Settings, now: u64, key: &PeerKey) {
         let context = Context {
             settings: *settings,
             key: *key,
             moment: now,
         };
-        let held = ticked(&context, held);
-        Client { number, held }
+        let held = std::mem::replace(&mut self.held, TransactionSlot::Closed { first: 0 });
+        self.held = ticked(&context, held);
     }
 
     fn ticks() {}

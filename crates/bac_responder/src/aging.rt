@@ -43,31 +43,13 @@ impl Aged<ServerRules> for ServerTransaction {
 impl Ticks<ServerRules, PeerKey, Settings> for ServerTransaction {
     ghost ticked = { entry_ticked };
 
-    fn stand_in() -> ServerTransaction {
-        let limits = Limits {
-            max_apdu: 0,
-            takes_segments: false,
-            max_segments: 0,
-        };
-        let origin = Origin {
-            begin: 0,
-            terms: Terms { choice: 0, limits },
-            request: None,
-        };
-        ServerTransaction {
-            origin,
-            state: State::Dropped,
-        }
-    }
-
-    fn tick(mut self, settings: &Settings, now: u64, key: &PeerKey) -> ServerTransaction {
+    fn tick(&mut self, settings: &Settings, now: u64, key: &PeerKey) {
         let context = Context {
             settings: *settings,
             key: *key,
             moment: now,
         };
         self.commit_tick(&context);
-        self
     }
 
     fn ticks() {}

@@ -37,10 +37,10 @@ nowhere = 0 ∷ 0 ∷ 0 ∷ 0 ∷ 0 ∷ 0 ∷ []
 abbrev pub NodeLimits : Type 0
 NodeLimits = (node : ℕ) → Limits
 
--- what a node takes, and of none the most
+-- what a node takes as a server: segmented requests whatever its SA bit says of its replies; where there is no such node, the most
 abbrev pub limits_of : Option Node → Limits
 limits_of None = most_limits
-limits_of (Some n) = n.settings.limits
+limits_of (Some n) = record (n.settings.limits) { takes_segments = true }
 
 -- what these nodes take
 abbrev pub limits_in : List Node → NodeLimits

@@ -77,12 +77,19 @@ pub(crate) fn world_of(alloc: Global, setting: &Setting) -> Result<World, NoMemo
     }
 }
 
-/// What a node takes of APDUs; of one that there is not, all.
+/// What a node takes of APDUs as a server: segmented requests whatever its SA bit says of its replies. Where there is no such node, everything.
 fn limits_of(world: &World, node: usize) -> Limits
     ensures { limits_view result ≡ limits_in world.now.world.nodes node }
 {
     match world.nodes().get(node) {
-        Some(node) => node.settings().limits,
+        Some(node) => {
+            let limits = node.settings().limits;
+            Limits {
+                max_apdu: limits.max_apdu,
+                takes_segments: true,
+                max_segments: limits.max_segments,
+            }
+        }
         None => LIMITS,
     }
 }

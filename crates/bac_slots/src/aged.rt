@@ -42,12 +42,9 @@ pub trait Ticks<E, K, C>: Aged<E> {
     // The value after a tick at this moment.
     ghost ticked: { C → ℕ → K → Self → Self };
 
-    /// A value that fills a slot while its own value is moved out.
-    fn stand_in() -> Self;
-
-    /// The value after a tick at this moment. It does not allocate.
-    fn tick(self, settings: &C, now: u64, key: &K) -> Self
-        ensures { result ≡ ticked settings.now now key.now self };
+    /// Applies a tick at this moment. It does not allocate.
+    fn tick(&mut self, settings: &C, now: u64, key: &K)
+        ensures { self.new ≡ ticked settings.now now key.now self.old };
 
     /// Laws of each tick: if it has nothing to do, it changes nothing; it never changes the moment at which the value began.
     fn ticks()

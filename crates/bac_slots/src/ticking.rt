@@ -41,8 +41,7 @@ fn tick_at<E, K: Ord + Copy, C, V: Ticks<E, K, C>, S: SlotTable<K, V>>(
     let Some(slot) = table.get_mut(key) else {
         return;
     };
-    let value = std::mem::replace(slot, V::stand_in());
-    *slot = value.tick(settings, now, key);
+    slot.tick(settings, now, key);
 }
 
 /// Applies a tick to each value; those for which it has nothing to do are not touched.
