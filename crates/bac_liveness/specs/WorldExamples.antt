@@ -10,7 +10,7 @@ use Rattle.bac_transaction.specs.Ends.{key_of}
 use Rattle.bac_world.specs.Node.{Node, Outcome}
 use Rattle.bac_world.specs.Laws.{Gets}
 use Rattle.bac_world.specs.Once.Fact.{Ended}
-use Rattle.bac_world.specs.World.{World, Copy, WorldStep, WorldRun, IsAsked, peer_at}
+use Rattle.bac_world.specs.World.{World, Copy, WorldStep, WorldRun, IsAsked, told, peer_at}
 use Rattle.bac_world.specs.World.Event.{Deliver, Tick, Advance}
 use Rattle.bac_world.specs.Examples.{REQUEST, ASKED}
 use Rattle.bac_world.specs.AnsweredRun.{LIMITS, OPENING, LOG}
@@ -24,8 +24,8 @@ pub record LateTick : Type 0 where
   pub second : World
   pub asks : IsAsked OPENING 0 1 LIMITS REQUEST second
   pub late : World
-  pub waits : WorldRun 253 second (Advance 60001 ∷ []) late
-  pub passed : DEADLINE < late.now - OPENING.now
+  pub waits : WorldRun 253 second (Advance 60001 (λ i. 60001) ∷ []) late
+  pub passed : DEADLINE < told late 0 - told OPENING 0
   pub before : endings_of 0 late.log ≡ 0
   pub ticked : World
   pub ticks : WorldStep 253 late (Tick 0) ticked
@@ -42,7 +42,7 @@ pub record OneRoundTrip : Type 0 where
   pub is_one : IsRequest asks.sent copy
   pub server : Node
   pub at : slice_get second.nodes 1 ≡ Some server
-  pub performs : CanPerform second.now asks.before server asks.accepted.invoke_id REQUEST
+  pub performs : CanPerform (told second 1) asks.before server asks.accepted.invoke_id REQUEST
   pub third : World
   pub performed : WorldStep 253 second (Deliver 0) third
   pub still : endings_of 0 third.log ≡ 0
@@ -58,15 +58,15 @@ pub record SecondSending : Type 0 where
   pub asks : IsAsked OPENING 0 1 LIMITS REQUEST second
   pub whole : IsWhole OPENING 0 1 LIMITS REQUEST second asks
   pub again : World
-  pub run : WorldRun 253 second (Advance 3000 ∷ Tick 0 ∷ []) again
-  pub finds : Throughout 253 (FindsServer 253 1 asks.before asks.accepted.invoke_id REQUEST asks.sent) second (Advance 3000 ∷ Tick 0 ∷ []) again run
-  pub young : again.now < OPENING.now + PATIENCE
+  pub run : WorldRun 253 second (Advance 3000 (λ i. 3000) ∷ Tick 0 ∷ []) again
+  pub finds : Throughout 253 (FindsServer 253 1 asks.before asks.accepted.invoke_id REQUEST asks.sent) second (Advance 3000 (λ i. 3000) ∷ Tick 0 ∷ []) again run
+  pub young : told again 0 < told OPENING 0 + PATIENCE
   pub copy : Copy
   pub request : MayArrive 253 again 1 copy
   pub is_one : IsRequest asks.sent copy
   pub server : Node
   pub at : slice_get again.nodes 1 ≡ Some server
-  pub performs : CanPerform again.now asks.before server asks.accepted.invoke_id REQUEST
+  pub performs : CanPerform (told again 1) asks.before server asks.accepted.invoke_id REQUEST
   pub served : World
   pub performed : WorldStep 253 again (Deliver 1) served
   pub answer : Copy
