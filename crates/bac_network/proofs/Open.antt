@@ -118,24 +118,26 @@ module _ (links : ℕ → Option Octets) (apart : (i j : ℕ) (l : Octets) → l
       λ none. subst (λ (q : PeerKey). is_open w c q ≡ true) (sym key_is) (both (is_open w c (slot_key a.link its_key.invoke_id)) refl none),
     )
 
-pub open_until_ended : (W overtake : ℕ) (opening old : World) → IsFresh opening → IsBounded W overtake opening
+pub open_until_ended : (W overtake : ℕ) (opening old : World) → IsFresh opening → IsTimely opening.time.pace → IsBounded W overtake opening
     → (events : List Event) → WorldRun overtake opening events old → OpenUntilEnded overtake old
-open_until_ended W overtake opening old fresh bounded events run client server limits r asked asks count number w deliver =
+open_until_ended W overtake opening old fresh timely bounded events run client server limits r asked asks count number w deliver =
     let links : ℕ → Option Octets = link_at opening.nodes in
     let x : Rules = rules_of overtake opening in
     let bound = rules_bounded W overtake opening bounded in
-    let f = on_run links fresh.apart W x bound refl events opening old net_start (fresh_over W overtake opening fresh bounded) run in
+    let f = on_run links fresh.apart W x bound refl events opening old
+    (net_start opening.time.pace (λ i. (opening.time.clocks i).exact)) (fresh_over W overtake opening fresh timely bounded) run in
     open_exactly links fresh.apart W x bound refl old f.net f.over
     (logged_path x Any net_start f.net f.path bounded_start (λ key t at. absurd cc)) client server limits r asked asks count number w deliver
 
 -- the next ask has no ending yet
-pub none_ended : (W overtake : ℕ) (opening old : World) → IsFresh opening → IsBounded W overtake opening
+pub none_ended : (W overtake : ℕ) (opening old : World) → IsFresh opening → IsTimely opening.time.pace → IsBounded W overtake opening
     → (events : List Event) → WorldRun overtake opening events old → ending_in (length old.notes) old.log ≡ None
-none_ended W overtake opening old fresh bounded events run =
+none_ended W overtake opening old fresh timely bounded events run =
     let links : ℕ → Option Octets = link_at opening.nodes in
     let x : Rules = rules_of overtake opening in
     let bound = rules_bounded W overtake opening bounded in
-    let f = on_run links fresh.apart W x bound refl events opening old net_start (fresh_over W overtake opening fresh bounded) run in
+    let f = on_run links fresh.apart W x bound refl events opening old
+    (net_start opening.time.pace (λ i. (opening.time.clocks i).exact)) (fresh_over W overtake opening fresh timely bounded) run in
     let none : octets.IsUnended f.net.asks f.net.log =
     below_unended f.net.asks f.net.log (net_log W f.net (reached_net W x bound f.net f.over.sound)).numbers in
     subst (λ (k : ℕ). ending_in k old.log ≡ None) f.over.asks (unended_none f.net.asks old.log (unended f.net.asks f.net.log old.log f.over.log none))
