@@ -1,6 +1,6 @@
 -- An accepted ask of a world, as its machines make it, and the copies of its request.
 use Rattle.std.proofs.Common.{◌≡◌, ℕ, suc, ◌≤◌, Bool, true, false, List, [], ◌∷◌, ◌++◌, map, length, Option, Some, None, if◌then◌else◌}
-use Rattle.std.proofs.Common.{◌+◌, slice_get, refl, sym, ap, subst, ◌∙◌, arith}
+use Rattle.std.proofs.Common.{refl, sym, ap, subst, ◌∙◌, arith}
 use Rattle.std.specs.Option.{option_map}
 use Rattle.bac_apdu.specs.Apdu.{Apdu, Limits}
 use Rattle.bac_apdu.specs.Spelling.{SpellsApdu, apdu_spelling, is_confirmed_request}
@@ -20,6 +20,8 @@ use Rattle.bac_protocol.specs.Transaction.{Key, Rules, client_context}
 use Rattle.bac_protocol.specs.World.{Net, Post, post_of}
 use Rattle.bac_protocol.specs.Claims as claims
 use Rattle.bac_protocol.proofs.Calm.{spent_free}
+use Rattle.bac_protocol.proofs.Paces.{since_now}
+use Rattle.bac_liveness.proofs.Clocks.{MadeIn}
 use Rattle.bac_protocol.proofs.Keys.{set_same}
 use Rattle.bac_protocol.proofs.SingleMoves.{reached_net, reached_calm}
 use Rattle.bac_liveness.specs.Runs.{StaysSince}
@@ -116,6 +118,18 @@ module _ (links : ℕ → Option Octets) (apart : (i j : ℕ) (l : Octets) → l
       (reached_calm W x bound h.sound.0 h.sound.2 h.sound.1 n h.sound.3) key
       (asked_free links apart W x bound readable old n h c s limits r asked a p)).lives in
       omega arith
+
+  -- the ask by the clocks of its two ends
+  pub made_clock : MadeIn made key ask.first n.now
+  made_clock =
+      let calm = reached_calm W x bound h.sound.0 h.sound.2 h.sound.1 n h.sound.3 key in
+      record {
+        timely = calm.timely;
+        client_told = calm.client;
+        server_told = calm.server;
+        stays = stays n refl;
+        since = since_now n.pace n.now (n.client_clocks c) calm.client;
+      }
 
   -- nobody asks itself
   pub foreign : c ≡ s → ⊥

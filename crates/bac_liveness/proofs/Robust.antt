@@ -5,7 +5,7 @@ use Rattle.std.proofs.lemmas.Bool.Decides.{nat_tests}
 use Rattle.std.specs.List.{Contains}
 use Rattle.bac_apdu.specs.Apdu.{Apdu}
 use Rattle.bac_segment.specs.Pieces.{join}
-use Rattle.bac_protocol.specs.declared.times.TheConstants.{T_OUT, LIFE, KEEP}
+use Rattle.bac_protocol.specs.declared.times.TheConstants.{T_OUT, KEEP}
 use Rattle.bac_protocol.specs.Service.{Octets, Reply}
 use Rattle.bac_protocol.specs.Service.Ending.{Answered}
 use Rattle.bac_protocol.specs.Client as client
@@ -30,7 +30,7 @@ use Rattle.bac_protocol.proofs.Keys.{copy_at, set_same}
 use Rattle.bac_liveness.specs.Runs.{Throughout, IsOnItsWay, StaysSince}
 use Rattle.bac_liveness.specs.RoundTrip.{FitsInOne, CanPerform, HasPerformed, IsServed, request_to, answer_to}
 use Rattle.bac_liveness.specs.Repeats.{PATIENCE, FindsServer, IsAnswered, IsWaiting, IsSentAgain, IsRobust, RepeatsSuffice}
-use Rattle.bac_liveness.proofs.Paths.{Bounded, path_bounded, path_restarted, some_is, ask_of, Gives, event_steps, run_steps, path_now, path_log, path_posts, run_path}
+use Rattle.bac_liveness.proofs.Paths.{Bounded, path_bounded, path_restarted, some_is, ask_of, Gives, event_steps, run_steps, path_log, path_posts, run_path}
 use Rattle.bac_liveness.proofs.Paths.{Any}
 use Rattle.bac_liveness.proofs.RoundTrips.{room_is, trip, bounded_in}
 use Rattle.bac_protocol.specs.Pace.{Pace, IsTimely}

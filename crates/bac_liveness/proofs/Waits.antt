@@ -4,7 +4,7 @@ use Rattle.std.proofs.Common.{Option, Some, None, slice_get, if◌then◌else◌
 use Rattle.std.proofs.lemmas.Bool.Decides.{nat_tests}
 use Rattle.bac_apdu.specs.Apdu.{Apdu}
 use Rattle.bac_segment.specs.Pieces.{join}
-use Rattle.bac_protocol.specs.declared.times.TheConstants.{T_OUT, LIFE, REST}
+use Rattle.bac_protocol.specs.declared.times.TheConstants.{T_OUT, REST}
 use Rattle.bac_protocol.specs.Context.{Context}
 use Rattle.bac_protocol.specs.Service.{Octets, Reply}
 use Rattle.bac_protocol.specs.Service.Outcome.{Replies}
@@ -30,7 +30,7 @@ use Rattle.bac_liveness.specs.RoundTrip.{FitsInOne, request_to, answer_to}
 use Rattle.bac_liveness.specs.Repeats.{IsAnswered, PATIENCE}
 use Rattle.bac_liveness.specs.Runs.{StaysSince}
 use Rattle.bac_protocol.specs.Pace.{clock_at}
-use Rattle.bac_liveness.proofs.Paths.{Bounded, path_bounded, step_restarted, some_is, ask_of, Comes, Step, Path, step_now, grows_ended, grows_performed}
+use Rattle.bac_liveness.proofs.Paths.{Bounded, path_bounded, step_restarted, some_is, ask_of, Comes, Step, Path, grows_ended, grows_performed}
 use Rattle.bac_liveness.proofs.Paths.Step.{Asks, Serves, Hears, TicksTicket, TicksEntry, Passes, Changes, RestartsClient, RestartsServer}
 use Rattle.bac_liveness.proofs.Paths.Path.{Here, Then}
 use Rattle.bac_protocol.specs.Pace.{Pace, Clock}

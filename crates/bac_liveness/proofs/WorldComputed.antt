@@ -17,9 +17,9 @@ use Rattle.bac_transaction.specs.Ends.{requester_tick, responder_tick, context_o
 use Rattle.bac_transaction.specs.Services.{service_of, outcome_by}
 use Rattle.bac_world.specs.Node.{Node, Outcome, IsServerTurn}
 use Rattle.bac_world.specs.Once.Fact.{Performed, Ended}
-use Rattle.bac_world.specs.World.{World, Copy, Hears, Ticks, IsCopied, link_at, peer_at, transaction_of}
+use Rattle.bac_world.specs.World.{World, Time, passes, Copy, Hears, Ticks, IsCopied, link_at, peer_at, transaction_of}
 use Rattle.bac_world.specs.Examples.{REQUEST, REPLY, STORE, ASKED}
-use Rattle.bac_world.specs.AnsweredRun.{LIMITS, SETTINGS, LOG, link, node}
+use Rattle.bac_world.specs.AnsweredRun.{TIME, LIMITS, SETTINGS, LOG, link, node}
 use Rattle.bac_world.proofs.Answered.{SERVICE_DATA, ASK, ANSWER, apart, spelled, datagram, ASKED_NODE, copy, NOTES, SECOND, THIRD, LAST}
 use Rattle.bac_world.proofs.Answered.{ask_fits, ask_short, sent, means, others_first, asked}
 use Rattle.bac_world.proofs.Answered.{request_delivered, answer_delivered}
@@ -35,13 +35,17 @@ ticked_node now =
       servers = (responder_tick SETTINGS now ASKED_NODE.servers).end;
     }
 
+-- all clocks have gone on by so much
+abbrev at_time : ℕ → Time
+at_time by = passes TIME by (λ i. by)
+
 -- A tick at 60,001.
 
 abbrev LATE : World
-LATE = record (SECOND) { now = 60001 }
+LATE = record (SECOND) { time = at_time 60001 }
 
 abbrev EXPIRED : World
-EXPIRED = record { nodes = ticked_node 60001 ∷ node 1 ∷ []; now = 60001; copies = SECOND.copies; log = Ended 0 Expired ∷ ASKED; notes = NOTES }
+EXPIRED = record { nodes = ticked_node 60001 ∷ node 1 ∷ []; time = at_time 60001; copies = SECOND.copies; log = Ended 0 Expired ∷ ASKED; notes = NOTES }
 
 abbrev EXPIRES : Outcome
 EXPIRES = record { sends = []; performed = None; ended = record { ticket = 0; how = Expired } ∷ []; dropped = None }
@@ -55,7 +59,7 @@ expires = record {
   tick = record { node = refl; sends = tt; ended = (record { ticket = refl; how = tt }, tt); performed = refl; dropped = refl };
   acts = record {
     nodes = record { here = refl; others = others_first (ticked_node 60001) ASKED_NODE (node 1) };
-    now = refl;
+    time = refl;
     notes = refl;
     sent = [];
     copies = refl;
@@ -116,13 +120,13 @@ one_round_trip = record {
 -- A second sending.
 
 abbrev LATER : World
-LATER = record (SECOND) { now = 3000 }
+LATER = record (SECOND) { time = at_time 3000 }
 
 abbrev SECOND_COPY : Copy
 SECOND_COPY = record (copy 0 1 ASK) { moment = 3000 }
 
 abbrev AGAIN : World
-AGAIN = record { nodes = ticked_node 3000 ∷ node 1 ∷ []; now = 3000; copies = copy 0 1 ASK ∷ SECOND_COPY ∷ []; log = ASKED; notes = NOTES }
+AGAIN = record { nodes = ticked_node 3000 ∷ node 1 ∷ []; time = at_time 3000; copies = copy 0 1 ASK ∷ SECOND_COPY ∷ []; log = ASKED; notes = NOTES }
 
 answer_fits : IsTrue (apdu_fits ANSWER)
 unfolding apdu_fits
@@ -159,7 +163,7 @@ sends_again = record {
   tick = record { node = refl; sends = (sent (link 1) ASK ask_fits ask_short, tt); ended = tt; performed = refl; dropped = refl };
   acts = record {
     nodes = record { here = refl; others = others_first (ticked_node 3000) ASKED_NODE (node 1) };
-    now = refl;
+    time = refl;
     notes = refl;
     sent = SECOND_COPY ∷ [];
     copies = refl;
@@ -219,7 +223,7 @@ ANSWER_COPY = record (copy 1 0 ANSWER) { moment = 3000 }
 abbrev SERVED : World
 SERVED = record {
   nodes = ticked_node 3000 ∷ SERVED_NODE ∷ [];
-  now = 3000;
+  time = at_time 3000;
   copies = copy 0 1 ASK ∷ SECOND_COPY ∷ ANSWER_COPY ∷ [];
   log = Performed 0 REQUEST REPLY ∷ ASKED;
   notes = NOTES;
@@ -240,7 +244,7 @@ serves = record {
   });
   acts = record {
     nodes = record { here = refl; others = others_second SERVED_NODE (node 1) (ticked_node 3000) };
-    now = refl;
+    time = refl;
     notes = refl;
     sent = ANSWER_COPY ∷ [];
     copies = refl;
@@ -255,7 +259,7 @@ abbrev ENDED_NODE : Node
 ENDED_NODE = record (ticked_node 3000) { clients = (requester_on_apdu SETTINGS reads_reply 3000 (peer_at (link 1)) ANSWER (ticked_node 3000).clients).end }
 
 abbrev ANSWERED : World
-ANSWERED = record { nodes = ENDED_NODE ∷ SERVED_NODE ∷ []; now = 3000; copies = SERVED.copies; log = LOG; notes = NOTES }
+ANSWERED = record { nodes = ENDED_NODE ∷ SERVED_NODE ∷ []; time = at_time 3000; copies = SERVED.copies; log = LOG; notes = NOTES }
 
 hears : Hears SERVED 0 (link 1) ANSWER_COPY.octets ANSWERED
 hears = record {
@@ -272,7 +276,7 @@ hears = record {
   });
   acts = record {
     nodes = record { here = refl; others = others_first ENDED_NODE (ticked_node 3000) SERVED_NODE };
-    now = refl;
+    time = refl;
     notes = refl;
     sent = [];
     copies = refl;

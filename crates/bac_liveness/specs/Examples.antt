@@ -12,7 +12,7 @@ use Rattle.bac_protocol.specs.Log.{Fact}
 use Rattle.bac_protocol.specs.Log.Fact.{Asked, Performed, Ended, Changed}
 use Rattle.bac_protocol.specs.Transaction.{client_context}
 use Rattle.bac_protocol.specs.Pace.{one_clock}
-use Rattle.bac_protocol.specs.World.{World, Event, client_now, server_now, is_id_held, net_start, run, start}
+use Rattle.bac_protocol.specs.World.{World, Event, client_now, is_id_held, net_start, run, start}
 use Rattle.bac_protocol.specs.World.Event.{MakeAsk, Deliver, Tick, Noise, Change}
 use Rattle.bac_protocol.specs.Claims.{IsBounded}
 use Rattle.bac_protocol.specs.Straight.{AreStraight}

@@ -172,7 +172,7 @@ asked = record {
   sends = datagram 1 FIRST ∷ [];
   asks = asks;
   nodes = record { here = refl; others = first_other (client ACCEPTED.end) (node 0) (node 1) };
-  now = refl;
+  time = refl;
   sent = copy 0 1 FIRST ∷ [];
   copies = refl;
   copied = copied OPENING.nodes 0 1 refl refl (FIRST ∷ []) (first_good, tt);
