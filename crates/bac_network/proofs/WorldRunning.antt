@@ -1,5 +1,5 @@
 -- Runs, event by event.
-use Rattle.std.proofs.Common.{◌≡◌, ◌↔◌, ℕ, zero, suc, ◌+◌, ◌≤◌, Bool, true, false, List, [], ◌∷◌, ◌++◌, length, take, Some, Result, Err, IsErrOf, slice_get}
+use Rattle.std.proofs.Common.{◌≡◌, ◌↔◌, ℕ, zero, suc, ◌+◌, ◌≤◌, Bool, true, false, List, [], ◌∷◌, ◌++◌, length, take, Option, Some, Result, Err, IsErrOf, slice_get}
 use Rattle.std.proofs.Common.{refl, sym, ap, subst, inl, inr, ◌∙◌, arith}
 use Rattle.bac_world.specs.World as world
 use Rattle.bac_world.specs.World.{World, Time, DeliversIf, WorldRun, WorldStep, MakeRequestsAlone, is_deliverable}

@@ -1,6 +1,7 @@
 -- The step of the network is one of the world.
-use Rattle.std.proofs.Common.{refl}
-use Rattle.bac_network.specs.Histories.{view_of}
+use Rattle.std.proofs.Common.{[], ◌∷◌, refl, sym, subst}
+use Rattle.bac_world.specs.World.{MakeRequestsAlone}
+use Rattle.bac_network.specs.Histories.{WorldView, view_of}
 use Rattle.bac_network.specs.Networks.{world_of}
 use Rattle.bac_network.specs.Views.{event_view}
 use Rattle.bac_network.proofs.Happening.{node_exactly, copy_exactly, clock_exactly, change_exactly, memory_only, step_is, told_is, same_seen}
@@ -118,4 +119,5 @@ returns-clause-requests_alone c =
     requests_now w (once_now c.self.inside.window w kept.history)
     (alone_after c.self.inside.overtake (world_of c.self.inside.network) (world_of c.step.new.self) (event_view c.self.inside.network.journal.moment
     c.args.event.now) c.step.result
-    c.step.ensures.happens alone before))
+    c.step.ensures.happens
+    (subst (λ (v : WorldView). MakeRequestsAlone (event_view v.moment c.args.event.now ∷ [])) (sym c.self.view_is) alone) before))
