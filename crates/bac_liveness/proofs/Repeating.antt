@@ -232,12 +232,11 @@ module _ (links : ℕ → Option Octets) (apart : (i j : ℕ) (l : Octets) → l
       o : On f.net
       o = on_of events w f life young
 
-      go : PatientOrOver x its_key its_ask n.asks n.now (f.net.asks_from its_key.client) (client_now f.net its_key) o.ticket.ticket f.net.log
+      go : PatientOrOver x its_key its_ask n.asks n.now (client_now f.net its_key) o.ticket.ticket f.net.log
           → IsWaiting w c a.link a.accepted.invoke_id ⊎ IsAnswered (length old.notes) r w.log
       go (inl k) = inl (waiting w f.net f.over (wait_limit w f.net f.over young) o o.ticket.ticket o.ticket.at k.waits
           (λ due. repeat_left x its_key its_ask n.asks n.now (client_now f.net its_key) o.ticket.ticket k (wait_limit w f.net f.over young) due))
-      go (inr (idle, inl answered)) = inr (answered_as w f.net f.net.log f.over.log (once events w run) answered)
-      go (inr (idle, inr lost)) = absurd lost
+      go (inr (idle, answered)) = inr (answered_as w f.net f.net.log f.over.log (once events w run) answered)
 
   -- A copy of the request brings an answer.
 

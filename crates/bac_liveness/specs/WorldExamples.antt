@@ -2,6 +2,8 @@
 use Rattle.std.specs.Prelude.{◌≡◌, ◌+◌, ◌-◌, ◌<◌, true, [], ◌∷◌, Some, slice_get}
 use Rattle.bac_apdu.specs.Apdu.{Apdu}
 use Rattle.bac_protocol.specs.declared.times.TheConstants.{DEADLINE}
+use Rattle.bac_protocol.specs.Pace.{IsTimely}
+use Rattle.bac_protocol.specs.Drift.{thousandth}
 use Rattle.bac_protocol.specs.Wire.{is_from_server}
 use Rattle.bac_protocol.specs.Client.{ClientTransaction}
 use Rattle.bac_liveness.specs.Repeats.{PATIENCE}
@@ -10,10 +12,10 @@ use Rattle.bac_transaction.specs.Ends.{key_of}
 use Rattle.bac_world.specs.Node.{Node, Outcome}
 use Rattle.bac_world.specs.Laws.{Gets}
 use Rattle.bac_world.specs.Once.Fact.{Ended}
-use Rattle.bac_world.specs.World.{World, Copy, WorldStep, WorldRun, IsAsked, told, peer_at}
+use Rattle.bac_world.specs.World.{World, Copy, WorldStep, WorldRun, IsFresh, IsBounded, IsAsked, told, peer_at}
 use Rattle.bac_world.specs.World.Event.{Deliver, Tick, Advance}
 use Rattle.bac_world.specs.Examples.{REQUEST, ASKED}
-use Rattle.bac_world.specs.AnsweredRun.{LIMITS, OPENING, LOG}
+use Rattle.bac_world.specs.AnsweredRun.{LIMITS, TIME, OPENING, LOG}
 use Rattle.bac_liveness.specs.WorldRuns.{Throughout, endings_of}
 use Rattle.bac_liveness.specs.WorldRoundTrip.{MayArrive, IsFromServer, IsWhole, IsRequest, CanPerform}
 use Rattle.bac_liveness.specs.WorldEnds.{IsOpen, expired}
@@ -26,6 +28,29 @@ pub record LateTick : Type 0 where
   pub late : World
   pub waits : WorldRun 253 second (Advance 60001 (λ i. 60001) ∷ []) late
   pub passed : DEADLINE < told late 0 - told OPENING 0
+  pub before : endings_of 0 late.log ≡ 0
+  pub ticked : World
+  pub ticks : WorldStep 253 late (Tick 0) ticked
+  pub after : ticked.log ≡ Ended 0 Expired ∷ ASKED
+
+-- the same nodes, whose clocks are fast or slow by at most a part in a thousand
+abbrev pub DRIFTS : World
+DRIFTS = record (OPENING) { time = record (TIME) { pace = thousandth 4876 } }
+
+-- the client's clock is slow: 60,060 ms after its ask it shows that 60,000 have passed, and no longer than that it waits; its first tick comes a little later
+pub record SlowTick : Type 0 where
+  pub fresh : IsFresh DRIFTS
+  pub timely : IsTimely DRIFTS.time.pace
+  pub bounded : IsBounded 1 253 DRIFTS
+  pub second : World
+  pub asks : IsAsked DRIFTS 0 1 LIMITS REQUEST second
+  pub early : World
+  pub waits : WorldRun 253 second (Advance 60060 (λ i. 60000) ∷ []) early
+  pub last : told early 0 - told DRIFTS 0 ≡ DEADLINE
+  pub late : World
+  pub goes_on : WorldRun 253 early (Advance 1 (λ i. 1) ∷ []) late
+  pub real : late.time.now ≡ 60061
+  pub passed : DEADLINE < told late 0 - told DRIFTS 0
   pub before : endings_of 0 late.log ≡ 0
   pub ticked : World
   pub ticks : WorldStep 253 late (Tick 0) ticked

@@ -14,6 +14,7 @@ use Rattle.bac_protocol.specs.Service.{Octets}
 use Rattle.bac_protocol.specs.Service as machine
 use Rattle.bac_protocol.specs.Server as server
 use Rattle.bac_protocol.specs.Server.{ServerTransaction, begins, performs_so}
+use Rattle.bac_protocol.proofs.AtDrift.{lives}
 use Rattle.bac_transaction.specs.Keys.{PeerKey}
 use Rattle.bac_transaction.specs.Meanings.Ending.{Answered}
 use Rattle.bac_transaction.specs.Ends.{Accepted, ClientEnd, ServerEnd, accepts, context_of, requester_on_apdu, server_goes}
@@ -203,6 +204,7 @@ run = record {
 pub of_one_apdu : OfOneApdu
 of_one_apdu = record {
   fresh = answered_run.fresh;
+  timely = lives.today;
   bounded = answered_run.bounded;
   can = record {
     slot = refl;
