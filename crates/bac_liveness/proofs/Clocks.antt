@@ -6,8 +6,8 @@ use Rattle.bac_protocol.specs.Pace.{Pace, Clock, most, goes_on, clock_at, steps,
 use Rattle.bac_protocol.specs.Server.{ServerTransaction, Service, is_live}
 use Rattle.bac_protocol.specs.Transaction.{Key, Rules}
 use Rattle.bac_protocol.specs.World.{Net, client_now, passes}
-use Rattle.bac_liveness.specs.Runs.{StaysSince}
 use Rattle.bac_protocol.proofs.Paces.{shown_at, since_later, shows_on, within_most, beyond_least}
+use Rattle.bac_liveness.specs.Runs.{StaysSince}
 use Rattle.bac_liveness.proofs.Paths.{Step, Path, Bounded, path_bounded, step_restarted}
 use Rattle.bac_liveness.proofs.Paths.Step.{Asks, Serves, Hears, TicksTicket, TicksEntry, Passes, Changes, RestartsClient, RestartsServer}
 use Rattle.bac_liveness.proofs.Paths.Path.{Here, Then}
@@ -43,7 +43,8 @@ BegunIn n key made begin = IsBegunAfter n.pace n.now (n.server_clocks key.server
 abbrev pub LostIn : Net → Key → (made from : ℕ) → Type 0
 LostIn n key made from = IsLostAfter n.pace n.now (n.server_clocks key.server) made from
 
-module _ (p : Pace) (now : ℕ) (client server : Clock) (restarted first made : ℕ) (m : IsMade p now client server restarted first made) (young : client.shows ≤ first + DEADLINE) where
+module _ (p : Pace) (now : ℕ) (client server : Clock) (restarted first made : ℕ) (m : IsMade p now client server restarted first made)
+    (young : client.shows ≤ first + DEADLINE) where
   soon : now ≤ made + most p DEADLINE
   soon = within_most p m.timely DEADLINE made first now client m.client_told m.since young
 

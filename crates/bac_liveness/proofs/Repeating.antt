@@ -1,11 +1,11 @@
 -- Repeats suffice, in every world.
-use Rattle.std.proofs.Common.{◌≡◌, ◌⊎◌, ℕ, ◌+◌, ◌-◌, ◌<◌, ◌≤◌, Bool, true, false, List, [], ◌∷◌, ◌++◌, map, length, Option, Some, None, slice_get}
-use Rattle.std.proofs.Common.{refl, sym, ap, subst, inl, inr, ◌∙◌, arith}
+use Rattle.std.proofs.Common.{◌≡◌, ◌⊎◌, ℕ, ◌+◌, ◌-◌, ◌<◌, ◌≤◌, Bool, true, false, List, [], ◌∷◌, ◌++◌, map, length, Option, Some, None, slice_get, refl, sym}
+use Rattle.std.proofs.Common.{ap, subst, inl, inr, ◌∙◌, arith}
 use Rattle.bac_apdu.specs.Apdu.{Apdu, Limits}
-use Rattle.bac_segment.specs.Pieces.{join}
 use Rattle.bac_service.specs.Services.{reads_reply}
 use Rattle.bac_service.specs.Values.{Request, choice_of}
 use Rattle.bac_service.specs.Requests.{SpellsRequest}
+use Rattle.bac_segment.specs.Pieces.{join}
 use Rattle.bac_store.specs.Stores.{Store}
 use Rattle.bac_protocol.specs.declared.times.TheConstants.{T_OUT}
 use Rattle.bac_protocol.specs.Context.{Settings}
@@ -27,15 +27,6 @@ use Rattle.bac_protocol.specs.Straight.{KindFits}
 use Rattle.bac_protocol.specs.Claims as claims
 use Rattle.bac_protocol.specs.Pace.{Clock, IsTimely}
 use Rattle.bac_protocol.proofs.SingleMoves.{reached_net, reached_calm}
-use Rattle.bac_liveness.specs.Runs.{StaysSince}
-use Rattle.bac_liveness.specs.RoundTrip.{FitsInOne, request_to, answer_to}
-use Rattle.bac_liveness.specs.Repeats as machine
-use Rattle.bac_liveness.specs.Repeats.{PATIENCE}
-use Rattle.bac_liveness.proofs.Paths.{some_is, ask_of}
-use Rattle.bac_liveness.proofs.Serving.{answer_not_from_client}
-use Rattle.bac_liveness.proofs.Waits.{Waits, Finds, PatientOrOver, WasGiven, waits_path, repeat_left, fine_comes, fine_down, told_answered}
-use Rattle.bac_liveness.proofs.Waits.{brings_answer}
-use Rattle.bac_liveness.proofs.Robust.{asked_on}
 use Rattle.bac_slots.specs.Slots.{value_at}
 use Rattle.bac_transaction.specs.Keys.{PeerKey, same_key}
 use Rattle.bac_transaction.specs.Sends.{Pairwise}
@@ -53,9 +44,17 @@ use Rattle.bac_world.proofs.Steps.{Over}
 use Rattle.bac_world.proofs.Serving.{room_is}
 use Rattle.bac_world.proofs.Asking.{accepted_whole}
 use Rattle.bac_world.proofs.Headline.{headline, fresh_over, rules_of, rules_bounded}
+use Rattle.bac_liveness.specs.Runs.{StaysSince}
+use Rattle.bac_liveness.specs.RoundTrip.{FitsInOne, request_to, answer_to}
+use Rattle.bac_liveness.specs.Repeats as machine
+use Rattle.bac_liveness.specs.Repeats.{PATIENCE}
 use Rattle.bac_liveness.specs.WorldRuns.{Throughout}
 use Rattle.bac_liveness.specs.WorldRoundTrip.{MayArrive, IsRequest, CanPerform, IsAnswered, IsFromServer}
 use Rattle.bac_liveness.specs.WorldRepeats.{FindsServer, IsWaiting, IsRobust, RepeatsSuffice}
+use Rattle.bac_liveness.proofs.Paths.{some_is, ask_of}
+use Rattle.bac_liveness.proofs.Serving.{answer_not_from_client}
+use Rattle.bac_liveness.proofs.Waits.{Waits, Finds, PatientOrOver, WasGiven, waits_path, repeat_left, fine_comes, fine_down, told_answered, brings_answer}
+use Rattle.bac_liveness.proofs.Robust.{asked_on}
 use Rattle.bac_liveness.proofs.Following.{Gives, Followed, Parts, IsTaken, IsServedBy, served_reaction, accepted, asked_free, post, comes, heard_now}
 use Rattle.bac_liveness.proofs.Following.{served_over, told_over, run_followed}
 use Rattle.bac_liveness.proofs.Asked.{key, ask, made, made_over, made_bounded, node_at, stays, client_link, server_link, foreign, request_is, is_request}
@@ -127,7 +126,8 @@ module _ (links : ℕ → Option Octets) (apart : (i j : ℕ) (l : Octets) → l
       where
         can : CanPerform (told w s) a.before t.before a.accepted.invoke_id r
         can = f d t.may (is_request links apart W x bound readable old n h c s limits r asked a p whole y d t.copied is apdu) t.before at
-            (entry_is links apart W x bound readable old n h c s limits r asked a p w m over t.before at ∙ is_none (server_now m its_key) (m.entries its_key) none)
+            (entry_is links apart W x bound readable old n h c s limits r asked a p w m over t.before at
+            ∙ is_none (server_now m its_key) (m.entries its_key) none)
 
         reaction_is : served_reaction links apart W x bound readable w w' m over number y d t
             ≡ does links apart W x bound readable old n h c s limits r asked a p w m over t.before at can
@@ -194,10 +194,12 @@ module _ (links : ℕ → Option Octets) (apart : (i j : ℕ) (l : Octets) → l
       (answered_values opening (stores_of w.nodes) n.asks (request_of its_ask) k.0 log w.log means right k.1 r spelled k.2)
 
   -- the ticket at its client
-  waiting : (w : World) (m : Net) → Over links apart W x w m → client_now m its_key < its_ask.first + PATIENCE → (o : On m) → (t : ClientTransaction) → m.tickets its_key ≡ Some t
+  waiting : (w : World) (m : Net) → Over links apart W x w m → client_now m its_key < its_ask.first + PATIENCE → (o : On m) → (t : ClientTransaction)
+      → m.tickets its_key ≡ Some t
       → t.phase ≡ AwaitConfirmation → (T_OUT ≤ client_now m its_key - t.since → 0 < t.repeats) → IsWaiting w c a.link a.accepted.invoke_id
   waiting w m over young o t at waits left = go (value_at same_key (slot_key a.link p.id) node.0.clients.slots) refl
-      (subst (λ (z : Option ClientTransaction). TicketFits (is_lost m its_key) (here_at m c) w.notes c (m.numbers its_key) (value_at same_key (slot_key a.link p.id) node.0.clients.slots) z) at
+      (subst (λ (z : Option ClientTransaction). TicketFits (is_lost m its_key) (here_at m c) w.notes c (m.numbers its_key)
+      (value_at same_key (slot_key a.link p.id) node.0.clients.slots) z) at
       ((over.nodes c node.0 node.1).clients.found s a.link p.id (server_link links apart W x bound readable old n h c s limits r asked a p)))
     where
       node : (b : Node) × (slice_get w.nodes c ≡ Some b)
@@ -240,7 +242,8 @@ module _ (links : ℕ → Option Octets) (apart : (i j : ℕ) (l : Octets) → l
 
   -- A copy of the request brings an answer.
 
-  module _ (w served : World) (m : Net) (over : Over links apart W x w m) (on : On m) (young : client_now m its_key < its_ask.first + PATIENCE) (number : ℕ) (d : Copy)
+  module _ (w served : World) (m : Net) (over : Over links apart W x w m) (on : On m) (young : client_now m its_key < its_ask.first + PATIENCE) (number : ℕ)
+      (d : Copy)
       (may : MayArrive x.overtake w number d) (q : IsRequest a.sent d) (f : Finding w (Deliver number))
       (did : WorldStep x.overtake w (Deliver number) served) where
     abbrev y : IsPaired (IsCopyOf links apart) m.posts number d
@@ -261,7 +264,8 @@ module _ (links : ℕ → Option Octets) (apart : (i j : ℕ) (l : Octets) → l
         (λ none. finds w served m over number y.other d taken is.0 is.1 f none)
 
     abbrev gets : Key → Apdu → server.Reaction
-    gets k z = server_on_apdu (server_context x k (server_now m k)) (service_of taken.before.store) (m.entries k) (is_free (server_now m k) taken.before.servers) z
+    gets k z = server_on_apdu (server_context x k (server_now m k)) (service_of taken.before.store) (m.entries k)
+        (is_free (server_now m k) taken.before.servers) z
 
     sends_is : map (post_of y.other.key m.now) (gets y.other.key y.other.copy.apdu).sends ≡ post_of its_key m.now (answer_to x its_key its_ask brought.0) ∷ []
     sends_is = (λ i. map (post_of (is.0 i) m.now) (gets (is.0 i) (is.1 i)).sends) ∙ ap (map (post_of its_key m.now)) brought.1

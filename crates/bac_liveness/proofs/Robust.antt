@@ -1,8 +1,8 @@
 -- Repeats make an ask robust.
-use Rattle.std.proofs.Common.{◌≡◌, ℕ, ◌+◌, ◌-◌, ◌<◌, ◌≤◌, ◌⊎◌, Bool, true, false, List, [], ◌∷◌, ◌++◌, length, Option, Some, None, slice_get}
-use Rattle.std.proofs.Common.{if◌then◌else◌, refl, sym, ap, subst, inl, inr, ◌∙◌, arith}
-use Rattle.std.proofs.lemmas.Bool.Decides.{nat_tests}
 use Rattle.std.specs.List.{Contains}
+use Rattle.std.proofs.Common.{◌≡◌, ℕ, ◌+◌, ◌-◌, ◌<◌, ◌≤◌, ◌⊎◌, Bool, true, false, List, [], ◌∷◌, ◌++◌, length, Option, Some, None, slice_get, if◌then◌else◌}
+use Rattle.std.proofs.Common.{refl, sym, ap, subst, inl, inr, ◌∙◌, arith}
+use Rattle.std.proofs.lemmas.Bool.Decides.{nat_tests}
 use Rattle.bac_apdu.specs.Apdu.{Apdu}
 use Rattle.bac_segment.specs.Pieces.{join}
 use Rattle.bac_protocol.specs.declared.times.TheConstants.{T_OUT, KEEP}
@@ -16,10 +16,11 @@ use Rattle.bac_protocol.specs.Server.{ServerTransaction, is_live, is_none_live}
 use Rattle.bac_protocol.specs.Log.{Fact, Has, StoreModel}
 use Rattle.bac_protocol.specs.Log.Fact.{Asked, Performed, Ended}
 use Rattle.bac_protocol.specs.Transaction.{Key, Rules, client_context}
-use Rattle.bac_protocol.specs.World.{Net, World, Post, Event, is_deliverable, is_id_held, asked_at, ask_made}
-use Rattle.bac_protocol.specs.World.{happens, run, start, post_of, later, copies_of, service_of}
+use Rattle.bac_protocol.specs.World.{Net, World, Post, Event, is_deliverable, is_id_held, asked_at, ask_made, happens, run, start, post_of, later, copies_of}
+use Rattle.bac_protocol.specs.World.{service_of, client_now, server_now}
 use Rattle.bac_protocol.specs.World.Event.{MakeAsk, Deliver, Tick, Noise, Advance, Change, RestartClient, RestartServer}
 use Rattle.bac_protocol.specs.Claims.{IsBounded}
+use Rattle.bac_protocol.specs.Pace.{Pace, IsTimely}
 use Rattle.bac_protocol.proofs.Alone.{one}
 use Rattle.bac_protocol.proofs.Asks.{IsSpent}
 use Rattle.bac_protocol.proofs.Facts.{Grows}
@@ -27,19 +28,16 @@ use Rattle.bac_protocol.proofs.Nets.{NetSound}
 use Rattle.bac_protocol.proofs.Calm.{Calm, spent_free}
 use Rattle.bac_protocol.proofs.Headline.{Kept, run_kept, event_kept, start_kept}
 use Rattle.bac_protocol.proofs.Keys.{copy_at, set_same}
+use Rattle.bac_protocol.proofs.Paces.{since_now}
 use Rattle.bac_liveness.specs.Runs.{Throughout, IsOnItsWay, StaysSince}
 use Rattle.bac_liveness.specs.RoundTrip.{FitsInOne, CanPerform, HasPerformed, IsServed, request_to, answer_to}
 use Rattle.bac_liveness.specs.Repeats.{PATIENCE, FindsServer, IsAnswered, IsWaiting, IsSentAgain, IsRobust, RepeatsSuffice}
 use Rattle.bac_liveness.proofs.Paths.{Bounded, path_bounded, path_restarted, some_is, ask_of, Gives, event_steps, run_steps, path_log, path_posts, run_path}
 use Rattle.bac_liveness.proofs.Paths.{Any}
 use Rattle.bac_liveness.proofs.RoundTrips.{room_is, trip, bounded_in}
-use Rattle.bac_protocol.specs.Pace.{Pace, IsTimely}
-use Rattle.bac_protocol.specs.World.{client_now, server_now}
-use Rattle.bac_protocol.proofs.Paces.{since_now}
 use Rattle.bac_liveness.proofs.Clocks.{made_path, here_path}
 use Rattle.bac_liveness.proofs.Ticking.{tick_sends}
-use Rattle.bac_liveness.proofs.Waits.{IsFine, DoneFor, PatientOrOver, Waits, Finds, answered_grows, done_live, repeat_left}
-use Rattle.bac_liveness.proofs.Waits.{waits_path, got, of_map}
+use Rattle.bac_liveness.proofs.Waits.{IsFine, DoneFor, PatientOrOver, Waits, Finds, answered_grows, done_live, repeat_left, waits_path, got, of_map}
 
 pub at_end : (xs : List Post) (q : Post) → slice_get (xs ++ q ∷ []) (length xs) ≡ Some q
 at_end [] q = refl
@@ -80,7 +78,8 @@ module _ (S : Type 0) (model : StoreModel S) (x : Rules) (key : Key) (ask : Ask)
   run_on events w served b h stays young = waits_path x key ask number made whole w.net (run S model x events w).net
       (run_path x (Finds x key ask number made) S model events w (finds_run events w served)) b h stays young
 
-  event_on : (w : World S) (e : Event) → FindsServer S model x key ask w e → Bounded w.net → On w → Stays_ (happens S model x w e) → Young (happens S model x w e) → On (happens S model x w e)
+  event_on : (w : World S) (e : Event) → FindsServer S model x key ask w e → Bounded w.net → On w → Stays_ (happens S model x w e)
+      → Young (happens S model x w e) → On (happens S model x w e)
   event_on w e served b h stays young = run_on (e ∷ []) w (served, tt) b h stays young
 
   split : (before : List Event) (e : Event) (between : List Event) (w : World S)
@@ -100,7 +99,8 @@ module _ (S : Type 0) (model : StoreModel S) (x : Rules) (key : Key) (ask : Ask)
       go (inr (idle, answered)) = inr answered
 
   -- a tick that is due
-  sent_again : (v : World S) → On v → Young v → (t : ClientTransaction) → v.net.tickets key ≡ Some t → t.phase ≡ AwaitConfirmation → T_OUT ≤ client_now v.net key - t.since
+  sent_again : (v : World S) → On v → Young v → (t : ClientTransaction) → v.net.tickets key ≡ Some t → t.phase ≡ AwaitConfirmation
+      → T_OUT ≤ client_now v.net key - t.since
       → (as_client as_server : List Key) → Contains as_client key
       → IsSentAgain x key ask t v.net (happens S model x v (Tick as_client as_server)).net
   sent_again v h young t at awaits due as_client as_server i =
@@ -123,7 +123,8 @@ module _ (S : Type 0) (model : StoreModel S) (x : Rules) (key : Key) (ask : Ask)
       reply : Reply
       served : IsServed S model x key ask reply v u
 
-    brings : (v : World S) → Kept S model opening W x bound v → Bounded v.net → On v → Young v → (i : ℕ) (free : Bool) → IsOnItsWay x v.net key (request_to x key ask) i
+    brings : (v : World S) → Kept S model opening W x bound v → Bounded v.net → On v → Young v → (i : ℕ) (free : Bool)
+        → IsOnItsWay x v.net key (request_to x key ask) i
         → FindsServer S model x key ask v (Deliver i free) → Brings v (happens S model x v (Deliver i free))
     brings v s bounded h young i free m finds = go h.entry
       where
@@ -147,7 +148,8 @@ module _ (S : Type 0) (model : StoreModel S) (x : Rules) (key : Key) (ask : Ask)
         go (inr d) = served d.reply d.given.0
             (inr (record { entry = d.entry; at = d.at; live = done_live x key ask number made v.net h.clock young d; request_is = d.request; state = d.state }))
 
-    through : (v : World S) → Kept S model opening W x bound v → Bounded v.net → On v → Young v → (i : ℕ) (free : Bool) → IsOnItsWay x v.net key (request_to x key ask) i
+    through : (v : World S) → Kept S model opening W x bound v → Bounded v.net → On v → Young v → (i : ℕ) (free : Bool)
+        → IsOnItsWay x v.net key (request_to x key ask) i
         → FindsServer S model x key ask v (Deliver i free) → (between : List Event) (answer : Apdu) (other : Bool)
         → (let u = run S model x between (happens S model x v (Deliver i free)) in
         On u → Stays_ u → Young u → IsOnItsWay x u.net key answer (length v.net.posts)
@@ -201,9 +203,11 @@ module _ (S : Type 0) (model : StoreModel S) (x : Rules) (key : Key) (ask : Ask)
 
     robust : (w : World S) → Kept S model opening W x bound w → Bounded w.net → On w → IsRobust S model x key ask number w
     robust w s bounded h = record {
-      waits = λ events served stays young. waiting_of (run S model x events w) (run_on events w served bounded h (stays_at w (run S model x events w) h stays) young);
+      waits = λ events served stays young. waiting_of (run S model x events w)
+          (run_on events w served bounded h (stays_at w (run S model x events w) h stays) young);
       repeats = λ events as_client as_server served stays young t at awaits due there.
-          sent_again (run S model x events w) (run_on events w served bounded h (stays_at w (run S model x events w) h stays) young) young t at awaits due as_client as_server there;
+          sent_again (run S model x events w) (run_on events w served bounded h
+          (stays_at w (run S model x events w) h stays) young) young t at awaits due as_client as_server there;
       answered = λ before between i free other answer served stays young m m_u.
           let sp = split before (Deliver i free) between w served in
           let v = run S model x before w in
@@ -258,7 +262,8 @@ asked_on W x n s key choice front rest calm free = record {
     spent : IsSpent (one n key)
     spent = spent_free W n s calm key free
 
-    none_live : (o : Option ServerTransaction) → ((e : ServerTransaction) → o ≡ Some e → e.begin + KEEP < server_now n key) → is_none_live (server_now n key) o ≡ true
+    none_live : (o : Option ServerTransaction) → ((e : ServerTransaction) → o ≡ Some e → e.begin + KEEP < server_now n key)
+        → is_none_live (server_now n key) o ≡ true
     none_live None d = refl
     none_live (Some e) d =
         let lt = d e refl in

@@ -1,10 +1,10 @@
 -- An ask of one APDU whose copies find their server is waited for or answered, where its client does not restart.
-use Rattle.std.proofs.Common.{◌≡◌, ℕ, zero, suc, ◌+◌, ◌-◌, ◌*◌, ◌<◌, ◌≤◌, ◌⊎◌, Bool, true, false, ◌&&◌, List, [], ◌∷◌, ◌++◌, map}
-use Rattle.std.proofs.Common.{Option, Some, None, slice_get, if◌then◌else◌, nat_le, nat_eq, refl, sym, ap, subst, inl, inr, ◌∙◌, arith}
+use Rattle.std.proofs.Common.{◌≡◌, ℕ, zero, suc, ◌+◌, ◌-◌, ◌*◌, ◌<◌, ◌≤◌, ◌⊎◌, Bool, true, false, ◌&&◌, List, [], ◌∷◌, ◌++◌, map, Option, Some, None, slice_get}
+use Rattle.std.proofs.Common.{if◌then◌else◌, nat_le, nat_eq, refl, sym, ap, subst, inl, inr, ◌∙◌, arith}
 use Rattle.std.proofs.lemmas.Bool.Decides.{nat_tests}
 use Rattle.bac_apdu.specs.Apdu.{Apdu}
 use Rattle.bac_segment.specs.Pieces.{join}
-use Rattle.bac_protocol.specs.declared.times.TheConstants.{T_OUT, REST}
+use Rattle.bac_protocol.specs.declared.times.TheConstants.{T_OUT}
 use Rattle.bac_protocol.specs.Context.{Context}
 use Rattle.bac_protocol.specs.Service.{Octets, Reply}
 use Rattle.bac_protocol.specs.Service.Outcome.{Replies}
@@ -21,21 +21,18 @@ use Rattle.bac_protocol.specs.Log.{Fact, Has}
 use Rattle.bac_protocol.specs.Log.Fact.{Asked, Performed, Ended, Changed, Restarted}
 use Rattle.bac_protocol.specs.Transaction.{Key, Rules, client_context, server_context, ended, performed}
 use Rattle.bac_protocol.specs.World.{Net, Post, is_id_held, is_room, lost, asked_at, client_acts, server_acts, notes_change, client_restarted, server_restarted}
-use Rattle.bac_protocol.specs.World.{post_of, set_at, later}
+use Rattle.bac_protocol.specs.World.{post_of, set_at, later, client_now, server_now, passes}
+use Rattle.bac_protocol.specs.Pace.{clock_at, Pace, Clock}
 use Rattle.bac_protocol.proofs.Facts.{Grows, grows_more}
 use Rattle.bac_protocol.proofs.Keys.{decide_key, set_same, set_other}
 use Rattle.bac_protocol.proofs.Dead.{ended_is_silent}
-use Rattle.bac_liveness.specs.Runs.{IsOnItsWay}
+use Rattle.bac_protocol.proofs.Paces.{since_now, shows_on}
+use Rattle.bac_liveness.specs.Runs.{IsOnItsWay, StaysSince}
 use Rattle.bac_liveness.specs.RoundTrip.{FitsInOne, request_to, answer_to}
 use Rattle.bac_liveness.specs.Repeats.{IsAnswered, PATIENCE}
-use Rattle.bac_liveness.specs.Runs.{StaysSince}
-use Rattle.bac_protocol.specs.Pace.{clock_at}
 use Rattle.bac_liveness.proofs.Paths.{Bounded, path_bounded, step_restarted, some_is, ask_of, Comes, Step, Path, grows_ended, grows_performed}
 use Rattle.bac_liveness.proofs.Paths.Step.{Asks, Serves, Hears, TicksTicket, TicksEntry, Passes, Changes, RestartsClient, RestartsServer}
 use Rattle.bac_liveness.proofs.Paths.Path.{Here, Then}
-use Rattle.bac_protocol.specs.Pace.{Pace, Clock}
-use Rattle.bac_protocol.specs.World.{client_now, server_now, passes}
-use Rattle.bac_protocol.proofs.Paces.{since_now, shows_on}
 use Rattle.bac_liveness.proofs.Clocks.{IsBegunAfter, MadeIn, alive, made_step, begun_passes, here_step, made_path}
 use Rattle.bac_liveness.proofs.Kept.{held_in_time}
 use Rattle.bac_liveness.proofs.Serving.{answer_any_time, answer_not_from_client, answer_ends, performed_entry, answers_first, serves_new, serves_again}
@@ -197,7 +194,8 @@ module _ (x : Rules) (key : Key) (ask : Ask) (number made : ℕ) where
           let own_log : n.numbers k ≡ number = ap n.numbers is ∙ h.number_is in
           subst (λ (o : Option ClientTransaction). TicketFits (client_now n key) o log)
           (sym (subst (λ (j : Key). set_at n.tickets k kept j ≡ kept) is (set_same n.tickets k kept)))
-          (subst (λ (m : ℕ). TicketFits (client_now n key) kept (ended m (ending_of r) n.log)) (sym own_log) (subst (λ (j : Key). TicketFits (client_now n key) (Some (after (client_now n j) t r)) (ended number (ending_of r) n.log)) (sym is) (own is).0))
+          (subst (λ (m : ℕ). TicketFits (client_now n key) kept (ended m (ending_of r) n.log)) (sym own_log)
+          (subst (λ (j : Key). TicketFits (client_now n key) (Some (after (client_now n j) t r)) (ended number (ending_of r) n.log)) (sym is) (own is).0))
       go (inr ne) = subst (λ (o : Option ClientTransaction). TicketFits (client_now n key) o log) (sym (set_other n.tickets k kept key ne))
           (ticket_grows (client_now n key) (n.tickets key) n.log log g h.ticket)
 
@@ -238,13 +236,17 @@ module _ (x : Rules) (key : Key) (ask : Ask) (number made : ℕ) where
   -- what is known of the ticket, by its name
   pub known : (n : Net) (t : ClientTransaction) → n.tickets key ≡ Some t → Waits n → (t.ask ≡ ask) × PatientOrOver (client_now n key) t n.log
   known n t at h =
-      let same : h.ticket.ticket ≡ t = some_is h.ticket.ticket t (sym h.ticket.at ∙ at) in
-      (subst (λ (y : ClientTransaction). y.ask ≡ ask) same h.ticket.is, subst (λ (y : ClientTransaction). PatientOrOver (client_now n key) y n.log) same h.ticket.state)
+      let same : h.ticket.ticket ≡ t = some_is h.ticket.ticket t (sym h.ticket.at ∙ at) in (
+        subst (λ (y : ClientTransaction). y.ask ≡ ask) same h.ticket.is,
+        subst
+            (λ (y : ClientTransaction). PatientOrOver (client_now n key) y n.log) same h.ticket.state,
+      )
 
   hears_answer : (n : Net) → InPatience n → (p : Reply) → WasGiven p n.log → (t : ClientTransaction) → t.ask ≡ ask → PatientOrOver (client_now n key) t n.log
       → ClientGoal n t (client.client_on_apdu (client_context x key (client_now n key)) x.readable t (answer_to x key ask p))
   hears_answer n young p given t is (inr o) =
-      subst (ClientGoal n t) (sym (ended_is_silent.gets (client_context x key (client_now n key)) x.readable t (answer_to x key ask p) o.0)) (idle_stays n t is o.0 o.1)
+      subst (ClientGoal n t) (sym (ended_is_silent.gets (client_context x key (client_now n key)) x.readable t (answer_to x key ask p) o.0))
+      (idle_stays n t is o.0 o.1)
   hears_answer n young p given t is (inl w) =
       let c = client_context x key (client_now n key) in
       let first : t.ask.first ≡ ask.first = ap (λ (a : Ask). a.first) is in
@@ -255,11 +257,13 @@ module _ (x : Rules) (key : Key) (ask : Ask) (number made : ℕ) where
 
   -- an answer that comes to it leaves the ask answered, where its client has not restarted
   pub told_answered : (n : Net) → Waits n → InPatience n → (t : ClientTransaction) → n.tickets key ≡ Some t → (p : Reply) → WasGiven p n.log
-      → IsAnswered number ask (ended number (ending_of (client.client_on_apdu (client_context x key (client_now n key)) x.readable t (answer_to x key ask p))) n.log)
+      → IsAnswered number ask (ended number (ending_of (client.client_on_apdu (client_context x key (client_now n key)) x.readable t
+      (answer_to x key ask p))) n.log)
   told_answered n h young t at p given = go (known n t at h).0 (known n t at h).1
     where
       go : t.ask ≡ ask → PatientOrOver (client_now n key) t n.log
-          → IsAnswered number ask (ended number (ending_of (client.client_on_apdu (client_context x key (client_now n key)) x.readable t (answer_to x key ask p))) n.log)
+          → IsAnswered number ask (ended number (ending_of (client.client_on_apdu (client_context x key (client_now n key)) x.readable t
+          (answer_to x key ask p))) n.log)
       go is (inr (idle, o)) = answered_grows n.log
           (ended number (ending_of (client.client_on_apdu (client_context x key (client_now n key)) x.readable t (answer_to x key ask p))) n.log)
           (grows_ended number (ending_of (client.client_on_apdu (client_context x key (client_now n key)) x.readable t (answer_to x key ask p))) n.log) o
@@ -336,7 +340,8 @@ module _ (x : Rules) (key : Key) (ask : Ask) (number made : ℕ) where
   -- The request or a tick comes to the server.
 
   pub done_live : (n : Net) → MadeIn n key ask.first made → InPatience n → (d : DoneFor n (n.entries key) n.log) → is_live (server_now n key) d.entry ≡ true
-  done_live n runs young d = alive n.pace n.now (n.client_clocks key.client) (n.server_clocks key.server) (n.restarted key.client) ask.first made runs (omega arith) d.entry d.begun
+  done_live n runs young d = alive n.pace n.now (n.client_clocks key.client) (n.server_clocks key.server) (n.restarted key.client) ask.first made runs
+      (omega arith) d.entry d.begun
 
   -- a delivery finds a free slot of a server that does not wait and a reply that goes in one APDU, where no entry is live
   abbrev pub Finds : Net → ℕ → Bool → Service → Type 0
@@ -363,14 +368,16 @@ module _ (x : Rules) (key : Key) (ask : Ask) (number made : ℕ) where
   )
 
   serves_request : (n : Net) → Waits n → InPatience n → (service : Service) (free : Bool)
-      → (is_none_live (server_now n key) (n.entries key) ≡ true → (p : Reply) × (free ≡ true) × (service ask.choice (join ask.pieces) ≡ Replies p) × FitsInOne x key ask p)
+      → (is_none_live (server_now n key) (n.entries key) ≡ true → (p : Reply) × (free ≡ true) × (service ask.choice (join ask.pieces) ≡ Replies p)
+      × FitsInOne x key ask p)
       → EntryIn n (n.entries key) n.log → ServerGoal n (on_request n service (n.entries key) free)
   serves_request n h young service free finds (inl none) =
       let cl = client_context x key ask.first in
       let y = finds none in
       subst (ServerGoal n) (sym (ap (on_request n service (n.entries key)) y.1
       ∙ serves_new (server_context x key (server_now n key)) cl service (n.entries key) ask y.0 none y.2 (y.3).way
-      ∙ ap (λ (a : Apdu). answers_first (performed_entry (server_now n key) cl ask a) ask y.0 a) (answer_any_time x key (server_now n key) ask.first ask.choice y.0))) (
+      ∙ ap (λ (a : Apdu). answers_first (performed_entry (server_now n key) cl ask a) ask y.0 a)
+      (answer_any_time x key (server_now n key) ask.first ask.choice y.0))) (
         inr (record {
           entry = performed_entry (server_now n key) cl ask (answer_to x key ask y.0);
           at = refl;
@@ -395,8 +402,10 @@ module _ (x : Rules) (key : Key) (ask : Ask) (number made : ℕ) where
 
   -- it brings one answer
   pub brings_answer : (n : Net) → Waits n → InPatience n → (service : Service) (free : Bool)
-      → (is_none_live (server_now n key) (n.entries key) ≡ true → (p : Reply) × (free ≡ true) × (service ask.choice (join ask.pieces) ≡ Replies p) × FitsInOne x key ask p)
-      → (p : Reply) × ((server.server_on_apdu (server_context x key (server_now n key)) service (n.entries key) free (request_to x key ask)).sends ≡ answer_to x key ask p ∷ [])
+      → (is_none_live (server_now n key) (n.entries key) ≡ true → (p : Reply) × (free ≡ true) × (service ask.choice (join ask.pieces) ≡ Replies p)
+      × FitsInOne x key ask p)
+      → (p : Reply) × ((server.server_on_apdu (server_context x key (server_now n key)) service (n.entries key) free
+      (request_to x key ask)).sends ≡ answer_to x key ask p ∷ [])
   brings_answer n h young service free finds = go h.entry
     where
       go : EntryIn n (n.entries key) n.log → (p : Reply) × ((on_request n service (n.entries key) free).sends ≡ answer_to x key ask p ∷ [])
@@ -419,7 +428,8 @@ module _ (x : Rules) (key : Key) (ask : Ask) (number made : ℕ) where
       → ServerGoal n (server.server_ticks (server_context x key (server_now n key)) (n.entries key))
   ticks_entry n runs young (inl none) = go (n.entries key) none
     where
-      go : (o : Option ServerTransaction) → is_none_live (server_now n key) o ≡ true → ServerGoal n (server.server_ticks (server_context x key (server_now n key)) o)
+      go : (o : Option ServerTransaction) → is_none_live (server_now n key) o ≡ true
+          → ServerGoal n (server.server_ticks (server_context x key (server_now n key)) o)
       go None e = (inl refl, tt)
       go (Some d) e = by (is_live (server_now n key) d) refl e
         where
@@ -571,10 +581,13 @@ module _ (x : Rules) (key : Key) (ask : Ask) (number made : ℕ) where
   waits_step whole n _ (Asks k choice w front rest free) stays h young = asked_waits n k (ask_of (client_now n k) choice w front rest)
       (λ is. let held = ap (is_id_held n) is ∙ key_held n h young in absurd (let z = sym held ∙ free in cc)) h
   waits_step whole n _ (Serves i q free service comes up finds) stays h young =
-      server_waits n q.key (server.server_on_apdu (server_context x q.key (server_now n q.key)) service (n.entries q.key) (is_room n q.key free) q.copy.apdu) h (λ is.
+      server_waits n q.key (server.server_on_apdu (server_context x q.key (server_now n q.key)) service (n.entries q.key) (is_room n q.key free) q.copy.apdu) h
+      (λ is.
       let a = fine_up n.log q.copy.apdu up (fine_comes n h i q comes is) in
-      subst (λ (j : Key). ServerGoal n (server.server_on_apdu (server_context x j (server_now n j)) service (n.entries j) (is_room n j free) q.copy.apdu)) (sym is)
-      (subst (λ (y : Apdu). ServerGoal n (server.server_on_apdu (server_context x key (server_now n key)) service (n.entries key) (is_room n key free) y)) (sym a)
+      subst (λ (j : Key). ServerGoal n (server.server_on_apdu (server_context x j (server_now n j)) service (n.entries j) (is_room n j free) q.copy.apdu))
+      (sym is)
+      (subst (λ (y : Apdu). ServerGoal n (server.server_on_apdu (server_context x key (server_now n key)) service (n.entries key) (is_room n key free) y))
+      (sym a)
       (serves_request n h young service (is_room n key free)
       (finds (record { post = q; at = comes.at; key_is = is; apdu_is = a; arrives = comes.arrives })) h.entry)))
   waits_step whole n _ (Hears i q t comes down there) stays h young =
@@ -590,7 +603,8 @@ module _ (x : Rules) (key : Key) (ask : Ask) (number made : ℕ) where
       subst (λ (j : Key). ClientGoal n t (client.client_ticks (client_context x j (client_now n j)) t)) (sym is) (ticks_timer n whole young t y.0 y.1))
   waits_step whole n _ (TicksEntry k) stays h young =
       server_waits n k (server.server_ticks (server_context x k (server_now n k)) (n.entries k)) h (λ is.
-      subst (λ (j : Key). ServerGoal n (server.server_ticks (server_context x j (server_now n j)) (n.entries j))) (sym is) (ticks_entry n h.clock young h.entry))
+      subst (λ (j : Key). ServerGoal n (server.server_ticks (server_context x j (server_now n j)) (n.entries j))) (sym is)
+      (ticks_entry n h.clock young h.entry))
   waits_step whole n _ (Passes by clients servers) stays h young = passes_waits n by clients servers h
   waits_step whole n _ (Changes node change) stays h young = changes_waits n node change h
   waits_step whole n _ (RestartsClient node exact) stays h young = client_lost n node exact stays h
