@@ -1,17 +1,18 @@
 -- The two laws of APDUs: what is read is a spelling of the APDU, and each spelling is read as its APDU.
 use Rattle.std.proofs.Common.{◌≡◌, ℕ, zero, suc, ◌+◌, ◌*◌, ◌/◌, ◌%◌, ◌^◌, ◌<◌, Bool, true, false, cond, ltb, eqb, List, [], ◌∷◌, ◌++◌, Result, Ok, Err}
 use Rattle.std.proofs.Common.{Option, Some, None, refl, sym, ap, subst, ◌∙◌, arith, IsTrue, ◌&&◌, ◌||◌, not}
+use Rattle.std.specs.Prelude.{IfOk, IfErr}
 use Rattle.std.proofs.lemmas.Bool.{ltb-true, lt-ltb, and_parts, and_from, eqb-true, agree_below_at}
 use Rattle.std.proofs.lemmas.List.{append-nil}
 use Rattle.bac_value.specs.Octets.{IsBytes}
-use Rattle.bac_value.specs.Steps.{◌>>=◌, octet_at, has_bit}
-use Rattle.bac_value.proofs.Steps.{IsBytes-rest, octet_takes, bind_ok, unless_ok, where_ok, ok_is}
+use Rattle.bac_value.specs.Steps.{◌>>=◌, octet_at, has_bit, ReadsAll}
+use Rattle.bac_value.proofs.Steps.{IsBytes-rest, octet_takes, bind_ok, unless_ok, where_ok, ok_is, ok_by, err_by}
 use Rattle.bac_apdu.specs.declared.fault.ApduFault.{ApduFault}
 use Rattle.bac_apdu.specs.declared.fault.ApduFault.TheVariants.{Truncated, ReservedBits, MorWithoutSeg}
 use Rattle.bac_apdu.specs.Apdu.{Limits, Acknowledgement, Segment, Apdu, ConfirmedRequest, UnconfirmedRequest, SimpleAck, ComplexAck, SegmentAck}
 use Rattle.bac_apdu.specs.Apdu.{Error, Reject, Abort}
 use Rattle.bac_apdu.specs.Spelling.{window_fits, limits_fit, segment_fits, apdu_fits, bit, segment_bits, segment_octets, enumerated_spelling, apdu_spelling}
-use Rattle.bac_apdu.specs.Spelling.{SpellsApdu}
+use Rattle.bac_apdu.specs.Spelling.{SpellsApdu, IsNoApdu}
 use Rattle.bac_apdu.specs.Reading.{end_at, window_at, segment_at, limits_at, enumerated_at, confirmed_at, unconfirmed_at}
 use Rattle.bac_apdu.specs.Reading.{simple_ack_at, complex_ack_at, segment_ack_at, error_at, reject_at, abort_at, kind_at, apdu_at}
 use Rattle.bac_apdu.proofs.Steps.{end_ok}
@@ -329,3 +330,13 @@ apdu_again a bytes s = ap apdu_at s.is ∙ spelling_again a s.fits
 
 pub apdu_one : (a b : Apdu) (bytes : List ℕ) → SpellsApdu a bytes → SpellsApdu b bytes → a ≡ b
 apdu_one a b bytes s t = ok_is a b (sym (apdu_again a bytes s) ∙ apdu_again b bytes t)
+
+-- ---- the result of a reader
+
+pub found_by : {X : Type 0} (view : X → Apdu) (octets : List ℕ) (r : Result X ApduFault) → IsBytes octets → ReadsAll view r (apdu_at octets)
+    → IfOk r (λ a. SpellsApdu (view a) octets)
+found_by view octets r fits h = ok_by view r (apdu_at octets) _ h (λ a e. apdu_takes octets (view a) fits e)
+
+pub refused_by : {X : Type 0} (view : X → Apdu) (octets : List ℕ) (r : Result X ApduFault) → ReadsAll view r (apdu_at octets)
+    → IfErr r (λ e. IsNoApdu octets)
+refused_by view octets r h = err_by view r (apdu_at octets) _ h (λ e h a s. let same = apdu_again a octets s in cc)

@@ -17,7 +17,7 @@ fn enumerated_len(number: u32) -> usize
 }
 
 /// The length of the octets for segmentation: a sequence number and the proposed window size.
-fn segment_len(segment: Option<Segment>) -> usize
+pub(crate) fn segment_len(segment: Option<Segment>) -> usize
     ensures is { result ≡ length (segment_octets (option_map segment_view segment)) }
     ensures few { result ≤ 2 }
 {

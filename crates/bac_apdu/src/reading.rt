@@ -149,20 +149,14 @@ fn kind(octets: &[u8], kind: u8, bits: u8) -> Result<Apdu<'_>, ApduFault>
     }
 }
 
-#[tactic(auto, unfolding(crate::specs::Reading::apdu_at))]
-fn whole(octets: &[u8]) -> Result<Apdu<'_>, ApduFault>
-    ensures { ReadsAll apdu_view result (apdu_at octets.now) }
-{
-    let (first, rest) = octet(octets)?;
-    kind(rest, first / 16, first % 16)
-}
-
 /// Reads the whole octets as an APDU (clause 20.1). Returns the first fault from left to right.
+#[tactic(auto, unfolding(crate::specs::Reading::apdu_at))]
 pub fn read(octets: &[u8]) -> Result<Apdu<'_>, ApduFault>
     ensures found { IfOk result (λ a. SpellsApdu (apdu_view a) octets.now) }
     ensures refused { IfErr result (λ e. IsNoApdu octets.now) }
     // the fault is the first from left to right
     ensures exact { ReadsAll apdu_view result (apdu_at octets.now) }
 {
-    whole(octets)
+    let (first, rest) = octet(octets)?;
+    kind(rest, first / 16, first % 16)
 }

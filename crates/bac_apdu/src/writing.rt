@@ -9,6 +9,7 @@ ghost use Rattle.bac_apdu.specs.Views.{segment_view, apdu_view};
 
 use crate::apdu::Apdu;
 use crate::bits::{MOR, NAK, SA, SEG, SRV};
+use crate::lengths::segment_len;
 use crate::limits::Segment;
 use bac_value::{Class, NoMemory, kinds, write_unsigned};
 
@@ -29,17 +30,50 @@ fn weight(is_set: bool, weight: u8) -> u8
     if is_set { weight } else { 0 }
 }
 
-/// Appends both slices, or changes nothing.
+/// Appends the octets, or changes nothing.
 #[inline(always)]
-fn append(head: &[u8], service: &[u8], out: &mut Vec<u8>) -> Result<(), NoMemory>
-    ensures ok { Appends result out.old out.new (head.now ++ service.now) }
+fn put(octets: &[u8], out: &mut Vec<u8>) -> Result<(), NoMemory>
+    ensures ok { Appends result out.old out.new octets.now }
     ensures err { Keeps result out.old out.new }
-    ensures full { OnErr result (vec_capacity out.old < vec_len out.old + (length head.now + length service.now)) }
+    ensures full { NeedsRoom result out.old octets.now }
+    ensures grows { vec_capacity out.old ≤ vec_capacity out.new }
 {
-    out.reserve(head.len() + service.len())?;
-    out.extend_from_slice(head)?;
-    out.extend_from_slice(service)?;
-    Ok(())
+    Ok(out.extend_from_slice(octets)?)
+}
+
+/// Appends the octets for segmentation, or changes nothing.
+#[inline(always)]
+fn put_segment(segment: Option<Segment>, out: &mut Vec<u8>) -> Result<(), NoMemory>
+    ensures ok { Appends result out.old out.new (segment_octets (option_map segment_view segment)) }
+    ensures err { Keeps result out.old out.new }
+    ensures full { NeedsRoom result out.old (segment_octets (option_map segment_view segment)) }
+    ensures grows { vec_capacity out.old ≤ vec_capacity out.new }
+{
+    match segment {
+        None => Ok(()),
+        Some(segment) => put(&[segment.number, segment.window.size], out),
+    }
+}
+
+/// Appends the first octets of a header, those for segmentation, the service choice, and the service data; or changes nothing.
+#[inline(always)]
+fn append(
+    first: &[u8],
+    segment: Option<Segment>,
+    choice: u8,
+    service: &[u8],
+    out: &mut Vec<u8>,
+) -> Result<(), NoMemory>
+    requires { length first.now ≤ 3 }
+    ensures ok { Appends result out.old out.new (first.now ++ segment_octets (option_map segment_view segment) ++ choice ∷ service.now) }
+    ensures err { Keeps result out.old out.new }
+    ensures full { NeedsRoom result out.old (first.now ++ segment_octets (option_map segment_view segment) ++ choice ∷ service.now) }
+{
+    out.reserve(first.len() + segment_len(segment) + 1 + service.len())?;
+    out.extend_from_slice(first)?;
+    put_segment(segment, out)?;
+    out.push(choice)?;
+    put(service, out)
 }
 
 /// Appends an application Enumerated, or changes nothing.
@@ -57,68 +91,6 @@ fn put_enumerated(number: u32, out: &mut Vec<u8>) -> Result<(), NoMemory>
         u64::from(number),
         out,
     )
-}
-
-/// Appends a Confirmed-Request: four or six octets, then its service data; or changes nothing.
-#[inline(always)]
-fn append_request(
-    first: u8,
-    codes: u8,
-    invoke_id: u8,
-    segment: Option<Segment>,
-    choice: u8,
-    service: &[u8],
-    out: &mut Vec<u8>,
-) -> Result<(), NoMemory>
-    ensures ok { Appends result out.old out.new
-        (first ∷ codes ∷ invoke_id ∷ (segment_octets (option_map segment_view segment) ++ choice ∷ service.now)) }
-    ensures err { Keeps result out.old out.new }
-    ensures full { NeedsRoom result out.old
-        (first ∷ codes ∷ invoke_id ∷ (segment_octets (option_map segment_view segment) ++ choice ∷ service.now)) }
-{
-    match segment {
-        None => append(&[first, codes, invoke_id, choice], service, out),
-        Some(segment) => {
-            let head = [
-                first,
-                codes,
-                invoke_id,
-                segment.number,
-                segment.window.size,
-                choice,
-            ];
-            append(&head, service, out)
-        }
-    }
-}
-
-/// Appends a ComplexACK: three or five octets, then its service data; or changes nothing.
-#[inline(always)]
-fn append_answer(
-    first: u8,
-    invoke_id: u8,
-    segment: Option<Segment>,
-    choice: u8,
-    service: &[u8],
-    out: &mut Vec<u8>,
-) -> Result<(), NoMemory>
-    ensures ok { Appends result out.old out.new (first ∷ invoke_id ∷ (segment_octets (option_map segment_view segment) ++ choice ∷ service.now)) }
-    ensures err { Keeps result out.old out.new }
-    ensures full { NeedsRoom result out.old (first ∷ invoke_id ∷ (segment_octets (option_map segment_view segment) ++ choice ∷ service.now)) }
-{
-    match segment {
-        None => append(&[first, invoke_id, choice], service, out),
-        Some(segment) => {
-            let head = [
-                first,
-                invoke_id,
-                segment.number,
-                segment.window.size,
-                choice,
-            ];
-            append(&head, service, out)
-        }
-    }
 }
 
 /// Appends an Error. After an `Err` the old octets are a prefix of the output.
@@ -189,7 +161,7 @@ pub fn write(apdu: &Apdu, out: &mut Vec<u8>) -> Result<(), NoMemory>
     ensures err { Keeps result out.old out.new }
     ensures full { NeedsRoom result out.old (apdu_spelling (apdu_view apdu.now)) }
 {
-    let first = first_octet(apdu);
+    let head = first_octet(apdu);
     match *apdu {
         Apdu::ConfirmedRequest {
             limits,
@@ -199,33 +171,33 @@ pub fn write(apdu: &Apdu, out: &mut Vec<u8>) -> Result<(), NoMemory>
             service,
         } => {
             let codes = 16 * limits.max_segments + limits.max_apdu;
-            append_request(first, codes, invoke_id, segment, choice, service, out)
+            append(&[head, codes, invoke_id], segment, choice, service, out)
         }
-        Apdu::UnconfirmedRequest { choice, service } => append(&[first, choice], service, out),
-        Apdu::SimpleAck { invoke_id, choice } => append(&[first, invoke_id, choice], &[], out),
+        Apdu::UnconfirmedRequest { choice, service } => append(&[head], None, choice, service, out),
+        Apdu::SimpleAck { invoke_id, choice } => put(&[head, invoke_id, choice], out),
         Apdu::ComplexAck {
             invoke_id,
             segment,
             choice,
             service,
-        } => append_answer(first, invoke_id, segment, choice, service, out),
+        } => append(&[head, invoke_id], segment, choice, service, out),
         Apdu::SegmentAck {
             invoke_id,
             number,
             window,
             ..
-        } => append(&[first, invoke_id, number, window.size], &[], out),
+        } => put(&[head, invoke_id, number, window.size], out),
         Apdu::Error {
             invoke_id,
             choice,
             class,
             code,
-        } => append_error(first, invoke_id, choice, class, code, out),
-        Apdu::Reject { invoke_id, reason } => append(&[first, invoke_id, reason], &[], out),
+        } => append_error(head, invoke_id, choice, class, code, out),
+        Apdu::Reject { invoke_id, reason } => put(&[head, invoke_id, reason], out),
         Apdu::Abort {
             invoke_id,
             reason,
             ..
-        } => append(&[first, invoke_id, reason], &[], out),
+        } => put(&[head, invoke_id, reason], out),
     }
 }

@@ -1,7 +1,7 @@
 -- The two laws of NPDU and BVLL: what is read is a spelling of the value, and each spelling is read as its value.
 use Rattle.std.proofs.Common.{◌≡◌, ℕ, ◌+◌, ◌*◌, ◌/◌, ◌%◌, ◌<◌, Bool, true, false, cond, ltb, eqb, List, [], ◌∷◌, ◌++◌, length, Result, Ok, Err, Option, Some}
 use Rattle.std.proofs.Common.{None, refl, sym, ap, subst, ◌∙◌, arith, IsTrue, ◌||◌}
-use Rattle.std.specs.Prelude.{is_some}
+use Rattle.std.specs.Prelude.{is_some, IfOk, IfErr}
 use Rattle.std.specs.Option.{option_map}
 use Rattle.std.specs.Int.{w16, from_be_bytes, to_be_bytes}
 use Rattle.std.proofs.lemmas.Bool.{le-ltb, eqb-true, eq-eqb, agree_below_at}
@@ -12,9 +12,9 @@ use Rattle.bac_npdu.specs.Peers.{RouteView, route_fits}
 use Rattle.bac_npdu.specs.Npdu.{DestinationView, MessageView, NpduView, optional, all_of, bit, control_octet, address_spelling, message_spelling}
 use Rattle.bac_npdu.specs.Npdu.{destination_fits, message_fits, members_spelling, npdu_spelling, SpellsNpdu, bvll_spelling, SpellsBvll}
 use Rattle.bac_value.specs.Octets.{IsBytes}
-use Rattle.bac_value.specs.Steps.{◌>>=◌, has_bit}
+use Rattle.bac_value.specs.Steps.{◌>>=◌, has_bit, ReadsAll}
 use Rattle.bac_npdu.specs.Reading.{place_at, optional_at, hops_at, message_at, members_at, control_at, npdu_at, bvll_at}
-use Rattle.bac_value.proofs.Steps.{IsBytes-rest, IsBytes-take, bind_ok, unless_ok, where_ok, ok_is}
+use Rattle.bac_value.proofs.Steps.{IsBytes-rest, IsBytes-take, bind_ok, unless_ok, where_ok, ok_is, ok_by, err_by}
 use Rattle.bac_npdu.proofs.Members.{place_takes_destination, place_takes_source, destination_again, source_again, optional_takes, optional_again, place_of}
 use Rattle.bac_npdu.proofs.Members.{hops_takes, hops_again, message_takes, message_again}
 
@@ -243,3 +243,20 @@ bvll_again npdu bytes s =
     let long : ltb (length (bvll_spelling npdu)) 4 ≡ false = le-ltb _ _ (omega arith) in
     let len : eqb n (length (bvll_spelling npdu)) ≡ true = eq-eqb _ _ (omega arith) in
     ap bvll_at s.is ∙ rw (long, from_be_bytes-to_be_bytes_2 n s.fits, len) refl
+
+-- ---- what a fault refuses
+
+pub bvll_refused : (octets : List ℕ) (e : FrameFault) → bvll_at octets ≡ Err e → (n : List ℕ) → SpellsBvll n octets → ⊥
+bvll_refused octets e h n s = let same = bvll_again n octets s in cc
+
+pub npdu_refused : (octets : List ℕ) (e : FrameFault) → npdu_at octets ≡ Err e → (n : NpduView) → SpellsNpdu n octets → ⊥
+npdu_refused octets e h n s = let same = npdu_again n octets s in cc
+
+-- the same of the result of a reader
+pub found_by : {X : Type 0} (view : X → NpduView) (octets : List ℕ) (r : Result X FrameFault) → IsBytes octets → ReadsAll view r (npdu_at octets)
+    → IfOk r (λ n. SpellsNpdu (view n) octets)
+found_by view octets r fits h = ok_by view r (npdu_at octets) _ h (λ n e. npdu_takes octets (view n) fits e)
+
+pub refused_by : {X : Type 0} (view : X → NpduView) (octets : List ℕ) (r : Result X FrameFault) → ReadsAll view r (npdu_at octets)
+    → IfErr r (λ e. (n : NpduView) → SpellsNpdu n octets → ⊥)
+refused_by view octets r h = err_by view r (npdu_at octets) _ h (λ e same. npdu_refused octets e same)

@@ -11,9 +11,15 @@ pub(crate) const TYPE: u8 = 0x81;
 /// The second octet of a BVLL: the function Original-Unicast-NPDU (clause J.2.11).
 pub(crate) const ORIGINAL_UNICAST_NPDU: u8 = 0x0A;
 
+/// Returns the octets of the NPDU in a BVLL with function Original-Unicast-NPDU (clause J.2.11).
+///
+/// Fewer than four octets are `Truncated`; otherwise `Version`, `NotUnicast` and `BadLength` are tested in this order.
 #[tactic(auto, unfolding(crate::specs::Reading::bvll_at))]
-fn npdu_in(octets: &[u8]) -> Result<&[u8], FrameFault>
-    ensures { ReadsAll (λ n. n.now) result (bvll_at octets.now) }
+pub fn read_bvll(octets: &[u8]) -> Result<&[u8], FrameFault>
+    ensures found { IfOk result (λ n. SpellsBvll n.now octets.now) }
+    ensures refused { IfErr result (λ e. (n : List ℕ) → SpellsBvll n octets.now → ⊥) }
+    // the fault is the first from left to right
+    ensures exact { ReadsAll (λ n. n.now) result (bvll_at octets.now) }
 {
     let [kind, function, high, low, npdu @ ..] = octets else {
         return Err(FrameFault::Truncated);
@@ -27,16 +33,4 @@ fn npdu_in(octets: &[u8]) -> Result<&[u8], FrameFault>
     } else {
         Ok(npdu)
     }
-}
-
-/// Returns the octets of the NPDU in a BVLL with function Original-Unicast-NPDU (clause J.2.11).
-///
-/// Fewer than four octets are `Truncated`; otherwise `Version`, `NotUnicast` and `BadLength` are tested in this order.
-pub fn read_bvll(octets: &[u8]) -> Result<&[u8], FrameFault>
-    ensures found { IfOk result (λ n. SpellsBvll n.now octets.now) }
-    ensures refused { IfErr result (λ e. (n : List ℕ) → SpellsBvll n octets.now → ⊥) }
-    // the fault is the first from left to right
-    ensures exact { ReadsAll (λ n. n.now) result (bvll_at octets.now) }
-{
-    npdu_in(octets)
 }

@@ -113,9 +113,13 @@ fn members(octets: &[u8], bits: u8) -> Result<Npdu<'_>, FrameFault>
     })
 }
 
+/// Reads the whole octets as an NPDU (clause 6.2). Returns the first fault from left to right.
 #[tactic(auto, unfolding(crate::specs::Reading::control_at, crate::specs::Reading::npdu_at))]
-fn whole(octets: &[u8]) -> Result<Npdu<'_>, FrameFault>
-    ensures { ReadsAll npdu_view result (npdu_at octets.now) }
+pub fn read_npdu(octets: &[u8]) -> Result<Npdu<'_>, FrameFault>
+    ensures found { IfOk result (λ n. SpellsNpdu (npdu_view n) octets.now) }
+    ensures refused { IfErr result (λ e. (n : NpduView) → SpellsNpdu n octets.now → ⊥) }
+    // the fault is the first from left to right
+    ensures exact { ReadsAll npdu_view result (npdu_at octets.now) }
 {
     let (version, rest) = octet(octets)?;
     if version != VERSION {
@@ -126,14 +130,4 @@ fn whole(octets: &[u8]) -> Result<Npdu<'_>, FrameFault>
         return Err(FrameFault::ReservedBits);
     }
     members(rest, bits)
-}
-
-/// Reads the whole octets as an NPDU (clause 6.2). Returns the first fault from left to right.
-pub fn read_npdu(octets: &[u8]) -> Result<Npdu<'_>, FrameFault>
-    ensures found { IfOk result (λ n. SpellsNpdu (npdu_view n) octets.now) }
-    ensures refused { IfErr result (λ e. (n : NpduView) → SpellsNpdu n octets.now → ⊥) }
-    // the fault is the first from left to right
-    ensures exact { ReadsAll npdu_view result (npdu_at octets.now) }
-{
-    whole(octets)
 }

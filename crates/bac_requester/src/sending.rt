@@ -11,16 +11,21 @@ ghost use Rattle.bac_transaction.specs.Views.{context_view, peer_of};
 
 use bac_apdu::{Apdu, Segment};
 use bac_segment::Outgoing;
-use bac_transaction::{Context, Datagram, abort_datagram, datagram_of, only_apdu};
+use bac_transaction::{Context, Datagram, datagram_of, only_apdu};
 use bac_value::NoMemory;
 use std::alloc::Global;
 
 /// An Abort.
+#[tactic(auto, using(bac_transaction::proofs::Short::short_abort))]
 pub(crate) fn abort(alloc: Global, context: &Context, reason: u8) -> Result<Datagram, NoMemory>
     ensures { IfOk result (IsSent (to_peer (peer_of context.now) (client_abort (context_view context.now) reason))) }
 {
-    let key = &context.key;
-    abort_datagram(alloc, &key.peer, false, key.invoke_id, reason)
+    let abort = Apdu::Abort {
+        server: false,
+        invoke_id: context.key.invoke_id,
+        reason,
+    };
+    datagram_of(alloc, &context.key.peer, &abort)
 }
 
 /// The whole request, in one APDU.

@@ -1,7 +1,7 @@
 -- The laws of whole requests and of the service data of whole ComplexACKs: readers accept exactly the spellings, writers append a
 -- spelling, and each has only one.
 use Rattle.std.proofs.Common.{◌≡◌, ℕ, ◌<◌, Bool, true, false, cond, nat_eq, [], Option, Some, None, ◌⊎◌, inl, inr, refl, sym, ap, subst, ◌∙◌}
-use Rattle.std.proofs.Common.{lit<, length, ◌^◌, Result, Ok, Err, IfOk, IfErr, ◌↔◌}
+use Rattle.std.proofs.Common.{lit<, length, ◌^◌, Result, Ok, Err, ◌↔◌}
 use Rattle.std.proofs.Math.Logic.{∥∥₁_elim}
 use Rattle.std.proofs.Props.{props}
 use Rattle.std.proofs.lemmas.Bool.{eqb-true}
@@ -25,7 +25,6 @@ use Rattle.bac_service.specs.WriteProperty.{write_property_of, write_property_at
 use Rattle.bac_service.specs.Requests.{SpellsMembers, SpellsRequest, IsMade, IsRequest, request_members, request_of, request_at, request_spelling, request_length}
 use Rattle.bac_service.specs.Replies.{SpellsComplexMembers, SpellsComplex, IsMadeOf, IsReply, IsComplex, complex_members, complex_at, is_read, reads_reply}
 use Rattle.bac_service.specs.Replies.{complex_spelling, complex_length}
-use Rattle.bac_service.specs.Refusals.{Gives}
 use Rattle.bac_service.specs.Stops.{or_reason, or_fault}
 use Rattle.bac_service.proofs.Exact.{Anything, Differs, Made, made_exact, whole_takes, whole_again}
 use Rattle.bac_service.proofs.Heads.{some_is}
@@ -235,38 +234,17 @@ one_complex choice c d bytes s t = ok_is c d (sym (complex_again choice bytes c 
 
 -- ---- the guarantees of readers in code
 
-abbrev ReadAs : {X E : Type 0} → (X → Request) → (E → ℕ) → ℕ → Octets → Result X E → Type 0
-ReadAs view number choice bytes result = Gives view number result (request_at choice bytes)
-
-pub request_found : {X E : Type 0} (view : X → Request) (number : E → ℕ) (choice : ℕ) (bytes : Octets) (result : Result X E) → IsBytes bytes
-    → ReadAs view number choice bytes result → IfOk result (λ f. SpellsRequest choice (view f) bytes)
-request_found view number choice bytes (Ok f) fits e = request_takes choice bytes (view f) fits e
-request_found view number choice bytes (Err d) fits e = tt
-
 made_of : (r : Request) (bytes : Octets) → SpellsMembers r bytes → IsMade r
 made_of (ReadFile file access) bytes s = tt
 made_of (WriteFile file access) bytes s = written_is access s.back s.second
 made_of (ReadProperty r) bytes s = tt
 made_of (WriteProperty r values priority) bytes s = ∣ s.second.first.are.spelled ∣₁
 
-pub request_made : {X E : Type 0} (view : X → Request) (number : E → ℕ) (choice : ℕ) (bytes : Octets) (result : Result X E) → IsBytes bytes
-    → ReadAs view number choice bytes result → IfOk result (λ f. IsMade (view f))
-request_made view number choice bytes (Ok f) fits e = made_of (view f) bytes (request_takes choice bytes (view f) fits e).members
-request_made view number choice bytes (Err d) fits e = tt
+pub request_made : (choice : ℕ) (bytes : Octets) (r : Request) → IsBytes bytes → request_at choice bytes ≡ Ok r → IsMade r
+request_made choice bytes r fits e = made_of r bytes (request_takes choice bytes r fits e).members
 
-pub request_refused : {X E : Type 0} (view : X → Request) (number : E → ℕ) (choice : ℕ) (bytes : Octets) (result : Result X E)
-    → ReadAs view number choice bytes result
-    → IfErr result (λ e. (r : Request) → SpellsRequest choice r bytes → ⊥)
-request_refused view number choice bytes (Ok f) e = tt
-request_refused view number choice bytes (Err d) e = λ r s. let again = request_again choice bytes r s in absurd cc
-
-abbrev ReadComplexAs : {X E : Type 0} → (X → Complex) → (E → Fault) → ℕ → Octets → Result X E → Type 0
-ReadComplexAs view fault choice bytes result = Gives view fault result (complex_at choice bytes)
-
-pub complex_found : {X E : Type 0} (view : X → Complex) (fault : E → Fault) (choice : ℕ) (bytes : Octets) (result : Result X E) → IsBytes bytes
-    → ReadComplexAs view fault choice bytes result → IfOk result (λ c. SpellsComplex choice (view c) bytes)
-complex_found view fault choice bytes (Ok c) fits e = complex_takes choice bytes (view c) fits e
-complex_found view fault choice bytes (Err d) fits e = tt
+pub request_refused : (choice : ℕ) (bytes : Octets) (reason : ℕ) → request_at choice bytes ≡ Err reason → (r : Request) → SpellsRequest choice r bytes → ⊥
+request_refused choice bytes reason e r s = let again = request_again choice bytes r s in absurd cc
 
 complex_members_made : (c : Complex) (bytes : Octets) → SpellsComplexMembers c bytes → IsMadeOf c
 complex_members_made (FileRead b z octets) bytes s = let string = s.second.are.second in subst (λ (xs : Octets). length xs < 2 ^ 32) string.are string.fits
@@ -274,16 +252,11 @@ complex_members_made (StreamWritten z) bytes s = tt
 complex_members_made (RecordsWritten z) bytes s = tt
 complex_members_made (PropertyRead r values) bytes s = ∣ s.second.are.spelled ∣₁
 
-pub complex_made : {X E : Type 0} (view : X → Complex) (fault : E → Fault) (choice : ℕ) (bytes : Octets) (result : Result X E) → IsBytes bytes
-    → ReadComplexAs view fault choice bytes result → IfOk result (λ c. IsMadeOf (view c))
-complex_made view fault choice bytes (Ok c) fits e = complex_members_made (view c) bytes (complex_takes choice bytes (view c) fits e).members
-complex_made view fault choice bytes (Err d) fits e = tt
+pub complex_made : (choice : ℕ) (bytes : Octets) (c : Complex) → IsBytes bytes → complex_at choice bytes ≡ Ok c → IsMadeOf c
+complex_made choice bytes c fits e = complex_members_made c bytes (complex_takes choice bytes c fits e).members
 
-pub complex_refused : {X E : Type 0} (view : X → Complex) (fault : E → Fault) (choice : ℕ) (bytes : Octets) (result : Result X E)
-    → ReadComplexAs view fault choice bytes result
-    → IfErr result (λ e. (c : Complex) → SpellsComplex choice c bytes → ⊥)
-complex_refused view fault choice bytes (Ok c) e = tt
-complex_refused view fault choice bytes (Err d) e = λ c s. let again = complex_again choice bytes c s in absurd cc
+pub complex_refused : (choice : ℕ) (bytes : Octets) (fault : Fault) → complex_at choice bytes ≡ Err fault → (c : Complex) → SpellsComplex choice c bytes → ⊥
+complex_refused choice bytes fault e c s = let again = complex_again choice bytes c s in absurd cc
 
 -- ---- what can be read
 

@@ -86,22 +86,8 @@ fn members<O: Octets>(choice: u8, octets: O) -> Result<(Told<O>, O), Stop>
     }
 }
 
-#[tactic(auto, unfolding(crate::specs::Replies::complex_at))]
-fn complex_read<O: Octets>(choice: u8, octets: O) -> Result<Told<O>, Fault>
-    ensures read { Gives (complex_over_view O.octets O.octets) (λ e. e) result (complex_at choice (O.octets octets)) }
-    ensures place { IfErr result (λ e. e.at ≤ length (O.octets octets)) }
-{
-    let all = octets.len();
-    match members(choice, octets) {
-        Ok(read) => match read.1.len() {
-            0 => Ok(read.0),
-            left => Err(Stop::new(Why::Surplus, left).fault_in(all)),
-        },
-        Err(stop) => Err(stop.fault_in(all)),
-    }
-}
-
 /// Reads the whole octets as service data of a ComplexACK with this service choice, or returns what is wrong, and where.
+#[tactic(auto, unfolding(crate::specs::Replies::complex_at))]
 fn complex_in<O: Octets>(choice: u8, octets: O) -> Result<Told<O>, Fault>
     ensures spelled { IfOk result (λ c. SpellsComplex choice (complex_over_view O.octets O.octets c) (O.octets octets)) }
     ensures made { IfOk result (λ c. IsMadeOf (complex_over_view O.octets O.octets c)) }
@@ -110,8 +96,14 @@ fn complex_in<O: Octets>(choice: u8, octets: O) -> Result<Told<O>, Fault>
     ensures place { IfErr result (λ e. e.at ≤ length (O.octets octets)) }
 {
     // each of the octets is known to be below 256 from here on
-    let _count = octets.len();
-    complex_read(choice, octets)
+    let all = octets.len();
+    match members(choice, octets) {
+        Ok(read) => match read.1.len() {
+            0 => Ok(read.0),
+            left => Err(Stop::new(Why::Surplus, left).fault_in(all)),
+        },
+        Err(stop) => Err(stop.fault_in(all)),
+    }
 }
 
 fn complex_of(told: Told<&[u8]>) -> Complex<'_>
@@ -213,7 +205,7 @@ pub fn read_reply_parts(
 fn is_read<O: Octets>(choice: u8, octets: O) -> bool
     ensures { result ≡ reads_reply choice (O.octets octets) }
 {
-    complex_read(choice, octets).is_ok()
+    complex_in(choice, octets).is_ok()
 }
 
 /// Whether `read_reply_parts` can read the joined octets of some pieces. It does not allocate.
@@ -226,9 +218,15 @@ pub fn reads_reply_parts(choice: u8, parts: Parts<'_>) -> bool
     is_read(choice, parts)
 }
 
-fn put_complex(reply: Complex<'_>, out: &mut Vec<u8>) -> Result<(), NoMemory>
-    ensures { Writes result out.old out.new (complex_spelling (complex_view reply.entry)) }
+/// Appends the service data of a ComplexACK in their one spelling (clause 21). Returns `NoMemory` and changes nothing if the
+/// vector cannot grow.
+pub fn write_reply(reply: Complex<'_>, out: &mut Vec<u8>) -> Result<(), NoMemory>
+    ensures ok { Appends result out.old out.new (complex_spelling (complex_view reply.entry)) }
+    ensures err { Keeps result out.old out.new }
+    ensures full { NeedsRoom result out.old (complex_spelling (complex_view reply.entry)) }
+    ensures spelled { SpellsComplex (complex_choice_of (complex_view reply.entry)) (complex_view reply.entry) (complex_spelling (complex_view reply.entry)) }
 {
+    out.reserve(reply_len(reply))?;
     match reply {
         AnyComplex::FileRead(read) => put_file_read(read, out),
         AnyComplex::FileWritten(FileWritten::Stream(start)) => {
@@ -241,21 +239,11 @@ fn put_complex(reply: Complex<'_>, out: &mut Vec<u8>) -> Result<(), NoMemory>
     }
 }
 
-/// Appends the service data of a ComplexACK in their one spelling (clause 21). Returns `NoMemory` and changes nothing if the
-/// vector cannot grow.
-pub fn write_reply(reply: Complex<'_>, out: &mut Vec<u8>) -> Result<(), NoMemory>
-    ensures ok { Appends result out.old out.new (complex_spelling (complex_view reply.entry)) }
-    ensures err { Keeps result out.old out.new }
-    ensures full { NeedsRoom result out.old (complex_spelling (complex_view reply.entry)) }
+/// The length in octets of the service data of a ComplexACK. It does not allocate.
+#[tactic(auto, using(crate::proofs::Wholes::length_complex, crate::proofs::Wholes::complex_spelled))]
+pub fn reply_len(reply: Complex<'_>) -> usize
+    ensures len { result ≡ length (complex_spelling (complex_view reply.entry)) }
     ensures spelled { SpellsComplex (complex_choice_of (complex_view reply.entry)) (complex_view reply.entry) (complex_spelling (complex_view reply.entry)) }
-{
-    out.reserve(reply_len(reply))?;
-    put_complex(reply, out)
-}
-
-fn complex_len(reply: Complex<'_>) -> usize
-    ensures len { result ≡ complex_length (complex_view reply.entry) }
-    ensures is { IsComplex (complex_view reply.entry) }
 {
     match reply {
         AnyComplex::FileRead(read) => file_read_len(read),
@@ -264,15 +252,6 @@ fn complex_len(reply: Complex<'_>) -> usize
         }
         AnyComplex::PropertyRead(read) => property_read_len(read),
     }
-}
-
-/// The length in octets of the service data of a ComplexACK. It does not allocate.
-#[tactic(auto, using(crate::proofs::Wholes::length_complex, crate::proofs::Wholes::complex_spelled))]
-pub fn reply_len(reply: Complex<'_>) -> usize
-    ensures len { result ≡ length (complex_spelling (complex_view reply.entry)) }
-    ensures spelled { SpellsComplex (complex_choice_of (complex_view reply.entry)) (complex_view reply.entry) (complex_spelling (complex_view reply.entry)) }
-{
-    complex_len(reply)
 }
 
 impl Complex<'_> {

@@ -83,11 +83,17 @@ fn members<O: Octets>(service: Service, octets: O) -> Result<(Found<O>, O), Stop
     }
 }
 
+/// Reads the whole octets as a request with this service choice, or returns the reason for rejecting it.
 #[tactic(auto, unfolding(crate::specs::Requests::request_at))]
-fn request_read<O: Octets>(choice: u8, octets: O) -> Result<Found<O>, Reject>
+fn request_in<O: Octets>(choice: u8, octets: O) -> Result<Found<O>, Reject>
+    ensures spelled { IfOk result (λ f. SpellsRequest choice (request_over_view (left O.octets) f) (O.octets octets)) }
+    ensures made { IfOk result (λ f. IsMade (request_over_view (left O.octets) f)) }
+    ensures refused { IfErr result (λ e. IsNoRequest choice (O.octets octets)) }
     ensures read { Gives (request_over_view (left O.octets)) reason_number result (request_at choice (O.octets octets)) }
     ensures unknown { IsErrOf result Reject.UnrecognizedService ↔ IsUnknown choice }
 {
+    // each of the octets is known to be below 256 from here on
+    let _count = octets.len();
     let Some(service) = Service::of(choice) else {
         return Err(Reject::UnrecognizedService);
     };
@@ -98,19 +104,6 @@ fn request_read<O: Octets>(choice: u8, octets: O) -> Result<Found<O>, Reject>
         },
         Err(stop) => Err(stop.reject()),
     }
-}
-
-/// Reads the whole octets as a request with this service choice, or returns the reason for rejecting it.
-fn request_in<O: Octets>(choice: u8, octets: O) -> Result<Found<O>, Reject>
-    ensures spelled { IfOk result (λ f. SpellsRequest choice (request_over_view (left O.octets) f) (O.octets octets)) }
-    ensures made { IfOk result (λ f. IsMade (request_over_view (left O.octets) f)) }
-    ensures refused { IfErr result (λ e. IsNoRequest choice (O.octets octets)) }
-    ensures read { Gives (request_over_view (left O.octets)) reason_number result (request_at choice (O.octets octets)) }
-    ensures unknown { IsErrOf result Reject.UnrecognizedService ↔ IsUnknown choice }
-{
-    // each of the octets is known to be below 256 from here on
-    let _count = octets.len();
-    request_read(choice, octets)
 }
 
 fn request_of(found: Found<&[u8]>) -> Request<'_>
@@ -207,17 +200,6 @@ pub fn read_request_parts(
     }
 }
 
-fn put_request(request: Request<'_>, out: &mut Vec<u8>) -> Result<(), NoMemory>
-    ensures { Writes result out.old out.new (request_spelling (request_view request.entry)) }
-{
-    match request {
-        AnyRequest::ReadFile(read) => put_read_file(read, out),
-        AnyRequest::WriteFile(write) => put_write_file(write, out),
-        AnyRequest::ReadProperty(reference) => put_reference(reference, out),
-        AnyRequest::WriteProperty(write) => put_write_property(write, out),
-    }
-}
-
 /// Appends the service data of a request in their one spelling (clause 21). Returns `NoMemory` and changes nothing if the vector
 /// cannot grow.
 pub fn write_request(request: Request<'_>, out: &mut Vec<u8>) -> Result<(), NoMemory>
@@ -227,12 +209,19 @@ pub fn write_request(request: Request<'_>, out: &mut Vec<u8>) -> Result<(), NoMe
     ensures spelled { SpellsRequest (choice_of (request_view request.entry)) (request_view request.entry) (request_spelling (request_view request.entry)) }
 {
     out.reserve(request_len(request))?;
-    put_request(request, out)
+    match request {
+        AnyRequest::ReadFile(read) => put_read_file(read, out),
+        AnyRequest::WriteFile(write) => put_write_file(write, out),
+        AnyRequest::ReadProperty(reference) => put_reference(reference, out),
+        AnyRequest::WriteProperty(write) => put_write_property(write, out),
+    }
 }
 
-fn members_len(request: Request<'_>) -> usize
-    ensures len { result ≡ request_length (request_view request.entry) }
-    ensures is { IsRequest (request_view request.entry) }
+/// The length in octets of the service data of a request. It does not allocate.
+#[tactic(auto, using(crate::proofs::Wholes::length_request, crate::proofs::Wholes::request_spelled))]
+pub fn request_len(request: Request<'_>) -> usize
+    ensures len { result ≡ length (request_spelling (request_view request.entry)) }
+    ensures spelled { SpellsRequest (choice_of (request_view request.entry)) (request_view request.entry) (request_spelling (request_view request.entry)) }
 {
     match request {
         AnyRequest::ReadFile(read) => read_file_len(read),
@@ -240,15 +229,6 @@ fn members_len(request: Request<'_>) -> usize
         AnyRequest::ReadProperty(reference) => reference_len(reference),
         AnyRequest::WriteProperty(write) => write_property_len(write),
     }
-}
-
-/// The length in octets of the service data of a request. It does not allocate.
-#[tactic(auto, using(crate::proofs::Wholes::length_request))]
-pub fn request_len(request: Request<'_>) -> usize
-    ensures len { result ≡ length (request_spelling (request_view request.entry)) }
-    ensures spelled { SpellsRequest (choice_of (request_view request.entry)) (request_view request.entry) (request_spelling (request_view request.entry)) }
-{
-    members_len(request)
 }
 
 impl Request<'_> {

@@ -101,10 +101,14 @@ impl<K: Ord + Copy + Drop, T: Drop> SlotTable<K, T> for IndexSlots<K, T> {
     }
 
     fn get_mut(&mut self, key: &K) -> Option<&mut T> {
-        let Some(found) = look_up_or_gap(&self.slots, &self.places, key, &mut self.gap) else {
-            return None;
-        };
-        Some(&mut self.slots[found.place].value)
+        let mut count = Count { comparisons: 0 };
+        match search(&self.slots, &self.places, key, &mut count) {
+            Ok(found) => Some(&mut self.slots[found.place].value),
+            Err(n) => {
+                self.gap = Some(n);
+                None
+            }
+        }
     }
 
     fn put(&mut self, key: K, begin: u64, value: T) -> Result<(), (K, T)> {
@@ -207,27 +211,6 @@ fn look_up<K: Ord, T>(slots: &VecDeque<Slot<K, T>>, places: &Places, key: &K) ->
     match search(slots, places, key, &mut count) {
         Ok(found) => Some(found),
         Err(_) => None,
-    }
-}
-
-/// The place of the key, or None if it is absent; then `gap` is the place in key order at which it would be inserted.
-fn look_up_or_gap<K: Ord, T>(
-    slots: &VecDeque<Slot<K, T>>,
-    places: &Places,
-    key: &K,
-    gap: &mut Option<usize>,
-) -> Option<Found>
-    requires distinct { IsDistinct K.eq slots.now.items }
-    requires index { IsIndex K.cmp places.now.0 slots.now.items }
-    ensures { MatchOption result (value_at K.eq key.now slots.now.items ≡ None) (λ found. IsSearched K.eq K.cmp key.now slots.now.items (Ok found)) }
-{
-    let mut count = Count { comparisons: 0 };
-    match search(slots, places, key, &mut count) {
-        Ok(found) => Some(found),
-        Err(n) => {
-            *gap = Some(n);
-            None
-        }
     }
 }
 

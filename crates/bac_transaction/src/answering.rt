@@ -9,22 +9,12 @@ ghost use Rattle.bac_transaction.specs.Views.{context_view, peer_of};
 
 use crate::context::Context;
 use crate::datagram::{Datagram, datagram_of};
-use crate::short_sending::{abort_datagram, ack_datagram};
 use bac_apdu::{Apdu, Window};
 use bac_segment::Step;
 use bac_value::NoMemory;
 use std::alloc::Global;
 
-/// A datagram alone. `NoMemory` where memory is refused, as of each call here.
-pub fn only(alloc: Global, datagram: Datagram) -> Result<Vec<Datagram>, NoMemory>
-    ensures { IfOk result (λ v. v.items ≡ datagram ∷ []) }
-{
-    let mut sends = Vec::with_capacity(alloc, 1)?;
-    sends.push_reserved(datagram);
-    Ok(sends)
-}
-
-/// An APDU to the other end, alone.
+/// An APDU to the other end, alone. `NoMemory` if memory is refused, as of each call here.
 pub fn only_apdu(
     alloc: Global,
     context: &Context,
@@ -33,11 +23,14 @@ pub fn only_apdu(
     requires { IsShort (apdu_view apdu.now) }
     ensures { IfOk result (λ v. Pairwise IsSent (to_all (peer_of context.now) (apdu_view apdu.now ∷ [])) v.items) }
 {
+    let mut sends = Vec::with_capacity(alloc, 1)?;
     let datagram = datagram_of(alloc, &context.key.peer, apdu)?;
-    only(alloc, datagram)
+    sends.push_reserved(datagram);
+    Ok(sends)
 }
 
 /// An Abort, alone (clause 20.1.9); `server` says whether the sender is the server.
+#[tactic(auto, using(crate::proofs::Short::short_abort))]
 pub fn only_abort(
     alloc: Global,
     context: &Context,
@@ -46,13 +39,17 @@ pub fn only_abort(
 ) -> Result<Vec<Datagram>, NoMemory>
     ensures { IfOk result (λ v. Pairwise IsSent (to_all (peer_of context.now) (Abort server (context_view context.now).invoke_id reason ∷ [])) v.items) }
 {
-    let key = &context.key;
-    let datagram = abort_datagram(alloc, &key.peer, server, key.invoke_id, reason)?;
-    only(alloc, datagram)
+    let abort = Apdu::Abort {
+        server,
+        invoke_id: context.key.invoke_id,
+        reason,
+    };
+    only_apdu(alloc, context, &abort)
 }
 
 /// A SegmentACK, alone (clause 20.1.6); `server` says whether the sender is the server, `nak` whether a segment was out of order, and `number` is
 /// that of the last segment taken in order, modulo 256.
+#[tactic(auto, using(crate::proofs::Short::short_ack))]
 pub fn only_ack(
     alloc: Global,
     context: &Context,
@@ -63,9 +60,14 @@ pub fn only_ack(
 ) -> Result<Vec<Datagram>, NoMemory>
     ensures { IfOk result (λ v. Pairwise IsSent (to_all (peer_of context.now) (ack_of server (context_view context.now) nak number window.size ∷ [])) v.items) }
 {
-    let key = &context.key;
-    let datagram = ack_datagram(alloc, &key.peer, server, key.invoke_id, nak, number, window)?;
-    only(alloc, datagram)
+    let ack = Apdu::SegmentAck {
+        nak,
+        server,
+        invoke_id: context.key.invoke_id,
+        number,
+        window,
+    };
+    only_apdu(alloc, context, &ack)
 }
 
 /// What a segment of that number is answered by a receiver that took so many before it and has that window: a SegmentACK, or nothing

@@ -14,10 +14,9 @@ mod peer_key_order;
 mod peer_key_same;
 mod restart;
 mod settings;
-mod short_sending;
 mod sizes;
 
-pub use answering::{only, only_abort, only_ack, only_apdu, step_acks};
+pub use answering::{only_abort, only_ack, only_apdu, step_acks};
 pub use context::Context;
 pub use datagram::{Datagram, datagram_of};
 pub use invoke_id::invoke_id_of;
@@ -28,5 +27,4 @@ pub use laws::{
 pub use peer_key::PeerKey;
 pub use restart::is_waiting;
 pub use settings::Settings;
-pub use short_sending::{abort_datagram, ack_datagram};
 pub use sizes::{allows_segments, apdu_size, transfer_size};

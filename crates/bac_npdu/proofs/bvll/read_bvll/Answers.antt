@@ -1,9 +1,27 @@
-use Rattle.bac_value.proofs.Steps.{ok_by, err_by}
-use Rattle.bac_npdu.proofs.Frames.{bvll_takes, bvll_again}
+use Rattle.std.proofs.Common.{rules, arith}
+use Rattle.std.proofs.lemmas.Grind.{common_steps}
+use Rattle.bac_npdu.specs.declared.fault.FrameFault.TheVariants.{Truncated, Version, NotUnicast, BadLength}
+use Rattle.bac_npdu.specs.Reading.{bvll_at}
+use Rattle.bac_npdu.proofs.Frames.{bvll_takes, bvll_refused}
 use Rattle.bac_npdu.proofs.bvll.read_bvll.Goals as goal
 
-pub returns-clause-found : goal.returns-clause-found
-returns-clause-found c = ok_by _ c.npdu_in.result _ _ c.npdu_in.ensures (λ n e. bvll_takes c.args.octets.now n.now (λ i. (c.type_inv.octets i).fits) e)
+pub returns-in_default-clause-refused : goal.returns-in_default-clause-refused
+unfolding bvll_at
+returns-in_default-clause-refused c = bvll_refused c.args.octets.now Truncated (search rules)
 
-pub returns-clause-refused : goal.returns-clause-refused
-returns-clause-refused c = err_by _ c.npdu_in.result _ _ c.npdu_in.ensures (λ e h n s. let same = bvll_again n c.args.octets.now s in cc)
+pub returns-then-kind-clause-refused : goal.returns-then-kind-clause-refused
+unfolding bvll_at
+returns-then-kind-clause-refused c = bvll_refused c.args.octets.now Version (search rules)
+
+pub returns-then-function-ne-ORIGINAL_UNICAST_NPDU-clause-refused :
+    goal.returns-then-function-ne-ORIGINAL_UNICAST_NPDU-clause-refused
+unfolding bvll_at
+returns-then-function-ne-ORIGINAL_UNICAST_NPDU-clause-refused c = bvll_refused c.args.octets.now NotUnicast (search rules)
+
+pub returns-then-from-octets-clause-refused : goal.returns-then-from-octets-clause-refused
+unfolding bvll_at
+returns-then-from-octets-clause-refused c = bvll_refused c.args.octets.now BadLength (search rules)
+
+pub returns-else-from-octets-clause-found : goal.returns-else-from-octets-clause-found
+unfolding bvll_at
+returns-else-from-octets-clause-found c = bvll_takes c.args.octets.now _ (λ i. (c.type_inv.octets i).fits) (grind (arith, common_steps))

@@ -7,16 +7,16 @@ use Rattle.bac_slots.proofs.Slots.{with_value-none, set_is, value_at-IsAt, IsDis
 use Rattle.bac_slots.proofs.Indexes.{index_set}
 use Rattle.bac_slots.proofs.index_slots.IndexSlotsSlotTable.get_mut.Goals as goal
 
-pub returns-in_default : goal.returns-in_default
-returns-in_default g c =
+pub returns-in-Err : goal.returns-in-Err
+returns-in-Err g c =
     rw (← c.self.view_is) (
-      (refl, (λ w. (sym (with_value-none g.K.PartialEq.eq c.args.key.now w _ c.in_default.ensures), refl)), (refl, refl)),
-      record { writes_back = tt; value = sym c.in_default.ensures },
+      (refl, (λ w. (sym (with_value-none g.K.PartialEq.eq c.args.key.now w _ c.in-Err.ensures.place.2), refl)), (refl, refl)),
+      record { writes_back = tt; value = sym c.in-Err.ensures.place.2 },
     )
 
 pub invariant_of-self-lent : goal.invariant_of-self-lent
 invariant_of-self-lent g c = λ w.
-    let items = set_is g.K.PartialEq.eq c.args.key.now w w c.in-Some.found.place c.self.inside.slots.items c.index_mut.result.now c.in-Some.ensures.3
+    let items = set_is g.K.PartialEq.eq c.args.key.now w w c.in-Ok.found.place c.self.inside.slots.items c.index_mut.result.now c.in-Ok.ensures.place.3
     c.index_mut.ensures.value refl in (
       c.self.invariant.0,
       c.self.invariant.1,
@@ -29,13 +29,13 @@ invariant_of-self-lent g c = λ w.
       c.self.invariant.5,
     )
 
-pub returns : goal.returns
-returns g c =
+pub returns-in-Ok : goal.returns-in-Ok
+returns-in-Ok g c =
     rw (← c.self.view_is) (
       (
         refl,
         (λ w. (
-          set_is g.K.PartialEq.eq c.args.key.now w w c.in-Some.found.place c.self.inside.slots.items c.index_mut.result.now c.in-Some.ensures.3
+          set_is g.K.PartialEq.eq c.args.key.now w w c.in-Ok.found.place c.self.inside.slots.items c.index_mut.result.now c.in-Ok.ensures.place.3
               c.index_mut.ensures.value refl,
           refl,
         )),
@@ -44,6 +44,6 @@ returns g c =
       record {
         writes_back = tt;
         value = ap (λ s. Some s.value) c.index_mut.ensures.value
-            ∙ sym (value_at-IsAt g.K.PartialEq.eq c.args.key.now c.in-Some.found.place c.self.inside.slots.items c.index_mut.result.now c.in-Some.ensures.3);
+            ∙ sym (value_at-IsAt g.K.PartialEq.eq c.args.key.now c.in-Ok.found.place c.self.inside.slots.items c.index_mut.result.now c.in-Ok.ensures.place.3);
       },
     )
