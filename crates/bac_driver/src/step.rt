@@ -2,27 +2,14 @@
 ghost use Rattle.std.specs.Prelude.{◌≤◌, length, IfSome};
 ghost use Rattle.std.specs.Option.{option_map};
 ghost use Rattle.bac_node.specs.Views.{outcome_view};
-ghost use Rattle.bac_driver.specs.Turns.{Hears, HearsOne, Ticks};
+ghost use Rattle.bac_driver.specs.Turns.{Hears, Ticks};
 
 use crate::turn::Received;
 use bac_node::{Node, NodeFault, Outcome};
-use bac_npdu::LinkAddress;
 
-/// The node takes a datagram. None where that fails to allocate: then nothing has changed.
+/// The node takes the datagram that has come, the first octets of the buffer. None where none has come, or where taking it fails to allocate: then nothing has
+/// changed.
 #[tactic(auto, using(crate::proofs::Turned::heard_in_time))]
-fn on_datagram(node: &mut Node, now: u64, from: LinkAddress, octets: &[u8]) -> Option<Outcome>
-    requires { node.old.latest ≤ now }
-    ensures heard { HearsOne now from octets.now node.old node.new (option_map outcome_view result) }
-    ensures timely { node.new.latest ≤ now }
-{
-    match node.on(now, from, octets) {
-        Ok(outcome) => Some(outcome),
-        Err(NodeFault::NoMemory) => None,
-        Err(NodeFault::ClockBack) => unreachable!(),
-    }
-}
-
-/// The node takes the datagram that has come, the first octets of the buffer. None where none has come, or where taking it fails to allocate.
 pub(crate) fn on_received(
     node: &mut Node,
     now: u64,
@@ -34,12 +21,12 @@ pub(crate) fn on_received(
     ensures heard { Hears now buffer.now received node.old node.new (option_map outcome_view result) }
     ensures timely { node.new.latest ≤ now }
 {
-    match received {
-        Some(datagram) => {
-            let from = datagram.0;
-            on_datagram(node, now, from, &buffer[..datagram.1])
-        }
-        None => None,
+    let datagram = received?;
+    let from = datagram.0;
+    match node.on(now, from, &buffer[..datagram.1]) {
+        Ok(outcome) => Some(outcome),
+        Err(NodeFault::NoMemory) => None,
+        Err(NodeFault::ClockBack) => unreachable!(),
     }
 }
 
