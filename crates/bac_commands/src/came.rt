@@ -65,7 +65,7 @@ pub(crate) fn asking_words(
     effect: Option<&Act>,
     apdu: &Apdu<'_>,
 ) -> Result<Vec<u8>, NoMemory>
-    ensures { IfOk result (λ t. AreAskingWords (option_map (λ a. performed_view a.now) effect) (apdu_view apdu.now) t.items) }
+    ensures { IfOk result (λ t. AreAskingWords (option_map (λ a. performed_view a.now) effect.entry) (apdu_view apdu.now) t.items) }
 {
     match effect {
         Some(act) => request_words(alloc, act.effect.request.as_request()),

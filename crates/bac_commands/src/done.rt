@@ -96,7 +96,7 @@ pub(crate) fn done_words(
     effect: Option<&Act>,
     sends: &[Datagram],
 ) -> Result<Vec<u8>, NoMemory>
-    ensures { IfOk result (λ t. AreDoneWords away.now (option_map (λ a. performed_view a.now) effect) sends.now t.items) }
+    ensures { IfOk result (λ t. AreDoneWords away.now (option_map (λ a. performed_view a.now) effect.entry) sends.now t.items) }
 {
     if let Some(act) = effect {
         return reply_words(alloc, act.effect.reply.as_reply());
