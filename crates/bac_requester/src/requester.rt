@@ -9,7 +9,7 @@ ghost use Rattle.bac_service.specs.Requests.{SpellsRequest};
 ghost use Rattle.bac_service.specs.Services.{reads_reply};
 ghost use Rattle.bac_service.specs.Spellings.{request_spelling};
 ghost use Rattle.bac_service.specs.Values.{choice_of};
-ghost use Rattle.bac_service.specs.Views.{owned_request_view, request_view};
+ghost use Rattle.bac_service.specs.Views.{owned_request_view};
 ghost use Rattle.bac_protocol.specs.Context.{Settings as Set};
 ghost use Rattle.bac_protocol.specs.declared.times.TheConstants.{REST as REST_TIME};
 ghost use Rattle.bac_transaction.specs.Ends.{CannotGo, first_after, requester_ask, key_of, requester_on_apdu, requester_tick, is_slot_held};
@@ -31,7 +31,7 @@ use crate::requester_tick::prepare;
 use bac_apdu::{Apdu, Limits};
 use bac_npdu::Peer;
 use bac_protocol::times::REST;
-use bac_service::{OwnedRequest, Request, request_len};
+use bac_service::{OwnedRequest, request_len};
 use bac_slots::{
     AgedTable, SlotTable, count_alive, each_slot, empty_table, first_due, same_tables, tick,
 };
@@ -133,22 +133,7 @@ impl<S: SlotTable<PeerKey, Client> + Drop> Requester<S> {
         ensures asks { Asks (requester_ask (settings_view settings.now) now (peer_view peer.now) (limits_view limits.now)
             (choice_of (owned_request_view request.now)) (request_spelling (owned_request_view request.now)) self.old) self.old result self.new }
     {
-        self.ask_for(settings, now, peer, limits, request.as_request())
-    }
-
-    /// The same for a request that is lent.
-    fn ask_for(
-        &mut self,
-        settings: &Settings,
-        now: u64,
-        peer: &Peer,
-        limits: &Limits,
-        request: Request<'_>,
-    ) -> Result<Asked, AskFault>
-        ensures spelled { SpellsRequest (choice_of (request_view request.entry)) (request_view request.entry) (request_spelling (request_view request.entry)) }
-        ensures asks { Asks (requester_ask (settings_view settings.now) now (peer_view peer.now) (limits_view limits.now)
-            (choice_of (request_view request.entry)) (request_spelling (request_view request.entry)) self.old) self.old result self.new }
-    {
+        let request = request.as_request();
         let way = match RequestWay::of(settings, limits, request_len(request)) {
             Ok(way) => way,
             Err(fault) => return Err(fault_of(fault)),
