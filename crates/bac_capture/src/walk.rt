@@ -6,8 +6,8 @@ ghost use Rattle.bac_capture.specs.Blocks.{FrameView, block_at};
 ghost use Rattle.bac_capture.specs.Files.{head_len_of};
 ghost use Rattle.bac_capture.specs.Reports.{AreWalked, IsBroken, IsFileWalked, IsStep, IsTaken, IsPrinted, IsWholeTaken};
 
-use crate::error::CheckError;
-use crate::{Block, FileFault, FileFormat, Frame, Layout, Order, Ports};
+use crate::{Block, FileFault, FileSignature, Frame, Layout, Ports};
+use bac_text::CheckError;
 use std::alloc::Global;
 use std::io;
 use std::io::{BufRead, ErrorKind, Write};
@@ -155,21 +155,20 @@ fn walk_records<R: BufRead, W: Write, V: FrameVisitor<W>>(
     Err(CheckError::Input(io::Error::from(ErrorKind::TimedOut)))
 }
 
-/// Passes over a capture file of this form and byte order, as its first four octets determine: the watcher sees each frame in the order
-/// of the file, up to its end or to where it cannot be read further. Memory does not grow with the file.
-pub fn walk_file<R: BufRead, W: Write, V: FrameVisitor<W>>(
+/// Passes over a capture file with this signature: the watcher sees each frame in the order of the file, up to its end or to where it
+/// cannot be read further. Memory does not grow with the file.
+pub(crate) fn walk_file<R: BufRead, W: Write, V: FrameVisitor<W>>(
     alloc: Global,
-    form: FileFormat,
-    order: Order,
+    signature: FileSignature,
     input: &mut R,
     ports: Ports,
     visitor: &mut V,
     out: &mut W,
 ) -> Result<(), CheckError>
-    ensures { OnOk result (IsFileWalked V.State (V.Visits ports.also) V.Breaks form order (R.remaining input.old)
+    ensures { OnOk result (IsFileWalked V.State (V.Visits ports.also) V.Breaks signature (R.remaining input.old)
         (W.contents out.old) (W.contents out.new) (V.state visitor.old) (V.state visitor.new)) }
 {
-    match Layout::begin(alloc, form, order, input) {
+    match Layout::begin(alloc, signature, input) {
         Ok(Ok(mut layout)) => walk_records(alloc, &mut layout, input, ports, visitor, out),
         Ok(Err(fault)) => visitor.break_off(fault, out),
         Err(error) => Err(CheckError::Input(error)),
