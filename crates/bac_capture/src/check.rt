@@ -11,7 +11,6 @@ use crate::judging::judge;
 use crate::others::print_named;
 use crate::report::{FileReport, report_over};
 use crate::tally::Tally;
-use crate::walk::FrameVisitor;
 use crate::{FileFault, Frame, Ports};
 use bac_text::{CheckError, Status, check_over};
 use std::alloc::Global;
@@ -48,9 +47,24 @@ pub(crate) struct Check {
     pub tally: Tally,
 }
 
-impl<W: Write> FrameVisitor<W> for Check {
-    ghost use Rattle.bac_capture.specs.Checked.{BreaksFile, Checking, SeesFrame};
+/// Prints the counts, with those of other functions by name if requested.
+fn print_tally<W: Write>(named: bool, tally: Tally, out: &mut W) -> io::Result<()>
+    ensures { OnOk result (Appends (W.contents out.old) (W.contents out.new) (tally_text named (counts_of tally))) }
+{
+    print_named(named, tally.others, out)?;
+    let frames = tally.frames;
+    let good = tally.good;
+    let bad = tally.bad;
+    let other = tally.other;
+    writeln!(out, "frames={frames} good={good} bad={bad} other={other}")?;
+    out.flush()
+}
+
+impl<W: Write> FileReport<W> for Check {
+    ghost use Rattle.bac_capture.specs.Checked.{BreaksFile, Checking, EndsFile, SeesFrame};
     ghost use Rattle.bac_capture.specs.Counted.{check_view};
+    ghost use Rattle.bac_capture.specs.FileReports.{no_heading};
+    ghost use Rattle.bac_text.specs.Checked as lines;
 
     ghost State = { Checking };
 
@@ -59,6 +73,12 @@ impl<W: Write> FrameVisitor<W> for Check {
     ghost Visits = { SeesFrame };
 
     ghost Breaks = { BreaksFile };
+
+    ghost heading = { no_heading };
+
+    ghost Ends = { EndsFile };
+
+    ghost Others = { lines.IsReportOf };
 
     fn visit_frame(
         &mut self,
@@ -74,31 +94,6 @@ impl<W: Write> FrameVisitor<W> for Check {
         self.tally = count(Verdict::Bad(CapturedFault::File(fault)), self.tally, out)?;
         Ok(())
     }
-}
-
-/// Prints the counts, with those of other functions by name if requested.
-fn print_tally<W: Write>(named: bool, tally: Tally, out: &mut W) -> io::Result<()>
-    ensures { OnOk result (Appends (W.contents out.old) (W.contents out.new) (tally_text named (counts_of tally))) }
-{
-    print_named(named, tally.others, out)?;
-    let frames = tally.frames;
-    let good = tally.good;
-    let bad = tally.bad;
-    let other = tally.other;
-    writeln!(out, "frames={frames} good={good} bad={bad} other={other}")?;
-    out.flush()
-}
-
-impl<W: Write> FileReport<W> for Check {
-    ghost use Rattle.bac_capture.specs.Checked.{EndsFile};
-    ghost use Rattle.bac_capture.specs.FileReports.{no_heading};
-    ghost use Rattle.bac_text.specs.Checked as lines;
-
-    ghost heading = { no_heading };
-
-    ghost Ends = { EndsFile };
-
-    ghost Others = { lines.IsReportOf };
 
     fn heading_text(&self) -> &'static str {
         ""

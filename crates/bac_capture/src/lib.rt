@@ -52,4 +52,3 @@ pub use ports::Ports;
 pub use reading::read_frame;
 pub use report::{FileReport, print_text, report_over};
 pub use run::read_run;
-pub use walk::FrameVisitor;

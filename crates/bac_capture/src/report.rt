@@ -1,12 +1,16 @@
 //! Reports on captures: the first octets determine whether it is a file, which is walked frame by frame.
 ghost use Rattle.std.specs.Prelude.{◌≡◌, ℕ, List, Option, IfOk, OnOk};
 ghost use Rattle.std.specs.Io.KnownBytes.{Appends};
+ghost use Rattle.bac_capture.specs.declared.fault.FileFault.{FileFault as File};
+ghost use Rattle.bac_capture.specs.BlockViews.{frame_view};
+ghost use Rattle.bac_capture.specs.Blocks.{FrameView};
 ghost use Rattle.bac_capture.specs.FileReports.{IsEnding, IsFileReported, IsReportOf};
+ghost use Rattle.bac_capture.specs.Reports.{IsPrinted};
 ghost use Rattle.bac_text.specs.Statuses.{IfEnded, IsStop};
 ghost use Rattle.bac_text.specs.declared.status.Status.{Status as Ended};
 
-use crate::walk::{FrameVisitor, walk_file};
-use crate::{FileSignature, Ports, read_run, signature_of};
+use crate::walk::walk_file;
+use crate::{FileFault, FileSignature, Frame, Ports, read_run, signature_of};
 use bac_text::{CheckError, Status, stopped};
 use std::alloc::Global;
 use std::io;
@@ -14,23 +18,42 @@ use std::io::{BufRead, Read, Write};
 
 /// A report on a capture: what is printed for the frames of a file, above them and below them, and for a capture that is not a file of
 /// pcap or pcapng.
-pub trait FileReport<W: Write>: FrameVisitor<W> {
+pub trait FileReport<W: Write> {
+    // What it keeps.
+    ghost State: { Type 0 };
+
+    ghost state: { Self → State };
+
+    // What is printed for a frame; there is a port beside the sixteen, or none.
+    ghost Visits: { (also : Option ℕ) → FrameView → State → (text : List ℕ) → State → Type 0 };
+
+    // What is printed for a file that cannot be read further.
+    ghost Breaks: { File → State → (text : List ℕ) → State → Type 0 };
+
     // What is printed above the frames.
-    ghost heading: { Self.State → List ℕ };
+    ghost heading: { State → List ℕ };
 
     // What is printed below the frames, and the status.
-    ghost Ends: { Self.State → (text : List ℕ) → Ended → Type 0 };
+    ghost Ends: { State → (text : List ℕ) → Ended → Type 0 };
 
     // What is printed for octets that are no file, if they are known, and the status.
     ghost Others: { (octets : Option (List ℕ)) → (old : Option (List ℕ)) → (new : Option (List ℕ)) → Ended → Type 0 };
 
+    /// Prints what there is to print for a frame.
+    fn visit_frame(&mut self, frame: Frame<'_>, ports: Ports, out: &mut W) -> Result<(), CheckError>
+        ensures { OnOk result (IsPrinted (Visits ports.also) (frame_view frame.entry) (W.contents out.old) (W.contents out.new) (state self.old) (state self.new)) };
+
+    /// Prints what there is to print for a file that cannot be read further, in place of its next frame.
+    fn break_off(&mut self, fault: FileFault, out: &mut W) -> Result<(), CheckError>
+        ensures { OnOk result (IsPrinted Breaks fault (W.contents out.old) (W.contents out.new) (state self.old) (state self.new)) };
+
     /// The text above the frames.
     fn heading_text(&self) -> &'static str
-        ensures { result.now ≡ heading (Self.state self.now) };
+        ensures { result.now ≡ heading (state self.now) };
 
     /// Prints what comes below the frames, after the last of them. Returns the status of the command.
     fn end(&mut self, out: &mut W) -> Result<Status, CheckError>
-        ensures { IfOk result (IsEnding Self.State Ends (Self.state self.old) (W.contents out.old) (W.contents out.new)) };
+        ensures { IfOk result (IsEnding State Ends (state self.old) (W.contents out.old) (W.contents out.new)) };
 
     /// Reports on an input that is no file of pcap or pcapng, and returns the status.
     fn report_other<R: BufRead, E: Write>(

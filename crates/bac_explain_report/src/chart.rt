@@ -4,43 +4,11 @@ ghost use Rattle.bac_explain_report.specs.Charted.{status_of, IsReportOf};
 ghost use Rattle.bac_text.specs.Statuses.{IsStop};
 
 use crate::sketch::{Sketch, front_text};
-use bac_capture::{FileFault, FileReport, Frame, FrameVisitor, Ports, print_text, report_over};
+use bac_capture::{FileFault, FileReport, Frame, Ports, print_text, report_over};
 use bac_chart::ChartFormat;
 use bac_text::{CheckError, Status, complain, output_failed, stopped};
 use std::alloc::Global;
 use std::io::{BufRead, Write};
-
-impl<W: Write> FrameVisitor<W> for Sketch {
-    ghost use Rattle.bac_explain_report.specs.Sketches.{BreaksFile, SeesFrame, Sketch as Plain};
-    ghost use Rattle.bac_explain_report.specs.SketchViews.{sketch_view};
-
-    ghost State = { Plain };
-
-    ghost state = { sketch_view };
-
-    ghost Visits = { SeesFrame };
-
-    ghost Breaks = { BreaksFile };
-
-    fn visit_frame(
-        &mut self,
-        frame: Frame<'_>,
-        ports: Ports,
-        out: &mut W,
-    ) -> Result<(), CheckError> {
-        match self.see_frame(frame, ports) {
-            Ok(text) => print_text(&text, out),
-            Err(error) => Err(error),
-        }
-    }
-
-    fn break_off(&mut self, fault: FileFault, out: &mut W) -> Result<(), CheckError> {
-        match self.break_off_at(fault) {
-            Ok(text) => print_text(&text, out),
-            Err(error) => Err(error),
-        }
-    }
-}
 
 /// The status of a chart that was drawn to the end of its file: whether every frame was read.
 fn status_of(is_whole: bool) -> Status
@@ -64,14 +32,43 @@ fn crowded<O: Write, E: Write>(out: &mut O, err: &mut E) -> Status
 }
 
 impl<W: Write> FileReport<W> for Sketch {
+    ghost use Rattle.bac_explain_report.specs.Sketches.{BreaksFile, SeesFrame, Sketch as Plain};
+    ghost use Rattle.bac_explain_report.specs.SketchViews.{sketch_view};
     ghost use Rattle.bac_capture.specs.FileReports.{no_report};
     ghost use Rattle.bac_explain_report.specs.Charted.{heading, EndsFile};
+
+    ghost State = { Plain };
+
+    ghost state = { sketch_view };
+
+    ghost Visits = { SeesFrame };
+
+    ghost Breaks = { BreaksFile };
 
     ghost heading = { heading };
 
     ghost Ends = { EndsFile };
 
     ghost Others = { no_report };
+
+    fn visit_frame(
+        &mut self,
+        frame: Frame<'_>,
+        ports: Ports,
+        out: &mut W,
+    ) -> Result<(), CheckError> {
+        match self.see_frame(frame, ports) {
+            Ok(text) => print_text(&text, out),
+            Err(error) => Err(error),
+        }
+    }
+
+    fn break_off(&mut self, fault: FileFault, out: &mut W) -> Result<(), CheckError> {
+        match self.break_off_at(fault) {
+            Ok(text) => print_text(&text, out),
+            Err(error) => Err(error),
+        }
+    }
 
     fn heading_text(&self) -> &'static str {
         front_text(self.form)

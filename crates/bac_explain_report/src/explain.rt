@@ -12,7 +12,7 @@ use crate::block::block;
 use crate::frame_report::{FrameReport, report_text};
 use crate::summary::summary_text;
 use crate::tally::Tally;
-use bac_capture::{FileFault, FileReport, Frame, FrameVisitor, Ports, print_text, report_over};
+use bac_capture::{FileFault, FileReport, Frame, Ports, print_text, report_over};
 use bac_text::{CheckError, Status, complain, stopped};
 use std::alloc::Global;
 use std::io;
@@ -30,37 +30,6 @@ fn print_report<W: Write>(
     match report_text(alloc, number, told) {
         Ok(text) => print_text(text.as_slice(), out),
         Err(_) => Err(CheckError::Memory),
-    }
-}
-
-impl<W: Write> FrameVisitor<W> for Account {
-    ghost use Rattle.bac_explain_report.specs.Accounts.{Account as Plain};
-    ghost use Rattle.bac_explain_report.specs.AccountViews.{account_view};
-    ghost use Rattle.bac_explain_report.specs.Explained.{BreaksFile, SeesFrame};
-
-    ghost State = { Plain };
-
-    ghost state = { account_view };
-
-    ghost Visits = { SeesFrame };
-
-    ghost Breaks = { BreaksFile };
-
-    fn visit_frame(
-        &mut self,
-        frame: Frame<'_>,
-        ports: Ports,
-        out: &mut W,
-    ) -> Result<(), CheckError> {
-        match self.hear_frame(frame, ports) {
-            Ok(told) => print_report(self.alloc, self.tally.frames, &told, out),
-            Err(_) => Err(CheckError::Memory),
-        }
-    }
-
-    fn break_off(&mut self, fault: FileFault, out: &mut W) -> Result<(), CheckError> {
-        let told = self.break_off(fault);
-        print_report(self.alloc, self.tally.frames, &told, out)
     }
 }
 
@@ -107,14 +76,42 @@ fn print_summary<W: Write>(alloc: Global, tally: Tally, out: &mut W) -> Result<(
 }
 
 impl<W: Write> FileReport<W> for Account {
+    ghost use Rattle.bac_explain_report.specs.Accounts.{Account as Plain};
+    ghost use Rattle.bac_explain_report.specs.AccountViews.{account_view};
+    ghost use Rattle.bac_explain_report.specs.Explained.{BreaksFile, SeesFrame};
     ghost use Rattle.bac_capture.specs.FileReports.{no_heading, no_report};
     ghost use Rattle.bac_explain_report.specs.Explained.{EndsFile};
+
+    ghost State = { Plain };
+
+    ghost state = { account_view };
+
+    ghost Visits = { SeesFrame };
+
+    ghost Breaks = { BreaksFile };
 
     ghost heading = { no_heading };
 
     ghost Ends = { EndsFile };
 
     ghost Others = { no_report };
+
+    fn visit_frame(
+        &mut self,
+        frame: Frame<'_>,
+        ports: Ports,
+        out: &mut W,
+    ) -> Result<(), CheckError> {
+        match self.hear_frame(frame, ports) {
+            Ok(told) => print_report(self.alloc, self.tally.frames, &told, out),
+            Err(_) => Err(CheckError::Memory),
+        }
+    }
+
+    fn break_off(&mut self, fault: FileFault, out: &mut W) -> Result<(), CheckError> {
+        let told = self.break_off(fault);
+        print_report(self.alloc, self.tally.frames, &told, out)
+    }
 
     fn heading_text(&self) -> &'static str {
         ""
