@@ -1,17 +1,13 @@
 -- What `bac check` prints for a capture file, and its status.
-use Rattle.std.specs.Prelude.{◌≡◌, ◌==◌, ℕ, zero, suc, ◌+◌, ◌++◌, Bool, true, false, if◌then◌else◌, List, [], take, slice_index, codes, decimal, ⊤, Option, Some, None}
-use Rattle.std.specs.Io.KnownBytes.{Appends}
+use Rattle.std.specs.Prelude.{◌≡◌, ◌==◌, ℕ, zero, suc, ◌+◌, ◌++◌, Bool, true, false, if◌then◌else◌, List, [], slice_index, codes, decimal, Option, Some, None}
 use Rattle.bac_capture.specs.declared.fault.FileFault.{FileFault}
-use Rattle.bac_capture.specs.declared.form.FileFormat.{FileFormat}
-use Rattle.bac_capture.specs.declared.order.Order.{Order}
 use Rattle.bac_capture.specs.declared.bvlc.BvlcFunction.{BvlcFunction}
-use Rattle.bac_capture.specs.Begins.{begun_at}
 use Rattle.bac_capture.specs.Blocks.{FrameView}
 use Rattle.bac_capture.specs.Bvlc.{function_of, function_name}
-use Rattle.bac_capture.specs.Forms.{form_of}
+use Rattle.bac_capture.specs.FileReports.{Ending, no_heading}
+use Rattle.bac_capture.specs.FileReports as report
 use Rattle.bac_text.specs.Checked as lines
 use Rattle.bac_text.specs.declared.status.Status.{Status}
-use Rattle.bac_text.specs.declared.status.Status.TheVariants.{Done, Faulty, CommandLine, Output, Memory}
 use Rattle.bac_text.specs.Texts.{line_end}
 use Rattle.bac_capture.specs.declared.check_fault.Verdict.{Verdict}
 use Rattle.bac_capture.specs.declared.check_fault.Verdict.TheVariants.{Nothing, Good, Other, Bad}
@@ -19,7 +15,7 @@ use Rattle.bac_capture.specs.declared.check_fault.CapturedFault.TheVariants.{Fil
 use Rattle.bac_capture.specs.Counts.{Counts, OTHERS, no_frames, counted, IsTallied}
 use Rattle.bac_capture.specs.Judged.{IsVerdict}
 use Rattle.bac_capture.specs.CheckTexts.{frame_fault_text}
-use Rattle.bac_capture.specs.Walks.{Prints, IsFileIn}
+use Rattle.bac_capture.specs.Walks.{Prints}
 
 -- for the frame with this number, from 1: nothing unless it is bad
 abbrev pub verdict_text : ℕ → Verdict → List ℕ
@@ -58,52 +54,38 @@ tally_text named c =
 
 -- ---- a file
 
+-- the counts so far, and whether those of other functions are printed by name
+pub record Checking : Type 0 where
+  pub named : Bool
+  pub counts : Counts
+
+abbrev pub nothing_checked : (named : Bool) → Checking
+nothing_checked named = record { named = named; counts = no_frames }
+
 -- a frame with this result is printed if it is bad, and counted
 abbrev pub IsCounted : Verdict → Counts → (text : List ℕ) → (next : Counts) → Type 0
 IsCounted verdict counts text next = (text ≡ verdict_text (counts.frames + 1) verdict) × (next ≡ counted counts verdict)
 
+abbrev pub IsCountedIn : Verdict → Checking → (text : List ℕ) → (next : Checking) → Type 0
+IsCountedIn verdict c text next = (next.named ≡ c.named) × IsCounted verdict c.counts text next.counts
+
 -- a frame is checked; `also` is a port in addition to the sixteen
-pub record SeesFrame (also : Option ℕ) (frame : FrameView) (counts : Counts) (text : List ℕ) (next : Counts) : Type 0 where
+pub record SeesFrame (also : Option ℕ) (frame : FrameView) (before : Checking) (text : List ℕ) (next : Checking) : Type 0 where
   pub verdict : Verdict
   pub judged : IsVerdict also frame verdict
-  pub counted : IsCounted verdict counts text next
+  pub counted : IsCountedIn verdict before text next
 
 -- the file cannot be read further: this is printed for the frame that would follow
-abbrev pub BreaksFile : Prints FileFault Counts
-BreaksFile fault counts text next = IsCounted (Bad (File fault)) counts text next
+abbrev pub BreaksFile : Prints FileFault Checking
+BreaksFile fault before text next = IsCountedIn (Bad (File fault)) before text next
 
--- what is printed for a file, and the status: what is wrong with its frames, and then the counts
-pub record IsChecked (also : Option ℕ) (named : Bool) (form : FileFormat) (order : Order) (file : List ℕ) (old new : Option (List ℕ)) (status : Status) : Type 0 where
-  pub text : List ℕ
-  pub counts : Counts
-  pub read : IsFileIn Counts (SeesFrame also) BreaksFile no_frames (begun_at form order file) text counts
-  pub printed : Appends old new (text ++ tally_text named counts)
-  pub tallied : IsTallied counts.bad status
-
-abbrev pub IsCheckOf : Option ℕ → (named : Bool) → FileFormat → Order → Option (List ℕ) → Option (List ℕ) → Option (List ℕ) → Status → Type 0
-IsCheckOf also named form order None old new status = ⊤
-IsCheckOf also named form order (Some file) old new status = IsChecked also named form order file old new status
-
--- if the command ends with 0 or 1, the whole file was checked; other statuses guarantee nothing about it
-abbrev pub IsFileReport : Option ℕ → (named : Bool) → FileFormat → Order → Option (List ℕ) → Option (List ℕ) → Option (List ℕ) → Status → Type 0
-IsFileReport also named form order file old new Done = IsCheckOf also named form order file old new Done
-IsFileReport also named form order file old new Faulty = IsCheckOf also named form order file old new Faulty
-IsFileReport also named form order file old new CommandLine = ⊤
-IsFileReport also named form order file old new Output = ⊤
-IsFileReport also named form order file old new Memory = ⊤
+-- the counts are printed below the frames
+abbrev pub EndsFile : Ending Checking
+EndsFile c text status = (text ≡ tally_text c.named c.counts) × IsTallied c.counts.bad status
 
 -- ---- any capture
 
-abbrev pub IsReportIn : Option ℕ → (named : Bool) → Option (FileFormat × Order) → List ℕ → Option (List ℕ) → Option (List ℕ) → Status → Type 0
-IsReportIn also named None octets old new status = lines.IsReportOf (Some octets) old new status
-IsReportIn also named (Some form) octets old new status = IsFileReport also named form.0 form.1 (Some octets) old new status
-
--- the first four octets decide whether it is a capture file; if not, it is read as lines
+-- a file is checked frame by frame, and any other input as lines
 abbrev pub IsReportOf : Option ℕ → (named : Bool) → Option (List ℕ) → Option (List ℕ) → Option (List ℕ) → Status → Type 0
-IsReportOf also named None old new status = ⊤
-IsReportOf also named (Some octets) old new status = IsReportIn also named (form_of (take 4 octets)) octets old new status
-
--- the same if the first octets, at most four, were read before
-abbrev pub IsFrontReport : Option ℕ → (named : Bool) → (front : List ℕ) → Option (List ℕ) → Option (List ℕ) → Option (List ℕ) → Status → Type 0
-IsFrontReport also named front None old new status = ⊤
-IsFrontReport also named front (Some rest) old new status = IsReportIn also named (form_of front) (front ++ rest) old new status
+IsReportOf also named input old new status =
+    report.IsReportOf Checking (SeesFrame also) BreaksFile no_heading EndsFile lines.IsReportOf (nothing_checked named) input old new status

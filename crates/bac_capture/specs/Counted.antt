@@ -1,6 +1,11 @@
--- The counts of a tally.
+-- The plain values of counts and of a check.
+use Rattle.bac_capture.specs.declared.check.Check.{Check}
 use Rattle.bac_capture.specs.declared.tally.Tally.{Tally}
+use Rattle.bac_capture.specs.Checked.{Checking}
 use Rattle.bac_capture.specs.Counts.{Counts}
 
 abbrev pub counts_of : Tally → Counts
 counts_of t = record { frames = t.frames; good = t.good; bad = t.bad; other = t.other; others = t.others }
+
+abbrev pub check_view : Check → Checking
+check_view c = record { named = c.named; counts = counts_of c.tally }

@@ -21,10 +21,10 @@ pub mod Begins
 pub mod CheckTexts
 pub mod Counts
 pub mod Judged
-pub mod Counted
 pub mod Walks
+pub mod FileReports
 pub mod Checked
-pub mod Stops
+pub mod Counted
 pub mod Reports
 pub mod Sums
 pub mod PacketsWritten

@@ -2,8 +2,7 @@
 use Rattle.std.specs.Prelude.{◌≡◌, ℕ, List, ⊤, Result, Ok, Err, Option, Some, None}
 use Rattle.std.specs.Io.KnownBytes.{Appends, Keeps}
 use Rattle.bac_capture.specs.declared.fault.FileFault.{FileFault}
-use Rattle.bac_capture.specs.declared.form.FileFormat.{FileFormat}
-use Rattle.bac_capture.specs.declared.order.Order.{Order}
+use Rattle.bac_capture.specs.declared.form.FileSignature.{FileSignature}
 use Rattle.bac_capture.specs.Begins.{begun_at}
 use Rattle.bac_capture.specs.Blocks.{LayoutView, FrameView, BlockView, FrameBlock, SectionBlock, InterfaceBlock, OtherBlock, block_at, after}
 use Rattle.bac_capture.specs.Files.{Record, Ended, Broken, Whole, record_at}
@@ -78,12 +77,12 @@ AreWalked S Visits Breaks layout None old new before final = ⊤
 AreWalked S Visits Breaks layout (Some octets) old new before final = IsWalkOf S Visits Breaks layout octets old new before final
 
 -- the same for a whole file
-pub record IsFileWalkOf (S : Type 0) (Visits : Prints FrameView S) (Breaks : Prints FileFault S) (form : FileFormat) (order : Order) (file : List ℕ)
+pub record IsFileWalkOf (S : Type 0) (Visits : Prints FrameView S) (Breaks : Prints FileFault S) (signature : FileSignature) (file : List ℕ)
     (old new : Option (List ℕ)) (before final : S) : Type 0 where
   pub text : List ℕ
-  pub read : IsFileIn S Visits Breaks before (begun_at form order file) text final
+  pub read : IsFileIn S Visits Breaks before (begun_at signature.format signature.order file) text final
   pub printed : Appends old new text
 
-abbrev pub IsFileWalked : (S : Type 0) → Prints FrameView S → Prints FileFault S → FileFormat → Order → (input old new : Option (List ℕ)) → (before final : S) → Type 0
-IsFileWalked S Visits Breaks form order None old new before final = ⊤
-IsFileWalked S Visits Breaks form order (Some file) old new before final = IsFileWalkOf S Visits Breaks form order file old new before final
+abbrev pub IsFileWalked : (S : Type 0) → Prints FrameView S → Prints FileFault S → FileSignature → (input old new : Option (List ℕ)) → (before final : S) → Type 0
+IsFileWalked S Visits Breaks signature None old new before final = ⊤
+IsFileWalked S Visits Breaks signature (Some file) old new before final = IsFileWalkOf S Visits Breaks signature file old new before final

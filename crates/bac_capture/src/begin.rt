@@ -6,7 +6,7 @@ ghost use Rattle.bac_capture.specs.BlockViews.{layout_view};
 
 use crate::fault::FileFault;
 use crate::file::{Interface, Layout};
-use crate::form::FileFormat;
+use crate::form::{FileFormat, FileSignature};
 use crate::moment::Resolution;
 use crate::order::Order;
 use crate::run::read_run;
@@ -69,21 +69,20 @@ fn read_header<R: BufRead>(
 }
 
 impl Layout {
-    /// Reads the header of a capture file of this form and byte order, which its first four octets determine, and returns how to read
-    /// the rest. Returns `Cut` if the file ends within the header.
+    /// Reads the header of a capture file with this signature, and returns how to read the rest. Returns `Cut` if the file ends within
+    /// the header.
     pub fn begin<R: BufRead>(
         alloc: Global,
-        form: FileFormat,
-        order: Order,
+        signature: FileSignature,
         input: &mut R,
     ) -> io::Result<Result<Layout, FileFault>>
-        ensures { IfOk result (IsBegun form order (R.remaining input.old) (R.remaining input.new)) }
+        ensures { IfOk result (IsBegun signature.format signature.order (R.remaining input.old) (R.remaining input.new)) }
     {
-        match form {
-            FileFormat::Records => read_header(alloc, order, input),
+        match signature.format {
+            FileFormat::Records => read_header(alloc, signature.order, input),
             FileFormat::Blocks => Ok(Ok(Layout {
-                form,
-                order,
+                form: signature.format,
+                order: signature.order,
                 interfaces: Vec::new(alloc),
             })),
         }

@@ -1,20 +1,18 @@
 //! `bac check` for capture files: which frames carry good datagrams.
 ghost use Rattle.std.specs.Prelude.{IfOk, OnOk};
 ghost use Rattle.std.specs.Io.KnownBytes.{Appends};
-ghost use Rattle.bac_capture.specs.Checked.{verdict_text, tally_text, IsCounted, IsFileReport, IsFrontReport, IsReportOf};
+ghost use Rattle.bac_capture.specs.Checked.{verdict_text, tally_text, IsCounted, IsReportOf};
 ghost use Rattle.bac_capture.specs.Counted.{counts_of};
 ghost use Rattle.bac_capture.specs.Reports.{IsPrinted};
-ghost use Rattle.bac_text.specs.Statuses.{IsStop};
 
 use crate::broken::Broken;
 use crate::check_fault::{CapturedFault, Verdict};
-use crate::error::{CheckError, stopped};
 use crate::judging::judge;
 use crate::others::print_named;
+use crate::report::{FileReport, report_over};
 use crate::tally::Tally;
-use crate::walk::{FrameVisitor, walk_file};
-use crate::{FileFault, FileFormat, Frame, Order, Ports, form_of, read_run};
-use bac_text::{Status, check_over};
+use crate::{FileFault, Frame, Ports};
+use bac_text::{CheckError, Status, check_over};
 use std::alloc::Global;
 use std::io;
 use std::io::{BufRead, ErrorKind, Read, Write};
@@ -42,33 +40,11 @@ fn count<W: Write>(verdict: Verdict, tally: Tally, out: &mut W) -> Result<Tally,
     }
 }
 
-impl<W: Write> FrameVisitor<W> for Tally {
-    ghost use Rattle.bac_capture.specs.Checked.{BreaksFile, SeesFrame};
-    ghost use Rattle.bac_capture.specs.Counts.{Counts};
-    ghost use Rattle.bac_capture.specs.Counted.{counts_of};
-
-    ghost State = { Counts };
-
-    ghost state = { counts_of };
-
-    ghost Visits = { SeesFrame };
-
-    ghost Breaks = { BreaksFile };
-
-    fn visit_frame(
-        &mut self,
-        frame: Frame<'_>,
-        ports: Ports,
-        out: &mut W,
-    ) -> Result<(), CheckError> {
-        *self = count(judge(frame, ports), *self, out)?;
-        Ok(())
-    }
-
-    fn break_off(&mut self, fault: FileFault, out: &mut W) -> Result<(), CheckError> {
-        *self = count(Verdict::Bad(CapturedFault::File(fault)), *self, out)?;
-        Ok(())
-    }
+/// The report of `bac check`: the counts of the frames so far, and whether those of other functions are printed by name.
+#[derive(Clone, Copy)]
+pub(crate) struct Check {
+    pub named: bool,
+    pub tally: Tally,
 }
 
 /// Prints the counts, with those of other functions by name if requested.
@@ -84,78 +60,77 @@ fn print_tally<W: Write>(named: bool, tally: Tally, out: &mut W) -> io::Result<(
     out.flush()
 }
 
-fn check_all<R: BufRead, W: Write>(
-    alloc: Global,
-    form: FileFormat,
-    order: Order,
-    input: &mut R,
-    ports: Ports,
-    named: bool,
-    out: &mut W,
-) -> Result<Status, CheckError>
-    ensures { IfOk result (IsFileReport ports.also named form order (R.remaining input.old) (W.contents out.old) (W.contents out.new)) }
-{
-    let mut tally = Tally::NONE;
-    walk_file(alloc, form, order, input, ports, &mut tally, out)?;
-    match print_tally(named, tally, out) {
-        Ok(()) => Ok(tally.status()),
-        Err(error) => Err(CheckError::Output(error)),
-    }
-}
+impl<W: Write> FileReport<W> for Check {
+    ghost use Rattle.bac_capture.specs.Checked.{BreaksFile, Checking, EndsFile, SeesFrame};
+    ghost use Rattle.bac_capture.specs.Counted.{check_view};
+    ghost use Rattle.bac_capture.specs.FileReports.{no_heading};
+    ghost use Rattle.bac_text.specs.Checked as lines;
 
-/// Checks a capture file of this form and byte order.
-fn check_file<R: BufRead, O: Write, E: Write>(
-    alloc: Global,
-    form: FileFormat,
-    order: Order,
-    input: &mut R,
-    ports: Ports,
-    named: bool,
-    out: &mut O,
-    err: &mut E,
-) -> Status
-    ensures { IsFileReport ports.also named form order (R.remaining input.old) (O.contents out.old) (O.contents out.new) result }
-{
-    match check_all(alloc, form, order, input, ports, named, out) {
-        Ok(status) => status,
-        Err(error) => stopped(error, out, err),
-    }
-}
+    ghost State = { Checking };
 
-/// Checks a capture that begins with the octets `front` and continues with the input.
-fn check_after<R: BufRead, O: Write, E: Write>(
-    alloc: Global,
-    front: &[u8],
-    input: &mut R,
-    ports: Ports,
-    named: bool,
-    out: &mut O,
-    err: &mut E,
-) -> Status
-    ensures { IsFrontReport ports.also named front.now (R.remaining input.old) (O.contents out.old) (O.contents out.new) result }
-{
-    let mut whole = front.chain(input);
-    match form_of(front) {
-        Some((form, order)) => check_file(alloc, form, order, &mut whole, ports, named, out, err),
-        None => check_over(alloc, &mut whole, out, err),
-    }
-}
+    ghost state = { check_view };
 
-/// Reports an input that failed within its first octets: first the lines that ended before that, and then the failure.
-fn failed_early<O: Write, E: Write>(
-    alloc: Global,
-    front: &[u8],
-    kind: ErrorKind,
-    out: &mut O,
-    err: &mut E,
-) -> Status
-    ensures { IsStop result }
-{
-    let mut whole = front.chain(Broken { kind });
-    match check_over(alloc, &mut whole, out, err) {
-        // an input that fails is not checked to its end
-        Status::Done | Status::Faulty => Status::CommandLine,
-        status => status,
+    ghost Visits = { SeesFrame };
+
+    ghost Breaks = { BreaksFile };
+
+    ghost heading = { no_heading };
+
+    ghost Ends = { EndsFile };
+
+    ghost Others = { lines.IsReportOf };
+
+    fn visit_frame(
+        &mut self,
+        frame: Frame<'_>,
+        ports: Ports,
+        out: &mut W,
+    ) -> Result<(), CheckError> {
+        self.tally = count(judge(frame, ports), self.tally, out)?;
+        Ok(())
+    }
+
+    fn break_off(&mut self, fault: FileFault, out: &mut W) -> Result<(), CheckError> {
+        self.tally = count(Verdict::Bad(CapturedFault::File(fault)), self.tally, out)?;
+        Ok(())
+    }
+
+    fn heading_text(&self) -> &'static str {
+        ""
+    }
+
+    fn end(&mut self, out: &mut W) -> Result<Status, CheckError> {
+        match print_tally(self.named, self.tally, out) {
+            Ok(()) => Ok(self.tally.status()),
+            Err(error) => Err(CheckError::Output(error)),
+        }
+    }
+
+    fn report_other<R: BufRead, E: Write>(
+        &mut self,
+        alloc: Global,
+        input: &mut R,
+        out: &mut W,
+        err: &mut E,
+    ) -> Status {
+        check_over(alloc, input, out, err)
+    }
+
+    /// Checks the lines that ended before the input failed, and then reports the failure.
+    fn fail_early<E: Write>(
+        &mut self,
+        alloc: Global,
+        front: &[u8],
+        error: io::Error,
+        out: &mut W,
+        err: &mut E,
+    ) -> Status {
+        let mut whole = front.chain(Broken { kind: error.kind() });
+        match check_over(alloc, &mut whole, out, err) {
+            // an input that fails is not checked to its end
+            Status::Done | Status::Faulty => Status::CommandLine,
+            status => status,
+        }
     }
 }
 
@@ -179,9 +154,9 @@ pub fn check_capture_over<R: BufRead, O: Write, E: Write>(
 ) -> Status
     ensures { IsReportOf ports.also named (R.remaining input.old) (O.contents out.old) (O.contents out.new) result }
 {
-    let mut front = Vec::new(alloc);
-    match read_run(input, 4, &mut front) {
-        Ok(_) => check_after(alloc, &front, input, ports, named, out, err),
-        Err(error) => failed_early(alloc, &front, error.kind(), out, err),
-    }
+    let mut report = Check {
+        named,
+        tally: Tally::NONE,
+    };
+    report_over(alloc, input, ports, &mut report, out, err)
 }

@@ -1,6 +1,6 @@
 //! Reads and writes capture files: which UDP datagrams of BACnet/IP the frames of a capture carry.
 //!
-//! It passes the frames of a capture file to a watcher, and checks for `bac check` which frames carry good datagrams.
+//! It walks a capture file frame by frame for a report, and has the report of `bac check`: which frames carry good datagrams.
 //!
 //! It writes pcap files with datagrams of BACnet/IP between numbered nodes, in packets of IPv4 and UDP.
 #![tactic(auto)]
@@ -12,7 +12,6 @@ mod bvlc;
 mod capture;
 mod check;
 mod check_fault;
-mod error;
 mod fault;
 mod fields;
 mod file;
@@ -30,6 +29,7 @@ mod packet;
 mod packet_writing;
 mod ports;
 mod reading;
+mod report;
 mod run;
 mod sum;
 mod tally;
@@ -40,10 +40,9 @@ pub use block::{Block, Frame};
 pub use bvlc::{BvlcFunction, OtherBvll};
 pub use capture::{NodeDatagram, print_head, print_record};
 pub use check::check_capture_over;
-pub use error::{CheckError, stopped};
 pub use fault::{FileFault, PacketFault};
 pub use file::{Interface, Layout};
-pub use form::{FileFormat, form_of};
+pub use form::{FileFormat, FileSignature, signature_of};
 pub use laws::{longest_packet_is_kept, options_that_count};
 pub use link::LinkKind;
 pub use moment::Resolution;
@@ -51,5 +50,5 @@ pub use order::Order;
 pub use packet::{Datagram, Endpoint};
 pub use ports::Ports;
 pub use reading::read_frame;
+pub use report::{FileReport, print_text, report_over};
 pub use run::read_run;
-pub use walk::{FrameVisitor, walk_file};

@@ -2,15 +2,12 @@
 ghost use Rattle.std.specs.Prelude.{◌≡◌, ◌≤◌, ◌++◌, take, length, IfOk, OnOk, IfSome};
 ghost use Rattle.bac_capture.specs.Runs.{RUN_LIMIT, IsPart, IsRun};
 
+use bac_text::is_interrupted;
 use std::io;
 use std::io::{BufRead, ErrorKind};
 
 /// How many octets of a run are kept: the longest IP packet, 65,575, and what can precede it in a block.
 pub(crate) const RUN_LIMIT: usize = 65_700;
-
-fn is_interrupted(error: &io::Error) -> bool {
-    error.kind() == ErrorKind::Interrupted
-}
 
 /// Appends octets to the kept part of a run, up to the limit.
 fn keep(kept: &mut Vec<u8>, octets: &[u8]) -> io::Result<()>

@@ -89,17 +89,17 @@ abbrev pub begins_in : Key → ℕ → TransactionView → Option Finding → Op
 begins_in key now t finding room =
     record { slots = room.1 ++ record { key = key; begin = now; value = t } ∷ []; closed = room.0; finding = finding }
 
-abbrev pub begins : ℕ → Key → Option ℕ → List ℕ → (reused : Bool) → Option Finding → Transactions → Heard
-begins now key number octets reused finding slots = begins_in key now (first_request now number octets reused) finding (room_for key slots)
+abbrev pub begins : Key → ℕ → TransactionView → Option Finding → Transactions → Heard
+begins key now t finding slots = begins_in key now t finding (room_for key slots)
 
 -- a request in this relation to that of the live transaction with its key: another one begins a transaction, which uses the invoke ID again
 abbrev pub request_at : Place → ℕ → Key → Option ℕ → List ℕ → TransactionView → Transactions → Heard
 request_at place now key number octets t slots =
-    if is_other place then begins now key number octets true (Some (reuse_finding octets t)) slots else
+    if is_other place then begins key now (first_request now number octets true) (Some (reuse_finding octets t)) slots else
     goes_on key slots (requested now place number octets t)
 
 abbrev pub request_heard : ℕ → Key → Option ℕ → List ℕ → Option TransactionView → Transactions → Heard
-request_heard now key number octets None slots = begins now key number octets false (first_finding number) slots
+request_heard now key number octets None slots = begins key now (first_request now number octets false) (first_finding number) slots
 request_heard now key number octets (Some t) slots = request_at (place_of t.request number octets) now key number octets t slots
 
 abbrev pub answer_heard : ℕ → Key → Option ℕ → List ℕ → Option TransactionView → Transactions → Heard

@@ -8,6 +8,7 @@ ghost use Rattle.bac_explain.specs.Keys.{same_key};
 ghost use Rattle.bac_explain.specs.Transactions.{TransactionView, requested, reuse_finding};
 ghost use Rattle.bac_explain.specs.Sent.{place_of};
 ghost use Rattle.bac_explain.specs.Closings.{IsHeard, closed_view};
+ghost use Rattle.bac_explain.specs.Views.{transaction_view};
 
 use crate::finding::Finding;
 use crate::key::TransactionKey;
@@ -107,23 +108,18 @@ impl Explainer {
         Some(transaction.reuse_finding(octets))
     }
 
-    /// Begins a transaction, with a request that is seen.
+    /// Adds a transaction whose request is seen for the first time, with what is wrong with that request.
     fn begin(
         &mut self,
-        alloc: Global,
         now: u64,
         key: TransactionKey,
-        number: Option<u8>,
-        octets: &[u8],
-        reused: bool,
+        transaction: Transaction,
         finding: Option<Finding>,
-    ) -> Result<Heard, AllocError>
-        ensures ok { IfOk result (IsHeard (begins now (key_view key) number octets.now reused finding self.old) self.new) }
-        ensures err { OnErr result (self.new ≡ self.old) }
+    ) -> Heard
+        ensures { IsHeard (begins (key_view key) now (transaction_view transaction) finding self.old) self.new result }
     {
-        let transaction = Transaction::begin(alloc, now, number, octets, reused)?;
         let closed = enter(&mut self.table, key, now, transaction);
-        Ok(Heard { finding, closed })
+        Heard { finding, closed }
     }
 
     /// The request of the live transaction with this key is seen again, or another segment of it.
@@ -157,12 +153,13 @@ impl Explainer {
         ensures err { OnErr result (self.new ≡ self.old) }
     {
         let Some(place) = self.place(now, &key, number, octets) else {
-            let finding = first_finding(number);
-            return self.begin(alloc, now, key, number, octets, false, finding);
+            let transaction = Transaction::begin(alloc, now, number, octets, false)?;
+            return Ok(self.begin(now, key, transaction, first_finding(number)));
         };
         if place.is_other() {
+            let transaction = Transaction::begin(alloc, now, number, octets, true)?;
             let finding = self.reuse_finding(&key, octets);
-            return self.begin(alloc, now, key, number, octets, true, finding);
+            return Ok(self.begin(now, key, transaction, finding));
         }
         Ok(Heard {
             finding: self.repeat(now, &key, place, number, octets),

@@ -106,26 +106,6 @@ fn other_answer(reused: bool, request: &[u8], first: &[u8], other: &[u8]) -> Fin
     }
 }
 
-/// What is wrong with a reply in this relation to the first one.
-fn answer_finding(
-    request: &Sent,
-    reused: bool,
-    now: u64,
-    place: Place,
-    number: Option<u8>,
-    first: &Sent,
-    octets: &[u8],
-) -> Option<Finding>
-    ensures { result ≡ answer_finding now place number reused (sent_view request.now) (sent_view first.now) octets.now }
-{
-    match place {
-        Place::Again if is_old(now, number, request, first) => Some(Finding::OldCopy),
-        Place::Again => None,
-        Place::Next | Place::Back | Place::Ahead => segment_finding(first, place, number),
-        Place::Other => Some(other_answer(reused, &request.octets, &first.octets, octets)),
-    }
-}
-
 /// Whether a reply is an Abort of the server within the first one.
 fn breaks_off(first: &Sent, octets: &[u8]) -> bool
     ensures { result ≡ breaks_off (sent_view first.now) octets.now }
@@ -198,6 +178,29 @@ impl Transaction {
         finding
     }
 
+    /// What is wrong with a reply in this relation to the first one.
+    fn answer_finding(
+        &self,
+        first: &Sent,
+        now: u64,
+        place: Place,
+        number: Option<u8>,
+        octets: &[u8],
+    ) -> Option<Finding>
+        ensures { result ≡ answer_finding now place number self.now.reused (sent_view self.now.request) (sent_view first.now) octets.now }
+    {
+        let request = &self.request;
+        match place {
+            Place::Again if is_old(now, number, request, first) => Some(Finding::OldCopy),
+            Place::Again => None,
+            Place::Next | Place::Back | Place::Ahead => segment_finding(first, place, number),
+            Place::Other => {
+                let (request, first) = (&request.octets, &first.octets);
+                Some(other_answer(self.reused, request, first, octets))
+            }
+        }
+    }
+
     /// A reply is seen, or a segment of one. Nothing changes if an allocation fails.
     pub(crate) fn answered(
         &mut self,
@@ -213,7 +216,7 @@ impl Transaction {
         if !is_of_service(&self.request.octets, octets) {
             return Ok(Some(Finding::OtherService));
         }
-        let Some(answer) = &mut self.answer else {
+        let Some(answer) = &self.answer else {
             self.answer = Some(Sent::first(alloc, now, number, octets)?);
             return Ok(first_finding(number));
         };
@@ -222,16 +225,10 @@ impl Transaction {
             return Ok(None);
         }
         let place = answer.place(number, octets);
-        let finding = answer_finding(
-            &self.request,
-            self.reused,
-            now,
-            place,
-            number,
-            answer,
-            octets,
-        );
-        answer.count(now, place, number, octets);
+        let finding = self.answer_finding(answer, now, place, number, octets);
+        if let Some(answer) = &mut self.answer {
+            answer.count(now, place, number, octets);
+        }
         Ok(finding)
     }
 

@@ -1,4 +1,3 @@
 pub mod Blocking
 pub mod Report
 pub mod Reporting
-pub mod ChartReport

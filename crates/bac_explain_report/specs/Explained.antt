@@ -1,16 +1,11 @@
 -- What `bac explain` prints of a capture file, and how it ends.
-use Rattle.std.specs.Prelude.{◌≡◌, ℕ, ◌++◌, List, take, codes, decimal, ⊤, Option, Some, None}
-use Rattle.std.specs.Io.KnownBytes.{Appends}
+use Rattle.std.specs.Prelude.{◌≡◌, ℕ, ◌++◌, List, codes, decimal, Option, Some, None}
 use Rattle.bac_capture.specs.declared.fault.FileFault.{FileFault}
-use Rattle.bac_capture.specs.declared.form.FileFormat.{FileFormat}
-use Rattle.bac_capture.specs.declared.order.Order.{Order}
-use Rattle.bac_capture.specs.Begins.{begun_at}
 use Rattle.bac_capture.specs.Blocks.{FrameView}
-use Rattle.bac_capture.specs.Forms.{form_of}
-use Rattle.bac_capture.specs.Walks.{Prints, IsFileIn}
-use Rattle.bac_text.specs.Statuses.{IsStop}
+use Rattle.bac_capture.specs.FileReports.{no_heading, no_report}
+use Rattle.bac_capture.specs.FileReports as report
+use Rattle.bac_capture.specs.Walks.{Prints}
 use Rattle.bac_text.specs.declared.status.Status.{Status}
-use Rattle.bac_text.specs.declared.status.Status.TheVariants.{Done, Faulty, CommandLine, Output, Memory}
 use Rattle.bac_explain_report.specs.Accounts.{Account, FrameReportView, fresh, frame_heard, broken_off}
 use Rattle.bac_explain_report.specs.Rest.{AreBlocks}
 use Rattle.bac_explain_report.specs.Tallies.{status_of}
@@ -47,40 +42,15 @@ SeesFrame also frame a text next = IsPrintedNext (frame_heard also frame a) text
 abbrev pub BreaksFile : Prints FileFault Account
 BreaksFile fault a text next = IsPrintedNext (broken_off fault a) text next
 
--- what is printed of a file, and the status: what there is to print of each frame, then the transactions that are open, and a summary
-pub record IsExplained (also : Option ℕ) (form : FileFormat) (order : Order) (file : List ℕ) (old new : Option (List ℕ)) (status : Status) : Type 0 where
-  pub text : List ℕ
-  pub account : Account
-  pub read : IsFileIn Account (SeesFrame also) BreaksFile fresh (begun_at form order file) text account
+-- below the frames the transactions that are open are printed, and then the summary
+pub record EndsFile (a : Account) (text : List ℕ) (status : Status) : Type 0 where
   pub rest : List ℕ
   pub tally : Tally
-  pub are : AreBlocks account.slots account.tally rest tally
-  pub printed : Appends old new ((text ++ rest) ++ summary_text tally)
+  pub are : AreBlocks a.slots a.tally rest tally
+  pub told : text ≡ rest ++ summary_text tally
   pub is : status ≡ status_of tally
 
-abbrev pub IsExplainedFile : Option ℕ → FileFormat → Order → Option (List ℕ) → Option (List ℕ) → Option (List ℕ) → Status → Type 0
-IsExplainedFile also form order None old new status = ⊤
-IsExplainedFile also form order (Some file) old new status = IsExplained also form order file old new status
-
--- where the command ends with 0 or 1, the whole file was explained; the other statuses say nothing of it
-abbrev pub IsFileReport : Option ℕ → FileFormat → Order → Option (List ℕ) → Option (List ℕ) → Option (List ℕ) → Status → Type 0
-IsFileReport also form order file old new Done = IsExplainedFile also form order file old new Done
-IsFileReport also form order file old new Faulty = IsExplainedFile also form order file old new Faulty
-IsFileReport also form order file old new CommandLine = ⊤
-IsFileReport also form order file old new Output = ⊤
-IsFileReport also form order file old new Memory = ⊤
-
--- what is no capture file is not explained
-abbrev pub IsReportIn : Option ℕ → Option (FileFormat × Order) → List ℕ → Option (List ℕ) → Option (List ℕ) → Status → Type 0
-IsReportIn also None octets old new status = IsStop status
-IsReportIn also (Some form) octets old new status = IsFileReport also form.0 form.1 (Some octets) old new status
-
--- the first four octets say whether it is a capture file
+-- a file is explained frame by frame, and no other input
 abbrev pub IsReportOf : Option ℕ → Option (List ℕ) → Option (List ℕ) → Option (List ℕ) → Status → Type 0
-IsReportOf also None old new status = ⊤
-IsReportOf also (Some octets) old new status = IsReportIn also (form_of (take 4 octets)) octets old new status
-
--- the same where the first octets, at most four, were read before
-abbrev pub IsFrontReport : Option ℕ → (front : List ℕ) → Option (List ℕ) → Option (List ℕ) → Option (List ℕ) → Status → Type 0
-IsFrontReport also front None old new status = ⊤
-IsFrontReport also front (Some rest) old new status = IsReportIn also (form_of front) (front ++ rest) old new status
+IsReportOf also input old new status =
+    report.IsReportOf Account (SeesFrame also) BreaksFile no_heading EndsFile no_report fresh input old new status

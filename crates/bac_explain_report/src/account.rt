@@ -1,4 +1,4 @@
-//! What is known of a capture so far: its open transactions, and what was counted.
+//! The state of `explain`: the open transactions, and the counts.
 ghost use Rattle.std.specs.Prelude.{◌≡◌, IfOk};
 ghost use Rattle.std.specs.Option.{option_map};
 ghost use Rattle.bac_capture.specs.BlockViews.{frame_view};
@@ -14,7 +14,7 @@ use bac_capture::{FileFault, Frame, Ports};
 use bac_explain::{Explainer, Sighting};
 use std::alloc::{AllocError, Global};
 
-/// The open transactions, and what was counted.
+/// The open transactions, and the counts.
 #[derive(Drop)]
 pub(crate) struct Account {
     pub alloc: Global,
@@ -23,7 +23,7 @@ pub(crate) struct Account {
 }
 
 impl Account {
-    /// Nothing was seen; an Err where the memory for the table of transactions is refused.
+    /// The state before the first frame. Returns an Err if the allocation of the table of transactions fails.
     pub(crate) fn new(alloc: Global) -> Result<Account, AllocError>
         ensures { IfOk result (λ a. account_view a ≡ fresh) }
     {
@@ -35,7 +35,7 @@ impl Account {
         })
     }
 
-    /// An APDU of a transaction is seen.
+    /// Handles an APDU of a transaction. Returns the report on its frame.
     fn hear_sighting(&mut self, now: u64, sighting: Sighting<'_>) -> Result<FrameReport, AllocError>
         ensures { IfOk result (λ t. (report_view t, account_view self.new) ≡ sighting_heard now (sighting_view sighting.entry) (account_view self.old)) }
     {
@@ -60,7 +60,7 @@ impl Account {
         }))
     }
 
-    /// A frame is seen.
+    /// Handles a frame.
     pub(crate) fn hear_frame(
         &mut self,
         frame: Frame<'_>,
@@ -79,7 +79,7 @@ impl Account {
         }
     }
 
-    /// The file cannot be read on.
+    /// Handles a file that cannot be read further.
     pub(crate) fn break_off(&mut self, fault: FileFault) -> FrameReport
         ensures { (report_view result, account_view self.new) ≡ broken_off fault (account_view self.old) }
     {

@@ -1,4 +1,4 @@
-//! What APDUs answer, in words.
+//! Replies in words.
 ghost use Rattle.std.specs.Prelude.{◌≡◌, IfOk};
 ghost use Rattle.std.specs.Option.{option_map};
 ghost use Rattle.bac_apdu.specs.Views.{apdu_view, segment_view};
@@ -10,7 +10,7 @@ use bac_value::NoMemory;
 use bac_value_text::{abort_text, reject_text};
 use std::alloc::Global;
 
-/// What a ComplexACK or a segment of one answers.
+/// The words of a ComplexACK, or of a segment of one.
 fn acknowledged_words(
     alloc: Global,
     segment: Option<Segment>,
@@ -25,7 +25,7 @@ fn acknowledged_words(
     }
 }
 
-/// What an APDU answers.
+/// The words of an APDU with a reply.
 fn answer_words(alloc: Global, apdu: Apdu<'_>) -> Result<Vec<u8>, NoMemory>
     ensures { IfOk result (λ t. AreAnswerWords (apdu_view apdu.entry) t.items) }
 {
@@ -45,7 +45,7 @@ fn answer_words(alloc: Global, apdu: Apdu<'_>) -> Result<Vec<u8>, NoMemory>
     }
 }
 
-/// What the octets of an APDU answer.
+/// The words of a reply, from the octets of its APDU.
 pub(crate) fn octets_words(alloc: Global, octets: &[u8]) -> Result<Vec<u8>, NoMemory>
     ensures { IfOk result (λ t. AreOctetsWords octets.now t.items) }
 {

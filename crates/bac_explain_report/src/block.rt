@@ -1,4 +1,4 @@
-//! A transaction, line by line.
+//! The lines of a transaction.
 ghost use Rattle.std.specs.Prelude.{◌≡◌, IfOk, string_bytes};
 ghost use Rattle.std.specs.Option.{option_map};
 ghost use Rattle.bac_explain.specs.Closings.{closed_view};
@@ -15,7 +15,7 @@ use bac_explain::{Closed, Sent, Transaction, TransactionKey};
 use bac_value::NoMemory;
 use std::alloc::{AllocError, Global};
 
-/// How often something was seen, and how many more segments of it.
+/// How often a request or a reply was seen, and how many more of its segments.
 fn counts_text(alloc: Global, sent: &Sent) -> Result<String, AllocError>
     ensures { IfOk result (λ t. string_bytes t ≡ counts_text (sent_view sent.now)) }
 {
@@ -37,7 +37,7 @@ fn asked_front(alloc: Global, sent: &Sent) -> Result<Vec<u8>, AllocError>
     Ok(text.into_bytes())
 }
 
-/// When it was asked, how often, and for what.
+/// The request: its moment, how often it was seen, and what it asks for.
 fn asked_line(alloc: Global, sent: &Sent) -> Result<Vec<u8>, NoMemory>
     ensures { IfOk result (λ t. IsAskedLine (sent_view sent.now) t.items) }
 {
@@ -48,7 +48,7 @@ fn asked_line(alloc: Global, sent: &Sent) -> Result<Vec<u8>, NoMemory>
     Ok(text)
 }
 
-/// What answers, or that an answer began.
+/// The first word of a reply: whether it is whole, or only its beginning was seen.
 fn answer_name(sent: &Sent) -> &'static str
     ensures { result.now ≡ answer_name (sent_view sent.now) }
 {
@@ -69,7 +69,7 @@ fn answered_front(alloc: Global, asked: u64, sent: &Sent) -> Result<Vec<u8>, All
     Ok(text.into_bytes())
 }
 
-/// How it was answered, after how long, how often, and with what.
+/// The reply: the delay after the request, how often it was seen, and what it says.
 fn answered_line(alloc: Global, asked: u64, sent: &Sent) -> Result<Vec<u8>, NoMemory>
     ensures { IfOk result (λ t. IsAnsweredLine asked (sent_view sent.now) t.items) }
 {
@@ -80,7 +80,7 @@ fn answered_line(alloc: Global, asked: u64, sent: &Sent) -> Result<Vec<u8>, NoMe
     Ok(text)
 }
 
-/// The line of the answer, where there is one.
+/// The line of the reply, if there is one.
 fn answer_line(alloc: Global, transaction: &Transaction) -> Result<Vec<u8>, NoMemory>
     ensures { IfOk result (λ t. IsAnswerLine (transaction_view transaction.now) t.items) }
 {
@@ -100,7 +100,7 @@ fn naks_text(alloc: Global, naks: u64) -> Result<Vec<u8>, AllocError>
     Ok(text.into_bytes())
 }
 
-/// That the end of the answer was not seen.
+/// The line for a reply whose end was not seen.
 fn part_text(broken_off: bool) -> &'static str
     ensures { result.now ≡ part_text broken_off }
 {
@@ -111,7 +111,7 @@ fn part_text(broken_off: bool) -> &'static str
     }
 }
 
-/// That no answer was seen, or not all of it.
+/// The line for a transaction without a whole reply.
 fn rest_text(broken_off: bool, answer: &Option<Sent>) -> &'static str
     ensures { result.now ≡ rest_text broken_off (option_map sent_view answer.now) }
 {
@@ -122,7 +122,7 @@ fn rest_text(broken_off: bool, answer: &Option<Sent>) -> &'static str
     }
 }
 
-/// That the client gave up, or that there is no whole answer.
+/// The last line: the client gave up, or there is no whole reply.
 fn end_text(transaction: &Transaction) -> &'static str
     ensures { result.now ≡ end_text (transaction_view transaction.now) }
 {
@@ -150,7 +150,7 @@ fn head_text(alloc: Global, key: TransactionKey) -> Result<Vec<u8>, AllocError>
     Ok(text.into_bytes())
 }
 
-/// The block of a transaction.
+/// The lines of a transaction.
 pub(crate) fn block(alloc: Global, closed: &Closed) -> Result<Vec<u8>, NoMemory>
     ensures { IfOk result (λ t. IsBlock (closed_view closed.now) t.items) }
 {

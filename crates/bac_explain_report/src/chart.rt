@@ -1,64 +1,16 @@
 //! `bac explain --chart` and `--mermaid`: a sequence chart of a capture file.
-ghost use Rattle.std.specs.Prelude.{◌≡◌, IfOk, OnOk};
-ghost use Rattle.std.specs.Io.KnownBytes.{Appends};
-ghost use Rattle.bac_capture.specs.Reports.{IsFileWalked, IsPrinted};
-ghost use Rattle.bac_explain_report.specs.Charted.{status_of, IsDrawnFile, IsFileReport, IsFrontReport, IsReportOf};
-ghost use Rattle.bac_explain_report.specs.Sketches as plain;
-ghost use Rattle.bac_explain_report.specs.Sketches.{front_text, fresh, BreaksFile, SeesFrame};
-ghost use Rattle.bac_explain_report.specs.SketchViews.{sketch_view};
+ghost use Rattle.std.specs.Prelude.{◌≡◌};
+ghost use Rattle.bac_explain_report.specs.Charted.{status_of, IsReportOf};
 ghost use Rattle.bac_text.specs.Statuses.{IsStop};
 
 use crate::sketch::{Sketch, front_text};
-use bac_capture::{
-    CheckError, FileFault, Frame, FrameVisitor, Order, Ports, form_of, read_run, stopped, walk_file,
-};
+use bac_capture::{FileFault, FileReport, Frame, Ports, print_text, report_over};
 use bac_chart::ChartFormat;
-use bac_text::{Status, complain, output_failed};
+use bac_text::{CheckError, Status, complain, output_failed, stopped};
 use std::alloc::Global;
-use std::io::{BufRead, Read, Write};
+use std::io::{BufRead, Write};
 
-fn print<W: Write>(text: &[u8], out: &mut W) -> Result<(), CheckError>
-    ensures { OnOk result (Appends (W.contents out.old) (W.contents out.new) text.now) }
-{
-    match out.write_all(text) {
-        Ok(()) => Ok(()),
-        Err(error) => Err(CheckError::Output(error)),
-    }
-}
-
-impl<W: Write> FrameVisitor<W> for Sketch {
-    ghost use Rattle.bac_explain_report.specs.Sketches.{BreaksFile, SeesFrame, Sketch as Plain};
-    ghost use Rattle.bac_explain_report.specs.SketchViews.{sketch_view};
-
-    ghost State = { Plain };
-
-    ghost state = { sketch_view };
-
-    ghost Visits = { SeesFrame };
-
-    ghost Breaks = { BreaksFile };
-
-    fn visit_frame(
-        &mut self,
-        frame: Frame<'_>,
-        ports: Ports,
-        out: &mut W,
-    ) -> Result<(), CheckError> {
-        match self.see_frame(frame, ports) {
-            Ok(text) => print(&text, out),
-            Err(error) => Err(error),
-        }
-    }
-
-    fn break_off(&mut self, fault: FileFault, out: &mut W) -> Result<(), CheckError> {
-        match self.break_off_at(fault) {
-            Ok(text) => print(&text, out),
-            Err(error) => Err(error),
-        }
-    }
-}
-
-/// The status of a chart that was drawn to the end of its file.
+/// The status of a chart that was drawn to the end of its file: whether every frame was read.
 fn status_of(is_whole: bool) -> Status
     ensures { result ≡ status_of is_whole }
 {
@@ -69,7 +21,7 @@ fn status_of(is_whole: bool) -> Status
     }
 }
 
-/// The status of a chart for which there are too many peers.
+/// Prints that there are too many peers for a chart, and returns the status.
 fn crowded<O: Write, E: Write>(out: &mut O, err: &mut E) -> Status
     ensures { IsStop result }
 {
@@ -79,91 +31,84 @@ fn crowded<O: Write, E: Write>(out: &mut O, err: &mut E) -> Status
     }
 }
 
-/// The status of a chart that stopped.
-fn stopped_at<O: Write, E: Write>(
-    is_crowded: bool,
-    error: CheckError,
-    out: &mut O,
-    err: &mut E,
-) -> Status
-    ensures { IsStop result }
-{
-    if is_crowded {
-        crowded(out, err)
-    } else {
-        stopped(error, out, err)
-    }
-}
+impl<W: Write> FileReport<W> for Sketch {
+    ghost use Rattle.bac_explain_report.specs.Sketches.{BreaksFile, SeesFrame, Sketch as Plain};
+    ghost use Rattle.bac_explain_report.specs.SketchViews.{sketch_view};
+    ghost use Rattle.bac_capture.specs.FileReports.{no_report};
+    ghost use Rattle.bac_explain_report.specs.Charted.{heading, EndsFile};
 
-/// Draws a capture file of that form and byte order.
-fn draw_file<R: BufRead, W: Write>(
-    alloc: Global,
-    form: bac_capture::FileFormat,
-    order: Order,
-    input: &mut R,
-    ports: Ports,
-    sketch: &mut Sketch,
-    out: &mut W,
-) -> Result<(), CheckError>
-    ensures { OnOk result (IsDrawnFile ports.also form order (R.remaining input.old) (W.contents out.old) (W.contents out.new) (sketch_view sketch.old) (sketch_view sketch.new)) }
-{
-    print(front_text(sketch.form).as_bytes(), out)?;
-    walk_file(alloc, form, order, input, ports, sketch, out)?;
-    match out.flush() {
-        Ok(()) => Ok(()),
-        Err(error) => Err(CheckError::Output(error)),
-    }
-}
+    ghost State = { Plain };
 
-/// Draws a capture file of that form and byte order.
-fn chart_file<R: BufRead, O: Write, E: Write>(
-    alloc: Global,
-    chart: ChartFormat,
-    form: bac_capture::FileFormat,
-    order: Order,
-    input: &mut R,
-    ports: Ports,
-    out: &mut O,
-    err: &mut E,
-) -> Status
-    ensures { IsFileReport chart ports.also form order (R.remaining input.old) (O.contents out.old) (O.contents out.new) result }
-{
-    let mut sketch = Sketch::new(alloc, chart);
-    match draw_file(alloc, form, order, input, ports, &mut sketch, out) {
-        Ok(()) => status_of(sketch.is_whole),
-        Err(error) => stopped_at(sketch.is_crowded, error, out, err),
-    }
-}
+    ghost state = { sketch_view };
 
-/// Draws a capture whose first octets are `front`, and the others those of the input.
-fn chart_after<R: BufRead, O: Write, E: Write>(
-    alloc: Global,
-    chart: ChartFormat,
-    front: &[u8],
-    input: &mut R,
-    ports: Ports,
-    out: &mut O,
-    err: &mut E,
-) -> Status
-    ensures { IsFrontReport chart ports.also front.now (R.remaining input.old) (O.contents out.old) (O.contents out.new) result }
-{
-    let mut whole = front.chain(input);
-    match form_of(front) {
-        Some((form, order)) => {
-            chart_file(alloc, chart, form, order, &mut whole, ports, out, err)
+    ghost Visits = { SeesFrame };
+
+    ghost Breaks = { BreaksFile };
+
+    ghost heading = { heading };
+
+    ghost Ends = { EndsFile };
+
+    ghost Others = { no_report };
+
+    fn visit_frame(
+        &mut self,
+        frame: Frame<'_>,
+        ports: Ports,
+        out: &mut W,
+    ) -> Result<(), CheckError> {
+        match self.see_frame(frame, ports) {
+            Ok(text) => print_text(&text, out),
+            Err(error) => Err(error),
         }
-        None => complain(err, "no capture file", Status::CommandLine),
+    }
+
+    fn break_off(&mut self, fault: FileFault, out: &mut W) -> Result<(), CheckError> {
+        match self.break_off_at(fault) {
+            Ok(text) => print_text(&text, out),
+            Err(error) => Err(error),
+        }
+    }
+
+    fn heading_text(&self) -> &'static str {
+        front_text(self.form)
+    }
+
+    fn end(&mut self, out: &mut W) -> Result<Status, CheckError> {
+        match out.flush() {
+            Ok(()) => Ok(status_of(self.is_whole)),
+            Err(error) => Err(CheckError::Output(error)),
+        }
+    }
+
+    fn report_other<R: BufRead, E: Write>(
+        &mut self,
+        _alloc: Global,
+        _input: &mut R,
+        _out: &mut W,
+        err: &mut E,
+    ) -> Status {
+        complain(err, "no capture file", Status::CommandLine)
+    }
+
+    fn stop<E: Write>(&self, error: CheckError, out: &mut W, err: &mut E) -> Status {
+        if self.is_crowded {
+            crowded(out, err)
+        } else {
+            stopped(error, out, err)
+        }
     }
 }
 
-/// Draws a file of pcap or pcapng, by its first four octets: each datagram of a transaction as an arrow between the columns of its ends, with the
-/// moment in milliseconds since the first of them, the number of its frame from 1, and what it is, in short; `again` where the same octets went the same
-/// way at most 65,000 ms before, among the last 255.
+/// Draws a file of pcap or pcapng: each datagram of a transaction as an arrow between the columns of its ends, with the moment in
+/// milliseconds since the first of them, the number of its frame from 1, and a short description. The arrow is marked `again` if the
+/// same octets went the same way at most 65,000 ms before, among the last 255 datagrams.
 ///
-/// A column begins with the first datagram of its peer, and says whose it is. A frame that cannot be looked at is printed by its number; then the command
-/// ends with `Faulty`. `more than 16 peers` on `err` where there are so many; `no capture file` where it is none; `cannot read` where it cannot be read;
-/// out of memory: `no memory` on `err`. `Output` where `out` cannot be written, then too where the input fails. Memory does not grow with the file, but
-/// for the datagrams that are compared.
+/// A column begins with the first datagram of its peer, whose address is printed there. A frame that cannot be read is printed with
+/// its number; the status is then `Faulty`. Prints `more than 16 peers` on `err` if there are so many, `no capture file` if the first
+/// four octets are of neither format, `cannot read` if the input cannot be read, and `no memory` if an allocation fails. Returns
+/// `Output` if `out` cannot be written, even if the input fails too. Memory does not grow with the file, except for the datagrams that
+/// are compared.
 pub fn chart_over<R: BufRead, O: Write, E: Write>(
     alloc: Global,
     chart: ChartFormat,
@@ -174,9 +119,6 @@ pub fn chart_over<R: BufRead, O: Write, E: Write>(
 ) -> Status
     ensures { IsReportOf chart ports.also (R.remaining input.old) (O.contents out.old) (O.contents out.new) result }
 {
-    let mut front = Vec::new(alloc);
-    match read_run(input, 4, &mut front) {
-        Ok(_) => chart_after(alloc, chart, &front, input, ports, out, err),
-        Err(error) => stopped(CheckError::Input(error), out, err),
-    }
+    let mut sketch = Sketch::new(alloc, chart);
+    report_over(alloc, input, ports, &mut sketch, out, err)
 }

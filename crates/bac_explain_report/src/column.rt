@@ -15,11 +15,11 @@ use std::alloc::{AllocError, Global};
 pub(crate) struct Ends {
     pub from: u64,
     pub to: u64,
-    /// What there is to say of those that begin with it.
+    /// The lines of the columns that begin with it.
     pub text: Vec<u8>,
 }
 
-/// The column of a peer, from 0; as many as there are where it has none.
+/// The index of the column of a peer; the number of columns if it has none.
 fn place_of(peer: Peer, peers: &[Peer]) -> usize
     ensures place { result ≡ place_of (peer_view peer) (map peer_view peers.now) }
     ensures bound { result ≤ length peers.now }
@@ -56,7 +56,7 @@ fn begun_text(
     }
 }
 
-/// What there is to say of the column of a peer.
+/// The line of a column that begins: its peer.
 fn column_text(
     alloc: Global,
     form: ChartFormat,
@@ -73,7 +73,7 @@ fn column_text(
     begun_text(alloc, form, peers.len(), moment, peer)
 }
 
-/// Gives a peer the next column where it has none.
+/// Gives a peer the next column unless it has one. Returns its index and the line of a new column.
 fn enter(peer: Peer, peers: &mut Vec<Peer>) -> Result<u64, AllocError>
     ensures place { IfOk result (λ p. p ≡ place_of (peer_view peer) (map peer_view peers.old.items)) }
     ensures peers { OnOk result (map peer_view peers.new.items ≡ with_column (peer_view peer) (map peer_view peers.old.items)) }
@@ -85,7 +85,7 @@ fn enter(peer: Peer, peers: &mut Vec<Peer>) -> Result<u64, AllocError>
     Ok(place as u64)
 }
 
-/// The columns of the ends of a datagram, which begin with it where they have not begun before.
+/// The columns of the ends of a datagram. Each end without a column gets the next one.
 pub(crate) fn enter_ends(
     alloc: Global,
     form: ChartFormat,

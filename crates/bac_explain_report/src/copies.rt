@@ -1,4 +1,4 @@
-//! Which datagrams came before.
+//! The last datagrams that were drawn, to find repetitions.
 ghost use Rattle.std.specs.Prelude.{◌≡◌, IfOk, OnOk, map};
 ghost use Rattle.bac_explain_report.specs.Copies.{are_same, is_again, is_copy, with_drawn};
 ghost use Rattle.bac_explain_report.specs.CopyViews.{drawn_view};
@@ -6,7 +6,7 @@ ghost use Rattle.bac_explain_report.specs.CopyViews.{drawn_view};
 use bac_protocol::times::KEEP;
 use std::alloc::AllocError;
 
-/// Most datagrams that are kept: the numbers of segments, which go on modulo 256, do not come round among them.
+/// The greatest number of datagrams that are kept: sequence numbers, which wrap at 256, do not repeat among so few.
 pub(crate) const MOST_KEPT: usize = 255;
 
 /// A datagram that was drawn.
@@ -16,7 +16,7 @@ pub(crate) struct Drawn {
     pub moment: u64,
     /// The column of its sender.
     pub from: u64,
-    /// That of its receiver.
+    /// The column of its receiver.
     pub to: u64,
     /// The octets of its APDU.
     pub octets: Vec<u8>,
@@ -29,7 +29,7 @@ fn are_same(one: &[u8], other: &[u8]) -> bool
 }
 
 impl Drawn {
-    /// Whether it is the earlier one again: the same octets went the same way, at most 65,000 ms before.
+    /// Whether it repeats this earlier one: the same octets in the same direction, at most 65,000 ms before.
     fn is_copy(&self, earlier: &Drawn) -> bool
         ensures { result ≡ is_copy (drawn_view self.now) (drawn_view earlier.now) }
     {
@@ -39,7 +39,7 @@ impl Drawn {
             && are_same(&earlier.octets, &self.octets)
     }
 
-    /// Whether it is one of those again.
+    /// Whether it repeats one of these.
     pub(crate) fn is_again(&self, drawn: &[Drawn]) -> bool
         ensures { result ≡ is_again (drawn_view self.now) (map drawn_view drawn.now) }
     {
@@ -52,7 +52,7 @@ impl Drawn {
     }
 }
 
-/// Keeps a datagram, in place of the oldest where there are so many.
+/// Keeps a datagram, in place of the oldest if the greatest number is kept.
 pub(crate) fn keep(datagram: Drawn, drawn: &mut Vec<Drawn>) -> Result<(), AllocError>
     ensures { OnOk result (map drawn_view drawn.new.items ≡ with_drawn (drawn_view datagram) (map drawn_view drawn.old.items)) }
 {

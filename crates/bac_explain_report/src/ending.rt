@@ -1,4 +1,4 @@
-//! How a transaction ended, as far as it was seen.
+//! The endings of transactions, as far as they were seen.
 ghost use Rattle.std.specs.Prelude.{◌≡◌, ◌||◌};
 ghost use Rattle.bac_apdu.specs.Views.{apdu_view};
 ghost use Rattle.bac_explain.specs.SentViews.{sent_view};
@@ -17,7 +17,7 @@ pub(crate) enum Ending {
     Rejected,
     /// By an Abort of either end.
     Aborted,
-    /// No answer was seen, or not the end of it.
+    /// No reply was seen, or not its end.
     Unanswered,
 }
 
@@ -44,7 +44,7 @@ fn apdu_ending(apdu: Apdu<'_>) -> Ending
     }
 }
 
-/// How a transaction with that answer ended.
+/// The ending of a transaction with this whole reply.
 pub(crate) fn answer_ending(octets: &[u8]) -> Ending
     ensures { result ≡ answer_ending octets.now }
 {
@@ -54,7 +54,7 @@ pub(crate) fn answer_ending(octets: &[u8]) -> Ending
     }
 }
 
-/// How a transaction without an answer ended.
+/// The ending of a transaction without a reply.
 fn no_answer_ending(gave_up: bool) -> Ending
     ensures { result ≡ no_answer_ending gave_up }
 {
@@ -65,7 +65,7 @@ fn no_answer_ending(gave_up: bool) -> Ending
     }
 }
 
-/// How a transaction with the beginning of an answer ended: by that where its end was seen too.
+/// The ending of a transaction with a reply: by the reply if its end was seen.
 fn seen_ending(broken_off: bool, gave_up: bool, answer: &Sent) -> Ending
     ensures { result ≡ seen_ending broken_off gave_up (sent_view answer.now) }
 {
@@ -76,7 +76,7 @@ fn seen_ending(broken_off: bool, gave_up: bool, answer: &Sent) -> Ending
     }
 }
 
-/// How a transaction ended: by its answer, or where there is no whole one by an Abort.
+/// The ending of a transaction: by its reply, or by an Abort if there is no whole reply.
 pub(crate) fn ending_of(transaction: &Transaction) -> Ending
     ensures { result ≡ ending_of (transaction_view transaction.now) }
 {

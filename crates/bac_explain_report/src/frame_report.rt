@@ -1,4 +1,4 @@
-//! What there is to print of a frame.
+//! The report on a frame.
 ghost use Rattle.std.specs.Prelude.{◌≡◌, IfOk};
 ghost use Rattle.std.specs.Option.{option_map};
 ghost use Rattle.bac_explain.specs.Closings.{closed_view};
@@ -13,26 +13,26 @@ use bac_explain::{Closed, Finding, TransactionKey};
 use bac_value::NoMemory;
 use std::alloc::{AllocError, Global};
 
-/// What there is to print of an APDU of a transaction.
+/// The report on an APDU of a transaction.
 #[derive(Debug, Drop)]
 pub(crate) struct Hearing {
     /// Its transaction.
     pub key: TransactionKey,
-    /// A transaction that is over.
+    /// A transaction that is over by then, if any.
     pub over: Option<Closed>,
-    /// The transaction that it closes.
+    /// The transaction that it closes, if any.
     pub closed: Option<Closed>,
-    /// What is wrong with it.
+    /// What is wrong with it, if anything.
     pub finding: Option<Finding>,
 }
 
-/// What there is to print of a frame.
+/// The report on a frame.
 #[derive(Debug, Drop)]
 pub(crate) enum FrameReport {
     Nothing,
-    /// It cannot be looked at.
+    /// It cannot be read.
     Unread(Unread),
-    /// It has an APDU of a transaction.
+    /// It carries an APDU of a transaction.
     Heard(Hearing),
 }
 
@@ -43,7 +43,7 @@ fn unread_line(alloc: Global, number: u64, why: Unread) -> Result<Vec<u8>, Alloc
     Ok(text.into_bytes())
 }
 
-/// What is wrong with an APDU, in which frame and transaction.
+/// The line of a finding: the number of the frame, what is wrong, and the transaction.
 fn finding_line(
     alloc: Global,
     number: u64,
@@ -80,7 +80,7 @@ fn hearing_text(alloc: Global, number: u64, hearing: &Hearing) -> Result<Vec<u8>
     Ok(text)
 }
 
-/// What is printed of the frame of that number, from 1.
+/// The text for the frame with this number, from 1.
 pub(crate) fn report_text(
     alloc: Global,
     number: u64,

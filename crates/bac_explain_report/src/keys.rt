@@ -1,4 +1,4 @@
-//! Transactions, as they are printed.
+//! The texts of transaction keys.
 ghost use Rattle.std.specs.Prelude.{◌≡◌, IfOk, string_bytes};
 ghost use Rattle.bac_explain.specs.KeyViews.{key_view};
 ghost use Rattle.bac_explain_report.specs.Keys.{key_text};

@@ -1,6 +1,7 @@
-//! What `bac explain` prints of a capture: its transactions, what was wrong with their datagrams, and a summary.
+//! Reports on the transactions of a capture file: the text of `bac explain` and its charts.
 //!
-//! A sequence chart of a capture file: a column for each peer, and an arrow for each datagram of a transaction.
+//! The text has each transaction, what is wrong with its datagrams, and a summary. A chart has a column for each peer, and an arrow for
+//! each datagram of a transaction.
 #![tactic(auto)]
 
 mod account;

@@ -1,4 +1,4 @@
-//! What APDUs ask for, in words.
+//! Requests in words.
 ghost use Rattle.std.specs.Prelude.{◌≡◌, IfOk};
 ghost use Rattle.bac_apdu.specs.Views.{apdu_view};
 ghost use Rattle.bac_explain_report.specs.RequestWords.{AreAskingWords, AreOctetsWords};
@@ -8,7 +8,7 @@ use bac_service_text::{request_data_words, segments_text};
 use bac_value::NoMemory;
 use std::alloc::Global;
 
-/// What an APDU asks for.
+/// The words of an APDU with a request.
 fn asking_words(alloc: Global, apdu: Apdu<'_>) -> Result<Vec<u8>, NoMemory>
     ensures { IfOk result (λ t. AreAskingWords (apdu_view apdu.entry) t.items) }
 {
@@ -27,7 +27,7 @@ fn asking_words(alloc: Global, apdu: Apdu<'_>) -> Result<Vec<u8>, NoMemory>
     }
 }
 
-/// What the octets of an APDU ask for.
+/// The words of a request, from the octets of its APDU.
 pub(crate) fn octets_words(alloc: Global, octets: &[u8]) -> Result<Vec<u8>, NoMemory>
     ensures { IfOk result (λ t. AreOctetsWords octets.now t.items) }
 {

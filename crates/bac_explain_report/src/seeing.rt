@@ -25,7 +25,7 @@ fn datagram_in<'a>(frame: Frame<'a>, ports: Ports) -> Result<Option<Datagram<'a>
     }
 }
 
-/// The BACnet/IP address of an endpoint; None of one of IPv6.
+/// The BACnet/IP address of an endpoint; None for IPv6.
 fn link_of(end: Endpoint<'_>) -> Option<LinkAddress>
     ensures { result ≡ link_of (endpoint_view end.entry) }
 {
@@ -52,7 +52,7 @@ fn seen_in<'a>(datagram: Datagram<'a>) -> Option<Sighting<'a>>
     read_sighting(from, to, datagram.octets)
 }
 
-/// With the moment of its frame, without which nothing can be said of it.
+/// The APDU with the timestamp of its frame; an Err if the frame has none.
 fn timed_seen<'a>(
     moment: Option<u64>,
     seen: Option<Sighting<'a>>,
@@ -68,8 +68,8 @@ fn timed_seen<'a>(
     }
 }
 
-/// The APDU of a transaction that a frame carries, and when it was seen, in milliseconds; None where it carries none. An Err where the frame cannot be
-/// looked at, or has such an APDU and no moment.
+/// The APDU of a transaction that a frame carries, with the moment of the frame in milliseconds; None if it carries none. Returns an
+/// Err if the frame cannot be read, or carries such an APDU but has no timestamp.
 pub fn seen_of<'a>(frame: Frame<'a>, ports: Ports) -> Result<Option<(u64, Sighting<'a>)>, Unread>
     ensures { ReadsAll (option_map (λ s. (s.0, sighting_view s.1))) result (seen_of ports.also (frame_view frame.entry)) }
 {

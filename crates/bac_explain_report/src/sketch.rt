@@ -1,4 +1,4 @@
-//! A chart so far, and what is drawn of a frame.
+//! The state of a chart, and what is drawn for a frame.
 ghost use Rattle.std.specs.Prelude.{◌≡◌, ◌≤◌, IfOk, OnOk, Some, length, map};
 ghost use Rattle.bac_capture.specs.BlockViews.{frame_view};
 ghost use Rattle.bac_chart.specs.Views.{arrow_view};
@@ -13,18 +13,19 @@ ghost use Rattle.bac_npdu.specs.Views.{peer_view};
 use crate::column::{Ends, enter_ends};
 use crate::copies::{Drawn, keep};
 use crate::{Unread, seen_of};
-use bac_capture::{CheckError, FileFault, Frame, Ports};
+use bac_capture::{FileFault, Frame, Ports};
 use bac_chart::{Arrow, ChartFormat, coming_line, line_text, octets_words};
 use bac_explain::{Role, Sighting};
 use bac_npdu::Peer;
+use bac_text::CheckError;
 use std::alloc::{AllocError, Global};
 use std::io;
 use std::io::ErrorKind;
 
-/// Most peers that have columns (own).
+/// The greatest number of columns, which no standard sets.
 pub(crate) const MOST_PEERS: usize = 16;
 
-/// What stands above a chart.
+/// The text above a chart.
 pub(crate) fn front_text(form: ChartFormat) -> &'static str
     ensures { result.now ≡ front_text form }
 {
@@ -34,7 +35,7 @@ pub(crate) fn front_text(form: ChartFormat) -> &'static str
     }
 }
 
-/// What stands before a line that is no arrow.
+/// The beginning of a line that is not an arrow.
 fn remark_front(form: ChartFormat) -> &'static str
     ensures { result.now ≡ remark_front form }
 {
@@ -57,7 +58,7 @@ fn unread_line(
     Ok(text.into_bytes())
 }
 
-/// Whether the client sends what has that role.
+/// Whether the client sends APDUs with this role.
 fn is_by_client(role: Role) -> bool
     ensures { result ≡ is_by_client role }
 {
@@ -99,27 +100,27 @@ fn arrow_of(
     })
 }
 
-/// A chart so far.
+/// The state of a chart.
 #[derive(Drop)]
 pub(crate) struct Sketch {
     alloc: Global,
     pub form: ChartFormat,
     /// The moment of the first datagram that was drawn, in milliseconds.
     start: Option<u64>,
-    /// The peers that have columns.
+    /// The peers that have columns, from left to right.
     peers: Vec<Peer>,
     /// The last datagrams that were drawn.
     drawn: Vec<Drawn>,
-    /// The frames so far; the count stays at its last value.
+    /// The number of frames so far; the count saturates.
     frames: u64,
-    /// Whether each of them was looked at.
+    /// Whether each of them could be read.
     pub is_whole: bool,
     /// Whether there are more peers than columns.
     pub is_crowded: bool,
 }
 
 impl Sketch {
-    /// Nothing was seen.
+    /// The state before the first frame.
     pub(crate) fn new(alloc: Global, form: ChartFormat) -> Sketch
         ensures { sketch_view result ≡ fresh form }
     {
@@ -135,7 +136,7 @@ impl Sketch {
         }
     }
 
-    /// The moment since that of the first datagram that is drawn, which this one is where none was before.
+    /// The time in milliseconds since the first datagram that is drawn: 0 for the first one.
     fn moment(&mut self, now: u64) -> u64
         ensures moment { result ≡ moment_in now (sketch_view self.old) }
         ensures start { sketch_view self.new ≡ record (sketch_view self.old) { start = Some (start_of now (sketch_view self.old).start) } }
@@ -145,7 +146,7 @@ impl Sketch {
         now.saturating_sub(start)
     }
 
-    /// Keeps a datagram that is drawn: whether the same came before.
+    /// Keeps a datagram that is drawn. Returns whether it repeats an earlier one.
     fn keep(&mut self, now: u64, ends: &Ends, octets: &[u8]) -> Result<bool, AllocError>
         ensures again { IfOk result (λ b. b ≡ is_again (drawn_at now (ends_view ends.now) octets.now) (sketch_view self.old).drawn) }
         ensures kept { OnOk result (sketch_view self.new
@@ -162,7 +163,7 @@ impl Sketch {
         Ok(again)
     }
 
-    /// The row of a datagram; it says whether the same came before.
+    /// The row of a datagram, which says whether it repeats an earlier one.
     fn row(
         &self,
         again: bool,
@@ -178,7 +179,7 @@ impl Sketch {
         line_text(self.alloc, self.form, self.peers.len() as u64, &line)
     }
 
-    /// A datagram of a transaction is drawn.
+    /// Draws a datagram of a transaction. Returns the text.
     fn draw(&mut self, now: u64, sighting: Sighting<'_>) -> Result<Vec<u8>, AllocError>
         ensures text { IfOk result (λ t. t.items ≡ sighting_text now (sighting_view sighting.entry) (sketch_view self.old)) }
         ensures next { OnOk result (sketch_view self.new ≡ sighting_kept now (sighting_view sighting.entry) (sketch_view self.old)) }
@@ -193,7 +194,7 @@ impl Sketch {
         Ok(text)
     }
 
-    /// A datagram of a transaction is drawn, where there is room for the columns of its ends.
+    /// Draws a datagram of a transaction, unless there are too many columns then.
     fn draw_in_room(&mut self, now: u64, sighting: Sighting<'_>) -> Result<Vec<u8>, CheckError>
         ensures { IfOk result (λ t. IsDrawn now (sighting_view sighting.entry) (sketch_view self.old) t.items (sketch_view self.new)) }
     {
@@ -207,7 +208,7 @@ impl Sketch {
         Ok(text)
     }
 
-    /// A frame is seen that cannot be looked at.
+    /// Handles a frame that cannot be read.
     fn pass_over(&mut self, why: Unread) -> Result<Vec<u8>, CheckError>
         ensures { IfOk result (λ t. IsUnread why (sketch_view self.old) t.items (sketch_view self.new)) }
     {
@@ -218,7 +219,7 @@ impl Sketch {
         }
     }
 
-    /// A frame is seen.
+    /// Handles a frame.
     pub(crate) fn see_frame(
         &mut self,
         frame: Frame<'_>,
@@ -234,7 +235,7 @@ impl Sketch {
         }
     }
 
-    /// The file cannot be read on.
+    /// Handles a file that cannot be read further.
     pub(crate) fn break_off_at(&mut self, fault: FileFault) -> Result<Vec<u8>, CheckError>
         ensures { IfOk result (λ t. BreaksFile fault (sketch_view self.old) t.items (sketch_view self.new)) }
     {

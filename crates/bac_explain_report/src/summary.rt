@@ -5,7 +5,7 @@ ghost use Rattle.bac_explain_report.specs.Explained.{endings_text, slowest_text,
 use crate::tally::Tally;
 use std::alloc::{AllocError, Global};
 
-/// The slowest answer, in milliseconds; `-` where there is none.
+/// The delay of the slowest reply in milliseconds; `-` if there is none.
 fn slowest_text(alloc: Global, slowest: Option<u64>) -> Result<String, AllocError>
     ensures { IfOk result (λ t. string_bytes t ≡ slowest_text slowest) }
 {
@@ -29,7 +29,7 @@ fn endings_text(alloc: Global, tally: Tally) -> Result<String, AllocError>
     )
 }
 
-/// How many transactions there are, how they ended, and what was counted beside them.
+/// The summary: how many transactions there are and how they ended, the slowest reply, and the numbers of findings, frames and unread frames.
 pub(crate) fn summary_text(alloc: Global, tally: Tally) -> Result<String, AllocError>
     ensures { IfOk result (λ t. string_bytes t ≡ summary_text tally) }
 {

@@ -1,4 +1,4 @@
-//! How many frames and transactions there are so far, and what they are.
+//! Counts of frames and transactions.
 ghost use Rattle.std.specs.Prelude.{◌≡◌};
 ghost use Rattle.std.specs.Option.{option_map};
 ghost use Rattle.bac_explain.specs.Closings.{closed_view};
@@ -9,11 +9,11 @@ use crate::ending::{Ending, ending_of};
 use bac_explain::{Closed, Finding, Transaction};
 use bac_text::Status;
 
-/// The frames and the transactions so far. Counts stay at their last value.
+/// Counts of the frames and transactions so far. Each count saturates.
 #[derive(Clone, Copy, Debug)]
 pub(crate) struct Tally {
     pub frames: u64,
-    /// Frames that cannot be looked at.
+    /// Frames that cannot be read.
     pub unread: u64,
     pub findings: u64,
     pub transactions: u64,
@@ -21,7 +21,7 @@ pub(crate) struct Tally {
     pub rejected: u64,
     pub aborted: u64,
     pub unanswered: u64,
-    /// After how many milliseconds the last of all first answers came; None where none came.
+    /// The greatest delay of a first reply after its request, in milliseconds; None if there is no reply.
     pub slowest: Option<u64>,
 }
 
@@ -41,7 +41,7 @@ fn later(slowest: Option<u64>, delay: u64) -> Option<u64>
     }
 }
 
-/// After how long a transaction was answered.
+/// The delay of the reply of a transaction, in milliseconds.
 fn delay_of(transaction: &Transaction) -> Option<u64>
     ensures { result ≡ delay_of (transaction_view transaction.now) }
 {
@@ -129,7 +129,7 @@ impl Tally {
         }
     }
 
-    /// With a transaction of which nothing more is looked for.
+    /// The counts with one more closed transaction.
     pub(crate) fn with_block(self, closed: &Closed) -> Tally
         ensures { result ≡ with_block (closed_view closed.now) self }
     {
@@ -151,7 +151,7 @@ impl Tally {
         }
     }
 
-    /// Whether nothing was wrong, and every frame was looked at.
+    /// `Done` if there is no finding and every frame could be read, otherwise `Faulty`.
     pub(crate) fn status(self) -> Status
         ensures { result ≡ status_of self }
     {

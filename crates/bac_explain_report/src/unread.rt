@@ -1,20 +1,20 @@
-//! Frames that cannot be looked at.
+//! Frames that cannot be read.
 ghost use Rattle.std.specs.Prelude.{Some};
 ghost use Rattle.bac_explain_report.specs.Unread.{unread_text};
 
 use bac_capture::{FileFault, PacketFault};
 use std::fmt;
 
-/// Why a frame cannot be looked at.
+/// Why a frame cannot be read.
 #[derive(Clone, Copy, Debug, PartialEq, Eq)]
 pub enum Unread {
-    /// It is of a link layer that is not read.
+    /// Its link layer is unknown.
     Link,
-    /// The packet in it is no whole one.
+    /// The packet in it is not complete.
     Packet(PacketFault),
-    /// It has a datagram of a transaction, and no moment.
+    /// It carries a datagram of a transaction, but has no timestamp.
     NoMoment,
-    /// The file cannot be read on from there.
+    /// The file cannot be read further.
     File(FileFault),
 }
 

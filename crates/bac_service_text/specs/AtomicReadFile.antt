@@ -8,7 +8,7 @@ use Rattle.bac_service.specs.Values.Request.{ReadFile}
 use Rattle.bac_value.specs.Value.{ObjectId}
 use Rattle.bac_value_text.specs.Numbers.{◌>>=◌, number_of, signed_of}
 use Rattle.bac_value_text.specs.Texts.{object_text}
-use Rattle.bac_service_text.specs.Members.{bit_text, count_member, object_member, octets_text, position_member, record_member}
+use Rattle.bac_service_text.specs.Members.{bit_text, count_member, object_member, position_member, record_member}
 
 -- ---- the request
 
@@ -47,8 +47,6 @@ get_of file start count = do
 abbrev pub file_text : Bool → ℤ → List ℕ → List ℕ
 file_text end start octets = codes "file " ++ (bit_text end ++ (codes " " ++ (signed_decimal start ++ (codes " " ++ encode_upper octets))))
 
-abbrev pub end_of_file_text : Bool → List ℕ
-end_of_file_text end_of_file = codes "read-file-ack end=" ++ bit_text end_of_file
-
 abbrev pub file_read_line : Bool → ℤ → List ℕ → List ℕ
-file_read_line end_of_file start octets = end_of_file_text end_of_file ++ (position_member start ++ octets_text (codes "octets") octets)
+file_read_line end start octets =
+    codes "read-file-ack end=" ++ (bit_text end ++ (codes " position=" ++ (signed_decimal start ++ (codes " octets=" ++ encode_upper octets))))

@@ -1,15 +1,14 @@
 //! AtomicReadFile as text (clause 14.1).
-ghost use Rattle.std.specs.Prelude.{◌≡◌, IfOk, OnOk};
+ghost use Rattle.std.specs.Prelude.{◌≡◌, IfOk, OnOk, string_bytes};
 ghost use Rattle.std.specs.Io.KnownBytes.{Appends};
 ghost use Rattle.bac_service.specs.Views.{owned_request_view, read_access_view};
-ghost use Rattle.bac_service_text.specs.AtomicReadFile.{end_of_file_text, file_read_line, file_text, get_label, get_of, get_words};
+ghost use Rattle.bac_service_text.specs.AtomicReadFile.{file_read_line, file_text, get_label, get_of, get_words};
 ghost use Rattle.bac_service_text.specs.AtomicReadFile.{read_access_text, read_file_line, read_name};
-ghost use Rattle.bac_service_text.specs.Members.{position_member};
 ghost use Rattle.bac_service_text.specs.Reading.{Reads};
 ghost use Rattle.bac_value.specs.Views.{object_identifier_view};
 
 use crate::form_fault::FormFault;
-use crate::members::{print_object, print_octets};
+use crate::members::print_object;
 use crate::reference::object_words;
 use bac_service::{AnyRequest, Content, FileRead, OwnedRequest, ReadAccess, ReadFile};
 use bac_value::ObjectIdentifier;
@@ -42,12 +41,13 @@ pub(crate) fn get_words(alloc: Global, read: ReadFile) -> Result<Vec<u8>, AllocE
     Ok(words)
 }
 
-fn print_read_name<W: Write>(access: ReadAccess, out: &mut W) -> io::Result<()>
-    ensures { OnOk result (Appends (W.contents out.old) (W.contents out.new) (read_name (read_access_view access))) }
+/// The first word of the line of a request.
+fn read_name(access: ReadAccess) -> &'static str
+    ensures { result.now ≡ read_name (read_access_view access) }
 {
     match access {
-        ReadAccess::Stream { .. } => out.write_all(b"read-file"),
-        ReadAccess::Records { .. } => out.write_all(b"read-records"),
+        ReadAccess::Stream { .. } => "read-file",
+        ReadAccess::Records { .. } => "read-records",
     }
 }
 
@@ -69,7 +69,7 @@ pub(crate) fn print_read_file<W: Write>(
     ensures { OnOk result (Appends (W.contents out.old) (W.contents out.new)
         (read_file_line in_words (object_identifier_view read.file) (read_access_view read.access))) }
 {
-    print_read_name(read.access, out)?;
+    out.write_all(read_name(read.access).as_bytes())?;
     print_object(alloc, in_words, read.file, out)?;
     print_read_access(read.access, out)
 }
@@ -106,18 +106,14 @@ pub(crate) fn file_text(alloc: Global, read: FileRead<Content<'_>>) -> Result<Ve
     Ok(text.into_bytes())
 }
 
-fn print_end_of_file<W: Write>(end_of_file: bool, out: &mut W) -> io::Result<()>
-    ensures { OnOk result (Appends (W.contents out.old) (W.contents out.new) (end_of_file_text end_of_file)) }
+/// The decoded line of octets that were read from a file.
+fn file_read_line(alloc: Global, read: FileRead<Content<'_>>) -> Result<String, AllocError>
+    ensures { IfOk result (λ t. string_bytes t ≡ file_read_line read.entry.end_of_file read.entry.start read.entry.content.octets.now) }
 {
-    let end = u8::from(end_of_file);
-    write!(out, "read-file-ack end={end}")
-}
-
-fn print_read_start<W: Write>(read: FileRead<Content<'_>>, out: &mut W) -> io::Result<()>
-    ensures { OnOk result (Appends (W.contents out.old) (W.contents out.new) (position_member read.entry.start)) }
-{
+    let end = u8::from(read.end_of_file);
     let start = read.start;
-    write!(out, " position={start}")
+    let octets = hex::encode_upper(alloc, read.content.octets)?;
+    format!(in alloc; "read-file-ack end={end} position={start} octets={octets}")
 }
 
 pub(crate) fn print_file_read<W: Write>(
@@ -128,7 +124,6 @@ pub(crate) fn print_file_read<W: Write>(
     ensures { OnOk result (Appends (W.contents out.old) (W.contents out.new) (file_read_line
         read.entry.end_of_file read.entry.start read.entry.content.octets.now)) }
 {
-    print_end_of_file(read.end_of_file, out)?;
-    print_read_start(read, out)?;
-    print_octets(alloc, "octets", read.content.octets, out)
+    let line = file_read_line(alloc, read)?;
+    write!(out, "{line}")
 }

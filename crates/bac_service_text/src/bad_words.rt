@@ -1,4 +1,4 @@
-//! Of words that are no request: which is bad, and what was wanted in its place.
+//! Words that do not form a request: which of them is bad, and what was expected in its place.
 ghost use Rattle.std.specs.Prelude.{◌≡◌, Some, is_some, map, IfOk};
 ghost use Rattle.std.specs.Option.{option_map};
 ghost use Rattle.bac_service_text.specs.BadWords.{fits, bad_priority, bad_behind, bad_values, bad_end, bad_rest, bad_among};
@@ -15,18 +15,18 @@ use bac_value::ObjectIdentifier;
 use bac_value_text::{number_in, object_in, signed_in};
 use std::alloc::{AllocError, Global};
 
-/// What a word of a request has to be.
+/// What is expected of a word of a request.
 #[derive(Clone, Copy, Debug, PartialEq, Eq)]
 pub enum Wanted {
     /// `read`, `write`, `append`, `put` or `get`: the first word.
     Verb,
-    /// An object by its type and instance.
+    /// An object, by its type and instance.
     Object,
-    /// A property by name or number, or an element of one.
+    /// A property by name or number, or one of its elements.
     Property,
     /// A value by its kind, or values in hexadecimal.
     Value,
-    /// Values that are data together; the word is the first of them.
+    /// Values that together form data; the word is the first of them.
     Data,
     /// A number from 1 to 16.
     Priority,
@@ -36,26 +36,26 @@ pub enum Wanted {
     Position,
     /// A number of 64 bits.
     Count,
-    /// No word.
+    /// No further word.
     End,
 }
 
 /// A bad word of a request.
 #[derive(Clone, Copy, Debug)]
 pub struct BadWord<'a> {
-    /// What was wanted.
+    /// What was expected.
     pub wanted: Wanted,
-    /// The word that stands there; None where the words end before it.
+    /// The word; None if the words end before it.
     pub word: Option<&'a [u8]>,
 }
 
-/// Any object: whether a word is a property doesn't depend on it.
+/// An arbitrary object: whether a word is a property does not depend on the object.
 const SOME_OBJECT: ObjectIdentifier = ObjectIdentifier {
     kind: 0,
     instance: 0,
 };
 
-/// Whether a word is values, by their kind or in hexadecimal.
+/// Whether a word means values, by their kind or in hexadecimal.
 fn are_values(alloc: Global, word: &[u8]) -> Result<bool, AllocError>
     ensures { IfOk result (λ b. b ≡ is_some (values_in_word word.now)) }
 {
@@ -66,7 +66,7 @@ fn are_values(alloc: Global, word: &[u8]) -> Result<bool, AllocError>
     }
 }
 
-/// Whether a word is octets in hexadecimal.
+/// Whether a word means octets in hexadecimal.
 fn are_octets(alloc: Global, word: &[u8]) -> Result<bool, AllocError>
     ensures { IfOk result (λ b. b ≡ is_some (octets_of word.now)) }
 {
@@ -77,7 +77,7 @@ fn are_octets(alloc: Global, word: &[u8]) -> Result<bool, AllocError>
     }
 }
 
-/// Whether a word is what was wanted.
+/// Whether a word is as expected.
 fn fits(alloc: Global, wanted: Wanted, word: &[u8]) -> Result<bool, AllocError>
     ensures { IfOk result (λ b. b ≡ fits wanted word.now) }
 {
@@ -94,7 +94,7 @@ fn fits(alloc: Global, wanted: Wanted, word: &[u8]) -> Result<bool, AllocError>
     }
 }
 
-/// That word, where another one was wanted.
+/// The fault of this word, where something else was expected.
 fn bad<'a>(wanted: Wanted, word: &'a [u8]) -> BadWord<'a>
     ensures { bad_word_view result ≡ (wanted, Some word.now) }
 {
@@ -104,7 +104,7 @@ fn bad<'a>(wanted: Wanted, word: &'a [u8]) -> BadWord<'a>
     }
 }
 
-/// Where a priority ends the values.
+/// The fault of values that a priority follows: the priority, or the values together.
 fn bad_priority<'a>(
     alloc: Global,
     first: &'a [u8],
@@ -119,7 +119,7 @@ fn bad_priority<'a>(
     }
 }
 
-/// Of the values behind the first one, and a priority.
+/// The fault of the words after the first value: further values, and perhaps a priority.
 fn bad_behind<'a>(
     alloc: Global,
     first: &'a [u8],
@@ -140,7 +140,7 @@ fn bad_behind<'a>(
     Ok(bad(Wanted::Data, first))
 }
 
-/// Of the values of a request to write.
+/// The fault of the values of a request to write.
 fn bad_values<'a>(alloc: Global, words: &[&'a [u8]]) -> Result<Option<BadWord<'a>>, AllocError>
     ensures { IfOk result (λ b. option_map bad_word_view b ≡ bad_values (map (λ w. w.now) words.now)) }
 {
@@ -157,7 +157,7 @@ fn bad_values<'a>(alloc: Global, words: &[&'a [u8]]) -> Result<Option<BadWord<'a
     }
 }
 
-/// Of the words behind a request.
+/// The fault of words after a complete request, if there are any.
 fn bad_end<'a>(words: &[&'a [u8]]) -> Option<BadWord<'a>>
     ensures { option_map bad_word_view result ≡ bad_end (map (λ w. w.now) words.now) }
 {
@@ -181,7 +181,7 @@ fn bad_rest<'a>(
     }
 }
 
-/// Of words that have to be these, one after the other, and of what stands behind them.
+/// The fault of words that have to match these expectations in order, or of the words after them.
 fn bad_among<'a>(
     alloc: Global,
     are_values: bool,
@@ -208,8 +208,9 @@ fn bad_among<'a>(
     bad_rest(alloc, are_values, words)
 }
 
-/// Of words that [`read_request_words`](crate::read_request_words) refuses as `NoForm`: the first bad one from the left, and what was wanted in its
-/// place. None where each word alone is right, and the file octets are too many. An Err says that memory was refused.
+/// The first bad word, from the left, of words that [`read_request_words`](crate::read_request_words) refuses as `NoForm`, and what was
+/// expected in its place. None if each word alone is good, but there are too many octets for a file. Returns an Err if an allocation
+/// fails.
 pub fn bad_word<'a>(alloc: Global, words: &[&'a [u8]]) -> Result<Option<BadWord<'a>>, AllocError>
     ensures { IfOk result (λ b. option_map bad_word_view b ≡ bad_word_of (map (λ w. w.now) words.now)) }
 {
@@ -225,7 +226,7 @@ pub fn bad_word<'a>(alloc: Global, words: &[&'a [u8]]) -> Result<Option<BadWord<
     }
 }
 
-/// What a word is called.
+/// The name of what is expected.
 fn role_name(wanted: Wanted) -> &'static str
     ensures { result.now ≡ role_name wanted }
 {
@@ -243,7 +244,7 @@ fn role_name(wanted: Wanted) -> &'static str
     }
 }
 
-/// What is wrong with a word.
+/// The text after a bad word.
 fn role_fault(wanted: Wanted) -> &'static str
     ensures { result.now ≡ role_fault wanted }
 {
@@ -261,7 +262,7 @@ fn role_fault(wanted: Wanted) -> &'static str
     }
 }
 
-/// What is wrong with a word that stands there.
+/// The text of the fault of a word.
 fn word_text(alloc: Global, wanted: Wanted, word: &[u8]) -> Result<Vec<u8>, AllocError>
     ensures { IfOk result (λ t. t.items ≡ bad_word_text (wanted, Some word.now)) }
 {
@@ -274,7 +275,8 @@ fn word_text(alloc: Global, wanted: Wanted, word: &[u8]) -> Result<Vec<u8>, Allo
 }
 
 impl<'a> BadWord<'a> {
-    /// What is wrong, as `property "presentvalue" is no name and no number`, or `property is missing`. An Err says that memory was refused.
+    /// The text of the fault: `property "presentvalue" is no name and no number`, or `property is missing`. Returns an Err if an allocation
+    /// fails.
     pub fn text(self, alloc: Global) -> Result<Vec<u8>, AllocError>
         ensures { IfOk result (λ t. t.items ≡ bad_word_text (bad_word_view self.entry)) }
     {

@@ -18,10 +18,8 @@ use crate::atomic_write_file::{
 };
 use crate::bad_words::Wanted;
 use crate::form_fault::FormFault;
-use crate::members::print_end;
-use crate::read_property::{
-    print_property_read, print_read_property, read_property_in, read_words, values_text,
-};
+use crate::members::print_reference;
+use crate::read_property::{print_property_read, read_property_in, read_words, values_text};
 use crate::reference::object_or_fault;
 use crate::write_property::{print_write_property, write_label, write_property_in, write_words};
 use bac_service::{
@@ -72,7 +70,7 @@ fn print_request_members<W: Write>(
         AnyRequest::ReadFile(read) => print_read_file(alloc, in_words, read, out),
         AnyRequest::WriteFile(write) => print_write_file(alloc, in_words, write, out),
         AnyRequest::ReadProperty(reference) => {
-            print_read_property(alloc, in_words, reference, out)
+            print_reference(alloc, in_words, "read-property", reference, out)
         }
         AnyRequest::WriteProperty(write) => print_write_property(alloc, in_words, write, out),
     }
@@ -89,7 +87,7 @@ pub fn print_request<W: Write>(
     ensures { OnOk result (AppendsLine (W.contents out.old) (W.contents out.new) (IsRequestText in_words (request_view request.entry))) }
 {
     print_request_members(alloc, in_words, request, out)?;
-    print_end(out)
+    out.write_all(b"\n")
 }
 
 // ---- what requests ask for
@@ -286,7 +284,7 @@ pub fn print_complex<W: Write>(
     ensures { OnOk result (AppendsLine (W.contents out.old) (W.contents out.new) (IsComplexText in_words (complex_view complex.entry))) }
 {
     print_complex_members(alloc, in_words, complex, out)?;
-    print_end(out)
+    out.write_all(b"\n")
 }
 
 // ---- what they name and carry

@@ -1,7 +1,8 @@
-//! Requests, replies and errors as text, in one place for `decode`, `explain`, charts, the log of `serve`, `ask` and scripts.
+//! The texts of requests, replies and errors, for `decode`, `explain`, charts, the log of `serve`, `ask` and scripts.
 //!
-//! Each service has a file: the words of its requests, read and printed, its labels for charts, its decoded lines and its answers. `dispatch` has every
-//! `match` over the services, so that another service touches its own file and that one, here and in specs/.
+//! Each service has a file with the words of its requests (printed and read), its labels for charts, its decoded lines and its replies.
+//! `dispatch` contains every `match` over the services, so a new service needs a file of its own and changes in `dispatch`, here and in
+//! specs/.
 #![tactic(auto)]
 
 mod answer;
@@ -26,7 +27,6 @@ pub use dispatch::{
     print_complex, print_request, property_read, read_request_words, reads_file, request_words,
 };
 pub use form_fault::FormFault;
-pub use members::{print_end, print_octets};
 pub use reasons::{abort_words, aborted_words, error_words, rejected_words};
 pub use reference::{object_or_fault, octets_or_fault};
 pub use service_data::{reply_data_words, request_data_label, request_data_words, segments_text};

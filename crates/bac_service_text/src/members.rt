@@ -4,7 +4,7 @@ ghost use Rattle.std.specs.Option.{option_map};
 ghost use Rattle.bac_value.specs.Views.{object_identifier_view};
 ghost use Rattle.std.specs.Io.KnownBytes.{Appends};
 ghost use Rattle.bac_service.specs.Views.{property_reference_view};
-ghost use Rattle.bac_service_text.specs.Members.{AppendsText, IsValuesMember, line_end, number_text, object_member, octets_text, optional, property_member, reference_line};
+ghost use Rattle.bac_service_text.specs.Members.{AppendsText, IsValuesMember, number_text, object_member, octets_text, optional, property_member, reference_line};
 
 use bac_service::PropertyReference;
 use bac_value::{Data, ObjectIdentifier};
@@ -14,7 +14,7 @@ use std::io;
 use std::io::{ErrorKind, Write};
 
 /// Prints octets in hexadecimal, in capitals, after a name: ` name=0A1B`.
-pub fn print_octets<W: Write>(
+pub(crate) fn print_octets<W: Write>(
     alloc: Global,
     name: &str,
     octets: &[u8],
@@ -40,19 +40,6 @@ pub(crate) fn print_optional<W: Write>(
     }
 }
 
-/// An object by its name.
-fn print_object_name<W: Write>(
-    alloc: Global,
-    object: ObjectIdentifier,
-    out: &mut W,
-) -> io::Result<()>
-    ensures { OnOk result (Appends (W.contents out.old) (W.contents out.new) (object_member true (object_identifier_view object))) }
-{
-    let name = object_text(alloc, object)?;
-    out.write_all(b" object=")?;
-    out.write_all(name.as_slice())
-}
-
 /// An object, by its type and its instance: by number, or in words.
 pub(crate) fn print_object<W: Write>(
     alloc: Global,
@@ -63,7 +50,9 @@ pub(crate) fn print_object<W: Write>(
     ensures { OnOk result (Appends (W.contents out.old) (W.contents out.new) (object_member in_words (object_identifier_view object))) }
 {
     if in_words {
-        return print_object_name(alloc, object, out);
+        let name = object_text(alloc, object)?;
+        out.write_all(b" object=")?;
+        return out.write_all(name.as_slice());
     }
     let kind = object.kind;
     let instance = object.instance;
@@ -111,13 +100,6 @@ pub(crate) fn print_values<W: Write>(
     } else {
         print_octets(alloc, "values", values.octets, out)
     }
-}
-
-/// Ends a line.
-pub fn print_end<W: Write>(out: &mut W) -> io::Result<()>
-    ensures { OnOk result (Appends (W.contents out.old) (W.contents out.new) line_end) }
-{
-    out.write_all(b"\n")
 }
 
 /// A property of an object, after the name of the line.

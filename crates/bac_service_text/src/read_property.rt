@@ -1,10 +1,9 @@
 //! ReadProperty as text (clause 15.5).
 ghost use Rattle.std.specs.Prelude.{◌≡◌, IfOk, OnOk};
-ghost use Rattle.std.specs.Io.KnownBytes.{Appends};
 ghost use Rattle.bac_service.specs.Views.{owned_request_view, property_reference_view};
 ghost use Rattle.bac_service_text.specs.Members.{AppendsText};
 ghost use Rattle.bac_service_text.specs.Reading.{Reads};
-ghost use Rattle.bac_service_text.specs.ReadProperty.{IsPropertyReadLine, read_of, read_property_line, read_words, values_text};
+ghost use Rattle.bac_service_text.specs.ReadProperty.{IsPropertyReadLine, read_of, read_words, values_text};
 ghost use Rattle.bac_value.specs.Views.{object_identifier_view};
 
 use crate::form_fault::FormFault;
@@ -23,17 +22,6 @@ pub(crate) fn read_words(alloc: Global, reference: PropertyReference) -> Result<
     ensures { IfOk result (λ t. t.items ≡ read_words (property_reference_view reference)) }
 {
     reference_words(alloc, b"read ", reference)
-}
-
-pub(crate) fn print_read_property<W: Write>(
-    alloc: Global,
-    in_words: bool,
-    reference: PropertyReference,
-    out: &mut W,
-) -> io::Result<()>
-    ensures { OnOk result (Appends (W.contents out.old) (W.contents out.new) (read_property_line in_words (property_reference_view reference))) }
-{
-    print_reference(alloc, in_words, "read-property", reference, out)
 }
 
 /// The request that `read OBJECT PROPERTY` means.

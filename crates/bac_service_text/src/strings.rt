@@ -26,13 +26,6 @@ fn string_at(run: &[u8]) -> io::Result<(&[u8], &[u8])>
     }
 }
 
-fn print_more<W: Write>(alloc: Global, string: &[u8], out: &mut W) -> io::Result<()>
-    ensures { OnOk result (Appends (W.contents out.old) (W.contents out.new) (codes "," ++ encode_upper string.now)) }
-{
-    let text = hex::encode_upper(alloc, string)?;
-    write!(out, ",{text}")
-}
-
 fn print_more_strings<W: Write>(alloc: Global, run: &[u8], out: &mut W) -> io::Result<()>
     ensures { OnOk result ((strings : List (List ℕ)) × (AreTheStrings strings run.now
         × Appends (W.contents out.old) (W.contents out.new) (more_strings_text strings))) }
@@ -40,7 +33,8 @@ fn print_more_strings<W: Write>(alloc: Global, run: &[u8], out: &mut W) -> io::R
     let mut rest = run;
     while !rest.is_empty() {
         let (string, next) = string_at(rest)?;
-        print_more(alloc, string, out)?;
+        let text = hex::encode_upper(alloc, string)?;
+        write!(out, ",{text}")?;
         rest = next;
     }
     Ok(())

@@ -20,17 +20,14 @@ abbrev pub verdicts_text : ℕ → List LineVerdict → List ℕ
 verdicts_text before [] = []
 verdicts_text before (verdict ∷ verdicts) = verdict_text (before + 1) verdict ++ verdicts_text (before + 1) verdicts
 
--- how many lines there are, and how many of them are good and bad
-abbrev pub counts_text : (lines good bad : ℕ) → List ℕ
-counts_text lines good bad = codes "lines=" ++ (decimal lines ++ (codes " good=" ++ (decimal good ++ (codes " bad=" ++ decimal bad))))
-
--- where notes are taken, the other lines are notes
-abbrev pub notes_text : (notes : Bool) → (count : ℕ) → List ℕ
-notes_text true count = codes " notes=" ++ decimal count
-notes_text false count = []
-
+-- how many lines there are, and how many of them are good and bad; where notes are taken, the other lines are notes
 abbrev pub tally_text : (notes : Bool) → (lines good bad : ℕ) → List ℕ
-tally_text notes lines good bad = counts_text lines good bad ++ (notes_text notes (lines - (good + bad)) ++ line_end)
+tally_text true lines good bad =
+    (codes "lines=" ++ (decimal lines ++ (codes " good=" ++ (decimal good ++ (codes " bad=" ++ (decimal bad
+    ++ (codes " notes=" ++ decimal (lines - (good + bad)))))))))
+    ++ line_end
+tally_text false lines good bad =
+    (codes "lines=" ++ (decimal lines ++ (codes " good=" ++ (decimal good ++ (codes " bad=" ++ decimal bad))))) ++ line_end
 
 -- what is printed of a capture, and the status: each line's verdict, and then the counts
 pub record IsChecked (notes : Bool) (capture : List ℕ) (old new : Option (List ℕ)) (status : Status) : Type 0 where

@@ -1,5 +1,5 @@
 -- The exit statuses of the program.
-use Rattle.std.specs.Prelude.{◌≡◌, ◌<◌, ℕ}
+use Rattle.std.specs.Prelude.{◌≡◌, ◌<◌, ℕ, ⊤}
 use Rattle.bac_text.specs.declared.status.Status.{Status}
 use Rattle.bac_text.specs.declared.status.Status.TheVariants.{Done, Faulty, CommandLine, Output, Memory}
 
@@ -25,6 +25,14 @@ IsStop Faulty = ⊥
 IsStop CommandLine = Unit {0}
 IsStop Output = Unit {0}
 IsStop Memory = Unit {0}
+
+-- a command that ends with 0 or 1 keeps this promise; the other statuses promise nothing
+abbrev pub IfEnded : Status → (Promise : Type 0) → Type 0
+IfEnded Done Promise = Promise
+IfEnded Faulty Promise = Promise
+IfEnded CommandLine Promise = ⊤
+IfEnded Output Promise = ⊤
+IfEnded Memory Promise = ⊤
 
 -- what the status says of a capture with so many bad lines
 abbrev pub IsTallied : (bad : ℕ) → Status → Type 0

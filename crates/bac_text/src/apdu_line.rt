@@ -1,234 +1,124 @@
 //! The line of an APDU.
-ghost use Rattle.std.specs.Prelude.{OnOk, false};
+ghost use Rattle.std.specs.Prelude.{◌≡◌, IfOk, OnOk, string_bytes};
 ghost use Rattle.std.specs.Option.{option_map};
 ghost use Rattle.std.specs.Io.KnownBytes.{Appends};
-ghost use Rattle.bac_apdu.specs.Views.{limits_view, segment_view, apdu_view};
-ghost use Rattle.bac_text.specs.Texts.{optional, segment_text, service_text, request_head_text, segment_ack_head_text};
-ghost use Rattle.bac_text.specs.Texts.{segment_ack_text, unconfirmed_text, simple_ack_text, complex_ack_head_text, body_text};
-ghost use Rattle.bac_text.specs.Texts.{error_text, abort_text, reject_text, plain_members_text, members_text, apdu_text};
+ghost use Rattle.bac_apdu.specs.Views.{segment_view, apdu_view};
+ghost use Rattle.bac_text.specs.Texts.{optional, abort_end, apdu_text, body_text, error_end, members_text, plain_members_text, reject_end, segment_text};
 
-use bac_apdu::{Apdu, Limits, Segment, Window};
-use bac_service_text::{print_end, print_octets};
+use bac_apdu::{Apdu, Segment};
 use bac_value_text::{abort_text, error_text, reject_text};
-use std::alloc::Global;
+use std::alloc::{AllocError, Global};
 use std::io;
 use std::io::Write;
 
-/// What a segment says of itself, where the APDU is one.
-fn print_segment<W: Write>(segment: Option<Segment>, out: &mut W) -> io::Result<()>
-    ensures { OnOk result (Appends (W.contents out.old) (W.contents out.new) (optional segment_text (option_map segment_view segment))) }
+/// The numbers of a segment; empty unless the APDU is one.
+fn segment_text(alloc: Global, segment: Option<Segment>) -> Result<String, AllocError>
+    ensures { IfOk result (λ t. string_bytes t ≡ optional segment_text (option_map segment_view segment)) }
 {
     let Some(segment) = segment else {
-        return Ok(());
+        return Ok(String::new(alloc));
     };
     let number = segment.number;
     let window = segment.window.size;
     let more = u8::from(segment.more);
-    write!(out, " seq={number} win={window} more={more}")
+    format!(in alloc; " seq={number} win={window} more={more}")
 }
 
-/// The service choice and the service data.
-fn print_service<W: Write>(alloc: Global, choice: u8, service: &[u8], out: &mut W) -> io::Result<()>
-    ensures { OnOk result (Appends (W.contents out.old) (W.contents out.new) (service_text choice service.now)) }
-{
-    write!(out, " choice={choice}")?;
-    print_octets(alloc, "data", service, out)
-}
-
-fn print_request_head<W: Write>(limits: Limits, invoke_id: u8, out: &mut W) -> io::Result<()>
-    ensures { OnOk result (Appends (W.contents out.old) (W.contents out.new) (request_head_text (limits_view limits) invoke_id)) }
-{
-    let takes = u8::from(limits.takes_segments);
-    let segments = limits.max_segments;
-    let octets = limits.max_apdu;
-    write!(
-        out,
-        "confirmed-request sa={takes} segs={segments} apdu={octets} id={invoke_id}"
-    )
-}
-
-fn print_segment_ack_head<W: Write>(
-    nak: bool,
-    server: bool,
-    invoke_id: u8,
-    out: &mut W,
-) -> io::Result<()>
-    ensures { OnOk result (Appends (W.contents out.old) (W.contents out.new) (segment_ack_head_text nak server invoke_id)) }
-{
-    let negative = u8::from(nak);
-    let sender = u8::from(server);
-    write!(
-        out,
-        "segment-ack nak={negative} srv={sender} id={invoke_id}"
-    )
-}
-
-fn print_segment_ack<W: Write>(
-    nak: bool,
-    server: bool,
-    invoke_id: u8,
-    number: u8,
-    window: Window,
-    out: &mut W,
-) -> io::Result<()>
-    ensures { OnOk result (Appends (W.contents out.old) (W.contents out.new)
-        (segment_ack_text server invoke_id (record { nak = nak; number = number; window = window.size }))) }
-{
-    print_segment_ack_head(nak, server, invoke_id, out)?;
-    let window = window.size;
-    write!(out, " seq={number} win={window}")
-}
-
-fn print_unconfirmed<W: Write>(
-    alloc: Global,
-    choice: u8,
-    service: &[u8],
-    out: &mut W,
-) -> io::Result<()>
-    ensures { OnOk result (Appends (W.contents out.old) (W.contents out.new) (unconfirmed_text choice service.now)) }
-{
-    out.write_all(b"unconfirmed-request")?;
-    print_service(alloc, choice, service, out)
-}
-
-fn print_simple_ack<W: Write>(invoke_id: u8, choice: u8, out: &mut W) -> io::Result<()>
-    ensures { OnOk result (Appends (W.contents out.old) (W.contents out.new) (simple_ack_text invoke_id choice)) }
-{
-    write!(out, "simple-ack id={invoke_id} choice={choice}")
-}
-
-fn print_complex_ack_head<W: Write>(invoke_id: u8, out: &mut W) -> io::Result<()>
-    ensures { OnOk result (Appends (W.contents out.old) (W.contents out.new) (complex_ack_head_text invoke_id)) }
-{
-    write!(out, "complex-ack id={invoke_id}")
-}
-
-/// A segment's place, where the APDU is one, and the service data.
-fn print_body<W: Write>(
+/// The end of the line of an APDU with service data: the numbers of a segment, the service choice and the service data.
+fn body_text(
     alloc: Global,
     segment: Option<Segment>,
     choice: u8,
     service: &[u8],
-    out: &mut W,
-) -> io::Result<()>
-    ensures { OnOk result (Appends (W.contents out.old) (W.contents out.new) (body_text (option_map segment_view segment) choice service.now)) }
+) -> Result<String, AllocError>
+    ensures { IfOk result (λ t. string_bytes t ≡ body_text (option_map segment_view segment) choice service.now) }
 {
-    print_segment(segment, out)?;
-    print_service(alloc, choice, service, out)
+    let segment = segment_text(alloc, segment)?;
+    let data = hex::encode_upper(alloc, service)?;
+    format!(in alloc; "{segment} choice={choice} data={data}")
 }
 
-fn print_error_numbers<W: Write>(
-    invoke_id: u8,
-    choice: u8,
-    class: u32,
-    code: u32,
-    out: &mut W,
-) -> io::Result<()>
-    ensures { OnOk result (Appends (W.contents out.old) (W.contents out.new) (error_text false invoke_id choice class code)) }
+/// The class and the code of an Error, by number or by name.
+fn error_end(alloc: Global, in_words: bool, class: u32, code: u32) -> Result<String, AllocError>
+    ensures { IfOk result (λ t. string_bytes t ≡ error_end in_words class code) }
 {
-    write!(
-        out,
-        "error id={invoke_id} choice={choice} class={class} code={code}"
-    )
-}
-
-fn print_error<W: Write>(
-    alloc: Global,
-    in_words: bool,
-    invoke_id: u8,
-    choice: u8,
-    class: u32,
-    code: u32,
-    out: &mut W,
-) -> io::Result<()>
-    ensures { OnOk result (Appends (W.contents out.old) (W.contents out.new) (error_text in_words invoke_id choice class code)) }
-{
-    if !in_words {
-        return print_error_numbers(invoke_id, choice, class, code, out);
+    if in_words {
+        return error_text(alloc, class, code);
     }
-    let error = error_text(alloc, class, code)?;
-    write!(out, "error id={invoke_id} choice={choice} {error}")
+    format!(in alloc; "class={class} code={code}")
 }
 
-fn print_abort<W: Write>(
-    alloc: Global,
-    in_words: bool,
-    server: bool,
-    invoke_id: u8,
-    reason: u8,
-    out: &mut W,
-) -> io::Result<()>
-    ensures { OnOk result (Appends (W.contents out.old) (W.contents out.new) (abort_text in_words server invoke_id reason)) }
+/// The reason of a Reject, by number or by name.
+fn reject_end(alloc: Global, in_words: bool, reason: u8) -> Result<String, AllocError>
+    ensures { IfOk result (λ t. string_bytes t ≡ reject_end in_words reason) }
 {
-    let server = u8::from(server);
-    if !in_words {
-        return write!(out, "abort srv={server} id={invoke_id} reason={reason}");
+    if in_words {
+        return reject_text(alloc, reason);
     }
-    let reason = abort_text(alloc, reason)?;
-    write!(out, "abort srv={server} id={invoke_id} {reason}")
+    format!(in alloc; "reason={reason}")
 }
 
-fn print_reject<W: Write>(
-    alloc: Global,
-    in_words: bool,
-    invoke_id: u8,
-    reason: u8,
-    out: &mut W,
-) -> io::Result<()>
-    ensures { OnOk result (Appends (W.contents out.old) (W.contents out.new) (reject_text in_words invoke_id reason)) }
+/// The reason of an Abort, by number or by name.
+fn abort_end(alloc: Global, in_words: bool, reason: u8) -> Result<String, AllocError>
+    ensures { IfOk result (λ t. string_bytes t ≡ abort_end in_words reason) }
 {
-    if !in_words {
-        return write!(out, "reject id={invoke_id} reason={reason}");
+    if in_words {
+        return abort_text(alloc, reason);
     }
-    let reason = reject_text(alloc, reason)?;
-    write!(out, "reject id={invoke_id} {reason}")
+    format!(in alloc; "reason={reason}")
 }
 
-/// The members of an APDU without service data: an acknowledgement, an Error, a Reject or an Abort. Others print nothing.
-fn print_plain_members<W: Write>(
-    alloc: Global,
-    in_words: bool,
-    apdu: Apdu<'_>,
-    out: &mut W,
-) -> io::Result<()>
-    ensures { OnOk result (Appends (W.contents out.old) (W.contents out.new) (plain_members_text in_words (apdu_view apdu.entry))) }
+/// An APDU without service data, a SimpleACK, a SegmentACK, an Error, a Reject or an Abort; empty for other APDUs.
+fn plain_text(alloc: Global, in_words: bool, apdu: Apdu<'_>) -> Result<String, AllocError>
+    ensures { IfOk result (λ t. string_bytes t ≡ plain_members_text in_words (apdu_view apdu.entry)) }
 {
     match apdu {
-        Apdu::SimpleAck { invoke_id, choice } => print_simple_ack(invoke_id, choice, out),
+        Apdu::SimpleAck { invoke_id, choice } => {
+            format!(in alloc; "simple-ack id={invoke_id} choice={choice}")
+        }
         Apdu::SegmentAck {
             nak,
             server,
             invoke_id,
             number,
             window,
-        } => print_segment_ack(nak, server, invoke_id, number, window, out),
+        } => {
+            let (nak, server, window) = (u8::from(nak), u8::from(server), window.size);
+            format!(in alloc;
+                "segment-ack nak={nak} srv={server} id={invoke_id} seq={number} win={window}"
+            )
+        }
         Apdu::Error {
             invoke_id,
             choice,
             class,
             code,
-        } => print_error(alloc, in_words, invoke_id, choice, class, code, out),
+        } => {
+            let error = error_end(alloc, in_words, class, code)?;
+            format!(in alloc; "error id={invoke_id} choice={choice} {error}")
+        }
         Apdu::Reject { invoke_id, reason } => {
-            print_reject(alloc, in_words, invoke_id, reason, out)
+            let reason = reject_end(alloc, in_words, reason)?;
+            format!(in alloc; "reject id={invoke_id} {reason}")
         }
         Apdu::Abort {
             server,
             invoke_id,
             reason,
-        } => print_abort(alloc, in_words, server, invoke_id, reason, out),
+        } => {
+            let server = u8::from(server);
+            let reason = abort_end(alloc, in_words, reason)?;
+            format!(in alloc; "abort srv={server} id={invoke_id} {reason}")
+        }
         Apdu::ConfirmedRequest { .. } | Apdu::UnconfirmedRequest { .. } | Apdu::ComplexAck { .. } =>
-            Ok(()),
+            Ok(String::new(alloc)),
     }
 }
 
+/// An APDU: its kind and its members.
 #[tactic(auto, unfolding(crate::specs::Texts::members_text))]
-fn print_members<W: Write>(
-    alloc: Global,
-    in_words: bool,
-    apdu: Apdu<'_>,
-    out: &mut W,
-) -> io::Result<()>
-    ensures { OnOk result (Appends (W.contents out.old) (W.contents out.new) (members_text in_words (apdu_view apdu.entry))) }
+fn members_text(alloc: Global, in_words: bool, apdu: Apdu<'_>) -> Result<String, AllocError>
+    ensures { IfOk result (λ t. string_bytes t ≡ members_text in_words (apdu_view apdu.entry)) }
 {
     match apdu {
         Apdu::ConfirmedRequest {
@@ -238,11 +128,16 @@ fn print_members<W: Write>(
             choice,
             service,
         } => {
-            print_request_head(limits, invoke_id, out)?;
-            print_body(alloc, segment, choice, service, out)
+            let takes = u8::from(limits.takes_segments);
+            let (segments, octets) = (limits.max_segments, limits.max_apdu);
+            let body = body_text(alloc, segment, choice, service)?;
+            format!(in alloc;
+                "confirmed-request sa={takes} segs={segments} apdu={octets} id={invoke_id}{body}"
+            )
         }
         Apdu::UnconfirmedRequest { choice, service } => {
-            print_unconfirmed(alloc, choice, service, out)
+            let body = body_text(alloc, None, choice, service)?;
+            format!(in alloc; "unconfirmed-request{body}")
         }
         Apdu::ComplexAck {
             invoke_id,
@@ -250,14 +145,15 @@ fn print_members<W: Write>(
             choice,
             service,
         } => {
-            print_complex_ack_head(invoke_id, out)?;
-            print_body(alloc, segment, choice, service, out)
+            let body = body_text(alloc, segment, choice, service)?;
+            format!(in alloc; "complex-ack id={invoke_id}{body}")
         }
-        _ => print_plain_members(alloc, in_words, apdu, out),
+        _ => plain_text(alloc, in_words, apdu),
     }
 }
 
-/// Prints an APDU: its kind and its members, as docs/COMMANDS.md ("Decode") lists them, an Error and the reasons of a Reject and an Abort in words or not.
+/// Prints an APDU: its kind and its members, as docs/COMMANDS.md ("Decode") lists them; the class and the code of an Error and the
+/// reasons of a Reject and an Abort by number or in words.
 #[tactic(auto, unfolding(crate::specs::Texts::apdu_text))]
 pub(crate) fn print_apdu<W: Write>(
     alloc: Global,
@@ -267,6 +163,6 @@ pub(crate) fn print_apdu<W: Write>(
 ) -> io::Result<()>
     ensures { OnOk result (Appends (W.contents out.old) (W.contents out.new) (apdu_text in_words (apdu_view apdu.entry))) }
 {
-    print_members(alloc, in_words, apdu, out)?;
-    print_end(out)
+    let members = members_text(alloc, in_words, apdu)?;
+    writeln!(out, "{members}")
 }

@@ -2,33 +2,23 @@
 ghost use Rattle.std.specs.Prelude.{◌≡◌, ◌+◌, ◌-◌, ◌^◌, ◌<◌, IfOk, IfSome, OnOk};
 ghost use Rattle.std.specs.Option.{option_map};
 ghost use Rattle.std.specs.Io.KnownBytes.{Appends};
-ghost use Rattle.bac_text.specs.Checked.{verdict_text, counts_text, notes_text, tally_text, IsReportAs, IsReportOf};
+ghost use Rattle.bac_text.specs.Checked.{verdict_text, tally_text, IsReportAs, IsReportOf};
 ghost use Rattle.bac_text.specs.Checking.{count_of, IsCounted, IsStep, AreCounted};
 ghost use Rattle.bac_text.specs.Capture.{capture_at};
 ghost use Rattle.bac_text.specs.Notes.{read_of};
 ghost use Rattle.bac_text.specs.Lines.{short_capture_at, IsJudged};
-ghost use Rattle.bac_text.specs.Statuses.{IsStop};
-ghost use Rattle.bac_text.specs.Stops.{IsStopBy, IsStopFor};
 
 use crate::capture::read_into;
+use crate::error::{CheckError, stopped};
 use crate::fault::{LineFault, LineVerdict};
 use crate::layers::check_datagram;
 use crate::lines::{LINE_LIMIT, next_line};
 use crate::notes::read_of;
-use crate::status::{Status, input_failed, no_memory, output_failed};
+use crate::status::Status;
 use crate::tally::Tally;
-use bac_service_text::print_end;
 use std::alloc::{AllocError, Global};
 use std::io;
 use std::io::{BufRead, ErrorKind, Write};
-
-/// Why checking stopped.
-#[derive(Debug, Drop)]
-pub(crate) enum CheckError {
-    Input(io::Error),
-    Output(io::Error),
-    Memory,
-}
 
 /// What a line is whose octets are not too many, where the greatest moment so far is `latest`; and the greatest moment from here on.
 /// Its datagram stands in `datagram`, whose memory serves each line.
@@ -77,8 +67,7 @@ fn print_verdict<W: Write>(number: u64, verdict: LineVerdict, out: &mut W) -> io
     let LineVerdict::Bad(fault) = verdict else {
         return Ok(());
     };
-    write!(out, "line {number}: {fault}")?;
-    print_end(out)
+    writeln!(out, "line {number}: {fault}")
 }
 
 /// Judges a line, counts it, and prints its fault where it has one.
@@ -149,31 +138,19 @@ fn check_lines<R: BufRead, W: Write>(
     Ok(tally)
 }
 
-fn print_counts<W: Write>(tally: Tally, out: &mut W) -> io::Result<()>
-    ensures { OnOk result (Appends (W.contents out.old) (W.contents out.new) (counts_text tally.lines tally.good tally.bad)) }
+/// Prints how many lines there are, and how many of them are good, bad and, where notes are taken, notes.
+fn print_tally<W: Write>(notes: bool, tally: Tally, out: &mut W) -> io::Result<()>
+    ensures { OnOk result (Appends (W.contents out.old) (W.contents out.new) (tally_text notes tally.lines tally.good tally.bad)) }
 {
     let lines = tally.lines;
     let good = tally.good;
     let bad = tally.bad;
-    write!(out, "lines={lines} good={good} bad={bad}")
-}
-
-fn print_notes<W: Write>(notes: bool, count: u64, out: &mut W) -> io::Result<()>
-    ensures { OnOk result (Appends (W.contents out.old) (W.contents out.new) (notes_text notes count)) }
-{
     if notes {
-        write!(out, " notes={count}")
+        let others = lines - (good + bad);
+        writeln!(out, "lines={lines} good={good} bad={bad} notes={others}")?;
     } else {
-        Ok(())
+        writeln!(out, "lines={lines} good={good} bad={bad}")?;
     }
-}
-
-fn print_tally<W: Write>(notes: bool, tally: Tally, out: &mut W) -> io::Result<()>
-    ensures { OnOk result (Appends (W.contents out.old) (W.contents out.new) (tally_text notes tally.lines tally.good tally.bad)) }
-{
-    print_counts(tally, out)?;
-    print_notes(notes, tally.lines - (tally.good + tally.bad), out)?;
-    print_end(out)?;
     out.flush()
 }
 
@@ -190,40 +167,6 @@ fn check_all<R: BufRead, W: Write>(
         Ok(()) => Ok(tally.status()),
         Err(error) => Err(CheckError::Output(error)),
     }
-}
-
-/// Complains of why checking stopped, where the output could be flushed.
-fn stopped_by<E: Write>(error: CheckError, err: &mut E) -> Status
-    ensures why { IsStopBy error result }
-    ensures stop { IsStop result }
-{
-    match error {
-        CheckError::Input(error) => input_failed(err, &error),
-        CheckError::Output(error) => output_failed(err, &error),
-        CheckError::Memory => no_memory(err),
-    }
-}
-
-/// Complains of why checking stopped, or of the output that could not be flushed then.
-fn stopped_so<E: Write>(error: CheckError, flushed: io::Result<()>, err: &mut E) -> Status
-    ensures why { IsStopFor flushed error result }
-    ensures stop { IsStop result }
-{
-    match flushed {
-        Ok(()) => stopped_by(error, err),
-        Err(failed) => match error {
-            CheckError::Output(error) => output_failed(err, &error),
-            CheckError::Input(_) | CheckError::Memory => output_failed(err, &failed),
-        },
-    }
-}
-
-/// Why checking stopped, as a status. What was printed before goes out as far as it can.
-pub(crate) fn stopped<O: Write, E: Write>(error: CheckError, out: &mut O, err: &mut E) -> Status
-    ensures { IsStop result }
-{
-    let flushed = out.flush();
-    stopped_so(error, flushed, err)
 }
 
 /// Checks each line of a capture: prints each bad line's number and fault, and at the end how many lines are good and bad.

@@ -7,13 +7,12 @@ ghost use Rattle.bac_text.specs.Groups.{octets_in};
 ghost use Rattle.bac_text.specs.Notes.{read_of};
 ghost use Rattle.bac_text.specs.Texts.{AppendsText};
 
-use crate::check::{CheckError, stopped};
 use crate::decode::{show_datagram, shown_status};
+use crate::error::{CheckError, stopped};
 use crate::groups::octets_in;
 use crate::lines::{LINE_LIMIT, next_line};
 use crate::notes::read_of;
 use crate::status::Status;
-use bac_service_text::print_end;
 use std::alloc::Global;
 use std::io;
 use std::io::{BufRead, ErrorKind, Write};
@@ -29,8 +28,7 @@ pub(crate) struct Shown {
 fn print_bad_line<W: Write>(number: u64, out: &mut W) -> io::Result<()>
     ensures { OnOk result (Appends (W.contents out.old) (W.contents out.new) (bad_line number)) }
 {
-    write!(out, "line {number}: bad hex")?;
-    print_end(out)
+    writeln!(out, "line {number}: bad hex")
 }
 
 /// Prints what is to be read of a line whose octets are not too many. Answers whether it has no fault.

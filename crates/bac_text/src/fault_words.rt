@@ -4,12 +4,10 @@ ghost use Rattle.std.specs.Io.KnownBytes.{Appends};
 ghost use Rattle.bac_value_text.specs.Reasons.{reject_text};
 ghost use Rattle.bac_text.specs.Decoded.{fault_line};
 ghost use Rattle.bac_text.specs.Faults.{apdu_reason, bvll_words, fault_because, fault_words, frame_reason, function_digits, function_reason, kind_reason};
-ghost use Rattle.bac_text.specs.Faults.{printed_fault};
 
 use crate::fault::LayerFault;
 use bac_apdu::ApduFault;
 use bac_npdu::FrameFault;
-use bac_service_text::print_end;
 use bac_value::FaultKind;
 use bac_value_text::reject_text;
 use std::alloc::{AllocError, Global};
@@ -121,23 +119,7 @@ fn fault_words(alloc: Global, datagram: &[u8], fault: LayerFault) -> Result<Stri
     }
 }
 
-fn print_fault_text<W: Write>(
-    alloc: Global,
-    in_words: bool,
-    datagram: &[u8],
-    fault: LayerFault,
-    out: &mut W,
-) -> io::Result<()>
-    ensures { OnOk result (Appends (W.contents out.old) (W.contents out.new) (printed_fault in_words datagram.now fault)) }
-{
-    if !in_words {
-        return write!(out, "{fault}");
-    }
-    let words = fault_words(alloc, datagram, fault)?;
-    write!(out, "{words}")
-}
-
-/// Prints the line of a datagram's fault, in words or not.
+/// Prints the line of a datagram's fault, by number or in words.
 pub(crate) fn print_fault<W: Write>(
     alloc: Global,
     in_words: bool,
@@ -147,6 +129,9 @@ pub(crate) fn print_fault<W: Write>(
 ) -> io::Result<()>
     ensures { OnOk result (Appends (W.contents out.old) (W.contents out.new) (fault_line in_words datagram.now fault)) }
 {
-    print_fault_text(alloc, in_words, datagram, fault, out)?;
-    print_end(out)
+    if !in_words {
+        return writeln!(out, "{fault}");
+    }
+    let words = fault_words(alloc, datagram, fault)?;
+    writeln!(out, "{words}")
 }

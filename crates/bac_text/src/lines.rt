@@ -1,5 +1,7 @@
 //! The lines of an input, one after the other, in memory that does not grow with it.
-ghost use Rattle.std.specs.Prelude.{◌≡◌, ◌≤◌, ◌+◌, ◌++◌, length, take, IfOk, OnOk, OnErr};
+ghost use Rattle.std.specs.Prelude.{◌≡◌, ◌≤◌, ◌+◌, ◌++◌, ◌↔◌, true, length, take, IfOk, OnOk};
+ghost use Rattle.std.specs.IoError.{error_kind};
+ghost use Rattle.std.specs.declared.io.ErrorKind.TheVariants.{Interrupted};
 ghost use Rattle.std.specs.List.{position};
 ghost use Rattle.std.specs.Io.KnownBytes.{Keeps};
 ghost use Rattle.bac_text.specs.Lines.{LINE_LIMIT, is_line_end, line_in};
@@ -41,7 +43,10 @@ fn keep(line: &mut Vec<u8>, octets: &[u8]) -> io::Result<()>
     Ok(())
 }
 
-fn is_interrupted(error: &io::Error) -> bool {
+/// Whether a signal interrupted a read, which may then be tried again: the error is of the kind `Interrupted`, and no other.
+pub fn is_interrupted(error: &io::Error) -> bool
+    ensures { result ≡ true ↔ error_kind error.now ≡ Interrupted }
+{
     error.kind() == ErrorKind::Interrupted
 }
 

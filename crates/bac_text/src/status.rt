@@ -1,8 +1,8 @@
 //! How a command ended, and complaints.
 ghost use Rattle.std.specs.Prelude.{◌≡◌, ◌≢◌};
-ghost use Rattle.bac_text.specs.Statuses.{exit_status, IsFailure, IsStop};
+ghost use Rattle.bac_text.specs.Statuses.{exit_status, IsFailure};
 ghost use Rattle.std.specs.IoError.{error_kind};
-ghost use Rattle.bac_text.specs.declared.status.Status.TheVariants.{CommandLine, Memory, Output};
+ghost use Rattle.bac_text.specs.declared.status.Status.TheVariants.{Memory, Output};
 
 use std::io;
 use std::io::{ErrorKind, Write};
@@ -44,18 +44,6 @@ pub fn no_memory<E: Write>(err: &mut E) -> Status
     ensures { result ≡ Memory }
 {
     complain(err, "no memory", Status::Memory)
-}
-
-/// The status of a command whose input cannot be read: out of memory has a status of its own.
-pub(crate) fn input_failed<E: Write>(err: &mut E, error: &io::Error) -> Status
-    ensures memory { error_kind error.now ≡ ErrorKind.OutOfMemory → result ≡ Memory }
-    ensures input { error_kind error.now ≢ ErrorKind.OutOfMemory → result ≡ CommandLine }
-    ensures stop { IsStop result }
-{
-    match error.kind() {
-        ErrorKind::OutOfMemory => no_memory(err),
-        _ => complain(err, "cannot read", Status::CommandLine),
-    }
 }
 
 /// The status of a command whose output failed: out of memory has a status of its own.

@@ -1,16 +1,16 @@
-//! Why checking stopped, and the messages for it.
-ghost use Rattle.bac_capture.specs.Stops.{IsStopBy, IsStopFor};
+//! Why a pass over a capture stopped, and the messages for it.
+ghost use Rattle.bac_text.specs.Stops.{IsStopBy, IsStopFor};
 ghost use Rattle.bac_text.specs.Statuses.{IsStop, IsFailure};
 ghost use Rattle.std.specs.Prelude.{◌≡◌, ◌≢◌};
 ghost use Rattle.std.specs.IoError.{error_kind};
 ghost use Rattle.bac_text.specs.declared.status.Status.TheVariants.{CommandLine, Memory};
 
-use bac_text::{Status, complain, no_memory, output_failed};
+use crate::status::{Status, complain, no_memory, output_failed};
 use std::io;
 use std::io::{ErrorKind, Write};
 use thiserror::Error;
 
-/// Why checking, or another pass over a capture, stopped.
+/// Why checking, or another pass over an input, stopped.
 #[derive(Debug, Drop, Error)]
 pub enum CheckError {
     /// The input cannot be read.
@@ -36,7 +36,7 @@ fn input_failed<E: Write>(err: &mut E, error: &io::Error) -> Status
     }
 }
 
-/// Prints why checking stopped, if the output could be flushed.
+/// Prints why a pass stopped, if the output could be flushed.
 fn stopped_by<E: Write>(error: CheckError, err: &mut E) -> Status
     ensures why { IsStopBy error result }
     ensures stop { IsStop result }
@@ -48,7 +48,7 @@ fn stopped_by<E: Write>(error: CheckError, err: &mut E) -> Status
     }
 }
 
-/// Prints why checking stopped, or that the output could not be flushed then.
+/// Prints why a pass stopped, or that the output could not be flushed then.
 fn stopped_so<E: Write>(error: CheckError, flushed: io::Result<()>, err: &mut E) -> Status
     ensures why { IsStopFor flushed error result }
     ensures stop { IsStop result }
@@ -62,7 +62,7 @@ fn stopped_so<E: Write>(error: CheckError, flushed: io::Result<()>, err: &mut E)
     }
 }
 
-/// Prints on `err` why checking stopped, and returns the status: `CommandLine` after `cannot read` for the input, `Output` for the
+/// Prints on `err` why a pass over an input stopped, and returns the status: `CommandLine` after `cannot read` for the input, `Output` for the
 /// output, and `Memory` after `no memory` for a failed allocation. Flushes `out` first, as far as possible.
 pub fn stopped<O: Write, E: Write>(error: CheckError, out: &mut O, err: &mut E) -> Status
     ensures { IsStop result }
