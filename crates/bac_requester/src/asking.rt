@@ -1,6 +1,6 @@
 //! An ask: the invoke ID that it takes, the slot that it needs, and the first sending.
 //!
-//! `Requester::ask` calls [`ask`]. [`Asked`] is public; the rest may change with `requester`.
+//! `Requester::ask` calls [`free_id`], [`has_no_slot`] and [`begin`]. [`Asked`] is public; the rest may change with `requester`.
 ghost use Rattle.std.specs.Prelude.{◌≡◌, ℕ, ◌+◌, ◌-◌, ◌<◌, ◌&&◌, ◌||◌, IfOk, Some, None, false, length, nat_le, nat_lt, not};
 ghost use Rattle.bac_npdu.specs.Views.{peer_view};
 ghost use Rattle.bac_slots.specs.Slots.{rank};
@@ -17,15 +17,13 @@ ghost use Rattle.bac_requester.specs.Aging.{AreAged};
 ghost use Rattle.bac_requester.specs.Reactions.{Asks};
 ghost use Rattle.bac_requester.specs.Views.{end_of};
 
-use crate::ask_fault::AskFault;
 use crate::client::{Client, ClientRules};
 use crate::outgoing_request::{OutgoingRequest, RequestWay};
 use crate::transaction::ClientTransaction;
-use crate::transaction_slot::TransactionSlot;
 use bac_npdu::Peer;
 use bac_service::{AnyRequest, Request, Service, write_request};
-use bac_slots::{AgedTable, SlotTable, enter, has_room, ranks_of_keys};
-use bac_transaction::{Context, Datagram, PeerKey, Settings};
+use bac_slots::{AgedTable, SlotTable, has_room, ranks_of_keys};
+use bac_transaction::{Context, Datagram, PeerKey};
 use bac_value::NoMemory;
 use std::alloc::Global;
 
@@ -99,7 +97,7 @@ fn least_id_from<S: SlotTable<PeerKey, Client>>(
 }
 
 /// The least invoke ID from the first one on that is not held for the peer; where all are held up to 255, the least of all.
-fn free_id<S: SlotTable<PeerKey, Client>>(
+pub(crate) fn free_id<S: SlotTable<PeerKey, Client>>(
     table: &S,
     peer: &Peer,
     first_id: u8,
@@ -114,7 +112,7 @@ fn free_id<S: SlotTable<PeerKey, Client>>(
 }
 
 /// Whether all slots are held, or there is no further ticket.
-fn has_no_slot<S: SlotTable<PeerKey, Client>>(
+pub(crate) fn has_no_slot<S: SlotTable<PeerKey, Client>>(
     aged: &AgedTable<ClientRules, S>,
     asked: u64,
     now: u64,
@@ -139,7 +137,7 @@ fn choice_of(request: Request<'_>) -> u8
 }
 
 /// Writes the service data of a request, and sends it for the first time.
-fn begin(
+pub(crate) fn begin(
     alloc: Global,
     context: &Context,
     way: RequestWay,
@@ -153,57 +151,4 @@ fn begin(
     write_request(request, &mut service)?;
     let outgoing = OutgoingRequest::new(choice_of(request), way, service);
     ClientTransaction::begin(alloc, context, outgoing)
-}
-
-/// Asks for a request that can go that way, at an end that does not wait. It allocates only once it has found an invoke ID and a slot.
-pub(crate) fn ask<S: SlotTable<PeerKey, Client>>(
-    alloc: Global,
-    settings: &Settings,
-    aged: &mut AgedTable<ClientRules, S>,
-    asked: &mut u64,
-    first_id: u8,
-    now: u64,
-    peer: &Peer,
-    way: RequestWay,
-    request: Request<'_>,
-) -> Result<Asked, AskFault>
-    requires aged { AreAged aged.old.ages (S.slots aged.old.table) }
-    requires way { IsWayFor way (length (request_spelling (request_view request))) }
-    ensures asks { (asks_from : ℕ) → nat_lt now asks_from ≡ false → Asks (asks_for (settings_view settings.now) now (peer_view peer.now)
-        (ask_at now (request_by (choice_of (request_view request.entry)) (request_spelling (request_view request.entry)) way))
-        (end_of (S.slots aged.old.table) (S.capacity aged.old.table) asked.old asks_from first_id))
-        (end_of (S.slots aged.old.table) (S.capacity aged.old.table) asked.old asks_from first_id) result
-        (end_of (S.slots aged.new.table) (S.capacity aged.new.table) asked.new asks_from first_id) }
-    ensures aged { AreAged aged.new.ages (S.slots aged.new.table) }
-    ensures known { IsKnownBy now aged.old.ages.latest → IsKnownBy now aged.new.ages.latest }
-{
-    let Some(invoke_id) = free_id(&aged.table, peer, first_id, now) else {
-        return Err(AskFault::NoInvokeId);
-    };
-    if has_no_slot(aged, *asked, now) {
-        return Err(AskFault::NoSlot);
-    }
-    let context = Context {
-        settings: *settings,
-        key: PeerKey {
-            peer: *peer,
-            invoke_id,
-        },
-        moment: now,
-    };
-    let Ok((transaction, sends)) = begin(alloc, &context, way, request) else {
-        return Err(AskFault::NoMemory);
-    };
-    let client = Client {
-        number: *asked,
-        held: TransactionSlot::Open(transaction),
-    };
-    enter(aged, context.key, now, client);
-    let ticket = *asked;
-    *asked += 1;
-    Ok(Asked {
-        ticket,
-        invoke_id,
-        sends,
-    })
 }

@@ -22,18 +22,19 @@ ghost use Rattle.bac_requester.specs.Short.{AreRepliesShort};
 ghost use Rattle.bac_requester.specs.Reactions.{Asks, HasNoneOpen, IsReaction, OnApdu, Refuses};
 
 use crate::ask_fault::AskFault;
-use crate::asking::{Asked, ask};
+use crate::asking::{Asked, begin, free_id, has_no_slot};
 use crate::client::{Client, ClientRules, ShortReplies};
 use crate::outgoing_request::{RequestFault, RequestWay};
 use crate::reaction::{Ended, Reaction, nothing};
 use crate::requester_on_apdu::requester_on_apdu;
 use crate::requester_tick::prepare;
+use crate::transaction_slot::TransactionSlot;
 use bac_apdu::{Apdu, Limits};
 use bac_npdu::Peer;
 use bac_protocol::times::REST;
 use bac_service::{OwnedRequest, request_len};
 use bac_slots::{
-    AgedTable, SlotTable, count_alive, each_slot, empty_table, first_due, same_tables, tick,
+    AgedTable, SlotTable, count_alive, each_slot, empty_table, enter, first_due, same_tables, tick,
 };
 use bac_transaction::{Context, PeerKey, Settings, invoke_id_of, is_waiting};
 use bac_value::NoMemory;
@@ -141,17 +142,35 @@ impl<S: SlotTable<PeerKey, Client> + Drop> Requester<S> {
         if is_waiting(self.restart, REST, now) {
             return Err(AskFault::NoInvokeId);
         }
-        ask(
-            self.alloc,
-            settings,
-            &mut self.aged,
-            &mut self.asked,
-            self.first_id,
-            now,
-            peer,
-            way,
-            request,
-        )
+        let Some(invoke_id) = free_id(&self.aged.table, peer, self.first_id, now) else {
+            return Err(AskFault::NoInvokeId);
+        };
+        if has_no_slot(&self.aged, self.asked, now) {
+            return Err(AskFault::NoSlot);
+        }
+        let context = Context {
+            settings: *settings,
+            key: PeerKey {
+                peer: *peer,
+                invoke_id,
+            },
+            moment: now,
+        };
+        let Ok((transaction, sends)) = begin(self.alloc, &context, way, request) else {
+            return Err(AskFault::NoMemory);
+        };
+        let ticket = self.asked;
+        let client = Client {
+            number: ticket,
+            held: TransactionSlot::Open(transaction),
+        };
+        enter(&mut self.aged, context.key, now, client);
+        self.asked += 1;
+        Ok(Asked {
+            ticket,
+            invoke_id,
+            sends,
+        })
     }
 
     /// An APDU comes from a peer at a moment, in milliseconds (clause 5.4.4). Call it for each APDU that the server of a transaction sends. Send what it hands

@@ -127,22 +127,34 @@ pub(crate) fn takes_segment(
     })
 }
 
+/// A segment of a ComplexACK (clause 20.1.5): its place, the service choice, and its octets of service data.
+#[derive(Clone, Copy)]
+pub(crate) struct ReceivedSegment<'a> {
+    pub(crate) segment: Segment,
+    pub(crate) choice: u8,
+    pub(crate) octets: &'a [u8],
+}
+
 /// A further segment of a ComplexACK comes in SEGMENTED_CONF.
 pub(crate) fn on_next_segment(
     alloc: Global,
     context: &Context,
     core: &mut RequestState,
     incoming: &mut Incoming,
-    segment: Segment,
-    choice: u8,
-    octets: &[u8],
+    received: ReceivedSegment<'_>,
 ) -> Result<Transition, NoMemory>
     requires { IsShort core.old.whole core.old.outgoing }
     ensures short { IsShort core.new.whole core.new.outgoing }
     ensures reacts { TriesTransition context.now (ticket_view core.old (Conf incoming.old))
-        (on_next_segment (context_view context.now) reads_reply (ask_view core.old) incoming.old (segment_view segment) choice octets.now) result
+        (on_next_segment (context_view context.now) reads_reply (ask_view core.old) incoming.old
+        (segment_view received.entry.segment) received.entry.choice received.entry.octets.now) result
         (ticket_view core.new (Conf incoming.new)) }
 {
+    let ReceivedSegment {
+        segment,
+        choice,
+        octets,
+    } = received;
     if choice != core.choice {
         return Ok(nothing(alloc));
     }

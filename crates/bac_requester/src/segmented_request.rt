@@ -18,6 +18,15 @@ use bac_transaction::Context;
 use bac_value::NoMemory;
 use std::alloc::Global;
 
+/// What a SegmentACK of the server says (clause 20.1.6).
+#[derive(Clone, Copy)]
+pub(crate) struct ReceivedAck {
+    /// The number of the last segment that the server took in order, modulo 256.
+    pub(crate) number: u8,
+    /// The window that it grants.
+    pub(crate) window: Window,
+}
+
 /// A SegmentACK of the server comes in SEGMENTED_REQUEST.
 pub(crate) fn on_segment_ack(
     alloc: Global,
@@ -25,18 +34,17 @@ pub(crate) fn on_segment_ack(
     core: &mut RequestState,
     phase: &mut Phase,
     all_sent: bool,
-    number: u8,
-    granted: Window,
+    ack: ReceivedAck,
 ) -> Result<Transition, NoMemory>
     requires { IsShort core.old.whole core.old.outgoing }
     ensures short { IsShort core.new.whole core.new.outgoing }
     ensures reacts { TriesTransition context.now (ticket_view core.old phase.old) (moves_request_window (context_view context.now) core.old.choice all_sent
-        (acknowledged context.now.settings.window.size core.old.outgoing number granted.size)) result (ticket_view core.new phase.new) }
+        (acknowledged context.now.settings.window.size core.old.outgoing ack.number ack.window.size)) result (ticket_view core.new phase.new) }
 {
     let was = core.outgoing.position();
     match core
         .outgoing
-        .on_ack(number, granted, context.settings.window)
+        .on_ack(ack.number, ack.window, context.settings.window)
     {
         // DuplicateACK_Received; own: the timer runs on
         Progress::Ignored => Ok(nothing(alloc)),

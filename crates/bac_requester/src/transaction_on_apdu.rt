@@ -11,8 +11,8 @@ ghost use Rattle.bac_transaction.specs.Views.{context_view};
 
 use crate::await_confirmation::await_confirmation_on_apdu;
 use crate::ending::Ending;
-use crate::segmented_conf::on_next_segment;
-use crate::segmented_request::on_segment_ack;
+use crate::segmented_conf::{ReceivedSegment, on_next_segment};
+use crate::segmented_request::{ReceivedAck, on_segment_ack};
 use crate::transaction::{ClientTransaction, Phase};
 use crate::transition::{Transition, ends, stays};
 use bac_apdu::Apdu;
@@ -74,7 +74,10 @@ impl ClientTransaction {
                         number,
                         window,
                         ..
-                    } => on_segment_ack(alloc, context, core, phase, all_sent, number, window),
+                    } => {
+                        let ack = ReceivedAck { number, window };
+                        on_segment_ack(alloc, context, core, phase, all_sent, ack)
+                    }
                     _ if all_sent => await_confirmation_on_apdu(alloc, context, self, apdu),
                     _ => Ok(on_refusal(alloc, context, self, apdu)),
                 }
@@ -84,9 +87,16 @@ impl ClientTransaction {
                 Apdu::ComplexAck {
                     segment: Some(segment),
                     choice,
-                    service,
+                    service: octets,
                     ..
-                } => on_next_segment(alloc, context, core, incoming, segment, choice, service),
+                } => {
+                    let received = ReceivedSegment {
+                        segment,
+                        choice,
+                        octets,
+                    };
+                    on_next_segment(alloc, context, core, incoming, received)
+                }
                 _ => Ok(on_refusal(alloc, context, self, apdu)),
             },
         }

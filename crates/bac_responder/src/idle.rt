@@ -10,6 +10,7 @@ use crate::performed::Performed;
 use crate::performing::commit;
 use crate::reading::read_whole;
 use crate::replying::{PreparedReply, prepare_reply};
+use crate::segmented_request::ReceivedSegment;
 use crate::server_transaction::{Origin, Reassembly, ServerTransaction, State, Terms};
 use bac_apdu::{Apdu, Segment};
 use bac_protocol::reasons::OTHER;
@@ -69,9 +70,8 @@ fn on_first_segment(
         incoming: Incoming::new(alloc, segment.window, context.settings.window),
         since: context.moment,
     };
-    let (performed, next) = reassembly.take_segment(
-        alloc, context, &origin, segment, octets, store,
-    )?;
+    let received = ReceivedSegment { segment, octets };
+    let (performed, next) = reassembly.take_segment(alloc, context, &origin, received, store)?;
     match next {
         None => {
             let state = State::SegmentedRequest(reassembly);

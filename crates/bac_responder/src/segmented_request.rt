@@ -52,6 +52,13 @@ fn prepare_whole(
     })
 }
 
+/// A segment of a request that was received: its place, and its octets of service data.
+#[derive(Clone, Copy)]
+pub(crate) struct ReceivedSegment<'a> {
+    pub(crate) segment: Segment,
+    pub(crate) octets: &'a [u8],
+}
+
 impl Reassembly {
     /// The last segment comes (LastSegmentOfMessageReceived). Where an allocation fails, the segment is taken back.
     fn take_last(
@@ -59,14 +66,15 @@ impl Reassembly {
         alloc: Global,
         context: &Context,
         terms: Terms,
-        segment: Segment,
-        octets: &[u8],
+        received: ReceivedSegment<'_>,
         store: &Store,
     ) -> Result<PreparedReply, NoMemory>
-        requires { Ok step.Whole ≡ answer_of (takes self.old.incoming segment.number segment.more octets.now) }
-        ensures { TakesLast (context_view context.now) (peer_of context.now) terms.choice (limits_view terms.limits) store.now segment.number
-            (takes self.old.incoming segment.number segment.more octets.now) self.old self.new result }
+        requires { Ok step.Whole ≡ answer_of (takes self.old.incoming received.segment.number received.segment.more received.octets.now) }
+        ensures { TakesLast (context_view context.now) (peer_of context.now) terms.choice (limits_view terms.limits) store.now
+            received.entry.segment.number (takes self.old.incoming received.entry.segment.number received.entry.segment.more received.entry.octets.now)
+            self.old self.new result }
     {
+        let ReceivedSegment { segment, octets } = received;
         let unacknowledged = self.incoming.unacknowledged();
         let Ok(_) = self
             .incoming
@@ -90,14 +98,15 @@ impl Reassembly {
         alloc: Global,
         context: &Context,
         origin: &Origin,
-        segment: Segment,
-        octets: &[u8],
+        received: ReceivedSegment<'_>,
         store: &mut Store,
     ) -> Result<(Performed, Option<State>), NoMemory>
-        ensures { TakesSegment (λ z. machine.request_segment_taken (context_view context.now) (service_of store.old) (entry_of origin.now z) segment.number
-            self.old.incoming.window (takes self.old.incoming segment.number segment.more octets.now)) (peer_of context.now) origin.now self.old self.new
-            store.old result store.new }
+        ensures { TakesSegment (λ z. machine.request_segment_taken (context_view context.now) (service_of store.old) (entry_of origin.now z)
+            received.entry.segment.number self.old.incoming.window
+            (takes self.old.incoming received.entry.segment.number received.entry.segment.more received.entry.octets.now))
+            (peer_of context.now) origin.now self.old self.new store.old result store.new }
     {
+        let ReceivedSegment { segment, octets } = received;
         let Ok(step) = self.incoming.answer(segment.number, segment.more, octets) else {
             let sends = only_abort(alloc, context, true, BUFFER_OVERFLOW)?;
             return Ok((Performed::sends(sends), Some(State::Dropped)));
@@ -107,7 +116,7 @@ impl Reassembly {
                 state,
                 sends,
                 commit: change,
-            } = self.take_last(alloc, context, origin.terms, segment, octets, store)?;
+            } = self.take_last(alloc, context, origin.terms, received, store)?;
             let effect = commit(change, store);
             return Ok((Performed { sends, effect }, Some(state)));
         }
@@ -129,18 +138,18 @@ impl Reassembly {
         alloc: Global,
         context: &Context,
         origin: &Origin,
-        segment: Segment,
-        octets: &[u8],
+        received: ReceivedSegment<'_>,
         store: &mut Store,
     ) -> Result<(Performed, Option<State>), NoMemory>
         ensures { TakesSegment (λ z. machine.segmented_request_on_segment (context_view context.now) (service_of store.old) (entry_of origin.now z)
-            self.old.incoming self.old.since (segment_view segment) octets.now) (peer_of context.now) origin.now self.old self.new store.old result store.new }
+            self.old.incoming self.old.since (segment_view received.entry.segment) received.entry.octets.now)
+            (peer_of context.now) origin.now self.old self.new store.old result store.new }
     {
         if context.moment.saturating_sub(self.since) >= T_WAIT_FOR_SEG {
             let sends = only_abort(alloc, context, true, OTHER)?;
             return Ok((Performed::sends(sends), Some(State::Dropped)));
         }
-        self.take_segment(alloc, context, origin, segment, octets, store)
+        self.take_segment(alloc, context, origin, received, store)
     }
 
     /// An APDU comes while a request is received in segments: what it makes the entry send, what is performed, and the state that follows; None where it
@@ -159,9 +168,12 @@ impl Reassembly {
         match *apdu {
             Apdu::ConfirmedRequest {
                 segment: Some(segment),
-                service,
+                service: octets,
                 ..
-            } => self.on_segment(alloc, context, origin, segment, service, store),
+            } => {
+                let received = ReceivedSegment { segment, octets };
+                self.on_segment(alloc, context, origin, received, store)
+            }
             // AbortPDU_Received; own: the entry is remembered
             Apdu::Abort { server: false, .. } => {
                 Ok((Performed::nothing(alloc), Some(State::Dropped)))

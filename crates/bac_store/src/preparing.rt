@@ -3,8 +3,9 @@ ghost use Rattle.std.specs.Prelude.{◌≡◌, ◌+◌, ◌≤◌, true, map, le
 ghost use Rattle.std.specs.Option.{option_map};
 ghost use Rattle.bac_service.specs.Values.Request.{ReadFile as FileReading, WriteFile as FileWriting, ReadProperty as PropertyReading};
 ghost use Rattle.bac_service.specs.Values.Request.{WriteProperty as PropertyWriting};
-ghost use Rattle.bac_service.specs.Views.{lent, owned_reply_view, priority_view, property_reference_view, read_access_view};
+ghost use Rattle.bac_service.specs.Views.{lent, priority_view, property_reference_view, read_access_view};
 ghost use Rattle.bac_service.specs.Views.{write_access_view};
+ghost use Rattle.bac_store.specs.Answers.{refused};
 ghost use Rattle.bac_store.specs.Changes.{HoldsOctets, is_done, IsGranted};
 ghost use Rattle.bac_store.specs.Kept.{IsInOrder};
 ghost use Rattle.bac_store.specs.Limits.{FILE_LIMIT as FILE_MOST};
@@ -23,18 +24,18 @@ use crate::properties::{read_property, write_refusal};
 use crate::refusal::Refusal;
 use crate::splice::Splice;
 use bac_service::{
-    AnyComplex, AnyReply, Content, FileWritten, OwnedReply, PropertyReference, ReadFile, Records,
-    WriteAccess, WriteFile, WriteProperty, WriteStream,
+    AnyComplex, AnyReply, Content, FileWritten, PropertyReference, ReadFile, Records, WriteAccess,
+    WriteFile, WriteProperty, WriteStream,
 };
 use bac_value::{Data, NoMemory, ObjectIdentifier};
 use std::alloc::Global;
 
-/// A plan that changes nothing.
-fn answered(reply: OwnedReply) -> Planned
-    ensures { result ≡ record { reply = owned_reply_view reply; effect = StoreEffectView.Nothing } }
+/// A plan that refuses the request by an Error and changes nothing.
+fn refused(refusal: Refusal) -> Planned
+    ensures { result ≡ record { reply = refused refusal; effect = StoreEffectView.Nothing } }
 {
     Planned {
-        reply,
+        reply: refusal.reply(),
         effect: StoreEffect::Nothing,
     }
 }
@@ -50,13 +51,14 @@ pub(crate) fn plan_read_property(
     ensures last { OnErr result (IsGranted (map entry_view objects.now) (PropertyReading (property_reference_view reference))) }
     ensures held { OnErr result (HoldsOctets (map entry_view objects.now) (PropertyReading (property_reference_view reference))) }
 {
-    match entry_of(objects, reference.object) {
-        None => Ok(answered(Refusal::UnknownObject.reply())),
-        Some(entry) => {
-            let reply = read_property(alloc, entry, reference)?;
-            Ok(answered(reply))
-        }
-    }
+    let Some(entry) = entry_of(objects, reference.object) else {
+        return Ok(refused(Refusal::UnknownObject));
+    };
+    let reply = read_property(alloc, entry, reference)?;
+    Ok(Planned {
+        reply,
+        effect: StoreEffect::Nothing,
+    })
 }
 
 /// A plan for writing a property (clause 15.9).
@@ -74,10 +76,10 @@ pub(crate) fn plan_write_property(
 {
     let reference = write.reference;
     let Some(entry) = entry_of(objects, reference.object) else {
-        return Ok(answered(Refusal::UnknownObject.reply()));
+        return Ok(refused(Refusal::UnknownObject));
     };
     if let Some(refusal) = write_refusal(entry, reference, write.values.octets) {
-        return Ok(answered(refusal.reply()));
+        return Ok(refused(refusal));
     }
     let values = write.values.to_owned(alloc)?;
     let effect = StoreEffect::Values {
@@ -114,13 +116,14 @@ pub(crate) fn plan_read_file(
     ensures last { OnErr result (IsGranted (map entry_view objects.now) (FileReading (object_identifier_view read.file) (read_access_view read.access))) }
     ensures held { OnErr result (HoldsOctets (map entry_view objects.now) (FileReading (object_identifier_view read.file) (read_access_view read.access))) }
 {
-    match file_of(objects, read.file) {
-        None => Ok(answered(Refusal::UnknownObject.reply())),
-        Some(file) => {
-            let reply = read_file(alloc, file, read.access)?;
-            Ok(answered(reply))
-        }
-    }
+    let Some(file) = file_of(objects, read.file) else {
+        return Ok(refused(Refusal::UnknownObject));
+    };
+    let reply = read_file(alloc, file, read.access)?;
+    Ok(Planned {
+        reply,
+        effect: StoreEffect::Nothing,
+    })
 }
 
 /// A plan for writing octets to a file that exists.
@@ -137,7 +140,7 @@ fn plan_write_stream(
 {
     let new = write.content.octets;
     match write_place(file, write.start, new) {
-        Err(refusal) => Ok(answered(refusal.reply())),
+        Err(refusal) => Ok(refused(refusal)),
         Ok(at) => {
             let splice = Splice::new(alloc, at, new)?;
             let reply = AnyReply::Complex(AnyComplex::FileWritten(FileWritten::Stream(at as i64)));
@@ -162,10 +165,10 @@ pub(crate) fn plan_write_file(
         (FileWriting (object_identifier_view write.entry.file) (write_access_view lent write.entry.access))) }
 {
     let Some(file) = file_of(objects, write.file) else {
-        return Ok(answered(Refusal::UnknownObject.reply()));
+        return Ok(refused(Refusal::UnknownObject));
     };
     match write.access {
-        WriteAccess::Records(_) => Ok(answered(Refusal::InvalidFileAccessMethod.reply())),
+        WriteAccess::Records(_) => Ok(refused(Refusal::InvalidFileAccessMethod)),
         WriteAccess::Stream(stream) => plan_write_stream(alloc, write.file, file, stream),
     }
 }
