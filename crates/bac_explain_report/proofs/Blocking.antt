@@ -1,4 +1,4 @@
--- Blocks that were printed, one after the other.
+-- Transactions that were printed one after the other.
 use Rattle.std.proofs.Common.{◌≡◌, ℕ, Bool, true, false, List, [], ◌∷◌, ◌++◌, Option, refl, sym, ap, subst, append_assoc}
 use Rattle.std.specs.Io.KnownBytes.{Appends}
 use Rattle.std.proofs.KnownBytes.{Appends-nil, Appends-trans}
@@ -7,7 +7,7 @@ use Rattle.bac_explain_report.specs.Accounts.{Account}
 use Rattle.bac_explain_report.specs.Rest.{AreBlocks, ArePrinted, IsStep, IsStepIn}
 use Rattle.bac_explain_report.specs.declared.tally.Tally.{Tally}
 
--- some blocks were printed, and the others come behind them
+-- some were printed, and the others follow
 pub record IsSoFar (start now : Account) (old new : Option (List ℕ)) : Type 0 where
   pub text : List ℕ
   pub printed : Appends old new text
@@ -16,7 +16,7 @@ pub record IsSoFar (start now : Account) (old new : Option (List ℕ)) : Type 0 
 pub none_so_far : (a : Account) (out : Option (List ℕ)) → IsSoFar a a out out
 none_so_far a out = record { text = []; printed = Appends-nil out; then = λ more final r. r }
 
--- the block of a step, and the others behind it
+-- the lines of a step, and the others after them
 record GoesOn (slots : Transactions) (tally : Tally) (next : Account) (old new : Option (List ℕ)) : Type 0 where
   pub text : List ℕ
   pub printed : Appends old new text

@@ -1,4 +1,4 @@
--- What was printed of a frame, and the account then.
+-- The report on a frame was printed, and this is the next state.
 use Rattle.std.proofs.Common.{◌≡◌, ℕ, List, Option, Result, Ok, Err, OnOk, ap, subst}
 use Rattle.bac_capture.specs.Blocks.{FrameView}
 use Rattle.bac_capture.specs.Reports as check

@@ -1,4 +1,4 @@
--- What contracts see of what is known of a capture, and of what there is to say.
+-- The plain values of the state of `explain`, and of the report on a frame.
 use Rattle.std.specs.Option.{option_map}
 use Rattle.bac_explain.specs.Closings.{closed_view}
 use Rattle.bac_explain.specs.KeyViews.{key_view}

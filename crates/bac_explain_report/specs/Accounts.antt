@@ -1,4 +1,4 @@
--- What is known of a capture so far, and what a frame makes of it.
+-- The state of `explain`, and how a frame changes it.
 use Rattle.std.specs.Prelude.{ℕ, [], Option, Some, None, Result, Ok, Err}
 use Rattle.bac_capture.specs.Blocks.{FrameView}
 use Rattle.bac_capture.specs.declared.fault.FileFault.{FileFault}
@@ -12,7 +12,7 @@ use Rattle.bac_explain_report.specs.declared.tally.Tally.{Tally}
 use Rattle.bac_explain_report.specs.declared.unread.Unread.{Unread}
 use Rattle.bac_explain_report.specs.declared.unread.Unread.TheVariants.{File}
 
--- the open transactions, and what was counted
+-- the open transactions, and the counts
 pub record Account : Type 0 where
   pub slots : Transactions
   pub tally : Tally
@@ -20,14 +20,14 @@ pub record Account : Type 0 where
 abbrev pub fresh : Account
 fresh = record { slots = []; tally = no_frames }
 
--- what there is to print of an APDU: its transaction, one that is over, one that it closes, and what is wrong with it
+-- the report on an APDU: its transaction, one that is over by then, one that it closes, and what is wrong with it
 pub record HearingView : Type 0 where
   pub key : Key
   pub over : Option ClosedView
   pub closed : Option ClosedView
   pub finding : Option Finding
 
--- what there is to print of a frame
+-- the report on a frame
 pub data FrameReportView : Type 0 where
   NothingReported : FrameReportView
   UnreadReported : (why : Unread) → FrameReportView
@@ -42,7 +42,7 @@ hearing key over h t = (
   record { slots = h.slots; tally = heard_tally over h t },
 )
 
--- the transaction that began first closes, where it is over; then the APDU is heard
+-- the transaction that began first is closed if it is over; then the APDU is handled
 abbrev pub sighting_heard : ℕ → SightingView → Account → FrameReportView × Account
 sighting_heard now s a = hearing s.key (over_out now a.slots).0 (heard now s.key s.role s.octets (over_out now a.slots).1) a.tally
 
@@ -57,10 +57,10 @@ found_heard (Ok (Some s)) a = sighting_heard s.0 s.1 a
 abbrev pub one_frame : Account → Account
 one_frame a = record { slots = a.slots; tally = with_frame a.tally }
 
--- a frame is seen; there is a port beside the sixteen, or none
+-- a frame is handled; `also` is a port in addition to the sixteen
 abbrev pub frame_heard : (also : Option ℕ) → FrameView → Account → FrameReportView × Account
 frame_heard also frame a = found_heard (seen_of also frame) (one_frame a)
 
--- the file cannot be read on: that is printed of the frame that would come
+-- the file cannot be read further: this is printed for the frame that would follow
 abbrev pub broken_off : FileFault → Account → FrameReportView × Account
 broken_off fault a = unheard (File fault) (one_frame a)

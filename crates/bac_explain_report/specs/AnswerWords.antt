@@ -1,4 +1,4 @@
--- What APDUs answer, in words.
+-- Replies in words.
 use Rattle.std.specs.Prelude.{◌≡◌, ℕ, List, [], codes, Option, Some, None, Result, Ok, Err}
 use Rattle.bac_apdu.specs.Apdu.{Segment, Apdu, SimpleAck, ComplexAck, Error, Reject, Abort}
 use Rattle.bac_apdu.specs.Reading.{apdu_at}
@@ -7,12 +7,12 @@ use Rattle.bac_service_text.specs.Reasons.{error_words}
 use Rattle.bac_service_text.specs.ServiceData.{AreReplyDataWords, segments_text}
 use Rattle.bac_value_text.specs.Reasons.{abort_text, reject_text}
 
--- of a segment the choice of the service alone
+-- for a segment only the service choice
 abbrev pub ArePartWords : Option Segment → (choice : ℕ) → (service words : List ℕ) → Type 0
 ArePartWords None choice service words = AreReplyDataWords choice service words
 ArePartWords (Some s) choice service words = words ≡ segments_text choice
 
--- an APDU that is no answer has no words
+-- an APDU that is not a reply has no words
 abbrev pub AreAnswerWords : Apdu → List ℕ → Type 0
 AreAnswerWords (SimpleAck invoke_id choice) words = words ≡ codes "acknowledged"
 AreAnswerWords (ComplexAck invoke_id segment choice service) words = ArePartWords segment choice service words

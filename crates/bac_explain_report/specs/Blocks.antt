@@ -1,4 +1,4 @@
--- The block of a transaction.
+-- The lines of a transaction.
 use Rattle.std.specs.Prelude.{◌≡◌, ℕ, ◌-◌, ◌==◌, Bool, List, [], ◌∷◌, ◌++◌, codes, decimal, Option, Some, None, if◌then◌else◌}
 use Rattle.bac_explain.specs.Keys.{Key}
 use Rattle.bac_explain.specs.Sent.{SentView}
@@ -12,7 +12,7 @@ use Rattle.bac_explain_report.specs.RequestWords as request
 abbrev pub head_text : Key → List ℕ
 head_text k = codes "transaction " ++ (key_text k ++ codes "\n")
 
--- how often its first APDU was seen, and how many segments beside it
+-- how often the first APDU was seen, and how many further segments
 abbrev pub counts_text : SentView → List ℕ
 counts_text s =
     if s.segments == 0 then codes "times=" ++ decimal s.times else
@@ -21,13 +21,13 @@ counts_text s =
 abbrev pub asked_front : SentView → List ℕ
 asked_front s = codes "  asked at=" ++ (decimal s.moment ++ (codes " " ++ (counts_text s ++ codes " ")))
 
--- when it was asked, how often, and for what
+-- the request: its moment, how often it was seen, and what it asks for
 pub record IsAskedLine (s : SentView) (text : List ℕ) : Type 0 where
   pub words : List ℕ
   pub are : request.AreOctetsWords s.octets words
   pub is : text ≡ (asked_front s ++ words) ++ (10 ∷ [])
 
--- what answers, or began to
+-- whether the reply is whole, or only its beginning was seen
 abbrev pub answer_name : SentView → List ℕ
 answer_name s = if s.whole then ending_name (answer_ending s.octets) else codes "began"
 
@@ -35,7 +35,7 @@ abbrev pub answered_front : (asked : ℕ) → SentView → List ℕ
 answered_front asked s =
     codes "  " ++ (answer_name s ++ (codes " after=" ++ (decimal (s.moment - asked) ++ (codes " " ++ (counts_text s ++ codes " ")))))
 
--- how it was answered, after how many milliseconds, how often, and with what
+-- the reply: its delay in milliseconds, how often it was seen, and what it says
 pub record IsAnsweredLine (asked : ℕ) (s : SentView) (text : List ℕ) : Type 0 where
   pub words : List ℕ
   pub are : answer.AreOctetsWords s.octets words
@@ -51,7 +51,7 @@ IsAnswerLine t text = IsAnswerLineIn t.request.moment t.answer text
 abbrev pub naks_text : ℕ → List ℕ
 naks_text naks = if naks == 0 then [] else codes "  negative SegmentACKs=" ++ (decimal naks ++ codes "\n")
 
--- the end of the answer was not seen, maybe since the server aborted it
+-- the end of the reply was not seen, perhaps because the server aborted it
 abbrev pub part_text : (broken_off : Bool) → List ℕ
 part_text broken_off = if broken_off then codes "  aborted by the server\n" else codes "  answer began, not whole\n"
 
@@ -59,7 +59,7 @@ abbrev pub rest_text : (broken_off : Bool) → Option SentView → List ℕ
 rest_text broken_off None = codes "  unanswered\n"
 rest_text broken_off (Some s) = if s.whole then [] else part_text broken_off
 
--- the client gave up, or no answer was seen, or not all of it
+-- the client gave up, or no whole reply was seen
 abbrev pub end_text : TransactionView → List ℕ
 end_text t = if t.gave_up then codes "  given up by the client\n" else rest_text t.broken_off t.answer
 

@@ -8,7 +8,7 @@ use Rattle.bac_chart.specs.declared.drawing.ChartFormat.TheVariants as form
 use Rattle.bac_text.specs.Peers.{peer_text}
 use Rattle.bac_npdu.specs.Peers.{PeerView, peer_cmp}
 
--- the column of a peer, counted from 0; as many as there are where it has none
+-- the column of a peer, counted from 0; the number of columns if it has none
 abbrev pub place_of : PeerView → List PeerView → ℕ
 place_of p [] = 0
 place_of p (q ∷ peers) = if eq_by_cmp peer_cmp q p then 0 else suc (place_of p peers)
@@ -20,16 +20,16 @@ has_column p peers = nat_lt (place_of p peers) (length peers)
 abbrev pub with_column : PeerView → List PeerView → List PeerView
 with_column p peers = if has_column p peers then peers else peers ++ p ∷ []
 
--- where a column begins, it says whose it is
+-- the line of a column that begins: its peer
 abbrev pub begun_text : ChartFormat → (place moment : ℕ) → (name : List ℕ) → List ℕ
 begun_text form.Chart place moment name = line_text form.Chart (place + 1) (note_line moment place name)
 begun_text form.Mermaid place moment name = codes "    participant n" ++ (decimal place ++ (codes " as " ++ (name ++ codes "\n")))
 
--- what there is to say of the column of a peer: nothing where it has begun before
+-- the line of the column of a peer; nothing if the column began before
 abbrev pub column_text : ChartFormat → (moment : ℕ) → PeerView → List PeerView → List ℕ
 column_text f moment p peers = if has_column p peers then [] else begun_text f (length peers) moment (peer_text p)
 
--- the columns of the sender and of the receiver of a datagram, and what there is to say of those that begin with it
+-- the columns of the sender and of the receiver of a datagram, and the lines of those that begin with it
 pub record Ends : Type 0 where
   pub from : ℕ
   pub to : ℕ

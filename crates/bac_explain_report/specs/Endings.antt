@@ -1,4 +1,4 @@
--- How a transaction ended, as far as it was seen.
+-- The endings of transactions, as far as they were seen.
 use Rattle.std.specs.Prelude.{ℕ, Bool, ◌||◌, List, codes, Option, Some, None, Result, Ok, Err, if◌then◌else◌}
 use Rattle.bac_apdu.specs.Apdu.{Apdu, Reject, Abort}
 use Rattle.bac_apdu.specs.Reading.{apdu_at}
@@ -14,7 +14,7 @@ ending_name Rejected = codes "rejected"
 ending_name Aborted = codes "aborted"
 ending_name Unanswered = codes "unanswered"
 
--- an Error is an answer too
+-- an Error is a reply too
 abbrev pub apdu_ending : Apdu → Ending
 apdu_ending (Reject invoke_id reason) = Rejected
 apdu_ending (Abort server invoke_id reason) = Aborted
@@ -30,11 +30,11 @@ answer_ending octets = read_ending (apdu_at octets)
 abbrev pub no_answer_ending : (gave_up : Bool) → Ending
 no_answer_ending gave_up = if gave_up then Aborted else Unanswered
 
--- an answer whose last segment was not seen is none; the server's Abort may come in the midst of it
+-- a reply whose last segment was not seen does not count; the server's Abort may come within it
 abbrev pub seen_ending : (broken_off gave_up : Bool) → SentView → Ending
 seen_ending broken_off gave_up s = if s.whole then answer_ending s.octets else no_answer_ending (broken_off || gave_up)
 
--- without an answer the client's Abort ends it
+-- without a reply the client's Abort ends it
 abbrev pub ending_in : (broken_off gave_up : Bool) → Option SentView → Ending
 ending_in broken_off gave_up None = no_answer_ending gave_up
 ending_in broken_off gave_up (Some s) = seen_ending broken_off gave_up s

@@ -1,4 +1,4 @@
--- What `bac explain` prints of a capture file, and how it ends.
+-- What `bac explain` prints for a capture file, and its status.
 use Rattle.std.specs.Prelude.{◌≡◌, ℕ, ◌++◌, List, codes, decimal, Option, Some, None}
 use Rattle.bac_capture.specs.declared.fault.FileFault.{FileFault}
 use Rattle.bac_capture.specs.Blocks.{FrameView}
@@ -30,12 +30,12 @@ summary_text t =
 
 -- ---- a file
 
--- it is printed of the frame by its number, and the account is the next one
+-- the report on the frame is printed with its number, and this is the next state
 pub record IsPrintedNext (what : FrameReportView × Account) (text : List ℕ) (next : Account) : Type 0 where
   pub is : next ≡ what.1
   pub told : IsFrameReport next.tally.frames what.0 text
 
--- a frame is seen; there is a port beside the sixteen, or none
+-- a frame is handled; `also` is a port in addition to the sixteen
 abbrev pub SeesFrame : (also : Option ℕ) → Prints FrameView Account
 SeesFrame also frame a text next = IsPrintedNext (frame_heard also frame a) text next
 

@@ -1,4 +1,4 @@
--- What is printed of a frame.
+-- The text for a frame.
 use Rattle.std.specs.Prelude.{◌≡◌, ℕ, List, [], ◌++◌, codes, decimal, Option, Some, None}
 use Rattle.bac_explain.specs.Keys.{Key}
 use Rattle.bac_explain.specs.Tables.{ClosedView}
@@ -11,7 +11,7 @@ use Rattle.bac_explain_report.specs.Keys.{key_text}
 use Rattle.bac_explain_report.specs.Unread.{unread_text}
 use Rattle.bac_explain_report.specs.declared.unread.Unread.{Unread}
 
--- of the frame with that number, from 1
+-- for the frame with this number, from 1
 abbrev pub unread_line : ℕ → Unread → List ℕ
 unread_line number why = codes "frame " ++ (decimal number ++ (codes ": " ++ (unread_text why ++ codes "\n")))
 

@@ -1,4 +1,4 @@
--- The text of a transaction.
+-- The texts of transaction keys.
 use Rattle.std.specs.Prelude.{ℕ, List, ◌++◌, codes, decimal}
 use Rattle.bac_explain.specs.Keys.{Key}
 use Rattle.bac_text.specs.Peers.{peer_text}

@@ -1,16 +1,16 @@
--- What APDUs ask for, in words.
+-- Requests in words.
 use Rattle.std.specs.Prelude.{◌≡◌, ℕ, List, [], Option, Some, None, Result, Ok, Err}
 use Rattle.bac_apdu.specs.Apdu.{Segment, Apdu, ConfirmedRequest}
 use Rattle.bac_apdu.specs.Reading.{apdu_at}
 use Rattle.bac_apdu.specs.declared.fault.ApduFault.{ApduFault}
 use Rattle.bac_service_text.specs.ServiceData.{AreRequestDataWords, segments_text}
 
--- of a segment the choice of the service alone
+-- for a segment only the service choice
 abbrev pub ArePartWords : Option Segment → (choice : ℕ) → (service words : List ℕ) → Type 0
 ArePartWords None choice service words = AreRequestDataWords choice service words
 ArePartWords (Some s) choice service words = words ≡ segments_text choice
 
--- an APDU that is no request asks for nothing
+-- an APDU that is not a request has no words
 abbrev pub AreAskingWords : Apdu → List ℕ → Type 0
 AreAskingWords (ConfirmedRequest limits invoke_id segment choice service) words = ArePartWords segment choice service words
 AreAskingWords _ words = words ≡ []

@@ -18,7 +18,7 @@ pub record IsFirst (s : Slot Key TransactionView) (text : List ℕ) (AreOthers :
   pub is : text ≡ first ++ others
   pub are_others : AreOthers others
 
--- the blocks of these transactions, in the order of their beginning; the tally goes from the first to the last
+-- the lines of these transactions, in the order in which they began; the counts change from the first to the second
 abbrev pub AreBlocks : Transactions → Tally → (text : List ℕ) → (final : Tally) → Type 0
 AreBlocks [] tally text final = (text ≡ []) × (final ≡ tally)
 AreBlocks (s ∷ slots) tally text final =
@@ -26,7 +26,7 @@ AreBlocks (s ∷ slots) tally text final =
 
 -- ---- one after the other
 
--- a block was printed
+-- the lines of a transaction were printed
 pub record IsPrinted (s : Slot Key TransactionView) (old new : Option (List ℕ)) : Type 0 where
   pub text : List ℕ
   pub is_block : IsBlock (closed_of s) text

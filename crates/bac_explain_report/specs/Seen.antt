@@ -1,4 +1,4 @@
--- The APDU of a transaction that a frame carries, and when it was seen.
+-- The APDU of a transaction that a frame carries, with the moment of the frame.
 use Rattle.std.specs.Prelude.{ℕ, ◌/◌, ◌%◌, ◌==◌, List, [], ◌∷◌, length, slice_index, Result, Ok, Err, Option, Some, None, if◌then◌else◌}
 use Rattle.bac_capture.specs.Blocks.{FrameView}
 use Rattle.bac_capture.specs.Frames.{datagram_at}
@@ -18,7 +18,7 @@ abbrev pub datagram_on : Option LinkKind → (also : Option ℕ) → List ℕ �
 datagram_on None also octets = Err Link
 datagram_on (Some link) also octets = unless_fault (datagram_at link also octets)
 
--- the datagram of BACnet/IP; there is a port beside the sixteen, or none
+-- the datagram of BACnet/IP; `also` is a port in addition to the sixteen
 abbrev pub datagram_in : (also : Option ℕ) → FrameView → Result (Option DatagramView) Unread
 datagram_in also frame = datagram_on (link_kind_of frame.link) also frame.octets
 
@@ -38,7 +38,7 @@ between (Some from) (Some to) octets = sighting_at from to octets
 abbrev pub seen_in : DatagramView → Option SightingView
 seen_in d = between (link_of d.from) (link_of d.to) d.octets
 
--- without a moment nothing can be said of it
+-- a frame without a timestamp cannot be read
 abbrev pub timed_seen : Option ℕ → Option SightingView → Result (Option (ℕ × SightingView)) Unread
 timed_seen moment None = Ok None
 timed_seen None (Some s) = Err NoMoment

@@ -1,4 +1,4 @@
--- The plain value of a chart so far.
+-- The plain value of the state of a chart.
 use Rattle.std.specs.Prelude.{map}
 use Rattle.bac_npdu.specs.Views.{peer_view}
 use Rattle.bac_explain_report.specs.CopyViews.{drawn_view}

@@ -1,4 +1,4 @@
--- What is drawn of a frame, and what is kept of it.
+-- The state of a chart, and what is drawn for a frame.
 use Rattle.std.specs.Prelude.{◌≡◌, ◌≤◌, ℕ, ◌+◌, ◌-◌, ◌^◌, min, Bool, true, false, not, if◌then◌else◌, List, [], ◌++◌, length, codes, decimal, Option, Some, None, Result, Ok, Err}
 use Rattle.bac_apdu.specs.Reading.{apdu_at}
 use Rattle.bac_capture.specs.Blocks.{FrameView}
@@ -21,8 +21,8 @@ use Rattle.bac_explain_report.specs.Columns.{Ends, ends_of, with_columns}
 use Rattle.bac_explain_report.specs.Copies.{Drawn, is_again, with_drawn}
 use Rattle.bac_explain_report.specs.declared.sketch.TheConstants.{MOST_PEERS}
 
--- a chart so far: what it is drawn as, the moment of its first datagram, the peers that have columns, the last datagrams that were drawn, how many frames
--- there were, and whether each of them was looked at
+-- the state of a chart: its format, the moment of its first datagram, the peers that have columns, the last datagrams that were drawn, the number of
+-- frames, and whether each of them could be read
 pub record Sketch : Type 0 where
   pub form : ChartFormat
   pub start : Option ℕ
@@ -34,14 +34,14 @@ pub record Sketch : Type 0 where
 abbrev pub fresh : ChartFormat → Sketch
 fresh f = record { form = f; start = None; peers = []; drawn = []; frames = 0; is_whole = true }
 
--- what stands above a chart
+-- the text above a chart
 abbrev pub front_text : ChartFormat → List ℕ
 front_text form.Chart = codes "      ms\n"
 front_text form.Mermaid = codes "sequenceDiagram\n"
 
 -- ---- a datagram
 
--- the client asks, acknowledges segments of the answer, and gives up
+-- the client sends requests, SegmentACKs for the reply, and Aborts
 abbrev pub is_by_client : Role → Bool
 is_by_client (Request number) = true
 is_by_client (Answer number) = false
@@ -78,7 +78,7 @@ drawn_of now s c = drawn_at now c s.octets
 abbrev pub arrow_of : (number moment : ℕ) → Ends → (octets : List ℕ) → Arrow
 arrow_of number moment e octets = record { number = number; sent = moment; from = e.from; to = e.to; words = read_words (apdu_at octets) }
 
--- it says whether the same came before
+-- the row says whether the datagram repeats an earlier one
 abbrev pub row_text : ChartFormat → (nodes : ℕ) → (again : Bool) → (moment : ℕ) → Arrow → List ℕ
 row_text f nodes again moment a = line_text f nodes (coming_line again moment a)
 
@@ -99,11 +99,11 @@ sighting_kept now s k = record {
 
 -- ---- a frame
 
--- counts stay at their last value
+-- counts saturate
 abbrev pub one_frame : Sketch → Sketch
 one_frame k = record k { frames = min (k.frames + 1) (2 ^ 64 - 1) }
 
--- a line that is no arrow: a comment of Mermaid
+-- the beginning of a line that is not an arrow: for Mermaid that of a comment
 abbrev pub remark_front : ChartFormat → List ℕ
 remark_front form.Chart = []
 remark_front form.Mermaid = codes "    %% "
@@ -111,27 +111,27 @@ remark_front form.Mermaid = codes "    %% "
 abbrev pub unread_line : ChartFormat → (number : ℕ) → Unread → List ℕ
 unread_line f number why = remark_front f ++ (codes "frame " ++ (decimal number ++ (codes ": " ++ (unread_text why ++ codes "\n"))))
 
--- it cannot be looked at
+-- a frame that cannot be read
 pub record IsUnread (why : Unread) (k : Sketch) (text : List ℕ) (next : Sketch) : Type 0 where
   pub is_text : text ≡ unread_line k.form k.frames why
   pub is_next : next ≡ record k { is_whole = false }
 
--- it has a datagram of a transaction, which is drawn; there are at most 16 columns
+-- a datagram of a transaction is drawn; there are at most 16 columns
 pub record IsDrawn (now : ℕ) (s : SightingView) (k : Sketch) (text : List ℕ) (next : Sketch) : Type 0 where
   pub is_text : text ≡ sighting_text now s k
   pub is_next : next ≡ sighting_kept now s k
   pub room : length next.peers ≤ MOST_PEERS
 
--- of what is seen in a frame
+-- for what a frame carries
 abbrev pub IsSeen : Result (Option (ℕ × SightingView)) Unread → Sketch → (text : List ℕ) → (next : Sketch) → Type 0
 IsSeen (Err why) k text next = IsUnread why k text next
 IsSeen (Ok None) k text next = (text ≡ []) × (next ≡ k)
 IsSeen (Ok (Some s)) k text next = IsDrawn s.0 s.1 k text next
 
--- of a frame; there is a port beside the sixteen, or none
+-- for a frame; `also` is a port in addition to the sixteen
 abbrev pub SeesFrame : (also : Option ℕ) → FrameView → Sketch → (text : List ℕ) → (next : Sketch) → Type 0
 SeesFrame also frame k text next = IsSeen (seen_of also frame) (one_frame k) text next
 
--- the file cannot be read on: that is printed of the frame that would come
+-- the file cannot be read further: this is printed for the frame that would follow
 abbrev pub BreaksFile : FileFault → Sketch → (text : List ℕ) → (next : Sketch) → Type 0
 BreaksFile fault k text next = IsUnread (File fault) (one_frame k) text next

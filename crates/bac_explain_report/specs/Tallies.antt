@@ -1,4 +1,4 @@
--- How many frames and transactions there are, and what they are.
+-- Counts of frames and transactions.
 use Rattle.std.specs.Prelude.{ℕ, ◌+◌, ◌-◌, ◌^◌, ◌==◌, ◌&&◌, min, max, Option, Some, None, if◌then◌else◌}
 use Rattle.bac_explain.specs.Sent.{SentView}
 use Rattle.bac_explain.specs.Tables.{ClosedView}
@@ -24,7 +24,7 @@ no_frames = record {
   slowest = None;
 }
 
--- counts stay at their last value
+-- counts saturate
 abbrev pub one_more : ℕ → ℕ
 one_more count = min (count + 1) (2 ^ 64 - 1)
 
@@ -44,7 +44,7 @@ with_ending Rejected t = record t { rejected = one_more t.rejected }
 with_ending Aborted t = record t { aborted = one_more t.aborted }
 with_ending Unanswered t = record t { unanswered = one_more t.unanswered }
 
--- the slowest answer is the last after its request
+-- the slowest reply has the greatest delay after its request
 abbrev pub later : Option ℕ → ℕ → Option ℕ
 later None delay = Some delay
 later (Some slowest) delay = Some (max slowest delay)
@@ -60,7 +60,7 @@ delay_in asked (Some s) = Some (s.moment - asked)
 abbrev pub delay_of : TransactionView → Option ℕ
 delay_of t = delay_in t.request.moment t.answer
 
--- with one transaction more
+-- one more closed transaction
 abbrev pub with_block : ClosedView → Tally → Tally
 with_block c t =
     with_delay (delay_of c.transaction) (with_ending (ending_of c.transaction) (record t { transactions = one_more t.transactions }))
@@ -69,6 +69,6 @@ abbrev pub with_blocks : Option ClosedView → Tally → Tally
 with_blocks None t = t
 with_blocks (Some c) t = with_block c t
 
--- nothing was wrong, and every frame was looked at
+-- whether there is no finding, and every frame could be read
 abbrev pub status_of : Tally → Status
 status_of t = if (t.findings == 0) && (t.unread == 0) then Done else Faulty

@@ -1,4 +1,4 @@
--- The texts of why a frame cannot be looked at.
+-- The texts of why a frame cannot be read.
 use Rattle.std.specs.Prelude.{ℕ, List, codes}
 use Rattle.bac_capture.specs.Texts.{packet_fault_text, file_fault_text}
 use Rattle.bac_explain_report.specs.declared.unread.Unread.{Unread}

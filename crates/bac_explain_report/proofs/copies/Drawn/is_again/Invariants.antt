@@ -1,4 +1,4 @@
--- What is a copy of one of those from here on is a copy of one of all.
+-- What repeats one of the remaining datagrams repeats one of all.
 use Rattle.std.proofs.Common.{◌≡◌, drop, map}
 use Rattle.bac_explain_report.specs.Copies.{is_again}
 use Rattle.bac_explain_report.specs.CopyViews.{drawn_view}
