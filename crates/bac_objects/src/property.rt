@@ -6,7 +6,7 @@ ghost use Rattle.bac_value.specs.Views.{value_view};
 ghost use Rattle.bac_value.specs.Writing.{value_spelling};
 ghost use Rattle.bac_store.specs.Limits.{FILE_LIMIT as FILE_MOST, VALUE_LIMIT as VALUE_MOST};
 ghost use Rattle.bac_store.specs.Objects.{are_right_values as are_right, is_right_number, is_right_property};
-ghost use Rattle.bac_store.specs.Stores.{is_state as is_state_in, kind_of as kind_in};
+ghost use Rattle.bac_store.specs.Kinds.{is_state as is_state_in, kind_of as kind_in};
 ghost use Rattle.bac_store.specs.Views.{file_view, property_view};
 ghost use Rattle.toml.specs.View.{view};
 ghost use Rattle.bac_objects.specs.Answers.{Reads};
@@ -20,7 +20,7 @@ use crate::held::{held_file, held_values};
 use crate::problem::{Given, Problem, Wanted};
 use crate::scalars::text;
 use crate::values::{hex_octets, value_in};
-use bac_store::{FILE_LIMIT, File, Property, VALUE_LIMIT};
+use bac_store::{Allowed, FILE_LIMIT, File, Property, VALUE_LIMIT};
 use bac_value::{Class, DataBuf, NoMemory, kinds, take_data, take_element, write_value};
 use std::alloc::Global;
 use toml::Value;
@@ -194,6 +194,7 @@ fn property_in(alloc: Global, kind: u16, key: &str, value: &Value) -> Result<Pro
         number,
         values,
         writable: held.writable,
+        allowed: Allowed::Any,
     })
 }
 

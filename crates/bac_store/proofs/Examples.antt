@@ -12,7 +12,8 @@ use Rattle.bac_service.specs.Values.WriteAccess.{WriteStream, WriteRecords}
 use Rattle.bac_service.specs.Values.Request.{ReadFile, WriteFile, ReadProperty, WriteProperty}
 use Rattle.bac_service.specs.Values.Complex.{FileRead, StreamWritten, PropertyRead}
 use Rattle.bac_service.specs.Replies.Reply.{Simple, Complex, Error}
-use Rattle.bac_store.specs.Stores.{Store, object_in, kind_of}
+use Rattle.bac_store.specs.Kinds.{kind_of}
+use Rattle.bac_store.specs.Stores.{Store, object_in}
 use Rattle.bac_store.specs.Replies.{reply_to, file_of}
 use Rattle.bac_store.specs.Changes.{after}
 use Rattle.bac_store.specs.House.{house}

@@ -1,4 +1,5 @@
 mod Examples
+mod RankExamples
 pub mod Places
 pub mod Orders
 pub mod ValueData

@@ -1,4 +1,7 @@
 pub mod Limits
+pub mod Kinds
+pub mod Ranks
+pub mod Allowing
 pub mod Stores
 pub mod Replies
 pub mod Changes
@@ -12,7 +15,6 @@ pub mod Made
 pub mod Ordered
 pub mod ReplyKinds
 pub mod ReplyLengths
-pub mod Kinds
 pub mod House
 pub mod Writes
 pub mod AtNode

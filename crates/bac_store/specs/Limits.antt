@@ -75,6 +75,12 @@ STREAM_ACCESS = code.STREAM_ACCESS
 
 -- ---- application tags (clause 20.2.1.4)
 
+abbrev pub UNSIGNED : ℕ
+UNSIGNED = kinds.UNSIGNED
+
+abbrev pub SIGNED : ℕ
+SIGNED = kinds.SIGNED
+
 abbrev pub REAL : ℕ
 REAL = kinds.REAL
 

@@ -6,7 +6,9 @@ use Rattle.bac_value.specs.Value.{ObjectId, characters}
 use Rattle.bac_value.specs.Writing.{value_spelling}
 use Rattle.bac_store.specs.Limits.{ANALOG_INPUT, ANALOG_VALUE, BINARY_VALUE, DEVICE, FILE, DESCRIPTION, PRESENT_VALUE, REAL, CHARACTER_STRING, VALUE_LIMIT}
 use Rattle.bac_store.specs.Limits.{FILE_LIMIT, ANY_INSTANCE, FIRST_VENDOR_TYPE, LAST_VENDOR_TYPE, FIRST_VENDOR_PROPERTY, LAST_VENDOR_PROPERTY}
-use Rattle.bac_store.specs.Stores.{Store, Object, Property, File, object_in, listed_in, is_state}
+use Rattle.bac_store.specs.Stores.{Store, Object, Property, File, object_in, listed_in}
+use Rattle.bac_store.specs.Allowing.{are_right_limits}
+use Rattle.bac_store.specs.Kinds.{is_state}
 use Rattle.bac_store.specs.Replies.{is_of_kind}
 
 -- no two objects have the same identifier
@@ -37,7 +39,8 @@ are_right_values k n values =
     (if (n == PRESENT_VALUE) && (k == BINARY_VALUE) then is_state values else true))
 
 abbrev pub is_right_property : ℕ → Property → Bool
-is_right_property k p = is_right_number p.number && nat_le (length p.values) VALUE_LIMIT && are_right_values k p.number p.values
+is_right_property k p =
+    is_right_number p.number && nat_le (length p.values) VALUE_LIMIT && are_right_values k p.number p.values && are_right_limits p.allowed p.values
 
 -- exactly files have octets
 abbrev pub is_right_file : ℕ → Option File → Bool

@@ -1,5 +1,5 @@
 -- The reply of a store to a request: clauses 14.1, 14.2, 15.5 and 15.9, and this profile's table of errors.
-use Rattle.std.specs.Prelude.{ℕ, zero, suc, ◌+◌, ℤ, pos, negsuc, Bool, true, false, not, ◌==◌, ◌&&◌, nat_lt, nat_le, List, [], ◌∷◌, ◌++◌}
+use Rattle.std.specs.Prelude.{ℕ, zero, suc, ◌+◌, ℤ, pos, negsuc, Bool, true, false, not, ◌==◌, ◌&&◌, ◌||◌, nat_lt, nat_le, List, [], ◌∷◌, ◌++◌}
 use Rattle.std.specs.Prelude.{length, take, drop, Option}
 use Rattle.std.specs.Prelude.{Some, None, is_some, if◌then◌else◌}
 use Rattle.bac_value.specs.Value.{ObjectId}
@@ -11,7 +11,9 @@ use Rattle.bac_service.specs.Values.Request.{ReadFile, WriteFile, ReadProperty, 
 use Rattle.bac_service.specs.Values.Complex.{FileRead, StreamWritten, PropertyRead}
 use Rattle.bac_service.specs.Replies.Reply.{Simple, Complex, Error}
 use Rattle.bac_store.specs.Limits.{BINARY_VALUE, PRESENT_VALUE, VALUE_LIMIT, FILE_LIMIT}
-use Rattle.bac_store.specs.Stores.{Store, Object, Property, File, object_in, property_in, kind_of, is_state}
+use Rattle.bac_store.specs.Allowing.{is_allowed}
+use Rattle.bac_store.specs.Kinds.{is_state, is_tag, kind_of}
+use Rattle.bac_store.specs.Stores.{Store, Object, Property, File, object_in, property_in}
 
 -- ---- class and code of each Error (clause 18)
 
@@ -72,10 +74,6 @@ of_property s r answer = at_object (object_in s r.object) (λ o. at_property (pr
 abbrev pub read_reply : Reference → Property → Reply
 read_reply r p = first_case ((is_some r.index ⟶ PROPERTY_IS_NOT_AN_ARRAY) ∷ []) (Complex (PropertyRead r p.values))
 
-abbrev pub is_tag : ℕ → Option ℕ → Bool
-is_tag k None = false
-is_tag k (Some n) = k == n
-
 -- the values are of the property's kind
 abbrev pub is_of_kind : Option ℕ → List ℕ → Bool
 is_of_kind None values = true
@@ -85,13 +83,17 @@ is_of_kind (Some k) values = is_tag k (kind_of values)
 abbrev pub is_binary_state : Reference → Bool
 is_binary_state r = (r.object.kind == BINARY_VALUE) && (r.property == PRESENT_VALUE)
 
+-- the present-value of a binary-value has two states, and the property may have limits
+abbrev pub is_out_of_range : Reference → List ℕ → Property → Bool
+is_out_of_range r values p = (is_binary_state r && not (is_state values)) || not (is_allowed p.allowed values)
+
 abbrev pub write_reply : Reference → List ℕ → Property → Reply
 write_reply r values p =
     first_case
     ((is_some r.index ⟶ PROPERTY_IS_NOT_AN_ARRAY)
     ∷ (not p.writable ⟶ WRITE_ACCESS_DENIED)
     ∷ (not (is_of_kind p.kind values) ⟶ INVALID_DATA_TYPE)
-    ∷ (is_binary_state r && not (is_state values) ⟶ VALUE_OUT_OF_RANGE)
+    ∷ (is_out_of_range r values p ⟶ VALUE_OUT_OF_RANGE)
     ∷ (nat_lt VALUE_LIMIT (length values) ⟶ NO_SPACE_TO_WRITE)
     ∷ [])
     Simple

@@ -10,6 +10,7 @@ ghost use Rattle.bac_store.specs.Objects.{are_right_values as values_in, is_righ
 ghost use Rattle.bac_store.specs.Objects.{is_right_number as number_in, is_right_property as property_in};
 ghost use Rattle.bac_store.specs.Views.{property_view, file_view};
 
+use crate::allowing::are_right_limits;
 use crate::kind::{is_of_kind, is_state};
 use crate::limits::{
     ANALOG_INPUT, ANALOG_VALUE, ANY_INSTANCE, BINARY_VALUE, DESCRIPTION, DEVICE, FILE, FILE_LIMIT,
@@ -65,6 +66,7 @@ fn is_right_property(kind: u16, property: &Property) -> bool
     is_right_number
         && values.len() <= VALUE_LIMIT
         && are_right_values(kind, property.number, values)
+        && are_right_limits(&property.allowed, values)
 }
 
 /// Whether an object of this type may have all of these properties.

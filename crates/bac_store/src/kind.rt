@@ -1,7 +1,7 @@
 //! The kinds of values that properties accept.
 ghost use Rattle.std.specs.Prelude.{◌≡◌};
 ghost use Rattle.bac_service.specs.Views.{property_reference_view};
-ghost use Rattle.bac_store.specs.Stores.{kind_of as kind_in, is_state as is_state_in};
+ghost use Rattle.bac_store.specs.Kinds.{kind_of as kind_in, is_state as is_state_in};
 ghost use Rattle.bac_store.specs.Replies.{is_of_kind as is_of_kind_in, is_binary_state as is_binary};
 
 use crate::limits::{BINARY_VALUE, PRESENT_VALUE, STATE_TAG};

@@ -4,6 +4,8 @@
 //! [`Store::commit`] makes the change; it does not allocate and always succeeds. [`Store::change`] makes a local change.
 #![tactic(auto)]
 
+mod allowed;
+mod allowing;
 mod change;
 mod change_fault;
 mod changing;
@@ -24,12 +26,14 @@ mod permitting;
 mod planned;
 mod preparing;
 mod properties;
+mod rank;
 mod refusal;
 mod spelled;
 mod splice;
 mod store;
 mod store_fault;
 
+pub use allowed::Allowed;
 pub use change::Change;
 pub use change_fault::ChangeFault;
 pub use house_objects::house;

@@ -59,6 +59,7 @@ impl Store {
     /// - a listed property other than 28, 85 and 512 to 4,194,303, or the same one twice;
     /// - a property 28 that is not one CharacterString, an 85 of types 0 and 2 that is not one Real, or an 85 of type 5 that is not
     ///   Enumerated 0 or 1;
+    /// - limits ([`Allowed`](crate::Allowed)) that don't allow its values, or with a value of another kind than they are;
     /// - contents of a file although its type is not 10, none although it is, or more than [`FILE_LIMIT`](crate::FILE_LIMIT) octets.
     ///
     /// Returns `NoMemory` if the objects are valid and an allocation fails.
@@ -150,7 +151,7 @@ impl Store {
         Ok(reply)
     }
 
-    /// Sets the values of a listed property locally, whether or not it may be written over the network. The octets are data
+    /// Sets the values of a listed property locally, whether or not it may be written over the network, and whatever its limits are. The octets are data
     /// (clause 20.2) as WriteProperty takes them: of the property's kind (a property without a kind takes any data), Enumerated
     /// 0 or 1 for the present-value of a binary-value, and at most [`VALUE_LIMIT`](crate::VALUE_LIMIT) of them.
     ///
