@@ -6,7 +6,7 @@ use Rattle.bac_service.specs.Values.{Reference}
 use Rattle.bac_service.specs.Replies.Reply.{Simple, Error}
 use Rattle.bac_store.specs.Allowing.{Allowed, are_right_limits, is_allowed}
 use Rattle.bac_store.specs.Ranks.{is_at_most, rank_of, real_place}
-use Rattle.bac_store.specs.Replies.{write_reply}
+use Rattle.bac_store.specs.Replies.{is_right_state, write_reply}
 use Rattle.bac_store.specs.Stores.{Property}
 
 -- ---- Reals by their bits, from the least to the greatest
@@ -112,17 +112,17 @@ abbrev here : Reference
 here = record { object = record { kind = 200; instance = 1 }; property = 85; index = None }
 
 at_the_greatest : write_reply here (0x21 ∷ 3 ∷ []) level ≡ Simple
-unfolding element_at tag_at tag_number_at form_at length_at contents_at class_at kind_at raw_at number_at
+unfolding element_at tag_at tag_number_at form_at length_at contents_at class_at kind_at raw_at number_at is_right_state
 at_the_greatest = refl
 
 one_beyond : write_reply here (0x21 ∷ 4 ∷ []) level ≡ Error 2 37
-unfolding element_at tag_at tag_number_at form_at length_at contents_at class_at kind_at raw_at number_at
+unfolding element_at tag_at tag_number_at form_at length_at contents_at class_at kind_at raw_at number_at is_right_state
 one_beyond = refl
 
 one_below : write_reply here (0x21 ∷ 0 ∷ []) level ≡ Error 2 37
-unfolding element_at tag_at tag_number_at form_at length_at contents_at class_at kind_at raw_at number_at
+unfolding element_at tag_at tag_number_at form_at length_at contents_at class_at kind_at raw_at number_at is_right_state
 one_below = refl
 
 another_kind_first : write_reply here (0x91 ∷ 4 ∷ []) level ≡ Error 2 9
-unfolding element_at tag_at tag_number_at form_at length_at contents_at class_at kind_at raw_at number_at
+unfolding element_at tag_at tag_number_at form_at length_at contents_at class_at kind_at raw_at number_at is_right_state
 another_kind_first = refl

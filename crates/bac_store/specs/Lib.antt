@@ -12,6 +12,7 @@ pub mod Kept
 pub mod Answers
 pub mod Lookups
 pub mod Made
+pub mod Described
 pub mod Ordered
 pub mod ReplyKinds
 pub mod ReplyLengths

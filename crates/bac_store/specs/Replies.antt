@@ -10,9 +10,9 @@ use Rattle.bac_service.specs.Values.WriteAccess.{WriteStream, WriteRecords}
 use Rattle.bac_service.specs.Values.Request.{ReadFile, WriteFile, ReadProperty, WriteProperty}
 use Rattle.bac_service.specs.Values.Complex.{FileRead, StreamWritten, PropertyRead}
 use Rattle.bac_service.specs.Replies.Reply.{Simple, Complex, Error}
-use Rattle.bac_store.specs.Limits.{BINARY_VALUE, PRESENT_VALUE, VALUE_LIMIT, FILE_LIMIT}
+use Rattle.bac_store.specs.Limits.{PRESENT_VALUE, VALUE_LIMIT, FILE_LIMIT}
 use Rattle.bac_store.specs.Allowing.{is_allowed}
-use Rattle.bac_store.specs.Kinds.{is_state, is_tag, kind_of}
+use Rattle.bac_store.specs.Kinds.{is_state_of, is_tag, kind_of}
 use Rattle.bac_store.specs.Stores.{Store, Object, Property, File, object_in, property_in}
 
 -- ---- class and code of each Error (clause 18)
@@ -79,13 +79,13 @@ abbrev pub is_of_kind : Option ℕ → List ℕ → Bool
 is_of_kind None values = true
 is_of_kind (Some k) values = is_tag k (kind_of values)
 
--- a present-value of a binary-value
-abbrev pub is_binary_state : Reference → Bool
-is_binary_state r = (r.object.kind == BINARY_VALUE) && (r.property == PRESENT_VALUE)
+-- a state of the object, if the property is its present-value
+unfoldable pub is_right_state : Reference → List ℕ → Bool
+is_right_state r values = if r.property == PRESENT_VALUE then is_state_of r.object.kind values else true
 
--- the present-value of a binary-value has two states, and the property may have limits
+-- the present-value of a binary or a multi-state object has states, and a property may have limits
 abbrev pub is_out_of_range : Reference → List ℕ → Property → Bool
-is_out_of_range r values p = (is_binary_state r && not (is_state values)) || not (is_allowed p.allowed values)
+is_out_of_range r values p = not (is_right_state r values) || not (is_allowed p.allowed values)
 
 abbrev pub write_reply : Reference → List ℕ → Property → Reply
 write_reply r values p =

@@ -9,7 +9,8 @@ use crate::kind::kind_of;
 use crate::rank::is_at_most;
 use bac_value::DataBuf;
 
-fn are_same(values: &[u8], other: &[u8]) -> bool
+/// Whether both are the same octets.
+pub(crate) fn are_same(values: &[u8], other: &[u8]) -> bool
     ensures { result ≡ same values.now other.now }
 {
     values == other

@@ -13,7 +13,7 @@ ghost use Rattle.bac_store.specs.Views.{entry_view, slot_view};
 
 use crate::allowing::is_allowed;
 use crate::entry::{StoredObject, StoredProperty};
-use crate::kind::{is_binary_state, is_of_kind, is_state};
+use crate::kind::{is_of_kind, is_right_state};
 use crate::limits::VALUE_LIMIT;
 use crate::lookups::{Found, find, values_of};
 use crate::refusal::Refusal;
@@ -45,11 +45,11 @@ pub(crate) fn read_property(
     Ok(AnyReply::Complex(AnyComplex::PropertyRead(PropertyRead { reference, values })))
 }
 
-/// Whether the values are of the property's kind, but no state of a binary-value, or not allowed.
+/// Whether the values are no state of the object, or not allowed.
 fn is_out_of_range(slot: &StoredProperty, reference: PropertyReference, values: &[u8]) -> bool
     ensures { result ≡ out_of_range (property_reference_view reference) values.now (slot_view slot.now) }
 {
-    (is_binary_state(reference) && !is_state(values)) || !is_allowed(&slot.allowed, values)
+    !is_right_state(reference, values) || !is_allowed(&slot.allowed, values)
 }
 
 /// Why a listed property is not written; None if it is written.
