@@ -17,3 +17,5 @@ pub mod KindLaws
 pub mod OrderLaws
 pub mod WriteLaws
 pub mod GrantLaws
+pub mod Viewed
+pub mod ObjectLists

@@ -5,12 +5,10 @@ ghost use Rattle.bac_store.specs.Described.{AreDescribed, AreRightProperties, Is
 ghost use Rattle.bac_store.specs.Stores.{is_number};
 ghost use Rattle.bac_store.specs.Views.{object_view, property_view};
 
-use crate::allowing::{are_right_limits, are_same};
-use crate::checking::{
-    are_right_values, is_right_file, is_right_id, is_right_name, is_right_number,
-};
+use crate::allowing::are_same;
+use crate::checking::{flaw_of, is_right_file, is_right_id, is_right_name, is_right_property};
 use crate::description_fault::{DescriptionFault, DescriptionFlaw, of_all};
-use crate::limits::{DEVICE, OBJECT_LIST, OBJECTS_LIMIT, VALUE_LIMIT};
+use crate::limits::{DEVICE, OBJECT_LIST, OBJECTS_LIMIT};
 use crate::object::{Object, Property};
 use crate::rule::Rule;
 
@@ -26,24 +24,14 @@ fn property_flaw(kind: u16, before: &[Property], property: &Property) -> Option<
     ensures { MatchOption result (IsNextProperty kind (map property_view before.now) (property_view property.now))
         (λ _. IsNextProperty kind (map property_view before.now) (property_view property.now) → ⊥) }
 {
-    let values = property.values.octets.as_slice();
     if property.number == OBJECT_LIST {
         return Some(DescriptionFlaw::Number);
     }
-    if !is_right_number(Rule::Described, property.number) {
-        return Some(DescriptionFlaw::Number);
+    if !is_right_property(Rule::Described, kind, property) {
+        return Some(flaw_of(kind, property));
     }
     if !is_new_number(before, property.number) {
         return Some(DescriptionFlaw::Twice);
-    }
-    if values.len() > VALUE_LIMIT {
-        return Some(DescriptionFlaw::Values);
-    }
-    if !are_right_values(kind, property.number, values) {
-        return Some(DescriptionFlaw::Values);
-    }
-    if !are_right_limits(&property.allowed, values) {
-        return Some(DescriptionFlaw::Limits);
     }
     None
 }
@@ -119,7 +107,10 @@ fn object_flaw(before: &[Object], object: &Object) -> Option<(Option<u32>, Descr
     if !is_named_other(before, object) {
         return Some((None, DescriptionFlaw::SameName));
     }
-    if object.id.kind == DEVICE && !is_without_device(before) {
+    if object.id.kind != DEVICE {
+        return None;
+    }
+    if !is_without_device(before) {
         return Some((None, DescriptionFlaw::SecondDevice));
     }
     None
