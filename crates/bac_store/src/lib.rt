@@ -40,6 +40,7 @@ mod store_fault;
 pub use allowed::Allowed;
 pub use change::Change;
 pub use change_fault::ChangeFault;
+pub use checking::are_right_values;
 pub use description_fault::{DescriptionFault, DescriptionFlaw};
 pub use house_objects::house;
 pub use laws::{
