@@ -1,7 +1,9 @@
 -- What is listed for a node that is to be started.
 use Rattle.std.specs.Prelude.{◌≡◌, ℕ, Bool, false, List, [], ◌∷◌, ◌++◌, Option, Some, None, MatchOption}
 use Rattle.bac_store.specs.AtNode.{is_data}
-use Rattle.bac_store.specs.Stores.{Object, kind_of}
+use Rattle.bac_store.specs.Allowing.{Allowed}
+use Rattle.bac_store.specs.Kinds.{kind_of}
+use Rattle.bac_store.specs.Stores.{Object}
 use Rattle.bac_c.specs.declared.device.Device.{Device}
 use Rattle.bac_c.specs.Starting.{listed_in}
 
@@ -12,7 +14,10 @@ bare t i name = record { id = record { kind = t; instance = i }; name = name; pr
 -- an object with one more property
 abbrev pub with_property : (number : ℕ) → (values : List ℕ) → (writable : Bool) → Object → Object
 with_property n values writable o =
-    record o { properties = o.properties ++ record { number = n; values = values; writable = writable; kind = kind_of values } ∷ [] }
+    record o {
+      properties =
+          o.properties ++ record { number = n; values = values; writable = writable; kind = kind_of values; allowed = Allowed.Any } ∷ [];
+    }
 
 -- there is an object that can have one more, and the octets are data
 abbrev pub can_add : (values : List ℕ) → List Object → Bool

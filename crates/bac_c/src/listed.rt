@@ -11,10 +11,12 @@ fn copied_property(alloc: Global, property: &Property) -> Result<Property, NoMem
     ensures { IfOk result (λ p. property_view p ≡ property_view property.now) }
 {
     let values = property.values.as_data().to_owned(alloc)?;
+    let allowed = property.allowed.copied(alloc)?;
     Ok(Property {
         number: property.number,
         values,
         writable: property.writable,
+        allowed,
     })
 }
 

@@ -12,7 +12,7 @@ use crate::device::Device;
 use crate::fault::{Fault, status};
 use crate::handle::Handle;
 use crate::ranges::{identifier_of, whole_data};
-use bac_store::{File, Object, Property};
+use bac_store::{Allowed, File, Object, Property};
 use std::alloc::Global;
 
 /// An object of that name, in UTF-8, without properties and without a file.
@@ -117,6 +117,7 @@ impl Device {
                 number,
                 values,
                 writable,
+                allowed: Allowed::Any,
             },
         );
         self.listed.push_reserved(object);

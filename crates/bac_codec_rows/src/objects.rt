@@ -3,7 +3,7 @@
 //! `TYPE:INSTANCE/PART/..` is an object, and a part is `NUMBER=HEX` for a property that can be written, `name=TEXT`, `file=HEX` for a file that can be written,
 //! and `log=HEX` for one that cannot. An object without a name is called `bare`.
 use crate::words::{number, octets_of, put};
-use bac_store::{File, Object, Property};
+use bac_store::{Allowed, File, Object, Property};
 use bac_value::{ObjectIdentifier, read_data};
 use std::alloc::Global;
 
@@ -32,6 +32,7 @@ fn property(alloc: Global, key: &str, digits: &str) -> Option<Property> {
         number: u32::try_from(number(key)?).ok()?,
         values: data.to_owned(alloc).ok()?,
         writable: true,
+        allowed: Allowed::Any,
     })
 }
 

@@ -21,10 +21,10 @@ use Rattle.bac_service.specs.Replies.Reply.{Simple, Complex}
 use Rattle.bac_service.specs.Values.Complex.{StreamWritten, PropertyRead}
 use Rattle.bac_store.specs.Limits.{FILE_ACCESS_METHOD, FILE_SIZE, OBJECT_IDENTIFIER, OBJECT_NAME, OBJECT_TYPE, FILE_LIMIT, VALUE_LIMIT}
 use Rattle.bac_store.specs.Stores.{Store, Object, Property, File, first_that, object_in, listed_in, is_number, is_object, property_in, computed}
-use Rattle.bac_store.specs.Stores.{access_method, file_size, is_state}
+use Rattle.bac_store.specs.Stores.{access_method, file_size}
 use Rattle.bac_store.specs.Replies.{PROPERTY_IS_NOT_AN_ARRAY, WRITE_ACCESS_DENIED, INVALID_DATA_TYPE, VALUE_OUT_OF_RANGE}
 use Rattle.bac_store.specs.Replies.{NO_SPACE_TO_WRITE, FILE_ACCESS_DENIED, INVALID_FILE_START_POSITION}
-use Rattle.bac_store.specs.Replies.{at_object, at_property, at_file, file_of, read_reply, write_reply, is_of_kind, is_binary_state}
+use Rattle.bac_store.specs.Replies.{at_object, at_property, at_file, file_of, read_reply, write_reply, is_of_kind, is_out_of_range}
 use Rattle.bac_store.specs.Replies.{file_read, read_start, is_no_read_start, read_file_reply, octets_from, write_start, is_no_write_start, written}
 use Rattle.bac_store.specs.Replies.{write_file_reply, reply_to}
 use Rattle.bac_store.specs.House.{house, flow, setpoint, pump, house_device, log}
@@ -159,7 +159,7 @@ five_short false false false false false = tt
 
 property_written_short : (r : Reference) (values : List ℕ) (p : Property) → IsShort (write_reply r values p)
 property_written_short r values p =
-    five_short (is_some r.index) (not p.writable) (not (is_of_kind p.kind values)) (is_binary_state r && not (is_state values))
+    five_short (is_some r.index) (not p.writable) (not (is_of_kind p.kind values)) (is_out_of_range r values p)
     (nat_lt VALUE_LIMIT (length values))
 
 file_read_short : (start count : ℕ) (octets : List ℕ) → length octets ≤ 30 → IsShort (file_read start count octets)

@@ -7,7 +7,9 @@ use Rattle.bac_value.specs.Steps.{◌>>=◌}
 use Rattle.bac_value.specs.Writing.{value_spelling}
 use Rattle.bac_store.specs.Limits.{BINARY_VALUE, DESCRIPTION, FILE_LIMIT, VALUE_LIMIT}
 use Rattle.bac_store.specs.Objects.{are_right_values, is_right_number}
-use Rattle.bac_store.specs.Stores.{Property, File, is_number, kind_of}
+use Rattle.bac_store.specs.Allowing.{Allowed}
+use Rattle.bac_store.specs.Kinds.{kind_of}
+use Rattle.bac_store.specs.Stores.{Property, File, is_number}
 use Rattle.toml.specs.Data.{Data}
 use Rattle.bac_objects.specs.Held.{FORMS, FILE_FORMS, held_in}
 use Rattle.bac_objects.specs.Identifiers.{or_other}
@@ -58,7 +60,7 @@ right_at kind number form values =
     else (if are_right_values kind number values then Ok values else Err (record { wanted = wanted_at kind number; given = given_as form }))
 
 abbrev pub property_with : (number : ℕ) → (writable : Bool) → (values : List ℕ) → Property
-property_with number writable values = record { number = number; values = values; writable = writable; kind = kind_of values }
+property_with number writable values = record { number = number; values = values; writable = writable; kind = kind_of values; allowed = Allowed.Any }
 
 -- the property of an object of this type
 unfoldable pub property_of : (kind : ℕ) → (key : List ℕ) → Data → Result Property Problem

@@ -6,7 +6,6 @@ ghost use Rattle.bac_value.specs.Views.{value_view};
 ghost use Rattle.bac_value.specs.Writing.{value_spelling};
 ghost use Rattle.bac_store.specs.Limits.{FILE_LIMIT as FILE_MOST, VALUE_LIMIT as VALUE_MOST};
 ghost use Rattle.bac_store.specs.Objects.{are_right_values as are_right, is_right_number, is_right_property};
-ghost use Rattle.bac_store.specs.Stores.{is_state as is_state_in, kind_of as kind_in};
 ghost use Rattle.bac_store.specs.Views.{file_view, property_view};
 ghost use Rattle.toml.specs.View.{view};
 ghost use Rattle.bac_objects.specs.Answers.{Reads};
@@ -20,8 +19,8 @@ use crate::held::{held_file, held_values};
 use crate::problem::{Given, Problem, Wanted};
 use crate::scalars::text;
 use crate::values::{hex_octets, value_in};
-use bac_store::{FILE_LIMIT, File, Property, VALUE_LIMIT};
-use bac_value::{Class, DataBuf, NoMemory, kinds, take_data, take_element, write_value};
+use bac_store::{Allowed, FILE_LIMIT, File, Property, VALUE_LIMIT, are_right_values};
+use bac_value::{DataBuf, NoMemory, take_data, write_value};
 use std::alloc::Global;
 use toml::Value;
 
@@ -34,16 +33,8 @@ const PRESENT_VALUE: u32 = 85;
 /// The first proprietary property (clause 23.1).
 const FIRST_VENDOR_PROPERTY: u32 = 512;
 
-// object types (BACnetObjectType)
-
-const ANALOG_INPUT: u16 = 0;
-
-const ANALOG_VALUE: u16 = 2;
-
+/// The object type binary-value.
 const BINARY_VALUE: u16 = 5;
-
-/// The first octet of an Enumerated with one octet of contents: its tag.
-const STATE_TAG: u8 = 0x91;
 
 /// The last proprietary property: numbers have 22 bits (clause 23.1).
 const LAST_PROPERTY: u32 = 4_194_303;
@@ -99,41 +90,6 @@ fn values_in(alloc: Global, form: ValueForm, value: &Value) -> Result<DataBuf, V
             let octets = hex_octets(alloc, value)?;
             Ok(data_in(octets)?)
         }
-    }
-}
-
-/// The application tag of data that consist of one element; None for all other data.
-fn kind_of(values: &[u8]) -> Option<u8>
-    ensures { result ≡ kind_in values.now }
-{
-    match take_element(values) {
-        Ok((element, rest)) if rest.is_empty() => match element.tag.class {
-            Class::Application => Some(element.tag.number),
-            Class::Context => None,
-        },
-        _ => None,
-    }
-}
-
-/// Whether data are Enumerated 0 or 1.
-fn is_state(values: &[u8]) -> bool
-    ensures { result ≡ is_state_in values.now }
-{
-    match values {
-        [tag, number] => *tag == STATE_TAG && *number < 2,
-        _ => false,
-    }
-}
-
-/// Whether values are valid for a property of an object of this type.
-fn are_right_values(kind: u16, number: u32, values: &[u8]) -> bool
-    ensures { result ≡ are_right kind number values.now }
-{
-    match (number, kind) {
-        (DESCRIPTION, _) => kind_of(values) == Some(kinds::CHARACTER_STRING),
-        (PRESENT_VALUE, ANALOG_INPUT | ANALOG_VALUE) => kind_of(values) == Some(kinds::REAL),
-        (PRESENT_VALUE, BINARY_VALUE) => is_state(values),
-        _ => true,
     }
 }
 
@@ -194,6 +150,7 @@ fn property_in(alloc: Global, kind: u16, key: &str, value: &Value) -> Result<Pro
         number,
         values,
         writable: held.writable,
+        allowed: Allowed::Any,
     })
 }
 

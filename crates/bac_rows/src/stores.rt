@@ -1,5 +1,5 @@
 //! Stores of rows.
-use bac_store::{Object, Property, Store};
+use bac_store::{Allowed, Object, Property, Store};
 use bac_value::{ObjectIdentifier, read_data};
 use std::alloc::Global;
 
@@ -13,6 +13,7 @@ pub fn store_of(alloc: Global, id: ObjectIdentifier, number: u32, octets: &[u8])
         number,
         values,
         writable: false,
+        allowed: Allowed::Any,
     };
     properties.push(property).ok()?;
     let object = Object {

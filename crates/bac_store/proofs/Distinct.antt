@@ -12,7 +12,7 @@ use Rattle.std.proofs.lemmas.Map.Made.{AllPairs-from_IsDistinct, IsDistinct-from
 use Rattle.bac_store.specs.Stores.{first_that}
 
 -- the element at a place
-element : {A : Type 0} (xs : List A) (i : ℕ) → i < length xs → A
+pub element : {A : Type 0} (xs : List A) (i : ℕ) → i < length xs → A
 element [] i l = absurd (omega arith)
 element (x ∷ xs) zero l = x
 element (x ∷ xs) (suc i) l = element xs i (omega arith)

@@ -12,8 +12,9 @@ use Rattle.bac_service.specs.Values.WriteAccess.{WriteStream, WriteRecords}
 use Rattle.bac_service.specs.Values.Request.{ReadFile, WriteFile, ReadProperty, WriteProperty}
 use Rattle.bac_service.specs.Values.Complex.{FileRead, StreamWritten, PropertyRead}
 use Rattle.bac_service.specs.Replies.Reply.{Simple, Complex, Error}
-use Rattle.bac_store.specs.Stores.{Store, object_in, kind_of}
-use Rattle.bac_store.specs.Replies.{reply_to, file_of}
+use Rattle.bac_store.specs.Kinds.{kind_of}
+use Rattle.bac_store.specs.Stores.{Store, object_in}
+use Rattle.bac_store.specs.Replies.{reply_to, file_of, is_right_state}
 use Rattle.bac_store.specs.Changes.{after}
 use Rattle.bac_store.specs.House.{house}
 
@@ -71,24 +72,24 @@ computed_not_writable : reply_to house (WriteProperty (to 0 5 77) (real_of 0 0) 
 computed_not_writable = refl
 
 out_of_range : reply_to house (WriteProperty (to 5 1 85) (0x91 ∷ 2 ∷ []) None) ≡ Error 2 37
-unfolding element_at tag_at tag_number_at form_at length_at contents_at class_at kind_at raw_at
+unfolding element_at tag_at tag_number_at form_at length_at contents_at class_at kind_at raw_at is_right_state
 out_of_range = refl
 
 other_kind : reply_to house (WriteProperty (to 5 1 85) (0x21 ∷ 1 ∷ []) None) ≡ Error 2 9
-unfolding element_at tag_at tag_number_at form_at length_at contents_at class_at kind_at raw_at
+unfolding element_at tag_at tag_number_at form_at length_at contents_at class_at kind_at raw_at is_right_state
 other_kind = refl
 
 two_values : reply_to house (WriteProperty (to 5 1 85) (0x91 ∷ 1 ∷ 0x91 ∷ 1 ∷ []) None) ≡ Error 2 9
-unfolding element_at tag_at tag_number_at form_at length_at contents_at class_at kind_at raw_at
+unfolding element_at tag_at tag_number_at form_at length_at contents_at class_at kind_at raw_at is_right_state
 two_values = refl
 
 writes_setpoint : reply_to house (WriteProperty (to 2 1 85) (real_of 0x43 0x34) None) ≡ Simple
-unfolding element_at tag_at tag_number_at form_at length_at contents_at class_at kind_at raw_at
+unfolding element_at tag_at tag_number_at form_at length_at contents_at class_at kind_at raw_at is_right_state
 writes_setpoint = refl
 
 setpoint_is_written : reply_to (after house (WriteProperty (to 2 1 85) (real_of 0x43 0x34) None)) (ReadProperty (to 2 1 85)) ≡ Complex
     (PropertyRead (to 2 1 85) (real_of 0x43 0x34))
-unfolding element_at tag_at tag_number_at form_at length_at contents_at class_at kind_at raw_at
+unfolding element_at tag_at tag_number_at form_at length_at contents_at class_at kind_at raw_at is_right_state
 setpoint_is_written = refl
 
 refused_write_changes_nothing : after house (WriteProperty (to 0 5 85) (real_of 0 0) None) ≡ house

@@ -14,8 +14,9 @@ use Rattle.bac_store.specs.declared.change_fault.ChangeFault.TheVariants as faul
 use Rattle.bac_store.specs.AtNode.{Change, change_fault, changed, is_data, or_fault, reads_all, value_fault}
 use Rattle.bac_store.specs.Changes.{IsGranted, after, is_done}
 use Rattle.bac_store.specs.Limits.{FILE_ACCESS_METHOD, FILE_SIZE, OBJECT_IDENTIFIER, OBJECT_NAME, OBJECT_TYPE, STREAM_ACCESS, VALUE_LIMIT}
-use Rattle.bac_store.specs.Replies.{at_object, at_property, is_binary_state, is_of_kind, reply_to, write_reply}
-use Rattle.bac_store.specs.Stores.{File, Object, Property, Store, computed, is_state, listed_in, object_in, property_in}
+use Rattle.bac_store.specs.Replies.{at_object, at_property, is_of_kind, is_right_state, reply_to, write_reply}
+use Rattle.bac_store.specs.Allowing.{is_allowed}
+use Rattle.bac_store.specs.Stores.{File, Object, Property, Store, computed, listed_in, object_in, property_in}
 use Rattle.bac_store.proofs.WriteLaws.{where_done}
 
 module _ (r : Reference) (values : List ℕ) where
@@ -24,27 +25,26 @@ module _ (r : Reference) (values : List ℕ) where
   Grants x = is_done (at_property x (write_reply r values)) ≡ true
 
   -- the cases of a WriteProperty, and what the change tests
-  abbrev fault_of : (right kind binary state long : Bool) → Option ChangeFault
-  fault_of right kind binary state long =
-      if right && kind && (not binary || state) then (if long then Some fault.TooLong else None) else Some fault.BadValue
+  abbrev fault_of : (right kind state long : Bool) → Option ChangeFault
+  fault_of right kind state long = if right && kind && state then (if long then Some fault.TooLong else None) else Some fault.BadValue
 
-  by_case : (index writable kind binary state long : Bool)
+  by_case : (index writable kind state allowed long : Bool)
       → is_done (if index then Reply.Error 2 50 else (if not writable then Reply.Error 2 40 else (if not kind then Reply.Error 2 9 else
-      (if binary && not state then Reply.Error 2 37 else (if long then Reply.Error 3 20 else Simple))))) ≡ true
-      → fault_of true kind binary state long ≡ None
-  by_case true writable kind binary state long h = cc
-  by_case false false kind binary state long h = cc
-  by_case false true false binary state long h = cc
+      (if not state || not allowed then Reply.Error 2 37 else (if long then Reply.Error 3 20 else Simple))))) ≡ true
+      → fault_of true kind state long ≡ None
+  by_case true writable kind state allowed long h = cc
+  by_case false false kind state allowed long h = cc
+  by_case false true false state allowed long h = cc
+  by_case false true true false allowed long h = cc
   by_case false true true true false long h = cc
   by_case false true true true true true h = cc
   by_case false true true true true false h = refl
-  by_case false true true false state true h = cc
-  by_case false true true false state false h = refl
 
   no_fault : (p : Property) → is_data values ≡ true → Grants (Some p) → value_fault r values p ≡ None
   no_fault p right h =
-      ap (λ b. fault_of b (is_of_kind p.kind values) (is_binary_state r) (is_state values) (nat_lt VALUE_LIMIT (length values))) right
-      ∙ by_case (is_some r.index) p.writable (is_of_kind p.kind values) (is_binary_state r) (is_state values) (nat_lt VALUE_LIMIT (length values)) h
+      ap (λ b. fault_of b (is_of_kind p.kind values) (is_right_state r values) (nat_lt VALUE_LIMIT (length values))) right
+      ∙ by_case (is_some r.index) p.writable (is_of_kind p.kind values) (is_right_state r values) (is_allowed p.allowed values)
+      (nat_lt VALUE_LIMIT (length values)) h
 
   -- a computed property is never written
   not_computed : (n : ℕ) (d : Datum) → Grants (Some (computed n d)) → ⊥
@@ -85,6 +85,7 @@ module _ (r : Reference) (values : List ℕ) where
 
 pub granted_change : (s : Store) (r : Reference) (values : List ℕ) (priority : Option ℕ) → IsData values → IsGranted s (WriteProperty r values priority)
     → change_fault s (Change.Value r.object r.property values) ≡ None
+unfolding is_right_state
 granted_change s r values priority right granted = of_object r values (object_in s r.object) (ap reads_all (data_text right.0 values right.1)) granted
 
 pub granted_after : (s : Store) (r : Reference) (values : List ℕ) (priority : Option ℕ) → IsGranted s (WriteProperty r values priority)

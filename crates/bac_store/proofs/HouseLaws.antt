@@ -10,7 +10,7 @@ use Rattle.bac_value.specs.Value.{real, characters, enumerated}
 use Rattle.bac_value.specs.Writing.{value_spelling}
 use Rattle.bac_store.specs.House.{house, flow, setpoint, pump, house_device, log}
 use Rattle.bac_store.specs.Kept.{object_number, IsInOrder, IsKept, IsShort}
-use Rattle.bac_store.specs.Stores.{kind_of}
+use Rattle.bac_store.specs.Kinds.{kind_of}
 
 pub kind_of_flow : kind_of (value_spelling (real (0x42 ∷ 0x90 ∷ 0x99 ∷ 0x9A ∷ []))) ≡ Some 4
 unfolding tag_spelling element_at tag_at tag_number_at form_at length_at contents_at class_at kind_at raw_at

@@ -15,8 +15,7 @@ use Rattle.bac_value.specs.Spelling.{length_fits, tag_spelling}
 use Rattle.bac_value.specs.Value.{Datum, null, boolean, unsigned, signed, real, double, octets, characters, bits, enumerated, date, time, object}
 use Rattle.bac_value.specs.Value.{IsContents, SpellsValue, form_of, kind_number, mark_for}
 use Rattle.bac_value.proofs.Elements.{element_again, element_takes}
-use Rattle.bac_store.specs.Kinds.{IsOneValue}
-use Rattle.bac_store.specs.Stores.{application_number, kind_before, kind_of, kind_read}
+use Rattle.bac_store.specs.Kinds.{IsOneValue, application_number, kind_before, kind_of, kind_read}
 use Rattle.bac_store.proofs.ValueData.{element_of, part_of}
 
 pub kind_of_value : (values : List ℕ) (k : ℕ) → IsOneValue k values → kind_of values ≡ Some k

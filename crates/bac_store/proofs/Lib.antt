@@ -1,4 +1,5 @@
 mod Examples
+mod RankExamples
 pub mod Places
 pub mod Orders
 pub mod ValueData
@@ -16,3 +17,5 @@ pub mod KindLaws
 pub mod OrderLaws
 pub mod WriteLaws
 pub mod GrantLaws
+pub mod Viewed
+pub mod ObjectLists

@@ -1,5 +1,5 @@
 -- Each reply fits the service choice of its request.
-use Rattle.std.proofs.Common.{ℕ, pos, Bool, true, false, not, ◌&&◌, nat_lt, length, List, [], ◌∷◌, Option, Some, None, is_some, if◌then◌else◌, refl}
+use Rattle.std.proofs.Common.{ℕ, pos, Bool, true, false, not, nat_lt, length, List, [], ◌∷◌, Option, Some, None, is_some, if◌then◌else◌, refl}
 use Rattle.bac_service.specs.declared.service.TheConstants.{ATOMIC_READ_FILE, ATOMIC_WRITE_FILE, READ_PROPERTY, WRITE_PROPERTY}
 use Rattle.bac_service.specs.Values.{Reference, Request, ReadAccess, WriteAccess, choice_of}
 use Rattle.bac_service.specs.Replies.{Reply}
@@ -13,8 +13,8 @@ use Rattle.bac_store.specs.ReplyKinds.{FitsChoice}
 use Rattle.bac_store.specs.Replies.{PROPERTY_IS_NOT_AN_ARRAY, WRITE_ACCESS_DENIED, INVALID_DATA_TYPE, VALUE_OUT_OF_RANGE}
 use Rattle.bac_store.specs.Replies.{NO_SPACE_TO_WRITE, FILE_ACCESS_DENIED, INVALID_FILE_START_POSITION, ◌⟶◌, first_case, at_property, at_object, at_file}
 use Rattle.bac_store.specs.Replies.{read_reply, write_reply, read_file_reply, write_file_reply, file_of, file_read, read_start, is_no_read_start}
-use Rattle.bac_store.specs.Replies.{is_no_write_start, written, write_start, is_of_kind, is_binary_state, reply_to}
-use Rattle.bac_store.specs.Stores.{Store, Object, Property, File, is_state, object_in, property_in}
+use Rattle.bac_store.specs.Replies.{is_no_write_start, written, write_start, is_of_kind, is_out_of_range, reply_to}
+use Rattle.bac_store.specs.Stores.{Store, Object, Property, File, object_in, property_in}
 
 -- each of some replies fits
 abbrev Fit : ℕ → List (Bool × Reply) → Type 0
@@ -41,7 +41,7 @@ write_fits (Some p) r values =
     ((is_some r.index ⟶ PROPERTY_IS_NOT_AN_ARRAY)
     ∷ (not p.writable ⟶ WRITE_ACCESS_DENIED)
     ∷ (not (is_of_kind p.kind values) ⟶ INVALID_DATA_TYPE)
-    ∷ (is_binary_state r && not (is_state values) ⟶ VALUE_OUT_OF_RANGE)
+    ∷ (is_out_of_range r values p ⟶ VALUE_OUT_OF_RANGE)
     ∷ (nat_lt VALUE_LIMIT (length values) ⟶ NO_SPACE_TO_WRITE)
     ∷ [])
     Simple (tt, (tt, (tt, (tt, (tt, tt))))) refl

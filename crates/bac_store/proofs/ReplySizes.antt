@@ -1,5 +1,5 @@
 -- No reply of a store has more service data than can be sent.
-use Rattle.std.proofs.Common.{◌≡◌, ℕ, ℤ, pos, not, ◌&&◌, nat_lt, ◌+◌, ◌≤◌, Bool, true, false, ◌==◌, List, [], ◌∷◌, length}
+use Rattle.std.proofs.Common.{◌≡◌, ℕ, ℤ, pos, not, nat_lt, ◌+◌, ◌≤◌, Bool, true, false, ◌==◌, List, [], ◌∷◌, length}
 use Rattle.std.proofs.Common.{Option, Some, None, is_some, IfSome, if◌then◌else◌, refl, subst, arith}
 use Rattle.std.specs.Option.{option_map}
 use Rattle.std.proofs.lemmas.Bool.Decides.{nat_tests}
@@ -24,11 +24,11 @@ use Rattle.bac_store.specs.Kept.{IsInOrder, IsKept, IsShort}
 use Rattle.bac_store.specs.Limits.{FILE_LIMIT, VALUE_LIMIT, FILE_ACCESS_METHOD, FILE_SIZE, OBJECT_IDENTIFIER, OBJECT_NAME, OBJECT_TYPE, STREAM_ACCESS}
 use Rattle.bac_store.specs.ReplyLengths.{DATA_LIMIT, reply_length}
 use Rattle.bac_store.specs.Replies.{◌⟶◌, at_file, at_object, at_property, file_of, file_read, first_case, octets_from, read_file_reply, read_reply}
-use Rattle.bac_store.specs.Replies.{read_start, reply_to, is_binary_state, is_no_read_start, is_no_write_start, is_of_kind, write_file_reply, write_reply}
+use Rattle.bac_store.specs.Replies.{read_start, reply_to, is_out_of_range, is_no_read_start, is_no_write_start, is_of_kind, write_file_reply, write_reply}
 use Rattle.bac_store.specs.Replies.{write_start, written, PROPERTY_IS_NOT_AN_ARRAY, WRITE_ACCESS_DENIED, INVALID_DATA_TYPE, VALUE_OUT_OF_RANGE}
 use Rattle.bac_store.specs.Replies.{NO_SPACE_TO_WRITE, FILE_ACCESS_DENIED, INVALID_FILE_START_POSITION}
 use Rattle.bac_store.specs.Stores.{File, Object, Property, Store, access_method, computed}
-use Rattle.bac_store.specs.Stores.{file_size, is_number, is_object, is_state, listed_in, object_in, property_in}
+use Rattle.bac_store.specs.Stores.{file_size, is_number, is_object, listed_in, object_in, property_in}
 use Rattle.bac_store.proofs.Distinct.{some_first}
 use Rattle.bac_store.proofs.ValueData.{length_octets_most}
 
@@ -143,7 +143,7 @@ write_within (Some p) r values =
     ((is_some r.index ⟶ PROPERTY_IS_NOT_AN_ARRAY)
     ∷ (not p.writable ⟶ WRITE_ACCESS_DENIED)
     ∷ (not (is_of_kind p.kind values) ⟶ INVALID_DATA_TYPE)
-    ∷ (is_binary_state r && not (is_state values) ⟶ VALUE_OUT_OF_RANGE)
+    ∷ (is_out_of_range r values p ⟶ VALUE_OUT_OF_RANGE)
     ∷ (nat_lt VALUE_LIMIT (length values) ⟶ NO_SPACE_TO_WRITE)
     ∷ [])
     Simple (zero_within, (zero_within, (zero_within, (zero_within, (zero_within, tt))))) zero_within

@@ -1,5 +1,5 @@
 -- Local changes, which no request makes: new values of one listed property, or new octets of one file.
-use Rattle.std.specs.Prelude.{◌≡◌, ℕ, ◌≤◌, Bool, true, false, not, ◌&&◌, ◌||◌, nat_lt, List, [], ◌∷◌, length, Option, Some, None, Result, Ok, Err}
+use Rattle.std.specs.Prelude.{◌≡◌, ℕ, ◌≤◌, Bool, true, false, ◌&&◌, nat_lt, List, [], ◌∷◌, length, Option, Some, None, Result, Ok, Err}
 use Rattle.std.specs.Prelude.{if◌then◌else◌}
 use Rattle.bac_value.specs.declared.fault.FaultKind.{FaultKind}
 use Rattle.bac_value.specs.Reading.{data_of}
@@ -9,8 +9,8 @@ use Rattle.bac_store.specs.declared.change_fault.ChangeFault.{ChangeFault}
 use Rattle.bac_store.specs.declared.change_fault.ChangeFault.TheVariants as fault
 use Rattle.bac_store.specs.Changes.{with_object, with_octets, with_values}
 use Rattle.bac_store.specs.Limits.{FILE_LIMIT, VALUE_LIMIT}
-use Rattle.bac_store.specs.Replies.{file_of, is_binary_state, is_of_kind}
-use Rattle.bac_store.specs.Stores.{Store, Property, is_state, listed_in, object_in}
+use Rattle.bac_store.specs.Replies.{file_of, is_of_kind, is_right_state}
+use Rattle.bac_store.specs.Stores.{Store, Property, listed_in, object_in}
 
 pub data Change : Type 0 where
   Value : (object : ObjectId) (property : ℕ) (octets : List ℕ) → Change
@@ -36,9 +36,10 @@ is_data octets = reads_all (data_of octets)
 abbrev pub whole : ObjectId → ℕ → Reference
 whole id n = record { object = id; property = n; index = None }
 
--- the octets are data of the property's kind, and a state if they are the present-value of a binary-value
+-- the octets are data of the property's kind, and a state of the object if they are its present-value; what WriteProperty may set does not bind the
+-- node itself
 abbrev pub is_value_for : Reference → List ℕ → Property → Bool
-is_value_for r octets p = is_data octets && is_of_kind p.kind octets && (not (is_binary_state r) || is_state octets)
+is_value_for r octets p = is_data octets && is_of_kind p.kind octets && is_right_state r octets
 
 -- the fault if there is no such object or property, otherwise the fault of the one that was found
 abbrev pub or_fault : {A : Type 0} → ChangeFault → Option A → (A → Option ChangeFault) → Option ChangeFault

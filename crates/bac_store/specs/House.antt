@@ -3,6 +3,7 @@ use Rattle.std.specs.Prelude.{ℕ, true, false, [], ◌∷◌, Some, None}
 use Rattle.bac_value.specs.Value.{ObjectId, real, characters, enumerated}
 use Rattle.bac_value.specs.Writing.{value_spelling}
 use Rattle.bac_store.specs.Limits.{ANALOG_INPUT, ANALOG_VALUE, BINARY_VALUE, DEVICE, FILE, DESCRIPTION, PRESENT_VALUE, REAL, CHARACTER_STRING, ENUMERATED}
+use Rattle.bac_store.specs.Allowing.{Allowed}
 use Rattle.bac_store.specs.Stores.{Store, Object}
 
 abbrev id_of : ℕ → ℕ → ObjectId
@@ -14,7 +15,7 @@ flow = record {
   id = id_of ANALOG_INPUT 5;
   name = 0x66 ∷ 0x6C ∷ 0x6F ∷ 0x77 ∷ [];
   properties =
-      record { number = PRESENT_VALUE; values = value_spelling (real (0x42 ∷ 0x90 ∷ 0x99 ∷ 0x9A ∷ [])); writable = false; kind = Some REAL } ∷ [];
+      record { number = PRESENT_VALUE; values = value_spelling (real (0x42 ∷ 0x90 ∷ 0x99 ∷ 0x9A ∷ [])); writable = false; kind = Some REAL; allowed = Allowed.Any } ∷ [];
   file = None;
 }
 
@@ -24,8 +25,8 @@ setpoint = record {
   id = id_of ANALOG_VALUE 1;
   name = 0x73 ∷ 0x65 ∷ 0x74 ∷ 0x70 ∷ 0x6F ∷ 0x69 ∷ 0x6E ∷ 0x74 ∷ [];
   properties =
-      record { number = DESCRIPTION; values = value_spelling (characters 0 []); writable = true; kind = Some CHARACTER_STRING }
-      ∷ record { number = PRESENT_VALUE; values = value_spelling (real (0 ∷ 0 ∷ 0 ∷ 0 ∷ [])); writable = true; kind = Some REAL } ∷ [];
+      record { number = DESCRIPTION; values = value_spelling (characters 0 []); writable = true; kind = Some CHARACTER_STRING; allowed = Allowed.Any }
+      ∷ record { number = PRESENT_VALUE; values = value_spelling (real (0 ∷ 0 ∷ 0 ∷ 0 ∷ [])); writable = true; kind = Some REAL; allowed = Allowed.Any } ∷ [];
   file = None;
 }
 
@@ -34,7 +35,7 @@ abbrev pub pump : Object
 pump = record {
   id = id_of BINARY_VALUE 1;
   name = 0x70 ∷ 0x75 ∷ 0x6D ∷ 0x70 ∷ [];
-  properties = record { number = PRESENT_VALUE; values = value_spelling (enumerated 0); writable = true; kind = Some ENUMERATED } ∷ [];
+  properties = record { number = PRESENT_VALUE; values = value_spelling (enumerated 0); writable = true; kind = Some ENUMERATED; allowed = Allowed.Any } ∷ [];
   file = None;
 }
 

@@ -1,4 +1,7 @@
 pub mod Limits
+pub mod Kinds
+pub mod Ranks
+pub mod Allowing
 pub mod Stores
 pub mod Replies
 pub mod Changes
@@ -9,10 +12,10 @@ pub mod Kept
 pub mod Answers
 pub mod Lookups
 pub mod Made
+pub mod Described
 pub mod Ordered
 pub mod ReplyKinds
 pub mod ReplyLengths
-pub mod Kinds
 pub mod House
 pub mod Writes
 pub mod AtNode

@@ -27,8 +27,17 @@ LAST_VENDOR_TYPE = code.LAST_VENDOR_TYPE
 abbrev pub ANALOG_INPUT : ℕ
 ANALOG_INPUT = code.ANALOG_INPUT
 
+abbrev pub ANALOG_OUTPUT : ℕ
+ANALOG_OUTPUT = code.ANALOG_OUTPUT
+
 abbrev pub ANALOG_VALUE : ℕ
 ANALOG_VALUE = code.ANALOG_VALUE
+
+abbrev pub BINARY_INPUT : ℕ
+BINARY_INPUT = code.BINARY_INPUT
+
+abbrev pub BINARY_OUTPUT : ℕ
+BINARY_OUTPUT = code.BINARY_OUTPUT
 
 abbrev pub BINARY_VALUE : ℕ
 BINARY_VALUE = code.BINARY_VALUE
@@ -38,6 +47,15 @@ DEVICE = code.DEVICE
 
 abbrev pub FILE : ℕ
 FILE = code.FILE
+
+abbrev pub MULTI_STATE_INPUT : ℕ
+MULTI_STATE_INPUT = code.MULTI_STATE_INPUT
+
+abbrev pub MULTI_STATE_OUTPUT : ℕ
+MULTI_STATE_OUTPUT = code.MULTI_STATE_OUTPUT
+
+abbrev pub MULTI_STATE_VALUE : ℕ
+MULTI_STATE_VALUE = code.MULTI_STATE_VALUE
 
 -- ---- properties (BACnetPropertyIdentifier)
 
@@ -60,6 +78,9 @@ FILE_SIZE = code.FILE_SIZE
 abbrev pub OBJECT_IDENTIFIER : ℕ
 OBJECT_IDENTIFIER = code.OBJECT_IDENTIFIER
 
+abbrev pub OBJECT_LIST : ℕ
+OBJECT_LIST = code.OBJECT_LIST
+
 abbrev pub OBJECT_NAME : ℕ
 OBJECT_NAME = code.OBJECT_NAME
 
@@ -75,6 +96,12 @@ STREAM_ACCESS = code.STREAM_ACCESS
 
 -- ---- application tags (clause 20.2.1.4)
 
+abbrev pub UNSIGNED : ℕ
+UNSIGNED = kinds.UNSIGNED
+
+abbrev pub SIGNED : ℕ
+SIGNED = kinds.SIGNED
+
 abbrev pub REAL : ℕ
 REAL = kinds.REAL
 
@@ -87,3 +114,11 @@ ENUMERATED = kinds.ENUMERATED
 -- the first octet of an Enumerated with one octet of contents: its tag
 abbrev pub STATE_TAG : ℕ
 STATE_TAG = code.STATE_TAG
+
+-- the same of an Unsigned
+abbrev pub UNSIGNED_TAG : ℕ
+UNSIGNED_TAG = code.UNSIGNED_TAG
+
+-- own limit: the most objects whose identifiers, each of five octets, are the values of one property
+abbrev pub OBJECTS_LIMIT : ℕ
+OBJECTS_LIMIT = code.OBJECTS_LIMIT

@@ -3,7 +3,8 @@ use Rattle.std.specs.Prelude.{◌≡◌, ℕ, ◌<◌, Bool, List, length, map, 
 use Rattle.std.specs.List.{All, AllPairs}
 use Rattle.std.specs.List.Sorted.{IsPermutation}
 use Rattle.bac_store.specs.declared.object.Object as thing
-use Rattle.bac_store.specs.Objects.{IsRight}
+use Rattle.bac_store.specs.declared.rule.Rule.{Rule}
+use Rattle.bac_store.specs.Objects.{IsRightBy}
 use Rattle.bac_store.specs.Stores.{Object}
 use Rattle.bac_store.specs.Views.{object_view}
 
@@ -14,19 +15,19 @@ pub record IsReordered (old new : Object) : Type 0 where
   pub properties : IsPermutation old.properties new.properties
   pub file : new.file ≡ old.file
 
-pub record IsSorting (old new : Object) : Type 0 where
+pub record IsSorting (r : Rule) (old new : Object) : Type 0 where
   pub reordered : IsReordered old new
-  pub right : IsRight old
+  pub right : IsRightBy r old
   pub rise : AllPairs (λ p q. p.number < q.number) new.properties
 
 -- whether an object is valid; if it is, its properties are sorted now
-abbrev pub SortsObject : Bool → Object → Object → Type 0
-SortsObject sorted old new = MatchBool sorted (IsSorting old new) (IsRight old → ⊥)
+abbrev pub SortsObject : Rule → Bool → Object → Object → Type 0
+SortsObject r sorted old new = MatchBool sorted (IsSorting r old new) (IsRightBy r old → ⊥)
 
-pub record AreSorted (old new : List thing.Object) : Type 0 where
+pub record AreSorted (r : Rule) (old new : List thing.Object) : Type 0 where
   pub same_length : length new ≡ length old
-  pub each : (i : ℕ) (d : thing.Object) → i < length old → IsSorting (object_view (slice_index_or old i d)) (object_view (slice_index_or new i d))
+  pub each : (i : ℕ) (d : thing.Object) → i < length old → IsSorting r (object_view (slice_index_or old i d)) (object_view (slice_index_or new i d))
 
 -- whether all objects are valid
-abbrev pub SortsObjects : Bool → List thing.Object → List thing.Object → Type 0
-SortsObjects sorted old new = MatchBool sorted (AreSorted old new) (All IsRight (map object_view old) → ⊥)
+abbrev pub SortsObjects : Rule → Bool → List thing.Object → List thing.Object → Type 0
+SortsObjects r sorted old new = MatchBool sorted (AreSorted r old new) (All (IsRightBy r) (map object_view old) → ⊥)

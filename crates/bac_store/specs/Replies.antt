@@ -1,5 +1,5 @@
 -- The reply of a store to a request: clauses 14.1, 14.2, 15.5 and 15.9, and this profile's table of errors.
-use Rattle.std.specs.Prelude.{ℕ, zero, suc, ◌+◌, ℤ, pos, negsuc, Bool, true, false, not, ◌==◌, ◌&&◌, nat_lt, nat_le, List, [], ◌∷◌, ◌++◌}
+use Rattle.std.specs.Prelude.{ℕ, zero, suc, ◌+◌, ℤ, pos, negsuc, Bool, true, false, not, ◌==◌, ◌||◌, nat_lt, nat_le, List, [], ◌∷◌, ◌++◌}
 use Rattle.std.specs.Prelude.{length, take, drop, Option}
 use Rattle.std.specs.Prelude.{Some, None, is_some, if◌then◌else◌}
 use Rattle.bac_value.specs.Value.{ObjectId}
@@ -10,8 +10,10 @@ use Rattle.bac_service.specs.Values.WriteAccess.{WriteStream, WriteRecords}
 use Rattle.bac_service.specs.Values.Request.{ReadFile, WriteFile, ReadProperty, WriteProperty}
 use Rattle.bac_service.specs.Values.Complex.{FileRead, StreamWritten, PropertyRead}
 use Rattle.bac_service.specs.Replies.Reply.{Simple, Complex, Error}
-use Rattle.bac_store.specs.Limits.{BINARY_VALUE, PRESENT_VALUE, VALUE_LIMIT, FILE_LIMIT}
-use Rattle.bac_store.specs.Stores.{Store, Object, Property, File, object_in, property_in, kind_of, is_state}
+use Rattle.bac_store.specs.Limits.{PRESENT_VALUE, VALUE_LIMIT, FILE_LIMIT}
+use Rattle.bac_store.specs.Allowing.{is_allowed}
+use Rattle.bac_store.specs.Kinds.{is_state_of, is_tag, kind_of}
+use Rattle.bac_store.specs.Stores.{Store, Object, Property, File, object_in, property_in}
 
 -- ---- class and code of each Error (clause 18)
 
@@ -72,18 +74,18 @@ of_property s r answer = at_object (object_in s r.object) (λ o. at_property (pr
 abbrev pub read_reply : Reference → Property → Reply
 read_reply r p = first_case ((is_some r.index ⟶ PROPERTY_IS_NOT_AN_ARRAY) ∷ []) (Complex (PropertyRead r p.values))
 
-abbrev pub is_tag : ℕ → Option ℕ → Bool
-is_tag k None = false
-is_tag k (Some n) = k == n
-
 -- the values are of the property's kind
 abbrev pub is_of_kind : Option ℕ → List ℕ → Bool
 is_of_kind None values = true
 is_of_kind (Some k) values = is_tag k (kind_of values)
 
--- a present-value of a binary-value
-abbrev pub is_binary_state : Reference → Bool
-is_binary_state r = (r.object.kind == BINARY_VALUE) && (r.property == PRESENT_VALUE)
+-- a state of the object, if the property is its present-value
+unfoldable pub is_right_state : Reference → List ℕ → Bool
+is_right_state r values = if r.property == PRESENT_VALUE then is_state_of r.object.kind values else true
+
+-- the present-value of a binary or a multi-state object has states, and a property may have limits
+abbrev pub is_out_of_range : Reference → List ℕ → Property → Bool
+is_out_of_range r values p = not (is_right_state r values) || not (is_allowed p.allowed values)
 
 abbrev pub write_reply : Reference → List ℕ → Property → Reply
 write_reply r values p =
@@ -91,7 +93,7 @@ write_reply r values p =
     ((is_some r.index ⟶ PROPERTY_IS_NOT_AN_ARRAY)
     ∷ (not p.writable ⟶ WRITE_ACCESS_DENIED)
     ∷ (not (is_of_kind p.kind values) ⟶ INVALID_DATA_TYPE)
-    ∷ (is_binary_state r && not (is_state values) ⟶ VALUE_OUT_OF_RANGE)
+    ∷ (is_out_of_range r values p ⟶ VALUE_OUT_OF_RANGE)
     ∷ (nat_lt VALUE_LIMIT (length values) ⟶ NO_SPACE_TO_WRITE)
     ∷ [])
     Simple

@@ -1,21 +1,19 @@
 -- A store: objects with their properties and files (clause 12), as plain values.
-use Rattle.std.specs.Prelude.{ℕ, Bool, false, ◌==◌, ◌&&◌, List, [], ◌∷◌, length, Option, Some, None, Result, Ok, Err, if◌then◌else◌, nat_lt}
+use Rattle.std.specs.Prelude.{ℕ, Bool, false, ◌==◌, ◌&&◌, List, [], ◌∷◌, length, Option, Some, None, if◌then◌else◌}
 use Rattle.std.specs.Option.{option_map}
-use Rattle.bac_value.specs.declared.fault.FaultKind.{FaultKind}
-use Rattle.bac_value.specs.declared.tag.Class.{Class}
-use Rattle.bac_value.specs.declared.tag.Class.TheVariants.{Application, Context}
-use Rattle.bac_value.specs.Element.{Part}
-use Rattle.bac_value.specs.Reading.{element_at}
 use Rattle.bac_value.specs.Value.{ObjectId, Datum, kind_number, object, characters, enumerated, unsigned}
 use Rattle.bac_value.specs.Writing.{value_spelling}
-use Rattle.bac_store.specs.Limits.{FILE_ACCESS_METHOD, FILE_SIZE, OBJECT_IDENTIFIER, OBJECT_NAME, OBJECT_TYPE, STREAM_ACCESS, STATE_TAG}
+use Rattle.bac_store.specs.Limits.{FILE_ACCESS_METHOD, FILE_SIZE, OBJECT_IDENTIFIER, OBJECT_NAME, OBJECT_TYPE, STREAM_ACCESS}
+use Rattle.bac_store.specs.Allowing.{Allowed}
 
--- values are encoded data; the kind is the application tag that they must have, or None if any data are valid
+-- values are encoded data; the kind is the application tag that they must have, or None if any data are valid; of those, a WriteProperty may set what
+-- is allowed
 pub record Property : Type 0 where
   pub number : ℕ
   pub values : List ℕ
   pub writable : Bool
   pub kind : Option ℕ
+  pub allowed : Allowed
 
 pub record File : Type 0 where
   pub octets : List ℕ
@@ -56,7 +54,7 @@ listed_in o n = first_that (is_number n) o.properties
 -- ---- computed properties: one application value each, never writable
 
 abbrev pub computed : ℕ → Datum → Property
-computed n d = record { number = n; values = value_spelling d; writable = false; kind = Some (kind_number d) }
+computed n d = record { number = n; values = value_spelling d; writable = false; kind = Some (kind_number d); allowed = Allowed.Any }
 
 -- the access method of every file: a stream of octets (BACnetFileAccessMethod)
 abbrev pub access_method : File → Property
@@ -73,26 +71,3 @@ property_in o n =
     (if n == OBJECT_TYPE then Some (computed n (enumerated o.id.kind)) else
     (if n == FILE_ACCESS_METHOD then option_map access_method o.file else
     (if n == FILE_SIZE then option_map file_size o.file else listed_in o n))))
-
--- ---- kinds
-
-abbrev pub application_number : Class → ℕ → Option ℕ
-application_number Application n = Some n
-application_number Context n = None
-
-abbrev pub kind_before : Part → List ℕ → Option ℕ
-kind_before p [] = application_number p.mark.class p.mark.number
-kind_before p (x ∷ xs) = None
-
-abbrev pub kind_read : Result (Part × List ℕ) FaultKind → Option ℕ
-kind_read (Ok r) = kind_before r.0 r.1
-kind_read (Err e) = None
-
--- the tag of values that are one application element; None if they are not
-abbrev pub kind_of : List ℕ → Option ℕ
-kind_of values = kind_read (element_at values)
-
--- Enumerated 0 or 1, the states of a binary object
-abbrev pub is_state : List ℕ → Bool
-is_state (tag ∷ n ∷ []) = (tag == STATE_TAG) && nat_lt n 2
-is_state _ = false

@@ -1,10 +1,12 @@
 //! Comparison of the objects of two stores.
 ghost use Rattle.std.specs.Prelude.{◌≡◌, map, MatchBool};
 ghost use Rattle.std.specs.Option.{option_map};
-ghost use Rattle.bac_store.specs.Views.{entry_view, file_view, slot_view};
+ghost use Rattle.bac_store.specs.Views.{allowed_view, data_view, entry_view, file_view, slot_view};
 
+use crate::allowed::Allowed;
 use crate::entry::{StoredObject, StoredProperty};
 use crate::object::File;
+use bac_value::DataBuf;
 
 fn are_same_slots(slots: &[StoredProperty], others: &[StoredProperty]) -> bool
     ensures { MatchBool result (map slot_view slots.now ≡ map slot_view others.now) (map slot_view slots.now ≡ map slot_view others.now → ⊥) }
@@ -20,6 +22,48 @@ fn are_same_slots(slots: &[StoredProperty], others: &[StoredProperty]) -> bool
     true
 }
 
+fn are_same_data(values: &DataBuf, other: &DataBuf) -> bool
+    ensures { MatchBool result (data_view values.now ≡ data_view other.now) (data_view values.now ≡ data_view other.now → ⊥) }
+{
+    values.octets == other.octets
+}
+
+fn are_same_lists(listed: &[DataBuf], others: &[DataBuf]) -> bool
+    ensures { MatchBool result (map data_view listed.now ≡ map data_view others.now) (map data_view listed.now ≡ map data_view others.now → ⊥) }
+{
+    if listed.len() != others.len() {
+        return false;
+    }
+    for at in 0..listed.len() {
+        if !are_same_data(&listed[at], &others[at]) {
+            return false;
+        }
+    }
+    true
+}
+
+fn are_same_limits(allowed: &Allowed, other: &Allowed) -> bool
+    ensures { MatchBool result (allowed_view allowed.now ≡ allowed_view other.now) (allowed_view allowed.now ≡ allowed_view other.now → ⊥) }
+{
+    match (allowed, other) {
+        (Allowed::Any, Allowed::Any) => true,
+        (
+            Allowed::Between { least, greatest },
+            Allowed::Between {
+                least: low,
+                greatest: high,
+            },
+        ) => {
+            if !are_same_data(least, low) {
+                return false;
+            }
+            are_same_data(greatest, high)
+        }
+        (Allowed::OneOf(listed), Allowed::OneOf(others)) => are_same_lists(listed, others),
+        _ => false,
+    }
+}
+
 fn is_same_slot(slot: &StoredProperty, other: &StoredProperty) -> bool
     ensures { MatchBool result (slot_view slot.now ≡ slot_view other.now) (slot_view slot.now ≡ slot_view other.now → ⊥) }
 {
@@ -30,6 +74,9 @@ fn is_same_slot(slot: &StoredProperty, other: &StoredProperty) -> bool
         return false;
     }
     if slot.kind != other.kind {
+        return false;
+    }
+    if !are_same_limits(&slot.allowed, &other.allowed) {
         return false;
     }
     slot.values.octets == other.values.octets

@@ -22,11 +22,13 @@ fn copied_slot(alloc: Global, slot: &StoredProperty) -> Result<StoredProperty, N
     ensures { IfOk result (λ s. slot_view s ≡ slot_view slot.now) }
 {
     let values = slot.values.as_data().to_owned(alloc)?;
+    let allowed = slot.allowed.copied(alloc)?;
     Ok(StoredProperty {
         number: slot.number,
         values,
         writable: slot.writable,
         kind: slot.kind,
+        allowed,
     })
 }
 

@@ -4,9 +4,11 @@ ghost use Rattle.bac_value.specs.Value.{Datum};
 ghost use Rattle.bac_value.specs.Views.{value_view};
 ghost use Rattle.bac_value.specs.Writing.{value_spelling};
 ghost use Rattle.bac_store.specs.House.{flow as flow_view, house as house_view, house_device, log as log_view, pump as pump_view, setpoint as setpoint_view};
-ghost use Rattle.bac_store.specs.Stores.{kind_of};
+ghost use Rattle.bac_store.specs.Allowing.{Allowed};
+ghost use Rattle.bac_store.specs.Kinds.{kind_of};
 ghost use Rattle.bac_store.specs.Views.{object_view, property_view};
 
+use crate::allowed::Allowed as Limits;
 use crate::limits::{
     ANALOG_INPUT, ANALOG_VALUE, BINARY_VALUE, DESCRIPTION, DEVICE, FILE, PRESENT_VALUE,
 };
@@ -24,6 +26,7 @@ fn listed(alloc: Global, number: u32, value: &Value, writable: bool) -> Result<P
           values = value_spelling (value_view value.now);
           writable = writable;
           kind = kind_of (value_spelling (value_view value.now));
+          allowed = Allowed.Any;
         }) }
 {
     let values = spelled(alloc, value)?;
@@ -31,6 +34,7 @@ fn listed(alloc: Global, number: u32, value: &Value, writable: bool) -> Result<P
         number,
         values,
         writable,
+        allowed: Limits::Any,
     })
 }
 

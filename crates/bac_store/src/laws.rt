@@ -8,12 +8,12 @@ ghost use Rattle.bac_value.specs.Value.{ObjectId};
 ghost use Rattle.bac_value.specs.Octets.{IsBytes};
 ghost use Rattle.bac_store.specs.AtNode.{change_fault, changed, whole, Change};
 ghost use Rattle.bac_store.specs.Changes.{after, is_done, IsGranted};
-ghost use Rattle.bac_store.specs.Kinds.{IsOneValue};
+ghost use Rattle.bac_store.specs.Kinds.{kind_of, IsOneValue};
 ghost use Rattle.bac_store.specs.Objects.{IsStoreOf};
 ghost use Rattle.bac_store.specs.Replies.{reply_to};
 ghost use Rattle.bac_store.specs.ReplyKinds.{FitsChoice};
 ghost use Rattle.bac_store.specs.ReplyLengths.{DATA_LIMIT, reply_length};
-ghost use Rattle.bac_store.specs.Stores.{kind_of, Store as Objects};
+ghost use Rattle.bac_store.specs.Stores.{Store as Objects};
 ghost use Rattle.bac_store.specs.Writes.{IsFileChange, IsFileWrite, IsValueWrite};
 
 use crate::store::Store;

@@ -4,12 +4,16 @@
 //! [`Store::commit`] makes the change; it does not allocate and always succeeds. [`Store::change`] makes a local change.
 #![tactic(auto)]
 
+mod allowed;
+mod allowing;
 mod change;
 mod change_fault;
 mod changing;
 mod checking;
 mod comparing;
 mod copying;
+mod describing;
+mod description_fault;
 mod entry;
 mod files;
 mod house_objects;
@@ -19,25 +23,31 @@ mod limits;
 mod lookups;
 mod making;
 mod object;
+mod object_list;
 mod ordering;
 mod permitting;
 mod planned;
 mod preparing;
 mod properties;
+mod rank;
 mod refusal;
+mod rule;
 mod spelled;
 mod splice;
 mod store;
 mod store_fault;
 
+pub use allowed::Allowed;
 pub use change::Change;
 pub use change_fault::ChangeFault;
+pub use checking::are_right_values;
+pub use description_fault::{DescriptionFault, DescriptionFlaw};
 pub use house_objects::house;
 pub use laws::{
     changes_change_one_thing, kinds_are_values, order_says_nothing, replies_can_be_sent,
     replies_fit_requests, writes_change_one_thing,
 };
-pub use limits::{FILE_LIMIT, VALUE_LIMIT};
+pub use limits::{FILE_LIMIT, OBJECTS_LIMIT, VALUE_LIMIT};
 pub use object::{File, Object, Property};
 pub use planned::Planned;
 pub use store::Store;

@@ -6,6 +6,9 @@ pub const VALUE_LIMIT: usize = 4096;
 /// The greatest length of a file in octets (own limit).
 pub const FILE_LIMIT: usize = 60_000;
 
+/// The most objects that a store describes (own limit): the identifiers of that many are an object-list of 4,095 octets.
+pub const OBJECTS_LIMIT: usize = 819;
+
 /// How many instance numbers there are, including the wildcard: 22 bits (clause 20.2.14).
 pub(crate) const INSTANCES: u32 = 0x40_0000;
 
@@ -28,13 +31,25 @@ pub(crate) const LAST_VENDOR_PROPERTY: u32 = 4_194_303;
 
 pub(crate) const ANALOG_INPUT: u16 = 0;
 
+pub(crate) const ANALOG_OUTPUT: u16 = 1;
+
 pub(crate) const ANALOG_VALUE: u16 = 2;
+
+pub(crate) const BINARY_INPUT: u16 = 3;
+
+pub(crate) const BINARY_OUTPUT: u16 = 4;
 
 pub(crate) const BINARY_VALUE: u16 = 5;
 
 pub(crate) const DEVICE: u16 = 8;
 
 pub(crate) const FILE: u16 = 10;
+
+pub(crate) const MULTI_STATE_INPUT: u16 = 13;
+
+pub(crate) const MULTI_STATE_OUTPUT: u16 = 14;
+
+pub(crate) const MULTI_STATE_VALUE: u16 = 19;
 
 // properties (BACnetPropertyIdentifier)
 
@@ -45,6 +60,8 @@ pub(crate) const FILE_ACCESS_METHOD: u32 = 41;
 pub(crate) const FILE_SIZE: u32 = 42;
 
 pub(crate) const OBJECT_IDENTIFIER: u32 = 75;
+
+pub(crate) const OBJECT_LIST: u32 = 76;
 
 pub(crate) const OBJECT_NAME: u32 = 77;
 
@@ -57,3 +74,6 @@ pub(crate) const STREAM_ACCESS: u32 = 1;
 
 /// The first octet of an Enumerated with one octet of contents: its tag.
 pub(crate) const STATE_TAG: u8 = 0x91;
+
+/// The first octet of an Unsigned with one octet of contents: its tag.
+pub(crate) const UNSIGNED_TAG: u8 = 0x21;

@@ -16,12 +16,14 @@ fn slot_made(property: Property) -> StoredProperty
         number,
         values,
         writable,
+        allowed,
     } = property;
     StoredProperty {
         number,
         values,
         writable,
         kind,
+        allowed,
     }
 }
 

@@ -1,4 +1,5 @@
 //! The objects from which a store is created (clause 12).
+use crate::allowed::Allowed;
 use bac_value::{DataBuf, ObjectIdentifier};
 
 /// A listed property of an object, that is, any property that is not computed (see [`Object`]).
@@ -15,6 +16,9 @@ pub struct Property {
     pub values: DataBuf,
     /// Whether WriteProperty may set the values (clause 15.9).
     pub writable: bool,
+    /// Which values WriteProperty may set. Limits need values that are one application value, of a kind that fits the limits, and that the
+    /// limits allow.
+    pub allowed: Allowed,
 }
 
 /// The contents of a file (clause 12.13), which are read and written as a stream of octets.

@@ -10,6 +10,7 @@ ghost use Rattle.bac_store.specs.Views.{object_view};
 use crate::checking::{are_right_properties, is_right_file, is_right_id, is_right_name};
 use crate::lookups::number_of;
 use crate::object::{Object, Property};
+use crate::rule::Rule;
 
 /// Sorts objects by identifier.
 pub(crate) fn sort_objects(objects: &mut [Object])
@@ -56,11 +57,11 @@ fn are_listed_once(properties: &[Property]) -> bool
 }
 
 /// Sorts the properties of an object and checks whether a store can contain the object.
-fn sort_and_check(object: &mut Object) -> bool
-    ensures { SortsObject result (object_view object.old) (object_view object.new) }
+fn sort_and_check(rule: Rule, object: &mut Object) -> bool
+    ensures { SortsObject rule result (object_view object.old) (object_view object.new) }
 {
     sort_properties(&mut object.properties);
-    if !is_right_id(object.id) {
+    if !is_right_id(rule, object.id) {
         return false;
     }
     if !is_right_name(&object.name) {
@@ -72,15 +73,15 @@ fn sort_and_check(object: &mut Object) -> bool
     if !are_listed_once(&object.properties) {
         return false;
     }
-    are_right_properties(object.id.kind, &object.properties)
+    are_right_properties(rule, object.id.kind, &object.properties)
 }
 
 /// Sorts and checks each object, up to the first that a store can't contain. Returns whether a store can contain all of them.
-pub(crate) fn sort_and_check_each(objects: &mut [Object]) -> bool
-    ensures { SortsObjects result objects.old objects.new }
+pub(crate) fn sort_and_check_each(rule: Rule, objects: &mut [Object]) -> bool
+    ensures { SortsObjects rule result objects.old objects.new }
 {
     for object in objects.iter_mut() {
-        if !sort_and_check(object) {
+        if !sort_and_check(rule, object) {
             return false;
         }
     }

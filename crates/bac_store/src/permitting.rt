@@ -9,7 +9,7 @@ ghost use Rattle.bac_value.specs.Views.{object_identifier_view};
 
 use crate::change_fault::ChangeFault;
 use crate::entry::{StoredObject, StoredProperty};
-use crate::kind::{is_binary_state, is_of_kind, is_state};
+use crate::kind::{is_of_kind, is_right_state};
 use crate::limits::{FILE_LIMIT, VALUE_LIMIT};
 use crate::lookups::{entry_of, slot_place};
 use crate::preparing::file_of;
@@ -41,7 +41,7 @@ fn values_for<'a>(
     if !is_of_kind(slot.kind, octets) {
         return Err(ChangeFault::BadValue);
     }
-    if is_binary_state(reference) && !is_state(octets) {
+    if !is_right_state(reference, octets) {
         return Err(ChangeFault::BadValue);
     }
     if octets.len() > VALUE_LIMIT {

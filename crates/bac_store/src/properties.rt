@@ -7,12 +7,13 @@ ghost use Rattle.bac_service.specs.Views.{owned_reply_view, property_reference_v
 ghost use Rattle.bac_store.specs.Answers.{refused, refused_or};
 ghost use Rattle.bac_store.specs.Changes.{is_done};
 ghost use Rattle.bac_store.specs.Kept.{IsKept};
-ghost use Rattle.bac_store.specs.Replies.{at_property, read_reply, write_reply};
+ghost use Rattle.bac_store.specs.Replies.{at_property, is_out_of_range as out_of_range, read_reply, write_reply};
 ghost use Rattle.bac_store.specs.Stores.{computed, property_in};
 ghost use Rattle.bac_store.specs.Views.{entry_view, slot_view};
 
+use crate::allowing::is_allowed;
 use crate::entry::{StoredObject, StoredProperty};
-use crate::kind::{is_binary_state, is_of_kind, is_state};
+use crate::kind::{is_of_kind, is_right_state};
 use crate::limits::VALUE_LIMIT;
 use crate::lookups::{Found, find, values_of};
 use crate::refusal::Refusal;
@@ -44,6 +45,13 @@ pub(crate) fn read_property(
     Ok(AnyReply::Complex(AnyComplex::PropertyRead(PropertyRead { reference, values })))
 }
 
+/// Whether the values are no state of the object, or not allowed.
+fn is_out_of_range(slot: &StoredProperty, reference: PropertyReference, values: &[u8]) -> bool
+    ensures { result ≡ out_of_range (property_reference_view reference) values.now (slot_view slot.now) }
+{
+    !is_right_state(reference, values) || !is_allowed(&slot.allowed, values)
+}
+
 /// Why a listed property is not written; None if it is written.
 fn slot_refusal(
     slot: &StoredProperty,
@@ -61,7 +69,7 @@ fn slot_refusal(
     if !is_of_kind(slot.kind, values) {
         return Some(Refusal::InvalidDataType);
     }
-    if is_binary_state(reference) && !is_state(values) {
+    if is_out_of_range(slot, reference, values) {
         return Some(Refusal::ValueOutOfRange);
     }
     if values.len() > VALUE_LIMIT {

@@ -4,8 +4,9 @@ ghost use Rattle.bac_service.specs.Values.{Request as RequestView};
 ghost use Rattle.bac_service.specs.Views.{owned_reply_view, request_view};
 ghost use Rattle.bac_store.specs.AtNode.{change_fault, changed, IsFaultOf, Change as ChangeView};
 ghost use Rattle.bac_store.specs.Changes.{after, HoldsOctets, IsGranted};
+ghost use Rattle.bac_store.specs.Described.{IsDescribedBy, IsDescriptionFault};
 ghost use Rattle.bac_store.specs.Kept.{Fits, IsInOrder};
-ghost use Rattle.bac_store.specs.Made.{IsMadeOf, IsRefused};
+ghost use Rattle.bac_store.specs.Made.{IsMadeBy, IsMadeOf, IsRefused, IsRefusedBy};
 ghost use Rattle.bac_store.specs.Plans.{with_effect, IsPlanFor, IsPlanOn};
 ghost use Rattle.bac_store.specs.Replies.{reply_to};
 ghost use Rattle.bac_store.specs.Views.{change_view, effect_view, object_view};
@@ -16,13 +17,17 @@ use crate::change_fault::ChangeFault;
 use crate::changing::{set_contents, set_octets, set_values};
 use crate::comparing::are_same_objects;
 use crate::copying::{copied, copied_octets};
+use crate::describing::check_described;
+use crate::description_fault::{DescriptionFault, DescriptionFlaw, of_all};
 use crate::entry::StoredObject;
 use crate::making::entries_made;
 use crate::object::Object;
+use crate::object_list::{object_list, with_lists};
 use crate::ordering::{are_distinct, sort_and_check_each, sort_objects};
 use crate::permitting::{permit_contents, permitted_values};
 use crate::planned::{Planned, StoreEffect};
 use crate::preparing::{plan_read_file, plan_read_property, plan_write_file, plan_write_property};
+use crate::rule::Rule;
 use crate::store_fault::StoreFault;
 use bac_service::{AnyRequest, OwnedReply, Request};
 use bac_value::{NoMemory, ObjectIdentifier};
@@ -59,18 +64,56 @@ impl Store {
     /// - a listed property other than 28, 85 and 512 to 4,194,303, or the same one twice;
     /// - a property 28 that is not one CharacterString, an 85 of types 0 and 2 that is not one Real, or an 85 of type 5 that is not
     ///   Enumerated 0 or 1;
+    /// - limits ([`Allowed`](crate::Allowed)) that don't allow its values, or with a value of another kind than they are;
     /// - contents of a file although its type is not 10, none although it is, or more than [`FILE_LIMIT`](crate::FILE_LIMIT) octets.
     ///
     /// Returns `NoMemory` if the objects are valid and an allocation fails.
     pub fn new(alloc: Global, objects: Vec<Object>) -> Result<Store, StoreFault>
         ensures { MatchResult result (λ s. IsMadeOf (map object_view objects.items) s) (λ e. IsRefused (map object_view objects.items) e) }
     {
+        Store::ruled(alloc, Rule::Profile, objects)
+    }
+
+    /// Creates a store from a description: objects of any type with any properties, in any order.
+    ///
+    /// It refuses the first object, in the given order, that has
+    ///
+    /// - instance 4,194,303;
+    /// - a name or values whose encoding is longer than [`VALUE_LIMIT`](crate::VALUE_LIMIT);
+    /// - contents of a file although its type is not 10, none although it is, or more than [`FILE_LIMIT`](crate::FILE_LIMIT) octets;
+    /// - a listed property that is computed (41, 42, 75, 76, 77 or 79) or above 4,194,303, or the same one twice;
+    /// - a description (28) that is not one CharacterString, or a present-value (85) that is not one Real for the analog types (0, 1, 2),
+    ///   Enumerated 0 or 1 for the binary types (3, 4, 5), or one Unsigned from 1 on for the multi-state types (13, 14, 19);
+    /// - limits ([`Allowed`](crate::Allowed)) that don't allow its values, or with a value of another kind than they are;
+    /// - the identifier or the name of an earlier object, or type 8 as an earlier one has.
+    ///
+    /// Then it refuses more than [`OBJECTS_LIMIT`](crate::OBJECTS_LIMIT) objects, and last a list without a device (8).
+    ///
+    /// The object-list (76) of the device is computed here: the identifiers of all objects in ascending order. It is not writable.
+    ///
+    /// Returns `NoMemory` if the objects are valid and an allocation fails.
+    pub fn describing(alloc: Global, objects: Vec<Object>) -> Result<Store, DescriptionFault>
+        ensures { MatchResult result (λ s. IsDescribedBy (map object_view objects.items) s) (λ e. IsDescriptionFault (map object_view objects.items) e) }
+    {
+        check_described(&objects)?;
+        let list = object_list(alloc, &objects)?;
+        let objects = with_lists(alloc, objects, &list)?;
+        match Store::ruled(alloc, Rule::Described, objects) {
+            Ok(store) => Ok(store),
+            Err(_) => Err(of_all(DescriptionFlaw::NoMemory)),
+        }
+    }
+
+    /// Creates a store from objects that this rule takes.
+    fn ruled(alloc: Global, rule: Rule, objects: Vec<Object>) -> Result<Store, StoreFault>
+        ensures { MatchResult result (λ s. IsMadeBy rule (map object_view objects.items) s) (λ e. IsRefusedBy rule (map object_view objects.items) e) }
+    {
         let mut objects = objects;
         sort_objects(&mut objects);
         if !are_distinct(&objects) {
             return Err(StoreFault::Duplicate);
         }
-        if !sort_and_check_each(&mut objects) {
+        if !sort_and_check_each(rule, &mut objects) {
             return Err(StoreFault::BadObject);
         }
         Ok(Store::of_ordered(alloc, objects)?)
@@ -150,7 +193,7 @@ impl Store {
         Ok(reply)
     }
 
-    /// Sets the values of a listed property locally, whether or not it may be written over the network. The octets are data
+    /// Sets the values of a listed property locally, whether or not it may be written over the network, and whatever its limits are. The octets are data
     /// (clause 20.2) as WriteProperty takes them: of the property's kind (a property without a kind takes any data), Enumerated
     /// 0 or 1 for the present-value of a binary-value, and at most [`VALUE_LIMIT`](crate::VALUE_LIMIT) of them.
     ///

@@ -4,7 +4,7 @@ use super::*;
 use bac_apdu::{read, write};
 use bac_npdu::{Peer, write_datagram, write_frame_head};
 use bac_service::{read_reply, read_request, write_reply, write_request};
-use bac_store::{Object, Property, Store, StoreFault};
+use bac_store::{Allowed, Object, Property, Store, StoreFault};
 use bac_value::{ObjectIdentifier, Value, read_data, read_tag, write_data, write_tag, write_value};
 
 /// A read of the present-value of analog-input 5 with invoke ID 1.
@@ -138,6 +138,7 @@ fn objects(alloc: Global) -> Result<Vec<Object>, NoMemory> {
         number: 28,
         values: values.to_owned(alloc)?,
         writable: true,
+        allowed: Allowed::Any,
     })?;
     let mut objects = Vec::new(alloc);
     objects.push(Object {

@@ -6,6 +6,6 @@ use Rattle.bac_store.proofs.ordering.sort_and_check_each.Given as goal
 
 abbrev pub invariant-loop-object : goal.invariant-loop-object
 invariant-loop-object l = record {
-  done : (k : ℕ) (d : Object) → k < l.object-index → IsSorting (object_view (get_or l.initial.objects k d)) (object_view (get_or l.objects k d));
+  done : (k : ℕ) (d : Object) → k < l.object-index → IsSorting l.fn.rule (object_view (get_or l.initial.objects k d)) (object_view (get_or l.objects k d));
   left : (k : ℕ) (d : Object) → l.object-index ≤ k → get_or l.objects k d ≡ get_or l.initial.objects k d;
 }
