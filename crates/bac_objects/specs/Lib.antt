@@ -1,5 +1,6 @@
 pub mod Answers
 pub mod Bits
+pub mod Described
 pub mod Documents
 pub mod Held
 pub mod Identifiers

@@ -8,6 +8,7 @@ ghost use Rattle.bac_objects.specs.Documents.{IsInObject, IsRead, IsReadTable, R
 ghost use Rattle.bac_objects.specs.Right.{AreFit};
 ghost use Rattle.bac_objects.specs.Objects.{in_object as in_object_of, list_in as list_of, objects_in as objects_of, objects_on, with_object as with_object_of};
 
+use crate::described::{described_store, is_described};
 use crate::fault::{DocumentFault, Flaw, ObjectFault, Place};
 use crate::held::{count, member};
 use crate::object::object_in;
@@ -36,7 +37,7 @@ fn with_object<'a>(
 }
 
 /// The fault of an object, with the object's number.
-fn in_object(alloc: Global, object: usize, fault: ObjectFault<'_>) -> DocumentFault
+pub(crate) fn in_object(alloc: Global, object: usize, fault: ObjectFault<'_>) -> DocumentFault
     ensures { IsInObject object fault.entry result }
 {
     let ObjectFault::Flaw(Flaw { id, key, problem }) = fault else {
@@ -145,7 +146,10 @@ fn line_of(text: &[u8], error: &Error) -> usize {
     line
 }
 
-/// Reads a store from a document: TOML in UTF-8.
+/// Reads a store from a document: TOML in UTF-8. A document with `described = true` before its objects describes a store
+/// ([`Store::describing`]); all others have the objects of [`Store::new`].
+///
+/// Returns `Refused` if a document that describes a store has a fault that its objects alone don't show.
 ///
 /// Returns `NoToml` if the document is not TOML, and `Wrong` with the first fault: objects are read in the order of the document, and
 /// in each `type`, `instance`, whether an earlier object has both, `name`, `file`, and then the other keys in the order of their octets.
@@ -154,6 +158,7 @@ pub fn read_objects(alloc: Global, text: &[u8]) -> Result<Store, DocumentFault>
     ensures { IsRead text.now result }
 {
     match toml::table_from_slice(alloc, text) {
+        Ok(table) if is_described(&table) => described_store(alloc, &table),
         Ok(table) => store_in(alloc, &table),
         Err(error) if error.is_memory() => Err(DocumentFault::NoMemory),
         Err(error) => Err(DocumentFault::NoToml {

@@ -5,8 +5,9 @@ ghost use Rattle.bac_objects.specs.declared.fault.DocumentFault.TheVariants as d
 ghost use Rattle.bac_objects.specs.declared.fault.ObjectFault.TheVariants as object_fault;
 
 use crate::problem::Problem;
+use bac_store::DescriptionFault;
 use bac_value::{NoMemory, ObjectIdentifier};
-use bac_value_text::object_type_name;
+use bac_value_text::{object_type_name, property_name};
 use std::alloc::{AllocError, AllocFailed};
 use std::fmt;
 use thiserror::Error;
@@ -22,6 +23,13 @@ pub struct Place {
     pub key: String,
 }
 
+/// Why a store does not take the objects that a document describes.
+#[derive(Clone, Copy, Debug, PartialEq, Eq)]
+pub struct Refusal {
+    /// The fault: the place of the object in the document counts from 0.
+    pub fault: DescriptionFault,
+}
+
 /// Why a document is not a store.
 #[derive(Debug, Drop, Error)]
 pub enum DocumentFault {
@@ -31,9 +39,38 @@ pub enum DocumentFault {
     /// A key has a value that is not allowed.
     #[error("{place}{problem}")]
     Wrong { place: Place, problem: Problem },
+    /// The objects that the document describes are no store.
+    #[error("{0}")]
+    Refused(Refusal),
     /// An allocation failed.
     #[error("no memory")]
     NoMemory,
+}
+
+impl fmt::Display for Refusal {
+    fn fmt<W: fmt::Write>(&self, f: &mut fmt::Formatter<W>) -> fmt::Result {
+        let DescriptionFault {
+            object,
+            property,
+            why,
+        } = self.fault;
+        if let Some(object) = object {
+            let number = object.saturating_add(1);
+            write!(f, "object {number}: ")?;
+        }
+        if let Some(property) = property {
+            write_property(f, property)?;
+        }
+        write!(f, "{why}")
+    }
+}
+
+/// Prints a property as a key: its name, or its number.
+fn write_property<W: fmt::Write>(f: &mut fmt::Formatter<W>, property: u32) -> fmt::Result {
+    match property_name(property) {
+        Some(name) => write!(f, "{name}: "),
+        None => write!(f, "{property}: "),
+    }
 }
 
 impl fmt::Display for Place {

@@ -47,7 +47,8 @@ fn found_in<'a>(rows: &[(&str, ValueForm)], table: &'a Table) -> Option<(ValueFo
     None
 }
 
-fn is_writable(mark: Option<&Value>) -> Result<bool, Problem>
+/// Whether a flag is set; it is not where there is none.
+pub(crate) fn is_writable(mark: Option<&Value>) -> Result<bool, Problem>
     ensures { result ≡ mark_of (option_map (λ v. view v.now) mark.entry) }
 {
     match mark {
@@ -57,7 +58,7 @@ fn is_writable(mark: Option<&Value>) -> Result<bool, Problem>
 }
 
 /// The value under one of some words.
-fn found<'a>(
+pub(crate) fn found<'a>(
     rows: &[(&str, ValueForm)],
     table: &'a Table,
 ) -> Result<(ValueForm, &'a Value), Problem>
@@ -102,7 +103,7 @@ fn held_by<'a>(rows: &[(&str, ValueForm)], table: &'a Table) -> Result<Held<'a>,
 }
 
 /// The words for the values of a property.
-fn forms() -> &'static [(&'static str, ValueForm)]
+pub(crate) fn forms() -> &'static [(&'static str, ValueForm)]
     ensures { plain result.now ≡ ROWS }
 {
     FORMS

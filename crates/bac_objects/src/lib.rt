@@ -2,6 +2,8 @@
 #![tactic(auto)]
 
 mod bits;
+mod described;
+mod described_property;
 mod document;
 mod fault;
 mod form;
@@ -16,6 +18,6 @@ mod scalars;
 mod values;
 
 pub use document::read_objects;
-pub use fault::{DocumentFault, Place};
+pub use fault::{DocumentFault, Place, Refusal};
 pub use form::{Kind, ValueForm};
 pub use problem::{Given, Problem, Wanted};

@@ -32,7 +32,11 @@ const FILE: u16 = 10;
 const NAME_LIMIT: usize = 4091;
 
 /// The fault at a key of an object.
-fn at<'a>(id: Option<ObjectIdentifier>, key: &'a str, fault: ValueFault) -> ObjectFault<'a>
+pub(crate) fn at<'a>(
+    id: Option<ObjectIdentifier>,
+    key: &'a str,
+    fault: ValueFault,
+) -> ObjectFault<'a>
     ensures { IsAt (option_map object_identifier_view id) key.now fault result }
 {
     match fault {
@@ -119,7 +123,7 @@ fn own_identifier<'a>(done: &[Object], table: &Table) -> Result<ObjectIdentifier
 
 /// Reads the name of an object.
 #[tactic(auto, using(bac_store::proofs::ValueData::name_fits))]
-fn name_in(alloc: Global, table: &Table) -> Result<String, ValueFault>
+pub(crate) fn name_in(alloc: Global, table: &Table) -> Result<String, ValueFault>
     ensures is { Reads string_bytes result (name_of (table_view table.now)) }
     ensures short { IfOk result (λ n. length (value_spelling (characters 0 (string_bytes n))) ≤ VALUE_LIMIT) }
 {
@@ -140,7 +144,7 @@ fn name_in(alloc: Global, table: &Table) -> Result<String, ValueFault>
 }
 
 /// Reads the contents of a file; None for all other objects.
-fn file_of(alloc: Global, kind: u16, table: &Table) -> Result<Option<File>, ValueFault>
+pub(crate) fn file_of(alloc: Global, kind: u16, table: &Table) -> Result<Option<File>, ValueFault>
     ensures is { Reads (option_map file_view) result (file_in_members kind (table_view table.now)) }
     ensures right { IfOk result (λ f. IsTrue (is_right_file kind (option_map file_view f))) }
 {
@@ -157,7 +161,7 @@ fn file_of(alloc: Global, kind: u16, table: &Table) -> Result<Option<File>, Valu
 }
 
 /// Whether a key is not that of a property.
-fn is_reserved(kind: u16, key: &str) -> bool
+pub(crate) fn is_reserved(kind: u16, key: &str) -> bool
     ensures { result ≡ is_kept kind key.now }
 {
     key == "type" || key == "instance" || key == "name" || (kind == FILE && key == "file")

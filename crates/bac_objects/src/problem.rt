@@ -7,6 +7,8 @@ use std::fmt;
 pub enum Wanted {
     /// The document has only the key `object`, with a list of tables.
     Objects,
+    /// The document has only the keys `described` and `object`, the latter with a list of tables.
+    DescribedObjects,
     /// An object is a table.
     Table,
     /// An object type that a store supports, by its name or its number.
@@ -25,12 +27,20 @@ pub enum Wanted {
     ShortName,
     /// A property that can be listed: description, present-value, or a proprietary one by its number from 512 to 4,194,303.
     Property,
+    /// Any property, by its name or its number.
+    AnyProperty,
     /// A property that the object does not have so far.
     OwnProperty,
     /// A table with a value under the word of its kind.
     Value,
     /// One value and no other key but `writable`.
     OneValue,
+    /// One value and no other key but `writable` and limits.
+    LimitedValue,
+    /// Limits: `min` and `max`, or `one-of`, or neither.
+    Limits,
+    /// A list of values.
+    List,
     /// A flag: `writable = true` or `writable = false`.
     Mark,
     /// `true`.
@@ -105,6 +115,7 @@ impl Wanted {
     fn words(self) -> &'static str {
         match self {
             Wanted::Objects => "tables [[object]] alone",
+            Wanted::DescribedObjects => "described and tables [[object]] alone",
             Wanted::Table => "table",
             Wanted::ServedType => {
                 "analog-input, analog-value, binary-value, device, file or 128 to 1023"
@@ -116,9 +127,13 @@ impl Wanted {
             Wanted::Text => "text",
             Wanted::ShortName => "at most 4091 octets",
             Wanted::Property => "description, present-value or 512 to 4194303",
+            Wanted::AnyProperty => "property or 0 to 4194303",
             Wanted::OwnProperty => "each property once",
             Wanted::Value => "table with a value",
             Wanted::OneValue => "one value by its kind, and writable",
+            Wanted::LimitedValue => "one value by its kind, writable, min and max or one-of",
+            Wanted::Limits => "min and max, or one-of",
+            Wanted::List => "list of values",
             Wanted::Mark => "writable = true or false",
             Wanted::True => "true",
             Wanted::Boolean => "true or false",

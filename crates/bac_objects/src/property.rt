@@ -78,7 +78,11 @@ fn data_in(octets: Vec<u8>) -> Result<DataBuf, Problem>
 }
 
 /// Reads the values in a form.
-fn values_in(alloc: Global, form: ValueForm, value: &Value) -> Result<DataBuf, ValueFault>
+pub(crate) fn values_in(
+    alloc: Global,
+    form: ValueForm,
+    value: &Value,
+) -> Result<DataBuf, ValueFault>
     ensures { Reads (λ d. d.octets.items) result (spelling_of form (view value.now)) }
 {
     match form {

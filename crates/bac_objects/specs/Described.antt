@@ -1,0 +1,138 @@
+-- Documents that say `described = true`: objects of any type, with any properties and with limits.
+use Rattle.std.specs.Prelude.{ℕ, ◌+◌, ◌==◌, Bool, true, false, List, [], ◌∷◌, ◌++◌, length, codes, is_some, if◌then◌else◌, Option, Some, None, Result, Ok, Err}
+use Rattle.bac_value_text.specs.Reading.{property_of as property_word}
+use Rattle.bac_value.specs.Steps.{◌>>=◌}
+use Rattle.bac_value.specs.Value.{ObjectId}
+use Rattle.bac_store.specs.Allowing.{Allowed}
+use Rattle.bac_store.specs.Kinds.{kind_of}
+use Rattle.bac_store.specs.Stores.{Object, Property}
+use Rattle.toml.specs.Data.{Data, Items, no_items, item, Members, no_members, member, as_bool, get_member}
+use Rattle.bac_objects.specs.Held.{FORMS, count, found_in, mark_of, the_mark}
+use Rattle.bac_objects.specs.Held.{or_nothing as or_no_value}
+use Rattle.bac_objects.specs.Identifiers.{or_nothing, or_other, the_instance, the_type}
+use Rattle.bac_objects.specs.Objects.{Fault, Flaw, at, file_in, in_object, is_reserved, name_in}
+use Rattle.bac_objects.specs.Properties.{spelling_of}
+use Rattle.bac_objects.specs.Reading.{array_of, other, table_of}
+use Rattle.bac_objects.specs.declared.form.ValueForm.{ValueForm}
+use Rattle.bac_objects.specs.declared.problem.Problem.{Problem}
+use Rattle.bac_objects.specs.declared.problem.Wanted.TheVariants as wanted
+use Rattle.bac_objects.specs.declared.problem.Given.TheVariants as given
+
+-- ---- which documents they are
+
+abbrev pub is_true : Option Bool → Bool
+is_true (Some b) = b
+is_true None = false
+
+abbrev pub says_true : Option Data → Bool
+says_true (Some d) = is_true (as_bool d)
+says_true None = false
+
+abbrev pub is_described : Members → Bool
+is_described ms = says_true (get_member (codes "described") ms)
+
+-- ---- limits: `min` and `max`, or `one-of`, in the form of the value
+
+abbrev pub with_spelling : ValueForm → List (List ℕ) → Data → Result (List (List ℕ)) Problem
+with_spelling form done d = spelling_of form d >>= (λ values. Ok (done ++ values ∷ []))
+
+abbrev pub spellings_on : ValueForm → List (List ℕ) → Items → Result (List (List ℕ)) Problem
+spellings_on form done no_items = Ok done
+spellings_on form done (item d ds) = with_spelling form done d >>= (λ more. spellings_on form more ds)
+
+unfoldable pub between : ValueForm → (least greatest : Data) → Result Allowed Problem
+between form a b = do
+  least ← spelling_of form a
+  greatest ← spelling_of form b
+  Ok (Allowed.Between least greatest)
+
+unfoldable pub one_of : ValueForm → Data → Result Allowed Problem
+one_of form d = do
+  ds ← array_of wanted.List d
+  listed ← spellings_on form [] ds
+  Ok (Allowed.OneOf listed)
+
+abbrev pub limits_with : ValueForm → (least greatest list : Option Data) → Result Allowed Problem
+limits_with form None None None = Ok Allowed.Any
+limits_with form (Some a) (Some b) None = between form a b
+limits_with form None None (Some d) = one_of form d
+limits_with form None (Some b) list = Err (other wanted.Limits)
+limits_with form (Some a) None list = Err (other wanted.Limits)
+limits_with form (Some a) (Some b) (Some d) = Err (other wanted.Limits)
+
+abbrev pub limits_in : ValueForm → Members → Result Allowed Problem
+limits_in form ms = limits_with form (get_member (codes "min") ms) (get_member (codes "max") ms) (get_member (codes "one-of") ms)
+
+abbrev pub one_if : Option Data → ℕ
+one_if d = if is_some d then 1 else 0
+
+-- the value, the flag and the limits
+abbrev pub its_own : Members → ℕ
+its_own ms =
+    1 + one_if (the_mark ms) + one_if (get_member (codes "min") ms) + one_if (get_member (codes "max") ms)
+    + one_if (get_member (codes "one-of") ms)
+
+abbrev pub no_more : Members → Allowed → Result Allowed Problem
+no_more ms allowed = if count ms == its_own ms then Ok allowed else Err (record { wanted = wanted.LimitedValue; given = given.More })
+
+-- ---- a property of any number
+
+unfoldable pub property_of : (key : List ℕ) → Data → Result Property Problem
+property_of key d = do
+  number ← or_other wanted.AnyProperty (property_word key)
+  ms ← table_of wanted.Value d
+  writable ← mark_of (the_mark ms)
+  found ← or_no_value (found_in FORMS ms)
+  values ← spelling_of found.0 found.1
+  allowed ← limits_in found.0 ms
+  allowed ← no_more ms allowed
+  Ok (record { number = number; values = values; writable = writable; kind = kind_of values; allowed = allowed })
+
+-- ---- an object of any type
+
+unfoldable pub identifier_in : Members → Result ObjectId Flaw
+identifier_in ms = do
+  kind ← at None (codes "type") (the_type wanted.ObjectType ms)
+  instance ← at None (codes "instance") (the_instance 4194302 wanted.Instance ms)
+  Ok (record { kind = kind; instance = instance })
+
+abbrev pub with_property : ObjectId → List Property → (key : List ℕ) → Data → Result (List Property) Flaw
+with_property id done key d =
+    if is_reserved id.kind key then Ok done else at (Some id) key (property_of key d) >>= (λ p. Ok (done ++ p ∷ []))
+
+-- the properties, in the order of their keys, read after others
+abbrev pub properties_on : ObjectId → List Property → Members → Result (List Property) Flaw
+properties_on id done no_members = Ok done
+properties_on id done (member key d ms) = with_property id done key d >>= (λ more. properties_on id more ms)
+
+unfoldable pub object_of : Data → Result Object Flaw
+object_of d = do
+  ms ← at None [] (table_of wanted.Table d)
+  id ← identifier_in ms
+  name ← at (Some id) (codes "name") (name_in ms)
+  file ← at (Some id) (codes "file") (file_in id.kind ms)
+  properties ← properties_on id [] ms
+  Ok (record { id = id; name = name; properties = properties; file = file })
+
+-- ---- all objects
+
+abbrev pub with_object : List Object → Data → Result (List Object) Flaw
+with_object done d = object_of d >>= (λ o. Ok (done ++ o ∷ []))
+
+-- the objects, in the order of the document, read after others
+abbrev pub objects_on : List Object → Items → Result (List Object) Fault
+objects_on done no_items = Ok done
+objects_on done (item d ds) = in_object (length done + 1) (with_object done d) >>= (λ more. objects_on more ds)
+
+abbrev pub both : (keys : ℕ) → Items → Result Items Problem
+both keys ds = if keys == 2 then Ok ds else Err (record { wanted = wanted.DescribedObjects; given = given.More })
+
+-- the list under `object`, which is the only key but `described`
+abbrev pub list_in : Members → Result Items Problem
+list_in ms = or_nothing wanted.DescribedObjects (get_member (codes "object") ms) >>= (λ d. array_of wanted.DescribedObjects d >>= both (count ms))
+
+-- the objects of a document, or the first fault
+unfoldable pub objects_in : Members → Result (List Object) Fault
+objects_in ms = do
+  ds ← in_object 0 (at None (codes "object") (list_in ms))
+  objects_on [] ds
