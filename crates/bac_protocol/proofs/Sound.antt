@@ -8,25 +8,28 @@ use Rattle.bac_segment.specs.Window.{Outgoing, Incoming}
 use Rattle.bac_protocol.specs.Times.{DEADLINE, KEEP}
 use Rattle.bac_protocol.specs.Pace.{IsTimely, IsShown, Since, most}
 use Rattle.bac_protocol.specs.Service.{Octets, Reply as reply}
-use Rattle.bac_protocol.specs.Client.{Ask, request_of, Phase, ClientTransaction, is_idle}
+use Rattle.bac_protocol.specs.Client.{Ask, request_of, Phase, ClientTransaction}
 use Rattle.bac_protocol.specs.Client.Phase.{AwaitConfirmation, SegmentedConf, Idle}
 use Rattle.bac_protocol.specs.Server.{State, ServerTransaction}
 use Rattle.bac_protocol.specs.Server.State.{Done, SegmentedResponse, Dropped}
 use Rattle.bac_protocol.specs.Log.{Fact, Has, asks_in, IsUnperformed, IsUnended, IsOrderly}
-use Rattle.bac_protocol.specs.Log.Fact.{Asked, Performed, Ended, Changed, Restarted}
+use Rattle.bac_protocol.specs.Log.Fact.{Asked, Performed, Ended, Changed, Restarted, Served, AskedAway, EndedAway}
 use Rattle.bac_protocol.specs.Transaction.{Key, Copy}
 use Rattle.bac_protocol.proofs.Alone.{Transaction}
 use Rattle.bac_protocol.specs.Claims.{Moments, client_until, server_until, IsBegunSince, HasRestartedSince, EachCopy, IsPieceOf, WasPerformed, IsPiece, IsAck}
 
 -- The log.
 
--- what is said of the ask of a fact; a change and a restart are of no ask
+-- what is said of the ask of a fact, among nodes; a change and a restart are of no ask
 abbrev pub OfAsk : (ℕ → Type 0) → Fact → Type 0
 OfAsk P (Asked n c s r) = P n
 OfAsk P (Performed n r p) = P n
 OfAsk P (Ended n how) = P n
 OfAsk P (Changed s c) = Unit {0}
 OfAsk P (Restarted s o) = Unit {0}
+OfAsk P (Served q s i b r p) = Unit {0}
+OfAsk P (AskedAway n c q r) = Unit {0}
+OfAsk P (EndedAway n how) = Unit {0}
 
 -- a fact is not of ask n
 abbrev pub IsOfOther : ℕ → Fact → Type 0
@@ -226,23 +229,18 @@ IsOpenIn AwaitConfirmation n log = IsUnended n log
 IsOpenIn (SegmentedConf inc) n log = IsUnended n log
 IsOpenIn Idle n log = Unit {0}
 
--- the ask was made when its client's clock showed so much, and its client was last in time when it showed no more than DEADLINE more
-pub record IsCounted (times : Moments) (first : ℕ) : Type 0 where
-  pub since : Since times.pace times.made first times.now times.client
-  pub sends : times.client.shows ≤ first + DEADLINE → times.now ≤ times.until
-  pub last : ℕ
-  pub last_early : last ≤ first + DEADLINE
-  pub last_since : Since times.pace times.until last times.now times.client
-
--- the clocks show their milliseconds, and the times of the machines fit their pace; so it is where the client has not restarted since the ask
+-- the clocks show their milliseconds, and the times of the machines fit their pace; the ask was made when its client's clock showed so much, and
+-- its client was last in time when it showed no more than DEADLINE more
 pub record IsTimed (times : Moments) (first : ℕ) : Type 0 where
   pub timely : IsTimely times.pace
   pub client : IsShown times.pace times.client
   pub server : IsShown times.pace times.server
-  pub on : times.made ≤ times.now
-  pub until_on : times.until ≤ times.now
+  pub since : Since times.pace times.made first times.now times.client
+  pub sends : times.client.shows ≤ first + DEADLINE → times.now ≤ times.until
   pub early : times.until ≤ times.made + most times.pace DEADLINE
-  pub counts : times.restarted ≤ times.made → IsCounted times first
+  pub last : ℕ
+  pub last_early : last ≤ first + DEADLINE
+  pub last_since : Since times.pace times.until last times.now times.client
 
 pub record Sound (W : ℕ) (key : Key) (times : Moments) (asks number : ℕ) (t : ClientTransaction) (entry : Option ServerTransaction) (copies : List Copy) (log : List Fact) (up : Up)
     (down : Down) : Type 0 where
@@ -252,7 +250,6 @@ pub record Sound (W : ℕ) (key : Key) (times : Moments) (asks number : ℕ) (t 
   pub orderly : IsOrderly log
   pub asked : Has (Asked number key.client key.server (request_of t.ask)) log
   pub unended : IsOpenIn t.phase number log
-  pub lives : is_idle t.phase ≡ false → times.restarted ≤ times.made
   pub client : ClientFits W t.ask t.phase up down
   pub passes : PassFits t.ask t.repeats up
   pub server : ServerFits W times number t.ask entry up down log

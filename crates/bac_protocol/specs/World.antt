@@ -12,8 +12,8 @@ use Rattle.bac_protocol.specs.Client.Phase.{Idle}
 use Rattle.bac_protocol.specs.Server.{ServerTransaction, Effect, Service, server_on_apdu, server_ticks}
 use Rattle.bac_protocol.specs.Server as server
 use Rattle.bac_protocol.specs.Log.{Fact, StoreModel, restarted}
-use Rattle.bac_protocol.specs.Log.Fact.{Asked, Changed, Restarted}
-use Rattle.bac_protocol.specs.Transaction.{Key, Rules, client_context, server_context, Copy, ended, performed}
+use Rattle.bac_protocol.specs.Log.Fact.{Asked, Changed, Restarted, AskedAway}
+use Rattle.bac_protocol.specs.Transaction.{Key, Rules, client_context, server_context, Copy, ended, performed, ended_away, served}
 
 -- whether two keys are of one transaction: of one client, one server and one invoke ID (clause 5.4)
 abbrev pub same_key : Key → Key → Bool
@@ -24,12 +24,18 @@ pub record Post : Type 0 where
   pub key : Key
   pub copy : Copy
 
+-- Strangers: ends that are no nodes. A stranger may send any APDU to a node at any moment; what a node sends it is not followed. A transaction of a
+-- node and a stranger has a key as well, in tables of its own: there the stranger has a number of its own, in place of a node's.
+pub record Strangers : Type 0 where
+  pub numbers : Key → ℕ  -- the number of each one's newest ask
+  pub tickets : Key → Option ClientTransaction  -- of asks that nodes made to strangers
+  pub entries : Key → Option ServerTransaction  -- of requests of strangers to nodes
+
 -- all but the stores
 pub record Net : Type 0 where
   pub pace : Pace  -- it never changes
   pub now : ℕ  -- real time
-  pub client_clocks : ℕ → Clock  -- the clock of each node's client
-  pub server_clocks : ℕ → Clock  -- and of its server; one that restarts begins with a new clock
+  pub clocks : ℕ → Clock  -- each node's clock
   pub asks : ℕ  -- how many asks there were
   pub numbers : Key → ℕ  -- the number of each transaction's newest ask
   pub made : Key → ℕ  -- and the real moment at which it was made
@@ -39,15 +45,15 @@ pub record Net : Type 0 where
   pub posts : List Post  -- every copy that was sent, oldest first, numbered from 0
   pub log : List Fact  -- newest first
   pub asks_from : ℕ → ℕ  -- the first moment at which each node asks; 0 where its client never restarted
-  pub restarted : ℕ → ℕ  -- one more than the real moment at which each node's client restarted last; 0 where it never did
   pub serves_from : ℕ → ℕ  -- the first moment at which each node begins entries; 0 where its server never restarted
+  pub far : Strangers
 
 -- what a transaction's client is told of time, and what its server is
 abbrev pub client_now : Net → Key → ℕ
-client_now n key = (n.client_clocks key.client).shows
+client_now n key = (n.clocks key.client).shows
 
 abbrev pub server_now : Net → Key → ℕ
-server_now n key = (n.server_clocks key.server).shows
+server_now n key = (n.clocks key.server).shows
 
 -- the whole: a store for each node
 pub record World (S : Type 0) : Type 0 where
@@ -122,6 +128,39 @@ asked_at x n key ask =
       log = Asked n.asks key.client key.server (request_of ask) ∷ n.log;
     }
 
+-- a node's client acts in a transaction with a stranger; what it sends is not followed
+abbrev pub client_acts_away : Net → Key → ClientTransaction → client.Reaction → Net
+client_acts_away n key t r =
+    record n {
+      far = record n.far { tickets = set_at n.far.tickets key (Some (after (client_now n key) t r)) };
+      log = ended_away (n.far.numbers key) (ending_of r) n.log;
+    }
+
+-- the moment at which an entry began; 0 where there is none
+abbrev pub begin_of : Option ServerTransaction → ℕ
+begin_of None = 0
+begin_of (Some e) = e.begin
+
+-- a node's server acts in a transaction with a stranger; what it performs enters the log
+abbrev pub server_acts_away : Net → Key → server.Reaction → Net
+server_acts_away n key v =
+    record n {
+      far = record n.far { entries = set_at n.far.entries key v.entry };
+      log = served key (begin_of v.entry) v.effect n.log;
+    }
+
+-- an accepted ask of a stranger
+abbrev pub asked_away_at : Rules → Net → Key → Ask → Net
+asked_away_at x n key ask =
+    record n {
+      asks = n.asks + 1;
+      far = record n.far {
+        numbers = set_at n.far.numbers key n.asks;
+        tickets = set_at n.far.tickets key (Some (asked_ticket (client_context x key (client_now n key)) ask));
+      };
+      log = AskedAway n.asks key.client key.server (request_of ask) ∷ n.log;
+    }
+
 -- a change at a node itself enters the log; no ticket, entry or copy sees it
 abbrev pub notes_change : Net → (node : ℕ) → (change : Octets) → Net
 notes_change n node change = record n { log = Changed node change ∷ n.log }
@@ -147,6 +186,13 @@ reacts S w key t r = record { net = client_acts w.net key t r; stores = w.stores
 abbrev pub serves : (S : Type 0) → StoreModel S → World S → Key → server.Reaction → World S
 serves S model w key v = record { net = server_acts w.net key v; stores = stored S model key.server v.effect w.stores }
 
+-- the same in transactions with strangers
+abbrev pub reacts_away : (S : Type 0) → World S → Key → ClientTransaction → client.Reaction → World S
+reacts_away S w key t r = record { net = client_acts_away w.net key t r; stores = w.stores }
+
+abbrev pub serves_away : (S : Type 0) → StoreModel S → World S → Key → server.Reaction → World S
+serves_away S model w key v = record { net = server_acts_away w.net key v; stores = stored S model key.server v.effect w.stores }
+
 -- Events.
 
 -- what can happen: an ask in one APDU or in these pieces, a delivery of the copy of that number, a tick of a node, noise, time that passes, a
@@ -156,10 +202,13 @@ pub data Event : Type 0 where
   Deliver : (number : ℕ) (free : Bool) → Event  -- free: whether a slot of the server's reply table has no live entry
   Tick : (as_client as_server : List Key) → Event  -- a node's tickets, and then its entries, in order
   Noise : Event  -- octets that are no datagram with an APDU
-  Advance : (by : ℕ) (clients servers : ℕ → ℕ) → Event  -- so much real time passes; each clock goes on as far as that, within its pace
+  Advance : (by : ℕ) (own : ℕ → ℕ) → Event  -- so much real time passes; each clock goes on as far as that, within its pace
   Change : (node : ℕ) (change : Octets) → Event
-  RestartClient : (node exact : ℕ) → Event  -- its tickets are lost
-  RestartServer : (node exact : ℕ) (store : Option Octets) → Event  -- its entries are lost; its store is as it was, or that one
+  RestartClient : (node : ℕ) → Event  -- its tickets are lost
+  RestartServer : (node : ℕ) (store : Option Octets) → Event  -- its entries are lost; its store is as it was, or that one
+  Stray : (key : Key) (free : Bool) (apdu : Apdu) → Event  -- any APDU of a stranger reaches a node, in that transaction
+  AskAway : (key : Key) (choice : ℕ) (whole : Bool) (front : Octets) (rest : List Octets) → Event  -- a node asks a stranger
+  TickAway : (as_client as_server : List Key) → Event  -- a tick of a node, as to strangers
 
 -- whether an invoke ID is held for that server
 abbrev pub is_key_held : ℕ → Option ClientTransaction → Bool
@@ -176,13 +225,18 @@ waits_to_ask n key = nat_lt (client_now n key) (n.asks_from key.client)
 abbrev pub waits_to_serve : Net → Key → Bool
 waits_to_serve n key = nat_lt (server_now n key) (n.serves_from key.server)
 
--- a restart of its client took the ticket: its ask was made before it
-abbrev pub is_lost : Net → Key → Bool
-is_lost n key = nat_lt (n.made key) (n.restarted key.client)
+-- a ticket that a restart took holds no invoke ID once its client asks again: its ask was made REST and more before that
+abbrev pub is_held_since : (from now : ℕ) → Option ClientTransaction → Bool
+is_held_since from now None = false
+is_held_since from now (Some t) = nat_le from (t.ask.first + REST) && is_held now t
 
--- whether its client can't ask under that key: it waits, or holds the invoke ID; a ticket that was lost holds none once its client asks again
+-- whether its client can't ask under that key: it waits, or holds the invoke ID
 abbrev pub is_id_held : Net → Key → Bool
-is_id_held n key = waits_to_ask n key || (not (is_lost n key) && is_key_held (client_now n key) (n.tickets key))
+is_id_held n key = waits_to_ask n key || is_held_since (n.asks_from key.client) (client_now n key) (n.tickets key)
+
+-- the same of an ask of a stranger
+abbrev pub is_id_held_away : Net → Key → Bool
+is_id_held_away n key = waits_to_ask n key || is_held_since (n.asks_from key.client) (client_now n key) (n.far.tickets key)
 
 -- whether its server may begin an entry: a slot is free, and it does not wait
 abbrev pub is_room : Net → Key → (free : Bool) → Bool
@@ -193,24 +247,23 @@ abbrev pub lost : Option ClientTransaction → Option ClientTransaction
 lost None = None
 lost (Some t) = Some (record t { phase = Idle })
 
--- a node's client restarts, with a new clock: its tickets are lost, and it asks again once more than REST has passed
-abbrev pub client_restarted : Net → (node exact : ℕ) → Net
-client_restarted n node exact =
+-- a node's client restarts: its tickets are lost, and it asks again once more than REST has passed
+abbrev pub client_restarted : Net → (node : ℕ) → Net
+client_restarted n node =
     record n {
       tickets = λ key. if nat_eq key.client node then lost (n.tickets key) else n.tickets key;
-      client_clocks = λ m. if nat_eq m node then clock_at n.pace exact else n.client_clocks m;
-      restarted = λ m. if nat_eq m node then n.now + 1 else n.restarted m;
-      asks_from = λ m. if nat_eq m node then (clock_at n.pace exact).shows + REST + 1 else n.asks_from m;
+      asks_from = λ m. if nat_eq m node then (n.clocks m).shows + REST + 1 else n.asks_from m;
+      far = record n.far { tickets = λ key. if nat_eq key.client node then lost (n.far.tickets key) else n.far.tickets key };
     }
 
--- a node's server restarts, with a new clock: its entries are lost, and it begins entries again once more than KEEP has passed
-abbrev pub server_restarted : Net → (node exact : ℕ) → (store : Option Octets) → Net
-server_restarted n node exact store =
+-- a node's server restarts: its entries are lost, and it begins entries again once more than KEEP has passed
+abbrev pub server_restarted : Net → (node : ℕ) → (store : Option Octets) → Net
+server_restarted n node store =
     record n {
       entries = λ key. if nat_eq key.server node then None else n.entries key;
-      server_clocks = λ m. if nat_eq m node then clock_at n.pace exact else n.server_clocks m;
-      serves_from = λ m. if nat_eq m node then (clock_at n.pace exact).shows + KEEP + 1 else n.serves_from m;
+      serves_from = λ m. if nat_eq m node then (n.clocks m).shows + KEEP + 1 else n.serves_from m;
       log = Restarted node store ∷ n.log;
+      far = record n.far { entries = λ key. if nat_eq key.server node then None else n.far.entries key };
     }
 
 -- what the transaction's server makes of a request, by its store as it is
@@ -256,20 +309,50 @@ ticks_as_server S model x (key ∷ keys) w = ticks_as_server S model x keys
 abbrev pub ask_made : (S : Type 0) → Rules → World S → Key → Ask → World S
 ask_made S x w key ask = record { net = asked_at x w.net key ask; stores = w.stores }
 
+-- any APDU of a stranger reaches a node's server, or its client
+abbrev pub strays_to_server : (S : Type 0) → StoreModel S → Rules → World S → Key → (free : Bool) → Apdu → World S
+strays_to_server S model x w key free a = serves_away S model w key
+    (server_on_apdu (server_context x key (server_now w.net key)) (service_of S model w key) (w.net.far.entries key) (is_room w.net key free) a)
+
+abbrev pub strays_to_client : (S : Type 0) → Rules → World S → Key → Apdu → Option ClientTransaction → World S
+strays_to_client S x w key a None = w
+strays_to_client S x w key a (Some t) = reacts_away S w key t (client_on_apdu (client_context x key (client_now w.net key)) x.readable t a)
+
+abbrev pub strays : (S : Type 0) → StoreModel S → Rules → World S → Key → (free : Bool) → Apdu → World S
+strays S model x w key free a =
+    if is_from_client a then strays_to_server S model x w key free a else strays_to_client S x w key a (w.net.far.tickets key)
+
+-- an accepted ask of a stranger; no store changes
+abbrev pub asked_away : (S : Type 0) → Rules → World S → Key → Ask → World S
+asked_away S x w key ask = record { net = asked_away_at x w.net key ask; stores = w.stores }
+
+-- ticks of these tickets and entries
+abbrev pub ticks_ticket_away : (S : Type 0) → Rules → World S → Key → Option ClientTransaction → World S
+ticks_ticket_away S x w key None = w
+ticks_ticket_away S x w key (Some t) = reacts_away S w key t (client_ticks (client_context x key (client_now w.net key)) t)
+
+abbrev pub ticks_as_client_away : (S : Type 0) → Rules → List Key → World S → World S
+ticks_as_client_away S x [] w = w
+ticks_as_client_away S x (key ∷ keys) w = ticks_as_client_away S x keys (ticks_ticket_away S x w key (w.net.far.tickets key))
+
+abbrev pub ticks_as_server_away : (S : Type 0) → StoreModel S → Rules → List Key → World S → World S
+ticks_as_server_away S model x [] w = w
+ticks_as_server_away S model x (key ∷ keys) w = ticks_as_server_away S model x keys
+    (serves_away S model w key (server_ticks (server_context x key (server_now w.net key)) (w.net.far.entries key)))
+
 -- whether a ticket's client, whose clock shows so much, is in time to send for it
 abbrev pub is_in_time : (shows : ℕ) → Option ClientTransaction → Bool
 is_in_time shows None = false
 is_in_time shows (Some t) = nat_le shows (t.ask.first + DEADLINE)
 
 -- real time passes, and each clock goes on
-abbrev pub passes : Net → (by : ℕ) → (clients servers : ℕ → ℕ) → Net
-passes n by clients servers =
+abbrev pub passes : Net → (by : ℕ) → (own : ℕ → ℕ) → Net
+passes n by own =
     record n {
       now = n.now + by;
-      client_clocks = λ node. goes_on n.pace by (clients node) (n.client_clocks node);
-      server_clocks = λ node. goes_on n.pace by (servers node) (n.server_clocks node);
+      clocks = λ node. goes_on n.pace by (own node) (n.clocks node);
       until = λ key.
-          if not (is_lost n key) && is_in_time (goes_on n.pace by (clients key.client) (n.client_clocks key.client)).shows (n.tickets key) then n.now + by else n.until key;
+          if is_in_time (goes_on n.pace by (own key.client) (n.clocks key.client)).shows (n.tickets key) then n.now + by else n.until key;
     }
 
 -- the world after an event; an ask whose invoke ID is held, or whose client waits, is refused, and changes nothing
@@ -280,11 +363,16 @@ happens S model x w (MakeAsk key choice whole front rest) =
 happens S model x w (Deliver number free) = delivered S model x w number free (slice_get w.net.posts number)
 happens S model x w (Tick as_client as_server) = ticks_as_server S model x as_server (ticks_as_client S x as_client w)
 happens S model x w Noise = w
-happens S model x w (Advance by clients servers) = record { net = passes w.net by clients servers; stores = w.stores }
+happens S model x w (Advance by own) = record { net = passes w.net by own; stores = w.stores }
 happens S model x w (Change node change) = record { net = notes_change w.net node change; stores = changed_at S model node change w.stores }
-happens S model x w (RestartClient node exact) = record { net = client_restarted w.net node exact; stores = w.stores }
-happens S model x w (RestartServer node exact store) =
-    record { net = server_restarted w.net node exact store; stores = restarted_at S model node store w.stores }
+happens S model x w (RestartClient node) = record { net = client_restarted w.net node; stores = w.stores }
+happens S model x w (RestartServer node store) =
+    record { net = server_restarted w.net node store; stores = restarted_at S model node store w.stores }
+happens S model x w (Stray key free a) = strays S model x w key free a
+happens S model x w (AskAway key choice whole front rest) =
+    if is_id_held_away w.net key then w
+    else asked_away S x w key (record { first = client_now w.net key; choice = choice; whole = whole; pieces = front ∷ rest })
+happens S model x w (TickAway as_client as_server) = ticks_as_server_away S model x as_server (ticks_as_client_away S x as_client w)
 
 -- the world after these events, in their order
 abbrev pub run : (S : Type 0) → StoreModel S → Rules → List Event → World S → World S
@@ -295,21 +383,28 @@ run S model x (e ∷ es) w = run S model x es (happens S model x w e)
 abbrev pub MakeNoChange : List Event → Type 0
 MakeNoChange [] = Unit {0}
 MakeNoChange (Change node change ∷ es) = ⊥
-MakeNoChange (RestartServer node exact store ∷ es) = (store ≡ None) × MakeNoChange es
+MakeNoChange (RestartServer node store ∷ es) = (store ≡ None) × MakeNoChange es
 MakeNoChange (e ∷ es) = MakeNoChange es
 
 -- in these events no node restarts
 abbrev pub MakeNoRestart : List Event → Type 0
 MakeNoRestart [] = Unit {0}
-MakeNoRestart (RestartClient node exact ∷ es) = ⊥
-MakeNoRestart (RestartServer node exact store ∷ es) = ⊥
+MakeNoRestart (RestartClient node ∷ es) = ⊥
+MakeNoRestart (RestartServer node store ∷ es) = ⊥
 MakeNoRestart (e ∷ es) = MakeNoRestart es
+
+-- in these events there are no strangers
+abbrev pub MakeNoStray : List Event → Type 0
+MakeNoStray [] = Unit {0}
+MakeNoStray (Stray key free a ∷ es) = ⊥
+MakeNoStray (AskAway key choice whole front rest ∷ es) = ⊥
+MakeNoStray (TickAway as_client as_server ∷ es) = ⊥
+MakeNoStray (e ∷ es) = MakeNoStray es
 
 -- each node asks and begins entries at any moment
 pub record NeverRestarted (n : Net) : Type 0 where
   pub asks : (node : ℕ) → n.asks_from node ≡ 0
   pub serves : (node : ℕ) → n.serves_from node ≡ 0
-  pub lives : (node : ℕ) → n.restarted node ≡ 0
 
 -- so no end waits: an invoke ID is held by its ticket alone, and a free slot is room for an entry
 pub record NeverWaits (n : Net) : Type 0 where
@@ -322,9 +417,7 @@ net_start pace clocks =
     record {
       pace = pace;
       now = 0;
-      client_clocks = λ node. clock_at pace (clocks node);
-      server_clocks = λ node. clock_at pace (clocks node);
-      restarted = λ node. 0;
+      clocks = λ node. clock_at pace (clocks node);
       asks = 0;
       numbers = λ key. 0;
       made = λ key. 0;
@@ -335,6 +428,7 @@ net_start pace clocks =
       log = [];
       asks_from = λ node. 0;
       serves_from = λ node. 0;
+      far = record { numbers = λ key. 0; tickets = λ key. None; entries = λ key. None };
     }
 
 -- the world before its first event, with these opening stores, and clocks of that pace that begin so
