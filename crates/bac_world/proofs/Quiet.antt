@@ -34,13 +34,13 @@ module _ (P : List Fact → Type 0) (asked : (n c s : ℕ) (r : Request) (log : 
   after_step overtake w w' (Ask client server limits r) alone (inl s) p = subst P (sym s.log) (asked _ client server r w.log p)
   after_step overtake w w' (Ask client server limits r) alone (inr s) p = subst (λ (u : World). P u.log) (sym s.same) p
   after_step overtake w w' (Deliver number) alone s p =
-      after_delivery (is_deliverable overtake w.now number w.copies s.copy) w s.copy w' s.goes p
+      after_delivery (is_deliverable overtake w.time.pace.life w.time.now number w.copies s.copy) w s.copy w' s.goes p
   after_step overtake w w' (Noise node from octets) alone (inl s) p = after_acts w w' node s.hears.after s.hears.outcome s.hears.acts p
   after_step overtake w w' (Noise node from octets) alone (inr s) p = subst (λ (u : World). P u.log) (sym s.same) p
   after_step overtake w w' (Tick node) alone s p = after_acts w w' node s.after s.outcome s.acts p
-  after_step overtake w w' (Advance by) alone s p = subst (λ (u : World). P u.log) (sym s) p
+  after_step overtake w w' (Advance by own) alone s p = subst (λ (u : World). P u.log) (sym s) p
   after_step overtake w w' (Change node c) alone s p = absurd alone
-  after_step overtake w w' (Restart node store) alone s p = absurd alone
+  after_step overtake w w' (Restart node exact store) alone s p = absurd alone
 
 -- The log of a run without changes and restarts.
 
@@ -53,9 +53,9 @@ first_alone (Ask client server limits r) es alone = (tt, alone)
 first_alone (Deliver number) es alone = (tt, alone)
 first_alone (Noise node from octets) es alone = (tt, alone)
 first_alone (Tick node) es alone = (tt, alone)
-first_alone (Advance by) es alone = (tt, alone)
+first_alone (Advance by own) es alone = (tt, alone)
 first_alone (Change node c) es alone = absurd alone
-first_alone (Restart node store) es alone = absurd alone
+first_alone (Restart node exact store) es alone = absurd alone
 
 pub alone_after_run : (overtake : ℕ) (events : List Event) (w w' : World) → MakeRequestsAlone events → WorldRun overtake w events w'
     → HasRequestsAlone w.log → HasRequestsAlone w'.log

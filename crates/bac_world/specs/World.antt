@@ -299,7 +299,7 @@ MakeNoRestart (e ∷ es) = MakeNoRestart es
 abbrev pub MakeRequestsAlone : List Event → Type 0
 MakeRequestsAlone [] = Unit {0}
 MakeRequestsAlone (Change i change ∷ es) = ⊥
-MakeRequestsAlone (Restart i store ∷ es) = ⊥
+MakeRequestsAlone (Restart i exact store ∷ es) = ⊥
 MakeRequestsAlone (e ∷ es) = MakeRequestsAlone es
 
 -- no node waits, nor ever did
