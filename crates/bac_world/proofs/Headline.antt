@@ -29,7 +29,7 @@ use Rattle.bac_world.specs.Node.{Node, Outcome, IsDropped, IsHeard, IsHeardBy, N
 use Rattle.bac_world.specs.Once.{Fact, Stores, IsOnce, MayChange, with_changed}
 use Rattle.bac_world.specs.World.{World, Time, passes, Event, Copy, Note, link_at, stores_of, newest, later, peer_at, Acts, DeliversIf, Delivers, HearsNoise}
 use Rattle.bac_world.specs.World.{IsChanged, WorldStep, WorldRun, IsFresh, IsBounded}
-use Rattle.bac_world.specs.World.Event.{Ask, Deliver, Noise, Tick, Advance, Change, Restart}
+use Rattle.bac_world.specs.World.Event.{Ask, AskAway, Deliver, Noise, Tick, Advance, Change, Restart}
 use Rattle.bac_transaction.proofs.KeyedSlots.{EachSlot}
 use Rattle.bac_protocol.specs.World.{client_now, server_now, is_lost, is_key_held}
 use Rattle.bac_world.specs.World.{told}
@@ -39,11 +39,24 @@ use Rattle.std.proofs.Common.{not}
 use Rattle.bac_world.proofs.Machines.{passed, changes, starts, client_later, server_later}
 use Rattle.bac_world.proofs.Pairs.{IsPaired, pairwise_get}
 use Rattle.bac_world.proofs.Logs.{FactMeans}
+<<<<<<< clocks
 use Rattle.bac_world.proofs.Bridge.{IsKnown, NodeFits, IsCopyOf, IsBetween, IsGone, TicketFits, EntryFits, key_of, slot_key, framed_means, later_alike}
 use Rattle.bac_world.proofs.Steps.{Over, Next, each_with, linked_with}
+||||||| base
+use Rattle.bac_world.proofs.Bridge.{IsKnown, NodeFits, IsCopyOf, IsBetween, IsGone, TicketFits, EntryFits, key_of, slot_key, framed_means, later_alike}
+use Rattle.bac_world.proofs.Steps.{Over, Next, decide_number, each_with, linked_with}
+=======
+use Rattle.bac_world.proofs.Bridge.{IsKnown, IsGuest, NodeFits, IsCopyOf, IsBetween, IsGone, TicketFits, EntryFits, AwayNoted, key_of, slot_key, guest_key, out_key, framed_means, later_alike}
+use Rattle.bac_world.proofs.Steps.{Over, Next, decide_number, each_with, linked_with}
+>>>>>>> strangers
 use Rattle.bac_world.proofs.Serving.{serves}
+use Rattle.bac_world.proofs.Guests.{hears_stranger}
 use Rattle.bac_world.proofs.Clients.{hears, quiet}
 use Rattle.bac_world.proofs.Asking.{asks_over}
+use Rattle.bac_world.specs.Claims.{AreSpaced}
+use Rattle.bac_world.proofs.Spaced.{spaced}
+use Rattle.bac_protocol.proofs.SingleMoves.{in_order}
+use Rattle.bac_world.proofs.AskingAway.{asks_away_over}
 use Rattle.bac_world.proofs.Ticking.{tick_over}
 use Rattle.bac_world.proofs.Restarting.{restarted_next}
 
@@ -118,7 +131,13 @@ module _ (links : ℕ → Option Octets) (apart : (i j : ℕ) (l : Octets) → l
     where
       on : NodeOn (told w i) from octets d.hears.before d.hears.after d.hears.outcome → Next links apart W x w w'
       on (inl z) = dropped w w' n h i d.hears.before d.hears.after d.hears.outcome d.hears.at d.hears.acts from octets z
+<<<<<<< clocks
       on (inr z) = absurd (d.noise z.peer z.apdu z.means)
+||||||| base
+      on (inr z) = absurd (d.noise.meaningless z.peer z.apdu z.means)
+=======
+      on (inr z) = hears_stranger links apart W x bound readable w w' n h i from d.noise.foreign d.hears.before d.hears.after d.hears.outcome d.hears.at d.hears.acts octets z
+>>>>>>> strangers
 
   -- Time.
 
@@ -156,9 +175,19 @@ module _ (links : ℕ → Option Octets) (apart : (i j : ℕ) (l : Octets) → l
       clients = record {
         distinct = f.clients.distinct;
         known = f.clients.known;
+<<<<<<< clocks
         found = λ s l id at'. ticket_later (is_lost n (key_of i s id)) (here_at n i) (goes_on n.pace by (own i) (n.client_clocks i)).shows
             (client_later W x bound n h.sound (key_of i s id) by (own i)) w.notes i (n.numbers (key_of i s id))
             (value_at same_key (slot_key l id) a.clients.slots) (n.tickets (key_of i s id)) (f.clients.found s l id at');
+||||||| base
+        found = λ s l id at'. ticket_later (n.asks_from i) n.now by w.notes i (n.numbers (key_of i s id)) (value_at same_key (slot_key l id) a.clients.slots)
+            (n.tickets (key_of i s id)) (f.clients.found s l id at');
+=======
+        found = λ s l id at'. ticket_later (n.asks_from i) n.now by w.notes i (n.numbers (key_of i s id)) (value_at same_key (slot_key l id) a.clients.slots)
+            (n.tickets (key_of i s id)) (f.clients.found s l id at');
+        guests = λ p g. ticket_later (n.asks_from i) n.now by w.notes i (n.far.numbers (out_key i p)) (value_at same_key p a.clients.slots)
+            (n.far.tickets (out_key i p)) (f.clients.guests p g);
+>>>>>>> strangers
       };
       servers = record {
         distinct = f.servers.distinct;
@@ -166,9 +195,11 @@ module _ (links : ℕ → Option Octets) (apart : (i j : ℕ) (l : Octets) → l
         found = λ c l id at'. entry_later (there_at n i) (goes_on n.pace by (own i) (n.server_clocks i)).shows
             (server_later W x bound n h.sound (key_of c i id) by (own i)) (value_at same_key (slot_key l id) a.servers.slots) (n.entries (key_of c i id))
             (f.servers.found c l id at');
+        guests = λ p g. entry_later n.now by (value_at same_key p a.servers.slots) (n.far.entries (guest_key i p)) (f.servers.guests p g);
       };
     };
     noted = h.noted;
+    away = λ key t is. let old = h.away key t is in (old.0, let le = old.1 in omega arith);
     posts = h.posts;
     log = h.log;
     sound = passed W x bound n by own own h.sound;
@@ -187,8 +218,8 @@ module _ (links : ℕ → Option Octets) (apart : (i j : ℕ) (l : Octets) → l
     link = f.link;
     asks = f.asks;
     serves = f.serves;
-    clients = record { distinct = f.clients.distinct; known = f.clients.known; found = f.clients.found };
-    servers = record { distinct = f.servers.distinct; known = f.servers.known; found = f.servers.found };
+    clients = record { distinct = f.clients.distinct; known = f.clients.known; found = f.clients.found; guests = f.clients.guests };
+    servers = record { distinct = f.servers.distinct; known = f.servers.known; found = f.servers.found; guests = f.servers.guests };
   }
 
   module _ (w w' : World) (n : Net) (h : Over links apart W x w n) (i : ℕ) (c : at_node.Change) (s : IsChanged w i c w') where
@@ -206,6 +237,7 @@ module _ (links : ℕ → Option Octets) (apart : (i j : ℕ) (l : Octets) → l
           (other_store (here_at n i) (there_at n i) w.notes n i [] i s.before (changed c s.before.store) (h.nodes i s.before s.at))
           (λ k b there. other_store (here_at n k) (there_at n k) w.notes n i [] k b b.store (h.nodes k b there)) j a at);
       noted = λ key t is. ap (newest key) s.notes ∙ h.noted key t is;
+      away = subst (λ (l : List Note). AwayNoted l n.now n) (sym s.notes) h.away;
       posts = subst (λ (l : List Copy). Pairwise (IsCopyOf links apart) n.posts l) (sym s.copies) h.posts;
       log = subst (λ (l : List Fact). Pairwise FactMeans (notes_change n i []).log l) (sym s.log) (refl, h.log);
       sound = changes W x bound n i [] h.sound;
@@ -246,7 +278,15 @@ module _ (links : ℕ → Option Octets) (apart : (i j : ℕ) (l : Octets) → l
   step_over : (w w' : World) (n : Net) → Over links apart W x w n → (e : Event) → WorldStep x.overtake w e w' → Next links apart W x w w'
   step_over w w' n h (Ask client server limits r) (inl s) = asks_over links apart W x bound w w' n h client server limits r s
   step_over w w' n h (Ask client server limits r) (inr s) = same_over w w' n h s.same
+<<<<<<< clocks
   step_over w w' n h (Deliver number) s = delivered w w' n h number s.copy s.there (nat_le (w.time.now - s.copy.moment) w.time.pace.life)
+||||||| base
+  step_over w w' n h (Deliver number) s = delivered w w' n h number s.copy s.there (nat_le (w.now - s.copy.moment) LIFE)
+=======
+  step_over w w' n h (AskAway client peer limits r) (inl s) = asks_away_over links apart W x bound w w' n h client peer limits r s
+  step_over w w' n h (AskAway client peer limits r) (inr s) = same_over w w' n h s.same
+  step_over w w' n h (Deliver number) s = delivered w w' n h number s.copy s.there (nat_le (w.now - s.copy.moment) LIFE)
+>>>>>>> strangers
       (nat_le (later s.copy.key number w.copies) x.overtake) refl refl s.goes
   step_over w w' n h (Noise node from octets) (inl s) = noise w w' n h node from octets s
   step_over w w' n h (Noise node from octets) (inr s) = same_over w w' n h s.same
@@ -295,17 +335,36 @@ fresh_over W overtake w h timely b = record {
     serves = f.serves_from;
     clients = record {
       distinct = subst (IsDistinct same_key) (sym f.slots) tt;
+<<<<<<< clocks
       known = subst (EachSlot Client (λ p s. IsKnown (link_at w.nodes) h.apart p × (s.number < a.clients.asked))) (sym f.slots) tt;
       found = λ s l id at'. subst (λ slots. TicketFits false (clock_at w.time.pace (w.time.clocks i).exact).shows w.notes i 0 (value_at same_key (slot_key l id) slots) None) (sym f.slots)
+||||||| base
+      known = subst (EachSlot Client (λ p s. IsKnown (link_at w.nodes) h.apart p × (s.number < a.clients.asked))) (sym f.slots) tt;
+      found = λ s l id at'. subst (λ slots. TicketFits 0 0 w.notes i 0 (value_at same_key (slot_key l id) slots) None) (sym f.slots)
+=======
+      known = subst (EachSlot Client (λ p s. (IsKnown (link_at w.nodes) h.apart p ⊎ IsGuest (link_at w.nodes) h.apart p) × (s.number < a.clients.asked))) (sym f.slots) tt;
+      found = λ s l id at'. subst (λ slots. TicketFits 0 0 w.notes i 0 (value_at same_key (slot_key l id) slots) None) (sym f.slots)
+>>>>>>> strangers
           (record { over = refl; free = refl });
+      guests = λ p g. subst (λ slots. TicketFits 0 0 w.notes i 0 (value_at same_key p slots) None) (sym f.slots) (record { over = refl; free = refl });
     };
     servers = record {
       distinct = subst (IsDistinct same_key) (sym f.entries) tt;
+<<<<<<< clocks
       known = subst (EachSlot ServerTransaction (λ p d. IsKnown (link_at w.nodes) h.apart p)) (sym f.entries) tt;
       found = λ c l id at'. subst (λ slots. EntryFits (clock_at w.time.pace (w.time.clocks i).exact).shows (value_at same_key (slot_key l id) slots) None) (sym f.entries) refl;
+||||||| base
+      known = subst (EachSlot ServerTransaction (λ p d. IsKnown (link_at w.nodes) h.apart p)) (sym f.entries) tt;
+      found = λ c l id at'. subst (λ slots. EntryFits 0 (value_at same_key (slot_key l id) slots) None) (sym f.entries) refl;
+=======
+      known = subst (EachSlot ServerTransaction (λ p d. IsKnown (link_at w.nodes) h.apart p ⊎ IsGuest (link_at w.nodes) h.apart p)) (sym f.entries) tt;
+      found = λ c l id at'. subst (λ slots. EntryFits 0 (value_at same_key (slot_key l id) slots) None) (sym f.entries) refl;
+      guests = λ p g. subst (λ slots. EntryFits 0 (value_at same_key p slots) None) (sym f.entries) refl;
+>>>>>>> strangers
     };
   };
   noted = λ key t at. absurd cc;
+  away = λ key t at. absurd cc;
   posts = subst (λ (l : List Copy). Pairwise (IsCopyOf (link_at w.nodes) h.apart) [] l) (sym h.copies) tt;
   log = subst (λ (l : List Fact). Pairwise FactMeans [] l) (sym h.log) tt;
   sound = starts W (rules_of overtake w) (rules_bounded W overtake w b) w.time.pace timely (λ i. (w.time.clocks i).exact);
@@ -318,3 +377,11 @@ headline W overtake w w' h timely b events run =
     (fresh_over W overtake w h timely b)
     (subst (λ (l : List Fact). IsOnce (stores_of w.nodes) l (stores_of w.nodes)) (sym h.log) (λ node. refl))
     run).2
+
+pub spaced_in_run : (W overtake : ℕ) (w w' : World) → IsFresh w → IsBounded W overtake w → (events : List Event) → WorldRun overtake w events w' → AreSpaced w'.log
+spaced_in_run W overtake w w' h b events run =
+    let r = run_over (link_at w.nodes) h.apart W (rules_of overtake w) (rules_bounded W overtake w b) refl (stores_of w.nodes) events w w' net_start
+    (fresh_over W overtake w h b)
+    (subst (λ (l : List Fact). IsOnce (stores_of w.nodes) l (stores_of w.nodes)) (sym h.log) (λ node. refl))
+    run in
+    spaced r.0.log w'.log r.1.log (in_order W (rules_of overtake w) (rules_bounded W overtake w b) r.0 r.1.sound).spaced

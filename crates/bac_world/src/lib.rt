@@ -6,6 +6,7 @@
 pub mod examples;
 pub mod node;
 
+<<<<<<< clocks
 ghost use Rattle.std.specs.Prelude.{ℕ, List, [], ◌∷◌};
 ghost use Rattle.bac_protocol.specs.Pace.{IsTimely};
 ghost use Rattle.bac_world.specs.Claims.{AreChangesPermitted, AreEndedOnce, ArePerformedOnce, AreReplayed};
@@ -13,6 +14,17 @@ ghost use Rattle.bac_world.specs.Once.{Fact, HasNoChange, HasNoRestart, HasReque
 ghost use Rattle.bac_world.specs.Once.{IsOnceByRequestsAlone, IsOnceInOneLife, Stores};
 ghost use Rattle.bac_world.specs.World.{World, Event, WorldRun, WorldStep, IsFresh, IsBounded, MakeNoRestart, MakeRequestsAlone, NeverRestarted};
 ghost use Rattle.bac_world.specs.World.{stores_of};
+||||||| base
+ghost use Rattle.std.specs.Prelude.{ℕ, List};
+ghost use Rattle.bac_world.specs.Claims.{AreEndedOnce, ArePerformedOnce, AreReplayed};
+ghost use Rattle.bac_world.specs.Once.{Fact, HasNoChange, HasNoRestart, IsOnce, IsOnceByRequests, IsOnceInOneLife, Stores};
+ghost use Rattle.bac_world.specs.World.{World, Event, WorldRun, IsFresh, IsBounded, MakeNoRestart, NeverRestarted, stores_of};
+=======
+ghost use Rattle.std.specs.Prelude.{ℕ, List};
+ghost use Rattle.bac_world.specs.Claims.{AreEndedOnce, ArePerformedOnce, AreReplayed, AreSpaced};
+ghost use Rattle.bac_world.specs.Once.{Fact, HasNoChange, HasNoRestart, IsOnce, IsOnceByRequests, IsOnceInOneLife, Stores};
+ghost use Rattle.bac_world.specs.World.{World, Event, WorldRun, IsFresh, IsBounded, MakeNoRestart, NeverRestarted, stores_of};
+>>>>>>> strangers
 
 /// After every run of a fresh world each accepted ask takes effect at most once, and exactly once where a service answer reached its client; the
 /// request performed and the answer are its own, whole; and each server's store is that of its last start, after the performed requests and the changes
@@ -20,6 +32,12 @@ ghost use Rattle.bac_world.specs.World.{stores_of};
 pub fn at_most_once()
     ensures { (W overtake : ℕ) (w w' : World) → IsFresh w → IsTimely w.time.pace → IsBounded W overtake w → (events : List Event) → WorldRun overtake w events w'
         → IsOnce (stores_of w.nodes) w'.log (stores_of w'.nodes) }
+{}
+
+/// Whatever strangers send: what a node performs for one of them under one invoke ID is performed in entries that began more than 65,000 ms apart, restarts
+/// included.
+pub fn strangers_are_served_apart()
+    ensures { (W overtake : ℕ) (w w' : World) → IsFresh w → IsBounded W overtake w → (events : List Event) → WorldRun overtake w events w' → AreSpaced w'.log }
 {}
 
 /// Where the log has no restart, each server's store is its opening store after the performed requests and the changes made at that node, in the log's
