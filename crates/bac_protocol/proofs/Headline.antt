@@ -23,9 +23,9 @@ use Rattle.bac_protocol.specs.Transaction.{ended_away}
 use Rattle.bac_protocol.specs.World.{Strangers, set_at, server_acts_away, begin_of, reacts_away, serves_away, is_id_held_away}
 use Rattle.bac_protocol.specs.World.{strays_to_server, strays_to_client, asked_away, ticks_ticket_away, ticks_as_client_away, ticks_as_server_away}
 use Rattle.bac_protocol.proofs.Nets.{log_away, net_away, net_far}
-use Rattle.bac_protocol.proofs.Away.{AwayIn, Away, away_more, away_ended, away_performed, right_after, away_after, right_asked, away_asked, away_gets, away_ticks}
-use Rattle.bac_protocol.proofs.Away.{away_later, away_server_restarted, away_client_restarted, away_starts}
-use Rattle.bac_protocol.specs.Claims.{IsBounded, AreSpaced}
+use Rattle.bac_protocol.proofs.StrangerTables.{AwayIn, Away, away_more, away_ended, away_performed, right_after, away_after, right_asked, away_asked, away_gets}
+use Rattle.bac_protocol.proofs.StrangerTables.{away_ticks, away_later, away_server_restarted, away_client_restarted, away_starts, served_apart}
+use Rattle.bac_protocol.specs.Claims.{IsBounded, AreServedApart}
 use Rattle.bac_protocol.proofs.Alone.{one}
 use Rattle.bac_protocol.proofs.ClientKeeps.{client_gets_kept, client_ticks_kept}
 use Rattle.bac_protocol.proofs.ServerKeeps.{server_gets_kept, server_ticks_kept}
@@ -155,7 +155,7 @@ module _ (S : Type 0) (model : StoreModel S) (opening : ℕ → S) (W : ℕ) (x 
   reacts_kept w s key t r sound calm = record {
     net = sound;
     calm = calm;
-    away = away_ended w.net.clocks w.net.serves_from w.net.far (w.net.numbers key) (client.ending_of r) w.net.log s.away;
+    away = away_ended w.net.server_clocks w.net.serves_from w.net.far (w.net.numbers key) (client.ending_of r) w.net.log s.away;
     once = go (client.ending_of r) ((net_log W (client_acts w.net key t r) sound).orderly);
   }
     where
@@ -184,7 +184,7 @@ module _ (S : Type 0) (model : StoreModel S) (opening : ℕ → S) (W : ℕ) (x 
       go (Some e) is sound = record {
         net = sound;
         calm = calm;
-        away = away_performed w.net.clocks w.net.serves_from w.net.far (w.net.numbers key) (Some e) w.net.log s.away;
+        away = away_performed w.net.server_clocks w.net.serves_from w.net.far (w.net.numbers key) (Some e) w.net.log s.away;
         once = effect_once w s key t at e is
             (net_log W (server_acts w.net key (record v { effect = Some e })) sound).orderly;
       }
@@ -194,7 +194,7 @@ module _ (S : Type 0) (model : StoreModel S) (opening : ℕ → S) (W : ℕ) (x 
       → Kept (if b then w else ask_made S x w key (record { first = client_now w.net key; choice = choice; whole = whole; pieces = front ∷ rest }))
   asks_kept w s key choice whole front rest true e = s
   asks_kept w s key choice whole front rest false e =
-      record { net = sound; calm = calm_asked x w.net s.calm key (id_free w.net key e).0 choice whole (front ∷ rest); away = away_more w.net.clocks w.net.serves_from w.net.far (Asked w.net.asks key.client key.server (request_of ask)) w.net.log tt s.away; once = (w.stores, ((net_log W (asked_at x w.net key ask) sound).orderly.0, λ node. refl), s.once) }
+      record { net = sound; calm = calm_asked x w.net s.calm key (id_free w.net key e).0 choice whole (front ∷ rest); away = away_more w.net.server_clocks w.net.serves_from w.net.far (Asked w.net.asks key.client key.server (request_of ask)) w.net.log tt s.away; once = (w.stores, ((net_log W (asked_at x w.net key ask) sound).orderly.0, λ node. refl), s.once) }
     where
       ask : Ask
       ask = record { first = client_now w.net key; choice = choice; whole = whole; pieces = front ∷ rest }
@@ -296,8 +296,8 @@ module _ (S : Type 0) (model : StoreModel S) (opening : ℕ → S) (W : ℕ) (x 
   reacts_away_kept : (w : World S) → Kept w → (key : Key) (t : ClientTransaction) → w.net.far.tickets key ≡ Some t → (r : client.Reaction)
       → (is_idle t.phase ≡ true → r ≡ Stays) → Kept (reacts_away S w key t r)
   reacts_away_kept w s key t at r silent = go (client.ending_of r)
-      (right_after w.net.clocks w.net.serves_from w.net.far w.net.log s.away key t at w.net.asks r silent (net_log W w.net s.net).orderly)
-      (away_after w.net.clocks w.net.serves_from w.net.far w.net.log s.away key t at (client_now w.net key) r silent)
+      (right_after w.net.server_clocks w.net.serves_from w.net.far w.net.log s.away key t at w.net.asks r silent (net_log W w.net s.net).orderly)
+      (away_after w.net.server_clocks w.net.serves_from w.net.far w.net.log s.away key t at (client_now w.net key) r silent)
     where
       far : Strangers
       far = record (w.net.far) { tickets = set_at w.net.far.tickets key (Some (client.after (client_now w.net key) t r)) }
@@ -306,7 +306,7 @@ module _ (S : Type 0) (model : StoreModel S) (opening : ℕ → S) (W : ℕ) (x 
       n = w.net.far.numbers key
 
       go : (o : Option Ending) → IsOrderly (ended_away (w.net.far.numbers key) o w.net.log)
-          → AwayIn w.net.clocks w.net.serves_from (record (w.net.far) { tickets = set_at w.net.far.tickets key (Some (client.after (client_now w.net key) t r)) })
+          → AwayIn w.net.server_clocks w.net.serves_from (record (w.net.far) { tickets = set_at w.net.far.tickets key (Some (client.after (client_now w.net key) t r)) })
           (ended_away (w.net.far.numbers key) o w.net.log)
           → Kept (record {
             net = record (w.net) {
@@ -369,9 +369,9 @@ module _ (S : Type 0) (model : StoreModel S) (opening : ℕ → S) (W : ℕ) (x 
             (AskedAway w.net.asks key.client key.server (request_of ask)) tt
             (log_away w.net.asks (w.net.asks + 1) (AskedAway w.net.asks key.client key.server (request_of ask)) w.net.log tt (omega arith) log
             (let e = log.counted in omega arith)
-            (right_asked w.net.clocks w.net.serves_from w.net.far w.net.log s.away w.net.asks log key t (request_of ask))) s.net;
+            (right_asked w.net.server_clocks w.net.serves_from w.net.far w.net.log s.away w.net.asks log key t (request_of ask))) s.net;
         calm = λ k. s.calm k;
-        away = away_asked w.net.clocks w.net.serves_from w.net.far w.net.log s.away w.net.asks log key t (request_of ask);
+        away = away_asked w.net.server_clocks w.net.serves_from w.net.far w.net.log s.away w.net.asks log key t (request_of ask);
         once = (w.stores, (log.counted, λ node. refl), s.once);
       }
 
@@ -398,23 +398,23 @@ module _ (S : Type 0) (model : StoreModel S) (opening : ℕ → S) (W : ℕ) (x 
   event_kept w s (Deliver number free) = delivered_kept w s number free (slice_get w.net.posts number) refl
   event_kept w s (Tick as_client as_server) = servers_kept as_server (ticks_as_client S x as_client w) (clients_kept as_client w s)
   event_kept w s Noise = s
-  event_kept w s (Advance by own) = record { net = net_later W by own w.net s.net; calm = calm_later w.net by own s.calm; away = away_later w.net by own s.calm s.away; once = s.once }
+  event_kept w s (Advance by clients servers) = record { net = net_later W by clients servers w.net s.net; calm = calm_later w.net by clients servers s.calm; away = away_later w.net by clients servers s.calm s.away; once = s.once }
   event_kept w s (Change node change) = record {
     net = net_changed W w.net node change s.net;
     calm = calm_changed w.net node change s.calm;
-    away = away_more w.net.clocks w.net.serves_from w.net.far (Changed node change) w.net.log tt s.away;
+    away = away_more w.net.server_clocks w.net.serves_from w.net.far (Changed node change) w.net.log tt s.away;
     once = (w.stores, λ n. refl, s.once);
   }
-  event_kept w s (RestartClient node) = record {
-    net = net_client_restarted W w.net node s.net;
-    calm = calm_client_restarted w.net node s.calm;
-    away = away_client_restarted w.net node s.away;
+  event_kept w s (RestartClient node exact) = record {
+    net = net_client_restarted W w.net node exact s.net;
+    calm = calm_client_restarted w.net node exact s.calm;
+    away = away_client_restarted w.net node exact s.away;
     once = s.once;
   }
-  event_kept w s (RestartServer node store) = record {
-    net = net_server_restarted W w.net node store s.net;
-    calm = calm_server_restarted w.net node store s.calm;
-    away = away_server_restarted w.net node store s.away;
+  event_kept w s (RestartServer node exact store) = record {
+    net = net_server_restarted W w.net node exact store s.net;
+    calm = calm_server_restarted w.net node exact store s.calm;
+    away = away_server_restarted w.net node exact store s.away;
     once = (w.stores, λ n. refl, s.once);
   }
   event_kept w s (Stray key free a) = strays_kept w s key free a (is_from_client a)
@@ -435,5 +435,6 @@ module _ (S : Type 0) (model : StoreModel S) (opening : ℕ → S) (W : ℕ) (x 
         → IsOnce S model opening (run S model x events (start S pace clocks opening)).net.log (run S model x events (start S pace clocks opening)).stores
     headline events = (run_kept events (start S pace clocks opening) start_kept).once
 
-    pub spaced_in_run : (events : List Event) → AreSpaced (run S model x events (start S pace clocks opening)).net.log
-    spaced_in_run events = (run_kept events (start S pace clocks opening) start_kept).away.spaced
+    pub apart_in_run : (events : List Event) → AreServedApart (run S model x events (start S pace clocks opening)).net
+    apart_in_run events =
+        served_apart (run S model x events (start S pace clocks opening)).net (run_kept events (start S pace clocks opening) start_kept).away

@@ -1,12 +1,12 @@
 -- What holds of one transaction holds of each of many.
-use Rattle.std.proofs.Common.{◌≡◌, ℕ, ◌+◌, ◌<◌, ◌≤◌, ◌≢◌, ◌⊎◌, Bool, true, false, not, List, ◌∷◌, Option, Some, None}
+use Rattle.std.proofs.Common.{◌≡◌, ℕ, ◌+◌, ◌<◌, ◌≤◌, ◌≢◌, ◌⊎◌, Bool, true, false, not, ◌&&◌, List, ◌∷◌, Option, Some, None}
 use Rattle.std.proofs.Common.{nat_le, nat_lt, nat_eq, refl, sym, if◌then◌else◌}
 use Rattle.std.proofs.Common.{ap, subst, inl, inr, ◌∙◌, arith, zero-add}
 use Rattle.std.proofs.lemmas.Bool.Decides.{nat_tests}
 use Rattle.bac_apdu.specs.Apdu.{Apdu}
 use Rattle.bac_apdu.specs.Apdu.Apdu.{SimpleAck, ComplexAck, Error, Reject, Abort}
 use Rattle.bac_protocol.specs.Times.{DEADLINE, KEEP}
-use Rattle.bac_protocol.specs.Pace.{Pace, goes_on, steps, IsShown}
+use Rattle.bac_protocol.specs.Pace.{Pace, clock_at, goes_on, steps, IsShown}
 use Rattle.bac_protocol.specs.Claims.{Moments, moments_of, IsBegunSince, HasRestartedSince}
 use Rattle.bac_protocol.proofs.Paces.{shown_at, since_now, since_later, shows_on, within_most}
 use Rattle.bac_protocol.specs.Service.{Octets, Ending}
@@ -20,9 +20,9 @@ use Rattle.bac_protocol.specs.Log.{Fact, asks_in, IsUnperformed, IsUnended, IsOr
 use Rattle.bac_protocol.specs.Log.Fact.{Asked, Performed, Ended, Changed, Restarted, Served, AskedAway, EndedAway}
 use Rattle.bac_protocol.specs.Transaction.{Key, Rules, ended, performed, client_context}
 use Rattle.bac_protocol.specs.World.{Net, set_at, client_acts, server_acts, asked_at, notes_change, is_room, net_start}
-use Rattle.bac_protocol.specs.World.{Strangers, lost, client_restarted, server_restarted, client_now, server_now, passes, is_in_time}
+use Rattle.bac_protocol.specs.World.{Strangers, lost, client_restarted, server_restarted, client_now, server_now, passes, is_lost, is_in_time}
 use Rattle.bac_protocol.proofs.Alone.{Transaction, client_does, server_does, asked_by, one}
-use Rattle.bac_protocol.proofs.Sound.{OfAsk, IsOfOther, IsBelow, Up, Down, IsKeptFor, IsUnbegun, StateFits, WasGiven, ServerFits, IsOpenIn, IsTimed, IsSoundAt, IsSound}
+use Rattle.bac_protocol.proofs.Sound.{OfAsk, IsOfOther, IsBelow, Up, Down, IsKeptFor, IsUnbegun, StateFits, WasGiven, ServerFits, IsOpenIn, IsCounted, IsTimed, IsSoundAt, IsSound}
 use Rattle.bac_protocol.proofs.Sound.Up.{Reading}
 use Rattle.bac_protocol.proofs.Sound.Down.{Unsent, Sent}
 use Rattle.bac_protocol.proofs.ClientKeeps.{lost_more, state_read, state_performed}
@@ -121,6 +121,7 @@ elsewhere W asks' key f w (Some t) log ne s = (
     counted = log.counted;
     orderly = log.orderly;
     asked = inr (s.2).asked;
+    lives = (s.2).lives;
     unended = open_more t.phase w.number f w.log (ne t refl) (s.2).unended;
     client = (s.2).client;
     passes = (s.2).passes;
@@ -317,63 +318,67 @@ given_by W number ask log st up Unsent h = tt
 given_by W number ask log st up (Sent ps a b) h = (state_read W number ask log up ps a b st h, state_performed W number ask log ps a b st up h)
 
 -- its times, where its server restarts now
-abbrev restarting : Moments → Moments
-restarting times = record times { opens = times.server.shows + KEEP + 1 }
+abbrev restarting : (exact : ℕ) → Moments → Moments
+restarting exact times =
+    record times { server = clock_at times.pace exact; opens = (clock_at times.pace exact).shows + KEEP + 1 }
 
-restarts_now : (times : Moments) → IsShown times.pace times.server → times.made ≤ times.now → HasRestartedSince (restarting times)
-restarts_now times told on = record {
+restarts_now : (exact : ℕ) (times : Moments) → 0 < times.pace.grain → times.made ≤ times.now → HasRestartedSince (restarting exact times)
+restarts_now exact times some on = record {
   restarted = times.now;
-  shown = times.server.shows;
+  shown = (clock_at times.pace exact).shows;
   after = on;
-  since = since_now times.pace times.now times.server told;
+  since = since_now times.pace times.now (clock_at times.pace exact) (shown_at times.pace some exact);
   opens_is = refl;
 }
 
 -- the entry is lost
-server_lost : (W : ℕ) (times : Moments) (number : ℕ) (ask : Ask) (log : List Fact) (up : Up) (down : Down) (o : Option ServerTransaction)
-    → IsShown times.pace times.server → times.made ≤ times.now
-    → ServerFits W times number ask o up down log → ServerFits W (restarting times) number ask None up down log
-server_lost W times number ask log up down None told on (inl h) = inl h
-server_lost W times number ask log up down None told on (inr h) = inr (record { before = restarts_now times told on; given = h.given })
-server_lost W times number ask log up down (Some e) told on (inl h) = inl h.unbegun
-server_lost W times number ask log up down (Some e) told on (inr h) =
-    inr (record { before = restarts_now times told on; given = given_by W number ask log e.state up down h.state })
+server_lost : (W exact : ℕ) (times : Moments) (number : ℕ) (ask : Ask) (log : List Fact) (up : Up) (down : Down) (o : Option ServerTransaction)
+    → 0 < times.pace.grain → times.made ≤ times.now
+    → ServerFits W times number ask o up down log → ServerFits W (restarting exact times) number ask None up down log
+server_lost W exact times number ask log up down None some on (inl h) = inl h
+server_lost W exact times number ask log up down None some on (inr h) = inr (record { before = restarts_now exact times some on; given = h.given })
+server_lost W exact times number ask log up down (Some e) some on (inl h) = inl h.unbegun
+server_lost W exact times number ask log up down (Some e) some on (inr h) =
+    inr (record { before = restarts_now exact times some on; given = given_by W number ask log e.state up down h.state })
 
-loses_entry : (W : ℕ) (key : Key) (w : Transaction) (o : Option ClientTransaction) → IsSoundAt W key o w
-    → IsSoundAt W key o (record w { entry = None; times = restarting w.times })
-loses_entry W key w None s =
+counted_restarting : (exact : ℕ) (times : Moments) (first : ℕ) → IsCounted times first → IsCounted (restarting exact times) first
+counted_restarting exact times first h =
+    record { since = h.since; sends = h.sends; last = h.last; last_early = h.last_early; last_since = h.last_since }
+
+loses_entry : (W exact : ℕ) (key : Key) (w : Transaction) (o : Option ClientTransaction) → IsSoundAt W key o w
+    → IsSoundAt W key o (record w { entry = None; times = restarting exact w.times })
+loses_entry W exact key w None s =
     record { no_entry = refl; no_copies = s.no_copies; numbers = s.numbers; counted = s.counted; orderly = s.orderly }
-loses_entry W key w (Some t) s = (
+loses_entry W exact key w (Some t) s = (
   s.0,
   s.1,
   record {
     clock = record {
       timely = (s.2).clock.timely;
       client = (s.2).clock.client;
-      server = (s.2).clock.server;
-      since = (s.2).clock.since;
-      sends = (s.2).clock.sends;
+      server = shown_at w.times.pace (s.2).clock.timely.some exact;
+      on = (s.2).clock.on;
+      until_on = (s.2).clock.until_on;
       early = (s.2).clock.early;
-      last = (s.2).clock.last;
-      last_early = (s.2).clock.last_early;
-      last_since = (s.2).clock.last_since;
+      counts = λ le. counted_restarting exact w.times t.ask.first ((s.2).clock.counts le);
     };
     numbers = (s.2).numbers;
     counted = (s.2).counted;
     orderly = (s.2).orderly;
     asked = (s.2).asked;
     unended = (s.2).unended;
+    lives = (s.2).lives;
     client = (s.2).client;
     passes = (s.2).passes;
-    server = server_lost W w.times w.number t.ask w.log s.0 s.1 w.entry (s.2).clock.server (s.2).clock.since.on (s.2).server;
+    server = server_lost W exact w.times w.number t.ask w.log s.0 s.1 w.entry (s.2).clock.timely.some (s.2).clock.on (s.2).server;
     upload = (s.2).upload;
     download = (s.2).download;
     arriving = (s.2).arriving;
   },
 )
 
-pub net_server_restarted : (W : ℕ) (n : Net) (node : ℕ) (store : Option Octets) → NetSound W n → NetSound W (server_restarted n node store)
-net_server_restarted W n node store s = record { each = λ key. each key (nat_eq key.server node); apart = s.apart }
+pub net_server_restarted : (W : ℕ) (n : Net) (node exact : ℕ) (store : Option Octets) → NetSound W n → NetSound W (server_restarted n node exact store)
+net_server_restarted W n node exact store s = record { each = λ key. each key (nat_eq key.server node); apart = s.apart }
   where
     log : (key : Key) → IsLogOf n.asks (Restarted node store ∷ n.log)
     log key =
@@ -382,29 +387,67 @@ net_server_restarted W n node store s = record { each = λ key. each key (nat_eq
 
     each : (key : Key) (b : Bool) → IsSoundAt W key (n.tickets key) (record (one n key) {
       entry = if b then None else n.entries key;
-      times = record (moments_of n key) { opens = if b then server_now n key + KEEP + 1 else n.serves_from key.server };
+      times =
+          record (moments_of n key) {
+            server = if b then clock_at n.pace exact else n.server_clocks key.server;
+            opens = if b then (clock_at n.pace exact).shows + KEEP + 1 else n.serves_from key.server;
+          };
       log = Restarted node store ∷ n.log;
     })
-    each key true = elsewhere W n.asks key (Restarted node store) (record (one n key) { entry = None; times = restarting (moments_of n key) }) (n.tickets key) (log key)
-        (λ t at. tt) (loses_entry W key (one n key) (n.tickets key) (s.each key))
+    each key true = elsewhere W n.asks key (Restarted node store) (record (one n key) { entry = None; times = restarting exact (moments_of n key) }) (n.tickets key) (log key)
+        (λ t at. tt) (loses_entry W exact key (one n key) (n.tickets key) (s.each key))
     each key false = elsewhere W n.asks key (Restarted node store) (one n key) (n.tickets key) (log key) (λ t at. tt) (s.each key)
 
+-- its times, where its client restarts now
+abbrev renewing : (exact : ℕ) → Moments → Moments
+renewing exact times = record times { client = clock_at times.pace exact; restarted = times.now + 1 }
+
+begun_renewing : (exact : ℕ) (times : Moments) (begin : ℕ) → IsBegunSince times begin → IsBegunSince (renewing exact times) begin
+begun_renewing exact times begin h = record { began = h.began; after = h.after; before = h.before; since = h.since }
+
+server_renewing : (W exact : ℕ) (times : Moments) (number : ℕ) (ask : Ask) (log : List Fact) (up : Up) (down : Down) (o : Option ServerTransaction)
+    → ServerFits W times number ask o up down log → ServerFits W (renewing exact times) number ask o up down log
+server_renewing W exact times number ask log up down None (inl h) = inl h
+server_renewing W exact times number ask log up down None (inr h) = inr (record {
+  before = record {
+    restarted = h.before.restarted;
+    shown = h.before.shown;
+    after = h.before.after;
+    since = h.before.since;
+    opens_is = h.before.opens_is;
+  };
+  given = h.given;
+})
+server_renewing W exact times number ask log up down (Some e) (inl h) = inl (record { dead = h.dead; unbegun = h.unbegun })
+server_renewing W exact times number ask log up down (Some e) (inr h) =
+    inr (record { begun = begun_renewing exact times e.begin h.begun; choice = h.choice; state = h.state })
+
 -- the ticket is lost
-loses_ticket : (W : ℕ) (key : Key) (w : Transaction) (o : Option ClientTransaction) → IsSoundAt W key o w → IsSoundAt W key (lost o) w
-loses_ticket W key w None s = s
-loses_ticket W key w (Some t) s = (
+loses_ticket : (W exact : ℕ) (key : Key) (w : Transaction) (o : Option ClientTransaction) → IsSoundAt W key o w
+    → IsSoundAt W key (lost o) (record w { times = renewing exact w.times })
+loses_ticket W exact key w None s = record { no_entry = s.no_entry; no_copies = s.no_copies; numbers = s.numbers; counted = s.counted; orderly = s.orderly }
+loses_ticket W exact key w (Some t) s = (
   s.0,
   s.1,
   record {
-    clock = (s.2).clock;
+    clock = record {
+      timely = (s.2).clock.timely;
+      client = shown_at w.times.pace (s.2).clock.timely.some exact;
+      server = (s.2).clock.server;
+      on = (s.2).clock.on;
+      until_on = (s.2).clock.until_on;
+      early = (s.2).clock.early;
+      counts = λ le. let on = (s.2).clock.on in absurd (omega arith);
+    };
     numbers = (s.2).numbers;
     counted = (s.2).counted;
     orderly = (s.2).orderly;
     asked = (s.2).asked;
     unended = tt;
+    lives = λ going. absurd cc;
     client = tt;
     passes = (s.2).passes;
-    server = (s.2).server;
+    server = server_renewing W exact w.times w.number t.ask w.log s.0 s.1 w.entry (s.2).server;
     upload = (s.2).upload;
     download = (s.2).download;
     arriving = (s.2).arriving;
@@ -422,15 +465,22 @@ was_there None true x e = absurd cc
 was_there None false x e = absurd cc
 was_there (Some t) b x e = (t, refl)
 
-pub net_client_restarted : (W : ℕ) (n : Net) (node : ℕ) → NetSound W n → NetSound W (client_restarted n node)
-net_client_restarted W n node s = record { each = λ key. each key (nat_eq key.client node); apart = apart }
+pub net_client_restarted : (W : ℕ) (n : Net) (node exact : ℕ) → NetSound W n → NetSound W (client_restarted n node exact)
+net_client_restarted W n node exact s = record { each = λ key. each key (nat_eq key.client node); apart = apart }
   where
     each : (key : Key) (b : Bool) → IsSoundAt W key (if b then lost (n.tickets key) else n.tickets key)
-        (record (one n key) { ticket = if b then lost (n.tickets key) else n.tickets key })
-    each key true = with_ticket W key (one n key) (lost (n.tickets key)) (lost (n.tickets key)) (loses_ticket W key (one n key) (n.tickets key) (s.each key))
+        (record (one n key) {
+          ticket = if b then lost (n.tickets key) else n.tickets key;
+          times = record (moments_of n key) {
+            client = if b then clock_at n.pace exact else n.client_clocks key.client;
+            restarted = if b then n.now + 1 else n.restarted key.client;
+          };
+        })
+    each key true = with_ticket W key (record (one n key) { times = renewing exact (moments_of n key) }) (lost (n.tickets key)) (lost (n.tickets key))
+        (loses_ticket W exact key (one n key) (n.tickets key) (s.each key))
     each key false = s.each key
 
-    apart : (a b : Key) (x y : ClientTransaction) → (client_restarted n node).tickets a ≡ Some x → (client_restarted n node).tickets b ≡ Some y
+    apart : (a b : Key) (x y : ClientTransaction) → (client_restarted n node exact).tickets a ≡ Some x → (client_restarted n node exact).tickets b ≡ Some y
         → n.numbers a ≡ n.numbers b → a ≡ b
     apart a b x y at at' same =
         let t = was_there (n.tickets a) (nat_eq a.client node) x at in
@@ -530,6 +580,7 @@ module _ (by a b until : ℕ) (times : Moments) (later : times.until ≤ until) 
       orderly = (s.2).orderly;
       asked = (s.2).asked;
       unended = (s.2).unended;
+      lives = (s.2).lives;
       client = (s.2).client;
       passes = (s.2).passes;
       server = server_later W w.number t.ask w.log s.0 s.1 w.entry (s.2).clock (s.2).server;
@@ -541,55 +592,82 @@ module _ (by a b until : ℕ) (times : Moments) (later : times.until ≤ until) 
     },
   )
 
--- its client is in time, or not any more
-timed_later : (by a b first : ℕ) (times : Moments) → IsTimed times first → (z : Bool) → nat_le (goes_on times.pace by a times.client).shows (first + DEADLINE) ≡ z
+-- its client is in time, or not any more, or lost the ticket
+abbrev next_until : (by a : ℕ) → Moments → (lost : Bool) → Option ClientTransaction → ℕ
+next_until by a times lost o = if not lost && is_in_time (goes_on times.pace by a times.client).shows o then times.now + by else times.until
+
+timed_lost : (by a b first : ℕ) (times : Moments) → IsTimed times first → (times.made < times.restarted) → IsTimed (passing by a b times.until times) first
+timed_lost by a b first times h lost = record {
+  timely = h.timely;
+  client = shown_at times.pace h.timely.some (times.client.exact + steps times.pace by a);
+  server = shown_at times.pace h.timely.some (times.server.exact + steps times.pace by b);
+  on = let on = h.on in omega arith;
+  until_on = let on = h.until_on in omega arith;
+  early = h.early;
+  counts = λ le. absurd (omega arith);
+}
+
+timed_later : (by a b first : ℕ) (times : Moments) → IsTimed times first → times.restarted ≤ times.made
+    → (z : Bool) → nat_le (goes_on times.pace by a times.client).shows (first + DEADLINE) ≡ z
     → IsTimed (passing by a b (if z then times.now + by else times.until) times) first
-timed_later by a b first times h true is =
-    let since = since_later times.pace times.made first times.now by a times.client h.since in
+timed_later by a b first times h stays true is =
+    let counted = h.counts stays in
+    let since = since_later times.pace times.made first times.now by a times.client counted.since in
     let client = shown_at times.pace h.timely.some (times.client.exact + steps times.pace by a) in
     let le : (goes_on times.pace by a times.client).shows ≤ first + DEADLINE = grind (arith, nat_tests) in
     record {
       timely = h.timely;
       client = client;
       server = shown_at times.pace h.timely.some (times.server.exact + steps times.pace by b);
-      since = since;
-      sends = λ in_time. omega arith;
+      on = let on = h.on in omega arith;
+      until_on = omega arith;
       early = within_most times.pace h.timely DEADLINE times.made first (times.now + by) (goes_on times.pace by a times.client) client since le;
-      last = (goes_on times.pace by a times.client).shows;
-      last_early = le;
-      last_since = since_now times.pace (times.now + by) (goes_on times.pace by a times.client) client;
+      counts = λ stays'. record {
+        since = since;
+        sends = λ in_time. omega arith;
+        last = (goes_on times.pace by a times.client).shows;
+        last_early = le;
+        last_since = since_now times.pace (times.now + by) (goes_on times.pace by a times.client) client;
+      };
     }
-timed_later by a b first times h false is =
+timed_later by a b first times h stays false is =
+    let counted = h.counts stays in
     let not_le : (goes_on times.pace by a times.client).shows ≤ first + DEADLINE → ⊥ = λ le. grind (arith, nat_tests) in
     record {
       timely = h.timely;
       client = shown_at times.pace h.timely.some (times.client.exact + steps times.pace by a);
       server = shown_at times.pace h.timely.some (times.server.exact + steps times.pace by b);
-      since = since_later times.pace times.made first times.now by a times.client h.since;
-      sends = λ in_time. absurd (not_le in_time);
+      on = let on = h.on in omega arith;
+      until_on = let on = h.until_on in omega arith;
       early = h.early;
-      last = h.last;
-      last_early = h.last_early;
-      last_since = since_later times.pace times.until h.last times.now by a times.client h.last_since;
+      counts = λ stays'. record {
+        since = since_later times.pace times.made first times.now by a times.client counted.since;
+        sends = λ in_time. absurd (not_le in_time);
+        last = counted.last;
+        last_early = counted.last_early;
+        last_since = since_later times.pace times.until counted.last times.now by a times.client counted.last_since;
+      };
     }
 
 until_later : (times : Moments) (by : ℕ) → times.until ≤ times.now → (z : Bool) → times.until ≤ (if z then times.now + by else times.until)
 until_later times by le true = omega arith
 until_later times by le false = omega arith
 
-later_moment : (W by a b : ℕ) (key : Key) (w : Transaction) (o : Option ClientTransaction) → IsSoundAt W key o w
-    → IsSoundAt W key o (record w {
-      times = passing by a b (if is_in_time (goes_on w.times.pace by a w.times.client).shows o then w.times.now + by else w.times.until) w.times;
-    })
-later_moment W by a b key w None s = record { no_entry = s.no_entry; no_copies = s.no_copies; numbers = s.numbers; counted = s.counted; orderly = s.orderly }
-later_moment W by a b key w (Some t) s =
+later_moment : (W by a b : ℕ) (key : Key) (w : Transaction) (o : Option ClientTransaction) → (lost : Bool) → nat_lt w.times.made w.times.restarted ≡ lost
+    → IsSoundAt W key o w → IsSoundAt W key o (record w { times = passing by a b (next_until by a w.times lost o) w.times })
+later_moment W by a b key w None lost is s =
+    record { no_entry = s.no_entry; no_copies = s.no_copies; numbers = s.numbers; counted = s.counted; orderly = s.orderly }
+later_moment W by a b key w (Some t) true is s =
+    moment_later by a b w.times.until w.times (omega arith) W key w t refl
+    (timed_lost by a b t.ask.first w.times (s.2).clock (grind (arith, nat_tests))) s
+later_moment W by a b key w (Some t) false is s =
     let z = nat_le (goes_on w.times.pace by a w.times.client).shows (t.ask.first + DEADLINE) in
-    moment_later by a b (if z then w.times.now + by else w.times.until) w.times (until_later w.times by (s.2).clock.last_since.on z) W key w t refl
-    (timed_later by a b t.ask.first w.times (s.2).clock z refl) s
+    moment_later by a b (if z then w.times.now + by else w.times.until) w.times (until_later w.times by (s.2).clock.until_on z) W key w t refl
+    (timed_later by a b t.ask.first w.times (s.2).clock (grind (arith, nat_tests)) z refl) s
 
-pub net_later : (W by : ℕ) (own : ℕ → ℕ) (n : Net) → NetSound W n → NetSound W (passes n by own)
-net_later W by own n s = record {
-  each = λ key. later_moment W by (own key.client) (own key.server) key (one n key) (n.tickets key) (s.each key);
+pub net_later : (W by : ℕ) (clients servers : ℕ → ℕ) (n : Net) → NetSound W n → NetSound W (passes n by clients servers)
+net_later W by clients servers n s = record {
+  each = λ key. later_moment W by (clients key.client) (servers key.server) key (one n key) (n.tickets key) (is_lost n key) refl (s.each key);
   apart = s.apart;
 }
 

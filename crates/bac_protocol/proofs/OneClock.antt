@@ -1,38 +1,44 @@
 -- Where clocks neither gain nor lose, begin together and count milliseconds, all nodes have one clock.
-use Rattle.std.proofs.Common.{◌≡◌, ℕ, ◌+◌, ◌/◌, Bool, true, false, List, [], ◌∷◌, Option, Some, None, slice_get, if◌then◌else◌, refl, ap, ◌∙◌, arith}
-use Rattle.std.proofs.Math.Nat.{mul-zero}
+use Rattle.std.proofs.Common.{◌≡◌, ℕ, zero, ◌+◌, ◌-◌, ◌*◌, ◌/◌, ◌≤◌, min, max, Bool, true, false, List, [], ◌∷◌, Option, Some, None, slice_get, if◌then◌else◌, nat_eq, refl, ap, ◌∙◌, arith}
+use Rattle.std.proofs.Math.Nat.{mul-zero, min-le_right, le-min, le-max_right}
 use Rattle.bac_apdu.specs.Apdu.{Apdu}
-use Rattle.bac_protocol.specs.Pace.{slack, steps, one_clock}
+use Rattle.bac_protocol.specs.Pace.{Pace, Clock, slack, steps, goes_on, clock_at, one_clock}
+use Rattle.bac_protocol.specs.Drift.{KeepsTime, AllKeepTime}
 use Rattle.bac_protocol.specs.Wire.{is_from_client}
 use Rattle.bac_protocol.specs.Client.{Ask, ClientTransaction}
 use Rattle.bac_protocol.specs.Log.{StoreModel}
 use Rattle.bac_protocol.specs.Transaction.{Key, Rules, server_context}
+use Rattle.bac_protocol.specs.Server as server
 use Rattle.bac_protocol.specs.Server.{server_ticks}
 use Rattle.bac_protocol.specs.World.{Net, World, Post, Event, is_deliverable, is_id_held, ask_made, arrives, takes_at_client, takes_at_server}
-use Rattle.bac_protocol.specs.World.{delivered, ticks_ticket, ticks_as_client, ticks_as_server, serves, happens, run, start, server_now}
+use Rattle.bac_protocol.specs.World.{delivered, ticks_ticket, ticks_as_client, ticks_as_server, serves, happens, run, start, client_now, server_now}
 use Rattle.bac_protocol.specs.World.Event.{MakeAsk, Deliver, Tick, Noise, Advance, Change, RestartClient, RestartServer, Stray, AskAway, TickAway}
 use Rattle.bac_protocol.specs.World.{serves_away, is_id_held_away, strays_to_server, strays_to_client, asked_away, ticks_ticket_away, ticks_as_client_away}
 use Rattle.bac_protocol.specs.World.{ticks_as_server_away}
 use Rattle.bac_protocol.proofs.Paces.{steps_low, steps_high}
 
+pub record IsTrue (now : ℕ) (c : Clock) : Type 0 where
+  pub exact : c.exact ≡ now
+  pub shows : c.shows ≡ now
+
 -- each clock shows real time
 pub record Is (n : Net) : Type 0 where
   pub pace : n.pace ≡ one_clock
-  pub exact : (node : ℕ) → (n.clocks node).exact ≡ n.now
-  pub shows : (node : ℕ) → (n.clocks node).shows ≡ n.now
+  pub clients : (node : ℕ) → IsTrue n.now (n.client_clocks node)
+  pub servers : (node : ℕ) → IsTrue n.now (n.server_clocks node)
 
 module _ (S : Type 0) (model : StoreModel S) (x : Rules) where
   asked : (w : World S) → Is w.net → (key : Key) (ask : Ask) (held : Bool) → Is (if held then w else ask_made S x w key ask).net
   asked w h key ask true = h
-  asked w h key ask false = record { pace = h.pace; exact = h.exact; shows = h.shows }
+  asked w h key ask false = record { pace = h.pace; clients = h.clients; servers = h.servers }
 
   taken : (w : World S) → Is w.net → (key : Key) (a : Apdu) (o : Option ClientTransaction) → Is (takes_at_client S x w key a o).net
   taken w h key a None = h
-  taken w h key a (Some t) = record { pace = h.pace; exact = h.exact; shows = h.shows }
+  taken w h key a (Some t) = record { pace = h.pace; clients = h.clients; servers = h.servers }
 
   arrived : (w : World S) → Is w.net → (key : Key) (free : Bool) (a : Apdu) (up : Bool)
       → Is (if up then takes_at_server S model x w key free a else takes_at_client S x w key a (w.net.tickets key)).net
-  arrived w h key free a true = record { pace = h.pace; exact = h.exact; shows = h.shows }
+  arrived w h key free a true = record { pace = h.pace; clients = h.clients; servers = h.servers }
   arrived w h key free a false = taken w h key a (w.net.tickets key)
 
   delivered_so : (w : World S) → Is w.net → (number : ℕ) (free : Bool) (o : Option Post) → Is (delivered S model x w number free o).net
@@ -45,7 +51,7 @@ module _ (S : Type 0) (model : StoreModel S) (x : Rules) where
 
   ticket_ticked : (w : World S) → Is w.net → (key : Key) (o : Option ClientTransaction) → Is (ticks_ticket S x w key o).net
   ticket_ticked w h key None = h
-  ticket_ticked w h key (Some t) = record { pace = h.pace; exact = h.exact; shows = h.shows }
+  ticket_ticked w h key (Some t) = record { pace = h.pace; clients = h.clients; servers = h.servers }
 
   clients_ticked : (keys : List Key) (w : World S) → Is w.net → Is (ticks_as_client S x keys w).net
   clients_ticked [] w h = h
@@ -55,7 +61,7 @@ module _ (S : Type 0) (model : StoreModel S) (x : Rules) where
   servers_ticked [] w h = h
   servers_ticked (key ∷ keys) w h =
       servers_ticked keys (serves S model w key (server_ticks (server_context x key (server_now w.net key)) (w.net.entries key)))
-      (record { pace = h.pace; exact = h.exact; shows = h.shows })
+      (record { pace = h.pace; clients = h.clients; servers = h.servers })
 
   -- without drift a clock goes on by real time
   no_slack : (by : ℕ) → slack one_clock by ≡ 0
@@ -67,45 +73,63 @@ module _ (S : Type 0) (model : StoreModel S) (x : Rules) where
   by_one : (n : ℕ) → n / 1 ≡ n
   by_one n = omega arith
 
-  passed : (n : Net) (by : ℕ) (own : ℕ → ℕ) → Is n → Is (happens S model x (record { net = n; stores = λ node. model.opened [] }) (Advance by own)).net
-  passed n by own h = record { pace = h.pace; exact = exact; shows = λ node. shows node }
+  on : (p : Pace) → p ≡ one_clock → (now by own : ℕ) (c : Clock) → IsTrue now c → IsTrue (now + by) (goes_on p by own c)
+  on p is now by own c h = record { exact = exact; shows = (λ i. exact i / (is i).grain) ∙ by_one (now + by) }
     where
-      exact : (node : ℕ) → (n.clocks node).exact + steps n.pace by (own node) ≡ n.now + by
-      exact node = (λ i. h.exact node i + steps (h.pace i) by (own node)) ∙ ap (λ (k : ℕ). n.now + k) (steps_so by (own node))
+      exact : c.exact + steps p by own ≡ now + by
+      exact = (λ i. h.exact i + steps (is i) by own) ∙ ap (λ (k : ℕ). now + k) (steps_so by own)
 
-      shows : (node : ℕ) → ((n.clocks node).exact + steps n.pace by (own node)) / n.pace.grain ≡ n.now + by
-      shows node = (λ i. exact node i / (h.pace i).grain) ∙ by_one (n.now + by)
+  anew : (p : Pace) → p ≡ one_clock → (now exact : ℕ) → exact ≡ now → IsTrue now (clock_at p exact)
+  anew p is now exact same = record { exact = same; shows = (λ i. same i / (is i).grain) ∙ by_one now }
 
-  happened : (w : World S) → Is w.net → (e : Event) → Is (happens S model x w e).net
-  happened w h (MakeAsk key choice whole front rest) =
-      asked w h key (record { first = (w.net.clocks key.client).shows; choice = choice; whole = whole; pieces = front ∷ rest }) (is_id_held w.net key)
-  happened w h (Deliver number free) = delivered_so w h number free (slice_get w.net.posts number)
-  happened w h (Tick as_client as_server) = servers_ticked as_server (ticks_as_client S x as_client w) (clients_ticked as_client w h)
-  happened w h Noise = h
-  happened w h (Advance by own) = passed w.net by own h
-  happened w h (Change node change) = record { pace = h.pace; exact = h.exact; shows = h.shows }
-  happened w h (RestartClient node) = record { pace = h.pace; exact = h.exact; shows = h.shows }
-  happened w h (RestartServer node store) = record { pace = h.pace; exact = h.exact; shows = h.shows }
-  happened w h (Stray key free a) = strayed (is_from_client a)
+  either : (b : Bool) (now : ℕ) (c d : Clock) → IsTrue now c → IsTrue now d → IsTrue now (if b then c else d)
+  either true now c d h k = h
+  either false now c d h k = k
+
+  happened : (w : World S) → Is w.net → (e : Event) → KeepsTime S w e → Is (happens S model x w e).net
+  happened w h (MakeAsk key choice whole front rest) t =
+      asked w h key (record { first = client_now w.net key; choice = choice; whole = whole; pieces = front ∷ rest }) (is_id_held w.net key)
+  happened w h (Deliver number free) t = delivered_so w h number free (slice_get w.net.posts number)
+  happened w h (Tick as_client as_server) t = servers_ticked as_server (ticks_as_client S x as_client w) (clients_ticked as_client w h)
+  happened w h Noise t = h
+  happened w h (Advance by clients servers) t = record {
+    pace = h.pace;
+    clients = λ node. on w.net.pace h.pace w.net.now by (clients node) (w.net.client_clocks node) (h.clients node);
+    servers = λ node. on w.net.pace h.pace w.net.now by (servers node) (w.net.server_clocks node) (h.servers node);
+  }
+  happened w h (Change node change) t = record { pace = h.pace; clients = h.clients; servers = h.servers }
+  happened w h (RestartClient node exact) t = record {
+    pace = h.pace;
+    clients = λ m. either (nat_eq m node) w.net.now (clock_at w.net.pace exact) (w.net.client_clocks m)
+        (anew w.net.pace h.pace w.net.now exact t) (h.clients m);
+    servers = h.servers;
+  }
+  happened w h (RestartServer node exact store) t = record {
+    pace = h.pace;
+    clients = h.clients;
+    servers = λ m. either (nat_eq m node) w.net.now (clock_at w.net.pace exact) (w.net.server_clocks m)
+        (anew w.net.pace h.pace w.net.now exact t) (h.servers m);
+  }
+  happened w h (Stray key free a) t = strayed (is_from_client a)
     where
       to_client : (o : Option ClientTransaction) → Is (strays_to_client S x w key a o).net
       to_client None = h
-      to_client (Some t) = record { pace = h.pace; exact = h.exact; shows = h.shows }
+      to_client (Some u) = record { pace = h.pace; clients = h.clients; servers = h.servers }
 
       strayed : (up : Bool) → Is (if up then strays_to_server S model x w key free a else strays_to_client S x w key a (w.net.far.tickets key)).net
-      strayed true = record { pace = h.pace; exact = h.exact; shows = h.shows }
+      strayed true = record { pace = h.pace; clients = h.clients; servers = h.servers }
       strayed false = to_client (w.net.far.tickets key)
-  happened w h (AskAway key choice whole front rest) = go (is_id_held_away w.net key)
+  happened w h (AskAway key choice whole front rest) t = go (is_id_held_away w.net key)
     where
       go : (held : Bool) → Is (if held then w else asked_away S x w key
-          (record { first = (w.net.clocks key.client).shows; choice = choice; whole = whole; pieces = front ∷ rest })).net
+          (record { first = client_now w.net key; choice = choice; whole = whole; pieces = front ∷ rest })).net
       go true = h
-      go false = record { pace = h.pace; exact = h.exact; shows = h.shows }
-  happened w h (TickAway as_client as_server) = servers as_server (ticks_as_client_away S x as_client w) (clients as_client w h)
+      go false = record { pace = h.pace; clients = h.clients; servers = h.servers }
+  happened w h (TickAway as_client as_server) t = servers as_server (ticks_as_client_away S x as_client w) (clients as_client w h)
     where
       ticket : (w : World S) → Is w.net → (key : Key) (o : Option ClientTransaction) → Is (ticks_ticket_away S x w key o).net
       ticket w h key None = h
-      ticket w h key (Some t) = record { pace = h.pace; exact = h.exact; shows = h.shows }
+      ticket w h key (Some u) = record { pace = h.pace; clients = h.clients; servers = h.servers }
 
       clients : (keys : List Key) (w : World S) → Is w.net → Is (ticks_as_client_away S x keys w).net
       clients [] w h = h
@@ -114,13 +138,18 @@ module _ (S : Type 0) (model : StoreModel S) (x : Rules) where
       servers : (keys : List Key) (w : World S) → Is w.net → Is (ticks_as_server_away S model x keys w).net
       servers [] w h = h
       servers (key ∷ keys) w h = servers keys (serves_away S model w key (server_ticks (server_context x key (server_now w.net key)) (w.net.far.entries key)))
-          (record { pace = h.pace; exact = h.exact; shows = h.shows })
+          (record { pace = h.pace; clients = h.clients; servers = h.servers })
 
-  ran : (events : List Event) (w : World S) → Is w.net → Is (run S model x events w).net
-  ran [] w h = h
-  ran (e ∷ es) w h = ran es (happens S model x w e) (happened w h e)
+  ran : (events : List Event) (w : World S) → AllKeepTime S model x events w → Is w.net → Is (run S model x events w).net
+  ran [] w t h = h
+  ran (e ∷ es) w t h = ran es (happens S model x w e) t.1 (happened w h e t.0)
 
-  pub one_clock_in_run : (opening : ℕ → S) (events : List Event) (node : ℕ)
-      → (let w = run S model x events (start S one_clock (λ node. 0) opening) in (w.net.clocks node).shows ≡ w.net.now)
-  one_clock_in_run opening events node =
-      (ran events (start S one_clock (λ node. 0) opening) (record { pace = refl; exact = λ node. refl; shows = λ node. refl })).shows node
+  pub one_clock_in_run : (opening : ℕ → S) (events : List Event) → AllKeepTime S model x events (start S one_clock (λ node. 0) opening) → (key : Key)
+      → (let w = run S model x events (start S one_clock (λ node. 0) opening) in (client_now w.net key ≡ w.net.now) × (server_now w.net key ≡ w.net.now))
+  one_clock_in_run opening events t key =
+      let r = ran events (start S one_clock (λ node. 0) opening) t (record {
+        pace = refl;
+        clients = λ node. record { exact = refl; shows = refl };
+        servers = λ node. record { exact = refl; shows = refl };
+      }) in
+      ((r.clients key.client).shows, (r.servers key.server).shows)

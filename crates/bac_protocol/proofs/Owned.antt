@@ -204,9 +204,9 @@ module _ (x : Rules) where
     event_owned w h (Deliver number free) = delivered_owned w h number free (slice_get w.net.posts number) refl
     event_owned w h (Tick as_client as_server) = servers_owned as_server (ticks_as_client S x as_client w) (clients_owned as_client w h)
     event_owned w h Noise = h
-    event_owned w h (Advance by own) = record { posts = h.posts; entries = h.entries; tickets = h.tickets }
+    event_owned w h (Advance by clients servers) = record { posts = h.posts; entries = h.entries; tickets = h.tickets }
     event_owned w h (Change node change) = record { posts = h.posts; entries = h.entries; tickets = h.tickets }
-    event_owned w h (RestartClient node) = record { posts = h.posts; entries = h.entries; tickets = λ key. go key (nat_eq key.client node) }
+    event_owned w h (RestartClient node exact) = record { posts = h.posts; entries = h.entries; tickets = λ key. go key (nat_eq key.client node) }
       where
         go : (key : Key) (b : Bool) → TicketHas (IsLesser x key) (if b then lost (w.net.tickets key) else w.net.tickets key)
         go key true = over (w.net.tickets key)
@@ -215,12 +215,11 @@ module _ (x : Rules) where
             over None = tt
             over (Some t) = tt
         go key false = h.tickets key
-    event_owned w h (RestartServer node store) = record { posts = h.posts; entries = λ key. go key (nat_eq key.server node); tickets = h.tickets }
+    event_owned w h (RestartServer node exact store) = record { posts = h.posts; entries = λ key. go key (nat_eq key.server node); tickets = h.tickets }
       where
         go : (key : Key) (b : Bool) → EntryHas (IsSentByServer x key) (IsLesser x key) (if b then None else w.net.entries key)
         go key true = tt
         go key false = h.entries key
-
     event_owned w h (Stray key free a) = strayed (is_from_client a)
       where
         to_client : (o : Option ClientTransaction) → Owned (strays_to_client S x w key a o).net

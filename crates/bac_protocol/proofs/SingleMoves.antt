@@ -40,8 +40,8 @@ use Rattle.bac_protocol.specs.Transaction.{ended_away}
 use Rattle.bac_protocol.specs.World.{Strangers, set_at, client_acts_away, server_acts_away, asked_away_at, begin_of, is_id_held_away}
 use Rattle.bac_protocol.specs.Moves.{strayed_to_client, strayed_to_server, ticket_ticked_away}
 use Rattle.bac_protocol.proofs.Nets.{log_away, net_away, net_far}
-use Rattle.bac_protocol.proofs.Away.{AwayIn, Away, away_more, away_ended, away_performed, right_after, away_after, right_asked, away_asked, away_gets, away_ticks}
-use Rattle.bac_protocol.proofs.Away.{was_away, away_later, away_server_restarted, away_client_restarted, away_starts}
+use Rattle.bac_protocol.proofs.StrangerTables.{AwayIn, Away, away_more, away_ended, away_performed, right_after, away_after, right_asked, away_asked, away_gets}
+use Rattle.bac_protocol.proofs.StrangerTables.{away_ticks, was_away, away_later, away_server_restarted, away_client_restarted, away_starts, served_apart}
 
 none_live_of : (now : ℕ) (o : Option ServerTransaction) → ((e : ServerTransaction) → o ≡ Some e → e.begin + KEEP < now) → is_none_live now o ≡ true
 none_live_of now None dead = refl
@@ -80,7 +80,7 @@ module _ (W : ℕ) (x : Rules) (bound : IsBounded W x) where
         net = net_server W n p.key t is s.net v
             (server_gets_kept W x.overtake bound.some bound.room (x.settings p.key.server) (bound.windows p.key.server) service p.key
             (one n p.key) t (n.entries p.key) f.0 f.1 f.2 (is_room n p.key free) (room_opens n p.key free) p.copy.moment (later p.key number n.posts) few young p.copy.apdu says);
-        away = away_performed n.clocks n.serves_from n.far (n.numbers p.key) v.effect n.log s.away;
+        away = away_performed n.server_clocks n.serves_from n.far (n.numbers p.key) v.effect n.log s.away;
         calm = calm_gets n s.calm p.key (server_context x p.key (server_now n p.key)) refl refl service (is_room n p.key free) (room_opens n p.key free) (later p.key number n.posts) p.copy
             (copy_at number n.posts p at) young way;
       }
@@ -92,7 +92,7 @@ module _ (W : ℕ) (x : Rules) (bound : IsBounded W x) where
         net = net_client W n p.key t is s.net r
             (client_gets_kept W x.overtake bound.some bound.room (x.settings p.key.client) (bound.windows p.key.client) x.readable p.key
             (one n p.key) t f.0 f.1 f.2 p.copy.moment (later p.key number n.posts) few p.copy.apdu says);
-        away = away_ended n.clocks n.serves_from n.far (n.numbers p.key) (client.ending_of r) n.log s.away;
+        away = away_ended n.server_clocks n.serves_from n.far (n.numbers p.key) (client.ending_of r) n.log s.away;
         calm = calm_client n s.calm p.key t is r (ended_is_silent.gets (client_context x p.key (client_now n p.key)) x.readable t p.copy.apdu);
       }
 
@@ -117,7 +117,7 @@ module _ (W : ℕ) (x : Rules) (bound : IsBounded W x) where
         net = net_client W n key t is s.net r
             (client_ticks_kept W x.overtake bound.some bound.room (x.settings key.client) (bound.windows key.client) x.readable key
             (one n key) t f.0 f.1 f.2);
-        away = away_ended n.clocks n.serves_from n.far (n.numbers key) (client.ending_of r) n.log s.away;
+        away = away_ended n.server_clocks n.serves_from n.far (n.numbers key) (client.ending_of r) n.log s.away;
         calm = calm_client n s.calm key t is r (ended_is_silent.ticks (client_context x key (client_now n key)) t);
       }
 
@@ -130,7 +130,7 @@ module _ (W : ℕ) (x : Rules) (bound : IsBounded W x) where
         net = net_server W n key t is s.net v
             (server_ticks_kept W x.overtake bound.some bound.room (x.settings key.server) (bound.windows key.server)
             (λ choice octets. Rejects 0) key (one n key) t (n.entries key) f.0 f.1 f.2);
-        away = away_performed n.clocks n.serves_from n.far (n.numbers key) v.effect n.log s.away;
+        away = away_performed n.server_clocks n.serves_from n.far (n.numbers key) v.effect n.log s.away;
         calm = calm_ticks n s.calm key (server_context x key (server_now n key)) refl refl;
       }
   entry_sound n s key None is = go (n.entries key) refl (sound_at W n key None is s.net).no_entry
@@ -147,7 +147,7 @@ module _ (W : ℕ) (x : Rules) (bound : IsBounded W x) where
   asks_sound n s key choice whole front rest false e = record {
     net = net_asked W bound.some x n key s.net (spent_free W n s.net s.calm key e) choice whole front rest;
     calm = calm_asked x n s.calm key (id_free n key e).0 choice whole (front ∷ rest);
-    away = away_more n.clocks n.serves_from n.far (Asked n.asks key.client key.server
+    away = away_more n.server_clocks n.serves_from n.far (Asked n.asks key.client key.server
         (request_of (record { first = client_now n key; choice = choice; whole = whole; pieces = front ∷ rest }))) n.log tt s.away;
   }
 
@@ -155,14 +155,14 @@ module _ (W : ℕ) (x : Rules) (bound : IsBounded W x) where
   reacts_away : (n : Net) → Sound n → (key : Key) (t : ClientTransaction) → n.far.tickets key ≡ Some t → (r : client.Reaction) → (is_idle t.phase ≡ true → r ≡ Stays)
       → Sound (client_acts_away n key t r)
   reacts_away n s key t at r silent = go (client.ending_of r)
-      (right_after n.clocks n.serves_from n.far n.log s.away key t at n.asks r silent (net_log W n s.net).orderly)
-      (away_after n.clocks n.serves_from n.far n.log s.away key t at (client_now n key) r silent)
+      (right_after n.server_clocks n.serves_from n.far n.log s.away key t at n.asks r silent (net_log W n s.net).orderly)
+      (away_after n.server_clocks n.serves_from n.far n.log s.away key t at (client_now n key) r silent)
     where
       far : Strangers
       far = record (n.far) { tickets = set_at n.far.tickets key (Some (client.after (client_now n key) t r)) }
 
       go : (o : Option Ending) → IsOrderly (ended_away (n.far.numbers key) o n.log)
-          → AwayIn n.clocks n.serves_from (record (n.far) { tickets = set_at n.far.tickets key (Some (client.after (client_now n key) t r)) })
+          → AwayIn n.server_clocks n.serves_from (record (n.far) { tickets = set_at n.far.tickets key (Some (client.after (client_now n key) t r)) })
           (ended_away (n.far.numbers key) o n.log)
           → Sound (record n {
             far = record (n.far) { tickets = set_at n.far.tickets key (Some (client.after (client_now n key) t r)) };
@@ -215,9 +215,9 @@ module _ (W : ℕ) (x : Rules) (bound : IsBounded W x) where
             (record (n.far) { numbers = set_at n.far.numbers key n.asks; tickets = set_at n.far.tickets key (Some t) })
             (AskedAway n.asks key.client key.server (request_of ask)) tt
             (log_away n.asks (n.asks + 1) (AskedAway n.asks key.client key.server (request_of ask)) n.log tt (omega arith) log
-            (let e = log.counted in omega arith) (right_asked n.clocks n.serves_from n.far n.log s.away n.asks log key t (request_of ask))) s.net;
+            (let e = log.counted in omega arith) (right_asked n.server_clocks n.serves_from n.far n.log s.away n.asks log key t (request_of ask))) s.net;
         calm = λ k. s.calm k;
-        away = away_asked n.clocks n.serves_from n.far n.log s.away n.asks log key t (request_of ask);
+        away = away_asked n.server_clocks n.serves_from n.far n.log s.away n.asks log key t (request_of ask);
       }
 
   ticket_away_sound : (n : Net) → Sound n → (key : Key) (o : Option ClientTransaction) → n.far.tickets key ≡ o → Sound (ticket_ticked_away x n key o)
@@ -230,19 +230,26 @@ module _ (W : ℕ) (x : Rules) (bound : IsBounded W x) where
   move_sound n s (Arrives number free service) = arrived_sound n s number free service (slice_get n.posts number) refl
   move_sound n s (TicksTicket key) = ticket_sound n s key (n.tickets key) refl
   move_sound n s (TicksEntry key) = entry_sound n s key (n.tickets key) refl
-  move_sound n s (Passes by own) = record { net = net_later W by own n s.net; calm = calm_later n by own s.calm; away = away_later n by own s.calm s.away }
+  move_sound n s (Passes by clients servers) = record {
+    net = net_later W by clients servers n s.net;
+    calm = calm_later n by clients servers s.calm;
+    away = away_later n by clients servers s.calm s.away;
+  }
   move_sound n s (Changes node change) = record {
     net = net_changed W n node change s.net;
     calm = calm_changed n node change s.calm;
-    away = away_more n.clocks n.serves_from n.far (Changed node change) n.log tt s.away;
+    away = away_more n.server_clocks n.serves_from n.far (Changed node change) n.log tt s.away;
   }
-  move_sound n s (RestartsClient node) = record { net = net_client_restarted W n node s.net; calm = calm_client_restarted n node s.calm; away = away_client_restarted n node s.away }
-  move_sound n s (RestartsServer node store) =
-      record {
-        net = net_server_restarted W n node store s.net;
-        calm = calm_server_restarted n node store s.calm;
-        away = away_server_restarted n node store s.away;
-      }
+  move_sound n s (RestartsClient node exact) = record {
+    net = net_client_restarted W n node exact s.net;
+    calm = calm_client_restarted n node exact s.calm;
+    away = away_client_restarted n node exact s.away;
+  }
+  move_sound n s (RestartsServer node exact store) = record {
+    net = net_server_restarted W n node exact store s.net;
+    calm = calm_server_restarted n node exact store s.calm;
+    away = away_server_restarted n node exact store s.away;
+  }
   move_sound n s (Strays key free service a) = strays_sound n s key free service a (is_from_client a)
   move_sound n s (AsksAway key choice whole front rest) = asks_away_sound n s key
       (record { first = client_now n key; choice = choice; whole = whole; pieces = front ∷ rest }) (is_id_held_away n key)
@@ -273,8 +280,9 @@ module _ (W : ℕ) (x : Rules) (bound : IsBounded W x) where
           entered = λ key is. (sound_at W n key None is s.net).no_entry;
           own = λ key. (s.calm key).own;
           dead = λ key free. none_live_of (server_now n key) (n.entries key) (spent_free W n s.net s.calm key free).dead;
-          away = λ key t is. was_away n.clocks n.serves_from n.far n.log s.away key t is;
+          away = λ key t is. was_away n.server_clocks n.serves_from n.far n.log s.away key t is;
           apart = s.away.apart;
+          served_apart = served_apart n s.away;
         }
 
 -- One place of a table.

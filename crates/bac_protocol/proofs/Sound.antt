@@ -8,7 +8,7 @@ use Rattle.bac_segment.specs.Window.{Outgoing, Incoming}
 use Rattle.bac_protocol.specs.Times.{DEADLINE, KEEP}
 use Rattle.bac_protocol.specs.Pace.{IsTimely, IsShown, Since, most}
 use Rattle.bac_protocol.specs.Service.{Octets, Reply as reply}
-use Rattle.bac_protocol.specs.Client.{Ask, request_of, Phase, ClientTransaction}
+use Rattle.bac_protocol.specs.Client.{Ask, request_of, Phase, ClientTransaction, is_idle}
 use Rattle.bac_protocol.specs.Client.Phase.{AwaitConfirmation, SegmentedConf, Idle}
 use Rattle.bac_protocol.specs.Server.{State, ServerTransaction}
 use Rattle.bac_protocol.specs.Server.State.{Done, SegmentedResponse, Dropped}
@@ -229,18 +229,23 @@ IsOpenIn AwaitConfirmation n log = IsUnended n log
 IsOpenIn (SegmentedConf inc) n log = IsUnended n log
 IsOpenIn Idle n log = Unit {0}
 
--- the clocks show their milliseconds, and the times of the machines fit their pace; the ask was made when its client's clock showed so much, and
--- its client was last in time when it showed no more than DEADLINE more
+-- the ask was made when its client's clock showed so much, and its client was last in time when it showed no more than DEADLINE more
+pub record IsCounted (times : Moments) (first : ℕ) : Type 0 where
+  pub since : Since times.pace times.made first times.now times.client
+  pub sends : times.client.shows ≤ first + DEADLINE → times.now ≤ times.until
+  pub last : ℕ
+  pub last_early : last ≤ first + DEADLINE
+  pub last_since : Since times.pace times.until last times.now times.client
+
+-- the clocks show their milliseconds, and the times of the machines fit their pace; so it is where the client has not restarted since the ask
 pub record IsTimed (times : Moments) (first : ℕ) : Type 0 where
   pub timely : IsTimely times.pace
   pub client : IsShown times.pace times.client
   pub server : IsShown times.pace times.server
-  pub since : Since times.pace times.made first times.now times.client
-  pub sends : times.client.shows ≤ first + DEADLINE → times.now ≤ times.until
+  pub on : times.made ≤ times.now
+  pub until_on : times.until ≤ times.now
   pub early : times.until ≤ times.made + most times.pace DEADLINE
-  pub last : ℕ
-  pub last_early : last ≤ first + DEADLINE
-  pub last_since : Since times.pace times.until last times.now times.client
+  pub counts : times.restarted ≤ times.made → IsCounted times first
 
 pub record Sound (W : ℕ) (key : Key) (times : Moments) (asks number : ℕ) (t : ClientTransaction) (entry : Option ServerTransaction) (copies : List Copy) (log : List Fact) (up : Up)
     (down : Down) : Type 0 where
@@ -250,6 +255,7 @@ pub record Sound (W : ℕ) (key : Key) (times : Moments) (asks number : ℕ) (t 
   pub orderly : IsOrderly log
   pub asked : Has (Asked number key.client key.server (request_of t.ask)) log
   pub unended : IsOpenIn t.phase number log
+  pub lives : is_idle t.phase ≡ false → times.restarted ≤ times.made
   pub client : ClientFits W t.ask t.phase up down
   pub passes : PassFits t.ask t.repeats up
   pub server : ServerFits W times number t.ask entry up down log

@@ -1,9 +1,9 @@
--- Where no node changes its own store, the log of a run has no change; where none restarts, it has no restart, and no end waits.
+-- Where no node changes its own store, the log of a run has no change; where none restarts, it has no restart, and no end waits; where there are no
+-- strangers, it has nothing of them.
 use Rattle.std.proofs.Common.{◌≡◌, ℕ, ◌+◌, Bool, true, false, ◌&&◌, ◌||◌, not, List, [], ◌∷◌, Option, Some, None, slice_get, if◌then◌else◌, nat_le, nat_lt, nat_eq}
 use Rattle.std.proofs.Common.{refl, ap, ◌∙◌, arith}
 use Rattle.std.proofs.lemmas.Bool.Decides.{nat_tests}
 use Rattle.bac_apdu.specs.Apdu.{Apdu}
-use Rattle.bac_protocol.specs.Times.{REST}
 use Rattle.bac_protocol.specs.Service.{Octets, Request, Reply, Ending}
 use Rattle.bac_protocol.specs.Wire.{is_from_client}
 use Rattle.bac_protocol.specs.Client as client
@@ -16,7 +16,7 @@ use Rattle.bac_protocol.specs.Transaction.{Key, Rules, ended, performed, client_
 use Rattle.bac_protocol.specs.World.{Net, World, Post, Event, is_deliverable, is_id_held, is_room, ask_made, arrives, takes_at_client, takes_at_server}
 use Rattle.bac_protocol.specs.World.{delivered, ticks_ticket, ticks_as_client, ticks_as_server, serves, happens, run, start}
 use Rattle.bac_protocol.specs.Pace.{Pace}
-use Rattle.bac_protocol.specs.World.{client_now, server_now, is_key_held, is_held_since, MakeNoChange, MakeNoRestart, MakeNoStray, NeverRestarted, NeverWaits}
+use Rattle.bac_protocol.specs.World.{client_now, server_now, is_key_held, MakeNoChange, MakeNoRestart, MakeNoStray, NeverRestarted, NeverWaits}
 use Rattle.bac_protocol.specs.World.{begin_of, reacts_away, serves_away, is_id_held_away, strays_to_server, strays_to_client, asked_away, ticks_ticket_away}
 use Rattle.bac_protocol.specs.World.{ticks_as_client_away, ticks_as_server_away, stored}
 use Rattle.bac_protocol.specs.Claims.{LeavesNodes, StraysLeaveNodes}
@@ -24,36 +24,36 @@ use Rattle.bac_protocol.specs.Transaction.{ended_away, served}
 use Rattle.bac_protocol.specs.World.Event.{MakeAsk, Deliver, Tick, Noise, Advance, Change, RestartClient, RestartServer, Stray, AskAway, TickAway}
 
 -- what is said of a log, and of the moments from which each end asks and serves, and stays so as asks are made, performed and ended
-record IsLeft (Q : List Fact → (asks serves : ℕ → ℕ) → Type 0) : Type 0 where
-  asked : (n c s : ℕ) (r : Request) (log : List Fact) (asks serves : ℕ → ℕ) → Q log asks serves → Q (Asked n c s r ∷ log) asks serves
-  performed : (n : ℕ) (r : Request) (p : Reply) (log : List Fact) (asks serves : ℕ → ℕ) → Q log asks serves → Q (Performed n r p ∷ log) asks serves
-  ended : (n : ℕ) (how : Ending) (log : List Fact) (asks serves : ℕ → ℕ) → Q log asks serves → Q (Ended n how ∷ log) asks serves
+record IsLeft (Q : List Fact → (asks serves lives : ℕ → ℕ) → Type 0) : Type 0 where
+  asked : (n c s : ℕ) (r : Request) (log : List Fact) (asks serves lives : ℕ → ℕ) → Q log asks serves lives → Q (Asked n c s r ∷ log) asks serves lives
+  performed : (n : ℕ) (r : Request) (p : Reply) (log : List Fact) (asks serves lives : ℕ → ℕ) → Q log asks serves lives → Q (Performed n r p ∷ log) asks serves lives
+  ended : (n : ℕ) (how : Ending) (log : List Fact) (asks serves lives : ℕ → ℕ) → Q log asks serves lives → Q (Ended n how ∷ log) asks serves lives
 
-module _ (Q : List Fact → (asks serves : ℕ → ℕ) → Type 0) (left : IsLeft Q) (S : Type 0) (model : StoreModel S) (x : Rules) where
+module _ (Q : List Fact → (asks serves lives : ℕ → ℕ) → Type 0) (left : IsLeft Q) (S : Type 0) (model : StoreModel S) (x : Rules) where
   abbrev Quiet : World S → Type 0
-  Quiet w = Q w.net.log w.net.asks_from w.net.serves_from
+  Quiet w = Q w.net.log w.net.asks_from w.net.serves_from w.net.restarted
 
-  ended_quiet : (n : ℕ) (o : Option Ending) (log : List Fact) (asks serves : ℕ → ℕ) → Q log asks serves → Q (ended n o log) asks serves
-  ended_quiet n None log asks serves h = h
-  ended_quiet n (Some how) log asks serves h = left.ended n how log asks serves h
+  ended_quiet : (n : ℕ) (o : Option Ending) (log : List Fact) (asks serves lives : ℕ → ℕ) → Q log asks serves lives → Q (ended n o log) asks serves lives
+  ended_quiet n None log asks serves lives h = h
+  ended_quiet n (Some how) log asks serves lives h = left.ended n how log asks serves lives h
 
-  performed_quiet : (n : ℕ) (o : Option Effect) (log : List Fact) (asks serves : ℕ → ℕ) → Q log asks serves → Q (performed n o log) asks serves
-  performed_quiet n None log asks serves h = h
-  performed_quiet n (Some e) log asks serves h = left.performed n e.request e.reply log asks serves h
+  performed_quiet : (n : ℕ) (o : Option Effect) (log : List Fact) (asks serves lives : ℕ → ℕ) → Q log asks serves lives → Q (performed n o log) asks serves lives
+  performed_quiet n None log asks serves lives h = h
+  performed_quiet n (Some e) log asks serves lives h = left.performed n e.request e.reply log asks serves lives h
 
   ask_quiet : (w : World S) → Quiet w → (key : Key) (ask : Ask) (held : Bool) → Quiet (if held then w else ask_made S x w key ask)
   ask_quiet w h key ask true = h
   ask_quiet w h key ask false =
-      left.asked w.net.asks key.client key.server (request_of ask) w.net.log w.net.asks_from w.net.serves_from h
+      left.asked w.net.asks key.client key.server (request_of ask) w.net.log w.net.asks_from w.net.serves_from w.net.restarted h
 
   takes_quiet : (w : World S) → Quiet w → (key : Key) (a : Apdu) (o : Option ClientTransaction) → Quiet (takes_at_client S x w key a o)
   takes_quiet w h key a None = h
   takes_quiet w h key a (Some t) =
       ended_quiet (w.net.numbers key) (client.ending_of (client.client_on_apdu (client_context x key (client_now w.net key)) x.readable t a)) w.net.log
-      w.net.asks_from w.net.serves_from h
+      w.net.asks_from w.net.serves_from w.net.restarted h
 
   serves_quiet : (w : World S) → Quiet w → (key : Key) (v : server.Reaction) → Quiet (serves S model w key v)
-  serves_quiet w h key v = performed_quiet (w.net.numbers key) v.effect w.net.log w.net.asks_from w.net.serves_from h
+  serves_quiet w h key v = performed_quiet (w.net.numbers key) v.effect w.net.log w.net.asks_from w.net.serves_from w.net.restarted h
 
   arrives_quiet : (w : World S) → Quiet w → (key : Key) (free : Bool) (a : Apdu) (up : Bool)
       → Quiet (if up then takes_at_server S model x w key free a else takes_at_client S x w key a (w.net.tickets key))
@@ -73,7 +73,7 @@ module _ (Q : List Fact → (asks serves : ℕ → ℕ) → Type 0) (left : IsLe
   ticket_quiet w h key None = h
   ticket_quiet w h key (Some t) =
       ended_quiet (w.net.numbers key) (client.ending_of (client.client_ticks (client_context x key (client_now w.net key)) t)) w.net.log w.net.asks_from
-      w.net.serves_from h
+      w.net.serves_from w.net.restarted h
 
   clients_quiet : (keys : List Key) (w : World S) → Quiet w → Quiet (ticks_as_client S x keys w)
   clients_quiet [] w h = h
@@ -97,28 +97,28 @@ module _ (Q : List Fact → (asks serves : ℕ → ℕ) → Type 0) (left : IsLe
   tick_quiet w h as_client as_server = servers_quiet as_server (ticks_as_client S x as_client w) (clients_quiet as_client w h)
 
 -- so also as strangers ask, are asked and are served
-record IsLeftAway (Q : List Fact → (asks serves : ℕ → ℕ) → Type 0) : Type 0 where
-  served : (q s i b : ℕ) (r : Request) (p : Reply) (log : List Fact) (asks serves : ℕ → ℕ) → Q log asks serves → Q (Served q s i b r p ∷ log) asks serves
-  asked : (n c q : ℕ) (r : Request) (log : List Fact) (asks serves : ℕ → ℕ) → Q log asks serves → Q (AskedAway n c q r ∷ log) asks serves
-  ended : (n : ℕ) (how : Ending) (log : List Fact) (asks serves : ℕ → ℕ) → Q log asks serves → Q (EndedAway n how ∷ log) asks serves
+record IsLeftAway (Q : List Fact → (asks serves lives : ℕ → ℕ) → Type 0) : Type 0 where
+  served : (q s i b : ℕ) (r : Request) (p : Reply) (log : List Fact) (asks serves lives : ℕ → ℕ) → Q log asks serves lives → Q (Served q s i b r p ∷ log) asks serves lives
+  asked : (n c q : ℕ) (r : Request) (log : List Fact) (asks serves lives : ℕ → ℕ) → Q log asks serves lives → Q (AskedAway n c q r ∷ log) asks serves lives
+  ended : (n : ℕ) (how : Ending) (log : List Fact) (asks serves lives : ℕ → ℕ) → Q log asks serves lives → Q (EndedAway n how ∷ log) asks serves lives
 
-module _ (Q : List Fact → (asks serves : ℕ → ℕ) → Type 0) (left : IsLeftAway Q) (S : Type 0) (model : StoreModel S) (x : Rules) where
+module _ (Q : List Fact → (asks serves lives : ℕ → ℕ) → Type 0) (left : IsLeftAway Q) (S : Type 0) (model : StoreModel S) (x : Rules) where
   abbrev Silent : World S → Type 0
-  Silent w = Q w.net.log w.net.asks_from w.net.serves_from
+  Silent w = Q w.net.log w.net.asks_from w.net.serves_from w.net.restarted
 
-  ended_silent : (n : ℕ) (o : Option Ending) (log : List Fact) (asks serves : ℕ → ℕ) → Q log asks serves → Q (ended_away n o log) asks serves
-  ended_silent n None log asks serves h = h
-  ended_silent n (Some how) log asks serves h = left.ended n how log asks serves h
+  ended_silent : (n : ℕ) (o : Option Ending) (log : List Fact) (asks serves lives : ℕ → ℕ) → Q log asks serves lives → Q (ended_away n o log) asks serves lives
+  ended_silent n None log asks serves lives h = h
+  ended_silent n (Some how) log asks serves lives h = left.ended n how log asks serves lives h
 
-  served_silent : (key : Key) (b : ℕ) (o : Option Effect) (log : List Fact) (asks serves : ℕ → ℕ) → Q log asks serves → Q (served key b o log) asks serves
-  served_silent key b None log asks serves h = h
-  served_silent key b (Some e) log asks serves h = left.served key.client key.server key.invoke_id b e.request e.reply log asks serves h
+  served_silent : (key : Key) (b : ℕ) (o : Option Effect) (log : List Fact) (asks serves lives : ℕ → ℕ) → Q log asks serves lives → Q (served key b o log) asks serves lives
+  served_silent key b None log asks serves lives h = h
+  served_silent key b (Some e) log asks serves lives h = left.served key.client key.server key.invoke_id b e.request e.reply log asks serves lives h
 
   reacts_silent : (w : World S) → Silent w → (key : Key) (t : ClientTransaction) (r : client.Reaction) → Silent (reacts_away S w key t r)
-  reacts_silent w h key t r = ended_silent (w.net.far.numbers key) (client.ending_of r) w.net.log w.net.asks_from w.net.serves_from h
+  reacts_silent w h key t r = ended_silent (w.net.far.numbers key) (client.ending_of r) w.net.log w.net.asks_from w.net.serves_from w.net.restarted h
 
   serves_silent : (w : World S) → Silent w → (key : Key) (v : server.Reaction) → Silent (serves_away S model w key v)
-  serves_silent w h key v = served_silent key (begin_of v.entry) v.effect w.net.log w.net.asks_from w.net.serves_from h
+  serves_silent w h key v = served_silent key (begin_of v.entry) v.effect w.net.log w.net.asks_from w.net.serves_from w.net.restarted h
 
   to_client_silent : (w : World S) → Silent w → (key : Key) (a : Apdu) (o : Option ClientTransaction) → Silent (strays_to_client S x w key a o)
   to_client_silent w h key a None = h
@@ -141,7 +141,7 @@ module _ (Q : List Fact → (asks serves : ℕ → ℕ) → Type 0) (left : IsLe
 
       go : (held : Bool) → Silent (if held then w else asked_away S x w key ask)
       go true = h
-      go false = left.asked w.net.asks key.client key.server (request_of ask) w.net.log w.net.asks_from w.net.serves_from h
+      go false = left.asked w.net.asks key.client key.server (request_of ask) w.net.log w.net.asks_from w.net.serves_from w.net.restarted h
 
   ticket_silent : (w : World S) → Silent w → (key : Key) (o : Option ClientTransaction) → Silent (ticks_ticket_away S x w key o)
   ticket_silent w h key None = h
@@ -162,52 +162,52 @@ module _ (Q : List Fact → (asks serves : ℕ → ℕ) → Type 0) (left : IsLe
 
 -- No change.
 
-abbrev HasNone : List Fact → (asks serves : ℕ → ℕ) → Type 0
-HasNone log asks serves = HasNoChange log
+abbrev HasNone : List Fact → (asks serves lives : ℕ → ℕ) → Type 0
+HasNone log asks serves lives = HasNoChange log
 
 left_none : IsLeft HasNone
 left_none = record {
-  asked = λ n c s r log asks serves h. h;
-  performed = λ n r p log asks serves h. h;
-  ended = λ n how log asks serves h. h;
+  asked = λ n c s r log asks serves lives h. h;
+  performed = λ n r p log asks serves lives h. h;
+  ended = λ n how log asks serves lives h. h;
 }
 
 away_none : IsLeftAway HasNone
 away_none = record {
-  served = λ q s i b r p log asks serves h. h;
-  asked = λ n c q r log asks serves h. h;
-  ended = λ n how log asks serves h. h;
+  served = λ q s i b r p log asks serves lives h. h;
+  asked = λ n c q r log asks serves lives h. h;
+  ended = λ n how log asks serves lives h. h;
 }
 
 -- No strangers.
 
-abbrev NoStranger : List Fact → (asks serves : ℕ → ℕ) → Type 0
-NoStranger log asks serves = HasNoStranger log
+abbrev NoStranger : List Fact → (asks serves lives : ℕ → ℕ) → Type 0
+NoStranger log asks serves lives = HasNoStranger log
 
 left_strangers : IsLeft NoStranger
 left_strangers = record {
-  asked = λ n c s r log asks serves h. h;
-  performed = λ n r p log asks serves h. h;
-  ended = λ n how log asks serves h. h;
+  asked = λ n c s r log asks serves lives h. h;
+  performed = λ n r p log asks serves lives h. h;
+  ended = λ n how log asks serves lives h. h;
 }
 
 -- No restart.
 
-abbrev NoneWaits : List Fact → (asks serves : ℕ → ℕ) → Type 0
-NoneWaits log asks serves = HasNoRestart log × ((node : ℕ) → asks node ≡ 0) × ((node : ℕ) → serves node ≡ 0)
+abbrev NoneWaits : List Fact → (asks serves lives : ℕ → ℕ) → Type 0
+NoneWaits log asks serves lives = HasNoRestart log × ((node : ℕ) → asks node ≡ 0) × ((node : ℕ) → serves node ≡ 0) × ((node : ℕ) → lives node ≡ 0)
 
 left_waiting : IsLeft NoneWaits
 left_waiting = record {
-  asked = λ n c s r log asks serves h. h;
-  performed = λ n r p log asks serves h. h;
-  ended = λ n how log asks serves h. h;
+  asked = λ n c s r log asks serves lives h. h;
+  performed = λ n r p log asks serves lives h. h;
+  ended = λ n how log asks serves lives h. h;
 }
 
 away_waiting : IsLeftAway NoneWaits
 away_waiting = record {
-  served = λ q s i b r p log asks serves h. h;
-  asked = λ n c q r log asks serves h. h;
-  ended = λ n how log asks serves h. h;
+  served = λ q s i b r p log asks serves lives h. h;
+  asked = λ n c q r log asks serves lives h. h;
+  ended = λ n how log asks serves lives h. h;
 }
 
 module _ (S : Type 0) (model : StoreModel S) (x : Rules) where
@@ -220,10 +220,10 @@ module _ (S : Type 0) (model : StoreModel S) (x : Rules) where
   no_stranger (Tick as_client as_server ∷ es) w none h = no_stranger es (happens S model x w (Tick as_client as_server)) none
       (tick_quiet NoStranger left_strangers S model x w h as_client as_server)
   no_stranger (Noise ∷ es) w none h = no_stranger es w none h
-  no_stranger (Advance by own ∷ es) w none h = no_stranger es (happens S model x w (Advance by own)) none h
+  no_stranger (Advance by clients servers ∷ es) w none h = no_stranger es (happens S model x w (Advance by clients servers)) none h
   no_stranger (Change node change ∷ es) w none h = no_stranger es (happens S model x w (Change node change)) none h
-  no_stranger (RestartClient node ∷ es) w none h = no_stranger es (happens S model x w (RestartClient node)) none h
-  no_stranger (RestartServer node store ∷ es) w none h = no_stranger es (happens S model x w (RestartServer node store)) none h
+  no_stranger (RestartClient node exact ∷ es) w none h = no_stranger es (happens S model x w (RestartClient node exact)) none h
+  no_stranger (RestartServer node exact store ∷ es) w none h = no_stranger es (happens S model x w (RestartServer node exact store)) none h
   no_stranger (Stray key free a ∷ es) w none h = absurd none
   no_stranger (AskAway key choice whole front rest ∷ es) w none h = absurd none
   no_stranger (TickAway as_client as_server ∷ es) w none h = absurd none
@@ -241,10 +241,10 @@ module _ (S : Type 0) (model : StoreModel S) (x : Rules) where
   no_change (Tick as_client as_server ∷ es) w none h = no_change es (happens S model x w (Tick as_client as_server)) none
       (tick_quiet HasNone left_none S model x w h as_client as_server)
   no_change (Noise ∷ es) w none h = no_change es w none h
-  no_change (Advance by own ∷ es) w none h = no_change es (happens S model x w (Advance by own)) none h
+  no_change (Advance by clients servers ∷ es) w none h = no_change es (happens S model x w (Advance by clients servers)) none h
   no_change (Change node change ∷ es) w none h = absurd none
-  no_change (RestartClient node ∷ es) w none h = no_change es (happens S model x w (RestartClient node)) none h
-  no_change (RestartServer node store ∷ es) w none h = no_change es (happens S model x w (RestartServer node store)) none.1 (none.0, h)
+  no_change (RestartClient node exact ∷ es) w none h = no_change es (happens S model x w (RestartClient node exact)) none h
+  no_change (RestartServer node exact store ∷ es) w none h = no_change es (happens S model x w (RestartServer node exact store)) none.1 (none.0, h)
   no_change (Stray key free a ∷ es) w none h = no_change es (happens S model x w (Stray key free a)) none (stray_quiet HasNone away_none S model x w h key free a)
   no_change (AskAway key choice whole front rest ∷ es) w none h = no_change es (happens S model x w (AskAway key choice whole front rest)) none
       (ask_away_quiet HasNone away_none S model x w h key choice whole front rest)
@@ -254,8 +254,8 @@ module _ (S : Type 0) (model : StoreModel S) (x : Rules) where
   pub no_change_in_run : (pace : Pace) (clocks : ℕ → ℕ) (opening : ℕ → S) (events : List Event) → MakeNoChange events → HasNoChange (run S model x events (start S pace clocks opening)).net.log
   no_change_in_run pace clocks opening events none = no_change events (start S pace clocks opening) none tt
 
-  no_restart : (events : List Event) (w : World S) → MakeNoRestart events → NoneWaits w.net.log w.net.asks_from w.net.serves_from
-      → (let v = run S model x events w in NoneWaits v.net.log v.net.asks_from v.net.serves_from)
+  no_restart : (events : List Event) (w : World S) → MakeNoRestart events → NoneWaits w.net.log w.net.asks_from w.net.serves_from w.net.restarted
+      → (let v = run S model x events w in NoneWaits v.net.log v.net.asks_from v.net.serves_from v.net.restarted)
   no_restart [] w none h = h
   no_restart (MakeAsk key choice whole front rest ∷ es) w none h = no_restart es (happens S model x w (MakeAsk key choice whole front rest)) none
       (ask_event_quiet NoneWaits left_waiting S model x w h key choice whole front rest)
@@ -264,10 +264,10 @@ module _ (S : Type 0) (model : StoreModel S) (x : Rules) where
   no_restart (Tick as_client as_server ∷ es) w none h = no_restart es (happens S model x w (Tick as_client as_server)) none
       (tick_quiet NoneWaits left_waiting S model x w h as_client as_server)
   no_restart (Noise ∷ es) w none h = no_restart es w none h
-  no_restart (Advance by own ∷ es) w none h = no_restart es (happens S model x w (Advance by own)) none h
+  no_restart (Advance by clients servers ∷ es) w none h = no_restart es (happens S model x w (Advance by clients servers)) none h
   no_restart (Change node change ∷ es) w none h = no_restart es (happens S model x w (Change node change)) none h
-  no_restart (RestartClient node ∷ es) w none h = absurd none
-  no_restart (RestartServer node store ∷ es) w none h = absurd none
+  no_restart (RestartClient node exact ∷ es) w none h = absurd none
+  no_restart (RestartServer node exact store ∷ es) w none h = absurd none
   no_restart (Stray key free a ∷ es) w none h = no_restart es (happens S model x w (Stray key free a)) none (stray_quiet NoneWaits away_waiting S model x w h key free a)
   no_restart (AskAway key choice whole front rest ∷ es) w none h = no_restart es (happens S model x w (AskAway key choice whole front rest)) none
       (ask_away_quiet NoneWaits away_waiting S model x w h key choice whole front rest)
@@ -277,7 +277,7 @@ module _ (S : Type 0) (model : StoreModel S) (x : Rules) where
   pub no_restart_in_run : (pace : Pace) (clocks : ℕ → ℕ) (opening : ℕ → S) (events : List Event) → MakeNoRestart events
       → (let v = run S model x events (start S pace clocks opening) in HasNoRestart v.net.log × NeverRestarted v.net)
   no_restart_in_run pace clocks opening events none =
-      let h = no_restart events (start S pace clocks opening) none (tt, λ node. refl, λ node. refl) in (h.0, record { asks = h.1; serves = h.2 })
+      let h = no_restart events (start S pace clocks opening) none (tt, λ node. refl, λ node. refl, λ node. refl) in (h.0, record { asks = h.1; serves = h.2; lives = h.3 })
 
 -- Where no end restarted, none waits.
 pub never_waits : (n : Net) → NeverRestarted n → NeverWaits n
@@ -286,17 +286,9 @@ never_waits n h = record { held = held; room = room }
     none : (now from : ℕ) → from ≡ 0 → nat_lt now from ≡ false
     none now from is = grind (arith, nat_tests)
 
-    since : (from first : ℕ) → from ≡ 0 → nat_le from (first + REST) ≡ true
-    since from first is = grind (arith, nat_tests)
-
-    by_ticket : (now from : ℕ) → from ≡ 0 → (o : Option ClientTransaction) → is_held_since from now o ≡ is_key_held now o
-    by_ticket now from is None = refl
-    by_ticket now from is (Some t) = ap (λ (b : Bool). b && is_held now t) (since from t.ask.first is)
-
     held : (key : Key) → is_id_held n key ≡ is_key_held (client_now n key) (n.tickets key)
-    held key =
-        ap (λ (b : Bool). b || is_held_since (n.asks_from key.client) (client_now n key) (n.tickets key)) (none (client_now n key) (n.asks_from key.client) (h.asks key.client))
-        ∙ by_ticket (client_now n key) (n.asks_from key.client) (h.asks key.client) (n.tickets key)
+    held key = λ i. none (client_now n key) (n.asks_from key.client) (h.asks key.client) i
+        || (not (none (n.made key) (n.restarted key.client) (h.lives key.client) i) && is_key_held (client_now n key) (n.tickets key))
 
     room : (key : Key) (free : Bool) → is_room n key free ≡ free
     room key free = ap (λ (b : Bool). free && not b) (none (server_now n key) (n.serves_from key.server) (h.serves key.server)) ∙ go free
@@ -308,17 +300,14 @@ never_waits n h = record { held = held; room = room }
 -- What a stranger sends leaves nodes alone.
 module _ (S : Type 0) (model : StoreModel S) (x : Rules) where
   to_client_leaves : (w : World S) (key : Key) (a : Apdu) (o : Option ClientTransaction) → LeavesNodes w.net (strays_to_client S x w key a o).net
-  to_client_leaves w key a None = record
-      { tickets = refl; numbers = refl; entries = refl; posts = refl; asks_from = refl; serves_from = refl; now = refl; clocks = refl }
-  to_client_leaves w key a (Some t) = record
-      { tickets = refl; numbers = refl; entries = refl; posts = refl; asks_from = refl; serves_from = refl; now = refl; clocks = refl }
+  to_client_leaves w key a None = refl
+  to_client_leaves w key a (Some t) = refl
 
   stray_leaves : (w : World S) (key : Key) (free : Bool) (a : Apdu) → LeavesNodes w.net (happens S model x w (Stray key free a)).net
   stray_leaves w key free a = go (is_from_client a)
     where
       go : (up : Bool) → LeavesNodes w.net (if up then strays_to_server S model x w key free a else strays_to_client S x w key a (w.net.far.tickets key)).net
-      go true = record
-          { tickets = refl; numbers = refl; entries = refl; posts = refl; asks_from = refl; serves_from = refl; now = refl; clocks = refl }
+      go true = refl
       go false = to_client_leaves w key a (w.net.far.tickets key)
 
   to_client_stores : (w : World S) (key : Key) (a : Apdu) (o : Option ClientTransaction) (node : ℕ) → (strays_to_client S x w key a o).stores node ≡ w.stores node

@@ -1,5 +1,5 @@
 -- What is said of each moment of a run beside the log: whose copies may arrive, and that no number among them is misread.
-use Rattle.std.specs.Prelude.{◌≡◌, ℕ, ◌+◌, ◌-◌, ◌*◌, ◌%◌, ◌<◌, ◌≤◌, ◌⊎◌, Bool, true, false, List, [], ◌∷◌, length, take, Option, Some, None, slice_get}
+use Rattle.std.specs.Prelude.{◌≡◌, ℕ, ◌+◌, ◌-◌, ◌*◌, ◌%◌, ◌<◌, ◌≤◌, ◌≢◌, ◌⊎◌, Bool, true, false, List, [], ◌∷◌, length, take, Option, Some, None, slice_get}
 use Rattle.std.specs.Prelude.{if◌then◌else◌, nat_lt}
 use Rattle.bac_apdu.specs.Apdu.{Apdu, Segment}
 use Rattle.bac_apdu.specs.Apdu.Apdu.{ConfirmedRequest, UnconfirmedRequest, SimpleAck, ComplexAck, SegmentAck, Error}
@@ -7,7 +7,7 @@ use Rattle.bac_segment.specs.Limits.{N_RETRY}
 use Rattle.bac_segment.specs.Numbers.{ahead}
 use Rattle.bac_segment.specs.Pieces.{join, piece_at}
 use Rattle.bac_segment.specs.Window.{Outgoing, in_window, Incoming}
-use Rattle.bac_protocol.specs.Times.{KEEP, REST}
+use Rattle.bac_protocol.specs.Times.{DEADLINE, KEEP, REST}
 use Rattle.bac_protocol.specs.Pace.{Pace, Clock, most, Since}
 use Rattle.bac_protocol.specs.Service.{Octets, Request, Reply as reply}
 use Rattle.bac_protocol.specs.Wire.{is_from_client}
@@ -16,7 +16,7 @@ use Rattle.bac_protocol.specs.Client.Phase.{AwaitConfirmation, SegmentedConf, Id
 use Rattle.bac_protocol.specs.Server.{State, ServerTransaction, is_live}
 use Rattle.bac_protocol.specs.Server.State.{Done, SegmentedResponse, Dropped}
 use Rattle.bac_protocol.specs.Log.{Fact, Has, StoreModel}
-use Rattle.bac_protocol.specs.Log.Fact.{Asked, Performed, Served}
+use Rattle.bac_protocol.specs.Log.Fact.{Asked, Performed, Restarted, Served}
 use Rattle.bac_protocol.specs.Transaction.{Key, Rules, Copy}
 use Rattle.bac_protocol.specs.World.{Net, Post, World, later, is_deliverable, copies_of, happens}
 use Rattle.bac_protocol.specs.World.Event.{Stray}
@@ -43,6 +43,7 @@ pub record Moments : Type 0 where
   pub now : ℕ
   pub client : Clock
   pub server : Clock
+  pub restarted : ℕ  -- one more than the real moment at which its client restarted last
   pub opens : ℕ  -- the first moment, by its server's clock, at which the server begins entries
 
 abbrev pub moments_of : Net → Key → Moments
@@ -51,8 +52,9 @@ moments_of n key = record {
   made = n.made key;
   until = n.until key;
   now = n.now;
-  client = n.clocks key.client;
-  server = n.clocks key.server;
+  client = n.client_clocks key.client;
+  server = n.server_clocks key.server;
+  restarted = n.restarted key.client;
   opens = n.serves_from key.server;
 }
 
@@ -225,9 +227,9 @@ StateHasTaken pieces (Done kept) taken = taken ≡ length pieces
 StateHasTaken pieces (SegmentedResponse out transfer since) taken = taken ≡ length pieces
 StateHasTaken pieces Dropped taken = taken < length pieces
 
--- the client has not restarted since the ask was made: it would wait longer
-abbrev pub ClientStays : Net → Key → Ask → Type 0
-ClientStays n key ask = n.asks_from key.client ≤ ask.first + REST
+-- the client has not restarted since the newest ask was made
+abbrev pub ClientStays : Net → Key → Type 0
+ClientStays n key = n.restarted key.client ≤ n.made key
 
 -- and it has taken none, where no entry was begun for the ask; where it restarted since, it may have taken any
 abbrev pub ServerHasTaken : Moments → Ask → Option ServerTransaction → ℕ → Type 0
@@ -340,22 +342,27 @@ LaterPassesFindReply x n =
 
 -- Strangers.
 
--- the requests of one stranger with one invoke ID that one server performed are of entries that began more than KEEP apart, by its clock
+-- the log has that fact since that server restarted last
+abbrev pub HasSinceRestart : (server : ℕ) → Fact → List Fact → Type 0
+HasSinceRestart server f [] = ⊥
+HasSinceRestart server f (Restarted s o ∷ log) = (s ≢ server) × HasSinceRestart server f log
+HasSinceRestart server f (g ∷ log) = (g ≡ f) ⊎ HasSinceRestart server f log
+
+-- the requests of one stranger with one invoke ID that one server performed since it restarted last are of entries that began more than KEEP apart, by its
+-- clock
 abbrev pub AreSpaced : List Fact → Type 0
 AreSpaced [] = Unit {0}
-AreSpaced (Served q s i b r p ∷ log) = ((a : ℕ) (r' : Request) (p' : reply) → Has (Served q s i a r' p') log → a + KEEP < b) × AreSpaced log
+AreSpaced (Served q s i b r p ∷ log) = ((a : ℕ) (r' : Request) (p' : reply) → HasSinceRestart s (Served q s i a r' p') log → a + KEEP < b) × AreSpaced log
 AreSpaced (f ∷ log) = AreSpaced log
 
--- what nodes have among themselves is as it was: their asks, their entries, their copies and time
-pub record LeavesNodes (old new : Net) : Type 0 where
-  pub tickets : new.tickets ≡ old.tickets
-  pub numbers : new.numbers ≡ old.numbers
-  pub entries : new.entries ≡ old.entries
-  pub posts : new.posts ≡ old.posts
-  pub asks_from : new.asks_from ≡ old.asks_from
-  pub serves_from : new.serves_from ≡ old.serves_from
-  pub now : new.now ≡ old.now
-  pub clocks : new.clocks ≡ old.clocks
+-- what was performed for strangers; and a server begins no entry for them while it waits after a restart
+pub record AreServedApart (n : Net) : Type 0 where
+  pub spaced : AreSpaced n.log
+  pub waited : (q s i b : ℕ) (r : Request) (p : reply) → HasSinceRestart s (Served q s i b r p) n.log → n.serves_from s ≤ b
+
+-- all but the tables for strangers and the log is as it was: the asks of nodes, their entries, their copies and time
+abbrev pub LeavesNodes : (old new : Net) → Type 0
+LeavesNodes old new = new ≡ record old { far = new.far; log = new.log }
 
 -- a stranger's APDU changes nothing of that, and no store but that of the node at which it is heard
 pub record StraysLeaveNodes (S : Type 0) (model : StoreModel S) (x : Rules) : Type 0 where

@@ -1,13 +1,14 @@
 -- Where clocks go apart: at the bound on the life of a copy all is right; one part beyond it a request is performed twice, or an ask ends with another's answer.
 -- No time of the machines is changed here, nor any world: each run is one of the definitions, for clocks of that pace.
-use Rattle.std.specs.Prelude.{◌≡◌, ℕ, ◌+◌, ◌≤◌, true, List, [], ◌∷◌, ◌++◌, if◌then◌else◌, nat_eq}
+use Rattle.std.specs.Prelude.{◌≡◌, ◌≢◌, ℕ, ◌+◌, ◌<◌, ◌≤◌, true, List, [], ◌∷◌, ◌++◌, if◌then◌else◌, nat_eq}
 use Rattle.bac_protocol.specs.Times.{DEADLINE, KEEP, REST}
 use Rattle.bac_protocol.specs.Pace.{Pace, most, least, IsTimely, one_clock}
 use Rattle.bac_protocol.specs.Service.Ending.{Expired}
 use Rattle.bac_protocol.specs.Log.{Fact, StoreModel}
 use Rattle.bac_protocol.specs.Log.Fact.{Ended}
-use Rattle.bac_protocol.specs.World.{Event, run, start}
-use Rattle.bac_protocol.specs.World.Event.{Deliver, Advance, RestartClient}
+use Rattle.bac_protocol.specs.Transaction.{Rules}
+use Rattle.bac_protocol.specs.World.{World, Event, happens, run, start}
+use Rattle.bac_protocol.specs.World.Event.{Deliver, Advance, RestartClient, RestartServer}
 use Rattle.bac_protocol.specs.Examples.{model, rules, position, ask_append}
 use Rattle.bac_protocol.specs.Edges.{at_once, client_tick, server_tick, once, twice, counted, mixed, first_done, asks_again, asks_with_late_segment}
 
@@ -32,7 +33,7 @@ pub record Lives : Type 0 where
 
 -- so much time passes; the client's clock, node 0, goes on by that much, and the server's, node 1
 abbrev pub passes : (by client server : ℕ) → Event
-passes by client server = Advance by (λ node. if nat_eq node 0 then client else server)
+passes by client server = Advance by (λ node. client) (λ node. server)
 
 abbrev pub log_of : StoreModel ℕ → Pace → List Event → List Fact
 log_of s pace events = (run ℕ s (rules 32) events (start ℕ pace (λ node. 0) (λ node. 0))).net.log
@@ -54,7 +55,7 @@ late_again life = ask_append ∷ passes 60000 60000 60000 ∷ client_tick ∷ pa
 
 -- the same where the client restarts after its ask
 abbrev pub late_after_restart : (life : ℕ) → List Event
-late_after_restart life = ask_append ∷ RestartClient 0 ∷ passes life (life + 4) life ∷ Deliver 0 true ∷ passes 65065 65130 65000 ∷ server_tick
+late_after_restart life = ask_append ∷ RestartClient 0 777777 ∷ passes life (life + 4) life ∷ Deliver 0 true ∷ passes 65065 65130 65000 ∷ server_tick
     ∷ passes life (life + 4) life ∷ []
 
 -- what bounds the life here is REST; a step is of whole milliseconds, so the first that goes wrong is two beyond
@@ -65,3 +66,13 @@ pub record Mixed : Type 0 where
   pub within : log_of counted (thousandth 4931) (late_again 4931 ++ asks_with_late_segment) ≡ Ended 0 Expired ∷ first_done
   pub restarted : log_of counted (thousandth 4932) (late_after_restart 4932 ++ asks_again) ≡ mixed first_done
   pub restarted_within : log_of counted (thousandth 4931) (late_after_restart 4931 ++ asks_again) ≡ first_done
+
+-- an end that restarts begins with a clock that shows real time
+abbrev pub KeepsTime : (S : Type 0) → World S → Event → Type 0
+KeepsTime S w (RestartClient node exact) = exact ≡ w.net.now
+KeepsTime S w (RestartServer node exact store) = exact ≡ w.net.now
+KeepsTime S w _ = Unit {0}
+
+abbrev pub AllKeepTime : (S : Type 0) → StoreModel S → Rules → List Event → World S → Type 0
+AllKeepTime S model x [] w = Unit {0}
+AllKeepTime S model x (e ∷ es) w = KeepsTime S w e × AllKeepTime S model x es (happens S model x w e)

@@ -1,6 +1,6 @@
 -- Single moves of a net, for whoever joins it with nodes: the stores are left out, and a delivery says what its server's service makes of requests,
 -- so a service may answer otherwise each time. Each ticket and each entry ticks on its own.
-use Rattle.std.specs.Prelude.{◌≡◌, ℕ, Bool, true, false, ◌∷◌, Option, Some, None, List, slice_get, if◌then◌else◌}
+use Rattle.std.specs.Prelude.{◌≡◌, ℕ, ◌+◌, Bool, true, false, ◌∷◌, Option, Some, None, List, slice_get, if◌then◌else◌}
 use Rattle.bac_protocol.specs.Service.{Octets}
 use Rattle.bac_protocol.specs.Wire.{is_from_client}
 use Rattle.bac_protocol.specs.Client.{ClientTransaction, request_of, client_on_apdu, client_ticks}
@@ -13,6 +13,7 @@ use Rattle.bac_apdu.specs.Apdu.{Apdu}
 use Rattle.bac_protocol.specs.World.{Net, Post, set_at, asked_at, client_acts, server_acts, notes_change, is_deliverable}
 use Rattle.bac_protocol.specs.World.{is_id_held, is_room, client_restarted, server_restarted, client_now, server_now, passes}
 use Rattle.bac_protocol.specs.Own.{IsOwnEntry}
+use Rattle.bac_protocol.specs.Claims.{AreServedApart}
 
 -- an ask; a copy arrives, at a server with that service; one ticket's tick; one entry's tick; time passes; a node changes its own store; a node's client
 -- or server restarts
@@ -21,10 +22,10 @@ pub data Move : Type 0 where
   Arrives : (number : ℕ) (free : Bool) (service : Service) → Move
   TicksTicket : (key : Key) → Move
   TicksEntry : (key : Key) → Move
-  Passes : (by : ℕ) (own : ℕ → ℕ) → Move
+  Passes : (by : ℕ) (clients servers : ℕ → ℕ) → Move
   Changes : (node : ℕ) (change : Octets) → Move
-  RestartsClient : (node : ℕ) → Move
-  RestartsServer : (node : ℕ) (store : Option Octets) → Move
+  RestartsClient : (node exact : ℕ) → Move
+  RestartsServer : (node exact : ℕ) (store : Option Octets) → Move
   Strays : (key : Key) (free : Bool) (service : Service) (apdu : Apdu) → Move  -- the same of transactions with strangers
   AsksAway : (key : Key) (choice : ℕ) (whole : Bool) (front : Octets) (rest : List Octets) → Move
   TicksTicketAway : (key : Key) → Move
@@ -74,10 +75,10 @@ moved x n (Asks key choice whole front rest) =
 moved x n (Arrives number free service) = arrived x n number free service (slice_get n.posts number)
 moved x n (TicksTicket key) = ticket_ticked x n key (n.tickets key)
 moved x n (TicksEntry key) = server_acts n key (server_ticks (server_context x key (server_now n key)) (n.entries key))
-moved x n (Passes by own) = passes n by own
+moved x n (Passes by clients servers) = passes n by clients servers
 moved x n (Changes node change) = notes_change n node change
-moved x n (RestartsClient node) = client_restarted n node
-moved x n (RestartsServer node store) = server_restarted n node store
+moved x n (RestartsClient node exact) = client_restarted n node exact
+moved x n (RestartsServer node exact store) = server_restarted n node exact store
 moved x n (Strays key free service a) =
     if is_from_client a then strayed_to_server x n key free service a else strayed_to_client x n key a (n.far.tickets key)
 moved x n (AsksAway key choice whole front rest) =
@@ -108,6 +109,8 @@ pub record IsInOrder (n : Net) : Type 0 where
   -- an ask of a stranger was made under the number that its ticket has, and no two have one number
   pub away : (key : Key) (t : ClientTransaction) → n.far.tickets key ≡ Some t → WasAskedAway (n.far.numbers key) n.log
   pub apart : (a b : Key) (s t : ClientTransaction) → n.far.tickets a ≡ Some s → n.far.tickets b ≡ Some t → n.far.numbers a ≡ n.far.numbers b → a ≡ b
+  -- what strangers had performed is of entries apart
+  pub served_apart : AreServedApart n
 
 -- What stands in a table by key after one place was set.
 pub record SetsOnePlace (A : Type 0) : Type 0 where

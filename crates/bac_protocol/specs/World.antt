@@ -35,7 +35,8 @@ pub record Strangers : Type 0 where
 pub record Net : Type 0 where
   pub pace : Pace  -- it never changes
   pub now : ℕ  -- real time
-  pub clocks : ℕ → Clock  -- each node's clock
+  pub client_clocks : ℕ → Clock  -- the clock of each node's client
+  pub server_clocks : ℕ → Clock  -- and of its server; one that restarts begins with a new clock
   pub asks : ℕ  -- how many asks there were
   pub numbers : Key → ℕ  -- the number of each transaction's newest ask
   pub made : Key → ℕ  -- and the real moment at which it was made
@@ -45,15 +46,16 @@ pub record Net : Type 0 where
   pub posts : List Post  -- every copy that was sent, oldest first, numbered from 0
   pub log : List Fact  -- newest first
   pub asks_from : ℕ → ℕ  -- the first moment at which each node asks; 0 where its client never restarted
+  pub restarted : ℕ → ℕ  -- one more than the real moment at which each node's client restarted last; 0 where it never did
   pub serves_from : ℕ → ℕ  -- the first moment at which each node begins entries; 0 where its server never restarted
   pub far : Strangers
 
 -- what a transaction's client is told of time, and what its server is
 abbrev pub client_now : Net → Key → ℕ
-client_now n key = (n.clocks key.client).shows
+client_now n key = (n.client_clocks key.client).shows
 
 abbrev pub server_now : Net → Key → ℕ
-server_now n key = (n.clocks key.server).shows
+server_now n key = (n.server_clocks key.server).shows
 
 -- the whole: a store for each node
 pub record World (S : Type 0) : Type 0 where
@@ -202,10 +204,10 @@ pub data Event : Type 0 where
   Deliver : (number : ℕ) (free : Bool) → Event  -- free: whether a slot of the server's reply table has no live entry
   Tick : (as_client as_server : List Key) → Event  -- a node's tickets, and then its entries, in order
   Noise : Event  -- octets that are no datagram with an APDU
-  Advance : (by : ℕ) (own : ℕ → ℕ) → Event  -- so much real time passes; each clock goes on as far as that, within its pace
+  Advance : (by : ℕ) (clients servers : ℕ → ℕ) → Event  -- so much real time passes; each clock goes on as far as that, within its pace
   Change : (node : ℕ) (change : Octets) → Event
-  RestartClient : (node : ℕ) → Event  -- its tickets are lost
-  RestartServer : (node : ℕ) (store : Option Octets) → Event  -- its entries are lost; its store is as it was, or that one
+  RestartClient : (node exact : ℕ) → Event  -- its tickets are lost
+  RestartServer : (node exact : ℕ) (store : Option Octets) → Event  -- its entries are lost; its store is as it was, or that one
   Stray : (key : Key) (free : Bool) (apdu : Apdu) → Event  -- any APDU of a stranger reaches a node, in that transaction
   AskAway : (key : Key) (choice : ℕ) (whole : Bool) (front : Octets) (rest : List Octets) → Event  -- a node asks a stranger
   TickAway : (as_client as_server : List Key) → Event  -- a tick of a node, as to strangers
@@ -225,18 +227,17 @@ waits_to_ask n key = nat_lt (client_now n key) (n.asks_from key.client)
 abbrev pub waits_to_serve : Net → Key → Bool
 waits_to_serve n key = nat_lt (server_now n key) (n.serves_from key.server)
 
--- a ticket that a restart took holds no invoke ID once its client asks again: its ask was made REST and more before that
-abbrev pub is_held_since : (from now : ℕ) → Option ClientTransaction → Bool
-is_held_since from now None = false
-is_held_since from now (Some t) = nat_le from (t.ask.first + REST) && is_held now t
+-- a restart of its client took the ticket: its ask was made before it
+abbrev pub is_lost : Net → Key → Bool
+is_lost n key = nat_lt (n.made key) (n.restarted key.client)
 
--- whether its client can't ask under that key: it waits, or holds the invoke ID
+-- whether its client can't ask under that key: it waits, or holds the invoke ID; a ticket that was lost holds none once its client asks again
 abbrev pub is_id_held : Net → Key → Bool
-is_id_held n key = waits_to_ask n key || is_held_since (n.asks_from key.client) (client_now n key) (n.tickets key)
+is_id_held n key = waits_to_ask n key || (not (is_lost n key) && is_key_held (client_now n key) (n.tickets key))
 
 -- the same of an ask of a stranger
 abbrev pub is_id_held_away : Net → Key → Bool
-is_id_held_away n key = waits_to_ask n key || is_held_since (n.asks_from key.client) (client_now n key) (n.far.tickets key)
+is_id_held_away n key = waits_to_ask n key || is_key_held (client_now n key) (n.far.tickets key)
 
 -- whether its server may begin an entry: a slot is free, and it does not wait
 abbrev pub is_room : Net → Key → (free : Bool) → Bool
@@ -247,21 +248,24 @@ abbrev pub lost : Option ClientTransaction → Option ClientTransaction
 lost None = None
 lost (Some t) = Some (record t { phase = Idle })
 
--- a node's client restarts: its tickets are lost, and it asks again once more than REST has passed
-abbrev pub client_restarted : Net → (node : ℕ) → Net
-client_restarted n node =
+-- a node's client restarts, with a new clock: its tickets are lost, and it asks again once more than REST has passed
+abbrev pub client_restarted : Net → (node exact : ℕ) → Net
+client_restarted n node exact =
     record n {
       tickets = λ key. if nat_eq key.client node then lost (n.tickets key) else n.tickets key;
-      asks_from = λ m. if nat_eq m node then (n.clocks m).shows + REST + 1 else n.asks_from m;
-      far = record n.far { tickets = λ key. if nat_eq key.client node then lost (n.far.tickets key) else n.far.tickets key };
+      client_clocks = λ m. if nat_eq m node then clock_at n.pace exact else n.client_clocks m;
+      restarted = λ m. if nat_eq m node then n.now + 1 else n.restarted m;
+      asks_from = λ m. if nat_eq m node then (clock_at n.pace exact).shows + REST + 1 else n.asks_from m;
+      far = record n.far { tickets = λ key. if nat_eq key.client node then None else n.far.tickets key };
     }
 
--- a node's server restarts: its entries are lost, and it begins entries again once more than KEEP has passed
-abbrev pub server_restarted : Net → (node : ℕ) → (store : Option Octets) → Net
-server_restarted n node store =
+-- a node's server restarts, with a new clock: its entries are lost, and it begins entries again once more than KEEP has passed
+abbrev pub server_restarted : Net → (node exact : ℕ) → (store : Option Octets) → Net
+server_restarted n node exact store =
     record n {
       entries = λ key. if nat_eq key.server node then None else n.entries key;
-      serves_from = λ m. if nat_eq m node then (n.clocks m).shows + KEEP + 1 else n.serves_from m;
+      server_clocks = λ m. if nat_eq m node then clock_at n.pace exact else n.server_clocks m;
+      serves_from = λ m. if nat_eq m node then (clock_at n.pace exact).shows + KEEP + 1 else n.serves_from m;
       log = Restarted node store ∷ n.log;
       far = record n.far { entries = λ key. if nat_eq key.server node then None else n.far.entries key };
     }
@@ -346,13 +350,14 @@ is_in_time shows None = false
 is_in_time shows (Some t) = nat_le shows (t.ask.first + DEADLINE)
 
 -- real time passes, and each clock goes on
-abbrev pub passes : Net → (by : ℕ) → (own : ℕ → ℕ) → Net
-passes n by own =
+abbrev pub passes : Net → (by : ℕ) → (clients servers : ℕ → ℕ) → Net
+passes n by clients servers =
     record n {
       now = n.now + by;
-      clocks = λ node. goes_on n.pace by (own node) (n.clocks node);
+      client_clocks = λ node. goes_on n.pace by (clients node) (n.client_clocks node);
+      server_clocks = λ node. goes_on n.pace by (servers node) (n.server_clocks node);
       until = λ key.
-          if is_in_time (goes_on n.pace by (own key.client) (n.clocks key.client)).shows (n.tickets key) then n.now + by else n.until key;
+          if not (is_lost n key) && is_in_time (goes_on n.pace by (clients key.client) (n.client_clocks key.client)).shows (n.tickets key) then n.now + by else n.until key;
     }
 
 -- the world after an event; an ask whose invoke ID is held, or whose client waits, is refused, and changes nothing
@@ -363,11 +368,11 @@ happens S model x w (MakeAsk key choice whole front rest) =
 happens S model x w (Deliver number free) = delivered S model x w number free (slice_get w.net.posts number)
 happens S model x w (Tick as_client as_server) = ticks_as_server S model x as_server (ticks_as_client S x as_client w)
 happens S model x w Noise = w
-happens S model x w (Advance by own) = record { net = passes w.net by own; stores = w.stores }
+happens S model x w (Advance by clients servers) = record { net = passes w.net by clients servers; stores = w.stores }
 happens S model x w (Change node change) = record { net = notes_change w.net node change; stores = changed_at S model node change w.stores }
-happens S model x w (RestartClient node) = record { net = client_restarted w.net node; stores = w.stores }
-happens S model x w (RestartServer node store) =
-    record { net = server_restarted w.net node store; stores = restarted_at S model node store w.stores }
+happens S model x w (RestartClient node exact) = record { net = client_restarted w.net node exact; stores = w.stores }
+happens S model x w (RestartServer node exact store) =
+    record { net = server_restarted w.net node exact store; stores = restarted_at S model node store w.stores }
 happens S model x w (Stray key free a) = strays S model x w key free a
 happens S model x w (AskAway key choice whole front rest) =
     if is_id_held_away w.net key then w
@@ -383,14 +388,14 @@ run S model x (e ∷ es) w = run S model x es (happens S model x w e)
 abbrev pub MakeNoChange : List Event → Type 0
 MakeNoChange [] = Unit {0}
 MakeNoChange (Change node change ∷ es) = ⊥
-MakeNoChange (RestartServer node store ∷ es) = (store ≡ None) × MakeNoChange es
+MakeNoChange (RestartServer node exact store ∷ es) = (store ≡ None) × MakeNoChange es
 MakeNoChange (e ∷ es) = MakeNoChange es
 
 -- in these events no node restarts
 abbrev pub MakeNoRestart : List Event → Type 0
 MakeNoRestart [] = Unit {0}
-MakeNoRestart (RestartClient node ∷ es) = ⊥
-MakeNoRestart (RestartServer node store ∷ es) = ⊥
+MakeNoRestart (RestartClient node exact ∷ es) = ⊥
+MakeNoRestart (RestartServer node exact store ∷ es) = ⊥
 MakeNoRestart (e ∷ es) = MakeNoRestart es
 
 -- in these events there are no strangers
@@ -405,6 +410,7 @@ MakeNoStray (e ∷ es) = MakeNoStray es
 pub record NeverRestarted (n : Net) : Type 0 where
   pub asks : (node : ℕ) → n.asks_from node ≡ 0
   pub serves : (node : ℕ) → n.serves_from node ≡ 0
+  pub lives : (node : ℕ) → n.restarted node ≡ 0
 
 -- so no end waits: an invoke ID is held by its ticket alone, and a free slot is room for an entry
 pub record NeverWaits (n : Net) : Type 0 where
@@ -417,7 +423,9 @@ net_start pace clocks =
     record {
       pace = pace;
       now = 0;
-      clocks = λ node. clock_at pace (clocks node);
+      client_clocks = λ node. clock_at pace (clocks node);
+      server_clocks = λ node. clock_at pace (clocks node);
+      restarted = λ node. 0;
       asks = 0;
       numbers = λ key. 0;
       made = λ key. 0;

@@ -1,11 +1,11 @@
 //! Clocks that go apart: the bound on the life of a copy, and what goes wrong beyond it.
 
 ghost use Rattle.std.specs.Prelude.{◌≡◌, ℕ, List};
-ghost use Rattle.bac_protocol.specs.Drift.{Lives, Twice, Mixed};
+ghost use Rattle.bac_protocol.specs.Drift.{AllKeepTime, Lives, Twice, Mixed};
 ghost use Rattle.bac_protocol.specs.Pace.{one_clock};
 ghost use Rattle.bac_protocol.specs.Log.{StoreModel};
-ghost use Rattle.bac_protocol.specs.Transaction.{Rules};
-ghost use Rattle.bac_protocol.specs.World.{Event, run, start};
+ghost use Rattle.bac_protocol.specs.Transaction.{Key, Rules};
+ghost use Rattle.bac_protocol.specs.World.{Event, run, start, client_now, server_now};
 
 /// For which lives of a copy the times of the machines suffice.
 #[tactic(auto, using(crate::proofs::AtDrift::lives))]
@@ -25,9 +25,9 @@ pub fn beyond_the_rest()
     ensures { Mixed }
 {}
 
-/// Without drift, with clocks that begin together and count milliseconds, all nodes have one clock in every run, which shows real time.
-#[tactic(auto, using(crate::proofs::OneClock::one_clock_in_run))]
+/// Without drift, with clocks that begin together, at a start and at each restart, and count milliseconds, all nodes have one clock in every run, which shows real time.
 pub fn one_clock_without_drift<S>()
-    ensures { (model : StoreModel S) (rules : Rules) (opening : ℕ → S) (events : List Event) (node : ℕ)
-        → (let w = run S model rules events (start S one_clock (λ node. 0) opening) in (w.net.clocks node).shows ≡ w.net.now) }
+    ensures { (model : StoreModel S) (rules : Rules) (opening : ℕ → S) (events : List Event) → AllKeepTime S model rules events (start S one_clock (λ node. 0) opening)
+        → (key : Key) → (let w = run S model rules events (start S one_clock (λ node. 0) opening) in
+        (client_now w.net key ≡ w.net.now) × (server_now w.net key ≡ w.net.now)) }
 {}

@@ -73,16 +73,17 @@ SameInvokeId =
       effects = 3;
     }
 
--- while its entry is live, nothing more of a stranger's is performed under that invoke ID, at 65,000 too; at 65,001 it is; after a restart, at 65,001 after that
+-- while its entry is live, nothing more of a stranger's is performed under that invoke ID, at 65,000 too; at 65,001 it is; after a restart, which
+-- begins with a new clock, at 65,001 after that
 abbrev pub OncePerLife : Type 0
 OncePerLife =
     shows (Stray (from 9 0) true (write_apdu write) ∷ Stray (from 9 0) true (write_apdu write) ∷ Stray (from 9 0) true (write_apdu append) ∷ elapse 65000
-    ∷ Stray (from 9 0) true (write_apdu append) ∷ elapse 1 ∷ Stray (from 9 0) true (write_apdu append) ∷ RestartServer 1 None
+    ∷ Stray (from 9 0) true (write_apdu append) ∷ elapse 1 ∷ Stray (from 9 0) true (write_apdu append) ∷ RestartServer 1 7 None
     ∷ Stray (from 9 0) true (write_apdu append) ∷ elapse 65000 ∷ Stray (from 9 0) true (write_apdu append) ∷ elapse 1
     ∷ Stray (from 9 0) true (write_apdu append) ∷ [])
     ≡ record {
       sent = [];
-      log = Served 9 1 0 130002 (request append) (tells 2) ∷ Restarted 1 None ∷ Served 9 1 0 65001 (request append) (tells 1)
+      log = Served 9 1 0 65008 (request append) (tells 2) ∷ Restarted 1 None ∷ Served 9 1 0 65001 (request append) (tells 1)
           ∷ Served 9 1 0 0 (request write) (tells 0) ∷ [];
       effects = 3;
     }

@@ -4,7 +4,7 @@ use Rattle.std.proofs.Common.{nat_eq, refl, sym, ap, subst, inl, inr, arith, ◌
 use Rattle.std.proofs.lemmas.Bool.Decides.{nat_tests}
 use Rattle.bac_apdu.specs.Apdu.{Apdu}
 use Rattle.bac_protocol.specs.Times.{KEEP}
-use Rattle.bac_protocol.specs.Pace.{Clock, goes_on}
+use Rattle.bac_protocol.specs.Pace.{Clock, clock_at, goes_on}
 use Rattle.bac_protocol.specs.Context.{Context}
 use Rattle.bac_protocol.specs.Service.{Octets, Request, Reply, Ending}
 use Rattle.bac_protocol.specs.Client as client
@@ -16,12 +16,12 @@ use Rattle.bac_protocol.specs.Server.State.{Done, SegmentedResponse, Dropped}
 use Rattle.bac_protocol.specs.Log.{Fact, Has, asks_in, IsOrderly, WasAskedAway, IsUnendedAway}
 use Rattle.bac_protocol.specs.Log.Fact.{Asked, Performed, Ended, Changed, Restarted, Served, AskedAway, EndedAway}
 use Rattle.bac_protocol.specs.Transaction.{Key, ended, performed, ended_away, served}
-use Rattle.bac_protocol.specs.Claims.{HasReply, AreSpaced}
+use Rattle.bac_protocol.specs.Claims.{HasReply, HasSinceRestart, AreSpaced, AreServedApart}
 use Rattle.bac_protocol.specs.Steps.{IsSegmentedRequest, MayPerform, StateStays, StaysIn, IsEntryFor, KeepsReply}
-use Rattle.bac_protocol.specs.World.{Net, Strangers, set_at, lost, passes, server_now}
+use Rattle.bac_protocol.specs.World.{Net, Strangers, set_at, passes, server_now}
 use Rattle.bac_protocol.specs.World.{server_acts_away, begin_of, client_restarted, server_restarted}
 use Rattle.bac_protocol.proofs.Keys.{key_is, decide_key, set_same, set_other}
-use Rattle.bac_protocol.proofs.Nets.{IsLogOf, was_there}
+use Rattle.bac_protocol.proofs.Nets.{IsLogOf}
 use Rattle.bac_protocol.proofs.Paces.{shows_on}
 use Rattle.bac_protocol.proofs.Calm.{Calm}
 use Rattle.bac_protocol.proofs.Served.{BeginIs, gets_begin, ticks_begin, IsThere, gets_there, live_stays, ticks_stay, effects_are_kept}
@@ -95,18 +95,22 @@ abbrev pub IsPast : (shows : ℕ) → ServerTransaction → Type 0
 IsPast shows e = (e.begin + KEEP < shows) ⊎ HasReply e.state
 
 -- what was performed in an entry that began then is of this one, which performs nothing more, or so old that no entry comes so soon
-abbrev pub Spaced : (shows opens : ℕ) → Option ServerTransaction → (begin : ℕ) → Type 0
-Spaced shows opens None b = b + KEEP < opens
-Spaced shows opens (Some e) b = (b + KEEP < e.begin) ⊎ ((b ≡ e.begin) × IsPast shows e)
+abbrev pub Spaced : (shows : ℕ) → Option ServerTransaction → (begin : ℕ) → Type 0
+Spaced shows None b = ⊥
+Spaced shows (Some e) b = (b + KEEP < e.begin) ⊎ ((b ≡ e.begin) × IsPast shows e)
 
--- all that its server performed in it
+-- all that its server performed in it, since it restarted last
 abbrev pub Each : Key → (ℕ → Type 0) → List Fact → Type 0
-Each key P log = (b : ℕ) (r : Request) (p : Reply) → Has (Served key.client key.server key.invoke_id b r p) log → P b
+Each key P log = (b : ℕ) (r : Request) (p : Reply) → HasSinceRestart key.server (Served key.client key.server key.invoke_id b r p) log → P b
+
+-- in entries that began since its server serves
+abbrev pub IsIn : (shows opens : ℕ) → (begin : ℕ) → Type 0
+IsIn shows opens b = (opens ≤ b) × (b ≤ shows)
 
 pub record IsAt (shows opens : ℕ) (key : Key) (number : ℕ) (ticket : Option ClientTransaction) (entry : Option ServerTransaction) (log : List Fact) : Type 0 where
   pub ticket_fits : TicketFits number ticket log
-  pub begun : BeginIs (λ b. b ≤ shows) entry
-  pub past : Each key (λ b. (b ≤ shows) × Spaced shows opens entry b) log
+  pub begun : BeginIs (IsIn shows opens) entry
+  pub past : Each key (λ b. (opens ≤ b) × Spaced shows entry b) log
 
 -- of all of them
 pub record AwayIn (clocks : ℕ → Clock) (opens : ℕ → ℕ) (far : Strangers) (log : List Fact) : Type 0 where
@@ -116,9 +120,23 @@ pub record AwayIn (clocks : ℕ → Clock) (opens : ℕ → ℕ) (far : Stranger
   pub spaced : AreSpaced log
 
 abbrev pub Away : Net → Type 0
-Away n = AwayIn n.clocks n.serves_from n.far n.log
+Away n = AwayIn n.server_clocks n.serves_from n.far n.log
 
 -- What nodes do among themselves.
+
+-- what a log has of a server since its last restart, it had before a fact of nodes
+since_more : (s q i b : ℕ) (r : Request) (p : Reply) (f : Fact) (log : List Fact) → IsOfNodes f → HasSinceRestart s (Served q s i b r p) (f ∷ log)
+    → HasSinceRestart s (Served q s i b r p) log
+since_more s q i b r p (Asked m c t x) log of (inl e) = absurd cc
+since_more s q i b r p (Asked m c t x) log of (inr h) = h
+since_more s q i b r p (Performed m x y) log of (inl e) = absurd cc
+since_more s q i b r p (Performed m x y) log of (inr h) = h
+since_more s q i b r p (Ended m how) log of (inl e) = absurd cc
+since_more s q i b r p (Ended m how) log of (inr h) = h
+since_more s q i b r p (Changed t c) log of (inl e) = absurd cc
+since_more s q i b r p (Changed t c) log of (inr h) = h
+since_more s q i b r p (Restarted t o) log of h = h.1
+since_more s q i b r p _ log of h = absurd of
 
 ticket_more : (n : ℕ) (o : Option ClientTransaction) (f : Fact) (log : List Fact) → IsOfNodes f → TicketFits n o log → TicketFits n o (f ∷ log)
 ticket_more n None f log of h = tt
@@ -135,9 +153,8 @@ away_more clocks opens far f log of s = record { each = each; apart = s.apart; s
       past = past;
     }
       where
-        past : Each key (λ b. (b ≤ (clocks key.server).shows) × Spaced (clocks key.server).shows (opens key.server) (far.entries key) b) (f ∷ log)
-        past b r p (inl e) = absurd (subst IsOfNodes e of)
-        past b r p (inr h) = (s.each key).past b r p h
+        past : Each key (λ b. (opens key.server ≤ b) × Spaced (clocks key.server).shows (far.entries key) b) (f ∷ log)
+        past b r p h = (s.each key).past b r p (since_more key.server key.client key.invoke_id b r p f log of h)
 
 pub away_ended : (clocks : ℕ → Clock) (opens : ℕ → ℕ) (far : Strangers) (n : ℕ) (o : Option Ending) (log : List Fact) → AwayIn clocks opens far log
     → AwayIn clocks opens far (ended n o log)
@@ -214,7 +231,7 @@ module _ (clocks : ℕ → Clock) (opens : ℕ → ℕ) (far : Strangers) (log :
           let v = was b y (decide_key key b) f in
           s.apart a b u.0 v.0 u.1 v.1 same
 
-      past : (k : Key) (o : Option Ending) → Each k (λ b. (b ≤ (clocks k.server).shows) × Spaced (clocks k.server).shows (opens k.server) (far.entries k) b)
+      past : (k : Key) (o : Option Ending) → Each k (λ b. (opens k.server ≤ b) × Spaced (clocks k.server).shows (far.entries k) b)
           (ended_away (far.numbers key) o log)
       past k None b r p h = (s.each k).past b r p h
       past k (Some how) b r p (inl e) = absurd cc
@@ -268,7 +285,7 @@ module _ (clocks : ℕ → Clock) (opens : ℕ → ℕ) (far : Strangers) (log :
       tickets : Key → Option ClientTransaction
       tickets = set_at far.tickets key (Some t)
 
-      past : (k : Key) → Each k (λ b. (b ≤ (clocks k.server).shows) × Spaced (clocks k.server).shows (opens k.server) (far.entries k) b)
+      past : (k : Key) → Each k (λ b. (opens k.server ≤ b) × Spaced (clocks k.server).shows (far.entries k) b)
           (AskedAway asks key.client key.server r ∷ log)
       past k b q p (inl e) = absurd cc
       past k b q p (inr h) = (s.each k).past b q p h
@@ -332,49 +349,41 @@ stays_past : (shows : ℕ) (e d : ServerTransaction) → d.begin ≡ e.begin →
 stays_past shows e d is st (inl lt) = inl (omega arith)
 stays_past shows e d is st (inr r) = inr (reply_stays e.state d.state st r)
 
-stays_spaced : (shows opens : ℕ) (e : ServerTransaction) (o : Option ServerTransaction) → StaysIn e o → (b : ℕ) → Spaced shows opens (Some e) b → Spaced shows opens o b
-stays_spaced shows opens e None h b sp = absurd h
-stays_spaced shows opens e (Some d) h b (inl lt) = inl (let is = h.0.begin in omega arith)
-stays_spaced shows opens e (Some d) h b (inr k) = inr (k.0 ∙ sym h.0.begin, stays_past shows e d h.0.begin h.1 k.1)
+stays_spaced : (shows : ℕ) (e : ServerTransaction) (o : Option ServerTransaction) → StaysIn e o → (b : ℕ) → Spaced shows (Some e) b → Spaced shows o b
+stays_spaced shows e None h b sp = absurd h
+stays_spaced shows e (Some d) h b (inl lt) = inl (let is = h.0.begin in omega arith)
+stays_spaced shows e (Some d) h b (inr k) = inr (k.0 ∙ sym h.0.begin, stays_past shows e d h.0.begin h.1 k.1)
 
 -- where it is dead, the next one is it, or begins more than KEEP later
-dead_spaced : (shows opens : ℕ) (e : ServerTransaction) (o : Option ServerTransaction) → e.begin + KEEP < shows → IsThere o
-    → BeginIs (λ m. (m ≡ e.begin) ⊎ (e.begin + KEEP < m)) o → (b : ℕ) → Spaced shows opens (Some e) b → Spaced shows opens o b
-dead_spaced shows opens e None dead there h b sp = absurd there
-dead_spaced shows opens e (Some d) dead there (inl is) b (inl lt) = inl (omega arith)
-dead_spaced shows opens e (Some d) dead there (inl is) b (inr k) = inr (k.0 ∙ sym is, inl (omega arith))
-dead_spaced shows opens e (Some d) dead there (inr late) b (inl lt) = inl (omega arith)
-dead_spaced shows opens e (Some d) dead there (inr late) b (inr k) = inl (let is = k.0 in omega arith)
+dead_spaced : (shows : ℕ) (e : ServerTransaction) (o : Option ServerTransaction) → e.begin + KEEP < shows → IsThere o
+    → BeginIs (λ m. (m ≡ e.begin) ⊎ (e.begin + KEEP < m)) o → (b : ℕ) → Spaced shows (Some e) b → Spaced shows o b
+dead_spaced shows e None dead there h b sp = absurd there
+dead_spaced shows e (Some d) dead there (inl is) b (inl lt) = inl (omega arith)
+dead_spaced shows e (Some d) dead there (inl is) b (inr k) = inr (k.0 ∙ sym is, inl (omega arith))
+dead_spaced shows e (Some d) dead there (inr late) b (inl lt) = inl (omega arith)
+dead_spaced shows e (Some d) dead there (inr late) b (inr k) = inl (let is = k.0 in omega arith)
 
--- where there was none, it begins once its server does not wait
-new_spaced : (shows opens : ℕ) (o : Option ServerTransaction) → BeginIs (λ m. opens ≤ m) o → (b : ℕ) → b + KEEP < opens → Spaced shows opens o b
-new_spaced shows opens None h b lt = lt
-new_spaced shows opens (Some d) h b lt = inl (omega arith)
-
-module _ (c : Context) (service : Service) (opens : ℕ) (free : Bool) (unwaited : free ≡ true → opens ≤ c.now) (a : Apdu) where
+module _ (c : Context) (service : Service) (free : Bool) (a : Apdu) where
   -- what an APDU makes of it
-  gets_spaced : (o : Option ServerTransaction) → BeginIs (λ b. b ≤ c.now) o → (b : ℕ) → Spaced c.now opens o b
-      → Spaced c.now opens (server.server_on_apdu c service o free a).entry b
-  gets_spaced None begun b sp = new_spaced c.now opens (server.server_on_apdu c service None free a).entry
-      (gets_begin c service (λ m. opens ≤ m) None tt free unwaited a) b sp
-  gets_spaced (Some e) begun b sp = go (is_live c.now e) refl
+  gets_spaced : (o : Option ServerTransaction) (b : ℕ) → Spaced c.now o b → Spaced c.now (server.server_on_apdu c service o free a).entry b
+  gets_spaced None b sp = absurd sp
+  gets_spaced (Some e) b sp = go (is_live c.now e) refl
     where
-      go : (z : Bool) → is_live c.now e ≡ z → Spaced c.now opens (server.server_on_apdu c service (Some e) free a).entry b
-      go true live = stays_spaced c.now opens e (server.server_on_apdu c service (Some e) free a).entry (live_stays c service e free a live) b sp
+      go : (z : Bool) → is_live c.now e ≡ z → Spaced c.now (server.server_on_apdu c service (Some e) free a).entry b
+      go true live = stays_spaced c.now e (server.server_on_apdu c service (Some e) free a).entry (live_stays c service e free a live) b sp
       go false dead =
           let over : e.begin + KEEP < c.now = grind (arith, nat_tests) in
-          dead_spaced c.now opens e (server.server_on_apdu c service (Some e) free a).entry over (gets_there c service e free a)
+          dead_spaced c.now e (server.server_on_apdu c service (Some e) free a).entry over (gets_there c service e free a)
           (gets_begin c service (λ m. (m ≡ e.begin) ⊎ (e.begin + KEEP < m)) (Some e) (inl refl) free (λ room. inr over) a) b sp
 
   -- what was performed before was so of entries that began more than KEEP before this one's
-  apart_from : (o : Option ServerTransaction) (d : ServerTransaction) → BeginIs (λ m. opens ≤ m) (Some d) ⊎ (IsThere o) → BeginIs (λ b. b ≤ c.now) o → MayPerform c.now o
-      → IsEntryFor c.now (live_entry c.now o) a d → (b : ℕ) → Spaced c.now opens o b → b + KEEP < d.begin
-  apart_from None d (inl by) begun may for b sp = omega arith
-  apart_from None d (inr there) begun may for b sp = absurd there
-  apart_from (Some e) d by begun may for b sp = go (is_live c.now e) refl may for sp
+  apart_from : (o : Option ServerTransaction) (d : ServerTransaction) → MayPerform c.now o → IsEntryFor c.now (live_entry c.now o) a d → (b : ℕ)
+      → Spaced c.now o b → b + KEEP < d.begin
+  apart_from None d may for b sp = absurd sp
+  apart_from (Some e) d may for b sp = go (is_live c.now e) refl may for sp
     where
       go : (z : Bool) → is_live c.now e ≡ z → (is_live c.now e ≡ false) ⊎ IsSegmentedRequest e.state
-          → IsEntryFor c.now (if z then Some e else None) a d → Spaced c.now opens (Some e) b → b + KEEP < d.begin
+          → IsEntryFor c.now (if z then Some e else None) a d → Spaced c.now (Some e) b → b + KEEP < d.begin
       go true live (inl dead) for sp = absurd cc
       go true live (inr receiving) for (inl lt) = let is = for.begin in omega arith
       go true live (inr receiving) for (inr k) = past k.1
@@ -394,12 +403,9 @@ module _ (c : Context) (service : Service) (opens : ℕ) (free : Bool) (unwaited
 
 -- the server's entry, and what it performs
 module _ (clocks : ℕ → Clock) (opens : ℕ → ℕ) (far : Strangers) (log : List Fact) (s : AwayIn clocks opens far log) (key : Key) where
-  shows : ℕ
-  shows = (clocks key.server).shows
-
   -- an entry that performs nothing
-  pub away_rests : (o : Option ServerTransaction) → BeginIs (λ b. b ≤ (clocks key.server).shows) o
-      → ((b : ℕ) → Spaced (clocks key.server).shows (opens key.server) (far.entries key) b → Spaced (clocks key.server).shows (opens key.server) o b)
+  pub away_rests : (o : Option ServerTransaction) → BeginIs (IsIn (clocks key.server).shows (opens key.server)) o
+      → ((b : ℕ) → Spaced (clocks key.server).shows (far.entries key) b → Spaced (clocks key.server).shows o b)
       → AwayIn clocks opens (record far { entries = set_at far.entries key o }) log
   away_rests o begun spaced = record { each = λ k. each k (decide_key key k); apart = s.apart; spaced = s.spaced }
     where
@@ -419,8 +425,8 @@ module _ (clocks : ℕ → Clock) (opens : ℕ → ℕ) (far : Strangers) (log :
           (sym (set_other far.entries key o k ne)) (s.each k)
 
   -- one that performs
-  pub away_performs : (d : ServerTransaction) (x : Effect) → d.begin ≤ (clocks key.server).shows → HasReply d.state
-      → ((b : ℕ) → Spaced (clocks key.server).shows (opens key.server) (far.entries key) b → b + KEEP < d.begin)
+  pub away_performs : (d : ServerTransaction) (x : Effect) → IsIn (clocks key.server).shows (opens key.server) d.begin → HasReply d.state
+      → ((b : ℕ) → Spaced (clocks key.server).shows (far.entries key) b → b + KEEP < d.begin)
       → AwayIn clocks opens (record far { entries = set_at far.entries key (Some d) })
       (Served key.client key.server key.invoke_id d.begin x.request x.reply ∷ log)
   away_performs d x begun reply late = record {
@@ -436,15 +442,15 @@ module _ (clocks : ℕ → Clock) (opens : ℕ → ℕ) (far : Strangers) (log :
       ticket_so k None h = tt
       ticket_so k (Some t) h = ((h.0.0, h.0.1, h.0.2, inr h.0.3), λ idle. h.1 idle)
 
-      past : Each key (λ b. (b ≤ (clocks key.server).shows) × Spaced (clocks key.server).shows (opens key.server) (Some d) b) (f ∷ log)
-      past b r p (inl e) = let is : d.begin ≡ b = cc in (omega arith, inr (sym is, inr reply))
+      past : Each key (λ b. (opens key.server ≤ b) × Spaced (clocks key.server).shows (Some d) b) (f ∷ log)
+      past b r p (inl e) = let is : d.begin ≡ b = cc in let from = begun.0 in (omega arith, inr (sym is, inr reply))
       past b r p (inr h) = let old = (s.each key).past b r p h in (old.0, inl (late b old.1))
 
       here : IsAt (clocks key.server).shows (opens key.server) key (far.numbers key) (far.tickets key) (Some d) (f ∷ log)
       here = record { ticket_fits = ticket_so key (far.tickets key) (s.each key).ticket_fits; begun = begun; past = past }
 
       other : (k : Key) → (key ≡ k → ⊥)
-          → Each k (λ b. (b ≤ (clocks k.server).shows) × Spaced (clocks k.server).shows (opens k.server) (far.entries k) b) (f ∷ log)
+          → Each k (λ b. (opens k.server ≤ b) × Spaced (clocks k.server).shows (far.entries k) b) (f ∷ log)
       other k ne b r p (inl e) = absurd (ne (key_is key k (cc) (cc) (cc)))
       other k ne b r p (inr h) = (s.each k).past b r p h
 
@@ -472,131 +478,125 @@ away_gets n s key c now service free unwaited a = go v.effect refl
     opens : ℕ
     opens = n.serves_from key.server
 
-    unwaited' : free ≡ true → opens ≤ c.now
-    unwaited' room = let le = unwaited room in omega arith
+    begun : BeginIs (IsIn (server_now n key) opens) v.entry
+    begun = gets_begin c service (IsIn (server_now n key) opens) (n.far.entries key) (s.each key).begun free
+        (λ room. let le = unwaited room in (omega arith, omega arith)) a
 
-    begun' : BeginIs (λ b. b ≤ c.now) (n.far.entries key)
-    begun' = subst (λ (m : ℕ). BeginIs (λ b. b ≤ m) (n.far.entries key)) (sym now) (s.each key).begun
+    at_now : (o : Option ServerTransaction) (b : ℕ) → Spaced (server_now n key) o b → Spaced c.now o b
+    at_now o b sp = subst (λ (m : ℕ). Spaced m o b) (sym now) sp
 
-    begun : BeginIs (λ b. b ≤ server_now n key) v.entry
-    begun = gets_begin c service (λ b. b ≤ server_now n key) (n.far.entries key) (s.each key).begun free (λ room. omega arith) a
-
-    at_now : (o : Option ServerTransaction) (b : ℕ) → Spaced (server_now n key) opens o b → Spaced c.now opens o b
-    at_now o b sp = subst (λ (m : ℕ). Spaced m opens o b) (sym now) sp
-
-    spaced : (b : ℕ) → Spaced (server_now n key) opens (n.far.entries key) b → Spaced (server_now n key) opens v.entry b
-    spaced b sp = subst (λ (m : ℕ). Spaced m opens v.entry b) now
-        (gets_spaced c service opens free unwaited' a (n.far.entries key) begun' b (at_now (n.far.entries key) b sp))
-
-    opened : (o : Option ServerTransaction) → n.far.entries key ≡ o → (d : ServerTransaction) → v.entry ≡ Some d → BeginIs (λ m. opens ≤ m) (Some d) ⊎ IsThere o
-    opened (Some e) is d at = inr tt
-    opened None is d at = inl (subst (λ (z : Option ServerTransaction). BeginIs (λ m. opens ≤ m) z) at
-        (gets_begin c service (λ m. opens ≤ m) (n.far.entries key) (subst (λ (z : Option ServerTransaction). BeginIs (λ m. opens ≤ m) z) (sym is) tt) free unwaited' a))
+    spaced : (b : ℕ) → Spaced (server_now n key) (n.far.entries key) b → Spaced (server_now n key) v.entry b
+    spaced b sp = subst (λ (m : ℕ). Spaced m v.entry b) now (gets_spaced c service free a (n.far.entries key) b (at_now (n.far.entries key) b sp))
 
     go : (o : Option Effect) → v.effect ≡ o
-        → AwayIn n.clocks n.serves_from (record n.far { entries = set_at n.far.entries key v.entry }) (served key (begin_of v.entry) o n.log)
-    go None is = away_rests n.clocks n.serves_from n.far n.log s key v.entry begun spaced
+        → AwayIn n.server_clocks n.serves_from (record n.far { entries = set_at n.far.entries key v.entry }) (served key (begin_of v.entry) o n.log)
+    go None is = away_rests n.server_clocks n.serves_from n.far n.log s key v.entry begun spaced
     go (Some x) is =
         let k = effects_are_kept.gets c service (n.far.entries key) free a x is in
-        subst (λ (z : Option ServerTransaction). AwayIn n.clocks n.serves_from (record n.far { entries = set_at n.far.entries key z })
+        subst (λ (z : Option ServerTransaction). AwayIn n.server_clocks n.serves_from (record n.far { entries = set_at n.far.entries key z })
         (served key (begin_of z) (Some x) n.log)) (sym k.after)
-        (away_performs n.clocks n.serves_from n.far n.log s key k.entry x
-        (subst (λ (z : Option ServerTransaction). BeginIs (λ b. b ≤ server_now n key) z) k.after begun)
+        (away_performs n.server_clocks n.serves_from n.far n.log s key k.entry x
+        (subst (λ (z : Option ServerTransaction). BeginIs (IsIn (server_now n key) opens) z) k.after begun)
         (has_reply c k.entry.choice x.reply k.entry.state k.kept)
-        (λ b sp. apart_from c service opens free unwaited' a (n.far.entries key) k.entry (opened (n.far.entries key) refl k.entry k.after) begun' k.before k.for b
-        (at_now (n.far.entries key) b sp)))
+        (λ b sp. apart_from c service free a (n.far.entries key) k.entry k.before k.for b (at_now (n.far.entries key) b sp)))
 
 -- a tick
 pub away_ticks : (n : Net) → Away n → (key : Key) (c : Context) → Away (server_acts_away n key (server.server_ticks c (n.far.entries key)))
-away_ticks n s key c = subst (λ (o : Option Effect). AwayIn n.clocks n.serves_from (record n.far { entries = set_at n.far.entries key v.entry })
+away_ticks n s key c = subst (λ (o : Option Effect). AwayIn n.server_clocks n.serves_from (record n.far { entries = set_at n.far.entries key v.entry })
     (served key (begin_of v.entry) o n.log)) (sym (effects_are_kept.ticks c (n.far.entries key)))
-    (away_rests n.clocks n.serves_from n.far n.log s key v.entry (begun (n.far.entries key) (s.each key).begun) (λ b sp. spaced (n.far.entries key) b sp))
+    (away_rests n.server_clocks n.serves_from n.far n.log s key v.entry (begun (n.far.entries key) (s.each key).begun) (λ b sp. spaced (n.far.entries key) b sp))
   where
     v : server.Reaction
     v = server.server_ticks c (n.far.entries key)
 
-    begun : (o : Option ServerTransaction) → BeginIs (λ b. b ≤ server_now n key) o → BeginIs (λ b. b ≤ server_now n key) (server.server_ticks c o).entry
-    begun o h = ticks_begin c (λ b. b ≤ server_now n key) o h
+    begun : (o : Option ServerTransaction) → BeginIs (IsIn (server_now n key) (n.serves_from key.server)) o
+        → BeginIs (IsIn (server_now n key) (n.serves_from key.server)) (server.server_ticks c o).entry
+    begun o h = ticks_begin c (IsIn (server_now n key) (n.serves_from key.server)) o h
 
-    spaced : (o : Option ServerTransaction) (b : ℕ) → Spaced (server_now n key) (n.serves_from key.server) o b
-        → Spaced (server_now n key) (n.serves_from key.server) (server.server_ticks c o).entry b
-    spaced None b sp = sp
-    spaced (Some e) b sp = stays_spaced (server_now n key) (n.serves_from key.server) e (server.server_ticks c (Some e)).entry (ticks_stay c e) b sp
+    spaced : (o : Option ServerTransaction) (b : ℕ) → Spaced (server_now n key) o b → Spaced (server_now n key) (server.server_ticks c o).entry b
+    spaced None b sp = absurd sp
+    spaced (Some e) b sp = stays_spaced (server_now n key) e (server.server_ticks c (Some e)).entry (ticks_stay c e) b sp
 
 -- Time and restarts.
 
-pub away_later : (n : Net) (by : ℕ) (own : ℕ → ℕ) → Calm n → Away n → Away (passes n by own)
-away_later n by own calm s = record { each = each; apart = s.apart; spaced = s.spaced }
+pub away_later : (n : Net) (by : ℕ) (clients servers : ℕ → ℕ) → Calm n → Away n → Away (passes n by clients servers)
+away_later n by clients servers calm s = record { each = each; apart = s.apart; spaced = s.spaced }
   where
-    on : (key : Key) → server_now n key ≤ (goes_on n.pace by (own key.server) (n.clocks key.server)).shows
-    on key = shows_on n.pace (calm key).timely.some by (own key.server) (n.clocks key.server) (calm key).server
+    on : (key : Key) → server_now n key ≤ (goes_on n.pace by (servers key.server) (n.server_clocks key.server)).shows
+    on key = shows_on n.pace (calm key).timely.some by (servers key.server) (n.server_clocks key.server) (calm key).server
 
-    begun : (p q : ℕ) → p ≤ q → (o : Option ServerTransaction) → BeginIs (λ b. b ≤ p) o → BeginIs (λ b. b ≤ q) o
-    begun p q le None h = tt
-    begun p q le (Some e) h = omega arith
+    begun : (p q opens : ℕ) → p ≤ q → (o : Option ServerTransaction) → BeginIs (IsIn p opens) o → BeginIs (IsIn q opens) o
+    begun p q opens le None h = tt
+    begun p q opens le (Some e) h = (h.0, let old = h.1 in omega arith)
 
-    spaced : (p q opens : ℕ) → p ≤ q → (o : Option ServerTransaction) (b : ℕ) → Spaced p opens o b → Spaced q opens o b
-    spaced p q opens le None b h = h
-    spaced p q opens le (Some e) b (inl lt) = inl lt
-    spaced p q opens le (Some e) b (inr k) = inr (k.0, past k.1)
+    spaced : (p q : ℕ) → p ≤ q → (o : Option ServerTransaction) (b : ℕ) → Spaced p o b → Spaced q o b
+    spaced p q le None b h = absurd h
+    spaced p q le (Some e) b (inl lt) = inl lt
+    spaced p q le (Some e) b (inr k) = inr (k.0, past k.1)
       where
         past : IsPast p e → IsPast q e
         past (inl lt) = inl (omega arith)
         past (inr r) = inr r
 
-    each : (key : Key) → IsAt (goes_on n.pace by (own key.server) (n.clocks key.server)).shows (n.serves_from key.server) key (n.far.numbers key)
+    each : (key : Key) → IsAt (goes_on n.pace by (servers key.server) (n.server_clocks key.server)).shows (n.serves_from key.server) key (n.far.numbers key)
         (n.far.tickets key) (n.far.entries key) n.log
     each key = record {
       ticket_fits = (s.each key).ticket_fits;
-      begun = begun (server_now n key) (goes_on n.pace by (own key.server) (n.clocks key.server)).shows (on key) (n.far.entries key) (s.each key).begun;
+      begun = begun (server_now n key) (goes_on n.pace by (servers key.server) (n.server_clocks key.server)).shows (n.serves_from key.server) (on key)
+          (n.far.entries key) (s.each key).begun;
       past = λ b r p h.
           let old = (s.each key).past b r p h in
-          let le = on key in
-          (omega arith, spaced (server_now n key) (goes_on n.pace by (own key.server) (n.clocks key.server)).shows (n.serves_from key.server) le
-          (n.far.entries key) b old.1);
+          (old.0, spaced (server_now n key) (goes_on n.pace by (servers key.server) (n.server_clocks key.server)).shows (on key) (n.far.entries key) b old.1);
     }
 
-pub away_server_restarted : (n : Net) (node : ℕ) (store : Option Octets) → Away n → Away (server_restarted n node store)
-away_server_restarted n node store s = record {
-  each = λ key. each key (nat_eq key.server node);
+-- a restart: what was performed before it is of an earlier clock
+pub away_server_restarted : (n : Net) (node exact : ℕ) (store : Option Octets) → Away n → Away (server_restarted n node exact store)
+away_server_restarted n node exact store s = record {
+  each = λ key. each key (nat_eq key.server node) refl;
   apart = s.apart;
   spaced = s.spaced;
 }
   where
-    old : AwayIn n.clocks n.serves_from n.far (Restarted node store ∷ n.log)
-    old = away_more n.clocks n.serves_from n.far (Restarted node store) n.log tt s
+    old : AwayIn n.server_clocks n.serves_from n.far (Restarted node store ∷ n.log)
+    old = away_more n.server_clocks n.serves_from n.far (Restarted node store) n.log tt s
 
-    each : (key : Key) (b : Bool) → IsAt (n.clocks key.server).shows (if b then (n.clocks key.server).shows + KEEP + 1 else n.serves_from key.server) key
+    each : (key : Key) (b : Bool) → nat_eq key.server node ≡ b
+        → IsAt (if b then clock_at n.pace exact else n.server_clocks key.server).shows
+        (if b then (clock_at n.pace exact).shows + KEEP + 1 else n.serves_from key.server) key
         (n.far.numbers key) (n.far.tickets key) (if b then None else n.far.entries key) (Restarted node store ∷ n.log)
-    each key true = record {
+    each key true is = record {
       ticket_fits = (old.each key).ticket_fits;
       begun = tt;
-      past = λ b r p h. let k = (old.each key).past b r p h in let le = k.0 in (le, omega arith);
+      past = λ b r p h. absurd (h.0 (grind (arith, nat_tests)));
     }
-    each key false = old.each key
+    each key false is = old.each key
 
-pub away_client_restarted : (n : Net) (node : ℕ) → Away n → Away (client_restarted n node)
-away_client_restarted n node s = record { each = λ key. each key (nat_eq key.client node); apart = apart; spaced = s.spaced }
+pub away_client_restarted : (n : Net) (node exact : ℕ) → Away n → Away (client_restarted n node exact)
+away_client_restarted n node exact s = record { each = λ key. each key (nat_eq key.client node); apart = apart; spaced = s.spaced }
   where
-    fits : (key : Key) (o : Option ClientTransaction) → TicketFits (n.far.numbers key) o n.log → TicketFits (n.far.numbers key) (lost o) n.log
-    fits key None h = tt
-    fits key (Some t) h = (h.0, λ idle. absurd cc)
-
-    each : (key : Key) (b : Bool) → IsAt (n.clocks key.server).shows (n.serves_from key.server) key
-        (n.far.numbers key) (if b then lost (n.far.tickets key) else n.far.tickets key) (n.far.entries key) n.log
-    each key true = record { ticket_fits = fits key (n.far.tickets key) (s.each key).ticket_fits; begun = (s.each key).begun; past = (s.each key).past }
+    each : (key : Key) (b : Bool) → IsAt (n.server_clocks key.server).shows (n.serves_from key.server) key
+        (n.far.numbers key) (if b then None else n.far.tickets key) (n.far.entries key) n.log
+    each key true = record { ticket_fits = tt; begun = (s.each key).begun; past = (s.each key).past }
     each key false = s.each key
 
-    apart : (a b : Key) (x y : ClientTransaction) → (client_restarted n node).far.tickets a ≡ Some x → (client_restarted n node).far.tickets b ≡ Some y
+    there : (o : Option ClientTransaction) (b : Bool) (x : ClientTransaction) → (if b then None else o) ≡ Some x → o ≡ Some x
+    there o true x at = absurd cc
+    there o false x at = at
+
+    apart : (a b : Key) (x y : ClientTransaction) → (client_restarted n node exact).far.tickets a ≡ Some x → (client_restarted n node exact).far.tickets b ≡ Some y
         → n.far.numbers a ≡ n.far.numbers b → a ≡ b
-    apart a b x y at at' same =
-        let t = was_there (n.far.tickets a) (nat_eq a.client node) x at in
-        let u = was_there (n.far.tickets b) (nat_eq b.client node) y at' in
-        s.apart a b t.0 u.0 t.1 u.1 same
+    apart a b x y at at' same = s.apart a b x y (there (n.far.tickets a) (nat_eq a.client node) x at) (there (n.far.tickets b) (nat_eq b.client node) y at') same
 
 pub away_starts : (clocks : ℕ → Clock) → AwayIn clocks (λ node. 0) (record { numbers = λ key. 0; tickets = λ key. None; entries = λ key. None }) []
 away_starts clocks = record {
   each = λ key. record { ticket_fits = tt; begun = tt; past = λ b r p h. absurd h };
   apart = λ a b x y at at' same. absurd cc;
   spaced = tt;
+}
+
+-- what is claimed of it
+pub served_apart : (n : Net) → Away n → AreServedApart n
+served_apart n s = record {
+  spaced = s.spaced;
+  waited = λ q i id b r p h. ((s.each (record { client = q; server = i; invoke_id = id })).past b r p h).0;
 }
