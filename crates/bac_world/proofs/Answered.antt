@@ -28,13 +28,7 @@ use Rattle.bac_world.specs.Node.{Node, Outcome, IsServerTurn, NodeAsks}
 use Rattle.bac_world.specs.Once.{Fact}
 use Rattle.bac_world.specs.World.{World, Copy, Note, Hears, IsAsked, IsDelivered, IsFreshNode, IsCopied, link_at, peer_at}
 use Rattle.bac_world.specs.Examples.{REQUEST, REPLY, STORE, ASKED}
-<<<<<<< clocks
-use Rattle.bac_world.specs.AnsweredRun.{TIME, LIMITS, SETTINGS, link, node, OPENING, LOG, AnsweredRun}
-||||||| base
-use Rattle.bac_world.specs.AnsweredRun.{LIMITS, SETTINGS, link, node, OPENING, LOG, AnsweredRun}
-=======
-use Rattle.bac_world.specs.AnsweredRun.{LIMITS, SETTINGS, link, node, OPENING, LOG, AnsweredRun, StrangerRun}
->>>>>>> strangers
+use Rattle.bac_world.specs.AnsweredRun.{TIME, LIMITS, SETTINGS, link, node, OPENING, LOG, AnsweredRun, StrangerRun}
 
 abbrev pub SERVICE_DATA : Octets
 SERVICE_DATA = 12 ∷ 0 ∷ 0 ∷ 0 ∷ 5 ∷ 25 ∷ 85 ∷ []

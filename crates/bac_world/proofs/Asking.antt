@@ -35,17 +35,11 @@ use Rattle.bac_world.specs.Once.{Fact, Stores, IsOnce}
 use Rattle.bac_world.specs.World.{World, Time, Note, Copy, stores_of, newest, ask_of, peer_at, IsCopied, IsAsked}
 use Rattle.bac_transaction.proofs.KeyedSlots.{slot, passing, passing_value, passing_distinct, put_same, put_other, put_distinct}
 use Rattle.bac_transaction.proofs.KeyedSlots.{each_at, each_so, each_passing, each_put}
-<<<<<<< clocks
 use Rattle.bac_protocol.specs.World.{client_now, server_now, is_lost, is_key_held}
 use Rattle.bac_world.specs.World.{told}
 use Rattle.bac_world.proofs.Bridge.{here_at, there_at}
 use Rattle.bac_protocol.specs.Pace.{Clock}
-use Rattle.bac_world.proofs.Machines.{Sound, counted, asked}
-||||||| base
-use Rattle.bac_world.proofs.Machines.{Sound, counted, asked}
-=======
 use Rattle.bac_world.proofs.Machines.{Sound, counted, asked, away_below}
->>>>>>> strangers
 use Rattle.bac_world.proofs.Pairs.{pairwise_join, append_none}
 use Rattle.bac_world.proofs.Logs.{FactMeans, asks_counted}
 use Rattle.bac_world.proofs.Bridge.{NodeFits, ClientsFit, IsKnown, IsCopyOf, IsGone, TicketFits, key_of, slot_key, copies_of, IsGuest, AwayNoted, out_key, away_more}
@@ -133,25 +127,11 @@ gone_unheld gone now t unheld = record { over = ended_is_silent.unheld now t unh
     both false = unheld
 
 -- a slot that is not held may go
-<<<<<<< clocks
-fits_kept : (gone : Bool) (now : ℕ) (notes : List Note) (i number : ℕ) (o : Option Client) (t : Option ClientTransaction) → TicketFits gone now notes i number o t
+pub fits_kept : (gone : Bool) (now : ℕ) (notes : List Note) (i number : ℕ) (o : Option Client) (t : Option ClientTransaction) → TicketFits gone now notes i number o t
     → TicketFits gone now notes i number (keep (holds now) o) t
 fits_kept gone now notes i number None t h = h
 fits_kept gone now notes i number (Some s) None h = absurd h
 fits_kept gone now notes i number (Some s) (Some t) h = go (is_held now s.held) refl
-||||||| base
-fits_kept : (from now : ℕ) (notes : List Note) (i number : ℕ) (o : Option Client) (t : Option ClientTransaction) → TicketFits from now notes i number o t
-    → TicketFits from now notes i number (keep (holds now) o) t
-fits_kept from now notes i number None t h = h
-fits_kept from now notes i number (Some s) None h = absurd h
-fits_kept from now notes i number (Some s) (Some t) h = go (is_held now s.held) refl
-=======
-pub fits_kept : (from now : ℕ) (notes : List Note) (i number : ℕ) (o : Option Client) (t : Option ClientTransaction) → TicketFits from now notes i number o t
-    → TicketFits from now notes i number (keep (holds now) o) t
-fits_kept from now notes i number None t h = h
-fits_kept from now notes i number (Some s) None h = absurd h
-fits_kept from now notes i number (Some s) (Some t) h = go (is_held now s.held) refl
->>>>>>> strangers
   where
     go : (b : Bool) → is_held now s.held ≡ b → TicketFits gone now notes i number (if b then Some s else None) (Some t)
     go true is = h
@@ -177,13 +157,7 @@ free_kept now None e = refl
 free_kept now (Some s) e = ap (λ b. if b then Some s else None) e
 
 -- another note is nothing to a slot of another client or of an earlier ticket
-<<<<<<< clocks
-fits_noted : (gone : Bool) (now : ℕ) (notes : List Note) (note : Note) (i number : ℕ) (o : Option Client) (t : Option ClientTransaction)
-||||||| base
-fits_noted : (from now : ℕ) (notes : List Note) (note : Note) (i number : ℕ) (o : Option Client) (t : Option ClientTransaction)
-=======
-pub fits_noted : (from now : ℕ) (notes : List Note) (note : Note) (i number : ℕ) (o : Option Client) (t : Option ClientTransaction)
->>>>>>> strangers
+pub fits_noted : (gone : Bool) (now : ℕ) (notes : List Note) (note : Note) (i number : ℕ) (o : Option Client) (t : Option ClientTransaction)
     → ((s : Client) → o ≡ Some s → (nat_eq note.key.client i && nat_eq note.ticket s.number) ≡ false)
     → TicketFits gone now notes i number o t → TicketFits gone now (note ∷ notes) i number o t
 fits_noted gone now notes note i number None t other h = h
@@ -281,46 +255,26 @@ module _ (links : ℕ → Option Octets) (apart : (i j : ℕ) (l : Octets) → l
         (subst (λ (o : Option ClientTransaction). TicketFits (is_lost n k) (here_at n key.client) (note ∷ notes) key.client (n.numbers k) (keep (holds (here_at n key.client)) (value_at same_key q e.slots)) o)
         (sym (set_other n.tickets key (Some made) k ne)) after)))
 
-<<<<<<< clocks
-    pub ask_fits : ClientsFit links apart (here_at n key.client) (note ∷ notes) (asked_at x n key ask) key.client ended
-||||||| base
-    pub ask_fits : ClientsFit links apart n.now (note ∷ notes) (asked_at x n key ask) key.client ended
-=======
     guests : (q : PeerKey) → IsGuest links apart q
-        → TicketFits (n.asks_from key.client) n.now (note ∷ notes) key.client (n.far.numbers (out_key key.client q)) (value_at same_key q ended.slots)
+        → TicketFits false (here_at n key.client) (note ∷ notes) key.client (n.far.numbers (out_key key.client q)) (value_at same_key q ended.slots)
         (n.far.tickets (out_key key.client q))
     guests q g =
         let other : p ≡ q → ⊥ = λ is. g.none key.server (at ∙ ap (λ (y : PeerKey). Some y.peer.link) is) in
         let k : Key = out_key key.client q in
-        let look : value_at same_key q ended.slots ≡ keep (holds n.now) (value_at same_key q e.slots) =
-        put_other Client p q n.now client (passing Client (holds n.now) e.slots) other ∙ passing_value Client (holds n.now) q e.slots h.distinct in
-        let before : TicketFits (n.asks_from key.client) n.now (note ∷ notes) key.client (n.far.numbers k) (value_at same_key q e.slots) (n.far.tickets k) =
-        fits_noted (n.asks_from key.client) n.now notes note key.client (n.far.numbers k) (value_at same_key q e.slots) (n.far.tickets k) (earlier q) (h.guests q g) in
-        subst (λ (o : Option Client). TicketFits (n.asks_from key.client) n.now (note ∷ notes) key.client (n.far.numbers k) o (n.far.tickets k)) (sym look)
-        (fits_kept (n.asks_from key.client) n.now (note ∷ notes) key.client (n.far.numbers k) (value_at same_key q e.slots) (n.far.tickets k) before)
+        let look : value_at same_key q ended.slots ≡ keep (holds (here_at n key.client)) (value_at same_key q e.slots) =
+        put_other Client p q (here_at n key.client) client (passing Client (holds (here_at n key.client)) e.slots) other ∙ passing_value Client (holds (here_at n key.client)) q e.slots h.distinct in
+        let before : TicketFits false (here_at n key.client) (note ∷ notes) key.client (n.far.numbers k) (value_at same_key q e.slots) (n.far.tickets k) =
+        fits_noted false (here_at n key.client) notes note key.client (n.far.numbers k) (value_at same_key q e.slots) (n.far.tickets k) (earlier q) (h.guests q g) in
+        subst (λ (o : Option Client). TicketFits false (here_at n key.client) (note ∷ notes) key.client (n.far.numbers k) o (n.far.tickets k)) (sym look)
+        (fits_kept false (here_at n key.client) (note ∷ notes) key.client (n.far.numbers k) (value_at same_key q e.slots) (n.far.tickets k) before)
 
-    pub ask_fits : ClientsFit links apart n.now (note ∷ notes) (asked_at x n key ask) key.client ended
->>>>>>> strangers
+    pub ask_fits : ClientsFit links apart (here_at n key.client) (note ∷ notes) (asked_at x n key ask) key.client ended
     ask_fits = record {
-<<<<<<< clocks
       distinct = put_distinct Client p (here_at n key.client) client (passing Client (holds (here_at n key.client)) e.slots) (passing_distinct Client (holds (here_at n key.client)) e.slots h.distinct) gone;
-      known = each_put Client (λ y v. IsKnown links apart y × (v.number < e.asked + 1)) p (here_at n key.client) client (passing Client (holds (here_at n key.client)) e.slots)
-          (record { node = key.server; link = l; at = at; peer = refl }, omega arith)
-          (each_passing Client (λ y v. IsKnown links apart y × (v.number < e.asked + 1)) (holds (here_at n key.client)) e.slots
-          (each_so Client (λ y v. IsKnown links apart y × (v.number < e.asked)) (λ y v. IsKnown links apart y × (v.number < e.asked + 1))
-||||||| base
-      distinct = put_distinct Client p n.now client (passing Client (holds n.now) e.slots) (passing_distinct Client (holds n.now) e.slots h.distinct) gone;
-      known = each_put Client (λ y v. IsKnown links apart y × (v.number < e.asked + 1)) p n.now client (passing Client (holds n.now) e.slots)
-          (record { node = key.server; link = l; at = at; peer = refl }, omega arith)
-          (each_passing Client (λ y v. IsKnown links apart y × (v.number < e.asked + 1)) (holds n.now) e.slots
-          (each_so Client (λ y v. IsKnown links apart y × (v.number < e.asked)) (λ y v. IsKnown links apart y × (v.number < e.asked + 1))
-=======
-      distinct = put_distinct Client p n.now client (passing Client (holds n.now) e.slots) (passing_distinct Client (holds n.now) e.slots h.distinct) gone;
-      known = each_put Client (λ y v. (IsKnown links apart y ⊎ IsGuest links apart y) × (v.number < e.asked + 1)) p n.now client (passing Client (holds n.now) e.slots)
+      known = each_put Client (λ y v. (IsKnown links apart y ⊎ IsGuest links apart y) × (v.number < e.asked + 1)) p (here_at n key.client) client (passing Client (holds (here_at n key.client)) e.slots)
           (inl (record { node = key.server; link = l; at = at; peer = refl }), omega arith)
-          (each_passing Client (λ y v. (IsKnown links apart y ⊎ IsGuest links apart y) × (v.number < e.asked + 1)) (holds n.now) e.slots
+          (each_passing Client (λ y v. (IsKnown links apart y ⊎ IsGuest links apart y) × (v.number < e.asked + 1)) (holds (here_at n key.client)) e.slots
           (each_so Client (λ y v. (IsKnown links apart y ⊎ IsGuest links apart y) × (v.number < e.asked)) (λ y v. (IsKnown links apart y ⊎ IsGuest links apart y) × (v.number < e.asked + 1))
->>>>>>> strangers
           (λ y v k. (k.0, let lt = k.1 in omega arith)) e.slots h.known));
       found = λ s l' id at'. found s l' id at' (decide_key key (key_of key.client s id));
       guests = guests;
@@ -347,18 +301,10 @@ module _ (links : ℕ → Option Octets) (apart : (i j : ℕ) (l : Octets) → l
             (sym (set_other n.made key n.now k away))
             (subst (λ (y : ℕ). TicketFits (is_lost n k) (here_at n j) (note ∷ notes) j y (value_at same_key q a.clients.slots) (m.tickets k))
             (sym (set_other n.numbers key n.asks k away))
-<<<<<<< clocks
             (subst (λ (o : Option ClientTransaction). TicketFits (is_lost n k) (here_at n j) (note ∷ notes) j (n.numbers k) (value_at same_key q a.clients.slots) o)
             (sym (set_other n.tickets key (Some made) k away)) before));
-||||||| base
-            (subst (λ (o : Option ClientTransaction). TicketFits (n.asks_from j) n.now (note ∷ notes) j (n.numbers k) (value_at same_key q a.clients.slots) o)
-            (sym (set_other n.tickets key (Some made) k away)) before);
-=======
-            (subst (λ (o : Option ClientTransaction). TicketFits (n.asks_from j) n.now (note ∷ notes) j (n.numbers k) (value_at same_key q a.clients.slots) o)
-            (sym (set_other n.tickets key (Some made) k away)) before);
-        guests = λ q g. fits_noted (n.asks_from j) n.now notes note j (n.far.numbers (out_key j q)) (value_at same_key q a.clients.slots) (n.far.tickets (out_key j q))
+        guests = λ q g. fits_noted false (here_at n j) notes note j (n.far.numbers (out_key j q)) (value_at same_key q a.clients.slots) (n.far.tickets (out_key j q))
             (λ z is. ap (λ b. b && nat_eq e.asked z.number) (differ key.client j (λ same. ne (sym same)))) (f.clients.guests q g);
->>>>>>> strangers
       };
       servers = record { distinct = f.servers.distinct; known = f.servers.known; found = f.servers.found; guests = f.servers.guests };
     }
@@ -456,10 +402,8 @@ module _ (links : ℕ → Option Octets) (apart : (i j : ℕ) (l : Octets) → l
       linked = linked_with links w.nodes w'.nodes i a step.after step.nodes step.at (ap (λ (d : Node). d.link) node_is) h.linked;
       nodes = λ j b at. subst (λ (l : List Note). NodeFits links apart x (here_at n j) (there_at n j) l after j b) (sym notes_is) (nodes j b at (decide_number j i));
       noted = λ k t at. ap (newest k) notes_is ∙ noted k t at (decide_key key k);
-      away = subst (λ (l : List Note). AwayNoted l n.now after) (sym notes_is) (λ k t is. let old = h.away k t is in (
-        away_more (n.far.numbers k) note' w.notes (subst (λ (y : ℕ). n.far.numbers k < y) h.asks (away_below W x bound n h.sound k t is)) ∙ old.0,
-        old.1,
-      ));
+      away = subst (λ (l : List Note). AwayNoted l after) (sym notes_is) (λ k t is.
+          away_more (n.far.numbers k) note' w.notes (subst (λ (y : ℕ). n.far.numbers k < y) h.asks (away_below W x bound n h.sound k t is)) ∙ h.away k t is);
       posts = subst (λ (l : List Copy). Pairwise (IsCopyOf links apart) after.posts l) (sym step.copies)
           (pairwise_join (IsCopyOf links apart) n.posts (map (post_of key n.now) sends) w.copies step.sent h.posts copies);
       log = subst (λ (lg : List Fact). Pairwise FactMeans after.log lg) (sym step.log)

@@ -1,17 +1,9 @@
 -- What a world on datagrams and bac_protocol's net have in common.
-<<<<<<< clocks
-use Rattle.std.proofs.Common.{◌≡◌, ℕ, zero, suc, ◌<◌, ◌&&◌, not, Bool, true, false, List, [], ◌∷◌, map, length, Option, Some, None, slice_get}
-use Rattle.std.proofs.Common.{if◌then◌else◌, refl, sym, ap, subst, ◌∙◌, ◌≤◌}
-||||||| base
-use Rattle.std.proofs.Common.{◌≡◌, ℕ, zero, suc, ◌<◌, Bool, true, false, List, [], ◌∷◌, map, length, Option, Some, None, slice_get}
-use Rattle.std.proofs.Common.{if◌then◌else◌, refl, sym, ap, subst, ◌∙◌, ◌≤◌}
-=======
 use Rattle.std.proofs.Common.{◌≡◌, ℕ, zero, suc, ◌<◌, ◌++◌, ◌⊎◌, inl, inr, Bool, true, false, List, [], ◌∷◌, map, length, Option, Some, None, slice_get}
 use Rattle.std.proofs.Common.{if◌then◌else◌, refl, sym, ap, subst, ◌∙◌, ◌≤◌, ◌&&◌, not, nat_eq, arith}
 use Rattle.std.specs.Prelude.{is_some}
 use Rattle.std.proofs.lemmas.Bool.Decides.{nat_tests}
 use Rattle.bac_world.specs.World.{is_away}
->>>>>>> strangers
 use Rattle.bac_apdu.specs.Apdu.{Apdu}
 use Rattle.bac_apdu.specs.Spelling.{SpellsApdu, is_confirmed_request}
 use Rattle.bac_apdu.proofs.Apdus.{apdu_one}
@@ -89,9 +81,9 @@ guest_key i p = key_of (number p.peer) i p.invoke_id
 abbrev pub out_key : (node : ℕ) → PeerKey → Key
 out_key i p = key_of i (number p.peer) p.invoke_id
 
--- the asks of strangers are noted as such, and none was made later than now
-abbrev pub AwayNoted : List Note → (now : ℕ) → Net → Type 0
-AwayNoted notes now n = (key : Key) (t : ClientTransaction) → n.far.tickets key ≡ Some t → (is_away (n.far.numbers key) notes ≡ true) × (t.ask.first ≤ now)
+-- the asks of strangers are noted as such
+abbrev pub AwayNoted : List Note → Net → Type 0
+AwayNoted notes n = (key : Key) (t : ClientTransaction) → n.far.tickets key ≡ Some t → is_away (n.far.numbers key) notes ≡ true
 
 -- an ask with a number below is what it was
 pub away_more : (number : ℕ) (note : Note) (notes : List Note) → number < length notes → is_away number (note ∷ notes) ≡ is_away number notes
@@ -146,15 +138,8 @@ module _ (links : ℕ → Option Octets) (apart : (i j : ℕ) (l : Octets) → l
     pub distinct : IsDistinct same_key e.slots
     pub known : EachSlot Client (λ p s. (IsKnown p ⊎ IsGuest p) × (s.number < e.asked)) e.slots
     pub found : (s : ℕ) (l : Octets) (id : ℕ) → links s ≡ Some l
-<<<<<<< clocks
         → TicketFits (is_lost n (key_of i s id)) now notes i (n.numbers (key_of i s id)) (value_at same_key (slot_key l id) e.slots) (n.tickets (key_of i s id))
-||||||| base
-        → TicketFits (n.asks_from i) now notes i (n.numbers (key_of i s id)) (value_at same_key (slot_key l id) e.slots) (n.tickets (key_of i s id))
-=======
-        → TicketFits (n.asks_from i) now notes i (n.numbers (key_of i s id)) (value_at same_key (slot_key l id) e.slots) (n.tickets (key_of i s id))
-    pub guests : (p : PeerKey) → IsGuest p
-        → TicketFits (n.asks_from i) now notes i (n.far.numbers (out_key i p)) (value_at same_key p e.slots) (n.far.tickets (out_key i p))
->>>>>>> strangers
+    pub guests : (p : PeerKey) → IsGuest p → TicketFits false now notes i (n.far.numbers (out_key i p)) (value_at same_key p e.slots) (n.far.tickets (out_key i p))
 
   pub record ServersFit (now : ℕ) (n : Net) (i : ℕ) (e : ServerEnd) : Type 0 where
     pub distinct : IsDistinct same_key e.slots
@@ -193,7 +178,7 @@ module _ (links : ℕ → Option Octets) (apart : (i j : ℕ) (l : Octets) → l
     pub linked : (i : ℕ) → link_at w.nodes i ≡ links i
     pub nodes : (i : ℕ) (a : Node) → slice_get w.nodes i ≡ Some a → NodeFits x (here_at n i) (there_at n i) w.notes n i a
     pub noted : (key : Key) (t : ClientTransaction) → n.tickets key ≡ Some t → newest key w.notes ≡ Some (n.numbers key)
-    pub away : AwayNoted w.notes n.now n
+    pub away : AwayNoted w.notes n
     pub posts : Pairwise IsCopyOf n.posts w.copies
     pub log : Pairwise FactMeans n.log w.log
     pub sound : Sound x n

@@ -63,16 +63,8 @@ module _ (links : ℕ → Option Octets) (apart : (i j : ℕ) (l : Octets) → l
   Folds os = IsDistinct same_key os → EachSlot Client (λ p v. IsKnown links apart p ⊎ IsGuest links apart p) os → Change Client tick all os
       → (copies : List Copy) (log : List Fact) (m : Net) → Reached links apart W x w i n (look Client tick all os) copies log m
       → (ds : List Datagram) (cs : List Copy) (fs : List EndedView) (log' : List Fact)
-<<<<<<< clocks
-      → Pairwise IsSent (from_each (client_tick_sends (x.settings i) (here_at n i)) os) ds → Pairwise (IsCopied w.nodes n.now i) ds cs
+      → Pairwise IsSent (from_each (client_tick_sends (x.settings i) (here_at n i)) os) ds → AreCopied w.nodes n.now i ds cs
       → Pairwise IsEndedView (from_each (client_tick_ends (x.settings i) (here_at n i)) os) fs → AreEnded w.notes i fs log log'
-||||||| base
-      → Pairwise IsSent (from_each (client_tick_sends (x.settings i) n.now) os) ds → Pairwise (IsCopied w.nodes n.now i) ds cs
-      → Pairwise IsEndedView (from_each (client_tick_ends (x.settings i) n.now) os) fs → AreEnded w.notes i fs log log'
-=======
-      → Pairwise IsSent (from_each (client_tick_sends (x.settings i) n.now) os) ds → AreCopied w.nodes n.now i ds cs
-      → Pairwise IsEndedView (from_each (client_tick_ends (x.settings i) n.now) os) fs → AreEnded w.notes i fs log log'
->>>>>>> strangers
       → (m' : Net) × Reached links apart W x w i n (λ q. value_at same_key q all) (copies ++ cs) log' m'
 
   no_slots : Folds []
@@ -104,25 +96,11 @@ module _ (links : ℕ → Option Octets) (apart : (i j : ℕ) (l : Octets) → l
     one_open t distinct known change copies log m r ds cs fs log' sent copied finished logged =
         let v : Client = record { number = k; held = Open t } in
         let key : Key = key_of i node id in
-<<<<<<< clocks
         let did : client.Reaction = client_ticks (client_context x key (here_at n i)) t in
         let d = pairwise_split IsSent (to_all (peer_at l) (client.sends_of did)) (from_each (client_tick_sends c (here_at n i)) os) ds sent in
-        let e = pairwise_split (IsCopied w.nodes n.now i) d.front d.rest cs
-        (subst (λ (z : List Datagram). Pairwise (IsCopied w.nodes n.now i) z cs) d.is copied) in
-        let f = pairwise_split IsEndedView (ended_with k t.ask.choice (client.ending_of did)) (from_each (client_tick_ends c (here_at n i)) os) fs finished in
-||||||| base
-        let did : client.Reaction = client_ticks (client_context x key n.now) t in
-        let d = pairwise_split IsSent (to_all (peer_at l) (client.sends_of did)) (from_each (client_tick_sends c n.now) os) ds sent in
-        let e = pairwise_split (IsCopied w.nodes n.now i) d.front d.rest cs
-        (subst (λ (z : List Datagram). Pairwise (IsCopied w.nodes n.now i) z cs) d.is copied) in
-        let f = pairwise_split IsEndedView (ended_with k t.ask.choice (client.ending_of did)) (from_each (client_tick_ends c n.now) os) fs finished in
-=======
-        let did : client.Reaction = client_ticks (client_context x key n.now) t in
-        let d = pairwise_split IsSent (to_all (peer_at l) (client.sends_of did)) (from_each (client_tick_sends c n.now) os) ds sent in
         let e = copied_split w.nodes n.now i d.front d.rest cs
         (subst (λ (z : List Datagram). AreCopied w.nodes n.now i z cs) d.is copied) in
-        let f = pairwise_split IsEndedView (ended_with k t.ask.choice (client.ending_of did)) (from_each (client_tick_ends c n.now) os) fs finished in
->>>>>>> strangers
+        let f = pairwise_split IsEndedView (ended_with k t.ask.choice (client.ending_of did)) (from_each (client_tick_ends c (here_at n i)) os) fs finished in
         let g = ended_split w.notes i f.front f.rest log log' (subst (λ (z : List EndedView). AreEnded w.notes i z log log') f.is logged) in
         let next = reacts links apart W x bound w n key l li from at (look Client tick all (slot Client p begin v ∷ os)) (look Client tick all os)
         copies log m r h.linked k t (look_first Client tick all p begin v os) did
@@ -159,17 +137,17 @@ module _ (links : ℕ → Option Octets) (apart : (i j : ℕ) (l : Octets) → l
     guest_open t distinct known change copies log m r ds cs fs log' sent copied finished logged =
         let v : Client = record { number = k; held = Open t } in
         let key : Key = out_key i p in
-        let did : client.Reaction = client_ticks (client_context x key n.now) t in
-        let d = pairwise_split IsSent (to_all p.peer (client.sends_of did)) (from_each (client_tick_sends c n.now) os) ds sent in
+        let did : client.Reaction = client_ticks (client_context x key (here_at n i)) t in
+        let d = pairwise_split IsSent (to_all p.peer (client.sends_of did)) (from_each (client_tick_sends c (here_at n i)) os) ds sent in
         let e = copied_split w.nodes n.now i d.front d.rest cs
         (subst (λ (z : List Datagram). AreCopied w.nodes n.now i z cs) d.is copied) in
         let none : e.front ≡ [] = copied_none links apart w.nodes h.linked n.now i p g (client.sends_of did) d.front e.front d.first e.first in
-        let f = pairwise_split IsEndedView (ended_with k t.ask.choice (client.ending_of did)) (from_each (client_tick_ends c n.now) os) fs finished in
+        let f = pairwise_split IsEndedView (ended_with k t.ask.choice (client.ending_of did)) (from_each (client_tick_ends c (here_at n i)) os) fs finished in
         let y = ended_split w.notes i f.front f.rest log log' (subst (λ (z : List EndedView). AreEnded w.notes i z log log') f.is logged) in
         let next = reacts_guest links apart W x bound w n i p g (look Client tick all (slot Client p begin v ∷ os)) (look Client tick all os)
         copies log m r k t (look_first Client tick all p begin v os) did
         (λ is. subst (λ (z : ℕ). Sound x (client_acts_away m key t (client_ticks (client_context x key z) t))
-        × Leads x n (client_acts_away m key t (client_ticks (client_context x key z) t))) r.now
+        × Leads x n (client_acts_away m key t (client_ticks (client_context x key z) t))) (ap (λ (f : ℕ → Clock). (f i).shows) r.alike.here)
         (ticks_at_client_away W x bound m r.sound key t is, TicksTicketAway m key t r.leads is))
         (look_here Client tick all p begin v os distinct.0 change)
         (λ q ne. look_next Client tick all p begin v os q ne)

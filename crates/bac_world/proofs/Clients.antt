@@ -54,26 +54,12 @@ module _ (links : ℕ → Option Octets) (apart : (i j : ℕ) (l : Octets) → l
   -- what was reached is a step of the world
   pub arrived : (w w' : World) (n : Net) → Over links apart W x w n → (i : ℕ) (a b : Node) (o : Outcome) → slice_get w.nodes i ≡ Some a
       → (acts : Acts w i b o w') → o.performed ≡ None
-<<<<<<< clocks
       → (e : ClientEnd) → b ≡ record a { latest = told w i; clients = e } → e.asks_from ≡ a.clients.asks_from
-      → IsDistinct same_key e.slots → EachSlot Client (λ p s. IsKnown links apart p × (s.number < e.asked)) e.slots
-||||||| base
-      → (e : ClientEnd) → b ≡ record a { latest = w.now; clients = e } → e.asks_from ≡ a.clients.asks_from
-      → IsDistinct same_key e.slots → EachSlot Client (λ p s. IsKnown links apart p × (s.number < e.asked)) e.slots
-=======
-      → (e : ClientEnd) → b ≡ record a { latest = w.now; clients = e } → e.asks_from ≡ a.clients.asks_from
       → IsDistinct same_key e.slots → EachSlot Client (λ p s. (IsKnown links apart p ⊎ IsGuest links apart p) × (s.number < e.asked)) e.slots
->>>>>>> strangers
       → (m : Net) → Reached links apart W x w i n (λ p. value_at same_key p e.slots) (w.copies ++ acts.sent) acts.between m
       → Goes links apart W x w w' m
   arrived w w' n h i a b o at acts quiet e b_is from distinct known m r = record {
-<<<<<<< clocks
-    bridge = acts_over links apart W x w w' n m h i a b o at acts r.alike r.asks r.noted (ap (λ (d : Node). d.link) b_is)
-||||||| base
-    bridge = acts_over links apart W x w w' n m h i a b o at acts r.now r.asks r.noted (ap (λ (d : Node). d.link) b_is)
-=======
-    bridge = acts_over links apart W x w w' n m h i a b o at acts r.now r.asks r.noted r.away (ap (λ (d : Node). d.link) b_is)
->>>>>>> strangers
+    bridge = acts_over links apart W x w w' n m h i a b o at acts r.alike r.asks r.noted r.away (ap (λ (d : Node). d.link) b_is)
         (subst (λ (d : Node). Fits links apart W x w n m i d) (sym b_is) made)
         r.others r.posts (subst (λ (lg : List Fact). Pairwise FactMeans m.log lg) (sym log_is) r.log) r.sound;
     once = λ opening once. subst (λ (lg : List Fact). IsOnce opening lg (stores_of w'.nodes)) (sym log_is)
@@ -94,14 +80,8 @@ module _ (links : ℕ → Option Octets) (apart : (i j : ℕ) (l : Octets) → l
         servers = record {
           distinct = fits.servers.distinct;
           known = fits.servers.known;
-<<<<<<< clocks
           found = λ c l id at'. fits.servers.found c l id at' ∙ ap (λ f. live_entry (there_at n i) (f (key_of c i id))) (sym r.entries);
-||||||| base
-          found = λ c l id at'. fits.servers.found c l id at' ∙ ap (λ f. live_entry n.now (f (key_of c i id))) (sym r.entries);
-=======
-          found = λ c l id at'. fits.servers.found c l id at' ∙ ap (λ f. live_entry n.now (f (key_of c i id))) (sym r.entries);
-          guests = λ p g. fits.servers.guests p g ∙ ap (λ (f : Key → Option ServerTransaction). live_entry n.now (f (guest_key i p))) (sym r.far_entries);
->>>>>>> strangers
+          guests = λ p g. fits.servers.guests p g ∙ ap (λ (f : Key → Option ServerTransaction). live_entry (there_at n i) (f (guest_key i p))) (sym r.far_entries);
         };
       }
 
@@ -123,15 +103,7 @@ module _ (links : ℕ → Option Octets) (apart : (i j : ℕ) (l : Octets) → l
       look p = value_at same_key p a.clients.slots
 
       sent_is : acts.sent ≡ []
-<<<<<<< clocks
-      sent_is = pairwise_none (IsCopied w.nodes w.time.now i) acts.sent
-          (subst (λ (ds : List Datagram). Pairwise (IsCopied w.nodes w.time.now i) ds acts.sent) sends acts.copied)
-||||||| base
-      sent_is = pairwise_none (IsCopied w.nodes w.now i) acts.sent
-          (subst (λ (ds : List Datagram). Pairwise (IsCopied w.nodes w.now i) ds acts.sent) sends acts.copied)
-=======
-      sent_is = subst (λ (ds : List Datagram). AreCopied w.nodes w.now i ds acts.sent) sends acts.copied
->>>>>>> strangers
+      sent_is = subst (λ (ds : List Datagram). AreCopied w.nodes w.time.now i ds acts.sent) sends acts.copied
 
       copies_is : w.copies ++ acts.sent ≡ w.copies
       copies_is = ap (λ (l : List Copy). w.copies ++ l) sent_is ∙ append_none w.copies

@@ -37,7 +37,8 @@ use Rattle.bac_transaction.specs.Services.{service_of}
 use Rattle.bac_world.specs.Services.{Performed, ArePerformed, store_after}
 use Rattle.bac_world.specs.Node.{Node, Outcome, IsServerTurn, IsClientTurn, IsHeard, IsHeardBy}
 use Rattle.bac_world.specs.Once.{Fact, Stores, IsOnce, MayServe}
-use Rattle.bac_world.specs.World.{World, Note, Copy, stores_of, link_at, IsWithNode, Acts, AreLogged, AreEnded, AreCopied}
+use Rattle.bac_protocol.specs.Pace.{Clock}
+use Rattle.bac_world.specs.World.{World, told, Note, Copy, stores_of, link_at, IsWithNode, Acts, AreLogged, AreEnded, AreCopied}
 use Rattle.bac_world.proofs.Machines.{Sound, strays_at_server, strays_at_client}
 use Rattle.bac_world.proofs.Numbers.{number, number_one}
 use Rattle.bac_protocol.specs.Steps.{IsEntryFor}
@@ -47,7 +48,7 @@ use Rattle.bac_protocol.proofs.Served.{effects_are_kept}
 use Rattle.std.proofs.Common.{◌-◌, nat_le}
 use Rattle.bac_world.proofs.Pairs.{pairwise_none, append_none}
 use Rattle.bac_world.proofs.Logs.{FactMeans}
-use Rattle.bac_world.proofs.Bridge.{NodeFits, ServersFit, IsKnown, IsGuest, IsCopyOf, EntryFits, key_of, slot_key, guest_key, out_key, copied_none}
+use Rattle.bac_world.proofs.Bridge.{here_at, there_at, NodeFits, ServersFit, IsKnown, IsGuest, IsCopyOf, EntryFits, key_of, slot_key, guest_key, out_key, copied_none}
 use Rattle.bac_world.proofs.Steps.{Over, Fits, Goes, Next, acts_over, once_same, stores_same}
 use Rattle.bac_world.proofs.Serving.{Logged, room_is}
 use Rattle.bac_world.proofs.Clients.{quiet, arrived}
@@ -78,9 +79,9 @@ live_one now y d e = go (is_live now y) e
 
 module _ (links : ℕ → Option Octets) (apart : (i j : ℕ) (l : Octets) → links i ≡ Some l → links j ≡ Some l → i ≡ j) (W : ℕ) (x : Rules) where
   -- other nodes see nothing of it
-  pub others_fit_away : (now : ℕ) (notes : List Note) (n : Net) (key : Key) (u : server.Reaction) (j : ℕ) (a : Node) → (j ≡ key.server → ⊥)
-      → NodeFits links apart x now notes n j a → NodeFits links apart x now notes (server_acts_away n key u) j a
-  others_fit_away now notes n key u j a ne h = record {
+  pub others_fit_away : (here there : ℕ) (notes : List Note) (n : Net) (key : Key) (u : server.Reaction) (j : ℕ) (a : Node) → (j ≡ key.server → ⊥)
+      → NodeFits links apart x here there notes n j a → NodeFits links apart x here there notes (server_acts_away n key u) j a
+  others_fit_away here there notes n key u j a ne h = record {
     settings = h.settings;
     link = h.link;
     asks = h.asks;
@@ -91,7 +92,7 @@ module _ (links : ℕ → Option Octets) (apart : (i j : ℕ) (l : Octets) → l
       known = h.servers.known;
       found = h.servers.found;
       guests = λ p g. h.servers.guests p g
-          ∙ ap (live_entry now) (sym (set_other n.far.entries key u.entry (guest_key j p) (λ is. ne (sym (ap (λ (k : Key). k.server) is)))));
+          ∙ ap (live_entry there) (sym (set_other n.far.entries key u.entry (guest_key j p) (λ is. ne (sym (ap (λ (k : Key). k.server) is)))));
     };
   }
 
@@ -175,8 +176,8 @@ module _ (links : ℕ → Option Octets) (apart : (i j : ℕ) (l : Octets) → l
     -- a stranger's request
     serves_stranger : (w w' : World) (n : Net) → Over links apart W x w n → (i : ℕ) (p : PeerKey) → IsGuest links apart p → (apdu : Apdu)
         → is_from_client apdu ≡ true → (a b : Node) (o : Outcome) → slice_get w.nodes i ≡ Some a
-        → IsServerTurn (server_goes w.now a.servers p (server_on_apdu (context_of a.settings w.now p) (service_of a.store) (value_at same_key p a.servers.slots)
-        (is_free w.now a.servers) apdu)) w.now a b o
+        → IsServerTurn (server_goes (told w i) a.servers p (server_on_apdu (context_of a.settings (told w i) p) (service_of a.store) (value_at same_key p a.servers.slots)
+        (is_free (told w i) a.servers) apdu)) (told w i) a b o
         → Acts w i b o w' → Next links apart W x w w'
     serves_stranger w w' n h i p g apdu up a b o node turn acts = (m, record { bridge = over; once = logged.once })
       where
@@ -189,18 +190,18 @@ module _ (links : ℕ → Option Octets) (apart : (i j : ℕ) (l : Octets) → l
         service : Service
         service = service_of a.store
 
-        turn' : IsServerTurn (server_goes n.now a.servers p (server_on_apdu (context_of (x.settings i) n.now p) (service_of a.store)
-            (value_at same_key p a.servers.slots) (is_free n.now a.servers) apdu)) n.now a b o
-        turn' = subst (λ (y : Settings). IsServerTurn (server_goes n.now a.servers p (server_on_apdu (context_of y n.now p) (service_of a.store)
-            (value_at same_key p a.servers.slots) (is_free n.now a.servers) apdu)) n.now a b o) fits.settings
+        turn' : IsServerTurn (server_goes (there_at n i) a.servers p (server_on_apdu (context_of (x.settings i) (there_at n i) p) (service_of a.store)
+            (value_at same_key p a.servers.slots) (is_free (there_at n i) a.servers) apdu)) (there_at n i) a b o
+        turn' = subst (λ (y : Settings). IsServerTurn (server_goes (there_at n i) a.servers p (server_on_apdu (context_of y (there_at n i) p) (service_of a.store)
+            (value_at same_key p a.servers.slots) (is_free (there_at n i) a.servers) apdu)) (there_at n i) a b o) fits.settings
             (subst (λ (t : ℕ). IsServerTurn (server_goes t a.servers p (server_on_apdu (context_of a.settings t p) (service_of a.store)
-            (value_at same_key p a.servers.slots) (is_free t a.servers) apdu)) t a b o) (sym h.now) turn)
+            (value_at same_key p a.servers.slots) (is_free t a.servers) apdu)) t a b o) (sym (ap (λ (y : Clock). y.shows) (h.there i))) turn)
 
         context : Context
-        context = server_context x key n.now
+        context = server_context x key (there_at n i)
 
         free : Bool
-        free = is_free n.now a.servers
+        free = is_free (there_at n i) a.servers
 
         gets : Option ServerTransaction → server.Reaction
         gets e = server_on_apdu context service e free apdu
@@ -211,14 +212,14 @@ module _ (links : ℕ → Option Octets) (apart : (i j : ℕ) (l : Octets) → l
         u : server.Reaction
         u = gets (n.far.entries key)
 
-        same : IsSameReaction n.now v u
+        same : IsSameReaction (there_at n i) v u
         same =
             let y : Option ServerTransaction = value_at same_key p a.servers.slots in
             let e : Option ServerTransaction = n.far.entries key in
-            same_then n.now v (gets (live_entry n.now y)) u (gets_same context service y free apdu)
-            (same_then n.now (gets (live_entry n.now y)) (gets (live_entry n.now e)) u
-            (same_of n.now (gets (live_entry n.now y)) (gets (live_entry n.now e)) (ap gets (fits.servers.guests p g)))
-            (same_back n.now u (gets (live_entry n.now e)) (gets_same context service e free apdu)))
+            same_then (there_at n i) v (gets (live_entry (there_at n i) y)) u (gets_same context service y free apdu)
+            (same_then (there_at n i) (gets (live_entry (there_at n i) y)) (gets (live_entry (there_at n i) e)) u
+            (same_of (there_at n i) (gets (live_entry (there_at n i) y)) (gets (live_entry (there_at n i) e)) (ap gets (fits.servers.guests p g)))
+            (same_back (there_at n i) u (gets (live_entry (there_at n i) e)) (gets_same context service e free apdu)))
 
         m : Net
         m = server_acts_away n key u
@@ -228,8 +229,8 @@ module _ (links : ℕ → Option Octets) (apart : (i j : ℕ) (l : Octets) → l
 
         made : Node
         made = record a {
-          latest = n.now;
-          servers = record (a.servers) { slots = put_entry n.now p v.entry a.servers.slots };
+          latest = there_at n i;
+          servers = record (a.servers) { slots = put_entry (there_at n i) p v.entry a.servers.slots };
           store = store_after a.store o.performed;
         }
 
@@ -240,12 +241,12 @@ module _ (links : ℕ → Option Octets) (apart : (i j : ℕ) (l : Octets) → l
           asks = fits.asks;
           serves = fits.serves;
           clients = record { distinct = fits.clients.distinct; known = fits.clients.known; found = fits.clients.found; guests = fits.clients.guests };
-          servers = guest_fits n.now n i p g v u same.entry a.servers fits.servers
+          servers = guest_fits (there_at n i) n i p g v u same.entry a.servers fits.servers
               (none_left context service (value_at same_key p a.servers.slots) free apdu);
         }
 
         sent_is : acts.sent ≡ []
-        sent_is = copied_none links apart w.nodes h.linked w.now i p g v.sends o.sends acts.sent turn'.sends acts.copied
+        sent_is = copied_none links apart w.nodes h.linked w.time.now i p g v.sends o.sends acts.sent turn'.sends acts.copied
 
         posts : Pairwise (IsCopyOf links apart) n.posts (w.copies ++ acts.sent)
         posts = subst (λ (l : List Copy). Pairwise (IsCopyOf links apart) n.posts l)
@@ -260,13 +261,13 @@ module _ (links : ℕ → Option Octets) (apart : (i j : ℕ) (l : Octets) → l
         begun : (e : Effect) → u.effect ≡ Some e → (y : ServerTransaction) → value_at same_key p b.servers.slots ≡ Some y → y.begin ≡ begin_of u.entry
         begun e is y at =
             let k = effects_are_kept.gets context service (n.far.entries key) free apdu e is in
-            let live : live_entry n.now u.entry ≡ Some k.entry = ap (live_entry n.now) k.after
-            ∙ ap (λ z. if z then Some k.entry else None) (live_for n.now apdu (n.far.entries key) k.entry k.for) in
-            let there : value_at same_key p (put_entry n.now p v.entry a.servers.slots) ≡ Some y =
+            let live : live_entry (there_at n i) u.entry ≡ Some k.entry = ap (live_entry (there_at n i)) k.after
+            ∙ ap (λ z. if z then Some k.entry else None) (live_for (there_at n i) apdu (n.far.entries key) k.entry k.for) in
+            let there : value_at same_key p (put_entry (there_at n i) p v.entry a.servers.slots) ≡ Some y =
             ap (λ (d : Node). value_at same_key p d.servers.slots) (sym turn'.node) ∙ at in
-            let here : live_entry n.now (Some y) ≡ live_entry n.now v.entry = ap (live_entry n.now) (sym there)
-            ∙ entry_here n.now p a.servers.slots fits.servers.distinct v.entry (none_left context service (value_at same_key p a.servers.slots) free apdu) in
-            let one : y ≡ k.entry = live_one n.now y k.entry (here ∙ same.entry ∙ live) in
+            let here : live_entry (there_at n i) (Some y) ≡ live_entry (there_at n i) v.entry = ap (live_entry (there_at n i)) (sym there)
+            ∙ entry_here (there_at n i) p a.servers.slots fits.servers.distinct v.entry (none_left context service (value_at same_key p a.servers.slots) free apdu) in
+            let one : y ≡ k.entry = live_one (there_at n i) y k.entry (here ∙ same.entry ∙ live) in
             ap (λ (d : ServerTransaction). d.begin) one ∙ ap begin_of (sym k.after)
 
         logged : Logged links apart W x w w' (served key (begin_of u.entry) u.effect n.log)
@@ -274,27 +275,27 @@ module _ (links : ℕ → Option Octets) (apart : (i j : ℕ) (l : Octets) → l
             (subst (λ (lg : List Fact). AreLogged w.nodes w.notes i b o.performed lg w'.log) between_is acts.logged)
 
         over : Over links apart W x w' m
-        over = acts_over links apart W x w w' n m h i a b o node acts refl refl h.noted h.away (ap (λ (d : Node). d.link) turn'.node)
+        over = acts_over links apart W x w w' n m h i a b o node acts (record { now = refl; pace = refl; here = refl; there = refl }) refl h.noted h.away (ap (λ (d : Node). d.link) turn'.node)
             (subst (λ (d : Node). Fits links apart W x w n m i d) (sym turn'.node) made_fits)
-            (λ j d ne f. others_fit_away n.now w.notes n key u j d ne f) posts logged.log_means sound
+            (λ j d ne f. others_fit_away (here_at n j) (there_at n j) w.notes n key u j d ne f) posts logged.log_means sound
 
     -- a stranger's answer: to an open ticket of its own, or it is dropped
     module _ (readable : x.readable ≡ reads_reply) (w w' : World) (n : Net) (h : Over links apart W x w n) (i : ℕ) (p : PeerKey) (g : IsGuest links apart p)
         (apdu : Apdu) (down : is_from_client apdu ≡ false) (a b : Node) (o : Outcome) (node : slice_get w.nodes i ≡ Some a) (acts : Acts w i b o w') where
-      unheard : IsClientTurn (stays a.clients) w.now a b o → Next links apart W x w w'
+      unheard : IsClientTurn (stays a.clients) (told w i) a b o → Next links apart W x w w'
       unheard t = (
         n,
         quiet links apart W x w w' n h i a b o node acts t.performed (pairwise_none IsSent o.sends t.sends) (pairwise_none IsEndedView o.ended t.ended) t.node,
       )
 
       answers : (k : ℕ) (t : ClientTransaction) → value_at same_key p a.clients.slots ≡ Some (record { number = k; held = Open t })
-          → IsClientTurn (client_goes n.now a.clients p k t (client_on_apdu (client_context x (out_key i p) n.now) x.readable t apdu)) w.now a b o
+          → IsClientTurn (client_goes (here_at n i) a.clients p k t (client_on_apdu (client_context x (out_key i p) (here_at n i)) x.readable t apdu)) (told w i) a b o
           → Next links apart W x w w'
       answers k t found turn = (
-        client_acts_away n (out_key i p) t (client_on_apdu (client_context x (out_key i p) n.now) x.readable t apdu),
+        client_acts_away n (out_key i p) t (client_on_apdu (client_context x (out_key i p) (here_at n i)) x.readable t apdu),
         arrived links apart W x w w' n h i a b o node acts turn.performed made turn.node refl
-            (with_distinct Client p (client_after n.now k t r) a.clients.slots fits.clients.distinct)
-            (each_with Client Known p (client_after n.now k t r) a.clients.slots
+            (with_distinct Client p (client_after (here_at n i) k t r) a.clients.slots fits.clients.distinct)
+            (each_with Client Known p (client_after (here_at n i) k t r) a.clients.slots
             (each_at Client Known p (record { number = k; held = Open t }) a.clients.slots fits.clients.known found) fits.clients.known)
             (client_acts_away n key t r)
             (subst (λ (l : List Copy). Reached links apart W x w i n (λ y. value_at same_key y made.slots) l acts.between (client_acts_away n key t r))
@@ -302,8 +303,8 @@ module _ (links : ℕ → Option Octets) (apart : (i j : ℕ) (l : Octets) → l
             (reacts_guest links apart W x bound w n i p g (λ y. value_at same_key y a.clients.slots) (λ y. value_at same_key y made.slots) w.copies w.log n
             (reached_none links apart W x w n h i a fits) k t found r
             (λ is. (strays_at_client W x bound n h.sound key t is apdu down, StraysToClient n key t apdu Here down is))
-            (with_same Client p (client_after n.now k t r) (record { number = k; held = Open t }) a.clients.slots found)
-            (λ y ne. with_other Client p y (client_after n.now k t r) a.clients.slots ne)
+            (with_same Client p (client_after (here_at n i) k t r) (record { number = k; held = Open t }) a.clients.slots found)
+            (λ y ne. with_other Client p y (client_after (here_at n i) k t r) a.clients.slots ne)
             o.ended acts.between turn.ended acts.ended)),
       )
         where
@@ -314,41 +315,41 @@ module _ (links : ℕ → Option Octets) (apart : (i j : ℕ) (l : Octets) → l
           fits = h.nodes i a node
 
           r : client.Reaction
-          r = client_on_apdu (client_context x (out_key i p) n.now) x.readable t apdu
+          r = client_on_apdu (client_context x (out_key i p) (here_at n i)) x.readable t apdu
 
           made : ClientEnd
-          made = record (a.clients) { slots = with_value same_key p (client_after n.now k t r) a.clients.slots }
+          made = record (a.clients) { slots = with_value same_key p (client_after (here_at n i) k t r) a.clients.slots }
 
           Known : PeerKey → Client → Type 0
           Known y z = (IsKnown links apart y ⊎ IsGuest links apart y) × (z.number < a.clients.asked)
 
           sent_is : acts.sent ≡ []
-          sent_is = copied_none links apart w.nodes h.linked w.now i p g (client.sends_of r) o.sends acts.sent turn.sends acts.copied
+          sent_is = copied_none links apart w.nodes h.linked w.time.now i p g (client.sends_of r) o.sends acts.sent turn.sends acts.copied
 
       held : (k : ℕ) (y : TransactionSlot) → value_at same_key p a.clients.slots ≡ Some (record { number = k; held = y })
-          → IsClientTurn (requester_on_apdu_in_slot (x.settings i) x.readable n.now apdu a.clients p k y) w.now a b o → Next links apart W x w w'
+          → IsClientTurn (requester_on_apdu_in_slot (x.settings i) x.readable (here_at n i) apdu a.clients p k y) (told w i) a b o → Next links apart W x w w'
       held k (Closed first) is turn = unheard turn
       held k (Open t) is turn = answers k t is turn
 
       found_so : (s : Option Client) → value_at same_key p a.clients.slots ≡ s
-          → IsClientTurn (requester_on_apdu_at (x.settings i) x.readable n.now apdu a.clients p s) w.now a b o → Next links apart W x w w'
+          → IsClientTurn (requester_on_apdu_at (x.settings i) x.readable (here_at n i) apdu a.clients p s) (told w i) a b o → Next links apart W x w w'
       found_so None is turn = unheard turn
       found_so (Some s) is turn = held s.number s.held is turn
 
-      to_client : IsClientTurn (requester_on_apdu_at a.settings reads_reply w.now apdu a.clients p (value_at same_key p a.clients.slots)) w.now a b o
+      to_client : IsClientTurn (requester_on_apdu_at a.settings reads_reply (told w i) apdu a.clients p (value_at same_key p a.clients.slots)) (told w i) a b o
           → Next links apart W x w w'
       to_client turn =
           let fits : Fits links apart W x w n n i a = h.nodes i a node in
           let heard : Settings → Readable → ℕ → ClientTurn =
           λ c readable now. requester_on_apdu_at c readable now apdu a.clients p (value_at same_key p a.clients.slots) in
           found_so (value_at same_key p a.clients.slots) refl
-          (subst (λ (y : Settings). IsClientTurn (heard y x.readable n.now) w.now a b o) fits.settings
-          (subst (λ (y : Readable). IsClientTurn (heard a.settings y n.now) w.now a b o) (sym readable)
-          (subst (λ (y : ℕ). IsClientTurn (heard a.settings reads_reply y) w.now a b o) (sym h.now) turn)))
+          (subst (λ (y : Settings). IsClientTurn (heard y x.readable (here_at n i)) (told w i) a b o) fits.settings
+          (subst (λ (y : Readable). IsClientTurn (heard a.settings y (here_at n i)) (told w i) a b o) (sym readable)
+          (subst (λ (y : ℕ). IsClientTurn (heard a.settings reads_reply y) (told w i) a b o) (sym (ap (λ (y : Clock). y.shows) (h.here i))) turn)))
 
     pub hears_stranger : x.readable ≡ reads_reply → (w w' : World) (n : Net) → Over links apart W x w n → (i : ℕ) (from : Octets)
         → ((j : ℕ) → link_at w.nodes j ≡ Some from → ⊥)
-        → (a b : Node) (o : Outcome) → slice_get w.nodes i ≡ Some a → Acts w i b o w' → (octets : Octets) → IsHeard w.now from octets a b o
+        → (a b : Node) (o : Outcome) → slice_get w.nodes i ≡ Some a → Acts w i b o w' → (octets : Octets) → IsHeard (told w i) from octets a b o
         → Next links apart W x w w'
     hears_stranger readable w w' n h i from foreign a b o node acts octets z = go (is_from_client z.apdu) refl z.heard
       where
@@ -358,6 +359,6 @@ module _ (links : ℕ → Option Octets) (apart : (i j : ℕ) (l : Octets) → l
         g : IsGuest links apart p
         g = record { none = λ k e. foreign k (h.linked k ∙ e ∙ ap (λ (q : PeerView). Some q.link) z.means.carries.sender) }
 
-        go : (up : Bool) → is_from_client z.apdu ≡ up → IsHeardBy up z.peer z.apdu w.now a b o → Next links apart W x w w'
+        go : (up : Bool) → is_from_client z.apdu ≡ up → IsHeardBy up z.peer z.apdu (told w i) a b o → Next links apart W x w w'
         go true up turn = serves_stranger w w' n h i p g z.apdu up a b o node turn acts
         go false down turn = to_client readable w w' n h i p g z.apdu down a b o node acts turn

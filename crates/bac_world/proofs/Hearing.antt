@@ -89,23 +89,15 @@ module _ (links : ℕ → Option Octets) (apart : (i j : ℕ) (l : Octets) → l
     pub asks : m.asks ≡ n.asks
     pub entries : m.entries ≡ n.entries
     pub far_entries : m.far.entries ≡ n.far.entries
-    pub away : AwayNoted w.notes n.now m
+    pub away : AwayNoted w.notes m
     pub asks_from : m.asks_from ≡ n.asks_from
     pub serves_from : m.serves_from ≡ n.serves_from
     pub noted : (key : Key) (t : ClientTransaction) → m.tickets key ≡ Some t → newest key w.notes ≡ Some (m.numbers key)
     pub found : (s : ℕ) (l : Octets) (id : ℕ) → links s ≡ Some l
-<<<<<<< clocks
         → TicketFits (is_lost m (key_of i s id)) (here_at n i) w.notes i (m.numbers (key_of i s id)) (look (slot_key l id)) (m.tickets (key_of i s id))
-    pub others : (j : ℕ) (a : Node) → (j ≡ i → ⊥) → NodeFits links apart x (here_at n j) (there_at n j) w.notes n j a → NodeFits links apart x (here_at n j) (there_at n j) w.notes m j a
-||||||| base
-        → TicketFits (m.asks_from i) n.now w.notes i (m.numbers (key_of i s id)) (look (slot_key l id)) (m.tickets (key_of i s id))
-    pub others : (j : ℕ) (a : Node) → (j ≡ i → ⊥) → NodeFits links apart x n.now w.notes n j a → NodeFits links apart x n.now w.notes m j a
-=======
-        → TicketFits (m.asks_from i) n.now w.notes i (m.numbers (key_of i s id)) (look (slot_key l id)) (m.tickets (key_of i s id))
     pub guests : (p : PeerKey) → IsGuest links apart p
-        → TicketFits (m.asks_from i) n.now w.notes i (m.far.numbers (out_key i p)) (look p) (m.far.tickets (out_key i p))
-    pub others : (j : ℕ) (a : Node) → (j ≡ i → ⊥) → NodeFits links apart x n.now w.notes n j a → NodeFits links apart x n.now w.notes m j a
->>>>>>> strangers
+        → TicketFits false (here_at n i) w.notes i (m.far.numbers (out_key i p)) (look p) (m.far.tickets (out_key i p))
+    pub others : (j : ℕ) (a : Node) → (j ≡ i → ⊥) → NodeFits links apart x (here_at n j) (there_at n j) w.notes n j a → NodeFits links apart x (here_at n j) (there_at n j) w.notes m j a
     pub posts : Pairwise (IsCopyOf links apart) m.posts all
     pub log : Pairwise FactMeans m.log facts
     pub once : (opening stores : Stores) → IsOnce opening w.log stores → IsOnce opening facts stores
@@ -142,7 +134,7 @@ module _ (links : ℕ → Option Octets) (apart : (i j : ℕ) (l : Octets) → l
     entries = h.entries;
     far_entries = h.far_entries;
     away = h.away;
-    guests = λ p g. subst (λ (o : Option Client). TicketFits (m.asks_from i) n.now w.notes i (m.far.numbers (out_key i p)) o (m.far.tickets (out_key i p)))
+    guests = λ p g. subst (λ (o : Option Client). TicketFits false (here_at n i) w.notes i (m.far.numbers (out_key i p)) o (m.far.tickets (out_key i p)))
         (same p) (h.guests p g);
     asks_from = h.asks_from;
     serves_from = h.serves_from;
@@ -209,21 +201,13 @@ module _ (links : ℕ → Option Octets) (apart : (i j : ℕ) (l : Octets) → l
         (subst (λ (o : Option ClientTransaction). TicketFits (is_lost m (key_of key.client s id)) (here_at n key.client) w.notes key.client (m.numbers (key_of key.client s id)) (look (slot_key l' id)) o)
         (sym (set_other m.tickets key made (key_of key.client s id) ne)) (h.found s l' id at))
 
-<<<<<<< clocks
-    others : (j : ℕ) (a : Node) → (j ≡ key.client → ⊥) → NodeFits links apart x (here_at n j) (there_at n j) w.notes m j a
-        → NodeFits links apart x (here_at n j) (there_at n j) w.notes (client_acts m key t r) j a
-||||||| base
-    others : (j : ℕ) (a : Node) → (j ≡ key.client → ⊥) → NodeFits links apart x n.now w.notes m j a
-        → NodeFits links apart x n.now w.notes (client_acts m key t r) j a
-=======
-    guests : (y : PeerKey) → IsGuest links apart y → TicketFits (m.asks_from key.client) n.now w.notes key.client (m.far.numbers (out_key key.client y)) (look' y)
+    guests : (y : PeerKey) → IsGuest links apart y → TicketFits false (here_at n key.client) w.notes key.client (m.far.numbers (out_key key.client y)) (look' y)
         (m.far.tickets (out_key key.client y))
-    guests y g = subst (λ (o : Option Client). TicketFits (m.asks_from key.client) n.now w.notes key.client (m.far.numbers (out_key key.client y)) o
+    guests y g = subst (λ (o : Option Client). TicketFits false (here_at n key.client) w.notes key.client (m.far.numbers (out_key key.client y)) o
         (m.far.tickets (out_key key.client y))) (sym (away y (λ e. g.none key.server (to_at ∙ ap (λ (z : PeerKey). Some z.peer.link) e)))) (h.guests y g)
 
-    others : (j : ℕ) (a : Node) → (j ≡ key.client → ⊥) → NodeFits links apart x n.now w.notes m j a
-        → NodeFits links apart x n.now w.notes (client_acts m key t r) j a
->>>>>>> strangers
+    others : (j : ℕ) (a : Node) → (j ≡ key.client → ⊥) → NodeFits links apart x (here_at n j) (there_at n j) w.notes m j a
+        → NodeFits links apart x (here_at n j) (there_at n j) w.notes (client_acts m key t r) j a
     others j a ne f = record {
       settings = f.settings;
       link = f.link;
@@ -305,56 +289,50 @@ module _ (links : ℕ → Option Octets) (apart : (i j : ℕ) (l : Octets) → l
       (look look' : PeerKey → Option Client) (copies : List Copy) (log : List Fact) (m : Net) (h : Reached w i n look copies log m)
       (number : ℕ) (t : ClientTransaction) (there : look p ≡ Some (record { number = number; held = Open t })) (r : client.Reaction)
       (goes : m.far.tickets (out_key i p) ≡ Some t → Sound x (client_acts_away m (out_key i p) t r) × Leads x n (client_acts_away m (out_key i p) t r))
-      (here : look' p ≡ Some (client_after n.now number t r))
+      (here : look' p ≡ Some (client_after (here_at n i) number t r))
       (others_look : (q : PeerKey) → (p ≡ q → ⊥) → look' q ≡ look q) where
     abbrev fkey : Key
     fkey = out_key i p
 
     abbrev fmade : Option ClientTransaction
-    fmade = Some (client.after m.now t r)
+    fmade = Some (client.after (client_now m (out_key i p)) t r)
 
     far_is : (m.far.tickets (out_key i p) ≡ Some t) × (ask_of i number w.notes ≡ Some (m.far.numbers (out_key i p)))
-    far_is = ticket_at (m.asks_from i) n.now w.notes i (m.far.numbers (out_key i p)) number t (m.far.tickets (out_key i p))
-        (subst (λ (o : Option Client). TicketFits (m.asks_from i) n.now w.notes i (m.far.numbers (out_key i p)) o (m.far.tickets (out_key i p))) there
+    far_is = ticket_at false (here_at n i) w.notes i (m.far.numbers (out_key i p)) number t (m.far.tickets (out_key i p))
+        (subst (λ (o : Option Client). TicketFits false (here_at n i) w.notes i (m.far.numbers (out_key i p)) o (m.far.tickets (out_key i p))) there
         (h.guests p g))
 
     far_sound : Sound x (client_acts_away m (out_key i p) t r)
     far_sound = (goes far_is.0).0
 
-    far_fit : TicketFits (m.asks_from i) n.now w.notes i (m.far.numbers (out_key i p)) (look' p) (set_at m.far.tickets (out_key i p) (Some (client.after m.now t r)) (out_key i p))
-    far_fit = subst (λ (o : Option Client). TicketFits (m.asks_from i) n.now w.notes i (m.far.numbers (out_key i p)) o (set_at m.far.tickets fkey fmade fkey)) (sym here)
-        (subst (λ (o : Option ClientTransaction). TicketFits (m.asks_from i) n.now w.notes i (m.far.numbers (out_key i p)) (Some (client_after n.now number t r)) o)
+    far_fit : TicketFits false (here_at n i) w.notes i (m.far.numbers (out_key i p)) (look' p) (set_at m.far.tickets (out_key i p) (Some (client.after (client_now m (out_key i p)) t r)) (out_key i p))
+    far_fit = subst (λ (o : Option Client). TicketFits false (here_at n i) w.notes i (m.far.numbers (out_key i p)) o (set_at m.far.tickets fkey fmade fkey)) (sym here)
+        (subst (λ (o : Option ClientTransaction). TicketFits false (here_at n i) w.notes i (m.far.numbers (out_key i p)) (Some (client_after (here_at n i) number t r)) o)
         (sym (set_same m.far.tickets fkey fmade))
-        (record { held = ap (λ (tm : ℕ). kept (client.after tm t r)) (sym h.now); noted = λ f. far_is.1 }))
+        (record { held = ap (λ (tm : ℕ). kept (client.after tm t r)) (sym (ap (λ (f : ℕ → Clock). (f i).shows) h.alike.here)); noted = λ f. far_is.1 }))
 
     far_guests : (q : PeerKey) → IsGuest links apart q → ((out_key i p ≡ out_key i q) ⊎ (out_key i p ≡ out_key i q → ⊥))
-        → TicketFits (m.asks_from i) n.now w.notes i (m.far.numbers (out_key i q)) (look' q) (set_at m.far.tickets (out_key i p) (Some (client.after m.now t r)) (out_key i q))
-    far_guests q f (inl e) = subst (λ (y : PeerKey). TicketFits (m.asks_from i) n.now w.notes i (m.far.numbers (out_key i y)) (look' y)
-        (set_at m.far.tickets (out_key i p) (Some (client.after m.now t r)) (out_key i y))) (out_one i p q e) far_fit
+        → TicketFits false (here_at n i) w.notes i (m.far.numbers (out_key i q)) (look' q) (set_at m.far.tickets (out_key i p) (Some (client.after (client_now m (out_key i p)) t r)) (out_key i q))
+    far_guests q f (inl e) = subst (λ (y : PeerKey). TicketFits false (here_at n i) w.notes i (m.far.numbers (out_key i y)) (look' y)
+        (set_at m.far.tickets (out_key i p) (Some (client.after (client_now m (out_key i p)) t r)) (out_key i y))) (out_one i p q e) far_fit
     far_guests q f (inr ne) =
-        subst (λ (o : Option Client). TicketFits (m.asks_from i) n.now w.notes i (m.far.numbers (out_key i q)) o
+        subst (λ (o : Option Client). TicketFits false (here_at n i) w.notes i (m.far.numbers (out_key i q)) o
         (set_at m.far.tickets fkey fmade (out_key i q))) (sym (others_look q (λ e. ne (ap (out_key i) e))))
-        (subst (λ (o : Option ClientTransaction). TicketFits (m.asks_from i) n.now w.notes i (m.far.numbers (out_key i q)) (look q) o)
+        (subst (λ (o : Option ClientTransaction). TicketFits false (here_at n i) w.notes i (m.far.numbers (out_key i q)) (look q) o)
         (sym (set_other m.far.tickets fkey fmade (out_key i q) ne)) (h.guests q f))
 
     far_found : (s : ℕ) (l : Octets) (id : ℕ) → links s ≡ Some l
-        → TicketFits (m.asks_from i) n.now w.notes i (m.numbers (key_of i s id)) (look' (slot_key l id)) (m.tickets (key_of i s id))
-    far_found s l id at = subst (λ (o : Option Client). TicketFits (m.asks_from i) n.now w.notes i (m.numbers (key_of i s id)) o (m.tickets (key_of i s id)))
+        → TicketFits (is_lost m (key_of i s id)) (here_at n i) w.notes i (m.numbers (key_of i s id)) (look' (slot_key l id)) (m.tickets (key_of i s id))
+    far_found s l id at = subst (λ (o : Option Client). TicketFits (is_lost m (key_of i s id)) (here_at n i) w.notes i (m.numbers (key_of i s id)) o (m.tickets (key_of i s id)))
         (sym (others_look (slot_key l id) (λ e. g.none s (at ∙ ap (λ (z : PeerKey). Some z.peer.link) (sym e))))) (h.found s l id at)
 
-    far_away : (k : Key) (u : ClientTransaction) → ((out_key i p ≡ k) ⊎ (out_key i p ≡ k → ⊥)) → set_at m.far.tickets (out_key i p) (Some (client.after m.now t r)) k ≡ Some u
-        → (is_away (m.far.numbers k) w.notes ≡ true) × (u.ask.first ≤ n.now)
-    far_away k u (inl e) at =
-        let there : set_at m.far.tickets fkey fmade fkey ≡ Some u = ap (set_at m.far.tickets fkey fmade) e ∙ at in
-        let same : client.after m.now t r ≡ u = let z : Some (client.after m.now t r) ≡ Some u = sym (set_same m.far.tickets fkey fmade) ∙ there in cc in
-        let old = h.away fkey t far_is.0 in (
-          subst (λ (y : Key). is_away (m.far.numbers y) w.notes ≡ true) e old.0,
-          subst (λ (y : ClientTransaction). y.ask.first ≤ n.now) same (subst (λ (y : Ask). y.first ≤ n.now) (sym (ask_after m.now t r)) old.1),
-        )
+    far_away : (k : Key) (u : ClientTransaction) → ((out_key i p ≡ k) ⊎ (out_key i p ≡ k → ⊥)) → set_at m.far.tickets (out_key i p) (Some (client.after (client_now m (out_key i p)) t r)) k ≡ Some u
+        → is_away (m.far.numbers k) w.notes ≡ true
+    far_away k u (inl e) at = subst (λ (y : Key). is_away (m.far.numbers y) w.notes ≡ true) e (h.away fkey t far_is.0)
     far_away k u (inr ne) at = h.away k u (sym (set_other m.far.tickets fkey fmade k ne) ∙ at)
 
-    far_others : (j : ℕ) (a : Node) → (j ≡ i → ⊥) → NodeFits links apart x n.now w.notes m j a
-        → NodeFits links apart x n.now w.notes (client_acts_away m (out_key i p) t r) j a
+    far_others : (j : ℕ) (a : Node) → (j ≡ i → ⊥) → NodeFits links apart x (here_at n j) (there_at n j) w.notes m j a
+        → NodeFits links apart x (here_at n j) (there_at n j) w.notes (client_acts_away m (out_key i p) t r) j a
     far_others j a ne f = record {
       settings = f.settings;
       link = f.link;
@@ -365,7 +343,7 @@ module _ (links : ℕ → Option Octets) (apart : (i j : ℕ) (l : Octets) → l
         known = f.clients.known;
         found = f.clients.found;
         guests = λ q k.
-            subst (λ (o : Option ClientTransaction). TicketFits (m.asks_from j) n.now w.notes j (m.far.numbers (out_key j q)) (value_at same_key q a.clients.slots) o)
+            subst (λ (o : Option ClientTransaction). TicketFits false (here_at n j) w.notes j (m.far.numbers (out_key j q)) (value_at same_key q a.clients.slots) o)
             (sym (set_other m.far.tickets fkey fmade (out_key j q) (λ e. ne (sym (ap (λ (y : Key). y.client) e))))) (f.clients.guests q k);
       };
       servers = record { distinct = f.servers.distinct; known = f.servers.known; found = f.servers.found; guests = f.servers.guests };
@@ -389,7 +367,7 @@ module _ (links : ℕ → Option Octets) (apart : (i j : ℕ) (l : Octets) → l
         ap (λ (k : ℕ). ask_of i k w.notes) finished.0.ticket ∙ far_is.1 in
         let num : logged.0 ≡ m.far.numbers fkey = let e : Some logged.0 ≡ Some (m.far.numbers fkey) = sym logged.1 ∙ mine in cc in
         let log_is : log' ≡ Fact.EndedAway (m.far.numbers fkey) f.how ∷ log = logged.2 ∙ ap (λ (k : ℕ). ending_fact (is_away k w.notes) k f.how ∷ log) num
-        ∙ ap (λ (z : Bool). ending_fact z (m.far.numbers fkey) f.how ∷ log) (h.away fkey t far_is.0).0 in
+        ∙ ap (λ (z : Bool). ending_fact z (m.far.numbers fkey) f.how ∷ log) (h.away fkey t far_is.0) in
         record {
           means = subst (λ (lg : List Fact). Pairwise FactMeans (octets.Fact.EndedAway (m.far.numbers fkey) how ∷ m.log) lg) (sym log_is) (refl, h.log);
           once = λ opening stores once. subst (λ (lg : List Fact). IsOnce opening lg stores) (sym log_is) (
@@ -409,7 +387,7 @@ module _ (links : ℕ → Option Octets) (apart : (i j : ℕ) (l : Octets) → l
     reacts_guest fs log' finished logged =
         let end = far_ends (client.ending_of r) fs log' finished logged (orderly W x bound (client_acts_away m fkey t r) far_sound) in
         record {
-          now = h.now;
+          alike = record { now = h.alike.now; pace = h.alike.pace; here = h.alike.here; there = h.alike.there };
           asks = h.asks;
           entries = h.entries;
           far_entries = h.far_entries;

@@ -13,23 +13,11 @@ use Rattle.bac_transaction.specs.Sends.{Datagram}
 use Rattle.bac_transaction.specs.Ends.{Client, ClientEnd, TransactionSlot, Accepted, requester_on_apdu_at, requester_on_apdu_in_slot, key_of}
 use Rattle.bac_transaction.specs.Ends.TransactionSlot.{Open, Closed}
 use Rattle.bac_world.specs.Node.{Node, Outcome, IsHeardBy, NodeOn, NodeTick, NodeAsks}
-<<<<<<< clocks
 use Rattle.bac_world.specs.Once.{HasNoRestart}
 use Rattle.bac_world.specs.World.{World, Event, Copy, IsWithNode, Hears, DeliversIf, is_deliverable, peer_at}
 use Rattle.bac_world.specs.World.{WorldStep, WorldRun, RunsOn, MakeNoRestart, MakeRequestsAlone, NeverRestarted, IsFresh}
-use Rattle.bac_world.specs.World.Event.{Ask, Deliver, Noise, Tick, Advance, Change, Restart}
-use Rattle.bac_world.specs.World.{told}
-||||||| base
-use Rattle.bac_world.specs.Once.{Fact, HasNoRestart}
-use Rattle.bac_world.specs.World.{World, Event, Copy, Note, IsWithNode, Acts, Hears, AreEnded, AreLogged, DeliversIf, is_deliverable, peer_at}
-use Rattle.bac_world.specs.World.{IsAsked, WorldStep, WorldRun, RunsOn, MakeNoRestart, NeverRestarted, IsFresh}
-use Rattle.bac_world.specs.World.Event.{Ask, Deliver, Noise, Tick, Advance, Change, Restart}
-=======
-use Rattle.bac_world.specs.Once.{Fact, HasNoRestart}
-use Rattle.bac_world.specs.World.{World, Event, Copy, Note, IsWithNode, Acts, Hears, AreEnded, ending_fact, is_away, AreLogged, DeliversIf, is_deliverable, peer_at}
-use Rattle.bac_world.specs.World.{IsAsked, WorldStep, WorldRun, RunsOn, MakeNoRestart, NeverRestarted, IsFresh}
 use Rattle.bac_world.specs.World.Event.{Ask, AskAway, Deliver, Noise, Tick, Advance, Change, Restart}
->>>>>>> strangers
+use Rattle.bac_world.specs.World.{told}
 use Rattle.bac_world.proofs.Steps.{decide_number}
 use Rattle.bac_world.proofs.Asking.{accepted_is}
 use Rattle.bac_world.proofs.Quiet.{after_step}
@@ -120,24 +108,12 @@ delivers_lived false w c w' same = λ i. subst (λ (u : World). LiveOn w.nodes u
 
 step_lived : (overtake : ℕ) (w w' : World) (e : Event) → WorldStep overtake w e w' → (i : ℕ) → RunsOn i (e ∷ []) → LiveOn w.nodes w'.nodes i
 step_lived overtake w w' (Ask client server limits r) (inl s) i on = with_lived w.nodes w'.nodes client s.before s.after s.at s.nodes
-<<<<<<< clocks
-    (asks_stay (told w client) s.link limits r s.before s.after s.accepted s.sends s.asks) i
-||||||| base
-    (asks_stay w.now s.link limits r s.before s.after s.accepted s.sends s.asks) i
-=======
-    (asks_stay w.now (peer_at s.link) limits r s.before s.after s.accepted s.sends s.asks) i
->>>>>>> strangers
+    (asks_stay (told w client) (peer_at s.link) limits r s.before s.after s.accepted s.sends s.asks) i
 step_lived overtake w w' (Ask client server limits r) (inr s) i on = subst (λ (u : World). LiveOn w.nodes u.nodes i) (sym s.same) (same_lived w.nodes i)
-<<<<<<< clocks
-step_lived overtake w w' (Deliver number) s i on = delivers_lived (is_deliverable overtake w.time.pace.life w.time.now number w.copies s.copy) w s.copy w' s.goes i
-||||||| base
-step_lived overtake w w' (Deliver number) s i on = delivers_lived (is_deliverable overtake w.now number w.copies s.copy) w s.copy w' s.goes i
-=======
 step_lived overtake w w' (AskAway client peer limits r) (inl s) i on = with_lived w.nodes w'.nodes client s.before s.after s.at s.nodes
-    (asks_stay w.now peer limits r s.before s.after s.accepted s.sends s.asks) i
+    (asks_stay (told w client) peer limits r s.before s.after s.accepted s.sends s.asks) i
 step_lived overtake w w' (AskAway client peer limits r) (inr s) i on = subst (λ (u : World). LiveOn w.nodes u.nodes i) (sym s.same) (same_lived w.nodes i)
-step_lived overtake w w' (Deliver number) s i on = delivers_lived (is_deliverable overtake w.now number w.copies s.copy) w s.copy w' s.goes i
->>>>>>> strangers
+step_lived overtake w w' (Deliver number) s i on = delivers_lived (is_deliverable overtake w.time.pace.life w.time.now number w.copies s.copy) w s.copy w' s.goes i
 step_lived overtake w w' (Noise node from octets) (inl s) i on = hears_lived w w' node from octets s.hears i
 step_lived overtake w w' (Noise node from octets) (inr s) i on = subst (λ (u : World). LiveOn w.nodes u.nodes i) (sym s.same) (same_lived w.nodes i)
 step_lived overtake w w' (Tick node) s i on =
@@ -183,75 +159,23 @@ each_on i (Restart node exact store ∷ es) h = absurd h
 
 -- The log of a run without restarts.
 
-<<<<<<< clocks
 quiet_step : (overtake : ℕ) (w w' : World) (e : Event) → MakeRequestsAlone (e ∷ []) → WorldStep overtake w e w' → HasNoRestart w.log → HasNoRestart w'.log
-quiet_step = after_step HasNoRestart (λ n c s r log p. p) (λ n r q log p. p) (λ n how log p. p)
-||||||| base
-quiet_ended : (notes : List Note) (node : ℕ) (fs : List EndedView) (old new : List Fact) → AreEnded notes node fs old new → HasNoRestart old → HasNoRestart new
-quiet_ended notes node [] old new h none = subst HasNoRestart (sym h) none
-quiet_ended notes node (f ∷ fs) old new h none = quiet_ended notes node fs (Fact.Ended h.0 f.how ∷ old) new h.2 none
-
-quiet_logged : (nodes : List Node) (notes : List Note) (node : ℕ) (o : Option Performed) (old new : List Fact) → AreLogged nodes notes node o old new
-    → HasNoRestart old → HasNoRestart new
-quiet_logged nodes notes node None old new h none = subst HasNoRestart (sym h) none
-quiet_logged nodes notes node (Some p) old new h none = subst HasNoRestart (sym h.log) none
-
-quiet_acts : (w w' : World) (i : ℕ) (b : Node) (o : Outcome) → Acts w i b o w' → HasNoRestart w.log → HasNoRestart w'.log
-quiet_acts w w' i b o acts none =
-    quiet_logged w.nodes w.notes i o.performed acts.between w'.log acts.logged (quiet_ended w.notes i o.ended w.log acts.between acts.ended none)
-
-quiet_delivered : (b : Bool) (w : World) (c : Copy) (w' : World) → DeliversIf b w c w' → HasNoRestart w.log → HasNoRestart w'.log
-quiet_delivered true w c w' d none = quiet_acts w w' c.to d.hears.after d.hears.outcome d.hears.acts none
-quiet_delivered false w c w' same none = subst (λ (u : World). HasNoRestart u.log) (sym same) none
-=======
-quiet_ended : (notes : List Note) (node : ℕ) (fs : List EndedView) (old new : List Fact) → AreEnded notes node fs old new → HasNoRestart old → HasNoRestart new
-quiet_ended notes node [] old new h none = subst HasNoRestart (sym h) none
-quiet_ended notes node (f ∷ fs) old new h none = quiet_ended notes node fs (ending_fact (is_away h.0 notes) h.0 f.how ∷ old) new h.2
-    (go (is_away h.0 notes))
-  where
-    go : (b : Bool) → HasNoRestart (ending_fact b h.0 f.how ∷ old)
-    go true = none
-    go false = none
-
-quiet_logged : (nodes : List Node) (notes : List Note) (node : ℕ) (after : Node) (o : Option Performed) (old new : List Fact) → AreLogged nodes notes node after o old new
-    → HasNoRestart old → HasNoRestart new
-quiet_logged nodes notes node after None old new h none = subst HasNoRestart (sym h) none
-quiet_logged nodes notes node after (Some p) old new (inl h) none = subst HasNoRestart (sym h.log) none
-quiet_logged nodes notes node after (Some p) old new (inr h) none = subst HasNoRestart (sym h.log) none
-
-quiet_acts : (w w' : World) (i : ℕ) (b : Node) (o : Outcome) → Acts w i b o w' → HasNoRestart w.log → HasNoRestart w'.log
-quiet_acts w w' i b o acts none =
-    quiet_logged w.nodes w.notes i b o.performed acts.between w'.log acts.logged (quiet_ended w.notes i o.ended w.log acts.between acts.ended none)
-
-quiet_delivered : (b : Bool) (w : World) (c : Copy) (w' : World) → DeliversIf b w c w' → HasNoRestart w.log → HasNoRestart w'.log
-quiet_delivered true w c w' d none = quiet_acts w w' c.to d.hears.after d.hears.outcome d.hears.acts none
-quiet_delivered false w c w' same none = subst (λ (u : World). HasNoRestart u.log) (sym same) none
->>>>>>> strangers
+quiet_step = after_step HasNoRestart (record {
+  asked = λ n c s r log p. p;
+  performed = λ n r q log p. p;
+  ended = λ n how log p. p;
+  served = λ q i d b r y log p. p;
+  asked_away = λ n c q r log p. p;
+  ended_away = λ n how log p. p;
+})
 
 quiet_run : (overtake : ℕ) (events : List Event) (w w' : World) → WorldRun overtake w events w' → MakeNoRestart events → HasNoRestart w.log
     → HasNoRestart w'.log
 quiet_run overtake [] w w' run calm none = subst (λ (u : World). HasNoRestart u.log) (sym run) none
-<<<<<<< clocks
 quiet_run overtake (Ask client server limits r ∷ es) w w' run calm none = quiet_run overtake es run.0 w' run.2 calm
     (quiet_step overtake w run.0 (Ask client server limits r) tt run.1 none)
-||||||| base
-quiet_run overtake (Ask client server limits r ∷ es) w w' run calm none = quiet_run overtake es run.0 w' run.2 calm (go run.1)
-  where
-    go : WorldStep overtake w (Ask client server limits r) run.0 → HasNoRestart (run.0).log
-    go (inl s) = subst HasNoRestart (sym s.log) none
-    go (inr s) = subst (λ (u : World). HasNoRestart u.log) (sym s.same) none
-=======
-quiet_run overtake (Ask client server limits r ∷ es) w w' run calm none = quiet_run overtake es run.0 w' run.2 calm (go run.1)
-  where
-    go : WorldStep overtake w (Ask client server limits r) run.0 → HasNoRestart (run.0).log
-    go (inl s) = subst HasNoRestart (sym s.log) none
-    go (inr s) = subst (λ (u : World). HasNoRestart u.log) (sym s.same) none
-quiet_run overtake (AskAway client peer limits r ∷ es) w w' run calm none = quiet_run overtake es run.0 w' run.2 calm (go run.1)
-  where
-    go : WorldStep overtake w (AskAway client peer limits r) run.0 → HasNoRestart (run.0).log
-    go (inl s) = subst HasNoRestart (sym s.log) none
-    go (inr s) = subst (λ (u : World). HasNoRestart u.log) (sym s.same) none
->>>>>>> strangers
+quiet_run overtake (AskAway client peer limits r ∷ es) w w' run calm none = quiet_run overtake es run.0 w' run.2 calm
+    (quiet_step overtake w run.0 (AskAway client peer limits r) tt run.1 none)
 quiet_run overtake (Deliver number ∷ es) w w' run calm none = quiet_run overtake es run.0 w' run.2 calm
     (quiet_step overtake w run.0 (Deliver number) tt run.1 none)
 quiet_run overtake (Noise node from octets ∷ es) w w' run calm none = quiet_run overtake es run.0 w' run.2 calm

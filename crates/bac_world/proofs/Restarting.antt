@@ -80,46 +80,23 @@ module _ (links : ℕ → Option Octets) (apart : (i j : ℕ) (l : Octets) → l
   no_ticket k = subst (λ (b : Bool). TicketIn b i None k)
       (sym (self i)) (gone_lost (n.made k) n.now (clock_at n.pace exact).shows (n.tickets k) (λ t is. asked_before W x bound n h.sound k t is))
 
-<<<<<<< clocks
-  made_fits : NodeFits links apart x (here_at m i) (there_at m i) w.notes m i made
-||||||| base
-  made_fits : NodeFits links apart x n.now w.notes m i made
-=======
-  no_far : (k : Key) → IsGone (if nat_eq i i then n.now + REST + 1 else n.asks_from i) n.now (if nat_eq i i then lost (n.far.tickets k) else n.far.tickets k)
-  no_far k = subst (λ (b : Bool). IsGone (if b then n.now + REST + 1 else n.asks_from i) n.now (if b then lost (n.far.tickets k) else n.far.tickets k))
-      (sym (self i)) (gone_lost n.now (n.far.tickets k) (λ t is. (h.away k t is).1))
+  no_far : (k : Key) → IsGone false (here_at m i) (if nat_eq i i then None else n.far.tickets k)
+  no_far k = subst (λ (b : Bool). IsGone false (here_at m i) (if b then None else n.far.tickets k)) (sym (self i)) (record { over = refl; free = refl })
 
-  made_fits : NodeFits links apart x n.now w.notes m i made
->>>>>>> strangers
+  made_fits : NodeFits links apart x (here_at m i) (there_at m i) w.notes m i made
   made_fits = record {
     settings = f.settings;
     link = f.link;
-<<<<<<< clocks
     asks = ap (λ (p : Pace). (clock_at p exact).shows + REST + 1) (sym h.pace)
         ∙ sym (ap (λ (b : Bool). if b then (clock_at n.pace exact).shows + REST + 1 else n.asks_from i) (self i));
     serves = ap (λ (p : Pace). (clock_at p exact).shows + KEEP + 1) (sym h.pace)
         ∙ sym (ap (λ (b : Bool). if b then (clock_at n.pace exact).shows + KEEP + 1 else n.serves_from i) (self i));
-    clients = record { distinct = tt; known = tt; found = λ p l id at. no_ticket (key_of i p id) };
-||||||| base
-    asks = ap (λ (t : ℕ). t + REST + 1) (sym h.now) ∙ sym (ap (λ (b : Bool). if b then n.now + REST + 1 else n.asks_from i) (self i));
-    serves = ap (λ (t : ℕ). t + KEEP + 1) (sym h.now) ∙ sym (ap (λ (b : Bool). if b then n.now + KEEP + 1 else n.serves_from i) (self i));
-    clients = record { distinct = tt; known = tt; found = λ p l id at. no_ticket (key_of i p id) };
-=======
-    asks = ap (λ (t : ℕ). t + REST + 1) (sym h.now) ∙ sym (ap (λ (b : Bool). if b then n.now + REST + 1 else n.asks_from i) (self i));
-    serves = ap (λ (t : ℕ). t + KEEP + 1) (sym h.now) ∙ sym (ap (λ (b : Bool). if b then n.now + KEEP + 1 else n.serves_from i) (self i));
     clients = record { distinct = tt; known = tt; found = λ p l id at. no_ticket (key_of i p id); guests = λ p g. no_far (out_key i p) };
->>>>>>> strangers
     servers = record {
       distinct = tt;
       known = tt;
-<<<<<<< clocks
       found = λ c l id at. ap (λ (b : Bool). live_entry (there_at m i) (if b then None else n.entries (key_of c i id))) (sym (self i));
-||||||| base
-      found = λ c l id at. ap (λ (b : Bool). live_entry n.now (if b then None else n.entries (key_of c i id))) (sym (self i));
-=======
-      found = λ c l id at. ap (λ (b : Bool). live_entry n.now (if b then None else n.entries (key_of c i id))) (sym (self i));
-      guests = λ p g. ap (λ (b : Bool). live_entry n.now (if b then None else n.far.entries (guest_key i p))) (sym (self i));
->>>>>>> strangers
+      guests = λ p g. ap (λ (b : Bool). live_entry (there_at m i) (if b then None else n.far.entries (guest_key i p))) (sym (self i));
     };
   }
 
@@ -135,25 +112,17 @@ module _ (links : ℕ → Option Octets) (apart : (i j : ℕ) (l : Octets) → l
       known = g.clients.known;
       found = λ p l id at. subst (λ (b : Bool). TicketIn b j (value_at same_key (slot_key l id) a.clients.slots) (key_of j p id))
           (sym (away j i ne)) (g.clients.found p l id at);
-      guests = λ p y. subst (λ (b : Bool). TicketFits (if b then n.now + REST + 1 else n.asks_from j) n.now w.notes j (n.far.numbers (out_key j p))
-          (value_at same_key p a.clients.slots) (if b then lost (n.far.tickets (out_key j p)) else n.far.tickets (out_key j p)))
+      guests = λ p y. subst (λ (b : Bool). TicketFits false (if b then clock_at n.pace exact else n.client_clocks j).shows w.notes j (n.far.numbers (out_key j p))
+          (value_at same_key p a.clients.slots) (if b then None else n.far.tickets (out_key j p)))
           (sym (away j i ne)) (g.clients.guests p y);
     };
     servers = record {
       distinct = g.servers.distinct;
       known = g.servers.known;
-<<<<<<< clocks
       found = λ c l id at. subst (λ (b : Bool). EntryFits (if b then clock_at n.pace exact else n.server_clocks j).shows
           (value_at same_key (slot_key l id) a.servers.slots) (if b then None else n.entries (key_of c j id))) (sym (away j i ne)) (g.servers.found c l id at);
-||||||| base
-      found = λ c l id at. subst (λ (b : Bool). EntryFits n.now (value_at same_key (slot_key l id) a.servers.slots)
-          (if b then None else n.entries (key_of c j id))) (sym (away j i ne)) (g.servers.found c l id at);
-=======
-      found = λ c l id at. subst (λ (b : Bool). EntryFits n.now (value_at same_key (slot_key l id) a.servers.slots)
-          (if b then None else n.entries (key_of c j id))) (sym (away j i ne)) (g.servers.found c l id at);
-      guests = λ p y. subst (λ (b : Bool). EntryFits n.now (value_at same_key p a.servers.slots)
-          (if b then None else n.far.entries (guest_key j p))) (sym (away j i ne)) (g.servers.guests p y);
->>>>>>> strangers
+      guests = λ p y. subst (λ (b : Bool). EntryFits (if b then clock_at n.pace exact else n.server_clocks j).shows
+          (value_at same_key p a.servers.slots) (if b then None else n.far.entries (guest_key j p))) (sym (away j i ne)) (g.servers.guests p y);
     };
   }
 
@@ -174,25 +143,11 @@ module _ (links : ℕ → Option Octets) (apart : (i j : ℕ) (l : Octets) → l
       go None e is = absurd cc
       go (Some u) e is = h.noted key u e
 
-<<<<<<< clocks
-  pub restarted_over : Over links apart W x w' (restarted_net n i exact)
-||||||| base
-  pub restarted_over : Over links apart W x w' (restarted_net n i)
-=======
-  far_noted : (key : Key) (t : ClientTransaction) (b : Bool) → (if b then lost (n.far.tickets key) else n.far.tickets key) ≡ Some t
-      → (is_away (n.far.numbers key) w.notes ≡ true) × (t.ask.first ≤ n.now)
+  far_noted : (key : Key) (t : ClientTransaction) (b : Bool) → (if b then None else n.far.tickets key) ≡ Some t → is_away (n.far.numbers key) w.notes ≡ true
   far_noted key t false is = h.away key t is
-  far_noted key t true is = go (n.far.tickets key) refl is
-    where
-      go : (y : Option ClientTransaction) → n.far.tickets key ≡ y → lost y ≡ Some t → (is_away (n.far.numbers key) w.notes ≡ true) × (t.ask.first ≤ n.now)
-      go None e is = absurd cc
-      go (Some u) e is =
-          let old = h.away key u e in
-          let same : record u { phase = Idle } ≡ t = cc in
-          (old.0, subst (λ (y : ClientTransaction). y.ask.first ≤ n.now) same old.1)
+  far_noted key t true is = absurd cc
 
-  pub restarted_over : Over links apart W x w' (restarted_net n i)
->>>>>>> strangers
+  pub restarted_over : Over links apart W x w' (restarted_net n i exact)
   restarted_over = record {
     now = h.now ∙ sym (ap (λ (t : Time). t.now) s.time);
     pace = h.pace ∙ sym (ap (λ (t : Time). t.pace) s.time);
@@ -202,7 +157,7 @@ module _ (links : ℕ → Option Octets) (apart : (i j : ℕ) (l : Octets) → l
     linked = linked_with links w.nodes w'.nodes i s.before made s.nodes s.at refl h.linked;
     nodes = λ j a at. subst (λ (l : List Note). NodeFits links apart x (here_at m j) (there_at m j) l m j a) (sym s.notes) (fits j a at (decide_number j i));
     noted = λ key t is. ap (newest key) s.notes ∙ noted key t (nat_eq key.client i) is;
-    away = subst (λ (l : List Note). AwayNoted l n.now m) (sym s.notes) (λ key t is. far_noted key t (nat_eq key.client i) is);
+    away = subst (λ (l : List Note). AwayNoted l m) (sym s.notes) (λ key t is. far_noted key t (nat_eq key.client i) is);
     posts = subst (λ (l : List Copy). Pairwise (IsCopyOf links apart) n.posts l) (sym s.copies) h.posts;
     log = subst (λ (l : List Fact). Pairwise FactMeans m.log l) (sym s.log) (refl, h.log);
     sound = restarts W x bound n i exact h.sound;

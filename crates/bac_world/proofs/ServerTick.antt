@@ -60,17 +60,9 @@ module _ (links : ℕ → Option Octets) (apart : (i j : ℕ) (l : Octets) → l
     pub log : m.log ≡ k.log
     pub asks_from : m.asks_from ≡ k.asks_from
     pub serves_from : m.serves_from ≡ k.serves_from
-<<<<<<< clocks
     pub entries : (c : ℕ) (l : Octets) (id : ℕ) → links c ≡ Some l → EntryFits (there_at n i) (found (slot_key l id)) (m.entries (key_of c i id))
+    pub guests : (p : PeerKey) → IsGuest links apart p → EntryFits (there_at n i) (found p) (m.far.entries (guest_key i p))
     pub others : (j : ℕ) (a : Node) → (j ≡ i → ⊥) → NodeFits links apart x (here_at n j) (there_at n j) w.notes k j a → NodeFits links apart x (here_at n j) (there_at n j) w.notes m j a
-||||||| base
-    pub entries : (c : ℕ) (l : Octets) (id : ℕ) → links c ≡ Some l → EntryFits n.now (found (slot_key l id)) (m.entries (key_of c i id))
-    pub others : (j : ℕ) (a : Node) → (j ≡ i → ⊥) → NodeFits links apart x n.now w.notes k j a → NodeFits links apart x n.now w.notes m j a
-=======
-    pub entries : (c : ℕ) (l : Octets) (id : ℕ) → links c ≡ Some l → EntryFits n.now (found (slot_key l id)) (m.entries (key_of c i id))
-    pub guests : (p : PeerKey) → IsGuest links apart p → EntryFits n.now (found p) (m.far.entries (guest_key i p))
-    pub others : (j : ℕ) (a : Node) → (j ≡ i → ⊥) → NodeFits links apart x n.now w.notes k j a → NodeFits links apart x n.now w.notes m j a
->>>>>>> strangers
     pub posts : Pairwise (IsCopyOf links apart) m.posts every
     pub sound : Sound x m
     pub leads : Leads x n m
@@ -86,13 +78,7 @@ module _ (links : ℕ → Option Octets) (apart : (i j : ℕ) (l : Octets) → l
     Folds os = IsDistinct same_key os → EachSlot ServerTransaction (λ p v. IsKnown links apart p ⊎ IsGuest links apart p) os → Change ServerTransaction tick all os
         → (copies : List Copy) (m : Net) → Served (look ServerTransaction tick all os) copies m
         → (ds : List Datagram) (cs : List Copy)
-<<<<<<< clocks
-        → Pairwise IsSent (from_each (server_tick_sends (x.settings i) (there_at n i)) os) ds → Pairwise (IsCopied w.nodes n.now i) ds cs
-||||||| base
-        → Pairwise IsSent (from_each (server_tick_sends (x.settings i) n.now) os) ds → Pairwise (IsCopied w.nodes n.now i) ds cs
-=======
-        → Pairwise IsSent (from_each (server_tick_sends (x.settings i) n.now) os) ds → AreCopied w.nodes n.now i ds cs
->>>>>>> strangers
+        → Pairwise IsSent (from_each (server_tick_sends (x.settings i) (there_at n i)) os) ds → AreCopied w.nodes n.now i ds cs
         → (m' : Net) × Served (λ q. value_at same_key q all) (copies ++ cs) m'
 
     no_entries : Folds []
@@ -159,27 +145,15 @@ module _ (links : ℕ → Option Octets) (apart : (i j : ℕ) (l : Octets) → l
           asks = r.asks;
           numbers = r.numbers;
           tickets = r.tickets;
-<<<<<<< clocks
-          log = ap (λ e. performed (m.numbers key) e m.log) (ticks_quiet (server_context x key (server_now m key)) (m.entries key)) ∙ r.log;
-||||||| base
-          log = ap (λ e. performed (m.numbers key) e m.log) (ticks_quiet (server_context x key m.now) (m.entries key)) ∙ r.log;
-=======
           far_tickets = r.far_tickets;
           far_numbers = r.far_numbers;
-          log = ap (λ e. performed (m.numbers key) e m.log) (ticks_quiet (server_context x key m.now) (m.entries key)) ∙ r.log;
->>>>>>> strangers
+          log = ap (λ e. performed (m.numbers key) e m.log) (ticks_quiet (server_context x key (server_now m key)) (m.entries key)) ∙ r.log;
           asks_from = r.asks_from;
           serves_from = r.serves_from;
           entries = λ c l' id' at'. entries c l' id' at' (decide_key key (key_of c i id'));
-<<<<<<< clocks
-          others = λ j a ne f. others_fit links apart W x (here_at n j) (there_at n j) w.notes m key does j a ne (r.others j a ne f);
-||||||| base
-          others = λ j a ne f. others_fit links apart W x n.now w.notes m key does j a ne (r.others j a ne f);
-=======
-          guests = λ q g. ap (live_entry n.now) (look_next ServerTransaction tick all p begin d os q
+          guests = λ q g. ap (live_entry (there_at n i)) (look_next ServerTransaction tick all p begin d os q
               (λ is. g.none node (at ∙ ap (λ (y : PeerKey). Some y.peer.link) is))) ∙ r.guests q g;
-          others = λ j a ne f. others_fit links apart W x n.now w.notes m key does j a ne (r.others j a ne f);
->>>>>>> strangers
+          others = λ j a ne f. others_fit links apart W x (here_at n j) (there_at n j) w.notes m key does j a ne (r.others j a ne f);
           posts = pairwise_join (IsCopyOf links apart) m.posts _ copies cs r.posts
               (copies_of links apart w.nodes linked m.now false key i node li l (record { between = (refl, refl); from = from; to = at })
               does.sends ds cs
@@ -192,23 +166,11 @@ module _ (links : ℕ → Option Octets) (apart : (i j : ℕ) (l : Octets) → l
 
       one_live : Folds os → is_live (there_at n i) d ≡ true → Folds (slot ServerTransaction (slot_key l id) begin d ∷ os)
       one_live again live distinct known change copies m r ds cs sent copied =
-<<<<<<< clocks
           let y = pairwise_split IsSent (to_all (peer_at l) did.sends) (from_each (server_tick_sends (x.settings i) (there_at n i)) os) ds sent in
-          let e = pairwise_split (IsCopied w.nodes n.now i) y.front y.rest cs
-          (subst (λ (z : List Datagram). Pairwise (IsCopied w.nodes n.now i) z cs) y.is copied) in
-          let next = goes_on copies m r distinct.0 change live y.front e.front y.first e.first in
-||||||| base
-          let y = pairwise_split IsSent (to_all (peer_at l) did.sends) (from_each (server_tick_sends (x.settings i) n.now) os) ds sent in
-          let e = pairwise_split (IsCopied w.nodes n.now i) y.front y.rest cs
-          (subst (λ (z : List Datagram). Pairwise (IsCopied w.nodes n.now i) z cs) y.is copied) in
-          let next = goes_on copies m r distinct.0 change live y.front e.front y.first e.first in
-=======
-          let y = pairwise_split IsSent (to_all (peer_at l) did.sends) (from_each (server_tick_sends (x.settings i) n.now) os) ds sent in
           let e = copied_split w.nodes n.now i y.front y.rest cs
           (subst (λ (z : List Datagram). AreCopied w.nodes n.now i z cs) y.is copied) in
           let next = goes_on copies m r distinct.0 change live y.front e.front y.first
           (copied_to links apart w.nodes linked n.now i node (peer_at l) at did.sends y.front e.front y.first e.first) in
->>>>>>> strangers
           let rest = again distinct.1 known.1 (change_rest ServerTransaction tick all p begin d os distinct.0 change) (copies ++ e.front)
           (server_acts m key (does copies m r distinct.0 change live)) next y.rest e.rest y.second e.second in (
             rest.0,
@@ -242,7 +204,7 @@ module _ (links : ℕ → Option Octets) (apart : (i j : ℕ) (l : Octets) → l
             entries = λ c l' id' at'. ap (live_entry (there_at n i))
                 (sym (look_same ServerTransaction tick all p begin d os distinct.0 change (ap (λ (v : server.Reaction). entry_or d v.entry) still) (slot_key l' id')))
                 ∙ r.entries c l' id' at';
-            guests = λ q g. ap (live_entry n.now)
+            guests = λ q g. ap (live_entry (there_at n i))
                 (sym (look_same ServerTransaction tick all p begin d os distinct.0 change (ap (λ (v : server.Reaction). entry_or d v.entry) still) q))
                 ∙ r.guests q g;
             others = r.others;
@@ -261,66 +223,68 @@ module _ (links : ℕ → Option Octets) (apart : (i j : ℕ) (l : Octets) → l
       far_key = guest_key i p
 
       abbrev far_context : Context
-      far_context = context_of (x.settings i) n.now p
+      far_context = context_of (x.settings i) (there_at n i) p
 
       abbrev guest_did : server.Reaction
       guest_did = server_ticks far_context (Some d)
 
       module _ (copies : List Copy) (m : Net) (r : Served (look ServerTransaction tick all (slot ServerTransaction p begin d ∷ os)) copies m)
-          (away : IsApart same_key p os) (change : Change ServerTransaction tick all (slot ServerTransaction p begin d ∷ os)) (live : is_live n.now d ≡ true) where
+          (away : IsApart same_key p os) (change : Change ServerTransaction tick all (slot ServerTransaction p begin d ∷ os)) (live : is_live (there_at n i) d ≡ true) where
         abbrev guest_does : server.Reaction
-        guest_does = server_ticks (server_context x far_key m.now) (m.far.entries far_key)
+        guest_does = server_ticks (server_context x far_key (server_now m far_key)) (m.far.entries far_key)
 
-        guest_fit : live_entry n.now (Some d) ≡ live_entry n.now (m.far.entries far_key)
-        guest_fit = ap (live_entry n.now) (sym (look_first ServerTransaction tick all p begin d os)) ∙ r.guests p g
+        guest_fit : live_entry (there_at n i) (Some d) ≡ live_entry (there_at n i) (m.far.entries far_key)
+        guest_fit = ap (live_entry (there_at n i)) (sym (look_first ServerTransaction tick all p begin d os)) ∙ r.guests p g
 
-        guest_same : IsSameReaction n.now guest_did guest_does
+        guest_same : IsSameReaction (there_at n i) guest_did guest_does
         guest_same =
             let e : Option ServerTransaction = m.far.entries far_key in
             let ticks : Option ServerTransaction → server.Reaction = server_ticks far_context in
-            subst (λ (now : ℕ). IsSameReaction n.now guest_did (server_ticks (server_context x far_key now) e)) (sym r.now)
-            (same_then n.now guest_did (ticks (live_entry n.now (Some d))) (ticks e) (dead_is_none.ticks far_context (Some d))
-            (same_then n.now (ticks (live_entry n.now (Some d))) (ticks (live_entry n.now e)) (ticks e)
-            (same_of n.now (ticks (live_entry n.now (Some d))) (ticks (live_entry n.now e)) (ap ticks guest_fit))
-            (same_back n.now (ticks e) (ticks (live_entry n.now e)) (dead_is_none.ticks far_context e))))
+            subst (λ (now : ℕ). IsSameReaction (there_at n i) guest_did (server_ticks (server_context x far_key now) e)) (sym (ap (λ (f : ℕ → Clock). (f i).shows) r.alike.there))
+            (same_then (there_at n i) guest_did (ticks (live_entry (there_at n i) (Some d))) (ticks e) (dead_is_none.ticks far_context (Some d))
+            (same_then (there_at n i) (ticks (live_entry (there_at n i) (Some d))) (ticks (live_entry (there_at n i) e)) (ticks e)
+            (same_of (there_at n i) (ticks (live_entry (there_at n i) (Some d))) (ticks (live_entry (there_at n i) e)) (ap ticks guest_fit))
+            (same_back (there_at n i) (ticks e) (ticks (live_entry (there_at n i) e)) (dead_is_none.ticks far_context e))))
 
         guest_made : look ServerTransaction tick all os p ≡ guest_did.entry
         guest_made = look_here ServerTransaction tick all p begin d os away change ∙ stays_some d guest_did.entry (live_stays_law.ticks far_context d live)
 
         guest_entries : (q : PeerKey) → IsGuest links apart q → ((far_key ≡ guest_key i q) ⊎ (far_key ≡ guest_key i q → ⊥))
-            → EntryFits n.now (look ServerTransaction tick all os q) (set_at m.far.entries far_key guest_does.entry (guest_key i q))
+            → EntryFits (there_at n i) (look ServerTransaction tick all os q) (set_at m.far.entries far_key guest_does.entry (guest_key i q))
         guest_entries q f (inl is) =
-            ap (λ (y : PeerKey). live_entry n.now (look ServerTransaction tick all os y)) (sym (guest_one i p q is))
-            ∙ ap (live_entry n.now) guest_made ∙ guest_same.entry
-            ∙ ap (live_entry n.now) (sym (set_same m.far.entries far_key guest_does.entry) ∙ ap (set_at m.far.entries far_key guest_does.entry) is)
+            ap (λ (y : PeerKey). live_entry (there_at n i) (look ServerTransaction tick all os y)) (sym (guest_one i p q is))
+            ∙ ap (live_entry (there_at n i)) guest_made ∙ guest_same.entry
+            ∙ ap (live_entry (there_at n i)) (sym (set_same m.far.entries far_key guest_does.entry) ∙ ap (set_at m.far.entries far_key guest_does.entry) is)
         guest_entries q f (inr ne) =
-            ap (live_entry n.now) (look_next ServerTransaction tick all p begin d os q (λ is. ne (ap (guest_key i) is)))
+            ap (live_entry (there_at n i)) (look_next ServerTransaction tick all p begin d os q (λ is. ne (ap (guest_key i) is)))
             ∙ r.guests q f
-            ∙ ap (live_entry n.now) (sym (set_other m.far.entries far_key guest_does.entry (guest_key i q) ne))
+            ∙ ap (live_entry (there_at n i)) (sym (set_other m.far.entries far_key guest_does.entry (guest_key i q) ne))
 
         guest_goes_on : Served (look ServerTransaction tick all os) copies (server_acts_away m far_key guest_does)
         guest_goes_on = record {
-          now = r.now;
+          alike = record { now = r.alike.now; pace = r.alike.pace; here = r.alike.here; there = r.alike.there };
+          made = r.made;
+          restarted = r.restarted;
           asks = r.asks;
           numbers = r.numbers;
           tickets = r.tickets;
           far_tickets = r.far_tickets;
           far_numbers = r.far_numbers;
-          log = ap (λ e. served far_key (begin_of guest_does.entry) e m.log) (ticks_quiet (server_context x far_key m.now) (m.far.entries far_key)) ∙ r.log;
+          log = ap (λ e. served far_key (begin_of guest_does.entry) e m.log) (ticks_quiet (server_context x far_key (server_now m far_key)) (m.far.entries far_key)) ∙ r.log;
           asks_from = r.asks_from;
           serves_from = r.serves_from;
-          entries = λ c l' id' at'. ap (live_entry n.now) (look_next ServerTransaction tick all p begin d os (slot_key l' id')
+          entries = λ c l' id' at'. ap (live_entry (there_at n i)) (look_next ServerTransaction tick all p begin d os (slot_key l' id')
               (λ is. g.none c (at' ∙ ap (λ (y : PeerKey). Some y.peer.link) (sym is)))) ∙ r.entries c l' id' at';
           guests = λ q f. guest_entries q f (decide_key far_key (guest_key i q));
-          others = λ j a ne f. others_fit_away links apart W x n.now w.notes m far_key guest_does j a ne (r.others j a ne f);
+          others = λ j a ne f. others_fit_away links apart W x (here_at n j) (there_at n j) w.notes m far_key guest_does j a ne (r.others j a ne f);
           posts = r.posts;
           sound = ticks_at_server_away W x bound m r.sound far_key;
           leads = TicksEntryAway m far_key r.leads;
         }
 
-      guest_live : Folds os → is_live n.now d ≡ true → Folds (slot ServerTransaction p begin d ∷ os)
+      guest_live : Folds os → is_live (there_at n i) d ≡ true → Folds (slot ServerTransaction p begin d ∷ os)
       guest_live again live distinct known change copies m r ds cs sent copied =
-          let y = pairwise_split IsSent (to_all p.peer guest_did.sends) (from_each (server_tick_sends (x.settings i) n.now) os) ds sent in
+          let y = pairwise_split IsSent (to_all p.peer guest_did.sends) (from_each (server_tick_sends (x.settings i) (there_at n i)) os) ds sent in
           let e = copied_split w.nodes n.now i y.front y.rest cs (subst (λ (z : List Datagram). AreCopied w.nodes n.now i z cs) y.is copied) in
           let none : e.front ≡ [] = copied_none links apart w.nodes linked n.now i p g guest_did.sends y.front e.front y.first e.first in
           let next = guest_goes_on copies m r distinct.0 change live in
@@ -331,18 +295,20 @@ module _ (links : ℕ → Option Octets) (apart : (i j : ℕ) (l : Octets) → l
                 (sym (e.is ∙ ap (λ (z : List Copy). z ++ e.rest) none)) rest.1,
           )
 
-      guest_dead : Folds os → is_live n.now d ≡ false → Folds (slot ServerTransaction p begin d ∷ os)
+      guest_dead : Folds os → is_live (there_at n i) d ≡ false → Folds (slot ServerTransaction p begin d ∷ os)
       guest_dead again dead distinct known change copies m r ds cs sent copied =
           again distinct.1 known.1 (change_rest ServerTransaction tick all p begin d os distinct.0 change) copies m alike ds cs
           (subst (λ (z : List Send). Pairwise IsSent z ds)
-          (ap (λ (v : server.Reaction). to_all p.peer v.sends ++ from_each (server_tick_sends (x.settings i) n.now) os) still) sent) copied
+          (ap (λ (v : server.Reaction). to_all p.peer v.sends ++ from_each (server_tick_sends (x.settings i) (there_at n i)) os) still) sent) copied
         where
           still : server_ticks far_context (Some d) ≡ server.rests (Some d) []
           still = ap (λ b. if b then server.live_ticks far_context d d.state else server.rests (Some d) []) dead
 
           alike : Served (look ServerTransaction tick all os) copies m
           alike = record {
-            now = r.now;
+            alike = record { now = r.alike.now; pace = r.alike.pace; here = r.alike.here; there = r.alike.there };
+            made = r.made;
+            restarted = r.restarted;
             asks = r.asks;
             numbers = r.numbers;
             tickets = r.tickets;
@@ -351,10 +317,10 @@ module _ (links : ℕ → Option Octets) (apart : (i j : ℕ) (l : Octets) → l
             log = r.log;
             asks_from = r.asks_from;
             serves_from = r.serves_from;
-            entries = λ c l' id' at'. ap (live_entry n.now)
+            entries = λ c l' id' at'. ap (live_entry (there_at n i))
                 (sym (look_same ServerTransaction tick all p begin d os distinct.0 change (ap (λ (v : server.Reaction). entry_or d v.entry) still) (slot_key l' id')))
                 ∙ r.entries c l' id' at';
-            guests = λ q f. ap (live_entry n.now)
+            guests = λ q f. ap (live_entry (there_at n i))
                 (sym (look_same ServerTransaction tick all p begin d os distinct.0 change (ap (λ (v : server.Reaction). entry_or d v.entry) still) q))
                 ∙ r.guests q f;
             others = r.others;
@@ -363,7 +329,7 @@ module _ (links : ℕ → Option Octets) (apart : (i j : ℕ) (l : Octets) → l
             leads = r.leads;
           }
 
-      guest_entry : Folds os → (b : Bool) → is_live n.now d ≡ b → Folds (slot ServerTransaction p begin d ∷ os)
+      guest_entry : Folds os → (b : Bool) → is_live (there_at n i) d ≡ b → Folds (slot ServerTransaction p begin d ∷ os)
       guest_entry again true live = guest_live again live
       guest_entry again false dead = guest_dead again dead
 
@@ -371,19 +337,9 @@ module _ (links : ℕ → Option Octets) (apart : (i j : ℕ) (l : Octets) → l
         → Folds (slot ServerTransaction s.key s.begin s.value ∷ os)
     by_peer s os again (inl k) =
         subst (λ (p : PeerKey). Folds (slot ServerTransaction p s.begin s.value ∷ os)) (λ j. record { peer = sym k.peer j; invoke_id = s.key.invoke_id })
-        (one_entry k.node k.link s.key.invoke_id k.at s.begin s.value os again (is_live n.now s.value) refl)
-    by_peer s os again (inr g) = guest_entry s.key g s.begin s.value os again (is_live n.now s.value) refl
+        (one_entry k.node k.link s.key.invoke_id k.at s.begin s.value os again (is_live (there_at n i) s.value) refl)
+    by_peer s os again (inr g) = guest_entry s.key g s.begin s.value os again (is_live (there_at n i) s.value) refl
 
     pub serves : (os : List ServerSlot) → Folds os
     serves [] = no_entries
-<<<<<<< clocks
-    serves (s ∷ os) = λ distinct known.
-        subst (λ (p : PeerKey). Folds (slot ServerTransaction p s.begin s.value ∷ os)) (λ j. record { peer = sym known.0.peer j; invoke_id = s.key.invoke_id })
-        (one_entry known.0.node known.0.link s.key.invoke_id known.0.at s.begin s.value os (serves os) (is_live (there_at n i) s.value) refl) distinct known
-||||||| base
-    serves (s ∷ os) = λ distinct known.
-        subst (λ (p : PeerKey). Folds (slot ServerTransaction p s.begin s.value ∷ os)) (λ j. record { peer = sym known.0.peer j; invoke_id = s.key.invoke_id })
-        (one_entry known.0.node known.0.link s.key.invoke_id known.0.at s.begin s.value os (serves os) (is_live n.now s.value) refl) distinct known
-=======
     serves (s ∷ os) = λ distinct known. by_peer s os (serves os) known.0 distinct known
->>>>>>> strangers

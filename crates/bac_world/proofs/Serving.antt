@@ -33,17 +33,11 @@ use Rattle.bac_transaction.specs.Ends.{ServerEnd, ServerTurn, act_at, is_free, i
 use Rattle.bac_world.specs.Services.{Performed, ArePerformed, store_after}
 use Rattle.bac_world.specs.Node.{Node, Outcome, IsServerTurn}
 use Rattle.bac_world.specs.Once.{Fact, Has, Stores, IsOnce, MayPerform}
-<<<<<<< clocks
-use Rattle.bac_world.specs.World.{World, Note, Copy, stores_of, IsWithNode, Acts, AreLogged, AreEnded, newest, peer_at, IsCopied}
+use Rattle.bac_world.specs.World.{World, Note, Copy, stores_of, IsWithNode, Acts, AreLogged, IsLogged, AreEnded, newest, peer_at, IsCopied, AreCopied}
 use Rattle.bac_protocol.specs.World.{client_now, server_now, is_lost, is_key_held}
 use Rattle.bac_world.specs.World.{told}
 use Rattle.bac_world.proofs.Bridge.{here_at, there_at}
 use Rattle.bac_protocol.specs.Pace.{Clock}
-||||||| base
-use Rattle.bac_world.specs.World.{World, Note, Copy, stores_of, IsWithNode, Acts, AreLogged, AreEnded, newest, peer_at, IsCopied}
-=======
-use Rattle.bac_world.specs.World.{World, Note, Copy, stores_of, IsWithNode, Acts, AreLogged, IsLogged, AreEnded, newest, peer_at, IsCopied, AreCopied}
->>>>>>> strangers
 use Rattle.bac_world.proofs.Machines.{Sound, orderly, asked_of, own_of, gets_at_server, ticket_of}
 use Rattle.bac_world.proofs.Pairs.{pairwise_join}
 use Rattle.bac_world.proofs.Logs.{FactMeans, WasAskedAs, asked_as, unperformed}
@@ -134,14 +128,8 @@ module _ (links : ℕ → Option Octets) (apart : (i j : ℕ) (l : Octets) → l
       distinct = h.servers.distinct;
       known = h.servers.known;
       found = λ c l id at. h.servers.found c l id at
-<<<<<<< clocks
           ∙ ap (live_entry there) (sym (set_other n.entries key u.entry (key_of c j id) (λ is. ne (sym (ap (λ (k : Key). k.server) is)))));
-||||||| base
-          ∙ ap (live_entry now) (sym (set_other n.entries key u.entry (key_of c j id) (λ is. ne (sym (ap (λ (k : Key). k.server) is)))));
-=======
-          ∙ ap (live_entry now) (sym (set_other n.entries key u.entry (key_of c j id) (λ is. ne (sym (ap (λ (k : Key). k.server) is)))));
       guests = h.servers.guests;
->>>>>>> strangers
     };
   }
 
@@ -325,16 +313,8 @@ module _ (links : ℕ → Option Octets) (apart : (i j : ℕ) (l : Octets) → l
           link = fits.link;
           asks = fits.asks;
           serves = fits.serves;
-<<<<<<< clocks
-          clients = record { distinct = fits.clients.distinct; known = fits.clients.known; found = fits.clients.found };
-          servers = end_fits (there_at n key.server) n key l client_at v u same.entry a.servers fits.servers
-||||||| base
-          clients = record { distinct = fits.clients.distinct; known = fits.clients.known; found = fits.clients.found };
-          servers = end_fits n.now n key l client_at v u same.entry a.servers fits.servers
-=======
           clients = record { distinct = fits.clients.distinct; known = fits.clients.known; found = fits.clients.found; guests = fits.clients.guests };
-          servers = end_fits n.now n key l client_at v u same.entry a.servers fits.servers
->>>>>>> strangers
+          servers = end_fits (there_at n key.server) n key l client_at v u same.entry a.servers fits.servers
               (none_left context service (value_at same_key q a.servers.slots) free apdu);
         }
 
@@ -367,13 +347,7 @@ module _ (links : ℕ → Option Octets) (apart : (i j : ℕ) (l : Octets) → l
             (orderly W x bound m sound)
 
         over : Over links apart W x w' m
-<<<<<<< clocks
-        over = acts_over links apart W x w w' n m h key.server a b o node' acts' (record { now = refl; pace = refl; here = refl; there = refl }) refl h.noted (ap (λ (d : Node). d.link) turn'.node)
-||||||| base
-        over = acts_over links apart W x w w' n m h key.server a b o node' acts' refl refl h.noted (ap (λ (d : Node). d.link) turn'.node)
-=======
-        over = acts_over links apart W x w w' n m h key.server a b o node' acts' refl refl h.noted h.away (ap (λ (d : Node). d.link) turn'.node)
->>>>>>> strangers
+        over = acts_over links apart W x w w' n m h key.server a b o node' acts' (record { now = refl; pace = refl; here = refl; there = refl }) refl h.noted h.away (ap (λ (d : Node). d.link) turn'.node)
             (subst (λ (d : Node). Fits links apart W x w n m key.server d) (sym turn'.node) made_fits)
             (λ j d ne f. others_fit (here_at n j) (there_at n j) w.notes n key u j d ne f)
             (pairwise_join (IsCopyOf links apart) n.posts (map (post_of key n.now) u.sends) w.copies acts'.sent h.posts copies)

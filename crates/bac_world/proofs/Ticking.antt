@@ -1,5 +1,5 @@
 -- A node's tick.
-use Rattle.std.proofs.Common.{◌≡◌, ℕ, ◌<◌, ◌⊎◌, List, ◌++◌, Option, Some, refl, sym, ap, subst, ◌∙◌, append_assoc}
+use Rattle.std.proofs.Common.{false, ◌≡◌, ℕ, ◌<◌, ◌⊎◌, List, ◌++◌, Option, Some, refl, sym, ap, subst, ◌∙◌, append_assoc}
 use Rattle.bac_protocol.specs.Context.{Settings, Context}
 use Rattle.bac_protocol.specs.Service.{Octets}
 use Rattle.bac_protocol.specs.Client.{ClientTransaction}
@@ -139,18 +139,10 @@ module _ (links : ℕ → Option Octets) (apart : (i j : ℕ) (l : Octets) → l
     log = refl;
     asks_from = refl;
     serves_from = refl;
-<<<<<<< clocks
     entries = λ c' l id at. ap (live_entry (there_at n i)) (look_all ServerTransaction g entries fits.servers.distinct (slot_key l id)) ∙ fits.servers.found c' l id at
         ∙ ap (λ (e : Key → Option ServerTransaction). live_entry (there_at n i) (e (key_of c' i id))) (sym r.1.entries);
-||||||| base
-    entries = λ c' l id at. ap (live_entry n.now) (look_all ServerTransaction g entries fits.servers.distinct (slot_key l id)) ∙ fits.servers.found c' l id at
-        ∙ ap (λ (e : Key → Option ServerTransaction). live_entry n.now (e (key_of c' i id))) (sym r.1.entries);
-=======
-    entries = λ c' l id at. ap (live_entry n.now) (look_all ServerTransaction g entries fits.servers.distinct (slot_key l id)) ∙ fits.servers.found c' l id at
-        ∙ ap (λ (e : Key → Option ServerTransaction). live_entry n.now (e (key_of c' i id))) (sym r.1.entries);
-    guests = λ p y. ap (live_entry n.now) (look_all ServerTransaction g entries fits.servers.distinct p) ∙ fits.servers.guests p y
-        ∙ ap (λ (e : Key → Option ServerTransaction). live_entry n.now (e (guest_key i p))) (sym r.1.far_entries);
->>>>>>> strangers
+    guests = λ p y. ap (live_entry (there_at n i)) (look_all ServerTransaction g entries fits.servers.distinct p) ∙ fits.servers.guests p y
+        ∙ ap (λ (e : Key → Option ServerTransaction). live_entry (there_at n i) (e (guest_key i p))) (sym r.1.far_entries);
     others = λ j d ne y. y;
     posts = r.1.posts;
     sound = r.1.sound;
@@ -175,9 +167,9 @@ module _ (links : ℕ → Option Octets) (apart : (i j : ℕ) (l : Octets) → l
       TicketFits (nat_lt (made (key_of i s' id)) (restarted i)) (here_at n i) w.notes i (numbers (key_of i s' id))
       (value_at same_key (slot_key l id) (changed Client f clients)) (tickets (key_of i s' id))
 
-  abbrev GuestFound : (from : ℕ → ℕ) → (Key → ℕ) → (Key → Option ClientTransaction) → PeerKey → Type 0
-  GuestFound from numbers tickets p =
-      TicketFits (from i) n.now w.notes i (numbers (out_key i p)) (value_at same_key p (changed Client f clients)) (tickets (out_key i p))
+  abbrev GuestFound : (Key → ℕ) → (Key → Option ClientTransaction) → PeerKey → Type 0
+  GuestFound numbers tickets p =
+      TicketFits false (here_at n i) w.notes i (numbers (out_key i p)) (value_at same_key p (changed Client f clients)) (tickets (out_key i p))
 
   made : Fits links apart W x w n s.0 i (record (step.before) {
     latest = told w i;
@@ -197,23 +189,12 @@ module _ (links : ℕ → Option Octets) (apart : (i j : ℕ) (l : Octets) → l
             subst (λ (z : ℕ). z < a.clients.asked) (sym (number_kept (record { settings = c; invoke_id = p.invoke_id; now = here_at n i })
                 v.number v.held)) y.1,
           )) clients fits.clients.known;
-<<<<<<< clocks
       found = λ s' l id at. subst (λ (y : Key → ℕ). TicketFound y s.0.restarted s.0.numbers s.0.tickets s' l id) (sym s.1.made)
           (subst (λ (y : ℕ → ℕ). TicketFound r.0.made y s.0.numbers s.0.tickets s' l id) (sym s.1.restarted)
           (subst (λ (y : Key → ℕ). TicketFound r.0.made r.0.restarted y s.0.tickets s' l id) (sym s.1.numbers)
           (subst (λ (y : Key → Option ClientTransaction). TicketFound r.0.made r.0.restarted r.0.numbers y s' l id) (sym s.1.tickets) (r.1.found s' l id at))));
-||||||| base
-      found = λ s' l id at. subst (λ (y : ℕ → ℕ). TicketFound y s.0.numbers s.0.tickets s' l id) (sym s.1.asks_from)
-          (subst (λ (y : Key → ℕ). TicketFound r.0.asks_from y s.0.tickets s' l id) (sym s.1.numbers)
-          (subst (λ (y : Key → Option ClientTransaction). TicketFound r.0.asks_from r.0.numbers y s' l id) (sym s.1.tickets) (r.1.found s' l id at)));
-=======
-      found = λ s' l id at. subst (λ (y : ℕ → ℕ). TicketFound y s.0.numbers s.0.tickets s' l id) (sym s.1.asks_from)
-          (subst (λ (y : Key → ℕ). TicketFound r.0.asks_from y s.0.tickets s' l id) (sym s.1.numbers)
-          (subst (λ (y : Key → Option ClientTransaction). TicketFound r.0.asks_from r.0.numbers y s' l id) (sym s.1.tickets) (r.1.found s' l id at)));
-      guests = λ p y. subst (λ (z : ℕ → ℕ). GuestFound z s.0.far.numbers s.0.far.tickets p) (sym s.1.asks_from)
-          (subst (λ (z : Key → ℕ). GuestFound r.0.asks_from z s.0.far.tickets p) (sym s.1.far_numbers)
-          (subst (λ (z : Key → Option ClientTransaction). GuestFound r.0.asks_from r.0.far.numbers z p) (sym s.1.far_tickets) (r.1.guests p y)));
->>>>>>> strangers
+      guests = λ p y. subst (λ (z : Key → ℕ). GuestFound z s.0.far.tickets p) (sym s.1.far_numbers)
+          (subst (λ (z : Key → Option ClientTransaction). GuestFound r.0.far.numbers z p) (sym s.1.far_tickets) (r.1.guests p y));
     };
     servers = record {
       distinct = distinct_changed ServerTransaction g entries fits.servers.distinct;
@@ -229,8 +210,7 @@ module _ (links : ℕ → Option Octets) (apart : (i j : ℕ) (l : Octets) → l
     record {
       bridge = acts_over links apart W x w w' n s.0 h i a b o step.at step.acts (s.1.alike) (s.1.asks ∙ r.1.asks)
           (λ key t is. r.1.noted key t (ap (λ y. y key) (sym s.1.tickets) ∙ is) ∙ ap Some (ap (λ y. y key) (sym s.1.numbers)))
-          (λ key t is. let old = r.1.away key t (ap (λ y. y key) (sym s.1.far_tickets) ∙ is) in
-          (ap (λ y. is_away (y key) w.notes) s.1.far_numbers ∙ old.0, old.1))
+          (λ key t is. ap (λ y. is_away (y key) w.notes) s.1.far_numbers ∙ r.1.away key t (ap (λ y. y key) (sym s.1.far_tickets) ∙ is))
           (ap (λ (d : Node). d.link) node_is)
           (subst (λ (d : Node). Fits links apart W x w n s.0 i d) (sym node_is) made)
           (λ j d ne y. s.1.others j d ne (r.1.others j d ne y))

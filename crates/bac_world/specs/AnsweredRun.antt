@@ -7,19 +7,9 @@ use Rattle.bac_transaction.specs.Meanings.Ending.{Answered}
 use Rattle.bac_protocol.specs.Pace.{one_clock, clock_at}
 use Rattle.bac_world.specs.Node.{Node}
 use Rattle.bac_world.specs.Once.{Fact}
-<<<<<<< clocks
-use Rattle.bac_world.specs.Once.Fact.{Performed, Ended}
-use Rattle.bac_world.specs.World.{World, Time, Event, WorldRun, IsFresh, IsBounded}
-use Rattle.bac_world.specs.World.Event.{Ask, Deliver}
-||||||| base
-use Rattle.bac_world.specs.Once.Fact.{Performed, Ended}
-use Rattle.bac_world.specs.World.{World, Event, WorldRun, IsFresh, IsBounded}
-use Rattle.bac_world.specs.World.Event.{Ask, Deliver}
-=======
 use Rattle.bac_world.specs.Once.Fact.{Performed, Ended, Served}
-use Rattle.bac_world.specs.World.{World, Event, WorldRun, IsFresh, IsBounded, peer_at}
+use Rattle.bac_world.specs.World.{World, Time, Event, WorldRun, IsFresh, IsBounded, peer_at}
 use Rattle.bac_world.specs.World.Event.{Ask, Deliver, Noise}
->>>>>>> strangers
 use Rattle.bac_world.specs.Examples.{REQUEST, REPLY, STORE, ASKED}
 
 abbrev pub LIMITS : Limits

@@ -198,13 +198,7 @@ pub record Acts (old : World) (i : ℕ) (node : Node) (o : Outcome) (new : World
   pub notes : new.notes ≡ old.notes
   pub sent : List Copy
   pub copies : new.copies ≡ old.copies ++ sent
-<<<<<<< clocks
-  pub copied : Pairwise (IsCopied old.nodes old.time.now i) o.sends sent
-||||||| base
-  pub copied : Pairwise (IsCopied old.nodes old.now i) o.sends sent
-=======
-  pub copied : AreCopied old.nodes old.now i o.sends sent
->>>>>>> strangers
+  pub copied : AreCopied old.nodes old.time.now i o.sends sent
   pub between : List Fact
   pub ended : AreEnded old.notes i o.ended old.log between
   pub logged : AreLogged old.nodes old.notes i node o.performed between new.log
@@ -267,9 +261,9 @@ pub record IsAskedAway (old : World) (client : ℕ) (peer : PeerView) (limits : 
   pub after : Node
   pub accepted : Accepted
   pub sends : List Datagram
-  pub asks : NodeAsks old.now peer limits r before after accepted sends
+  pub asks : NodeAsks (told old client) peer limits r before after accepted sends
   pub nodes : IsWithNode old.nodes client after new.nodes
-  pub now : new.now ≡ old.now
+  pub time : new.time ≡ old.time
   pub copies : new.copies ≡ old.copies
   pub notes : new.notes
       ≡ record { key = record { client = client; server = 0; invoke_id = accepted.invoke_id }; ticket = accepted.ticket; away = Some peer } ∷ old.notes
@@ -279,7 +273,7 @@ pub record IsAskedAway (old : World) (client : ℕ) (peer : PeerView) (limits : 
 pub record IsRefusedAway (old : World) (client : ℕ) (peer : PeerView) (limits : Limits) (r : Request) (new : World) : Type 0 where
   pub node : Node
   pub at : slice_get old.nodes client ≡ Some node
-  pub why : ((refusal : Refusal) × NodeRefuses old.now peer limits r node refusal) ⊎ (IsOfNone old.nodes peer.link → ⊥)
+  pub why : ((refusal : Refusal) × NodeRefuses (told old client) peer limits r node refusal) ⊎ (IsOfNone old.nodes peer.link → ⊥)
   pub same : new ≡ old
 
 -- a copy is delivered to its node, where it is deliverable; otherwise it is lost
@@ -295,33 +289,22 @@ DeliversIf false old c new = new ≡ old
 pub record IsDelivered (overtake : ℕ) (old : World) (number : ℕ) (new : World) : Type 0 where
   pub copy : Copy
   pub there : slice_get old.copies number ≡ Some copy
-<<<<<<< clocks
   pub goes : DeliversIf (is_deliverable overtake old.time.pace.life old.time.now number old.copies copy) old copy new
-||||||| base
-  pub goes : DeliversIf (is_deliverable overtake old.now number old.copies copy) old copy new
 
--- noise: octets that mean no APDU of a peer, from a link of no node
-pub record IsNoise (nodes : List Node) (from octets : Octets) : Type 0 where
-  pub foreign : (j : ℕ) → link_at nodes j ≢ Some from
-  pub meaningless : (peer : PeerView) (a : Apdu) → Means SpellsApdu from octets peer a → ⊥
-=======
-  pub goes : DeliversIf (is_deliverable overtake old.now number old.copies copy) old copy new
+-- octets from outside: those of a stranger, from a link of no node, whatever they are; and noise, which means no APDU of a peer, from any link
+abbrev pub IsOutside : List Node → (from octets : Octets) → Type 0
+IsOutside nodes from octets = IsOfNone nodes from ⊎ IsMeaningless from octets
 
--- a stranger's datagram: any octets, from a link of no node
-pub record IsNoise (nodes : List Node) (from octets : Octets) : Type 0 where
-  pub foreign : (j : ℕ) → link_at nodes j ≢ Some from
->>>>>>> strangers
-
--- noise, octets that mean no APDU of a peer, is heard, whatever link it comes from
+-- they are heard
 pub record HearsNoise (old : World) (i : ℕ) (from octets : Octets) (new : World) : Type 0 where
-  pub noise : IsMeaningless from octets
+  pub outside : IsOutside old.nodes from octets
   pub hears : Hears old i from octets new
 
--- other octets are lost: only nodes send what means something
+-- other octets are lost: from a node's link only that node sends what means something
 pub record LosesOctets (old : World) (i : ℕ) (from octets : Octets) (new : World) : Type 0 where
   pub node : Node
   pub at : slice_get old.nodes i ≡ Some node
-  pub no_noise : IsMeaningless from octets → ⊥
+  pub not_outside : IsOutside old.nodes from octets → ⊥
   pub same : new ≡ old
 
 pub record Ticks (old : World) (i : ℕ) (new : World) : Type 0 where
@@ -380,12 +363,19 @@ MakeNoRestart [] = Unit {0}
 MakeNoRestart (Restart i exact store ∷ es) = ⊥
 MakeNoRestart (e ∷ es) = MakeNoRestart es
 
--- these events are asks, deliveries, noise, ticks and steps of the clock: no node changes its own store, and none restarts
+-- these events are asks, deliveries, noise, ticks and steps of the clock: no node changes its own store, and none restarts; strangers may do what they like
 abbrev pub MakeRequestsAlone : List Event → Type 0
 MakeRequestsAlone [] = Unit {0}
 MakeRequestsAlone (Change i change ∷ es) = ⊥
 MakeRequestsAlone (Restart i exact store ∷ es) = ⊥
 MakeRequestsAlone (e ∷ es) = MakeRequestsAlone es
+
+-- in these events there are no strangers: none is asked, and all octets from outside are without meaning
+abbrev pub MakeNoStray : List Event → Type 0
+MakeNoStray [] = Unit {0}
+MakeNoStray (AskAway client peer limits r ∷ es) = ⊥
+MakeNoStray (Noise node from octets ∷ es) = IsMeaningless from octets × MakeNoStray es
+MakeNoStray (e ∷ es) = MakeNoStray es
 
 -- no node waits, nor ever did
 abbrev pub NeverRestarted : List Node → Type 0
