@@ -335,21 +335,21 @@ no_node (suc (suc j)) e = absurd cc
 not_own : link 2 ≢ link 1
 not_own e = cc
 
-abbrev GUEST_NODE : Node
-GUEST_NODE = record (node 1) { servers = (server_goes 0 (record { slots = []; capacity = 1; serves_from = 0 }) (key 2) (done_by REPLIES)).end }
+abbrev STRANGER_NODE : Node
+STRANGER_NODE = record (node 1) { servers = (server_goes 0 (record { slots = []; capacity = 1; serves_from = 0 }) (key 2) (done_by REPLIES)).end }
 
-abbrev GUEST_ENTRY : ServerTransaction
-GUEST_ENTRY = record (begins CONTEXT 12 LIMITS (Some SERVICE_DATA)) { state = server.State.Done ANSWER }
+abbrev STRANGER_ENTRY : ServerTransaction
+STRANGER_ENTRY = record (begins CONTEXT 12 LIMITS (Some SERVICE_DATA)) { state = server.State.Done ANSWER }
 
-abbrev GUEST_SERVED : Outcome
-GUEST_SERVED = record
+abbrev STRANGER_SERVED : Outcome
+STRANGER_SERVED = record
     { sends = datagram (link 2) ANSWER ∷ []; performed = Some (record { key = key 2; request = REQUEST; reply = REPLY }); ended = []; dropped = None }
 
-abbrev GuestTurn : machine.Outcome → Type 0
-GuestTurn o = IsServerTurn (server_goes 0 (record { slots = []; capacity = 1; serves_from = 0 }) (key 2) (done_by o)) 0 (node 1) GUEST_NODE GUEST_SERVED
+abbrev StrangerTurn : machine.Outcome → Type 0
+StrangerTurn o = IsServerTurn (server_goes 0 (record { slots = []; capacity = 1; serves_from = 0 }) (key 2) (done_by o)) 0 (node 1) STRANGER_NODE STRANGER_SERVED
 
-guest_turn : GuestTurn REPLIES
-guest_turn = record {
+stranger_turn : StrangerTurn REPLIES
+stranger_turn = record {
   node = refl;
   sends = (sent (link 2) ANSWER answer_fits answer_short, tt);
   ended = refl;
@@ -357,40 +357,40 @@ guest_turn = record {
   dropped = refl;
 }
 
-abbrev GUEST_WORLD : World
-GUEST_WORLD = record { nodes = node 0 ∷ GUEST_NODE ∷ []; now = 0; copies = []; log = Fact.Served (peer_at (link 2)) 1 0 0 REQUEST REPLY ∷ []; notes = [] }
+abbrev STRANGER_WORLD : World
+STRANGER_WORLD = record { nodes = node 0 ∷ STRANGER_NODE ∷ []; time = TIME; copies = []; log = Fact.Served (peer_at (link 2)) 1 0 0 REQUEST REPLY ∷ []; notes = [] }
 
-guest_served : Hears OPENING 1 (link 2) (datagram (link 1) ASK).octets GUEST_WORLD
-guest_served = record {
+stranger_served : Hears OPENING 1 (link 2) (datagram (link 1) ASK).octets STRANGER_WORLD
+stranger_served = record {
   before = node 1;
   at = refl;
-  after = GUEST_NODE;
-  outcome = GUEST_SERVED;
+  after = STRANGER_NODE;
+  outcome = STRANGER_SERVED;
   on = inr (record {
     peer = peer_at (link 2);
     apdu = ASK;
     foreign = not_own;
     means = means (link 2) (link 1) ASK ask_fits ask_short;
-    heard = subst GuestTurn (sym says) guest_turn;
+    heard = subst StrangerTurn (sym says) stranger_turn;
   });
   acts = record {
-    nodes = record { here = refl; others = others_second GUEST_NODE (node 1) (node 0) };
-    now = refl;
+    nodes = record { here = refl; others = others_second STRANGER_NODE (node 1) (node 0) };
+    time = refl;
     notes = refl;
     sent = [];
     copies = refl;
     copied = inr (no_node, refl);
     between = [];
     ended = refl;
-    logged = inr (record { stranger = no_node; entry = GUEST_ENTRY; kept = refl; log = refl });
+    logged = inr (record { stranger = no_node; entry = STRANGER_ENTRY; kept = refl; log = refl });
   };
 }
 
 pub stranger_run : StrangerRun
 stranger_run = record {
   octets = (datagram (link 1) ASK).octets;
-  last = GUEST_WORLD;
-  run = (GUEST_WORLD, inl (record { noise = record { foreign = no_node }; hears = guest_served }), refl);
+  last = STRANGER_WORLD;
+  run = (STRANGER_WORLD, inl (record { outside = inl no_node; hears = stranger_served }), refl);
   log = refl;
   copies = refl;
 }

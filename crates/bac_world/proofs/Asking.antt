@@ -1,6 +1,6 @@
 -- An accepted ask.
-use Rattle.std.proofs.Common.{not, ◌≡◌, ℕ, zero, suc, ◌+◌, ◌<◌, ◌⊎◌, Bool, true, false, ◌&&◌, ◌||◌, List, [], ◌∷◌, ◌++◌, map, length, Option, Some, None}
-use Rattle.std.proofs.Common.{slice_get, if◌then◌else◌, nat_eq, nat_le, nat_lt, refl, sym, ap, subst, inl, inr, ◌∙◌, arith}
+use Rattle.std.proofs.Common.{not, ◌≡◌, ℕ, ◌+◌, ◌<◌, ◌⊎◌, Bool, true, false, ◌&&◌, ◌||◌, List, [], ◌∷◌, ◌++◌, map, length, Option, Some, None}
+use Rattle.std.proofs.Common.{slice_get, if◌then◌else◌, nat_eq, nat_lt, refl, sym, ap, subst, inl, inr, ◌∙◌, arith}
 use Rattle.std.proofs.lemmas.Bool.Decides.{nat_tests}
 use Rattle.bac_apdu.specs.Apdu.{Apdu, Limits}
 use Rattle.bac_service.specs.Values.{Request, choice_of}
@@ -11,7 +11,6 @@ use Rattle.bac_protocol.specs.Context.{Settings, Context}
 use Rattle.bac_protocol.specs.Sizes.{Way, RequestFault, request_way_of}
 use Rattle.bac_protocol.specs.Sizes.Way.{InOne, InSegments}
 use Rattle.bac_protocol.specs.Service.{Octets}
-use Rattle.bac_protocol.specs.declared.times.TheConstants.{REST}
 use Rattle.bac_protocol.specs.Client as machine
 use Rattle.bac_protocol.specs.Client.{Ask, ClientTransaction, asked_ticket, asks, sends_of}
 use Rattle.bac_protocol.specs.Transaction.{Key, Rules, client_context}
@@ -42,7 +41,7 @@ use Rattle.bac_protocol.specs.Pace.{Clock}
 use Rattle.bac_world.proofs.Machines.{Sound, counted, asked, away_below}
 use Rattle.bac_world.proofs.Pairs.{pairwise_join, append_none}
 use Rattle.bac_world.proofs.Logs.{FactMeans, asks_counted}
-use Rattle.bac_world.proofs.Bridge.{NodeFits, ClientsFit, IsKnown, IsCopyOf, IsGone, TicketFits, key_of, slot_key, copies_of, IsGuest, AwayNoted, out_key, away_more}
+use Rattle.bac_world.proofs.Bridge.{NodeFits, ClientsFit, IsKnown, IsCopyOf, IsGone, TicketFits, key_of, slot_key, copies_of, IsStranger, AwayNoted, out_key, away_more}
 use Rattle.bac_world.proofs.Steps.{Over, Fits, Goes, linked_with, stores_same, decide_number}
 
 -- What an accepted ask is.
@@ -210,7 +209,7 @@ module _ (links : ℕ → Option Octets) (apart : (i j : ℕ) (l : Octets) → l
 
     earlier : (q : PeerKey) (z : Client) → value_at same_key q e.slots ≡ Some z → (nat_eq key.client key.client && nat_eq e.asked z.number) ≡ false
     earlier q z is =
-        let lt = (each_at Client (λ y v. (IsKnown links apart y ⊎ IsGuest links apart y) × (v.number < e.asked)) q z e.slots h.known is).1 in
+        let lt = (each_at Client (λ y v. (IsKnown links apart y ⊎ IsStranger links apart y) × (v.number < e.asked)) q z e.slots h.known is).1 in
         and_false (nat_eq key.client key.client) (nat_eq e.asked z.number) (differ e.asked z.number (λ same. omega arith))
 
     own : ask_of key.client e.asked (note ∷ notes) ≡ Some (m.numbers key)
@@ -255,29 +254,29 @@ module _ (links : ℕ → Option Octets) (apart : (i j : ℕ) (l : Octets) → l
         (subst (λ (o : Option ClientTransaction). TicketFits (is_lost n k) (here_at n key.client) (note ∷ notes) key.client (n.numbers k) (keep (holds (here_at n key.client)) (value_at same_key q e.slots)) o)
         (sym (set_other n.tickets key (Some made) k ne)) after)))
 
-    guests : (q : PeerKey) → IsGuest links apart q
+    strangers : (q : PeerKey) → IsStranger links apart q
         → TicketFits false (here_at n key.client) (note ∷ notes) key.client (n.far.numbers (out_key key.client q)) (value_at same_key q ended.slots)
         (n.far.tickets (out_key key.client q))
-    guests q g =
+    strangers q g =
         let other : p ≡ q → ⊥ = λ is. g.none key.server (at ∙ ap (λ (y : PeerKey). Some y.peer.link) is) in
         let k : Key = out_key key.client q in
         let look : value_at same_key q ended.slots ≡ keep (holds (here_at n key.client)) (value_at same_key q e.slots) =
         put_other Client p q (here_at n key.client) client (passing Client (holds (here_at n key.client)) e.slots) other ∙ passing_value Client (holds (here_at n key.client)) q e.slots h.distinct in
         let before : TicketFits false (here_at n key.client) (note ∷ notes) key.client (n.far.numbers k) (value_at same_key q e.slots) (n.far.tickets k) =
-        fits_noted false (here_at n key.client) notes note key.client (n.far.numbers k) (value_at same_key q e.slots) (n.far.tickets k) (earlier q) (h.guests q g) in
+        fits_noted false (here_at n key.client) notes note key.client (n.far.numbers k) (value_at same_key q e.slots) (n.far.tickets k) (earlier q) (h.strangers q g) in
         subst (λ (o : Option Client). TicketFits false (here_at n key.client) (note ∷ notes) key.client (n.far.numbers k) o (n.far.tickets k)) (sym look)
         (fits_kept false (here_at n key.client) (note ∷ notes) key.client (n.far.numbers k) (value_at same_key q e.slots) (n.far.tickets k) before)
 
     pub ask_fits : ClientsFit links apart (here_at n key.client) (note ∷ notes) (asked_at x n key ask) key.client ended
     ask_fits = record {
       distinct = put_distinct Client p (here_at n key.client) client (passing Client (holds (here_at n key.client)) e.slots) (passing_distinct Client (holds (here_at n key.client)) e.slots h.distinct) gone;
-      known = each_put Client (λ y v. (IsKnown links apart y ⊎ IsGuest links apart y) × (v.number < e.asked + 1)) p (here_at n key.client) client (passing Client (holds (here_at n key.client)) e.slots)
+      known = each_put Client (λ y v. (IsKnown links apart y ⊎ IsStranger links apart y) × (v.number < e.asked + 1)) p (here_at n key.client) client (passing Client (holds (here_at n key.client)) e.slots)
           (inl (record { node = key.server; link = l; at = at; peer = refl }), omega arith)
-          (each_passing Client (λ y v. (IsKnown links apart y ⊎ IsGuest links apart y) × (v.number < e.asked + 1)) (holds (here_at n key.client)) e.slots
-          (each_so Client (λ y v. (IsKnown links apart y ⊎ IsGuest links apart y) × (v.number < e.asked)) (λ y v. (IsKnown links apart y ⊎ IsGuest links apart y) × (v.number < e.asked + 1))
+          (each_passing Client (λ y v. (IsKnown links apart y ⊎ IsStranger links apart y) × (v.number < e.asked + 1)) (holds (here_at n key.client)) e.slots
+          (each_so Client (λ y v. (IsKnown links apart y ⊎ IsStranger links apart y) × (v.number < e.asked)) (λ y v. (IsKnown links apart y ⊎ IsStranger links apart y) × (v.number < e.asked + 1))
           (λ y v k. (k.0, let lt = k.1 in omega arith)) e.slots h.known));
       found = λ s l' id at'. found s l' id at' (decide_key key (key_of key.client s id));
-      guests = guests;
+      strangers = strangers;
     }
 
     pub others_noted : (j : ℕ) (a : Node) → (j ≡ key.client → ⊥) → NodeFits links apart x (here_at n j) (there_at n j) notes n j a
@@ -303,10 +302,10 @@ module _ (links : ℕ → Option Octets) (apart : (i j : ℕ) (l : Octets) → l
             (sym (set_other n.numbers key n.asks k away))
             (subst (λ (o : Option ClientTransaction). TicketFits (is_lost n k) (here_at n j) (note ∷ notes) j (n.numbers k) (value_at same_key q a.clients.slots) o)
             (sym (set_other n.tickets key (Some made) k away)) before));
-        guests = λ q g. fits_noted false (here_at n j) notes note j (n.far.numbers (out_key j q)) (value_at same_key q a.clients.slots) (n.far.tickets (out_key j q))
-            (λ z is. ap (λ b. b && nat_eq e.asked z.number) (differ key.client j (λ same. ne (sym same)))) (f.clients.guests q g);
+        strangers = λ q g. fits_noted false (here_at n j) notes note j (n.far.numbers (out_key j q)) (value_at same_key q a.clients.slots) (n.far.tickets (out_key j q))
+            (λ z is. ap (λ b. b && nat_eq e.asked z.number) (differ key.client j (λ same. ne (sym same)))) (f.clients.strangers q g);
       };
-      servers = record { distinct = f.servers.distinct; known = f.servers.known; found = f.servers.found; guests = f.servers.guests };
+      servers = record { distinct = f.servers.distinct; known = f.servers.known; found = f.servers.found; strangers = f.servers.strangers };
     }
 
   -- What it makes of the world.
@@ -358,7 +357,7 @@ module _ (links : ℕ → Option Octets) (apart : (i j : ℕ) (l : Octets) → l
       asks = fits.asks;
       serves = fits.serves;
       clients = ask_fits n w.notes h.asks key step.link server_at ask a.clients fits.clients parts.free;
-      servers = record { distinct = fits.servers.distinct; known = fits.servers.known; found = fits.servers.found; guests = fits.servers.guests };
+      servers = record { distinct = fits.servers.distinct; known = fits.servers.known; found = fits.servers.found; strangers = fits.servers.strangers };
     }
 
     nodes : (j : ℕ) (b : Node) → slice_get w'.nodes j ≡ Some b → ((j ≡ i) ⊎ (j ≡ i → ⊥)) → NodeFits links apart x (here_at n j) (there_at n j) (note' ∷ w.notes) after j b

@@ -28,8 +28,7 @@ use Rattle.bac_world.specs.Node.{Node}
 use Rattle.bac_world.specs.World.{World, Copy, Note, link_at, newest, ask_of, peer_at, transaction_of, IsCopied, count_of, later}
 use Rattle.bac_transaction.proofs.KeyedSlots.{EachSlot}
 use Rattle.bac_world.proofs.Numbers.{number}
-use Rattle.bac_world.specs.World.{IsOfNone, AreCopied}
-use Rattle.bac_transaction.specs.Sends.{Send}
+use Rattle.bac_world.specs.World.{AreCopied}
 use Rattle.bac_world.proofs.Machines.{Sound}
 use Rattle.bac_world.proofs.Logs.{FactMeans}
 
@@ -74,8 +73,8 @@ abbrev pub EntryFits : (now : ℕ) → (a b : Option ServerTransaction) → Type
 EntryFits now a b = live_entry now a ≡ live_entry now b
 
 -- the key of a stranger's transaction at that node
-abbrev pub guest_key : (node : ℕ) → PeerKey → Key
-guest_key i p = key_of (number p.peer) i p.invoke_id
+abbrev pub stranger_key : (node : ℕ) → PeerKey → Key
+stranger_key i p = key_of (number p.peer) i p.invoke_id
 
 -- and of a node's ask of one
 abbrev pub out_key : (node : ℕ) → PeerKey → Key
@@ -131,22 +130,22 @@ module _ (links : ℕ → Option Octets) (apart : (i j : ℕ) (l : Octets) → l
     pub peer : p.peer ≡ peer_at link
 
   -- or of a stranger
-  pub record IsGuest (p : PeerKey) : Type 0 where
+  pub record IsStranger (p : PeerKey) : Type 0 where
     pub none : (k : ℕ) → links k ≡ Some p.peer.link → ⊥
 
   pub record ClientsFit (now : ℕ) (notes : List Note) (n : Net) (i : ℕ) (e : ClientEnd) : Type 0 where
     pub distinct : IsDistinct same_key e.slots
-    pub known : EachSlot Client (λ p s. (IsKnown p ⊎ IsGuest p) × (s.number < e.asked)) e.slots
+    pub known : EachSlot Client (λ p s. (IsKnown p ⊎ IsStranger p) × (s.number < e.asked)) e.slots
     pub found : (s : ℕ) (l : Octets) (id : ℕ) → links s ≡ Some l
         → TicketFits (is_lost n (key_of i s id)) now notes i (n.numbers (key_of i s id)) (value_at same_key (slot_key l id) e.slots) (n.tickets (key_of i s id))
-    pub guests : (p : PeerKey) → IsGuest p → TicketFits false now notes i (n.far.numbers (out_key i p)) (value_at same_key p e.slots) (n.far.tickets (out_key i p))
+    pub strangers : (p : PeerKey) → IsStranger p → TicketFits false now notes i (n.far.numbers (out_key i p)) (value_at same_key p e.slots) (n.far.tickets (out_key i p))
 
   pub record ServersFit (now : ℕ) (n : Net) (i : ℕ) (e : ServerEnd) : Type 0 where
     pub distinct : IsDistinct same_key e.slots
-    pub known : EachSlot ServerTransaction (λ p d. IsKnown p ⊎ IsGuest p) e.slots
+    pub known : EachSlot ServerTransaction (λ p d. IsKnown p ⊎ IsStranger p) e.slots
     pub found : (c : ℕ) (l : Octets) (id : ℕ) → links c ≡ Some l
         → EntryFits now (value_at same_key (slot_key l id) e.slots) (n.entries (key_of c i id))
-    pub guests : (p : PeerKey) → IsGuest p → EntryFits now (value_at same_key p e.slots) (n.far.entries (guest_key i p))
+    pub strangers : (p : PeerKey) → IsStranger p → EntryFits now (value_at same_key p e.slots) (n.far.entries (stranger_key i p))
 
   pub record NodeFits (x : Rules) (here there : ℕ) (notes : List Note) (n : Net) (i : ℕ) (a : Node) : Type 0 where
     pub settings : a.settings ≡ x.settings i
@@ -269,7 +268,7 @@ module _ (links : ℕ → Option Octets) (apart : (i j : ℕ) (l : Octets) → l
     copied_to j peer at (a ∷ sends) (d ∷ ds) cs s (inr k) = absurd (k.0 j (linked j ∙ at ∙ ap Some (sym s.0.link)))
 
     -- nothing that goes to a stranger
-    pub copied_none : (p : PeerKey) → IsGuest p → (sends : List Apdu) (ds : List Datagram) (cs : List Copy)
+    pub copied_none : (p : PeerKey) → IsStranger p → (sends : List Apdu) (ds : List Datagram) (cs : List Copy)
         → Pairwise IsSent (to_all p.peer sends) ds → AreCopied nodes now i ds cs → cs ≡ []
     copied_none p g [] [] cs s k = k
     copied_none p g [] (d ∷ ds) cs s k = absurd s

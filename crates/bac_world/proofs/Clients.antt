@@ -28,7 +28,7 @@ use Rattle.bac_transaction.specs.Ends.{Client, ClientEnd, ClientTurn, Transactio
 use Rattle.bac_transaction.specs.Ends.TransactionSlot.{Open, Closed}
 use Rattle.bac_world.specs.Node.{Node, Outcome, IsClientTurn}
 use Rattle.bac_world.specs.Once.{Fact, IsOnce}
-use Rattle.bac_world.specs.World.{World, Copy, stores_of, Acts, AreLogged, AreEnded, IsCopied, AreCopied, peer_at}
+use Rattle.bac_world.specs.World.{World, Copy, stores_of, Acts, AreLogged, AreEnded, AreCopied, peer_at}
 use Rattle.bac_transaction.proofs.KeyedSlots.{EachSlot, with_same, with_other, with_distinct, each_with, each_at}
 use Rattle.bac_protocol.specs.World.{client_now, server_now, is_lost, is_key_held}
 use Rattle.bac_world.specs.World.{told}
@@ -38,7 +38,7 @@ use Rattle.bac_world.proofs.Leads.Leads.{Here, Hears}
 use Rattle.bac_world.proofs.Machines.{gets_at_client, may_arrive}
 use Rattle.bac_world.proofs.Pairs.{pairwise_none, append_none}
 use Rattle.bac_world.proofs.Logs.{FactMeans}
-use Rattle.bac_world.proofs.Bridge.{IsKnown, IsGuest, IsCopyOf, TicketFits, key_of, slot_key, guest_key, copied_to}
+use Rattle.bac_world.proofs.Bridge.{IsKnown, IsStranger, IsCopyOf, TicketFits, key_of, slot_key, stranger_key, copied_to}
 use Rattle.bac_world.proofs.Steps.{Over, Fits, Goes, acts_over, once_same, stores_same}
 use Rattle.bac_world.proofs.Hearing.{Reached, reached_none, reacts, ticket_at, closed_idle}
 
@@ -55,7 +55,7 @@ module _ (links : ℕ → Option Octets) (apart : (i j : ℕ) (l : Octets) → l
   pub arrived : (w w' : World) (n : Net) → Over links apart W x w n → (i : ℕ) (a b : Node) (o : Outcome) → slice_get w.nodes i ≡ Some a
       → (acts : Acts w i b o w') → o.performed ≡ None
       → (e : ClientEnd) → b ≡ record a { latest = told w i; clients = e } → e.asks_from ≡ a.clients.asks_from
-      → IsDistinct same_key e.slots → EachSlot Client (λ p s. (IsKnown links apart p ⊎ IsGuest links apart p) × (s.number < e.asked)) e.slots
+      → IsDistinct same_key e.slots → EachSlot Client (λ p s. (IsKnown links apart p ⊎ IsStranger links apart p) × (s.number < e.asked)) e.slots
       → (m : Net) → Reached links apart W x w i n (λ p. value_at same_key p e.slots) (w.copies ++ acts.sent) acts.between m
       → Goes links apart W x w w' m
   arrived w w' n h i a b o at acts quiet e b_is from distinct known m r = record {
@@ -76,12 +76,12 @@ module _ (links : ℕ → Option Octets) (apart : (i j : ℕ) (l : Octets) → l
         link = fits.link;
         asks = from ∙ fits.asks ∙ sym (ap (λ (f : ℕ → ℕ). f i) r.asks_from);
         serves = fits.serves ∙ sym (ap (λ (f : ℕ → ℕ). f i) r.serves_from);
-        clients = record { distinct = distinct; known = known; found = r.found; guests = r.guests };
+        clients = record { distinct = distinct; known = known; found = r.found; strangers = r.strangers };
         servers = record {
           distinct = fits.servers.distinct;
           known = fits.servers.known;
           found = λ c l id at'. fits.servers.found c l id at' ∙ ap (λ f. live_entry (there_at n i) (f (key_of c i id))) (sym r.entries);
-          guests = λ p g. fits.servers.guests p g ∙ ap (λ (f : Key → Option ServerTransaction). live_entry (there_at n i) (f (guest_key i p))) (sym r.far_entries);
+          strangers = λ p g. fits.servers.strangers p g ∙ ap (λ (f : Key → Option ServerTransaction). live_entry (there_at n i) (f (stranger_key i p))) (sym r.far_entries);
         };
       }
 
@@ -199,7 +199,7 @@ module _ (links : ℕ → Option Octets) (apart : (i j : ℕ) (l : Octets) → l
           o.ended acts'.between turn.ended acts'.ended))
         where
           Known : PeerKey → Client → Type 0
-          Known y z = (IsKnown links apart y ⊎ IsGuest links apart y) × (z.number < a.clients.asked)
+          Known y z = (IsKnown links apart y ⊎ IsStranger links apart y) × (z.number < a.clients.asked)
 
           open_is : n.tickets key ≡ Some t
           open_is = (ticket_at (is_lost n key) (here_at n key.client) w.notes key.client (n.numbers key) k t (n.tickets key)

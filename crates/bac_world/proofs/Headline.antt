@@ -39,17 +39,17 @@ use Rattle.std.proofs.Common.{not}
 use Rattle.bac_world.proofs.Machines.{passed, changes, starts, client_later, server_later, served_apart_of}
 use Rattle.bac_world.proofs.Pairs.{IsPaired, pairwise_get}
 use Rattle.bac_world.proofs.Logs.{FactMeans}
-use Rattle.bac_world.proofs.Bridge.{IsKnown, IsGuest, NodeFits, IsCopyOf, IsBetween, IsGone, TicketFits, EntryFits, AwayNoted, key_of, slot_key, guest_key, out_key}
+use Rattle.bac_world.proofs.Bridge.{IsKnown, IsStranger, NodeFits, IsCopyOf, IsBetween, IsGone, TicketFits, EntryFits, AwayNoted, key_of, slot_key, stranger_key, out_key}
 use Rattle.bac_world.proofs.Bridge.{framed_means, later_alike}
-use Rattle.bac_world.proofs.Steps.{Over, Next, decide_number, each_with, linked_with}
+use Rattle.bac_world.proofs.Steps.{Over, Next, each_with, linked_with}
 use Rattle.bac_world.proofs.Serving.{serves}
-use Rattle.bac_world.proofs.Guests.{hears_stranger}
+use Rattle.bac_world.proofs.StrangersHeard.{hears_stranger}
 use Rattle.bac_world.proofs.Clients.{hears, quiet}
 use Rattle.bac_world.proofs.Asking.{asks_over}
 use Rattle.bac_world.specs.Claims.{AreServedApart}
-use Rattle.bac_world.proofs.Spaced.{spaced, served_as}
+use Rattle.bac_world.proofs.StrangersApart.{spaced, served_as}
 use Rattle.bac_world.proofs.Numbers.{number}
-use Rattle.bac_world.proofs.AskingAway.{asks_away_over}
+use Rattle.bac_world.proofs.StrangersAsked.{asks_away_over}
 use Rattle.bac_world.proofs.Ticking.{tick_over}
 use Rattle.bac_world.proofs.Restarting.{restarted_next}
 
@@ -170,9 +170,9 @@ module _ (links : ℕ → Option Octets) (apart : (i j : ℕ) (l : Octets) → l
         found = λ s l id at'. ticket_later (is_lost n (key_of i s id)) (here_at n i) (goes_on n.pace by (own i) (n.client_clocks i)).shows
             (client_later W x bound n h.sound (key_of i s id) by (own i)) w.notes i (n.numbers (key_of i s id))
             (value_at same_key (slot_key l id) a.clients.slots) (n.tickets (key_of i s id)) (f.clients.found s l id at');
-        guests = λ p g. ticket_later false (here_at n i) (goes_on n.pace by (own i) (n.client_clocks i)).shows
+        strangers = λ p g. ticket_later false (here_at n i) (goes_on n.pace by (own i) (n.client_clocks i)).shows
             (client_later W x bound n h.sound (out_key i p) by (own i)) w.notes i (n.far.numbers (out_key i p))
-            (value_at same_key p a.clients.slots) (n.far.tickets (out_key i p)) (f.clients.guests p g);
+            (value_at same_key p a.clients.slots) (n.far.tickets (out_key i p)) (f.clients.strangers p g);
       };
       servers = record {
         distinct = f.servers.distinct;
@@ -180,9 +180,9 @@ module _ (links : ℕ → Option Octets) (apart : (i j : ℕ) (l : Octets) → l
         found = λ c l id at'. entry_later (there_at n i) (goes_on n.pace by (own i) (n.server_clocks i)).shows
             (server_later W x bound n h.sound (key_of c i id) by (own i)) (value_at same_key (slot_key l id) a.servers.slots) (n.entries (key_of c i id))
             (f.servers.found c l id at');
-        guests = λ p g. entry_later (there_at n i) (goes_on n.pace by (own i) (n.server_clocks i)).shows
-            (server_later W x bound n h.sound (guest_key i p) by (own i)) (value_at same_key p a.servers.slots) (n.far.entries (guest_key i p))
-            (f.servers.guests p g);
+        strangers = λ p g. entry_later (there_at n i) (goes_on n.pace by (own i) (n.server_clocks i)).shows
+            (server_later W x bound n h.sound (stranger_key i p) by (own i)) (value_at same_key p a.servers.slots) (n.far.entries (stranger_key i p))
+            (f.servers.strangers p g);
       };
     };
     noted = h.noted;
@@ -205,8 +205,8 @@ module _ (links : ℕ → Option Octets) (apart : (i j : ℕ) (l : Octets) → l
     link = f.link;
     asks = f.asks;
     serves = f.serves;
-    clients = record { distinct = f.clients.distinct; known = f.clients.known; found = f.clients.found; guests = f.clients.guests };
-    servers = record { distinct = f.servers.distinct; known = f.servers.known; found = f.servers.found; guests = f.servers.guests };
+    clients = record { distinct = f.clients.distinct; known = f.clients.known; found = f.clients.found; strangers = f.clients.strangers };
+    servers = record { distinct = f.servers.distinct; known = f.servers.known; found = f.servers.found; strangers = f.servers.strangers };
   }
 
   module _ (w w' : World) (n : Net) (h : Over links apart W x w n) (i : ℕ) (c : at_node.Change) (s : IsChanged w i c w') where
@@ -316,17 +316,17 @@ fresh_over W overtake w h timely b = record {
     serves = f.serves_from;
     clients = record {
       distinct = subst (IsDistinct same_key) (sym f.slots) tt;
-      known = subst (EachSlot Client (λ p s. (IsKnown (link_at w.nodes) h.apart p ⊎ IsGuest (link_at w.nodes) h.apart p) × (s.number < a.clients.asked))) (sym f.slots) tt;
+      known = subst (EachSlot Client (λ p s. (IsKnown (link_at w.nodes) h.apart p ⊎ IsStranger (link_at w.nodes) h.apart p) × (s.number < a.clients.asked))) (sym f.slots) tt;
       found = λ s l id at'. subst (λ slots. TicketFits false (clock_at w.time.pace (w.time.clocks i).exact).shows w.notes i 0 (value_at same_key (slot_key l id) slots) None) (sym f.slots)
           (record { over = refl; free = refl });
-      guests = λ p g. subst (λ slots. TicketFits false (clock_at w.time.pace (w.time.clocks i).exact).shows w.notes i 0 (value_at same_key p slots) None) (sym f.slots)
+      strangers = λ p g. subst (λ slots. TicketFits false (clock_at w.time.pace (w.time.clocks i).exact).shows w.notes i 0 (value_at same_key p slots) None) (sym f.slots)
           (record { over = refl; free = refl });
     };
     servers = record {
       distinct = subst (IsDistinct same_key) (sym f.entries) tt;
-      known = subst (EachSlot ServerTransaction (λ p d. IsKnown (link_at w.nodes) h.apart p ⊎ IsGuest (link_at w.nodes) h.apart p)) (sym f.entries) tt;
+      known = subst (EachSlot ServerTransaction (λ p d. IsKnown (link_at w.nodes) h.apart p ⊎ IsStranger (link_at w.nodes) h.apart p)) (sym f.entries) tt;
       found = λ c l id at'. subst (λ slots. EntryFits (clock_at w.time.pace (w.time.clocks i).exact).shows (value_at same_key (slot_key l id) slots) None) (sym f.entries) refl;
-      guests = λ p g. subst (λ slots. EntryFits (clock_at w.time.pace (w.time.clocks i).exact).shows (value_at same_key p slots) None) (sym f.entries) refl;
+      strangers = λ p g. subst (λ slots. EntryFits (clock_at w.time.pace (w.time.clocks i).exact).shows (value_at same_key p slots) None) (sym f.entries) refl;
     };
   };
   noted = λ key t at. absurd cc;

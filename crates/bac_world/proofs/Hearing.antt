@@ -22,8 +22,7 @@ use Rattle.bac_transaction.specs.Ends.TransactionSlot.{Open, Closed}
 use Rattle.bac_world.specs.Node.{Node}
 use Rattle.bac_world.specs.Once.{Fact, Stores, IsOnce, MayEnd}
 use Rattle.bac_world.specs.World.{World, Note, Copy, link_at, AreEnded, ask_of, newest, peer_at, IsCopied}
-use Rattle.bac_protocol.specs.World.{client_now, server_now, is_lost, is_key_held}
-use Rattle.bac_world.specs.World.{told}
+use Rattle.bac_protocol.specs.World.{client_now, is_lost}
 use Rattle.bac_world.proofs.Bridge.{here_at, there_at}
 use Rattle.bac_protocol.specs.Pace.{Clock}
 use Rattle.bac_world.proofs.Steps.{IsAlike}
@@ -32,13 +31,12 @@ use Rattle.bac_world.proofs.Leads.Leads.{Here}
 use Rattle.bac_world.proofs.Machines.{Sound, orderly, asked_of}
 use Rattle.bac_world.proofs.Pairs.{pairwise_join}
 use Rattle.bac_world.proofs.Logs.{FactMeans, may_end, unended, unended_away, asked_away_as}
-use Rattle.bac_world.proofs.Bridge.{NodeFits, IsGuest, IsCopyOf, TicketFits, AwayNoted, key_of, slot_key, out_key, copies_of, newest_near}
+use Rattle.bac_world.proofs.Bridge.{NodeFits, IsStranger, IsCopyOf, TicketFits, AwayNoted, key_of, slot_key, out_key, copies_of, newest_near}
 use Rattle.bac_world.proofs.Numbers.{number_one}
 use Rattle.bac_protocol.specs.World.{client_acts_away}
 use Rattle.bac_protocol.specs.Transaction.{ended_away}
 use Rattle.bac_protocol.specs.Client.{Ask}
 use Rattle.bac_world.specs.World.{is_away, ending_fact}
-use Rattle.std.proofs.Common.{◌≤◌}
 use Rattle.bac_world.proofs.Steps.{Over}
 
 -- two keys of asks of strangers are one where the slots' keys are
@@ -95,7 +93,7 @@ module _ (links : ℕ → Option Octets) (apart : (i j : ℕ) (l : Octets) → l
     pub noted : (key : Key) (t : ClientTransaction) → m.tickets key ≡ Some t → newest key w.notes ≡ Some (m.numbers key)
     pub found : (s : ℕ) (l : Octets) (id : ℕ) → links s ≡ Some l
         → TicketFits (is_lost m (key_of i s id)) (here_at n i) w.notes i (m.numbers (key_of i s id)) (look (slot_key l id)) (m.tickets (key_of i s id))
-    pub guests : (p : PeerKey) → IsGuest links apart p
+    pub strangers : (p : PeerKey) → IsStranger links apart p
         → TicketFits false (here_at n i) w.notes i (m.far.numbers (out_key i p)) (look p) (m.far.tickets (out_key i p))
     pub others : (j : ℕ) (a : Node) → (j ≡ i → ⊥) → NodeFits links apart x (here_at n j) (there_at n j) w.notes n j a → NodeFits links apart x (here_at n j) (there_at n j) w.notes m j a
     pub posts : Pairwise (IsCopyOf links apart) m.posts all
@@ -112,7 +110,7 @@ module _ (links : ℕ → Option Octets) (apart : (i j : ℕ) (l : Octets) → l
     entries = refl;
     far_entries = refl;
     away = h.away;
-    guests = fits.clients.guests;
+    strangers = fits.clients.strangers;
     asks_from = refl;
     serves_from = refl;
     noted = h.noted;
@@ -134,8 +132,8 @@ module _ (links : ℕ → Option Octets) (apart : (i j : ℕ) (l : Octets) → l
     entries = h.entries;
     far_entries = h.far_entries;
     away = h.away;
-    guests = λ p g. subst (λ (o : Option Client). TicketFits false (here_at n i) w.notes i (m.far.numbers (out_key i p)) o (m.far.tickets (out_key i p)))
-        (same p) (h.guests p g);
+    strangers = λ p g. subst (λ (o : Option Client). TicketFits false (here_at n i) w.notes i (m.far.numbers (out_key i p)) o (m.far.tickets (out_key i p)))
+        (same p) (h.strangers p g);
     asks_from = h.asks_from;
     serves_from = h.serves_from;
     noted = h.noted;
@@ -201,10 +199,10 @@ module _ (links : ℕ → Option Octets) (apart : (i j : ℕ) (l : Octets) → l
         (subst (λ (o : Option ClientTransaction). TicketFits (is_lost m (key_of key.client s id)) (here_at n key.client) w.notes key.client (m.numbers (key_of key.client s id)) (look (slot_key l' id)) o)
         (sym (set_other m.tickets key made (key_of key.client s id) ne)) (h.found s l' id at))
 
-    guests : (y : PeerKey) → IsGuest links apart y → TicketFits false (here_at n key.client) w.notes key.client (m.far.numbers (out_key key.client y)) (look' y)
+    strangers : (y : PeerKey) → IsStranger links apart y → TicketFits false (here_at n key.client) w.notes key.client (m.far.numbers (out_key key.client y)) (look' y)
         (m.far.tickets (out_key key.client y))
-    guests y g = subst (λ (o : Option Client). TicketFits false (here_at n key.client) w.notes key.client (m.far.numbers (out_key key.client y)) o
-        (m.far.tickets (out_key key.client y))) (sym (away y (λ e. g.none key.server (to_at ∙ ap (λ (z : PeerKey). Some z.peer.link) e)))) (h.guests y g)
+    strangers y g = subst (λ (o : Option Client). TicketFits false (here_at n key.client) w.notes key.client (m.far.numbers (out_key key.client y)) o
+        (m.far.tickets (out_key key.client y))) (sym (away y (λ e. g.none key.server (to_at ∙ ap (λ (z : PeerKey). Some z.peer.link) e)))) (h.strangers y g)
 
     others : (j : ℕ) (a : Node) → (j ≡ key.client → ⊥) → NodeFits links apart x (here_at n j) (there_at n j) w.notes m j a
         → NodeFits links apart x (here_at n j) (there_at n j) w.notes (client_acts m key t r) j a
@@ -219,9 +217,9 @@ module _ (links : ℕ → Option Octets) (apart : (i j : ℕ) (l : Octets) → l
         found = λ s l' id at.
             subst (λ (o : Option ClientTransaction). TicketFits (is_lost m (key_of j s id)) (here_at n j) w.notes j (m.numbers (key_of j s id)) (value_at same_key (slot_key l' id) a.clients.slots) o)
             (sym (set_other m.tickets key made (key_of j s id) (λ e. ne (sym (ap (λ (k : Key). k.client) e))))) (f.clients.found s l' id at);
-        guests = f.clients.guests;
+        strangers = f.clients.strangers;
       };
-      servers = record { distinct = f.servers.distinct; known = f.servers.known; found = f.servers.found; guests = f.servers.guests };
+      servers = record { distinct = f.servers.distinct; known = f.servers.known; found = f.servers.found; strangers = f.servers.strangers };
     }
 
     -- its ending, if any, enters the log
@@ -267,7 +265,7 @@ module _ (links : ℕ → Option Octets) (apart : (i j : ℕ) (l : Octets) → l
           entries = h.entries;
           far_entries = h.far_entries;
           away = h.away;
-          guests = λ y g. guests y g;
+          strangers = λ y g. strangers y g;
           asks_from = h.asks_from;
           serves_from = h.serves_from;
           noted = λ k u at. noted k u at (decide_key key k);
@@ -285,7 +283,7 @@ module _ (links : ℕ → Option Octets) (apart : (i j : ℕ) (l : Octets) → l
 
   -- One open ticket of an ask of a stranger goes on.
 
-  module _ (bound : IsBounded W x) (w : World) (n : Net) (i : ℕ) (p : PeerKey) (g : IsGuest links apart p)
+  module _ (bound : IsBounded W x) (w : World) (n : Net) (i : ℕ) (p : PeerKey) (g : IsStranger links apart p)
       (look look' : PeerKey → Option Client) (copies : List Copy) (log : List Fact) (m : Net) (h : Reached w i n look copies log m)
       (number : ℕ) (t : ClientTransaction) (there : look p ≡ Some (record { number = number; held = Open t })) (r : client.Reaction)
       (goes : m.far.tickets (out_key i p) ≡ Some t → Sound x (client_acts_away m (out_key i p) t r) × Leads x n (client_acts_away m (out_key i p) t r))
@@ -300,7 +298,7 @@ module _ (links : ℕ → Option Octets) (apart : (i j : ℕ) (l : Octets) → l
     far_is : (m.far.tickets (out_key i p) ≡ Some t) × (ask_of i number w.notes ≡ Some (m.far.numbers (out_key i p)))
     far_is = ticket_at false (here_at n i) w.notes i (m.far.numbers (out_key i p)) number t (m.far.tickets (out_key i p))
         (subst (λ (o : Option Client). TicketFits false (here_at n i) w.notes i (m.far.numbers (out_key i p)) o (m.far.tickets (out_key i p))) there
-        (h.guests p g))
+        (h.strangers p g))
 
     far_sound : Sound x (client_acts_away m (out_key i p) t r)
     far_sound = (goes far_is.0).0
@@ -311,15 +309,15 @@ module _ (links : ℕ → Option Octets) (apart : (i j : ℕ) (l : Octets) → l
         (sym (set_same m.far.tickets fkey fmade))
         (record { held = ap (λ (tm : ℕ). kept (client.after tm t r)) (sym (ap (λ (f : ℕ → Clock). (f i).shows) h.alike.here)); noted = λ f. far_is.1 }))
 
-    far_guests : (q : PeerKey) → IsGuest links apart q → ((out_key i p ≡ out_key i q) ⊎ (out_key i p ≡ out_key i q → ⊥))
+    far_strangers : (q : PeerKey) → IsStranger links apart q → ((out_key i p ≡ out_key i q) ⊎ (out_key i p ≡ out_key i q → ⊥))
         → TicketFits false (here_at n i) w.notes i (m.far.numbers (out_key i q)) (look' q) (set_at m.far.tickets (out_key i p) (Some (client.after (client_now m (out_key i p)) t r)) (out_key i q))
-    far_guests q f (inl e) = subst (λ (y : PeerKey). TicketFits false (here_at n i) w.notes i (m.far.numbers (out_key i y)) (look' y)
+    far_strangers q f (inl e) = subst (λ (y : PeerKey). TicketFits false (here_at n i) w.notes i (m.far.numbers (out_key i y)) (look' y)
         (set_at m.far.tickets (out_key i p) (Some (client.after (client_now m (out_key i p)) t r)) (out_key i y))) (out_one i p q e) far_fit
-    far_guests q f (inr ne) =
+    far_strangers q f (inr ne) =
         subst (λ (o : Option Client). TicketFits false (here_at n i) w.notes i (m.far.numbers (out_key i q)) o
         (set_at m.far.tickets fkey fmade (out_key i q))) (sym (others_look q (λ e. ne (ap (out_key i) e))))
         (subst (λ (o : Option ClientTransaction). TicketFits false (here_at n i) w.notes i (m.far.numbers (out_key i q)) (look q) o)
-        (sym (set_other m.far.tickets fkey fmade (out_key i q) ne)) (h.guests q f))
+        (sym (set_other m.far.tickets fkey fmade (out_key i q) ne)) (h.strangers q f))
 
     far_found : (s : ℕ) (l : Octets) (id : ℕ) → links s ≡ Some l
         → TicketFits (is_lost m (key_of i s id)) (here_at n i) w.notes i (m.numbers (key_of i s id)) (look' (slot_key l id)) (m.tickets (key_of i s id))
@@ -342,11 +340,11 @@ module _ (links : ℕ → Option Octets) (apart : (i j : ℕ) (l : Octets) → l
         distinct = f.clients.distinct;
         known = f.clients.known;
         found = f.clients.found;
-        guests = λ q k.
+        strangers = λ q k.
             subst (λ (o : Option ClientTransaction). TicketFits false (here_at n j) w.notes j (m.far.numbers (out_key j q)) (value_at same_key q a.clients.slots) o)
-            (sym (set_other m.far.tickets fkey fmade (out_key j q) (λ e. ne (sym (ap (λ (y : Key). y.client) e))))) (f.clients.guests q k);
+            (sym (set_other m.far.tickets fkey fmade (out_key j q) (λ e. ne (sym (ap (λ (y : Key). y.client) e))))) (f.clients.strangers q k);
       };
-      servers = record { distinct = f.servers.distinct; known = f.servers.known; found = f.servers.found; guests = f.servers.guests };
+      servers = record { distinct = f.servers.distinct; known = f.servers.known; found = f.servers.found; strangers = f.servers.strangers };
     }
 
     record FarEnds (facts : List octets.Fact) (log' : List Fact) : Type 0 where
@@ -381,10 +379,10 @@ module _ (links : ℕ → Option Octets) (apart : (i j : ℕ) (l : Octets) → l
           );
         }
 
-    pub reacts_guest : (fs : List EndedView) (log' : List Fact) → Pairwise IsEndedView (ended_with number t.ask.choice (client.ending_of r)) fs
+    pub reacts_stranger : (fs : List EndedView) (log' : List Fact) → Pairwise IsEndedView (ended_with number t.ask.choice (client.ending_of r)) fs
         → AreEnded w.notes i fs log log'
         → Reached w i n look' copies log' (client_acts_away m (out_key i p) t r)
-    reacts_guest fs log' finished logged =
+    reacts_stranger fs log' finished logged =
         let end = far_ends (client.ending_of r) fs log' finished logged (orderly W x bound (client_acts_away m fkey t r) far_sound) in
         record {
           alike = record { now = h.alike.now; pace = h.alike.pace; here = h.alike.here; there = h.alike.there };
@@ -396,7 +394,7 @@ module _ (links : ℕ → Option Octets) (apart : (i j : ℕ) (l : Octets) → l
           noted = h.noted;
           away = λ k u at. far_away k u (decide_key fkey k) at;
           found = far_found;
-          guests = λ q f. far_guests q f (decide_key fkey (out_key i q));
+          strangers = λ q f. far_strangers q f (decide_key fkey (out_key i q));
           others = λ j a ne f. far_others j a ne (h.others j a ne f);
           posts = h.posts;
           log = end.means;

@@ -1,5 +1,5 @@
 -- Nets of machines that moves lead to: what is known of them, and each move by itself.
-use Rattle.std.proofs.Common.{◌≡◌, ℕ, ◌+◌, ◌-◌, ◌≤◌, ◌<◌, Bool, true, false, ◌&&◌, List, ◌∷◌, Option, Some, None, slice_get, nat_le, refl, ap, subst, ◌∙◌, arith}
+use Rattle.std.proofs.Common.{◌≡◌, ℕ, ◌-◌, ◌≤◌, ◌<◌, Bool, true, false, ◌&&◌, List, ◌∷◌, Option, Some, None, slice_get, nat_le, refl, ap, subst, ◌∙◌, arith}
 use Rattle.std.proofs.Common.{if◌then◌else◌}
 use Rattle.std.proofs.lemmas.Bool.Decides.{nat_tests}
 use Rattle.bac_protocol.specs.Pace.{Pace, IsTimely, IsShown, goes_on}

@@ -1,6 +1,6 @@
 -- A node restarts.
 use Rattle.std.proofs.Common.{◌≡◌, ℕ, ◌+◌, ◌≤◌, ◌⊎◌, Bool, true, false, ◌&&◌, List, length, Option, Some, None, slice_get}
-use Rattle.std.proofs.Common.{nat_le, nat_eq, if◌then◌else◌, refl, sym, ap, subst, inl, inr, ◌∙◌, arith}
+use Rattle.std.proofs.Common.{nat_eq, if◌then◌else◌, refl, sym, ap, subst, inl, inr, ◌∙◌, arith}
 use Rattle.std.proofs.lemmas.Bool.Decides.{nat_tests}
 use Rattle.std.specs.Option.{option_map}
 use Rattle.bac_store.specs.Stores.{Store}
@@ -19,15 +19,13 @@ use Rattle.bac_transaction.specs.Sends.{Pairwise}
 use Rattle.bac_world.specs.Node.{Node, restarted, store_after_restart}
 use Rattle.bac_world.specs.Once.{Fact, IsOnce, with_restarted}
 use Rattle.bac_world.specs.World.{World, Time, Copy, Note, stores_of, newest, IsRestarted}
-use Rattle.bac_protocol.specs.World.{client_now, server_now, is_lost, is_key_held}
-use Rattle.bac_world.specs.World.{told}
 use Rattle.bac_world.proofs.Bridge.{here_at, there_at}
-use Rattle.bac_protocol.specs.Pace.{Pace, Clock, clock_at}
+use Rattle.bac_protocol.specs.Pace.{Pace, clock_at}
 use Rattle.std.proofs.Common.{nat_lt, not}
 use Rattle.bac_transaction.specs.Ends.{Client}
 use Rattle.bac_world.proofs.Machines.{restarts, asked_before}
 use Rattle.bac_world.proofs.Logs.{FactMeans}
-use Rattle.bac_world.proofs.Bridge.{NodeFits, IsCopyOf, IsGone, TicketFits, EntryFits, AwayNoted, key_of, slot_key, guest_key, out_key}
+use Rattle.bac_world.proofs.Bridge.{NodeFits, IsCopyOf, IsGone, TicketFits, EntryFits, AwayNoted, key_of, slot_key, stranger_key, out_key}
 use Rattle.bac_world.specs.World.{is_away}
 use Rattle.bac_world.proofs.Steps.{Over, Next, decide_number, linked_with}
 
@@ -91,12 +89,12 @@ module _ (links : ℕ → Option Octets) (apart : (i j : ℕ) (l : Octets) → l
         ∙ sym (ap (λ (b : Bool). if b then (clock_at n.pace exact).shows + REST + 1 else n.asks_from i) (self i));
     serves = ap (λ (p : Pace). (clock_at p exact).shows + KEEP + 1) (sym h.pace)
         ∙ sym (ap (λ (b : Bool). if b then (clock_at n.pace exact).shows + KEEP + 1 else n.serves_from i) (self i));
-    clients = record { distinct = tt; known = tt; found = λ p l id at. no_ticket (key_of i p id); guests = λ p g. no_far (out_key i p) };
+    clients = record { distinct = tt; known = tt; found = λ p l id at. no_ticket (key_of i p id); strangers = λ p g. no_far (out_key i p) };
     servers = record {
       distinct = tt;
       known = tt;
       found = λ c l id at. ap (λ (b : Bool). live_entry (there_at m i) (if b then None else n.entries (key_of c i id))) (sym (self i));
-      guests = λ p g. ap (λ (b : Bool). live_entry (there_at m i) (if b then None else n.far.entries (guest_key i p))) (sym (self i));
+      strangers = λ p g. ap (λ (b : Bool). live_entry (there_at m i) (if b then None else n.far.entries (stranger_key i p))) (sym (self i));
     };
   }
 
@@ -112,17 +110,17 @@ module _ (links : ℕ → Option Octets) (apart : (i j : ℕ) (l : Octets) → l
       known = g.clients.known;
       found = λ p l id at. subst (λ (b : Bool). TicketIn b j (value_at same_key (slot_key l id) a.clients.slots) (key_of j p id))
           (sym (away j i ne)) (g.clients.found p l id at);
-      guests = λ p y. subst (λ (b : Bool). TicketFits false (if b then clock_at n.pace exact else n.client_clocks j).shows w.notes j (n.far.numbers (out_key j p))
+      strangers = λ p y. subst (λ (b : Bool). TicketFits false (if b then clock_at n.pace exact else n.client_clocks j).shows w.notes j (n.far.numbers (out_key j p))
           (value_at same_key p a.clients.slots) (if b then None else n.far.tickets (out_key j p)))
-          (sym (away j i ne)) (g.clients.guests p y);
+          (sym (away j i ne)) (g.clients.strangers p y);
     };
     servers = record {
       distinct = g.servers.distinct;
       known = g.servers.known;
       found = λ c l id at. subst (λ (b : Bool). EntryFits (if b then clock_at n.pace exact else n.server_clocks j).shows
           (value_at same_key (slot_key l id) a.servers.slots) (if b then None else n.entries (key_of c j id))) (sym (away j i ne)) (g.servers.found c l id at);
-      guests = λ p y. subst (λ (b : Bool). EntryFits (if b then clock_at n.pace exact else n.server_clocks j).shows
-          (value_at same_key p a.servers.slots) (if b then None else n.far.entries (guest_key j p))) (sym (away j i ne)) (g.servers.guests p y);
+      strangers = λ p y. subst (λ (b : Bool). EntryFits (if b then clock_at n.pace exact else n.server_clocks j).shows
+          (value_at same_key p a.servers.slots) (if b then None else n.far.entries (stranger_key j p))) (sym (away j i ne)) (g.servers.strangers p y);
     };
   }
 

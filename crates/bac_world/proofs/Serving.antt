@@ -33,7 +33,7 @@ use Rattle.bac_transaction.specs.Ends.{ServerEnd, ServerTurn, act_at, is_free, i
 use Rattle.bac_world.specs.Services.{Performed, ArePerformed, store_after}
 use Rattle.bac_world.specs.Node.{Node, Outcome, IsServerTurn}
 use Rattle.bac_world.specs.Once.{Fact, Has, Stores, IsOnce, MayPerform}
-use Rattle.bac_world.specs.World.{World, Note, Copy, stores_of, IsWithNode, Acts, AreLogged, IsLogged, AreEnded, newest, peer_at, IsCopied, AreCopied}
+use Rattle.bac_world.specs.World.{World, Note, Copy, stores_of, IsWithNode, Acts, AreLogged, IsLogged, AreEnded, newest, peer_at, AreCopied}
 use Rattle.bac_protocol.specs.World.{client_now, server_now, is_lost, is_key_held}
 use Rattle.bac_world.specs.World.{told}
 use Rattle.bac_world.proofs.Bridge.{here_at, there_at}
@@ -41,7 +41,7 @@ use Rattle.bac_protocol.specs.Pace.{Clock}
 use Rattle.bac_world.proofs.Machines.{Sound, orderly, asked_of, own_of, gets_at_server, ticket_of}
 use Rattle.bac_world.proofs.Pairs.{pairwise_join}
 use Rattle.bac_world.proofs.Logs.{FactMeans, WasAskedAs, asked_as, unperformed}
-use Rattle.bac_world.proofs.Bridge.{NodeFits, ServersFit, IsKnown, IsGuest, IsCopyOf, IsWay, EntryFits, key_of, slot_key, guest_key, copies_of, copied_to}
+use Rattle.bac_world.proofs.Bridge.{NodeFits, ServersFit, IsKnown, IsStranger, IsCopyOf, IsWay, EntryFits, key_of, slot_key, stranger_key, copies_of, copied_to}
 use Rattle.bac_world.proofs.Steps.{Over, Fits, Goes, acts_over, once_same, stores_same}
 use Rattle.bac_transaction.proofs.Entries.{entry_here, entry_there, entry_distinct, entry_each}
 use Rattle.bac_world.proofs.Table.{none_left}
@@ -102,17 +102,17 @@ module _ (links : ℕ → Option Octets) (apart : (i j : ℕ) (l : Octets) → l
         entry_there now p e.slots h.distinct v.entry (slot_key m id) (λ is. ne (one_client key l at c m id at' is))
         ∙ h.found c m id at' ∙ ap (live_entry now) (sym (set_other n.entries key u.entry (key_of c key.server id) ne))
 
-    guests : (q : PeerKey) → IsGuest links apart q
-        → EntryFits now (value_at same_key q (put_entry now p v.entry e.slots)) (n.far.entries (guest_key key.server q))
-    guests q g = entry_there now p e.slots h.distinct v.entry q (λ is. g.none key.client (at ∙ ap (λ (y : PeerKey). Some y.peer.link) is)) ∙ h.guests q g
+    strangers : (q : PeerKey) → IsStranger links apart q
+        → EntryFits now (value_at same_key q (put_entry now p v.entry e.slots)) (n.far.entries (stranger_key key.server q))
+    strangers q g = entry_there now p e.slots h.distinct v.entry q (λ is. g.none key.client (at ∙ ap (λ (y : PeerKey). Some y.peer.link) is)) ∙ h.strangers q g
 
     pub end_fits : ServersFit links apart now (server_acts n key u) key.server (record e { slots = put_entry now (slot_key l key.invoke_id) v.entry e.slots })
     end_fits = record {
       distinct = entry_distinct now p e.slots h.distinct v.entry;
-      known = entry_each now p e.slots h.distinct (λ q d. IsKnown links apart q ⊎ IsGuest links apart q) v.entry
+      known = entry_each now p e.slots h.distinct (λ q d. IsKnown links apart q ⊎ IsStranger links apart q) v.entry
           (λ d. inl (record { node = key.client; link = l; at = at; peer = refl })) h.known;
       found = λ c m id at'. found c m id at' (decide_key key (key_of c key.server id));
-      guests = guests;
+      strangers = strangers;
     }
 
   -- other nodes see nothing of it
@@ -123,13 +123,13 @@ module _ (links : ℕ → Option Octets) (apart : (i j : ℕ) (l : Octets) → l
     link = h.link;
     asks = h.asks;
     serves = h.serves;
-    clients = record { distinct = h.clients.distinct; known = h.clients.known; found = h.clients.found; guests = h.clients.guests };
+    clients = record { distinct = h.clients.distinct; known = h.clients.known; found = h.clients.found; strangers = h.clients.strangers };
     servers = record {
       distinct = h.servers.distinct;
       known = h.servers.known;
       found = λ c l id at. h.servers.found c l id at
           ∙ ap (live_entry there) (sym (set_other n.entries key u.entry (key_of c j id) (λ is. ne (sym (ap (λ (k : Key). k.server) is)))));
-      guests = h.servers.guests;
+      strangers = h.servers.strangers;
     };
   }
 
@@ -212,8 +212,8 @@ module _ (links : ℕ → Option Octets) (apart : (i j : ℕ) (l : Octets) → l
     logs None (Some d) done store logged right = absurd done
     logs (Some e) None done store logged right = absurd done
     logs (Some e) (Some d) done store (inl logged) right = performs_one e d done store logged right
-    logs (Some e) (Some d) done store (inr guest) right =
-        absurd (guest.stranger key.client (h.linked key.client ∙ at ∙ ap (λ (q : PeerKey). Some q.peer.link) (sym done.key)))
+    logs (Some e) (Some d) done store (inr stranger) right =
+        absurd (stranger.stranger key.client (h.linked key.client ∙ at ∙ ap (λ (q : PeerKey). Some q.peer.link) (sym done.key)))
 
   -- An APDU of a client was heard.
 
@@ -313,7 +313,7 @@ module _ (links : ℕ → Option Octets) (apart : (i j : ℕ) (l : Octets) → l
           link = fits.link;
           asks = fits.asks;
           serves = fits.serves;
-          clients = record { distinct = fits.clients.distinct; known = fits.clients.known; found = fits.clients.found; guests = fits.clients.guests };
+          clients = record { distinct = fits.clients.distinct; known = fits.clients.known; found = fits.clients.found; strangers = fits.clients.strangers };
           servers = end_fits (there_at n key.server) n key l client_at v u same.entry a.servers fits.servers
               (none_left context service (value_at same_key q a.servers.slots) free apdu);
         }

@@ -16,9 +16,8 @@ use Rattle.bac_transaction.specs.Ends.{requester_tick, responder_tick}
 use Rattle.bac_transaction.specs.Ends.TransactionSlot.{Open, Closed}
 use Rattle.bac_world.specs.Node.{Node, Outcome, NodeTick}
 use Rattle.bac_world.specs.Once.{Fact, IsOnce}
-use Rattle.bac_world.specs.World.{World, Copy, stores_of, AreLogged, IsCopied, Ticks}
+use Rattle.bac_world.specs.World.{World, Copy, stores_of, AreLogged, Ticks}
 use Rattle.bac_transaction.proofs.KeyedSlots.{changed, distinct_changed, distinct_in_order, each_changed, each_in_order, each_so}
-use Rattle.bac_protocol.specs.World.{client_now, server_now, is_lost, is_key_held}
 use Rattle.bac_world.specs.World.{told}
 use Rattle.bac_world.proofs.Bridge.{here_at, there_at}
 use Rattle.bac_protocol.specs.Pace.{Clock}
@@ -26,9 +25,8 @@ use Rattle.std.proofs.Common.{nat_lt}
 use Rattle.bac_world.proofs.Changes.{look, look_all, change_all}
 use Rattle.bac_world.proofs.Pairs.{IsSplit, pairwise_split}
 use Rattle.bac_world.proofs.Logs.{FactMeans}
-use Rattle.bac_world.proofs.Bridge.{IsKnown, IsGuest, IsCopyOf, TicketFits, key_of, slot_key, guest_key, out_key, AreParted, copied_split}
+use Rattle.bac_world.proofs.Bridge.{IsKnown, IsStranger, IsCopyOf, TicketFits, key_of, slot_key, stranger_key, out_key, AreParted, copied_split}
 use Rattle.bac_world.specs.World.{is_away}
-use Rattle.bac_protocol.specs.World.{Strangers}
 use Rattle.bac_world.specs.World.{AreCopied}
 use Rattle.bac_world.proofs.Steps.{Over, Fits, Next, acts_over, once_same, stores_same}
 use Rattle.bac_world.proofs.Leads.{Leads}
@@ -115,8 +113,8 @@ module _ (links : ℕ → Option Octets) (apart : (i j : ℕ) (l : Octets) → l
   r : (m : Net) × Reached links apart W x w i n (λ q. value_at same_key q (changed Client f clients)) (w.copies ++ cs.front) step.acts.between m
   r = folds links apart W x bound w n h i a.link fits.link (changed Client f clients) (in_order peer_key_cmp clients)
       (distinct_in_order Client clients fits.clients.distinct)
-      (each_in_order Client (λ p v. IsKnown links apart p ⊎ IsGuest links apart p) clients
-      (each_so Client (λ p v. (IsKnown links apart p ⊎ IsGuest links apart p) × (v.number < a.clients.asked)) (λ p v. IsKnown links apart p ⊎ IsGuest links apart p)
+      (each_in_order Client (λ p v. IsKnown links apart p ⊎ IsStranger links apart p) clients
+      (each_so Client (λ p v. (IsKnown links apart p ⊎ IsStranger links apart p) × (v.number < a.clients.asked)) (λ p v. IsKnown links apart p ⊎ IsStranger links apart p)
       (λ p v y. y.0) clients fits.clients.known))
       (change_all Client f clients fits.clients.distinct) w.copies w.log n
       (reached_alike links apart W x w i n (λ q. value_at same_key q clients) (look Client f (changed Client f clients) (in_order peer_key_cmp clients))
@@ -141,8 +139,8 @@ module _ (links : ℕ → Option Octets) (apart : (i j : ℕ) (l : Octets) → l
     serves_from = refl;
     entries = λ c' l id at. ap (live_entry (there_at n i)) (look_all ServerTransaction g entries fits.servers.distinct (slot_key l id)) ∙ fits.servers.found c' l id at
         ∙ ap (λ (e : Key → Option ServerTransaction). live_entry (there_at n i) (e (key_of c' i id))) (sym r.1.entries);
-    guests = λ p y. ap (live_entry (there_at n i)) (look_all ServerTransaction g entries fits.servers.distinct p) ∙ fits.servers.guests p y
-        ∙ ap (λ (e : Key → Option ServerTransaction). live_entry (there_at n i) (e (guest_key i p))) (sym r.1.far_entries);
+    strangers = λ p y. ap (live_entry (there_at n i)) (look_all ServerTransaction g entries fits.servers.distinct p) ∙ fits.servers.strangers p y
+        ∙ ap (λ (e : Key → Option ServerTransaction). live_entry (there_at n i) (e (stranger_key i p))) (sym r.1.far_entries);
     others = λ j d ne y. y;
     posts = r.1.posts;
     sound = r.1.sound;
@@ -153,7 +151,7 @@ module _ (links : ℕ → Option Octets) (apart : (i j : ℕ) (l : Octets) → l
   s : (m : Net) × Served links apart W x bound w n r.0 h.linked i a.link fits.link (λ q. value_at same_key q (changed ServerTransaction g entries))
       ((w.copies ++ cs.front) ++ cs.rest) m
   s = serves links apart W x bound w n r.0 h.linked i a.link fits.link (changed ServerTransaction g entries) (in_order peer_key_cmp entries)
-      (distinct_in_order ServerTransaction entries fits.servers.distinct) (each_in_order ServerTransaction (λ p v. IsKnown links apart p ⊎ IsGuest links apart p) entries fits.servers.known)
+      (distinct_in_order ServerTransaction entries fits.servers.distinct) (each_in_order ServerTransaction (λ p v. IsKnown links apart p ⊎ IsStranger links apart p) entries fits.servers.known)
       (change_all ServerTransaction g entries fits.servers.distinct) (w.copies ++ cs.front) r.0 start ds.rest cs.rest ds.second cs.second
 
   all_copies : (w.copies ++ cs.front) ++ cs.rest ≡ w.copies ++ step.acts.sent
@@ -167,8 +165,8 @@ module _ (links : ℕ → Option Octets) (apart : (i j : ℕ) (l : Octets) → l
       TicketFits (nat_lt (made (key_of i s' id)) (restarted i)) (here_at n i) w.notes i (numbers (key_of i s' id))
       (value_at same_key (slot_key l id) (changed Client f clients)) (tickets (key_of i s' id))
 
-  abbrev GuestFound : (Key → ℕ) → (Key → Option ClientTransaction) → PeerKey → Type 0
-  GuestFound numbers tickets p =
+  abbrev StrangerFound : (Key → ℕ) → (Key → Option ClientTransaction) → PeerKey → Type 0
+  StrangerFound numbers tickets p =
       TicketFits false (here_at n i) w.notes i (numbers (out_key i p)) (value_at same_key p (changed Client f clients)) (tickets (out_key i p))
 
   made : Fits links apart W x w n s.0 i (record (step.before) {
@@ -183,7 +181,7 @@ module _ (links : ℕ → Option Octets) (apart : (i j : ℕ) (l : Octets) → l
     serves = fits.serves ∙ sym (ap (λ (f : ℕ → ℕ). f i) (s.1.serves_from ∙ r.1.serves_from));
     clients = record {
       distinct = distinct_changed Client f clients fits.clients.distinct;
-      known = each_changed Client f (λ p v. (IsKnown links apart p ⊎ IsGuest links apart p) × (v.number < a.clients.asked))
+      known = each_changed Client f (λ p v. (IsKnown links apart p ⊎ IsStranger links apart p) × (v.number < a.clients.asked))
           (λ p v y. (
             y.0,
             subst (λ (z : ℕ). z < a.clients.asked) (sym (number_kept (record { settings = c; invoke_id = p.invoke_id; now = here_at n i })
@@ -193,14 +191,14 @@ module _ (links : ℕ → Option Octets) (apart : (i j : ℕ) (l : Octets) → l
           (subst (λ (y : ℕ → ℕ). TicketFound r.0.made y s.0.numbers s.0.tickets s' l id) (sym s.1.restarted)
           (subst (λ (y : Key → ℕ). TicketFound r.0.made r.0.restarted y s.0.tickets s' l id) (sym s.1.numbers)
           (subst (λ (y : Key → Option ClientTransaction). TicketFound r.0.made r.0.restarted r.0.numbers y s' l id) (sym s.1.tickets) (r.1.found s' l id at))));
-      guests = λ p y. subst (λ (z : Key → ℕ). GuestFound z s.0.far.tickets p) (sym s.1.far_numbers)
-          (subst (λ (z : Key → Option ClientTransaction). GuestFound r.0.far.numbers z p) (sym s.1.far_tickets) (r.1.guests p y));
+      strangers = λ p y. subst (λ (z : Key → ℕ). StrangerFound z s.0.far.tickets p) (sym s.1.far_numbers)
+          (subst (λ (z : Key → Option ClientTransaction). StrangerFound r.0.far.numbers z p) (sym s.1.far_tickets) (r.1.strangers p y));
     };
     servers = record {
       distinct = distinct_changed ServerTransaction g entries fits.servers.distinct;
-      known = each_changed ServerTransaction g (λ p v. IsKnown links apart p ⊎ IsGuest links apart p) (λ p v y. y) entries fits.servers.known;
+      known = each_changed ServerTransaction g (λ p v. IsKnown links apart p ⊎ IsStranger links apart p) (λ p v y. y) entries fits.servers.known;
       found = λ c' l id at. s.1.entries c' l id at;
-      guests = s.1.guests;
+      strangers = s.1.strangers;
     };
   }
 

@@ -7,11 +7,10 @@ use Rattle.bac_protocol.specs.Wire.{is_from_client}
 use Rattle.bac_store.specs.Stores.{Store}
 use Rattle.bac_transaction.specs.Keys.{PeerKey}
 use Rattle.bac_transaction.specs.Ends.{act_at, key_of as heard_key}
-use Rattle.bac_transaction.specs.Meanings.{Ending, EndedView}
+use Rattle.bac_transaction.specs.Meanings.{EndedView}
 use Rattle.bac_world.specs.Services as service
 use Rattle.bac_world.specs.Services.{ArePerformed}
 use Rattle.bac_world.specs.Node.{Node, Outcome, NodeOn, IsHeardBy}
-use Rattle.bac_world.specs.Laws.{IsMeaningless}
 use Rattle.bac_world.specs.Once.{Fact, HasNoStranger}
 use Rattle.bac_world.specs.World.{World, Event, Copy, Note, Acts, AreEnded, AreLogged, IsOfNone, IsFresh, DeliversIf, WorldStep, WorldRun, MakeNoStray}
 use Rattle.bac_world.specs.World.{ending_fact, is_away, is_deliverable, told}

@@ -1,5 +1,5 @@
 -- A stranger's datagram reaches a node.
-use Rattle.std.proofs.Common.{◌≡◌, ℕ, ◌≢◌, ◌<◌, ◌⊎◌, Bool, true, false, List, [], ◌∷◌, ◌++◌, Option, Some, None, slice_get}
+use Rattle.std.proofs.Common.{◌≡◌, ℕ, ◌≢◌, ◌<◌, ◌⊎◌, Bool, true, false, List, [], ◌++◌, Option, Some, None, slice_get}
 use Rattle.std.proofs.Common.{if◌then◌else◌, nat_eq, refl, sym, ap, subst, inl, inr, ◌∙◌, arith}
 use Rattle.std.proofs.lemmas.Bool.Decides.{nat_tests}
 use Rattle.std.specs.Option.{option_map}
@@ -10,10 +10,8 @@ use Rattle.bac_store.specs.Changes as change
 use Rattle.bac_protocol.specs.Context.{Settings, Context}
 use Rattle.bac_protocol.specs.Service.{Octets, Readable}
 use Rattle.bac_protocol.specs.Wire.{is_from_client}
-use Rattle.bac_protocol.specs.Own.{invoke_id_of}
 use Rattle.bac_protocol.specs.Server as server
 use Rattle.bac_protocol.specs.Server.{ServerTransaction, Effect, Service, live_entry, server_on_apdu}
-use Rattle.bac_protocol.specs.Log as octets
 use Rattle.bac_protocol.specs.Transaction.{Key, Rules, served, server_context}
 use Rattle.bac_protocol.specs.World.{Net, server_acts_away, begin_of, set_at}
 use Rattle.bac_protocol.specs.Claims.{IsBounded}
@@ -22,23 +20,23 @@ use Rattle.bac_protocol.proofs.Keys.{set_same, set_other, decide_key}
 use Rattle.bac_protocol.proofs.Dead.{gets_same, same_of, same_then, same_back}
 use Rattle.bac_slots.specs.Slots.{value_at, with_value}
 use Rattle.bac_transaction.specs.Keys.{PeerKey, same_key}
-use Rattle.bac_transaction.specs.Sends.{Pairwise, IsSent, to_all}
+use Rattle.bac_transaction.specs.Sends.{Pairwise, IsSent}
 use Rattle.bac_transaction.specs.Meanings.{IsEndedView}
 use Rattle.bac_transaction.specs.Ends.{Client, ClientEnd, ClientTurn, TransactionSlot, client_after, client_goes, requester_on_apdu_in_slot, stays, ServerEnd, act_at, is_free, put_entry, server_goes, context_of, requester_on_apdu_at, key_of as heard_key}
 use Rattle.bac_transaction.specs.Ends.TransactionSlot.{Open, Closed}
-use Rattle.bac_transaction.proofs.KeyedSlots.{EachSlot, with_same, with_other, with_distinct, each_with, each_at}
+use Rattle.bac_transaction.proofs.KeyedSlots.{with_same, with_other, with_distinct, each_with, each_at}
 use Rattle.bac_protocol.specs.Client as client
 use Rattle.bac_protocol.specs.Client.{ClientTransaction, client_on_apdu}
 use Rattle.bac_protocol.specs.Transaction.{client_context}
 use Rattle.bac_protocol.specs.World.{client_acts_away}
 use Rattle.bac_world.proofs.Leads.Leads.{Here, StraysToClient}
-use Rattle.bac_world.proofs.Hearing.{Reached, reached_none, reacts_guest}
+use Rattle.bac_world.proofs.Hearing.{Reached, reached_none, reacts_stranger}
 use Rattle.bac_transaction.specs.Services.{service_of}
 use Rattle.bac_world.specs.Services.{Performed, ArePerformed, store_after}
 use Rattle.bac_world.specs.Node.{Node, Outcome, IsServerTurn, IsClientTurn, IsHeard, IsHeardBy}
-use Rattle.bac_world.specs.Once.{Fact, Stores, IsOnce, MayServe}
+use Rattle.bac_world.specs.Once.{Fact, IsOnce}
 use Rattle.bac_protocol.specs.Pace.{Clock}
-use Rattle.bac_world.specs.World.{World, told, Note, Copy, stores_of, link_at, IsWithNode, Acts, AreLogged, AreEnded, AreCopied}
+use Rattle.bac_world.specs.World.{World, told, Note, Copy, stores_of, link_at, IsWithNode, Acts, AreLogged, AreEnded}
 use Rattle.bac_world.proofs.Machines.{Sound, strays_at_server, strays_at_client}
 use Rattle.bac_world.proofs.Numbers.{number, number_one}
 use Rattle.bac_protocol.specs.Steps.{IsEntryFor}
@@ -48,16 +46,16 @@ use Rattle.bac_protocol.proofs.Served.{effects_are_kept}
 use Rattle.std.proofs.Common.{◌-◌, nat_le}
 use Rattle.bac_world.proofs.Pairs.{pairwise_none, append_none}
 use Rattle.bac_world.proofs.Logs.{FactMeans}
-use Rattle.bac_world.proofs.Bridge.{here_at, there_at, NodeFits, ServersFit, IsKnown, IsGuest, IsCopyOf, EntryFits, key_of, slot_key, guest_key, out_key, copied_none}
-use Rattle.bac_world.proofs.Steps.{Over, Fits, Goes, Next, acts_over, once_same, stores_same}
+use Rattle.bac_world.proofs.Bridge.{here_at, there_at, NodeFits, ServersFit, IsKnown, IsStranger, IsCopyOf, EntryFits, key_of, slot_key, stranger_key, out_key, copied_none}
+use Rattle.bac_world.proofs.Steps.{Over, Fits, Next, acts_over, once_same, stores_same}
 use Rattle.bac_world.proofs.Serving.{Logged, room_is}
 use Rattle.bac_world.proofs.Clients.{quiet, arrived}
 use Rattle.bac_transaction.proofs.Entries.{entry_here, entry_there, entry_distinct, entry_each}
 use Rattle.bac_world.proofs.Table.{none_left}
 
 -- two keys of strangers are one where the slots' keys are
-pub guest_one : (i : ℕ) (p q : PeerKey) → guest_key i p ≡ guest_key i q → p ≡ q
-guest_one i p q is =
+pub stranger_one : (i : ℕ) (p q : PeerKey) → stranger_key i p ≡ stranger_key i q → p ≡ q
+stranger_one i p q is =
     let peer : p.peer ≡ q.peer = number_one p.peer q.peer (ap (λ (k : Key). k.client) is) in
     λ j. record { peer = peer j; invoke_id = (is j).invoke_id }
 
@@ -86,18 +84,18 @@ module _ (links : ℕ → Option Octets) (apart : (i j : ℕ) (l : Octets) → l
     link = h.link;
     asks = h.asks;
     serves = h.serves;
-    clients = record { distinct = h.clients.distinct; known = h.clients.known; found = h.clients.found; guests = h.clients.guests };
+    clients = record { distinct = h.clients.distinct; known = h.clients.known; found = h.clients.found; strangers = h.clients.strangers };
     servers = record {
       distinct = h.servers.distinct;
       known = h.servers.known;
       found = h.servers.found;
-      guests = λ p g. h.servers.guests p g
-          ∙ ap (live_entry there) (sym (set_other n.far.entries key u.entry (guest_key j p) (λ is. ne (sym (ap (λ (k : Key). k.server) is)))));
+      strangers = λ p g. h.servers.strangers p g
+          ∙ ap (live_entry there) (sym (set_other n.far.entries key u.entry (stranger_key j p) (λ is. ne (sym (ap (λ (k : Key). k.server) is)))));
     };
   }
 
   -- the server end after a stranger's entry was put
-  module _ (now : ℕ) (n : Net) (i : ℕ) (p : PeerKey) (g : IsGuest links apart p) (v u : server.Reaction)
+  module _ (now : ℕ) (n : Net) (i : ℕ) (p : PeerKey) (g : IsStranger links apart p) (v u : server.Reaction)
       (same : live_entry now v.entry ≡ live_entry now u.entry) (e : ServerEnd) (h : ServersFit links apart now n i e)
       (none : live_entry now v.entry ≡ None → live_entry now (value_at same_key p e.slots) ≡ None) where
     found : (c : ℕ) (m : Octets) (id : ℕ) → links c ≡ Some m
@@ -105,26 +103,26 @@ module _ (links : ℕ → Option Octets) (apart : (i j : ℕ) (l : Octets) → l
     found c m id at = entry_there now p e.slots h.distinct v.entry (slot_key m id) (λ is. g.none c (at ∙ ap (λ (y : PeerKey). Some y.peer.link) (sym is)))
         ∙ h.found c m id at
 
-    guests : (q : PeerKey) → IsGuest links apart q → ((guest_key i p ≡ guest_key i q) ⊎ (guest_key i p ≡ guest_key i q → ⊥))
-        → EntryFits now (value_at same_key q (put_entry now p v.entry e.slots)) (set_at n.far.entries (guest_key i p) u.entry (guest_key i q))
-    guests q f (inl is) =
-        ap (λ (y : PeerKey). live_entry now (value_at same_key y (put_entry now p v.entry e.slots))) (sym (guest_one i p q is))
+    strangers : (q : PeerKey) → IsStranger links apart q → ((stranger_key i p ≡ stranger_key i q) ⊎ (stranger_key i p ≡ stranger_key i q → ⊥))
+        → EntryFits now (value_at same_key q (put_entry now p v.entry e.slots)) (set_at n.far.entries (stranger_key i p) u.entry (stranger_key i q))
+    strangers q f (inl is) =
+        ap (λ (y : PeerKey). live_entry now (value_at same_key y (put_entry now p v.entry e.slots))) (sym (stranger_one i p q is))
         ∙ entry_here now p e.slots h.distinct v.entry none ∙ same
-        ∙ ap (live_entry now) (sym (set_same n.far.entries (guest_key i p) u.entry) ∙ ap (set_at n.far.entries (guest_key i p) u.entry) is)
-    guests q f (inr ne) =
-        entry_there now p e.slots h.distinct v.entry q (λ is. ne (ap (guest_key i) is))
-        ∙ h.guests q f ∙ ap (live_entry now) (sym (set_other n.far.entries (guest_key i p) u.entry (guest_key i q) ne))
+        ∙ ap (live_entry now) (sym (set_same n.far.entries (stranger_key i p) u.entry) ∙ ap (set_at n.far.entries (stranger_key i p) u.entry) is)
+    strangers q f (inr ne) =
+        entry_there now p e.slots h.distinct v.entry q (λ is. ne (ap (stranger_key i) is))
+        ∙ h.strangers q f ∙ ap (live_entry now) (sym (set_other n.far.entries (stranger_key i p) u.entry (stranger_key i q) ne))
 
-    pub guest_fits : ServersFit links apart now (server_acts_away n (guest_key i p) u) i (record e { slots = put_entry now p v.entry e.slots })
-    guest_fits = record {
+    pub stranger_fits : ServersFit links apart now (server_acts_away n (stranger_key i p) u) i (record e { slots = put_entry now p v.entry e.slots })
+    stranger_fits = record {
       distinct = entry_distinct now p e.slots h.distinct v.entry;
-      known = entry_each now p e.slots h.distinct (λ q d. IsKnown links apart q ⊎ IsGuest links apart q) v.entry (λ d. inr g) h.known;
+      known = entry_each now p e.slots h.distinct (λ q d. IsKnown links apart q ⊎ IsStranger links apart q) v.entry (λ d. inr g) h.known;
       found = found;
-      guests = λ q f. guests q f (decide_key (guest_key i p) (guest_key i q));
+      strangers = λ q f. strangers q f (decide_key (stranger_key i p) (stranger_key i q));
     }
 
   -- What was performed for it enters the log.
-  module _ (w w' : World) (n : Net) (h : Over links apart W x w n) (i : ℕ) (p : PeerKey) (g : IsGuest links apart p) (a b : Node)
+  module _ (w w' : World) (n : Net) (h : Over links apart W x w n) (i : ℕ) (p : PeerKey) (g : IsStranger links apart p) (a b : Node)
       (node : slice_get w.nodes i ≡ Some a) (nodes : IsWithNode w.nodes i b w'.nodes) (begin : ℕ) where
     stores : (d : Performed) → b.store ≡ change.after a.store d.request → (j : ℕ)
         → stores_of w'.nodes j ≡ (if nat_eq j i then Some (change.after a.store d.request) else stores_of w.nodes j)
@@ -138,29 +136,31 @@ module _ (links : ℕ → Option Octets) (apart : (i j : ℕ) (l : Octets) → l
             let ne : j ≢ i = λ is. grind (arith, nat_tests) in
             ap (λ (o : Option Node). option_map (λ (m : Node). m.store) o) (nodes.others j ne)
 
-    pub logs_guest : (e : Option Effect) (d : Option Performed)
+    pub logs_stranger : (e : Option Effect) (d : Option Performed)
         → ((x : Effect) → e ≡ Some x → (y : ServerTransaction) → value_at same_key p b.servers.slots ≡ Some y → y.begin ≡ begin) → ArePerformed a.store (act_at p e) d → b.store ≡ store_after a.store d
-        → AreLogged w.nodes w.notes i b d w.log w'.log → Logged links apart W x w w' (served (guest_key i p) begin e n.log)
-    logs_guest None None begun done store logged = record {
+        → AreLogged w.nodes w.notes i b d w.log w'.log → Logged links apart W x w w' (served (stranger_key i p) begin e n.log)
+    logs_stranger None None begun done store logged = record {
       log_means = subst (λ (lg : List Fact). Pairwise FactMeans n.log lg) (sym logged) h.log;
       once = λ opening once. subst (λ (lg : List Fact). IsOnce opening lg (stores_of w'.nodes)) (sym logged)
           (once_same opening w.log (stores_of w.nodes) (stores_of w'.nodes) (stores_same w.nodes w'.nodes i a b nodes node store) once);
     }
-    logs_guest None (Some d) begun done store logged = absurd done
-    logs_guest (Some e) None begun done store logged = absurd done
-    logs_guest (Some e) (Some d) begun done store (inl known) =
+    logs_stranger None (Some d) begun done store logged = absurd done
+    logs_stranger (Some e) None begun done store logged = absurd done
+    logs_stranger (Some e) (Some d) begun done store (inl known) =
         absurd (g.none known.client (sym (h.linked known.client) ∙ known.link ∙ ap (λ (y : PeerKey). Some y.peer.link) done.key))
-    logs_guest (Some e) (Some d) begun done store (inr guest) = record {
-      log_means = subst (λ (lg : List Fact). Pairwise FactMeans (served (guest_key i p) begin (Some e) n.log) lg) (sym guest.log)
-          ((
-            ap (λ (y : PeerKey). number y.peer) done.key,
-            refl,
-            ap (λ (y : PeerKey). y.invoke_id) done.key,
-            begun e refl guest.entry (ap (λ (y : PeerKey). value_at same_key y b.servers.slots) (sym done.key) ∙ guest.kept),
-            done.what.request,
-            done.what.means,
-          ), h.log);
-      once = λ opening once. subst (λ (lg : List Fact). IsOnce opening lg (stores_of w'.nodes)) (sym guest.log) (
+    logs_stranger (Some e) (Some d) begun done store (inr stranger) = record {
+      log_means = subst (λ (lg : List Fact). Pairwise FactMeans (served (stranger_key i p) begin (Some e) n.log) lg) (sym stranger.log) (
+        (
+          ap (λ (y : PeerKey). number y.peer) done.key,
+          refl,
+          ap (λ (y : PeerKey). y.invoke_id) done.key,
+          begun e refl stranger.entry (ap (λ (y : PeerKey). value_at same_key y b.servers.slots) (sym done.key) ∙ stranger.kept),
+          done.what.request,
+          done.what.means,
+        ),
+        h.log,
+      );
+      once = λ opening once. subst (λ (lg : List Fact). IsOnce opening lg (stores_of w'.nodes)) (sym stranger.log) (
         stores_of w.nodes,
         record {
           store = a.store;
@@ -174,7 +174,7 @@ module _ (links : ℕ → Option Octets) (apart : (i j : ℕ) (l : Octets) → l
 
   module _ (bound : IsBounded W x) where
     -- a stranger's request
-    serves_stranger : (w w' : World) (n : Net) → Over links apart W x w n → (i : ℕ) (p : PeerKey) → IsGuest links apart p → (apdu : Apdu)
+    serves_stranger : (w w' : World) (n : Net) → Over links apart W x w n → (i : ℕ) (p : PeerKey) → IsStranger links apart p → (apdu : Apdu)
         → is_from_client apdu ≡ true → (a b : Node) (o : Outcome) → slice_get w.nodes i ≡ Some a
         → IsServerTurn (server_goes (told w i) a.servers p (server_on_apdu (context_of a.settings (told w i) p) (service_of a.store) (value_at same_key p a.servers.slots)
         (is_free (told w i) a.servers) apdu)) (told w i) a b o
@@ -182,7 +182,7 @@ module _ (links : ℕ → Option Octets) (apart : (i j : ℕ) (l : Octets) → l
     serves_stranger w w' n h i p g apdu up a b o node turn acts = (m, record { bridge = over; once = logged.once })
       where
         key : Key
-        key = guest_key i p
+        key = stranger_key i p
 
         fits : Fits links apart W x w n n i a
         fits = h.nodes i a node
@@ -218,7 +218,7 @@ module _ (links : ℕ → Option Octets) (apart : (i j : ℕ) (l : Octets) → l
             let e : Option ServerTransaction = n.far.entries key in
             same_then (there_at n i) v (gets (live_entry (there_at n i) y)) u (gets_same context service y free apdu)
             (same_then (there_at n i) (gets (live_entry (there_at n i) y)) (gets (live_entry (there_at n i) e)) u
-            (same_of (there_at n i) (gets (live_entry (there_at n i) y)) (gets (live_entry (there_at n i) e)) (ap gets (fits.servers.guests p g)))
+            (same_of (there_at n i) (gets (live_entry (there_at n i) y)) (gets (live_entry (there_at n i) e)) (ap gets (fits.servers.strangers p g)))
             (same_back (there_at n i) u (gets (live_entry (there_at n i) e)) (gets_same context service e free apdu)))
 
         m : Net
@@ -240,8 +240,8 @@ module _ (links : ℕ → Option Octets) (apart : (i j : ℕ) (l : Octets) → l
           link = fits.link;
           asks = fits.asks;
           serves = fits.serves;
-          clients = record { distinct = fits.clients.distinct; known = fits.clients.known; found = fits.clients.found; guests = fits.clients.guests };
-          servers = guest_fits (there_at n i) n i p g v u same.entry a.servers fits.servers
+          clients = record { distinct = fits.clients.distinct; known = fits.clients.known; found = fits.clients.found; strangers = fits.clients.strangers };
+          servers = stranger_fits (there_at n i) n i p g v u same.entry a.servers fits.servers
               (none_left context service (value_at same_key p a.servers.slots) free apdu);
         }
 
@@ -271,7 +271,7 @@ module _ (links : ℕ → Option Octets) (apart : (i j : ℕ) (l : Octets) → l
             ap (λ (d : ServerTransaction). d.begin) one ∙ ap begin_of (sym k.after)
 
         logged : Logged links apart W x w w' (served key (begin_of u.entry) u.effect n.log)
-        logged = logs_guest w w' n h i p g a b node acts.nodes (begin_of u.entry) u.effect o.performed begun done (ap (λ (d : Node). d.store) turn'.node)
+        logged = logs_stranger w w' n h i p g a b node acts.nodes (begin_of u.entry) u.effect o.performed begun done (ap (λ (d : Node). d.store) turn'.node)
             (subst (λ (lg : List Fact). AreLogged w.nodes w.notes i b o.performed lg w'.log) between_is acts.logged)
 
         over : Over links apart W x w' m
@@ -280,7 +280,7 @@ module _ (links : ℕ → Option Octets) (apart : (i j : ℕ) (l : Octets) → l
             (λ j d ne f. others_fit_away (here_at n j) (there_at n j) w.notes n key u j d ne f) posts logged.log_means sound
 
     -- a stranger's answer: to an open ticket of its own, or it is dropped
-    module _ (readable : x.readable ≡ reads_reply) (w w' : World) (n : Net) (h : Over links apart W x w n) (i : ℕ) (p : PeerKey) (g : IsGuest links apart p)
+    module _ (readable : x.readable ≡ reads_reply) (w w' : World) (n : Net) (h : Over links apart W x w n) (i : ℕ) (p : PeerKey) (g : IsStranger links apart p)
         (apdu : Apdu) (down : is_from_client apdu ≡ false) (a b : Node) (o : Outcome) (node : slice_get w.nodes i ≡ Some a) (acts : Acts w i b o w') where
       unheard : IsClientTurn (stays a.clients) (told w i) a b o → Next links apart W x w w'
       unheard t = (
@@ -300,7 +300,7 @@ module _ (links : ℕ → Option Octets) (apart : (i j : ℕ) (l : Octets) → l
             (client_acts_away n key t r)
             (subst (λ (l : List Copy). Reached links apart W x w i n (λ y. value_at same_key y made.slots) l acts.between (client_acts_away n key t r))
             (sym (ap (λ (l : List Copy). w.copies ++ l) sent_is ∙ append_none w.copies))
-            (reacts_guest links apart W x bound w n i p g (λ y. value_at same_key y a.clients.slots) (λ y. value_at same_key y made.slots) w.copies w.log n
+            (reacts_stranger links apart W x bound w n i p g (λ y. value_at same_key y a.clients.slots) (λ y. value_at same_key y made.slots) w.copies w.log n
             (reached_none links apart W x w n h i a fits) k t found r
             (λ is. (strays_at_client W x bound n h.sound key t is apdu down, StraysToClient n key t apdu Here down is))
             (with_same Client p (client_after (here_at n i) k t r) (record { number = k; held = Open t }) a.clients.slots found)
@@ -321,7 +321,7 @@ module _ (links : ℕ → Option Octets) (apart : (i j : ℕ) (l : Octets) → l
           made = record (a.clients) { slots = with_value same_key p (client_after (here_at n i) k t r) a.clients.slots }
 
           Known : PeerKey → Client → Type 0
-          Known y z = (IsKnown links apart y ⊎ IsGuest links apart y) × (z.number < a.clients.asked)
+          Known y z = (IsKnown links apart y ⊎ IsStranger links apart y) × (z.number < a.clients.asked)
 
           sent_is : acts.sent ≡ []
           sent_is = copied_none links apart w.nodes h.linked w.time.now i p g (client.sends_of r) o.sends acts.sent turn.sends acts.copied
@@ -356,7 +356,7 @@ module _ (links : ℕ → Option Octets) (apart : (i j : ℕ) (l : Octets) → l
         p : PeerKey
         p = heard_key z.peer z.apdu
 
-        g : IsGuest links apart p
+        g : IsStranger links apart p
         g = record { none = λ k e. foreign k (h.linked k ∙ e ∙ ap (λ (q : PeerView). Some q.link) z.means.carries.sender) }
 
         go : (up : Bool) → is_from_client z.apdu ≡ up → IsHeardBy up z.peer z.apdu (told w i) a b o → Next links apart W x w w'

@@ -1,15 +1,13 @@
 -- An accepted ask of a stranger.
-use Rattle.std.proofs.Common.{◌≡◌, ℕ, zero, suc, ◌+◌, ◌<◌, ◌≤◌, ◌⊎◌, Bool, true, false, ◌&&◌, ◌||◌, List, [], ◌∷◌, ◌++◌, map, length, Option, Some, None}
-use Rattle.std.proofs.Common.{slice_get, if◌then◌else◌, nat_eq, nat_le, nat_lt, refl, sym, ap, subst, inl, inr, ◌∙◌, arith}
-use Rattle.std.proofs.lemmas.Bool.Decides.{nat_tests}
-use Rattle.bac_apdu.specs.Apdu.{Apdu, Limits}
+use Rattle.std.proofs.Common.{◌≡◌, ℕ, ◌+◌, ◌<◌, ◌⊎◌, Bool, true, false, ◌&&◌, ◌||◌, List, [], ◌∷◌, ◌++◌, length, Option, Some, None}
+use Rattle.std.proofs.Common.{slice_get, if◌then◌else◌, nat_eq, nat_lt, refl, sym, ap, subst, inl, inr, ◌∙◌, arith}
+use Rattle.bac_apdu.specs.Apdu.{Limits}
 use Rattle.bac_service.specs.Values.{Request, choice_of}
 use Rattle.bac_service.specs.Requests.{SpellsRequest}
 use Rattle.bac_npdu.specs.Peers.{PeerView}
-use Rattle.bac_protocol.specs.Context.{Settings, Context}
+use Rattle.bac_protocol.specs.Context.{Settings}
 use Rattle.bac_protocol.specs.Service.{Octets}
-use Rattle.bac_protocol.specs.Client as machine
-use Rattle.bac_protocol.specs.Client.{Ask, ClientTransaction, asked_ticket, asks}
+use Rattle.bac_protocol.specs.Client.{Ask, ClientTransaction, asked_ticket}
 use Rattle.bac_protocol.specs.Transaction.{Key, Rules, client_context}
 use Rattle.bac_protocol.specs.World.{Net, set_at, is_key_held, is_lost, client_now, asked_away_at}
 use Rattle.bac_protocol.specs.World as net
@@ -17,7 +15,7 @@ use Rattle.bac_protocol.specs.Claims.{IsBounded}
 use Rattle.bac_protocol.proofs.Keys.{set_same, set_other, decide_key}
 use Rattle.bac_slots.specs.Slots.{value_at, keep}
 use Rattle.bac_transaction.specs.Keys.{PeerKey, same_key}
-use Rattle.bac_transaction.specs.Sends.{Pairwise, IsSent}
+use Rattle.bac_transaction.specs.Sends.{Pairwise}
 use Rattle.bac_transaction.specs.Ends.{Client, ClientEnd, kept, is_held_there, waits_to_ask}
 use Rattle.bac_transaction.specs.Ends.{Accepted, AskOutcome, requester_ask}
 use Rattle.bac_transaction.specs.Ends.AskOutcome.{Asked}
@@ -29,7 +27,7 @@ use Rattle.bac_protocol.specs.Pace.{Clock}
 use Rattle.bac_world.specs.World.{World, Time, told, Note, Copy, stores_of, newest, ask_of, is_away, IsAskedAway}
 use Rattle.bac_world.proofs.Machines.{Sound, counted, asked_away, away_below}
 use Rattle.bac_world.proofs.Logs.{FactMeans, asks_counted}
-use Rattle.bac_world.proofs.Bridge.{here_at, there_at, NodeFits, ClientsFit, IsKnown, IsGuest, IsCopyOf, TicketFits, AwayNoted, key_of, slot_key, out_key, away_more}
+use Rattle.bac_world.proofs.Bridge.{here_at, there_at, NodeFits, ClientsFit, IsKnown, IsStranger, IsCopyOf, TicketFits, AwayNoted, key_of, slot_key, out_key, away_more}
 use Rattle.bac_world.proofs.Steps.{Over, Fits, Goes, linked_with, stores_same, decide_number}
 use Rattle.bac_world.proofs.Hearing.{out_one}
 use Rattle.bac_world.proofs.Asking.{IsAccepted, accepted_is, holds, free_ticket, free_kept, fits_kept, fits_noted, differ, and_false, equal_self}
@@ -44,7 +42,7 @@ key_free_away n key e from awake free =
 module _ (links : ℕ → Option Octets) (apart : (i j : ℕ) (l : Octets) → links i ≡ Some l → links j ≡ Some l → i ≡ j) (W : ℕ) (x : Rules)
     (bound : IsBounded W x) where
   -- What an ask makes of the client's slots.
-  module _ (n : Net) (notes : List Note) (number_is : n.asks ≡ length notes) (i : ℕ) (p : PeerKey) (g : IsGuest links apart p) (ask : Ask)
+  module _ (n : Net) (notes : List Note) (number_is : n.asks ≡ length notes) (i : ℕ) (p : PeerKey) (g : IsStranger links apart p) (ask : Ask)
       (e : ClientEnd) (h : ClientsFit links apart (here_at n i) notes n i e)
       (free : is_held_there (here_at n i) (value_at same_key p e.slots) ≡ false) where
     abbrev akey : Key
@@ -70,7 +68,7 @@ module _ (links : ℕ → Option Octets) (apart : (i j : ℕ) (l : Octets) → l
 
     earlier : (q : PeerKey) (z : Client) → value_at same_key q e.slots ≡ Some z → (nat_eq i i && nat_eq e.asked z.number) ≡ false
     earlier q z is =
-        let lt = (each_at Client (λ y v. (IsKnown links apart y ⊎ IsGuest links apart y) × (v.number < e.asked)) q z e.slots h.known is).1 in
+        let lt = (each_at Client (λ y v. (IsKnown links apart y ⊎ IsStranger links apart y) × (v.number < e.asked)) q z e.slots h.known is).1 in
         and_false (nat_eq i i) (nat_eq e.asked z.number) (differ e.asked z.number (λ same. omega arith))
 
     own : ask_of i e.asked (note ∷ notes) ≡ Some (m.far.numbers (out_key i p))
@@ -99,29 +97,29 @@ module _ (links : ℕ → Option Octets) (apart : (i j : ℕ) (l : Octets) → l
         (sym (look (slot_key l id) (λ is. g.none s (at ∙ ap (λ (y : PeerKey). Some y.peer.link) (sym is)))))
         (after_fits (is_lost n (key_of i s id)) (slot_key l id) (n.numbers (key_of i s id)) (n.tickets (key_of i s id)) (h.found s l id at))
 
-    guests : (q : PeerKey) → IsGuest links apart q → ((out_key i p ≡ out_key i q) ⊎ (out_key i p ≡ out_key i q → ⊥))
+    strangers : (q : PeerKey) → IsStranger links apart q → ((out_key i p ≡ out_key i q) ⊎ (out_key i p ≡ out_key i q → ⊥))
         → TicketFits false (here_at n i) (note ∷ notes) i (m.far.numbers (out_key i q)) (value_at same_key q ended.slots) (m.far.tickets (out_key i q))
-    guests q f (inl is) = subst (λ (y : PeerKey). TicketFits false (here_at n i) (note ∷ notes) i (m.far.numbers (out_key i y)) (value_at same_key y ended.slots)
+    strangers q f (inl is) = subst (λ (y : PeerKey). TicketFits false (here_at n i) (note ∷ notes) i (m.far.numbers (out_key i y)) (value_at same_key y ended.slots)
         (m.far.tickets (out_key i y))) (out_one i p q is) fit
-    guests q f (inr ne) =
+    strangers q f (inr ne) =
         let k : Key = out_key i q in
         subst (λ (o : Option Client). TicketFits false (here_at n i) (note ∷ notes) i (m.far.numbers k) o (m.far.tickets k)) (sym (look q (λ is. ne (ap (out_key i) is))))
         (subst (λ (y : ℕ). TicketFits false (here_at n i) (note ∷ notes) i y (keep (holds (here_at n i)) (value_at same_key q e.slots)) (m.far.tickets k))
         (sym (set_other n.far.numbers akey n.asks k ne))
         (subst (λ (o : Option ClientTransaction). TicketFits false (here_at n i) (note ∷ notes) i (n.far.numbers k) (keep (holds (here_at n i)) (value_at same_key q e.slots)) o)
-        (sym (set_other n.far.tickets akey (Some made) k ne)) (after_fits false q (n.far.numbers k) (n.far.tickets k) (h.guests q f))))
+        (sym (set_other n.far.tickets akey (Some made) k ne)) (after_fits false q (n.far.numbers k) (n.far.tickets k) (h.strangers q f))))
 
     pub ask_fits : ClientsFit links apart (here_at n i) (note ∷ notes) (asked_away_at x n (out_key i p) ask) i ended
     ask_fits = record {
       distinct = put_distinct Client p (here_at n i) client (passing Client (holds (here_at n i)) e.slots) (passing_distinct Client (holds (here_at n i)) e.slots h.distinct) gone;
-      known = each_put Client (λ y v. (IsKnown links apart y ⊎ IsGuest links apart y) × (v.number < e.asked + 1)) p (here_at n i) client
+      known = each_put Client (λ y v. (IsKnown links apart y ⊎ IsStranger links apart y) × (v.number < e.asked + 1)) p (here_at n i) client
           (passing Client (holds (here_at n i)) e.slots) (inr g, omega arith)
-          (each_passing Client (λ y v. (IsKnown links apart y ⊎ IsGuest links apart y) × (v.number < e.asked + 1)) (holds (here_at n i)) e.slots
-          (each_so Client (λ y v. (IsKnown links apart y ⊎ IsGuest links apart y) × (v.number < e.asked))
-          (λ y v. (IsKnown links apart y ⊎ IsGuest links apart y) × (v.number < e.asked + 1))
+          (each_passing Client (λ y v. (IsKnown links apart y ⊎ IsStranger links apart y) × (v.number < e.asked + 1)) (holds (here_at n i)) e.slots
+          (each_so Client (λ y v. (IsKnown links apart y ⊎ IsStranger links apart y) × (v.number < e.asked))
+          (λ y v. (IsKnown links apart y ⊎ IsStranger links apart y) × (v.number < e.asked + 1))
           (λ y v k. (k.0, let lt = k.1 in omega arith)) e.slots h.known));
       found = found;
-      guests = λ q f. guests q f (decide_key (out_key i p) (out_key i q));
+      strangers = λ q f. strangers q f (decide_key (out_key i p) (out_key i q));
     }
 
     pub others_noted : (j : ℕ) (a : Node) → (j ≡ i → ⊥) → NodeFits links apart x (here_at n j) (there_at n j) notes n j a
@@ -135,15 +133,15 @@ module _ (links : ℕ → Option Octets) (apart : (i j : ℕ) (l : Octets) → l
         distinct = f.clients.distinct;
         known = f.clients.known;
         found = λ s l id at. noted_so (is_lost n (key_of j s id)) (slot_key l id) (n.numbers (key_of j s id)) (n.tickets (key_of j s id)) (f.clients.found s l id at);
-        guests = λ q y.
+        strangers = λ q y.
             let k : Key = out_key j q in
             let away : akey ≡ k → ⊥ = λ is. ne (sym (ap (λ (z : Key). z.client) is)) in
             subst (λ (z : ℕ). TicketFits false (here_at n j) (note ∷ notes) j z (value_at same_key q a.clients.slots) (m.far.tickets k))
             (sym (set_other n.far.numbers akey n.asks k away))
             (subst (λ (o : Option ClientTransaction). TicketFits false (here_at n j) (note ∷ notes) j (n.far.numbers k) (value_at same_key q a.clients.slots) o)
-            (sym (set_other n.far.tickets akey (Some made) k away)) (noted_so false q (n.far.numbers k) (n.far.tickets k) (f.clients.guests q y)));
+            (sym (set_other n.far.tickets akey (Some made) k away)) (noted_so false q (n.far.numbers k) (n.far.tickets k) (f.clients.strangers q y)));
       };
-      servers = record { distinct = f.servers.distinct; known = f.servers.known; found = f.servers.found; guests = f.servers.guests };
+      servers = record { distinct = f.servers.distinct; known = f.servers.known; found = f.servers.found; strangers = f.servers.strangers };
     }
       where
         noted_so : (lost : Bool) (q : PeerKey) (number : ℕ) (t : Option ClientTransaction) → TicketFits lost (here_at n j) notes j number (value_at same_key q a.clients.slots) t
@@ -170,7 +168,7 @@ module _ (links : ℕ → Option Octets) (apart : (i j : ℕ) (l : Octets) → l
     abbrev after : Net
     after = asked_away_at x n key ask
 
-    g : IsGuest links apart (record { peer = peer; invoke_id = parts.id })
+    g : IsStranger links apart (record { peer = peer; invoke_id = parts.id })
     g = record { none = λ k at. step.stranger k (h.linked k ∙ at) }
 
     fits : Fits links apart W x w n n i step.before
@@ -179,7 +177,7 @@ module _ (links : ℕ → Option Octets) (apart : (i j : ℕ) (l : Octets) → l
     free : net.is_id_held_away n key ≡ false
     free = key_free_away n key a.clients fits.asks parts.awake
         (free_ticket false (here_at n i) w.notes i (n.far.numbers key) (value_at same_key p a.clients.slots) (n.far.tickets key)
-        (fits.clients.guests p g) parts.free)
+        (fits.clients.strangers p g) parts.free)
 
     sound : Sound x after
     sound = asked_away W x bound n h.sound key free (choice_of r) parts.whole parts.front parts.rest
@@ -204,7 +202,7 @@ module _ (links : ℕ → Option Octets) (apart : (i j : ℕ) (l : Octets) → l
       asks = fits.asks;
       serves = fits.serves;
       clients = ask_fits n w.notes h.asks i p g ask a.clients fits.clients parts.free;
-      servers = record { distinct = fits.servers.distinct; known = fits.servers.known; found = fits.servers.found; guests = fits.servers.guests };
+      servers = record { distinct = fits.servers.distinct; known = fits.servers.known; found = fits.servers.found; strangers = fits.servers.strangers };
     }
 
     nodes : (j : ℕ) (b : Node) → slice_get w'.nodes j ≡ Some b → ((j ≡ i) ⊎ (j ≡ i → ⊥)) → NodeFits links apart x (here_at n j) (there_at n j) (note' ∷ w.notes) after j b
@@ -226,7 +224,7 @@ module _ (links : ℕ → Option Octets) (apart : (i j : ℕ) (l : Octets) → l
     away k u (inr ne) at =
         let at' : n.far.tickets k ≡ Some u = sym (set_other n.far.tickets key (Some (asked_ticket (client_context x key (here_at n i)) ask)) k ne) ∙ at in
         subst (λ (y : ℕ). is_away y (note' ∷ w.notes) ≡ true) (sym (set_other n.far.numbers key n.asks k ne))
-            (away_more (n.far.numbers k) note' w.notes (subst (λ (y : ℕ). n.far.numbers k < y) h.asks (away_below W x bound n h.sound k u at')) ∙ h.away k u at')
+        (away_more (n.far.numbers k) note' w.notes (subst (λ (y : ℕ). n.far.numbers k < y) h.asks (away_below W x bound n h.sound k u at')) ∙ h.away k u at')
 
     asks_is : n.asks + 1 ≡ length w'.notes
     asks_is = ap (λ (k : ℕ). k + 1) h.asks ∙ (let e : length w.notes + 1 ≡ length (note' ∷ w.notes) = omega arith in e)
