@@ -6,7 +6,7 @@ use Rattle.std.proofs.lemmas.Bool.Decides.{nat_tests}
 use Rattle.bac_apdu.specs.Apdu.{Apdu}
 use Rattle.bac_apdu.specs.Apdu.Apdu.{SimpleAck, ComplexAck, Error, Reject, Abort}
 use Rattle.bac_protocol.specs.Times.{DEADLINE, KEEP}
-use Rattle.bac_protocol.specs.Pace.{Pace, clock_at, goes_on, steps, IsShown}
+use Rattle.bac_protocol.specs.Pace.{Pace, clock_at, goes_on, steps}
 use Rattle.bac_protocol.specs.Claims.{Moments, moments_of, IsBegunSince, HasRestartedSince}
 use Rattle.bac_protocol.proofs.Paces.{shown_at, since_now, since_later, shows_on, within_most}
 use Rattle.bac_protocol.specs.Service.{Octets, Ending}

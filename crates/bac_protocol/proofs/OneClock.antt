@@ -1,6 +1,6 @@
 -- Where clocks neither gain nor lose, begin together and count milliseconds, all nodes have one clock.
-use Rattle.std.proofs.Common.{◌≡◌, ℕ, zero, ◌+◌, ◌-◌, ◌*◌, ◌/◌, ◌≤◌, min, max, Bool, true, false, List, [], ◌∷◌, Option, Some, None, slice_get, if◌then◌else◌, nat_eq, refl, ap, ◌∙◌, arith}
-use Rattle.std.proofs.Math.Nat.{mul-zero, min-le_right, le-min, le-max_right}
+use Rattle.std.proofs.Common.{◌≡◌, ℕ, ◌+◌, ◌/◌, Bool, true, false, List, [], ◌∷◌, Option, Some, None, slice_get, if◌then◌else◌, nat_eq, refl, ap, ◌∙◌, arith}
+use Rattle.std.proofs.Math.Nat.{mul-zero}
 use Rattle.bac_apdu.specs.Apdu.{Apdu}
 use Rattle.bac_protocol.specs.Pace.{Pace, Clock, slack, steps, goes_on, clock_at, one_clock}
 use Rattle.bac_protocol.specs.Drift.{KeepsTime, AllKeepTime}
@@ -8,7 +8,6 @@ use Rattle.bac_protocol.specs.Wire.{is_from_client}
 use Rattle.bac_protocol.specs.Client.{Ask, ClientTransaction}
 use Rattle.bac_protocol.specs.Log.{StoreModel}
 use Rattle.bac_protocol.specs.Transaction.{Key, Rules, server_context}
-use Rattle.bac_protocol.specs.Server as server
 use Rattle.bac_protocol.specs.Server.{server_ticks}
 use Rattle.bac_protocol.specs.World.{Net, World, Post, Event, is_deliverable, is_id_held, ask_made, arrives, takes_at_client, takes_at_server}
 use Rattle.bac_protocol.specs.World.{delivered, ticks_ticket, ticks_as_client, ticks_as_server, serves, happens, run, start, client_now, server_now}

@@ -7,7 +7,7 @@ use Rattle.bac_segment.specs.Limits.{N_RETRY}
 use Rattle.bac_segment.specs.Numbers.{ahead}
 use Rattle.bac_segment.specs.Pieces.{join, piece_at}
 use Rattle.bac_segment.specs.Window.{Outgoing, in_window, Incoming}
-use Rattle.bac_protocol.specs.Times.{DEADLINE, KEEP, REST}
+use Rattle.bac_protocol.specs.Times.{KEEP}
 use Rattle.bac_protocol.specs.Pace.{Pace, Clock, most, Since}
 use Rattle.bac_protocol.specs.Service.{Octets, Request, Reply as reply}
 use Rattle.bac_protocol.specs.Wire.{is_from_client}

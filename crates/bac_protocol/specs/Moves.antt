@@ -1,6 +1,6 @@
 -- Single moves of a net, for whoever joins it with nodes: the stores are left out, and a delivery says what its server's service makes of requests,
 -- so a service may answer otherwise each time. Each ticket and each entry ticks on its own.
-use Rattle.std.specs.Prelude.{◌≡◌, ℕ, ◌+◌, Bool, true, false, ◌∷◌, Option, Some, None, List, slice_get, if◌then◌else◌}
+use Rattle.std.specs.Prelude.{◌≡◌, ℕ, Bool, true, false, ◌∷◌, Option, Some, None, List, slice_get, if◌then◌else◌}
 use Rattle.bac_protocol.specs.Service.{Octets}
 use Rattle.bac_protocol.specs.Wire.{is_from_client}
 use Rattle.bac_protocol.specs.Client.{ClientTransaction, request_of, client_on_apdu, client_ticks}
