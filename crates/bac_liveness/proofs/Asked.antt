@@ -1,7 +1,6 @@
 -- An accepted ask of a world, as its machines make it, and the copies of its request.
 use Rattle.std.proofs.Common.{◌≡◌, ℕ, suc, ◌≤◌, Bool, true, false, List, [], ◌∷◌, ◌++◌, map, length, Option, Some, None, if◌then◌else◌}
-use Rattle.std.proofs.Common.{◌+◌, slice_get, nat_lt, refl, sym, ap, subst, ◌∙◌, arith}
-use Rattle.std.proofs.lemmas.Bool.Decides.{nat_tests}
+use Rattle.std.proofs.Common.{refl, sym, ap, subst, ◌∙◌, arith}
 use Rattle.std.specs.Option.{option_map}
 use Rattle.bac_apdu.specs.Apdu.{Apdu, Limits}
 use Rattle.bac_apdu.specs.Spelling.{SpellsApdu, apdu_spelling, is_confirmed_request}
@@ -10,7 +9,6 @@ use Rattle.bac_npdu.proofs.Datagrams.{frame_means}
 use Rattle.bac_service.specs.Services.{reads_reply}
 use Rattle.bac_service.specs.Values.{Request, choice_of}
 use Rattle.bac_segment.specs.Window.{outgoing}
-use Rattle.bac_protocol.specs.declared.times.TheConstants.{REST}
 use Rattle.bac_protocol.specs.Service.{Octets}
 use Rattle.bac_protocol.specs.Wire.{is_from_client}
 use Rattle.bac_protocol.specs.Server.{Service}
@@ -21,18 +19,21 @@ use Rattle.bac_protocol.specs.Client.Reaction.{Stays, GoesOn, Repeats, Ends}
 use Rattle.bac_protocol.specs.Transaction.{Key, Rules, client_context}
 use Rattle.bac_protocol.specs.World.{Net, Post, post_of}
 use Rattle.bac_protocol.specs.Claims as claims
-use Rattle.bac_protocol.specs.Claims.{ClientStays}
+use Rattle.bac_protocol.proofs.Calm.{spent_free}
+use Rattle.bac_protocol.proofs.Paces.{since_now}
+use Rattle.bac_liveness.proofs.Clocks.{MadeIn}
 use Rattle.bac_protocol.proofs.Keys.{set_same}
+use Rattle.bac_protocol.proofs.SingleMoves.{reached_net, reached_calm}
+use Rattle.bac_liveness.specs.Runs.{StaysSince}
 use Rattle.bac_liveness.specs.RoundTrip.{request_to}
 use Rattle.bac_liveness.proofs.Paths.{ask_of, Bounded, Step, Path}
 use Rattle.bac_liveness.proofs.Paths.Path.{Here, Then}
 use Rattle.bac_liveness.proofs.Changes.{IsThere}
 use Rattle.bac_transaction.specs.Sends.{Pairwise}
 use Rattle.bac_world.specs.Node.{Node}
-use Rattle.bac_world.specs.World.{World, Copy, Event, WorldRun, IsAsked, RunsOn, peer_at}
-use Rattle.bac_world.proofs.Bridge.{IsCopyOf, IsBetween, key_of, framed_means}
+use Rattle.bac_world.specs.World.{World, Copy, IsAsked, peer_at}
+use Rattle.bac_world.proofs.Bridge.{here_at, IsCopyOf, IsBetween, key_of, framed_means}
 use Rattle.bac_world.proofs.Steps.{Over}
-use Rattle.bac_world.proofs.Lives.{run_lived}
 use Rattle.bac_liveness.specs.WorldRoundTrip.{IsRequest}
 use Rattle.bac_liveness.proofs.Staying.{reached_bounded}
 use Rattle.bac_liveness.proofs.Following.{Parts, asked_free, asked_net, asked_over}
@@ -67,6 +68,11 @@ pub node_at : (l : Octets) (o : Option Node) → option_map (λ (b : Node). b.li
 node_at l None e = absurd cc
 node_at l (Some b) e = (b, refl)
 
+-- no ask of a net of a world was made later than now, and no client restarted later
+pub bounded_over : (links : ℕ → Option Octets) (apart : (i j : ℕ) (l : Octets) → links i ≡ Some l → links j ≡ Some l → i ≡ j) (W : ℕ) (x : Rules)
+    (w : World) (n : Net) → Over links apart W x w n → Bounded n
+bounded_over links apart W x w n over = reached_bounded x over.sound.0 over.sound.1 n over.sound.3
+
 module _ (links : ℕ → Option Octets) (apart : (i j : ℕ) (l : Octets) → links i ≡ Some l → links j ≡ Some l → i ≡ j) (W : ℕ) (x : Rules)
     (bound : claims.IsBounded W x) (readable : x.readable ≡ reads_reply) (old : World) (n : Net) (h : Over links apart W x old n)
     (c s : ℕ) (limits : Limits) (r : Request) (asked : World) (a : IsAsked old c s limits r asked)
@@ -75,7 +81,7 @@ module _ (links : ℕ → Option Octets) (apart : (i j : ℕ) (l : Octets) → l
   key = key_of c s p.id
 
   abbrev pub ask : Ask
-  ask = ask_of n.now (choice_of r) p.whole p.front p.rest
+  ask = ask_of (here_at n c) (choice_of r) p.whole p.front p.rest
 
   abbrev pub made : Net
   made = asked_net links apart W x bound readable old n h c s limits r asked a p
@@ -84,18 +90,19 @@ module _ (links : ℕ → Option Octets) (apart : (i j : ℕ) (l : Octets) → l
   made_over = asked_over links apart W x bound readable old n h c s limits r asked a p
 
   pub made_bounded : Bounded made
-  made_bounded = reached_bounded x made made_over.sound
+  made_bounded = bounded_over links apart W x asked made made_over
 
   pub made_path : (Q : Net → ℕ → Bool → Service → Type 0) → Path x Q n made
   made_path Q = Then n made Here (Step.Asks (key_of c s p.id) (choice_of r) p.whole p.front p.rest
       (asked_free links apart W x bound readable old n h c s limits r asked a p))
 
-  pub there : (Q : Net → ℕ → Bool → Service → Type 0) → IsThere x Q key n.asks ask made
+  pub there : (Q : Net → ℕ → Bool → Service → Type 0) → IsThere x Q key n.asks ask n.now made
   there Q = record {
-    ticket = client.asked_ticket (client_context x key n.now) ask;
-    at = set_same n.tickets key (Some (client.asked_ticket (client_context x key n.now) ask));
-    is = after_ask n.now (client.new_ticket n.now ask) (client.asks (client_context x key n.now) ask);
+    ticket = client.asked_ticket (client_context x key (here_at n c)) ask;
+    at = set_same n.tickets key (Some (client.asked_ticket (client_context x key (here_at n c)) ask));
+    is = after_ask (here_at n c) (client.new_ticket (here_at n c) ask) (client.asks (client_context x key (here_at n c)) ask);
     number_is = set_same n.numbers key n.asks;
+    made_is = set_same n.made key n.now;
   }
 
   pub server_link : links s ≡ Some a.link
@@ -104,18 +111,25 @@ module _ (links : ℕ → Option Octets) (apart : (i j : ℕ) (l : Octets) → l
   pub client_link : links c ≡ Some a.before.link
   client_link = (h.nodes c a.before a.at).link
 
-  -- where its client does not restart in a run, the ask was made in its life
-  pub stays : (events : List Event) (w : World) → WorldRun x.overtake asked events w → RunsOn c events → (m : Net) → Over links apart W x w m
-      → ClientStays m key ask
-  stays events w run on m over =
-      let node = node_at a.before.link (slice_get w.nodes c) (over.linked c ∙ client_link) in
-      let lived = run_lived x.overtake events asked w run c on node.0 node.1 in
-      let from : m.asks_from c ≡ n.asks_from c =
-      sym (over.nodes c node.0 node.1).asks ∙ lived.asks ∙ (made_over.nodes c lived.before lived.at).asks in
-      let awake : nat_lt n.now (n.asks_from c) ≡ false = ap (nat_lt n.now) (sym (h.nodes c a.before a.at).asks) ∙ p.awake in
-      let reached : n.asks_from c ≤ n.now = grind (arith, nat_tests) in
-      let made_since : m.asks_from c ≤ n.now + REST = omega arith in
-      made_since
+  -- a client that has not restarted since the world in which it asks stays
+  pub stays : (m : Net) → m.restarted c ≡ n.restarted c → StaysSince m key n.now
+  stays m same =
+      let le = (spent_free W n (reached_net W x bound h.sound.0 h.sound.2 h.sound.1 n h.sound.3)
+      (reached_calm W x bound h.sound.0 h.sound.2 h.sound.1 n h.sound.3) key
+      (asked_free links apart W x bound readable old n h c s limits r asked a p)).lives in
+      omega arith
+
+  -- the ask by the clocks of its two ends
+  pub made_clock : MadeIn made key ask.first n.now
+  made_clock =
+      let calm = reached_calm W x bound h.sound.0 h.sound.2 h.sound.1 n h.sound.3 key in
+      record {
+        timely = calm.timely;
+        client_told = calm.client;
+        server_told = calm.server;
+        stays = stays n refl;
+        since = since_now n.pace n.now (n.client_clocks c) calm.client;
+      }
 
   -- nobody asks itself
   pub foreign : c ≡ s → ⊥
@@ -123,7 +137,7 @@ module _ (links : ℕ → Option Octets) (apart : (i j : ℕ) (l : Octets) → l
 
   -- the posts that it sends become its copies
   abbrev sends : List Apdu
-  sends = client.sends_of (client.asks (client_context x (key_of c s p.id) n.now) (ask_of n.now (choice_of r) p.whole p.front p.rest))
+  sends = client.sends_of (client.asks (client_context x (key_of c s p.id) (here_at n c)) (ask_of (here_at n c) (choice_of r) p.whole p.front p.rest))
 
   sent_posts : Pairwise (IsCopyOf links apart) (map (post_of (key_of c s p.id) n.now) sends) a.sent
   sent_posts = pairwise_rest (IsCopyOf links apart) n.posts (map (post_of (key_of c s p.id) n.now) sends) old.copies a.sent h.posts
@@ -133,7 +147,7 @@ module _ (links : ℕ → Option Octets) (apart : (i j : ℕ) (l : Octets) → l
   request_posts : p.whole ≡ true → Pairwise (IsCopyOf links apart) (post_of key n.now (request_to x key ask) ∷ []) a.sent
   request_posts whole = subst (λ (ps : List Post). Pairwise (IsCopyOf links apart) ps a.sent)
       (ap (λ (b : Bool). map (post_of key n.now) (client.sends_of (if b then GoesOn AwaitConfirmation (request_to x key ask ∷ [])
-      else client.sends_request_window (client_context x key n.now) ask.choice (outgoing ask.pieces) false))) whole) sent_posts
+      else client.sends_request_window (client_context x key (here_at n c)) ask.choice (outgoing ask.pieces) false))) whole) sent_posts
 
   pub request_sent : p.whole ≡ true → (first : Copy) × (a.sent ≡ first ∷ [])
   request_sent whole = just_one (IsCopyOf links apart) (post_of key n.now (request_to x key ask)) a.sent (request_posts whole)

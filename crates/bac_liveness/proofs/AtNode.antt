@@ -11,7 +11,8 @@ use Rattle.bac_protocol.specs.Client as client
 use Rattle.bac_protocol.specs.Client.{ClientTransaction, Reaction, is_idle, is_expired, client_on_apdu, client_ticks}
 use Rattle.bac_protocol.specs.Client.Reaction.{Stays, Ends}
 use Rattle.bac_protocol.specs.Transaction.{Key, Rules}
-use Rattle.bac_protocol.specs.World.{Net, net_start}
+use Rattle.bac_protocol.specs.Pace.{IsTimely}
+use Rattle.bac_protocol.specs.World.{Net, is_lost}
 use Rattle.bac_protocol.specs.Claims as claims
 use Rattle.bac_protocol.proofs.SingleMoves.{reached_net}
 use Rattle.bac_liveness.proofs.Endings.{not_from_client}
@@ -27,7 +28,7 @@ use Rattle.bac_world.specs.Node.{Node, Outcome, NodeTick, IsHeardBy, IsClientTur
 use Rattle.bac_world.specs.World.{World, WorldRun, Event, IsFresh, IsBounded, ask_of, peer_at, link_at}
 use Rattle.bac_transaction.proofs.KeyedSlots.{EachSlot, changed_value, value_changed, with_same, slot, decide_slot_key, apart_none, found_first, passed_first}
 use Rattle.bac_transaction.proofs.KeyedSlots.{distinct_in_order, each_in_order, found_in_order, each_at}
-use Rattle.bac_world.proofs.Bridge.{IsKnown, TicketFits, slot_key}
+use Rattle.bac_world.proofs.Bridge.{here_at, IsKnown, TicketFits, slot_key}
 use Rattle.bac_world.proofs.Bridge.{key_of as node_key}
 use Rattle.bac_world.proofs.Pairs.{IsSplit, pairwise_split, pairwise_none}
 use Rattle.bac_world.proofs.ClientTick.{client_tick}
@@ -36,7 +37,7 @@ use Rattle.bac_world.proofs.NodeLaws.{heard_as}
 use Rattle.bac_world.proofs.Steps.{Over}
 use Rattle.bac_liveness.specs.WorldEnds.{IsOpen, finishes_of, expired, HasFinish, HasTicketsApart, TickEnds, AnswerEnds, NodesAreInOrder}
 use Rattle.bac_world.proofs.Headline.{fresh_over, rules_of, rules_bounded}
-use Rattle.bac_liveness.proofs.WorldEndings.{opened, late_gets, tick_leaves, on_run}
+use Rattle.bac_liveness.proofs.WorldEndings.{opened, late_gets, tick_leaves, on_run, opened_net}
 
 -- Lists of endings.
 
@@ -254,15 +255,15 @@ module _ (links : ℕ → Option Octets) (apart : (i j : ℕ) (l : Octets) → l
       let known = (each_at Client (λ q v. IsKnown links apart q × (v.number < a.clients.asked)) p (record { number = number; held = Open t }) a.clients.slots
       fits.known there).0 in
       let key_is : slot_key known.link p.invoke_id ≡ p = λ j. record { peer = sym known.peer j; invoke_id = p.invoke_id } in
-      let found : TicketFits (n.asks_from i) n.now w.notes i (n.numbers (node_key i known.node p.invoke_id)) (Some (record { number = number; held = Open t }))
+      let found : TicketFits (is_lost n (node_key i known.node p.invoke_id)) (here_at n i) w.notes i (n.numbers (node_key i known.node p.invoke_id)) (Some (record { number = number; held = Open t }))
       (n.tickets (node_key i known.node p.invoke_id)) =
-      subst (λ (v : Option Client). TicketFits (n.asks_from i) n.now w.notes i (n.numbers (node_key i known.node p.invoke_id)) v
+      subst (λ (v : Option Client). TicketFits (is_lost n (node_key i known.node p.invoke_id)) (here_at n i) w.notes i (n.numbers (node_key i known.node p.invoke_id)) v
       (n.tickets (node_key i known.node p.invoke_id))) (ap (λ (q : PeerKey). value_at same_key q a.clients.slots) key_is ∙ there)
       (fits.found known.node known.link p.invoke_id known.at) in
-      let is = ticket_at (n.asks_from i) n.now w.notes i (n.numbers (node_key i known.node p.invoke_id)) number t
+      let is = ticket_at (is_lost n (node_key i known.node p.invoke_id)) (here_at n i) w.notes i (n.numbers (node_key i known.node p.invoke_id)) number t
       (n.tickets (node_key i known.node p.invoke_id)) found in
-      let held : TicketFits (n.asks_from i) n.now w.notes i (n.numbers (node_key i known.node p.invoke_id)) (Some (record { number = number; held = Open t })) (Some t) =
-      subst (λ (v : Option ClientTransaction). TicketFits (n.asks_from i) n.now w.notes i (n.numbers (node_key i known.node p.invoke_id))
+      let held : TicketFits (is_lost n (node_key i known.node p.invoke_id)) (here_at n i) w.notes i (n.numbers (node_key i known.node p.invoke_id)) (Some (record { number = number; held = Open t })) (Some t) =
+      subst (λ (v : Option ClientTransaction). TicketFits (is_lost n (node_key i known.node p.invoke_id)) (here_at n i) w.notes i (n.numbers (node_key i known.node p.invoke_id))
       (Some (record { number = number; held = Open t })) v) is.0 found in
       record {
         server = known.node;
@@ -283,7 +284,7 @@ module _ (links : ℕ → Option Octets) (apart : (i j : ℕ) (l : Octets) → l
         let numbers : n.numbers (node_key i one.server p.invoke_id) ≡ n.numbers (node_key i two.server q.invoke_id) =
         (let e : Some (n.numbers (node_key i one.server p.invoke_id)) ≡ Some (n.numbers (node_key i two.server q.invoke_id)) =
         sym one.number_is ∙ two.number_is in cc) in
-        let key = (reached_net W x bound n over.sound).apart (node_key i one.server p.invoke_id) (node_key i two.server q.invoke_id) t u
+        let key = (reached_net W x bound over.sound.0 over.sound.2 over.sound.1 n over.sound.3).apart (node_key i one.server p.invoke_id) (node_key i two.server q.invoke_id) t u
         one.ticket two.ticket numbers in
         let link : one.link ≡ two.link =
         (let e : Some one.link ≡ Some two.link = sym one.linked ∙ ap (λ (k : Key). links k.server) key ∙ two.linked in cc) in
@@ -291,10 +292,11 @@ module _ (links : ℕ → Option Octets) (apart : (i j : ℕ) (l : Octets) → l
     going = λ p number t there. (ticket_of p number t there).going;
   }
 
-pub nodes_in_order : (W overtake : ℕ) (opening reached : World) → IsFresh opening → IsBounded W overtake opening
+pub nodes_in_order : (W overtake : ℕ) (opening reached : World) → IsFresh opening → IsTimely opening.time.pace → IsBounded W overtake opening
     → (events : List Event) → WorldRun overtake opening events reached → NodesAreInOrder reached
-nodes_in_order W overtake opening reached fresh bounded events run i a at =
+nodes_in_order W overtake opening reached fresh timely bounded events run i a at =
     let x : Rules = rules_of overtake opening in
     let bound = rules_bounded W overtake opening bounded in
-    let f = on_run (link_at opening.nodes) fresh.apart W x bound refl events opening reached net_start (fresh_over W overtake opening fresh bounded) run in
+    let f = on_run (link_at opening.nodes) fresh.apart W x bound refl events opening reached (opened_net opening)
+    (fresh_over W overtake opening fresh timely bounded) run in
     tickets_apart (link_at opening.nodes) fresh.apart W x bound reached f.net f.over i a at

@@ -1,6 +1,6 @@
 -- Once an entry keeps the answer to an ask, in one APDU, its ticket takes that answer whenever it comes in time, also where its server restarts: no segment
 -- of a reply can come, and a request that was sent whole stays so.
-use Rattle.std.proofs.Common.{◌≡◌, ℕ, ◌+◌, ◌-◌, ◌<◌, ◌≤◌, ◌⊎◌, Bool, true, false, ◌&&◌, ◌||◌, not, List, [], ◌∷◌, ◌++◌, Option, Some, None}
+use Rattle.std.proofs.Common.{◌≡◌, ℕ, ◌+◌, ◌-◌, ◌≤◌, ◌⊎◌, Bool, true, false, ◌&&◌, ◌||◌, not, List, [], ◌∷◌, ◌++◌, Option, Some, None}
 use Rattle.std.proofs.Common.{slice_get, if◌then◌else◌, nat_eq, nat_le, nat_lt, refl, sym, ap, subst, inl, inr, ◌∙◌, arith}
 use Rattle.std.specs.Prelude.{is_some}
 use Rattle.std.proofs.lemmas.Bool.Decides.{nat_tests}
@@ -8,7 +8,7 @@ use Rattle.bac_apdu.specs.Apdu.{Apdu}
 use Rattle.bac_apdu.specs.Apdu.Apdu.{ConfirmedRequest, SimpleAck, ComplexAck, SegmentAck, Error, Reject, Abort}
 use Rattle.bac_segment.specs.Window.{Outgoing, outgoing, is_finished, acknowledged, again}
 use Rattle.bac_service.specs.Choices.{has_simple_ack, has_complex_ack}
-use Rattle.bac_protocol.specs.declared.times.TheConstants.{T_OUT, T_SEG, LIFE, DEADLINE, KEEP}
+use Rattle.bac_protocol.specs.declared.times.TheConstants.{T_OUT, T_SEG, DEADLINE, KEEP}
 use Rattle.bac_protocol.specs.Context.{Context}
 use Rattle.bac_protocol.specs.Service.{Octets, OTHER, Readable, Reply as reply}
 use Rattle.bac_protocol.specs.Service.Ending.{Answered, Aborted, TimedOut, Expired}
@@ -32,7 +32,7 @@ use Rattle.bac_protocol.proofs.Own.{client_sends_own}
 use Rattle.bac_liveness.specs.Runs.{StaysSince}
 use Rattle.bac_protocol.specs.Pace.{clock_at}
 use Rattle.bac_protocol.proofs.Paces.{shown_at}
-use Rattle.bac_liveness.proofs.Paths.{Bounded, path_bounded, step_restarted, some_is, ask_of, Comes, Step, Path, step_now}
+use Rattle.bac_liveness.proofs.Paths.{Bounded, path_bounded, step_restarted, some_is, ask_of, Comes, Step, Path}
 use Rattle.bac_liveness.proofs.Paths.Step.{Asks, Serves, Hears, TicksTicket, TicksEntry, Passes, Changes, RestartsClient, RestartsServer}
 use Rattle.bac_liveness.proofs.Paths.Path.{Here, Then}
 use Rattle.bac_liveness.proofs.Changes.{IsThere, there_step}
@@ -370,13 +370,16 @@ module _ (x : Rules) (Q : Net → ℕ → Bool → Service → Type 0) (key : Ke
       where
         go : (b : Bool) → IsDoneOrLost n.pace n.now (if b then clock_at n.pace exact else n.server_clocks key.server)
             (if b then (clock_at n.pace exact).shows + KEEP + 1 else n.serves_from key.server) (if b then None else n.entries key)
-        go true = inr (refl, record {
-          restarted = n.now;
-          shown = (clock_at n.pace exact).shows;
-          after = h.runs.since.on;
-          since = since_now n.pace n.now (clock_at n.pace exact) (shown_at n.pace h.runs.timely.some exact);
-          from_is = refl;
-        })
+        go true = inr (
+          refl,
+          record {
+            restarted = n.now;
+            shown = (clock_at n.pace exact).shows;
+            after = h.runs.since.on;
+            since = since_now n.pace n.now (clock_at n.pace exact) (shown_at n.pace h.runs.timely.some exact);
+            from_is = refl;
+          },
+        )
         go false = h.entry
 
     own_hears : (k : Key) → k ≡ key → (t : ClientTransaction) → n.tickets k ≡ Some t → (a : Apdu) → IsWhole a

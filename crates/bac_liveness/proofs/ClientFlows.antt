@@ -19,7 +19,7 @@ use Rattle.bac_protocol.specs.Client as client
 use Rattle.bac_protocol.specs.Client.{Ask, Phase, ClientTransaction, Reaction, is_idle}
 use Rattle.bac_protocol.specs.Client.Phase.{SegmentedRequest, AwaitConfirmation, SegmentedConf, Idle}
 use Rattle.bac_protocol.specs.Client.Reaction.{Stays, GoesOn, Repeats, Ends}
-use Rattle.bac_protocol.specs.Server.{ServerTransaction, is_live}
+use Rattle.bac_protocol.specs.Server.{ServerTransaction}
 use Rattle.bac_protocol.specs.Own.{lesser_window}
 use Rattle.bac_protocol.specs.Transaction.{Key, Rules, Copy, client_context}
 use Rattle.bac_protocol.proofs.Facts.{pieces_length}

@@ -1,8 +1,8 @@
 -- One ask by the clocks of its two ends, on any path of steps.
-use Rattle.std.proofs.Common.{◌≡◌, ℕ, ◌+◌, ◌-◌, ◌<◌, ◌≤◌, Bool, true, false, Some, if◌then◌else◌, nat_eq, refl, sym, subst, nat_le, arith}
+use Rattle.std.proofs.Common.{◌≡◌, ℕ, ◌+◌, ◌-◌, ◌<◌, ◌≤◌, Bool, true, false, if◌then◌else◌, nat_eq, refl, nat_le, arith}
 use Rattle.std.proofs.lemmas.Bool.Decides.{nat_tests}
 use Rattle.bac_protocol.specs.declared.times.TheConstants.{DEADLINE, KEEP}
-use Rattle.bac_protocol.specs.Pace.{Pace, Clock, most, least, goes_on, clock_at, steps, IsTimely, IsShown, Since}
+use Rattle.bac_protocol.specs.Pace.{Pace, Clock, most, goes_on, clock_at, steps, IsTimely, IsShown, Since}
 use Rattle.bac_protocol.specs.Server.{ServerTransaction, Service, is_live}
 use Rattle.bac_protocol.specs.Transaction.{Key, Rules}
 use Rattle.bac_protocol.specs.World.{Net, client_now, passes}

@@ -2,6 +2,7 @@
 use Rattle.std.proofs.Common.{refl, inl, arith}
 use Rattle.bac_protocol.specs.World.{post_of}
 use Rattle.bac_protocol.specs.Examples.{key, rules, append_apdu, position, position_apdu}
+use Rattle.bac_protocol.proofs.AtDrift.{lives}
 use Rattle.bac_liveness.specs.Examples.{whole_ask, LateTick, LateAnswer, OneRoundTrip, SecondRoundTrip}
 use Rattle.bac_liveness.specs.Examples.{RoundTripOfSegment, FourthSending, LateTurn, StoppedReply, HalfWindow}
 use Rattle.bac_liveness.specs.RoundTrip.{FitsInOne}
@@ -10,6 +11,7 @@ use Rattle.bac_liveness.specs.Failures.{WindowUsedUp, ReplyUsedUp, TooOld, OutOf
 pub late_tick : LateTick
 late_tick = record {
   bounded = record { some = omega arith; windows = λ node. omega arith; room = omega arith };
+  timely = lives.today;
   ticket = refl;
   late = omega arith;
   client = (0, omega arith, refl);

@@ -1,11 +1,11 @@
 -- Each ask ends, once.
 use Rattle.std.proofs.Common.{◌≡◌, ℕ, zero, suc, ◌-◌, ◌<◌, ◌⊎◌, Bool, true, false, ◌||◌, not, List, [], ◌∷◌, Option, Some, None, if◌then◌else◌}
-use Rattle.std.proofs.Common.{nat_eq, nat_le, nat_lt, ◌+◌, ◌&&◌, refl, sym, ap, subst, inl, inr, ◌∙◌, arith}
+use Rattle.std.proofs.Common.{nat_eq, nat_lt, ◌&&◌, refl, sym, ap, subst, inl, inr, ◌∙◌, arith}
 use Rattle.std.proofs.lemmas.Bool.Decides.{nat_tests}
 use Rattle.std.specs.List.{Contains}
 use Rattle.bac_apdu.specs.Apdu.{Apdu}
 use Rattle.bac_apdu.specs.Apdu.Apdu.{ConfirmedRequest, UnconfirmedRequest, SimpleAck, ComplexAck, SegmentAck, Error, Reject, Abort}
-use Rattle.bac_protocol.specs.declared.times.TheConstants.{DEADLINE, REST}
+use Rattle.bac_protocol.specs.declared.times.TheConstants.{DEADLINE}
 use Rattle.bac_protocol.specs.Context.{Context}
 use Rattle.bac_protocol.specs.Service.{Ending}
 use Rattle.bac_protocol.specs.Service.Ending.{Expired}
@@ -19,7 +19,7 @@ use Rattle.bac_protocol.specs.Log.Fact.{Asked, Performed, Ended, Changed, Restar
 use Rattle.bac_protocol.specs.Transaction.{Key, Rules, client_context, ended}
 use Rattle.bac_protocol.specs.World.{is_key_held, Net, World, Event, is_id_held, happens, run, start, ticks_ticket, ticks_as_client, ticks_as_server}
 use Rattle.bac_protocol.specs.Pace.{Pace, IsTimely}
-use Rattle.bac_protocol.specs.World.{client_now, server_now, takes_at_client, takes_at_server, arrives, delivered}
+use Rattle.bac_protocol.specs.World.{client_now, takes_at_client, takes_at_server, arrives, delivered}
 use Rattle.bac_protocol.specs.World.Event.{Tick, Deliver}
 use Rattle.bac_protocol.specs.Claims.{IsBounded, ClientStays}
 use Rattle.bac_protocol.proofs.Dead.{ended_is_silent}

@@ -6,7 +6,6 @@ use Rattle.bac_apdu.specs.Apdu.{Apdu, Segment}
 use Rattle.bac_apdu.specs.Apdu.Apdu.{ConfirmedRequest, UnconfirmedRequest, SimpleAck, ComplexAck, SegmentAck, Error, Reject, Abort}
 use Rattle.bac_segment.specs.Window.{Outgoing, Incoming, incoming, Taking, takes}
 use Rattle.bac_protocol.specs.declared.times.TheConstants.{KEEP}
-use Rattle.bac_protocol.specs.Pace.{IsTimely}
 use Rattle.bac_protocol.proofs.Paces.{beyond_least}
 use Rattle.bac_protocol.specs.Context.{Context}
 use Rattle.bac_protocol.specs.Service.{Octets, Readable}

@@ -1,9 +1,9 @@
 -- While an ask is in time its invoke ID is held, or its client waits after a restart; and an entry that is done for an ask.
-use Rattle.std.proofs.Common.{◌≡◌, ℕ, ◌+◌, ◌-◌, ◌≤◌, Bool, true, false, ◌&&◌, ◌||◌, not, Some, nat_le, nat_lt, refl, ap, ◌∙◌, arith}
+use Rattle.std.proofs.Common.{◌≡◌, ℕ, ◌-◌, ◌≤◌, Bool, true, false, ◌&&◌, ◌||◌, not, Some, nat_le, nat_lt, refl, ap, ◌∙◌, arith}
 use Rattle.std.proofs.lemmas.Bool.Decides.{nat_tests}
 use Rattle.bac_apdu.specs.Apdu.{Apdu}
 use Rattle.bac_protocol.specs.declared.times.TheConstants.{HOLD, REST}
-use Rattle.bac_protocol.specs.Client.{Ask, is_idle, is_held}
+use Rattle.bac_protocol.specs.Client.{Ask, is_idle}
 use Rattle.bac_protocol.specs.Server.{ServerTransaction, Service}
 use Rattle.bac_protocol.specs.Server.State.{Done}
 use Rattle.bac_protocol.specs.Transaction.{Key, Rules}

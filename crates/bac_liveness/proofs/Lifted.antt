@@ -21,10 +21,10 @@ use Rattle.bac_protocol.specs.World.{client_restarted, server_restarted}
 use Rattle.bac_protocol.specs.World.{delivered, arrives, takes_at_client, takes_at_server, ticks_ticket, ticks_as_client, ticks_as_server, serves, service_of}
 use Rattle.bac_protocol.specs.World.{happens, run, start, post_of}
 use Rattle.bac_protocol.specs.World.Event.{MakeAsk, Deliver, Tick, Noise, Advance, Change, RestartClient, RestartServer}
-use Rattle.bac_protocol.specs.Pace.{Pace, IsTimely, goes_on, clock_at}
+use Rattle.bac_protocol.specs.Pace.{Pace, IsTimely, clock_at}
 use Rattle.bac_protocol.specs.World.{client_now, server_now}
 use Rattle.bac_protocol.proofs.Paces.{shows_on}
-use Rattle.bac_protocol.specs.Claims.{Moments, moments_of, IsBounded, EachCopy}
+use Rattle.bac_protocol.specs.Claims.{moments_of, IsBounded, EachCopy}
 use Rattle.bac_protocol.proofs.Alone.{one, sent}
 use Rattle.bac_protocol.proofs.Asks.{IsSpent}
 use Rattle.bac_protocol.proofs.Claimed.{in_place}
@@ -36,7 +36,7 @@ use Rattle.bac_protocol.proofs.Calm.{spent_free}
 use Rattle.bac_protocol.proofs.Owned.{own_in_run}
 use Rattle.bac_liveness.proofs.Paths.{some_is}
 use Rattle.bac_liveness.proofs.Flow.{Hands, reach, SaysLimits, AllUp, all_up, all_limits, request_window_near, PhaseFlows, Flow, flow_later, client_flows}
-use Rattle.bac_liveness.proofs.InRun.{hands_of, L_small, ticks_flow, entry_ticks_flow, served_flow, served_by, heard_by}
+use Rattle.bac_liveness.proofs.InRun.{L_small, ticks_flow, entry_ticks_flow, served_flow, served_by, heard_by}
 
 module _ (W : ℕ) (x : Rules) (bound : IsBounded W x) (key : Key) (some : 0 < lesser_window x key) where
   abbrev pub FlowOf : Hands → ClientTransaction → Option ServerTransaction → List Copy → Type 0
@@ -380,7 +380,6 @@ module _ (W : ℕ) (x : Rules) (bound : IsBounded W x) (key : Key) (some : 0 < l
     -- Runs.
 
     module _ (pace : Pace) (timely : IsTimely pace) (clocks : ℕ → ℕ) where
-
       abbrev reached : List Event → World S
       reached events = run S model x events (start S pace clocks opening)
 

@@ -1,6 +1,6 @@
 -- A run of events is a path of single steps of one end, or of asks, of time, of changes at nodes, or of restarts. Of each delivery to a server a premise
 -- says with which service it comes, and whether a slot is free.
-use Rattle.std.proofs.Common.{◌≡◌, ℕ, zero, suc, ◌+◌, ◌<◌, ◌≤◌, Bool, true, false, List, [], ◌∷◌, ◌++◌, map, Option, Some, None, slice_get, if◌then◌else◌}
+use Rattle.std.proofs.Common.{◌≡◌, ℕ, zero, suc, ◌+◌, ◌≤◌, Bool, true, false, List, [], ◌∷◌, ◌++◌, map, Option, Some, None, slice_get, if◌then◌else◌}
 use Rattle.std.proofs.Common.{◌⊎◌, nat_eq, refl, inl, inr, subst, arith}
 use Rattle.bac_protocol.specs.Service.{Octets, Ending}
 use Rattle.bac_protocol.specs.Wire.{is_from_client}

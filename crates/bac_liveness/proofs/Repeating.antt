@@ -21,11 +21,13 @@ use Rattle.bac_protocol.specs.Server as server
 use Rattle.bac_protocol.specs.Server.{Effect, Service, is_none_live, live_entry, server_on_apdu}
 use Rattle.bac_protocol.specs.Log as octets
 use Rattle.bac_protocol.specs.Transaction.{Key, Rules, client_context, server_context, ended}
-use Rattle.bac_protocol.specs.World.{Net, Post, post_of, asked_at, client_acts, net_start}
+use Rattle.bac_protocol.specs.World.{Net, Post, post_of, asked_at, client_acts, client_now, server_now, is_lost, is_room}
 use Rattle.bac_protocol.specs.Moves.{taken_by_client}
 use Rattle.bac_protocol.specs.Straight.{KindFits}
 use Rattle.bac_protocol.specs.Claims as claims
+use Rattle.bac_protocol.specs.Pace.{Clock, IsTimely}
 use Rattle.bac_protocol.proofs.SingleMoves.{reached_net, reached_calm}
+use Rattle.bac_liveness.specs.Runs.{StaysSince}
 use Rattle.bac_liveness.specs.RoundTrip.{FitsInOne, request_to, answer_to}
 use Rattle.bac_liveness.specs.Repeats as machine
 use Rattle.bac_liveness.specs.Repeats.{PATIENCE}
@@ -42,11 +44,11 @@ use Rattle.bac_transaction.specs.Services.{service_of}
 use Rattle.bac_world.specs.Services.{Performed, ArePerformed}
 use Rattle.bac_world.specs.Node.{Node}
 use Rattle.bac_world.specs.Once.{Stores, IsOnce}
-use Rattle.bac_world.specs.World.{World, Event, Copy, WorldStep, WorldRun, IsFresh, IsBounded, IsAsked, RunsOn, link_at, stores_of, peer_at}
+use Rattle.bac_world.specs.World.{World, Event, Copy, WorldStep, WorldRun, IsFresh, IsBounded, IsAsked, RunsOn, told, link_at, stores_of, peer_at}
 use Rattle.bac_world.specs.World.Event.{Deliver}
 use Rattle.bac_world.proofs.Pairs.{IsPaired}
 use Rattle.bac_world.proofs.Logs.{FactMeans}
-use Rattle.bac_world.proofs.Bridge.{IsCopyOf, IsBetween, TicketFits, key_of, slot_key}
+use Rattle.bac_world.proofs.Bridge.{here_at, IsCopyOf, IsBetween, TicketFits, key_of, slot_key}
 use Rattle.bac_world.proofs.Steps.{Over}
 use Rattle.bac_world.proofs.Serving.{room_is}
 use Rattle.bac_world.proofs.Asking.{accepted_whole}
@@ -56,9 +58,9 @@ use Rattle.bac_liveness.specs.WorldRoundTrip.{MayArrive, IsRequest, CanPerform, 
 use Rattle.bac_liveness.specs.WorldRepeats.{FindsServer, IsWaiting, IsRobust, RepeatsSuffice}
 use Rattle.bac_liveness.proofs.Following.{Gives, Followed, Parts, IsTaken, IsServedBy, served_reaction, accepted, asked_free, post, comes, heard_now}
 use Rattle.bac_liveness.proofs.Following.{served_over, told_over, run_followed}
-use Rattle.bac_liveness.proofs.Asked.{key, ask, made, made_over, node_at, stays, client_link, server_link, foreign, request_is, is_request}
+use Rattle.bac_liveness.proofs.Asked.{key, ask, made, made_over, made_bounded, node_at, stays, client_link, server_link, foreign, request_is, is_request}
 use Rattle.bac_liveness.proofs.Asked.{pairwise_rest, just_one}
-use Rattle.bac_liveness.proofs.WorldEndings.{run_join, on_run}
+use Rattle.bac_liveness.proofs.WorldEndings.{run_join, on_run, opened_net}
 use Rattle.bac_liveness.proofs.Performing.{id_is, is_none, entry_is, slot, outcome, way, does, reaction}
 use Rattle.bac_liveness.proofs.Values.{answered_values, reply_kind}
 
@@ -88,10 +90,10 @@ module _ (links : ℕ → Option Octets) (apart : (i j : ℕ) (l : Octets) → l
   Finding = FindsServer x.overtake s a.before a.accepted.invoke_id r a.sent
 
   abbrev Goes : Net → ℕ → Bool → Service → Type 0
-  Goes = Finds x its_key its_ask n.asks
+  Goes = Finds x its_key its_ask n.asks n.now
 
   abbrev On : Net → Type 0
-  On = Waits x its_key its_ask n.asks
+  On = Waits x its_key its_ask n.asks n.now
 
   same_node : its_key.client ≡ its_key.server → ⊥
   same_node = foreign links apart W x bound readable old n h c s limits r asked a p
@@ -109,8 +111,8 @@ module _ (links : ℕ → Option Octets) (apart : (i j : ℕ) (l : Octets) → l
     at : slice_get w.nodes s ≡ Some t.before
     at = sym (ap (λ (k : Key). slice_get w.nodes k.server) is) ∙ so.node
 
-    finds : Finding w (Deliver number) → is_none_live m.now (m.entries its_key) ≡ true
-        → (q : Reply) × (is_free m.now t.before.servers ≡ true) × (service_of t.before.store its_ask.choice (join its_ask.pieces) ≡ Replies q)
+    finds : Finding w (Deliver number) → is_none_live (server_now m its_key) (m.entries its_key) ≡ true
+        → (q : Reply) × (is_free (server_now m its_key) t.before.servers ≡ true) × (service_of t.before.store its_ask.choice (join its_ask.pieces) ≡ Replies q)
         × FitsInOne x its_key its_ask q
     finds f none = (
       can.reply,
@@ -123,9 +125,9 @@ module _ (links : ℕ → Option Octets) (apart : (i j : ℕ) (l : Octets) → l
       },
     )
       where
-        can : CanPerform w.now a.before t.before a.accepted.invoke_id r
+        can : CanPerform (told w s) a.before t.before a.accepted.invoke_id r
         can = f d t.may (is_request links apart W x bound readable old n h c s limits r asked a p whole y d t.copied is apdu) t.before at
-            (entry_is links apart W x bound readable old n h c s limits r asked a p w m over t.before at ∙ is_none m.now (m.entries its_key) none)
+            (entry_is links apart W x bound readable old n h c s limits r asked a p w m over t.before at ∙ is_none (server_now m its_key) (m.entries its_key) none)
 
         reaction_is : served_reaction links apart W x bound readable w w' m over number y d t
             ≡ does links apart W x bound readable old n h c s limits r asked a p w m over t.before at can
@@ -141,32 +143,46 @@ module _ (links : ℕ → Option Octets) (apart : (i j : ℕ) (l : Octets) → l
   gives w m over (Deliver number) f = λ w' y d t up on none.
       let same = some_is y on.post (sym t.at ∙ on.at) in
       let found = finds w w' m over number y d t (ap (λ (z : Post). z.key) same ∙ on.key_is) (ap (λ (z : Post). z.copy.apdu) same ∙ on.apdu_is) f none in
-      let node = at w w' m over number y d t (ap (λ (z : Post). z.key) same ∙ on.key_is) (ap (λ (z : Post). z.copy.apdu) same ∙ on.apdu_is) in
-      (found.0, room_is m its_key t.before.servers (over.nodes s t.before node).serves ∙ found.1, found.2, found.3)
+      let node = at w w' m over number y d t (ap (λ (z : Post). z.key) same ∙ on.key_is) (ap (λ (z : Post). z.copy.apdu) same ∙ on.apdu_is) in (
+        found.0,
+        ap (λ (k : Key). is_room m its_key (is_free (server_now m k) t.before.servers)) (ap (λ (z : Post). z.key) same ∙ on.key_is)
+            ∙ room_is m its_key t.before.servers (over.nodes s t.before node).serves ∙ found.1,
+        found.2,
+        found.3,
+      )
   gives w m over (Event.Noise node from data') f = tt
   gives w m over (Event.Tick node) f = tt
-  gives w m over (Event.Advance by) f = tt
+  gives w m over (Event.Advance by own) f = tt
   gives w m over (Event.Change node change) f = tt
-  gives w m over (Event.Restart node store) f = tt
+  gives w m over (Event.Restart node exact store) f = tt
 
   -- It is waited for.
 
   first_on : On first
-  first_on = subst (λ (b : Bool). Waits x its_key (ask_of n.now (choice_of r) b p.front p.rest) n.asks
-      (asked_at x n its_key (ask_of n.now (choice_of r) b p.front p.rest))) (sym whole)
-      (asked_on W x n (reached_net W x bound n h.sound) its_key (choice_of r) p.front p.rest (reached_calm W x bound n h.sound)
+  first_on = subst (λ (b : Bool). Waits x its_key (ask_of (here_at n c) (choice_of r) b p.front p.rest) n.asks n.now
+      (asked_at x n its_key (ask_of (here_at n c) (choice_of r) b p.front p.rest))) (sym whole)
+      (asked_on W x n (reached_net W x bound h.sound.0 h.sound.2 h.sound.1 n h.sound.3) its_key (choice_of r) p.front p.rest
+      (reached_calm W x bound h.sound.0 h.sound.2 h.sound.1 n h.sound.3)
       (asked_free links apart W x bound readable old n h c s limits r asked a p))
 
   followed : (events : List Event) (w : World) (run : WorldRun x.overtake asked events w) → Throughout x.overtake Finding asked events w run
-      → Followed links apart W x bound readable Goes w first
+      → Followed links apart W x bound readable Goes events w first
   followed events w run each = run_followed links apart W x bound readable Goes Finding gives events asked w first
       (made_over links apart W x bound readable old n h c s limits r asked a p) run each
 
-  wait_limit : (w : World) (m : Net) → Over links apart W x w m → w.now < old.now + PATIENCE → m.now < its_ask.first + PATIENCE
-  wait_limit w m over young = let one = over.now in let two = h.now in omega arith
+  wait_limit : (w : World) (m : Net) → Over links apart W x w m → told w c < told old c + PATIENCE → client_now m its_key < its_ask.first + PATIENCE
+  wait_limit w m over young =
+      let one : here_at m c ≡ told w c = ap (λ (y : Clock). y.shows) (over.here c) in
+      let two : here_at n c ≡ told old c = ap (λ (y : Clock). y.shows) (h.here c) in
+      omega arith
 
-  on_of : (w : World) (f : Followed links apart W x bound readable Goes w first) → w.now < old.now + PATIENCE → On f.net
-  on_of w f young = waits_path x its_key its_ask n.asks whole first f.net f.path first_on (wait_limit w f.net f.over young)
+  lives : (events : List Event) (w : World) (f : Followed links apart W x bound readable Goes events w first) → RunsOn c events → StaysSince f.net its_key n.now
+  lives events w f life = stays links apart W x bound readable old n h c s limits r asked a p f.net (f.lives c life)
+
+  on_of : (events : List Event) (w : World) (f : Followed links apart W x bound readable Goes events w first) → RunsOn c events
+      → told w c < told old c + PATIENCE → On f.net
+  on_of events w f life young = waits_path x its_key its_ask n.asks n.now whole first f.net f.path
+      (made_bounded links apart W x bound readable old n h c s limits r asked a p) first_on (lives events w f life) (wait_limit w f.net f.over young)
 
   spelled : SpellsRequest (request_of its_ask).choice r (request_of its_ask).service
   spelled = subst (λ (z : Octets). SpellsRequest (choice_of r) r z) (sym p.joined) a.asks.spelled
@@ -178,10 +194,10 @@ module _ (links : ℕ → Option Octets) (apart : (i j : ℕ) (l : Octets) → l
       (answered_values opening (stores_of w.nodes) n.asks (request_of its_ask) k.0 log w.log means right k.1 r spelled k.2)
 
   -- the ticket at its client
-  waiting : (w : World) (m : Net) → Over links apart W x w m → m.now < its_ask.first + PATIENCE → (o : On m) → (t : ClientTransaction) → m.tickets its_key ≡ Some t
-      → t.phase ≡ AwaitConfirmation → (T_OUT ≤ m.now - t.since → 0 < t.repeats) → IsWaiting w c a.link a.accepted.invoke_id
+  waiting : (w : World) (m : Net) → Over links apart W x w m → client_now m its_key < its_ask.first + PATIENCE → (o : On m) → (t : ClientTransaction) → m.tickets its_key ≡ Some t
+      → t.phase ≡ AwaitConfirmation → (T_OUT ≤ client_now m its_key - t.since → 0 < t.repeats) → IsWaiting w c a.link a.accepted.invoke_id
   waiting w m over young o t at waits left = go (value_at same_key (slot_key a.link p.id) node.0.clients.slots) refl
-      (subst (λ (z : Option ClientTransaction). TicketFits (m.asks_from c) m.now w.notes c (m.numbers its_key) (value_at same_key (slot_key a.link p.id) node.0.clients.slots) z) at
+      (subst (λ (z : Option ClientTransaction). TicketFits (is_lost m its_key) (here_at m c) w.notes c (m.numbers its_key) (value_at same_key (slot_key a.link p.id) node.0.clients.slots) z) at
       ((over.nodes c node.0 node.1).clients.found s a.link p.id (server_link links apart W x bound readable old n h c s limits r asked a p)))
     where
       node : (b : Node) × (slice_get w.nodes c ≡ Some b)
@@ -192,7 +208,7 @@ module _ (links : ℕ → Option Octets) (apart : (i j : ℕ) (l : Octets) → l
       going = ap is_idle waits
 
       go : (v : Option Client) → value_at same_key (slot_key a.link p.id) node.0.clients.slots ≡ v
-          → TicketFits (m.asks_from c) m.now w.notes c (m.numbers its_key) v (Some t) → IsWaiting w c a.link a.accepted.invoke_id
+          → TicketFits (is_lost m its_key) (here_at m c) w.notes c (m.numbers its_key) v (Some t) → IsWaiting w c a.link a.accepted.invoke_id
       go None look f = absurd (let z = sym going ∙ f.over in cc)
       go (Some v) look f = record {
         node = node.0;
@@ -203,30 +219,28 @@ module _ (links : ℕ → Option Octets) (apart : (i j : ℕ) (l : Octets) → l
             (id_is links apart W x bound readable old n h c s limits r asked a p) ∙ look
             ∙ ap (λ (z : TransactionSlot). Some (record { number = v.number; held = z })) (f.held ∙ ap (λ (b : Bool). open_unless b t) going);
         waits = waits;
-        left = λ due. let some = left (subst (λ (k : ℕ). T_OUT ≤ k - t.since) (sym over.now) due) in omega arith;
+        left = λ due. let some = left (subst (λ (k : ℕ). T_OUT ≤ k - t.since) (sym (ap (λ (y : Clock). y.shows) (over.here c))) due) in omega arith;
       }
 
   waits : (events : List Event) (w : World) (run : WorldRun x.overtake asked events w) → Throughout x.overtake Finding asked events w run
-      → RunsOn c events → w.now < old.now + PATIENCE → IsWaiting w c a.link a.accepted.invoke_id ⊎ IsAnswered (length old.notes) r w.log
+      → RunsOn c events → told w c < told old c + PATIENCE → IsWaiting w c a.link a.accepted.invoke_id ⊎ IsAnswered (length old.notes) r w.log
   waits events w run each life young = go o.ticket.state
     where
-      f : Followed links apart W x bound readable Goes w first
+      f : Followed links apart W x bound readable Goes events w first
       f = followed events w run each
 
       o : On f.net
-      o = on_of w f young
+      o = on_of events w f life young
 
-      go : PatientOrOver x its_key its_ask n.asks (f.net.asks_from its_key.client) f.net.now o.ticket.ticket f.net.log
+      go : PatientOrOver x its_key its_ask n.asks n.now (client_now f.net its_key) o.ticket.ticket f.net.log
           → IsWaiting w c a.link a.accepted.invoke_id ⊎ IsAnswered (length old.notes) r w.log
       go (inl k) = inl (waiting w f.net f.over (wait_limit w f.net f.over young) o o.ticket.ticket o.ticket.at k.waits
-          (λ due. repeat_left x its_key its_ask n.asks f.net.now o.ticket.ticket k (wait_limit w f.net f.over young) due))
-      go (inr (idle, inl answered)) = inr (answered_as w f.net f.net.log f.over.log (once events w run) answered)
-      go (inr (idle, inr lost)) =
-          let made_since = stays links apart W x bound readable old n h c s limits r asked a p events w run life f.net f.over in absurd (omega arith)
+          (λ due. repeat_left x its_key its_ask n.asks n.now (client_now f.net its_key) o.ticket.ticket k (wait_limit w f.net f.over young) due))
+      go (inr (idle, answered)) = inr (answered_as w f.net f.net.log f.over.log (once events w run) answered)
 
   -- A copy of the request brings an answer.
 
-  module _ (w served : World) (m : Net) (over : Over links apart W x w m) (on : On m) (young : m.now < its_ask.first + PATIENCE) (number : ℕ) (d : Copy)
+  module _ (w served : World) (m : Net) (over : Over links apart W x w m) (on : On m) (young : client_now m its_key < its_ask.first + PATIENCE) (number : ℕ) (d : Copy)
       (may : MayArrive x.overtake w number d) (q : IsRequest a.sent d) (f : Finding w (Deliver number))
       (did : WorldStep x.overtake w (Deliver number) served) where
     abbrev y : IsPaired (IsCopyOf links apart) m.posts number d
@@ -241,13 +255,13 @@ module _ (links : ℕ → Option Octets) (apart : (i j : ℕ) (l : Octets) → l
     served_so : IsServedBy links apart W x bound readable w served m over number y.other d taken
     served_so = served_over links apart W x bound readable w served m over number y.other d taken (ap is_from_client is.1)
 
-    brought : (u : Reply) × ((server_on_apdu (server_context x its_key m.now) (service_of taken.before.store) (m.entries its_key)
-        (is_free m.now taken.before.servers) (request_to x its_key its_ask)).sends ≡ answer_to x its_key its_ask u ∷ [])
-    brought = brings_answer x its_key its_ask n.asks m on young (service_of taken.before.store) (is_free m.now taken.before.servers)
+    brought : (u : Reply) × ((server_on_apdu (server_context x its_key (server_now m its_key)) (service_of taken.before.store) (m.entries its_key)
+        (is_free (server_now m its_key) taken.before.servers) (request_to x its_key its_ask)).sends ≡ answer_to x its_key its_ask u ∷ [])
+    brought = brings_answer x its_key its_ask n.asks n.now m on young (service_of taken.before.store) (is_free (server_now m its_key) taken.before.servers)
         (λ none. finds w served m over number y.other d taken is.0 is.1 f none)
 
     abbrev gets : Key → Apdu → server.Reaction
-    gets k z = server_on_apdu (server_context x k m.now) (service_of taken.before.store) (m.entries k) (is_free m.now taken.before.servers) z
+    gets k z = server_on_apdu (server_context x k (server_now m k)) (service_of taken.before.store) (m.entries k) (is_free (server_now m k) taken.before.servers) z
 
     sends_is : map (post_of y.other.key m.now) (gets y.other.key y.other.copy.apdu).sends ≡ post_of its_key m.now (answer_to x its_key its_ask brought.0) ∷ []
     sends_is = (λ i. map (post_of (is.0 i) m.now) (gets (is.0 i) (is.1 i)).sends) ∙ ap (map (post_of its_key m.now)) brought.1
@@ -280,8 +294,8 @@ module _ (links : ℕ → Option Octets) (apart : (i j : ℕ) (l : Octets) → l
 
   -- An answer is delivered.
 
-  module _ (events : List Event) (w answered : World) (run : WorldRun x.overtake asked events w) (life : RunsOn c events) (m : Net) (over : Over links apart W x w m) (on : On m)
-      (young : m.now < its_ask.first + PATIENCE) (number : ℕ) (d : Copy) (may : MayArrive x.overtake w number d)
+  module _ (events : List Event) (w answered : World) (run : WorldRun x.overtake asked events w) (m : Net) (over : Over links apart W x w m)
+      (on : On m) (young : client_now m its_key < its_ask.first + PATIENCE) (number : ℕ) (d : Copy) (may : MayArrive x.overtake w number d)
       (from : IsFromServer c s a.accepted.invoke_id d) (did : WorldStep x.overtake w (Deliver number) answered) where
     abbrev z : IsPaired (IsCopyOf links apart) m.posts number d
     z = post links apart W x bound readable w answered m over number d may.at
@@ -299,17 +313,17 @@ module _ (links : ℕ → Option Octets) (apart : (i j : ℕ) (l : Octets) → l
     heard : IsTaken links apart W x bound readable w answered m number z.other d
     heard = heard_now links apart W x bound readable w answered m over number d may.at may.arrives (away z.other.key key_is) did
 
-    fine : (q : Reply) × (z.other.copy.apdu ≡ answer_to x its_key its_ask q) × WasGiven x its_key its_ask n.asks q m.log
-    fine = fine_down x its_key its_ask n.asks m.log z.other.copy.apdu down (fine_comes x its_key its_ask n.asks m on number z.other
+    fine : (q : Reply) × (z.other.copy.apdu ≡ answer_to x its_key its_ask q) × WasGiven x its_key its_ask n.asks n.now q m.log
+    fine = fine_down x its_key its_ask n.asks n.now m.log z.other.copy.apdu down (fine_comes x its_key its_ask n.asks n.now m on number z.other
         (comes links apart W x bound readable w answered m over number z.other d heard) key_is)
 
     abbrev hears : ClientTransaction → Apdu → client.Reaction
-    hears t y = client.client_on_apdu (client_context x its_key m.now) x.readable t y
+    hears t y = client.client_on_apdu (client_context x its_key (client_now m its_key)) x.readable t y
 
     last_over : Over links apart W x answered (client_acts m its_key on.ticket.ticket (hears on.ticket.ticket (answer_to x its_key its_ask fine.0)))
     last_over = subst (λ (y : Apdu). Over links apart W x answered (client_acts m its_key on.ticket.ticket (hears on.ticket.ticket y))) fine.1
         (subst (λ (k : Key). Over links apart W x answered (client_acts m k on.ticket.ticket
-        (client.client_on_apdu (client_context x k m.now) x.readable on.ticket.ticket z.other.copy.apdu))) key_is
+        (client.client_on_apdu (client_context x k (client_now m k)) x.readable on.ticket.ticket z.other.copy.apdu))) key_is
         (subst (λ (o : Option ClientTransaction). Over links apart W x answered (taken_by_client x m z.other o)) (ap m.tickets key_is ∙ on.ticket.at)
         (told_over links apart W x bound readable w answered m over number z.other d heard down)))
 
@@ -321,29 +335,30 @@ module _ (links : ℕ → Option Octets) (apart : (i j : ℕ) (l : Octets) → l
         (once (events ++ Deliver number ∷ []) answered
         (run_join x.overtake events (Deliver number ∷ []) asked w answered run (answered, did, refl)))
         (subst (λ (k : ℕ). machine.IsAnswered n.asks its_ask (log_after k)) (sym on.number_is)
-        (told_answered x its_key its_ask n.asks m on young (stays links apart W x bound readable old n h c s limits r asked a p events w run life m over) on.ticket.ticket on.ticket.at fine.0 fine.2))
+        (told_answered x its_key its_ask n.asks n.now m on young on.ticket.ticket on.ticket.at fine.0 fine.2))
 
   pub robust : IsRobust x.overtake old c s limits r asked a
   robust = record {
     waits = λ events w run each life young. waits events w run each life young;
-    brings = λ events w run each young number d may q f served did.
+    brings = λ events w run each life young number d may q f served did.
         let g = followed events w run each in
-        brings_one w served g.net g.over (on_of w g young) (wait_limit w g.net g.over young) number d may q f did;
+        brings_one w served g.net g.over (on_of events w g life young) (wait_limit w g.net g.over young) number d may q f did;
     answers = λ events w run each life young number d may from answered did.
         let g = followed events w run each in
-        is_answered events w answered run life g.net g.over (on_of w g young) (wait_limit w g.net g.over young) number d may from did;
+        is_answered events w answered run g.net g.over (on_of events w g life young) (wait_limit w g.net g.over young) number d may from did;
   }
 
-pub repeats_suffice : (W overtake : ℕ) (opening reached : World) → IsFresh opening → IsBounded W overtake opening
+pub repeats_suffice : (W overtake : ℕ) (opening reached : World) → IsFresh opening → IsTimely opening.time.pace → IsBounded W overtake opening
     → (events : List Event) → WorldRun overtake opening events reached → RepeatsSuffice overtake reached
-repeats_suffice W overtake opening reached fresh bounded events run c s limits r asked a in_one =
+repeats_suffice W overtake opening reached fresh timely bounded events run c s limits r asked a in_one =
     let links : ℕ → Option Octets = link_at opening.nodes in
     let x : Rules = rules_of overtake opening in
     let bound = rules_bounded W overtake opening bounded in
-    let f = on_run links fresh.apart W x bound refl events opening reached net_start (fresh_over W overtake opening fresh bounded) run in
-    let p = accepted_whole (x.settings c) f.net.now (peer_at a.link) (choice_of r) a.asks.octets a.before.clients a.accepted limits
+    let f = on_run links fresh.apart W x bound refl events opening reached (opened_net opening)
+    (fresh_over W overtake opening fresh timely bounded) run in
+    let p = accepted_whole (x.settings c) (here_at f.net c) (peer_at a.link) (choice_of r) a.asks.octets a.before.clients a.accepted limits
     (accepted links fresh.apart W x bound refl reached f.net f.over c s limits r asked a)
     (subst (λ (z : Settings). request_way_of z limits a.asks.octets ≡ InOne) (f.over.nodes c a.before a.at).settings in_one) in
     robust links fresh.apart W x bound refl (stores_of opening.nodes) reached f.net f.over c s limits r asked a p.0 p.1
-    (λ more w after. headline W overtake opening w fresh bounded (events ++ Event.Ask c s limits r ∷ more)
+    (λ more w after. headline W overtake opening w fresh timely bounded (events ++ Event.Ask c s limits r ∷ more)
     (run_join overtake events (Event.Ask c s limits r ∷ more) opening reached w run (asked, inl a, after)))

@@ -5,7 +5,7 @@ use Rattle.std.proofs.lemmas.Bool.Decides.{nat_tests}
 use Rattle.std.specs.List.{Contains}
 use Rattle.bac_apdu.specs.Apdu.{Apdu}
 use Rattle.bac_segment.specs.Pieces.{join}
-use Rattle.bac_protocol.specs.declared.times.TheConstants.{T_OUT, LIFE, KEEP}
+use Rattle.bac_protocol.specs.declared.times.TheConstants.{T_OUT, KEEP}
 use Rattle.bac_protocol.specs.Service.{Octets, Reply}
 use Rattle.bac_protocol.specs.Service.Ending.{Answered}
 use Rattle.bac_protocol.specs.Client as client
@@ -30,7 +30,7 @@ use Rattle.bac_protocol.proofs.Keys.{copy_at, set_same}
 use Rattle.bac_liveness.specs.Runs.{Throughout, IsOnItsWay, StaysSince}
 use Rattle.bac_liveness.specs.RoundTrip.{FitsInOne, CanPerform, HasPerformed, IsServed, request_to, answer_to}
 use Rattle.bac_liveness.specs.Repeats.{PATIENCE, FindsServer, IsAnswered, IsWaiting, IsSentAgain, IsRobust, RepeatsSuffice}
-use Rattle.bac_liveness.proofs.Paths.{Bounded, path_bounded, path_restarted, some_is, ask_of, Gives, event_steps, run_steps, path_now, path_log, path_posts, run_path}
+use Rattle.bac_liveness.proofs.Paths.{Bounded, path_bounded, path_restarted, some_is, ask_of, Gives, event_steps, run_steps, path_log, path_posts, run_path}
 use Rattle.bac_liveness.proofs.Paths.{Any}
 use Rattle.bac_liveness.proofs.RoundTrips.{room_is, trip, bounded_in}
 use Rattle.bac_protocol.specs.Pace.{Pace, IsTimely}
@@ -94,23 +94,22 @@ module _ (S : Type 0) (model : StoreModel S) (x : Rules) (key : Key) (ask : Ask)
   waiting_of : (w : World S) → On w → IsWaiting w.net key ask ⊎ IsAnswered number ask w.net.log
   waiting_of w h = go h.ticket.state
     where
-      go : PatientOrOver x key ask number made (w.net.asks_from key.client) (client_now w.net key) h.ticket.ticket w.net.log
+      go : PatientOrOver x key ask number made (client_now w.net key) h.ticket.ticket w.net.log
           → IsWaiting w.net key ask ⊎ IsAnswered number ask w.net.log
       go (inl p) = inl (record { ticket = h.ticket.ticket; at = h.ticket.at; ask_is = h.ticket.is; waits = p.waits })
-      go (inr (idle, inl answered)) = inr answered
-      go (inr (idle, inr lost)) = absurd lost
+      go (inr (idle, answered)) = inr answered
 
   -- a tick that is due
   sent_again : (v : World S) → On v → Young v → (t : ClientTransaction) → v.net.tickets key ≡ Some t → t.phase ≡ AwaitConfirmation → T_OUT ≤ client_now v.net key - t.since
       → (as_client as_server : List Key) → Contains as_client key
       → IsSentAgain x key ask t v.net (happens S model x v (Tick as_client as_server)).net
   sent_again v h young t at awaits due as_client as_server i =
-      go (subst (λ (y : ClientTransaction). PatientOrOver x key ask number made (v.net.asks_from key.client) (client_now v.net key) y v.net.log) same h.ticket.state)
+      go (subst (λ (y : ClientTransaction). PatientOrOver x key ask number made (client_now v.net key) y v.net.log) same h.ticket.state)
     where
       same : h.ticket.ticket ≡ t
       same = some_is h.ticket.ticket t (sym h.ticket.at ∙ at)
 
-      go : PatientOrOver x key ask number made (v.net.asks_from key.client) (client_now v.net key) t v.net.log
+      go : PatientOrOver x key ask number made (client_now v.net key) t v.net.log
           → IsSentAgain x key ask t v.net (happens S model x v (Tick as_client as_server)).net
       go (inr o) = absurd (let z = sym o.0 ∙ ap is_idle awaits in cc)
       go (inl w) =
@@ -188,9 +187,8 @@ module _ (S : Type 0) (model : StoreModel S) (x : Rules) (key : Key) (ask : Ask)
             (path_log x Any b.net u.net (run_steps x S model between b) (Performed number (request_of ask) r.reply)
             (subst (λ (k : ℕ). Has (Performed k (request_of ask) r.reply) b.net.log) h.number_is (r.served).performed))
 
-        go : PatientOrOver x key ask number made (u.net.asks_from key.client) (client_now u.net key) on.ticket.ticket u.net.log → IsAnswered number ask z.net.log
-        go (inr (idle, inl answered)) = answered_grows x key ask number made u.net.log z.net.log grown answered
-        go (inr (idle, inr lost)) = absurd lost
+        go : PatientOrOver x key ask number made (client_now u.net key) on.ticket.ticket u.net.log → IsAnswered number ask z.net.log
+        go (inr (idle, answered)) = answered_grows x key ask number made u.net.log z.net.log grown answered
         go (inl p) =
             let now = (r.served).answered between (subst (λ (k : ℕ). StaysSince u.net key k) (sym h.made_is) stays)
             (record { ticket = on.ticket.ticket; at = on.ticket.at; going = ap is_idle p.waits; in_time = omega arith }) (length v.net.posts)

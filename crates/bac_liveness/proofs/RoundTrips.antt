@@ -30,12 +30,11 @@ use Rattle.bac_protocol.proofs.Sound.Down.{Unsent, Sent}
 use Rattle.bac_protocol.proofs.Nets.{NetSound, sound_at}
 use Rattle.bac_protocol.proofs.Headline.{Kept, run_kept, event_kept, start_kept}
 use Rattle.bac_protocol.proofs.Keys.{set_same}
-use Rattle.bac_protocol.proofs.Served.{BeginIs}
 use Rattle.bac_liveness.specs.Runs.{IsOnItsWay}
 use Rattle.bac_liveness.specs.RoundTrip.{request_to, segment_to, answer_to, FitsInOne, CanPerform, HasPerformed, IsOpenInTime}
 use Rattle.bac_liveness.specs.RoundTrip.{IsAnsweredNow, IsServed, RoundTripSuffices}
 use Rattle.bac_liveness.specs.Runs.{StaysSince}
-use Rattle.bac_liveness.proofs.Paths.{Path, Bounded, bounded_start, path_bounded, path_restarted, event_steps, some_is, Any, path_now, run_steps}
+use Rattle.bac_liveness.proofs.Paths.{Path, Bounded, bounded_start, path_bounded, path_restarted, event_steps, some_is, Any, run_steps}
 use Rattle.bac_liveness.proofs.Endings.{request_now, answer_now}
 use Rattle.bac_liveness.proofs.Serving.{answer_any_time, answer_not_from_client, answer_ends, answer_ends_sending, performed_entry, answers_first}
 use Rattle.bac_liveness.proofs.Serving.{answers_again, serves_new, serves_again, serves_segment}

@@ -1,66 +1,62 @@
--- In each net that moves lead to, no end waits longer than after a restart that is made now.
-use Rattle.std.proofs.Common.{ℕ, ◌+◌, ◌≤◌, Bool, true, false, List, Option, Some, None, slice_get, if◌then◌else◌, nat_eq, arith}
-use Rattle.bac_protocol.specs.declared.times.TheConstants.{KEEP, REST}
+-- The moves that lead to a net are a path, so its asks and restarts are not later than now.
+use Rattle.std.proofs.Common.{◌≡◌, ℕ, Bool, true, false, List, Option, Some, None, slice_get, if◌then◌else◌, refl}
+use Rattle.bac_protocol.specs.Pace.{Pace}
 use Rattle.bac_protocol.specs.Service.{Octets}
 use Rattle.bac_protocol.specs.Wire.{is_from_client}
 use Rattle.bac_protocol.specs.Client.{ClientTransaction}
 use Rattle.bac_protocol.specs.Server.{Service}
 use Rattle.bac_protocol.specs.Transaction.{Key, Rules}
-use Rattle.bac_protocol.specs.World.{Net, Post, asked_at, is_deliverable, is_id_held, net_start}
+use Rattle.bac_protocol.specs.World.{Net, Post, asked_at, client_now, is_deliverable, is_id_held, net_start}
 use Rattle.bac_protocol.specs.Moves.{Move, IsReached, moved, arrived, taken_by_client, taken_by_server, ticket_ticked}
 use Rattle.bac_protocol.specs.Moves.Move.{Asks, Arrives, TicksTicket, TicksEntry, Passes, Changes, RestartsClient, RestartsServer}
 use Rattle.bac_protocol.specs.Moves.IsReached.{Still, Moved}
-use Rattle.bac_liveness.proofs.Paths.{Bounded, ask_of, bounded_start}
+use Rattle.bac_liveness.proofs.Paths.{Any, Bounded, Comes, Path, Step, ask_of, bounded_start, path_bounded, path_then}
+use Rattle.bac_liveness.proofs.Paths.Path.{Here, Then}
 
-module _ (x : Rules) (n : Net) (h : Bounded n) where
-  asked_bounded : (key : Key) (choice : ℕ) (whole : Bool) (front : Octets) (rest : List Octets) (b : Bool)
-      → Bounded (if b then n else asked_at x n key (ask_of n.now choice whole front rest))
-  asked_bounded key choice whole front rest true = h
-  asked_bounded key choice whole front rest false = record { asks = h.asks; serves = h.serves }
+module _ (x : Rules) (n : Net) where
+  asks_path : (key : Key) (choice : ℕ) (whole : Bool) (front : Octets) (rest : List Octets) (b : Bool) → is_id_held n key ≡ b
+      → Path x Any n (if b then n else asked_at x n key (ask_of (client_now n key) choice whole front rest))
+  asks_path key choice whole front rest true e = Here
+  asks_path key choice whole front rest false e =
+      Then n (asked_at x n key (ask_of (client_now n key) choice whole front rest)) Here (Step.Asks key choice whole front rest e)
 
-  taken_bounded : (p : Post) (o : Option ClientTransaction) → Bounded (taken_by_client x n p o)
-  taken_bounded p None = h
-  taken_bounded p (Some t) = record { asks = h.asks; serves = h.serves }
+  taken_path : (number : ℕ) (p : Post) → Comes x n number p → is_from_client p.copy.apdu ≡ false → (o : Option ClientTransaction) → n.tickets p.key ≡ o
+      → Path x Any n (taken_by_client x n p o)
+  taken_path number p comes down None there = Here
+  taken_path number p comes down (Some t) there = Then n (taken_by_client x n p (Some t)) Here (Step.Hears number p t comes down there)
 
-  heard_bounded : (p : Post) (free : Bool) (service : Service) (up : Bool)
-      → Bounded (if up then taken_by_server x n p free service else taken_by_client x n p (n.tickets p.key))
-  heard_bounded p free service true = record { asks = h.asks; serves = h.serves }
-  heard_bounded p free service false = taken_bounded p (n.tickets p.key)
+  heard_path : (number : ℕ) (free : Bool) (service : Service) (p : Post) → Comes x n number p → (up : Bool) → is_from_client p.copy.apdu ≡ up
+      → Path x Any n (if up then taken_by_server x n p free service else taken_by_client x n p (n.tickets p.key))
+  heard_path number free service p comes true up = Then n (taken_by_server x n p free service) Here (Step.Serves number p free service comes up tt)
+  heard_path number free service p comes false down = taken_path number p comes down (n.tickets p.key) refl
 
-  arrived_bounded : (number : ℕ) (free : Bool) (service : Service) (o : Option Post) → Bounded (arrived x n number free service o)
-  arrived_bounded number free service None = h
-  arrived_bounded number free service (Some p) = go (is_deliverable x n.now number n.posts p)
+  arrived_path : (number : ℕ) (free : Bool) (service : Service) (o : Option Post) → slice_get n.posts number ≡ o → Path x Any n (arrived x n number free service o)
+  arrived_path number free service None at = Here
+  arrived_path number free service (Some p) at = go (is_deliverable x n number p) refl
     where
-      go : (b : Bool) → Bounded
+      go : (b : Bool) → is_deliverable x n number p ≡ b → Path x Any n
           (if b then (if is_from_client p.copy.apdu then taken_by_server x n p free service else taken_by_client x n p (n.tickets p.key)) else n)
-      go true = heard_bounded p free service (is_from_client p.copy.apdu)
-      go false = h
+      go true arrives = heard_path number free service p (record { at = at; arrives = arrives }) (is_from_client p.copy.apdu) refl
+      go false lost = Here
 
-  ticked_bounded : (key : Key) (o : Option ClientTransaction) → Bounded (ticket_ticked x n key o)
-  ticked_bounded key None = h
-  ticked_bounded key (Some t) = record { asks = h.asks; serves = h.serves }
+  ticked_path : (key : Key) (o : Option ClientTransaction) → n.tickets key ≡ o → Path x Any n (ticket_ticked x n key o)
+  ticked_path key None there = Here
+  ticked_path key (Some t) there = Then n (ticket_ticked x n key (Some t)) Here (Step.TicksTicket key t there)
 
-  client_bounded : (i node : ℕ) (b : Bool) → (if b then n.now + REST + 1 else n.asks_from i) ≤ n.now + REST + 1
-  client_bounded i node true = omega arith
-  client_bounded i node false = h.asks i
+  move_path : (m : Move) → Path x Any n (moved x n m)
+  move_path (Asks key choice whole front rest) = asks_path key choice whole front rest (is_id_held n key) refl
+  move_path (Arrives number free service) = arrived_path number free service (slice_get n.posts number) refl
+  move_path (TicksTicket key) = ticked_path key (n.tickets key) refl
+  move_path (TicksEntry key) = Then n (moved x n (TicksEntry key)) Here (Step.TicksEntry key)
+  move_path (Passes by clients servers) = Then n (moved x n (Passes by clients servers)) Here (Step.Passes by clients servers)
+  move_path (Changes node change) = Then n (moved x n (Changes node change)) Here (Step.Changes node change)
+  move_path (RestartsClient node exact) = Then n (moved x n (RestartsClient node exact)) Here (Step.RestartsClient node exact)
+  move_path (RestartsServer node exact store) = Then n (moved x n (RestartsServer node exact store)) Here (Step.RestartsServer node exact store)
 
-  server_bounded : (i node : ℕ) (b : Bool) → (if b then n.now + KEEP + 1 else n.serves_from i) ≤ n.now + KEEP + 1
-  server_bounded i node true = omega arith
-  server_bounded i node false = h.serves i
+reached_path : (x : Rules) (from n : Net) → IsReached x from n → Path x Any from n
+reached_path x from _ Still = Here
+reached_path x from _ (Moved n m reached) = path_then x Any from n (moved x n m) (reached_path x from n reached) (move_path x n m)
 
-  move_bounded : (m : Move) → Bounded (moved x n m)
-  move_bounded (Asks key choice whole front rest) = asked_bounded key choice whole front rest (is_id_held n key)
-  move_bounded (Arrives number free service) = arrived_bounded number free service (slice_get n.posts number)
-  move_bounded (TicksTicket key) = ticked_bounded key (n.tickets key)
-  move_bounded (TicksEntry key) = record { asks = h.asks; serves = h.serves }
-  move_bounded (Passes by) = record {
-    asks = λ node. let le = h.asks node in omega arith;
-    serves = λ node. let le = h.serves node in omega arith;
-  }
-  move_bounded (Changes node change) = record { asks = h.asks; serves = h.serves }
-  move_bounded (RestartsClient node) = record { asks = λ i. client_bounded i node (nat_eq i node); serves = h.serves }
-  move_bounded (RestartsServer node store) = record { asks = h.asks; serves = λ i. server_bounded i node (nat_eq i node) }
-
-pub reached_bounded : (x : Rules) (n : Net) → IsReached x net_start n → Bounded n
-reached_bounded x _ Still = bounded_start
-reached_bounded x _ (Moved n m reached) = move_bounded x n (reached_bounded x n reached) m
+pub reached_bounded : (x : Rules) (pace : Pace) (clocks : ℕ → ℕ) (n : Net) → IsReached x (net_start pace clocks) n → Bounded n
+reached_bounded x pace clocks n reached =
+    path_bounded x Any (net_start pace clocks) n (reached_path x (net_start pace clocks) n reached) (bounded_start pace clocks)

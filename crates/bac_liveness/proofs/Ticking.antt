@@ -58,8 +58,8 @@ module _ (S : Type 0) (model : StoreModel S) (x : Rules) (key : Key) where
         → Shows now (after now.here t r) o (sent now.real (sends_of r) copies) (ticks_ticket S x u key (u.net.tickets key))
     own_ticket u r is h = subst (Shows now (after now.here t r) o (sent now.real (sends_of r) copies)) (sym path) (record {
       moment = h.moment;
-          here = h.here;
-          there = h.there;
+      here = h.here;
+      there = h.there;
       ticket = set_same u.net.tickets key (Some (after (client_now u.net key) t r)) ∙ ap (λ (m : ℕ). Some (after m t r)) h.here;
       entry = h.entry;
       copies_are = copies_posted key u.net.now (sends_of r) u.net.posts ∙ ap (λ (cs : List Copy). sent u.net.now (sends_of r) cs) h.copies_are
@@ -74,8 +74,8 @@ module _ (S : Type 0) (model : StoreModel S) (x : Rules) (key : Key) where
     other_entry : (u : World S) (k : Key) (v : server.Reaction) → (k ≡ key → ⊥) → Shows now t o copies u → Shows now t o copies (serves S model u k v)
     other_entry u k v ne h = record {
       moment = h.moment;
-          here = h.here;
-          there = h.there;
+      here = h.here;
+      there = h.there;
       ticket = h.ticket;
       entry = set_other u.net.entries k v.entry key ne ∙ h.entry;
       copies_are = copies_other k key ne u.net.now v.sends u.net.posts ∙ h.copies_are;
@@ -85,8 +85,8 @@ module _ (S : Type 0) (model : StoreModel S) (x : Rules) (key : Key) where
         → Shows now t o copies (serves S model u key (server.server_ticks (server_context x key (server_now u.net key)) (u.net.entries key)))
     own_entry u quiet h = subst (λ (v : server.Reaction). Shows now t o copies (serves S model u key v)) (sym path) (record {
       moment = h.moment;
-          here = h.here;
-          there = h.there;
+      here = h.here;
+      there = h.there;
       ticket = h.ticket;
       entry = set_same u.net.entries key o;
       copies_are = copies_posted key u.net.now [] u.net.posts ∙ h.copies_are;

@@ -21,7 +21,7 @@ use Rattle.bac_protocol.specs.Claims.{IsBounded}
 use Rattle.bac_protocol.proofs.Headline.{Kept, run_kept, event_kept, start_kept}
 use Rattle.bac_protocol.proofs.Keys.{set_same}
 use Rattle.bac_protocol.specs.Pace.{Pace, IsTimely}
-use Rattle.bac_protocol.specs.World.{client_now, server_now}
+use Rattle.bac_protocol.specs.World.{client_now}
 use Rattle.bac_liveness.specs.Runs.{IsOnItsWay, StaysSince}
 use Rattle.bac_liveness.specs.RoundTrip.{request_to, answer_to, FitsInOne, CanPerform, HasPerformed, IsAnsweredNow, IsServed}
 use Rattle.bac_liveness.specs.Turns.{IsDue, OneTurnSuffices}

@@ -1,10 +1,10 @@
--- An ask of one APDU whose copies find their server is waited for, or answered, or lost by its client's restart.
+-- An ask of one APDU whose copies find their server is waited for or answered, where its client does not restart.
 use Rattle.std.proofs.Common.{◌≡◌, ℕ, zero, suc, ◌+◌, ◌-◌, ◌*◌, ◌<◌, ◌≤◌, ◌⊎◌, Bool, true, false, ◌&&◌, List, [], ◌∷◌, ◌++◌, map}
 use Rattle.std.proofs.Common.{Option, Some, None, slice_get, if◌then◌else◌, nat_le, nat_eq, refl, sym, ap, subst, inl, inr, ◌∙◌, arith}
 use Rattle.std.proofs.lemmas.Bool.Decides.{nat_tests}
 use Rattle.bac_apdu.specs.Apdu.{Apdu}
 use Rattle.bac_segment.specs.Pieces.{join}
-use Rattle.bac_protocol.specs.declared.times.TheConstants.{T_OUT, LIFE, REST}
+use Rattle.bac_protocol.specs.declared.times.TheConstants.{T_OUT, REST}
 use Rattle.bac_protocol.specs.Context.{Context}
 use Rattle.bac_protocol.specs.Service.{Octets, Reply}
 use Rattle.bac_protocol.specs.Service.Outcome.{Replies}
@@ -30,7 +30,7 @@ use Rattle.bac_liveness.specs.RoundTrip.{FitsInOne, request_to, answer_to}
 use Rattle.bac_liveness.specs.Repeats.{IsAnswered, PATIENCE}
 use Rattle.bac_liveness.specs.Runs.{StaysSince}
 use Rattle.bac_protocol.specs.Pace.{clock_at}
-use Rattle.bac_liveness.proofs.Paths.{Bounded, path_bounded, step_restarted, some_is, ask_of, Comes, Step, Path, step_now, grows_ended, grows_performed}
+use Rattle.bac_liveness.proofs.Paths.{Bounded, path_bounded, step_restarted, some_is, ask_of, Comes, Step, Path, grows_ended, grows_performed}
 use Rattle.bac_liveness.proofs.Paths.Step.{Asks, Serves, Hears, TicksTicket, TicksEntry, Passes, Changes, RestartsClient, RestartsServer}
 use Rattle.bac_liveness.proofs.Paths.Path.{Here, Then}
 use Rattle.bac_protocol.specs.Pace.{Pace, Clock}
@@ -103,24 +103,21 @@ module _ (x : Rules) (key : Key) (ask : Ask) (number made : ℕ) where
     pub since : ask.first + (3 - t.repeats) * 3000 ≤ t.since
     pub passed : t.since ≤ now
 
-  -- the ask is answered
-  abbrev pub IsOver : (from : ℕ) → List Fact → Type 0
-  IsOver from log = IsAnswered number ask log ⊎ ⊥
+  -- or it is over, and the ask is answered
+  abbrev pub PatientOrOver : (now : ℕ) → ClientTransaction → List Fact → Type 0
+  PatientOrOver now t log = Patient now t ⊎ ((is_idle t.phase ≡ true) × IsAnswered number ask log)
 
-  abbrev pub PatientOrOver : (from now : ℕ) → ClientTransaction → List Fact → Type 0
-  PatientOrOver from now t log = Patient now t ⊎ ((is_idle t.phase ≡ true) × IsOver from log)
-
-  pub record TicketFits (from now : ℕ) (o : Option ClientTransaction) (log : List Fact) : Type 0 where
+  pub record TicketFits (now : ℕ) (o : Option ClientTransaction) (log : List Fact) : Type 0 where
     pub ticket : ClientTransaction
     pub at : o ≡ Some ticket
     pub is : ticket.ask ≡ ask
-    pub state : PatientOrOver from now ticket log
+    pub state : PatientOrOver now ticket log
 
   pub record Waits (n : Net) : Type 0 where
     pub clock : MadeIn n key ask.first made
     pub entry : EntryIn n (n.entries key) n.log
     pub posts : (i : ℕ) (q : Post) → slice_get n.posts i ≡ Some q → q.key ≡ key → n.now - q.copy.moment ≤ n.pace.life → IsFine n.log q.copy.apdu
-    pub ticket : TicketFits (n.asks_from key.client) (client_now n key) (n.tickets key) n.log
+    pub ticket : TicketFits (client_now n key) (n.tickets key) n.log
     pub number_is : n.numbers key ≡ number
     pub made_is : n.made key ≡ made
 
@@ -147,16 +144,12 @@ module _ (x : Rules) (key : Key) (ask : Ask) (number made : ℕ) where
   pub answered_grows : (log new : List Fact) → Grows log new → IsAnswered number ask log → IsAnswered number ask new
   answered_grows log new g h = (h.0, g (Performed number (request_of ask) h.0) h.1, g (Ended number (Answered h.0)) h.2)
 
-  over_grows : (from : ℕ) (log new : List Fact) → Grows log new → IsOver from log → IsOver from new
-  over_grows from log new g (inl h) = inl (answered_grows log new g h)
-  over_grows from log new g (inr h) = inr h
-
-  ticket_grows : (from now : ℕ) (o : Option ClientTransaction) (log new : List Fact) → Grows log new → TicketFits from now o log → TicketFits from now o new
-  ticket_grows from now o log new g h = record { ticket = h.ticket; at = h.at; is = h.is; state = go h.state }
+  ticket_grows : (now : ℕ) (o : Option ClientTransaction) (log new : List Fact) → Grows log new → TicketFits now o log → TicketFits now o new
+  ticket_grows now o log new g h = record { ticket = h.ticket; at = h.at; is = h.is; state = go h.state }
     where
-      go : PatientOrOver from now h.ticket log → PatientOrOver from now h.ticket new
+      go : PatientOrOver now h.ticket log → PatientOrOver now h.ticket new
       go (inl p) = inl p
-      go (inr o) = inr (o.0, over_grows from log new g o.1)
+      go (inr o) = inr (o.0, answered_grows log new g o.1)
 
   -- the copies after some were sent
   posts_on : (n : Net) (k : Key) (sends : List Apdu) (log : List Fact) → Waits n → Grows n.log log → (k ≡ key → Each (IsFine log) sends)
@@ -171,7 +164,7 @@ module _ (x : Rules) (key : Key) (ask : Ask) (number made : ℕ) where
   -- What one end does.
 
   abbrev ClientGoal : Net → ClientTransaction → client.Reaction → Type 0
-  ClientGoal n t r = TicketFits (n.asks_from key.client) (client_now n key) (Some (after (client_now n key) t r)) (ended number (ending_of r) n.log) × Each (IsFine n.log) (sends_of r)
+  ClientGoal n t r = TicketFits (client_now n key) (Some (after (client_now n key) t r)) (ended number (ending_of r) n.log) × Each (IsFine n.log) (sends_of r)
 
   abbrev ServerGoal : Net → server.Reaction → Type 0
   ServerGoal n v = EntryIn n v.entry (performed number v.effect n.log) × Each (IsFine (performed number v.effect n.log)) v.sends
@@ -199,21 +192,21 @@ module _ (x : Rules) (key : Key) (ask : Ask) (number made : ℕ) where
       kept : Option ClientTransaction
       kept = Some (after (client_now n k) t r)
 
-      go : ((k ≡ key) ⊎ (k ≡ key → ⊥)) → TicketFits (n.asks_from key.client) (client_now n key) (set_at n.tickets k kept key) log
+      go : ((k ≡ key) ⊎ (k ≡ key → ⊥)) → TicketFits (client_now n key) (set_at n.tickets k kept key) log
       go (inl is) =
           let own_log : n.numbers k ≡ number = ap n.numbers is ∙ h.number_is in
-          subst (λ (o : Option ClientTransaction). TicketFits (n.asks_from key.client) (client_now n key) o log)
+          subst (λ (o : Option ClientTransaction). TicketFits (client_now n key) o log)
           (sym (subst (λ (j : Key). set_at n.tickets k kept j ≡ kept) is (set_same n.tickets k kept)))
-          (subst (λ (m : ℕ). TicketFits (n.asks_from key.client) (client_now n key) kept (ended m (ending_of r) n.log)) (sym own_log) (subst (λ (j : Key). TicketFits (n.asks_from key.client) (client_now n key) (Some (after (client_now n j) t r)) (ended number (ending_of r) n.log)) (sym is) (own is).0))
-      go (inr ne) = subst (λ (o : Option ClientTransaction). TicketFits (n.asks_from key.client) (client_now n key) o log) (sym (set_other n.tickets k kept key ne))
-          (ticket_grows (n.asks_from key.client) (client_now n key) (n.tickets key) n.log log g h.ticket)
+          (subst (λ (m : ℕ). TicketFits (client_now n key) kept (ended m (ending_of r) n.log)) (sym own_log) (subst (λ (j : Key). TicketFits (client_now n key) (Some (after (client_now n j) t r)) (ended number (ending_of r) n.log)) (sym is) (own is).0))
+      go (inr ne) = subst (λ (o : Option ClientTransaction). TicketFits (client_now n key) o log) (sym (set_other n.tickets k kept key ne))
+          (ticket_grows (client_now n key) (n.tickets key) n.log log g h.ticket)
 
   server_waits : (n : Net) (k : Key) (v : server.Reaction) → Waits n → (k ≡ key → ServerGoal n v) → Waits (server_acts n k v)
   server_waits n k v h own = record {
     clock = h.clock;
     entry = go (decide_key k key);
     posts = posts_on n k v.sends log h g (λ is. subst (λ (m : ℕ). Each (IsFine (performed m v.effect n.log)) v.sends) (sym (own_log is)) (own is).1);
-    ticket = ticket_grows (n.asks_from key.client) (client_now n key) (n.tickets key) n.log log g h.ticket;
+    ticket = ticket_grows (client_now n key) (n.tickets key) n.log log g h.ticket;
     number_is = h.number_is;
     made_is = h.made_is;
   }
@@ -239,16 +232,16 @@ module _ (x : Rules) (key : Key) (ask : Ask) (number made : ℕ) where
 
   -- The ticket is over, or an answer or its timer comes.
 
-  idle_stays : (n : Net) (t : ClientTransaction) → t.ask ≡ ask → is_idle t.phase ≡ true → IsOver (n.asks_from key.client) n.log → ClientGoal n t Stays
+  idle_stays : (n : Net) (t : ClientTransaction) → t.ask ≡ ask → is_idle t.phase ≡ true → IsAnswered number ask n.log → ClientGoal n t Stays
   idle_stays n t is idle over = (record { ticket = t; at = refl; is = is; state = inr (idle, over) }, tt)
 
   -- what is known of the ticket, by its name
-  pub known : (n : Net) (t : ClientTransaction) → n.tickets key ≡ Some t → Waits n → (t.ask ≡ ask) × PatientOrOver (n.asks_from key.client) (client_now n key) t n.log
+  pub known : (n : Net) (t : ClientTransaction) → n.tickets key ≡ Some t → Waits n → (t.ask ≡ ask) × PatientOrOver (client_now n key) t n.log
   known n t at h =
       let same : h.ticket.ticket ≡ t = some_is h.ticket.ticket t (sym h.ticket.at ∙ at) in
-      (subst (λ (y : ClientTransaction). y.ask ≡ ask) same h.ticket.is, subst (λ (y : ClientTransaction). PatientOrOver (n.asks_from key.client) (client_now n key) y n.log) same h.ticket.state)
+      (subst (λ (y : ClientTransaction). y.ask ≡ ask) same h.ticket.is, subst (λ (y : ClientTransaction). PatientOrOver (client_now n key) y n.log) same h.ticket.state)
 
-  hears_answer : (n : Net) → InPatience n → (p : Reply) → WasGiven p n.log → (t : ClientTransaction) → t.ask ≡ ask → PatientOrOver (n.asks_from key.client) (client_now n key) t n.log
+  hears_answer : (n : Net) → InPatience n → (p : Reply) → WasGiven p n.log → (t : ClientTransaction) → t.ask ≡ ask → PatientOrOver (client_now n key) t n.log
       → ClientGoal n t (client.client_on_apdu (client_context x key (client_now n key)) x.readable t (answer_to x key ask p))
   hears_answer n young p given t is (inr o) =
       subst (ClientGoal n t) (sym (ended_is_silent.gets (client_context x key (client_now n key)) x.readable t (answer_to x key ask p) o.0)) (idle_stays n t is o.0 o.1)
@@ -258,17 +251,16 @@ module _ (x : Rules) (key : Key) (ask : Ask) (number made : ℕ) where
       subst (ClientGoal n t) (sym (subst (λ (a : Ask). client.client_on_apdu c x.readable t (answer_to x key a p) ≡ Ends [] (Answered p)) is
       (answer_ends c (server_context x key t.ask.first) x.readable t p w.waits (grind (arith, nat_tests))
       (subst (λ (a : Ask). FitsInOne x key a p) (sym is) given.0).kind)))
-      (record { ticket = record t { phase = Idle }; at = refl; is = is; state = inr (refl, inl (p, inr given.1, inl refl)) }, tt)
+      (record { ticket = record t { phase = Idle }; at = refl; is = is; state = inr (refl, (p, inr given.1, inl refl)) }, tt)
 
   -- an answer that comes to it leaves the ask answered, where its client has not restarted
   pub told_answered : (n : Net) → Waits n → InPatience n → (t : ClientTransaction) → n.tickets key ≡ Some t → (p : Reply) → WasGiven p n.log
       → IsAnswered number ask (ended number (ending_of (client.client_on_apdu (client_context x key (client_now n key)) x.readable t (answer_to x key ask p))) n.log)
   told_answered n h young t at p given = go (known n t at h).0 (known n t at h).1
     where
-      go : t.ask ≡ ask → PatientOrOver (n.asks_from key.client) (client_now n key) t n.log
+      go : t.ask ≡ ask → PatientOrOver (client_now n key) t n.log
           → IsAnswered number ask (ended number (ending_of (client.client_on_apdu (client_context x key (client_now n key)) x.readable t (answer_to x key ask p))) n.log)
-      go is (inr (idle, inr lost)) = absurd lost
-      go is (inr (idle, inl o)) = answered_grows n.log
+      go is (inr (idle, o)) = answered_grows n.log
           (ended number (ending_of (client.client_on_apdu (client_context x key (client_now n key)) x.readable t (answer_to x key ask p))) n.log)
           (grows_ended number (ending_of (client.client_on_apdu (client_context x key (client_now n key)) x.readable t (answer_to x key ask p))) n.log) o
       go is (inl w) =
@@ -325,7 +317,7 @@ module _ (x : Rules) (key : Key) (ask : Ask) (number made : ℕ) where
       steps : (r : ℕ) → r ≤ 3 → ask.first + (3 - r) * 3000 ≤ t.since → ask.first + (3 - (r - 1)) * 3000 ≤ now
       steps r few s = let p = w.passed in omega arith
 
-  ticks_timer : (n : Net) → ask.whole ≡ true → InPatience n → (t : ClientTransaction) → t.ask ≡ ask → PatientOrOver (n.asks_from key.client) (client_now n key) t n.log
+  ticks_timer : (n : Net) → ask.whole ≡ true → InPatience n → (t : ClientTransaction) → t.ask ≡ ask → PatientOrOver (client_now n key) t n.log
       → ClientGoal n t (client.client_ticks (client_context x key (client_now n key)) t)
   ticks_timer n whole young t is (inr o) =
       subst (ClientGoal n t) (sym (ended_is_silent.ticks (client_context x key (client_now n key)) t o.0)) (idle_stays n t is o.0 o.1)
@@ -471,8 +463,8 @@ module _ (x : Rules) (key : Key) (ask : Ask) (number made : ℕ) where
     clock = h.clock;
     entry = entry_grows n.pace n.now (n.server_clocks key.server) (n.entries key) n.log log g h.entry;
     posts = posts_on n k (sends_of (client.asks (client_context x k (client_now n k)) other)) log h g (λ is. absurd (ne is));
-    ticket = subst (λ (o : Option ClientTransaction). TicketFits (n.asks_from key.client) (client_now n key) o log) (sym (set_other n.tickets k next_ticket key ne))
-        (ticket_grows (n.asks_from key.client) (client_now n key) (n.tickets key) n.log log g h.ticket);
+    ticket = subst (λ (o : Option ClientTransaction). TicketFits (client_now n key) o log) (sym (set_other n.tickets k next_ticket key ne))
+        (ticket_grows (client_now n key) (n.tickets key) n.log log g h.ticket);
     number_is = set_other n.numbers k n.asks key ne ∙ h.number_is;
     made_is = set_other n.made k n.now key ne ∙ h.made_is;
   }
@@ -510,8 +502,8 @@ module _ (x : Rules) (key : Key) (ask : Ask) (number made : ℕ) where
         given = d.given;
       })
 
-      state_later : PatientOrOver (n.asks_from key.client) (client_now n key) h.ticket.ticket n.log
-          → PatientOrOver (n.asks_from key.client) (client_now (passes n by clients servers) key) h.ticket.ticket n.log
+      state_later : PatientOrOver (client_now n key) h.ticket.ticket n.log
+          → PatientOrOver (client_now (passes n by clients servers) key) h.ticket.ticket n.log
       state_later (inl p) = inl (record {
         waits = p.waits;
         few = p.few;
@@ -528,7 +520,7 @@ module _ (x : Rules) (key : Key) (ask : Ask) (number made : ℕ) where
     clock = h.clock;
     entry = entry_grows n.pace n.now (n.server_clocks key.server) (n.entries key) n.log log g h.entry;
     posts = λ i q at is young. fine_grows n.log log g q.copy.apdu (h.posts i q at is young);
-    ticket = ticket_grows (n.asks_from key.client) (client_now n key) (n.tickets key) n.log log g h.ticket;
+    ticket = ticket_grows (client_now n key) (n.tickets key) n.log log g h.ticket;
     number_is = h.number_is;
     made_is = h.made_is;
   }
@@ -551,8 +543,7 @@ module _ (x : Rules) (key : Key) (ask : Ask) (number made : ℕ) where
   }
     where
       go : (b : Bool) → (if b then n.now + 1 else n.restarted key.client) ≤ made
-          → TicketFits (if b then (clock_at n.pace exact).shows + REST + 1 else n.asks_from key.client)
-          (if b then clock_at n.pace exact else n.client_clocks key.client).shows (if b then lost (n.tickets key) else n.tickets key) n.log
+          → TicketFits (if b then clock_at n.pace exact else n.client_clocks key.client).shows (if b then lost (n.tickets key) else n.tickets key) n.log
       go true le = let on = h.clock.since.on in absurd (omega arith)
       go false le = h.ticket
 
@@ -561,7 +552,7 @@ module _ (x : Rules) (key : Key) (ask : Ask) (number made : ℕ) where
     clock = made_step x Finds key ask.first made n (server_restarted n node exact store) (RestartsServer node exact store) h.clock.stays h.clock;
     entry = go (nat_eq key.server node);
     posts = λ i q at is young. fine_grows n.log log g q.copy.apdu (h.posts i q at is young);
-    ticket = ticket_grows (n.asks_from key.client) (client_now n key) (n.tickets key) n.log log g h.ticket;
+    ticket = ticket_grows (client_now n key) (n.tickets key) n.log log g h.ticket;
     number_is = h.number_is;
     made_is = h.made_is;
   }

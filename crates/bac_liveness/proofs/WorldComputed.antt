@@ -11,20 +11,22 @@ use Rattle.bac_protocol.specs.Short.{IsShort}
 use Rattle.bac_protocol.specs.Server as server
 use Rattle.bac_protocol.specs.Server.{performs_so, begins}
 use Rattle.bac_protocol.specs.Service as machine
+use Rattle.bac_protocol.proofs.AtDrift.{lives}
 use Rattle.bac_transaction.specs.Keys.{PeerKey}
 use Rattle.bac_transaction.specs.Meanings.Ending.{Answered, Expired}
 use Rattle.bac_transaction.specs.Ends.{requester_tick, responder_tick, context_of, server_goes, requester_on_apdu}
 use Rattle.bac_transaction.specs.Services.{service_of, outcome_by}
 use Rattle.bac_world.specs.Node.{Node, Outcome, IsServerTurn}
+use Rattle.bac_world.specs.Once.{Fact}
 use Rattle.bac_world.specs.Once.Fact.{Performed, Ended}
-use Rattle.bac_world.specs.World.{World, Copy, Hears, Ticks, IsCopied, link_at, peer_at, transaction_of}
+use Rattle.bac_world.specs.World.{World, Time, passes, Copy, Hears, Ticks, IsAsked, IsCopied, link_at, peer_at, transaction_of}
 use Rattle.bac_world.specs.Examples.{REQUEST, REPLY, STORE, ASKED}
-use Rattle.bac_world.specs.AnsweredRun.{LIMITS, SETTINGS, LOG, link, node}
+use Rattle.bac_world.specs.AnsweredRun.{TIME, LIMITS, SETTINGS, LOG, link, node}
 use Rattle.bac_world.proofs.Answered.{SERVICE_DATA, ASK, ANSWER, apart, spelled, datagram, ASKED_NODE, copy, NOTES, SECOND, THIRD, LAST}
-use Rattle.bac_world.proofs.Answered.{ask_fits, ask_short, sent, means, others_first, asked}
+use Rattle.bac_world.proofs.Answered.{ask_fits, ask_short, ask_copied, sent, means, others_first, ACCEPTED, asks, asked, answered_run}
 use Rattle.bac_world.proofs.Answered.{request_delivered, answer_delivered}
 use Rattle.bac_liveness.specs.WorldRoundTrip.{CanPerform, IsRequest}
-use Rattle.bac_liveness.specs.WorldExamples.{LateTick, LateAnswer, OneRoundTrip, SecondSending}
+use Rattle.bac_liveness.specs.WorldExamples.{DRIFTS, LateTick, SlowTick, LateAnswer, OneRoundTrip, SecondSending}
 
 -- node 0 after a tick at that moment
 abbrev ticked_node : ℕ → Node
@@ -35,13 +37,17 @@ ticked_node now =
       servers = (responder_tick SETTINGS now ASKED_NODE.servers).end;
     }
 
+-- all clocks have gone on by so much
+abbrev at_time : ℕ → Time
+at_time by = passes TIME by (λ i. by)
+
 -- A tick at 60,001.
 
 abbrev LATE : World
-LATE = record (SECOND) { now = 60001 }
+LATE = record (SECOND) { time = at_time 60001 }
 
 abbrev EXPIRED : World
-EXPIRED = record { nodes = ticked_node 60001 ∷ node 1 ∷ []; now = 60001; copies = SECOND.copies; log = Ended 0 Expired ∷ ASKED; notes = NOTES }
+EXPIRED = record { nodes = ticked_node 60001 ∷ node 1 ∷ []; time = at_time 60001; copies = SECOND.copies; log = Ended 0 Expired ∷ ASKED; notes = NOTES }
 
 abbrev EXPIRES : Outcome
 EXPIRES = record { sends = []; performed = None; ended = record { ticket = 0; how = Expired } ∷ []; dropped = None }
@@ -55,7 +61,7 @@ expires = record {
   tick = record { node = refl; sends = tt; ended = (record { ticket = refl; how = tt }, tt); performed = refl; dropped = refl };
   acts = record {
     nodes = record { here = refl; others = others_first (ticked_node 60001) ASKED_NODE (node 1) };
-    now = refl;
+    time = refl;
     notes = refl;
     sent = [];
     copies = refl;
@@ -76,6 +82,85 @@ late_tick = record {
   before = refl;
   ticked = EXPIRED;
   ticks = expires;
+  after = refl;
+}
+
+-- The same by a slow clock.
+
+abbrev drifts : (by own : ℕ) → Time
+drifts by own = passes DRIFTS.time by (λ i. own)
+
+abbrev slow_world : Time → List Node → List Fact → World
+slow_world time nodes log = record { nodes = nodes; time = time; copies = SECOND.copies; log = log; notes = NOTES }
+
+asked_slowly : IsAsked DRIFTS 0 1 LIMITS REQUEST (slow_world DRIFTS.time SECOND.nodes ASKED)
+asked_slowly = record {
+  before = node 0;
+  at = refl;
+  link = link 1;
+  peer = refl;
+  after = ASKED_NODE;
+  accepted = ACCEPTED;
+  sends = datagram (link 1) ASK ∷ [];
+  asks = asks;
+  nodes = record { here = refl; others = others_first ASKED_NODE (node 0) (node 1) };
+  time = refl;
+  sent = copy 0 1 ASK ∷ [];
+  copies = refl;
+  copied = (ask_copied, tt);
+  notes = refl;
+  log = refl;
+}
+
+-- 60,060 ms pass, and then one more
+abbrev late_time : Time
+late_time = passes (drifts 60060 60000) 1 (λ i. 1)
+
+expires_slowly : Ticks (slow_world late_time SECOND.nodes ASKED) 0 (slow_world late_time (ticked_node 60001 ∷ node 1 ∷ []) (Ended 0 Expired ∷ ASKED))
+expires_slowly = record {
+  before = ASKED_NODE;
+  at = refl;
+  after = ticked_node 60001;
+  outcome = EXPIRES;
+  tick = record { node = refl; sends = tt; ended = (record { ticket = refl; how = tt }, tt); performed = refl; dropped = refl };
+  acts = record {
+    nodes = record { here = refl; others = others_first (ticked_node 60001) ASKED_NODE (node 1) };
+    time = refl;
+    notes = refl;
+    sent = [];
+    copies = refl;
+    copied = tt;
+    between = Ended 0 Expired ∷ ASKED;
+    ended = (0, refl, refl);
+    logged = refl;
+  };
+}
+
+pub slow_tick : SlowTick
+slow_tick = record {
+  fresh = record {
+    nodes = answered_run.fresh.nodes;
+    apart = answered_run.fresh.apart;
+    now = refl;
+    clocks = λ i. refl;
+    copies = refl;
+    log = refl;
+    notes = refl;
+  };
+  timely = lives.at_thousandth;
+  bounded = record { some = omega arith; windows = answered_run.bounded.windows; room = omega arith };
+  second = slow_world DRIFTS.time SECOND.nodes ASKED;
+  asks = asked_slowly;
+  early = slow_world (drifts 60060 60000) SECOND.nodes ASKED;
+  waits = (slow_world (drifts 60060 60000) SECOND.nodes ASKED, refl, refl);
+  last = refl;
+  late = slow_world late_time SECOND.nodes ASKED;
+  goes_on = (slow_world late_time SECOND.nodes ASKED, refl, refl);
+  real = refl;
+  passed = omega arith;
+  before = refl;
+  ticked = slow_world late_time (ticked_node 60001 ∷ node 1 ∷ []) (Ended 0 Expired ∷ ASKED);
+  ticks = expires_slowly;
   after = refl;
 }
 
@@ -116,13 +201,13 @@ one_round_trip = record {
 -- A second sending.
 
 abbrev LATER : World
-LATER = record (SECOND) { now = 3000 }
+LATER = record (SECOND) { time = at_time 3000 }
 
 abbrev SECOND_COPY : Copy
 SECOND_COPY = record (copy 0 1 ASK) { moment = 3000 }
 
 abbrev AGAIN : World
-AGAIN = record { nodes = ticked_node 3000 ∷ node 1 ∷ []; now = 3000; copies = copy 0 1 ASK ∷ SECOND_COPY ∷ []; log = ASKED; notes = NOTES }
+AGAIN = record { nodes = ticked_node 3000 ∷ node 1 ∷ []; time = at_time 3000; copies = copy 0 1 ASK ∷ SECOND_COPY ∷ []; log = ASKED; notes = NOTES }
 
 answer_fits : IsTrue (apdu_fits ANSWER)
 unfolding apdu_fits
@@ -159,7 +244,7 @@ sends_again = record {
   tick = record { node = refl; sends = (sent (link 1) ASK ask_fits ask_short, tt); ended = tt; performed = refl; dropped = refl };
   acts = record {
     nodes = record { here = refl; others = others_first (ticked_node 3000) ASKED_NODE (node 1) };
-    now = refl;
+    time = refl;
     notes = refl;
     sent = SECOND_COPY ∷ [];
     copies = refl;
@@ -219,7 +304,7 @@ ANSWER_COPY = record (copy 1 0 ANSWER) { moment = 3000 }
 abbrev SERVED : World
 SERVED = record {
   nodes = ticked_node 3000 ∷ SERVED_NODE ∷ [];
-  now = 3000;
+  time = at_time 3000;
   copies = copy 0 1 ASK ∷ SECOND_COPY ∷ ANSWER_COPY ∷ [];
   log = Performed 0 REQUEST REPLY ∷ ASKED;
   notes = NOTES;
@@ -240,7 +325,7 @@ serves = record {
   });
   acts = record {
     nodes = record { here = refl; others = others_second SERVED_NODE (node 1) (ticked_node 3000) };
-    now = refl;
+    time = refl;
     notes = refl;
     sent = ANSWER_COPY ∷ [];
     copies = refl;
@@ -255,7 +340,7 @@ abbrev ENDED_NODE : Node
 ENDED_NODE = record (ticked_node 3000) { clients = (requester_on_apdu SETTINGS reads_reply 3000 (peer_at (link 1)) ANSWER (ticked_node 3000).clients).end }
 
 abbrev ANSWERED : World
-ANSWERED = record { nodes = ENDED_NODE ∷ SERVED_NODE ∷ []; now = 3000; copies = SERVED.copies; log = LOG; notes = NOTES }
+ANSWERED = record { nodes = ENDED_NODE ∷ SERVED_NODE ∷ []; time = at_time 3000; copies = SERVED.copies; log = LOG; notes = NOTES }
 
 hears : Hears SERVED 0 (link 1) ANSWER_COPY.octets ANSWERED
 hears = record {
@@ -272,7 +357,7 @@ hears = record {
   });
   acts = record {
     nodes = record { here = refl; others = others_first ENDED_NODE (ticked_node 3000) SERVED_NODE };
-    now = refl;
+    time = refl;
     notes = refl;
     sent = [];
     copies = refl;

@@ -16,17 +16,18 @@ use Rattle.bac_protocol.specs.Client.{Ask, ClientTransaction, Reaction, is_idle,
 use Rattle.bac_protocol.specs.Client.Reaction.{Stays, GoesOn, Repeats, Ends}
 use Rattle.bac_protocol.specs.Log as octets
 use Rattle.bac_protocol.specs.Transaction.{Key, Rules, client_context, ended}
-use Rattle.bac_protocol.specs.World.{Net, net_start, later, client_acts}
+use Rattle.bac_protocol.specs.World.{Net, net_start, later, client_acts, client_now, is_lost}
 use Rattle.bac_protocol.specs.Moves.{taken_by_client}
 use Rattle.bac_protocol.specs.Claims as claims
-use Rattle.bac_protocol.specs.Claims.{ClientStays}
+use Rattle.bac_protocol.specs.Claims.{Moments, moments_of}
+use Rattle.bac_protocol.specs.Pace.{Clock, IsTimely}
+use Rattle.bac_liveness.specs.Runs.{StaysSince}
 use Rattle.bac_protocol.proofs.Keys.{copy_at}
-use Rattle.bac_protocol.proofs.Alone.{one}
-use Rattle.bac_protocol.proofs.Sound.{Up, Down, Says, Sound}
+use Rattle.bac_protocol.proofs.Sound.{Up, Down, Says}
 use Rattle.bac_protocol.proofs.Nets.{sound_at}
 use Rattle.bac_protocol.proofs.SingleMoves.{reached_net}
 use Rattle.bac_liveness.specs.Runs as net
-use Rattle.bac_liveness.proofs.Paths.{Any, Path, bounded_start, path_then, path_log}
+use Rattle.bac_liveness.proofs.Paths.{Any, Bounded, Path, bounded_start, path_then, path_log}
 use Rattle.bac_liveness.proofs.Changes.{IdleIsLogged, HasEnded, IsThere, ended_grows, logged_path}
 use Rattle.bac_liveness.proofs.Endings.{Tracked, tracked_path, ended_once}
 use Rattle.bac_slots.specs.Slots.{value_at}
@@ -37,12 +38,12 @@ use Rattle.bac_transaction.specs.Ends.TransactionSlot.{Open, Closed}
 use Rattle.bac_world.specs.Node.{Node, Outcome, NodeTick}
 use Rattle.bac_world.specs.Once.{Fact}
 use Rattle.bac_world.specs.Once.Fact.{Asked, Performed, Ended, Changed, Restarted}
-use Rattle.bac_world.specs.World.{World, Copy, Event, WorldStep, WorldRun, IsFresh, IsBounded, IsAsked, Ticks, RunsOn, link_at, peer_at}
+use Rattle.bac_world.specs.World.{World, Copy, Event, WorldStep, WorldRun, IsFresh, IsBounded, IsAsked, Ticks, RunsOn, told, link_at, peer_at}
 use Rattle.bac_world.specs.World.Event.{Deliver, Tick}
 use Rattle.bac_transaction.proofs.KeyedSlots.{changed, changed_value, value_changed}
 use Rattle.bac_world.proofs.Machines.{orderly}
 use Rattle.bac_world.proofs.Logs.{FactMeans}
-use Rattle.bac_world.proofs.Bridge.{IsCopyOf, IsBetween, TicketFits, key_of, slot_key}
+use Rattle.bac_world.proofs.Bridge.{here_at, IsCopyOf, IsBetween, TicketFits, key_of, slot_key}
 use Rattle.bac_world.proofs.Pairs.{IsPaired}
 use Rattle.bac_world.proofs.Steps.{Over}
 use Rattle.bac_world.proofs.Asking.{accepted_is}
@@ -51,8 +52,8 @@ use Rattle.bac_world.proofs.Headline.{fresh_over, rules_of, rules_bounded}
 use Rattle.bac_liveness.specs.WorldRuns.{Throughout, endings_of}
 use Rattle.bac_liveness.specs.WorldRoundTrip.{MayArrive, IsFromServer}
 use Rattle.bac_liveness.specs.WorldEnds.{IsOpen, EndsInTime, AsksEnd}
-use Rattle.bac_liveness.proofs.Staying.{reached_bounded}
-use Rattle.bac_liveness.proofs.Asked.{after_ask, key, ask, made, made_over, made_bounded, made_path, there, stays, server_link, foreign}
+use Rattle.bac_liveness.proofs.RoundTrips.{SoundIn}
+use Rattle.bac_liveness.proofs.Asked.{after_ask, bounded_over, key, ask, made, made_over, made_bounded, made_path, there, stays, server_link, foreign}
 use Rattle.bac_liveness.proofs.Following.{Followed, Parts, IsTaken, accepted, post, heard_now, told_over, Gives, step_followed, run_followed}
 
 -- Runs one after the other.
@@ -67,9 +68,9 @@ on_then i (Event.Ask c s limits r ∷ es) fs h k = on_then i es fs h k
 on_then i (Event.Deliver number ∷ es) fs h k = on_then i es fs h k
 on_then i (Event.Noise node from octets ∷ es) fs h k = on_then i es fs h k
 on_then i (Event.Tick node ∷ es) fs h k = on_then i es fs h k
-on_then i (Event.Advance by ∷ es) fs h k = on_then i es fs h k
+on_then i (Event.Advance by own ∷ es) fs h k = on_then i es fs h k
 on_then i (Event.Change node change ∷ es) fs h k = on_then i es fs h k
-on_then i (Event.Restart node store ∷ es) fs h k = (h.0, on_then i es fs h.1 k)
+on_then i (Event.Restart node exact store ∷ es) fs h k = (h.0, on_then i es fs h.1 k)
 
 -- Endings are counted alike in a log of octets and in the same log as values.
 
@@ -179,18 +180,18 @@ late_gets readable c t a from going late =
     expires = grind (arith, nat_tests)
 
 -- what a copy of a transaction says is sent by its client or by its server
-from_server : (W number : ℕ) (ask : Ask) (log : List octets.Fact) (up : Up) (down : Down) (moment k : ℕ) (a : Apdu)
-    → Says W number ask log up down moment k a → is_from_client a ≡ false → is_from_server a ≡ true
-from_server W number ask log up down moment k (ConfirmedRequest l id g choice o) h e = absurd cc
-from_server W number ask log up down moment k (UnconfirmedRequest choice o) h e = absurd h
-from_server W number ask log up down moment k (SimpleAck id choice) h e = refl
-from_server W number ask log up down moment k (ComplexAck id g choice o) h e = refl
-from_server W number ask log up down moment k (SegmentAck true id ack) h e = refl
-from_server W number ask log up down moment k (SegmentAck false id ack) h e = absurd cc
-from_server W number ask log up down moment k (Error id choice class code) h e = refl
-from_server W number ask log up down moment k (Reject id r) h e = refl
-from_server W number ask log up down moment k (Abort true id r) h e = refl
-from_server W number ask log up down moment k (Abort false id r) h e = absurd cc
+from_server : (W : ℕ) (times : Moments) (number : ℕ) (ask : Ask) (log : List octets.Fact) (up : Up) (down : Down) (moment k : ℕ) (a : Apdu)
+    → Says W times number ask log up down moment k a → is_from_client a ≡ false → is_from_server a ≡ true
+from_server W times number ask log up down moment k (ConfirmedRequest l id g choice o) h e = absurd cc
+from_server W times number ask log up down moment k (UnconfirmedRequest choice o) h e = absurd h
+from_server W times number ask log up down moment k (SimpleAck id choice) h e = refl
+from_server W times number ask log up down moment k (ComplexAck id g choice o) h e = refl
+from_server W times number ask log up down moment k (SegmentAck true id ack) h e = refl
+from_server W times number ask log up down moment k (SegmentAck false id ack) h e = absurd cc
+from_server W times number ask log up down moment k (Error id choice class code) h e = refl
+from_server W times number ask log up down moment k (Reject id r) h e = refl
+from_server W times number ask log up down moment k (Abort true id r) h e = refl
+from_server W times number ask log up down moment k (Abort false id r) h e = absurd cc
 
 -- In every world.
 
@@ -206,17 +207,17 @@ module _ (links : ℕ → Option Octets) (apart : (i j : ℕ) (l : Octets) → l
   gives_any w n (Event.Deliver number) = λ w' p c t up. tt
   gives_any w n (Event.Noise node from octets) = tt
   gives_any w n (Event.Tick node) = tt
-  gives_any w n (Event.Advance by) = tt
+  gives_any w n (Event.Advance by own) = tt
   gives_any w n (Event.Change node change) = tt
-  gives_any w n (Event.Restart node store) = tt
+  gives_any w n (Event.Restart node exact store) = tt
 
   pub on_run : (events : List Event) (w w' : World) (n : Net) → Over links apart W x w n → WorldRun x.overtake w events w'
-      → Followed links apart W x bound readable Any w' n
+      → Followed links apart W x bound readable Any events w' n
   on_run events w w' n h run = run_followed links apart W x bound readable Any (λ (u : World) (e : Event). Unit {0}) (λ u m over e y. gives_any u m e)
       events w w' n h run (each_any events w w' run)
 
   pub on_step : (w w' : World) (n : Net) → Over links apart W x w n → (e : Event) → WorldStep x.overtake w e w'
-      → Followed links apart W x bound readable Any w' n
+      → Followed links apart W x bound readable Any (e ∷ []) w' n
   on_step w w' n h e did = step_followed links apart W x bound readable Any w w' n h e (gives_any w n e) did
 
   pub once_in : (w : World) (n : Net) → Over links apart W x w n → (number : ℕ) → HasEnded number n.log → endings_of number w.log ≡ 1
@@ -224,11 +225,11 @@ module _ (links : ℕ → Option Octets) (apart : (i j : ℕ) (l : Octets) → l
       endings_alike number n.log w.log h.log ∙ ended_once number n.log (orderly W x bound n h.sound) ended
 
   -- an ask that is still open was made no longer than DEADLINE before
-  open_in_time : (w w' : World) (n : Net) → Over links apart W x w' n → (client : ℕ) (did : Ticks w client w') → n.now ≡ w.now
+  open_in_time : (w w' : World) (n : Net) → Over links apart W x w' n → (client : ℕ) (did : Ticks w client w')
       → (key : Key) → key.client ≡ client → (t : ClientTransaction) → n.tickets key ≡ Some t → is_idle t.phase ≡ false
-      → (l : Octets) → links key.server ≡ Some l → w.now - t.ask.first ≤ DEADLINE
-  open_in_time w w' n h client did now key is t at going l link = go (value_at same_key (slot_key l key.invoke_id) did.after.clients.slots) refl
-      (subst (λ (o : Option ClientTransaction). TicketFits (n.asks_from client) n.now w'.notes client (n.numbers own)
+      → (l : Octets) → links key.server ≡ Some l → told w client - t.ask.first ≤ DEADLINE
+  open_in_time w w' n h client did key is t at going l link = go (value_at same_key (slot_key l key.invoke_id) did.after.clients.slots) refl
+      (subst (λ (o : Option ClientTransaction). TicketFits (is_lost n own) (here_at n client) w'.notes client (n.numbers own)
       (value_at same_key (slot_key l key.invoke_id) did.after.clients.slots) o) own_at fit)
     where
       own : Key
@@ -240,16 +241,16 @@ module _ (links : ℕ → Option Octets) (apart : (i j : ℕ) (l : Octets) → l
       own_at : n.tickets own ≡ Some t
       own_at = ap n.tickets own_is ∙ at
 
-      fit : TicketFits (n.asks_from client) n.now w'.notes client (n.numbers own) (value_at same_key (slot_key l key.invoke_id) did.after.clients.slots) (n.tickets own)
+      fit : TicketFits (is_lost n own) (here_at n client) w'.notes client (n.numbers own) (value_at same_key (slot_key l key.invoke_id) did.after.clients.slots) (n.tickets own)
       fit = (h.nodes client did.after did.acts.nodes.here).clients.found key.server l key.invoke_id link
 
       still : kept t ≡ Open t
       still = ap (λ (b : Bool). open_unless b t) going
 
       go : (o : Option Client) → value_at same_key (slot_key l key.invoke_id) did.after.clients.slots ≡ o
-          → TicketFits (n.asks_from client) n.now w'.notes client (n.numbers own) o (Some t) → w.now - t.ask.first ≤ DEADLINE
+          → TicketFits (is_lost n own) (here_at n client) w'.notes client (n.numbers own) o (Some t) → told w client - t.ask.first ≤ DEADLINE
       go None look f = absurd (let z = sym going ∙ f.over in cc)
-      go (Some v) look f = tick_leaves w.now did.before did.after did.outcome did.tick (slot_key l key.invoke_id) v.number t
+      go (Some v) look f = tick_leaves (told w client) did.before did.after did.outcome did.tick (slot_key l key.invoke_id) v.number t
           (look ∙ ap (λ (y : TransactionSlot). Some (record { number = v.number; held = y })) (f.held ∙ still))
 
   -- The next ask.
@@ -257,7 +258,7 @@ module _ (links : ℕ → Option Octets) (apart : (i j : ℕ) (l : Octets) → l
   module _ (old : World) (n : Net) (h : Over links apart W x old n) (logged : IdleIsLogged n) (c s : ℕ) (limits : Limits) (r : Request) (asked : World)
       (a : IsAsked old c s limits r asked) where
     parts : Parts links apart W x bound readable old n c s limits r asked a
-    parts = accepted_is (x.settings c) n.now (peer_at a.link) (choice_of r) a.asks.octets a.before.clients a.accepted limits
+    parts = accepted_is (x.settings c) (here_at n c) (peer_at a.link) (choice_of r) a.asks.octets a.before.clients a.accepted limits
         (accepted links apart W x bound readable old n h c s limits r asked a)
 
     abbrev asks_key : Key
@@ -270,7 +271,8 @@ module _ (links : ℕ → Option Octets) (apart : (i j : ℕ) (l : Octets) → l
     first = made links apart W x bound readable old n h c s limits r asked a parts
 
     -- where it leads
-    followed : (events : List Event) (w : World) → WorldRun x.overtake asked events w → Followed links apart W x bound readable Any w first
+    followed : (events : List Event) (w : World) → WorldRun x.overtake asked events w
+        → Followed links apart W x bound readable Any events w first
     followed events w run = on_run events asked w first (made_over links apart W x bound readable old n h c s limits r asked a parts) run
 
     once : (w : World) (m : Net) → Over links apart W x w m → HasEnded n.asks m.log → endings_of (length old.notes) w.log ≡ 1
@@ -279,7 +281,7 @@ module _ (links : ℕ → Option Octets) (apart : (i j : ℕ) (l : Octets) → l
     before : (events : List Event) (w : World) → WorldRun x.overtake asked events w → endings_of (length old.notes) w.log ≤ 1
     before events w run = go (some_ended n.asks f.net.log)
       where
-        f : Followed links apart W x bound readable Any w first
+        f : Followed links apart W x bound readable Any events w first
         f = followed events w run
 
         go : (net.endings_of n.asks f.net.log ≡ 0) ⊎ HasEnded n.asks f.net.log → endings_of (length old.notes) w.log ≤ 1
@@ -289,63 +291,59 @@ module _ (links : ℕ → Option Octets) (apart : (i j : ℕ) (l : Octets) → l
             omega arith
         go (inr ended) = let e = once w f.net f.over ended in omega arith
 
-    tick : (between : List Event) (late ticked : World) → WorldRun x.overtake asked between late → RunsOn c between → DEADLINE < late.now - old.now
-        → WorldStep x.overtake late (Tick c) ticked
+    tick : (between : List Event) (late ticked : World) → WorldRun x.overtake asked between late → RunsOn c between
+        → DEADLINE < told late c - told old c → WorldStep x.overtake late (Tick c) ticked
         → (after : List Event) (w : World) → WorldRun x.overtake ticked after w → endings_of (length old.notes) w.log ≡ 1
     tick between late ticked run on over ticks after w run' = once w last.net last.over
         (ended_grows n.asks then.net.log last.net.log (path_log x Any then.net last.net last.path) ended)
       where
-        f : Followed links apart W x bound readable Any late first
+        f : Followed links apart W x bound readable Any between late first
         f = followed between late run
 
-        then : Followed links apart W x bound readable Any ticked f.net
+        then : Followed links apart W x bound readable Any (Tick c ∷ []) ticked f.net
         then = on_step late ticked f.net f.over (Tick c) ticks
 
-        last : Followed links apart W x bound readable Any w then.net
+        last : Followed links apart W x bound readable Any after w then.net
         last = on_run after ticked w then.net then.over run'
 
         path : Path x Any first then.net
         path = path_then x Any first f.net then.net f.path then.path
 
-        now : then.net.now ≡ late.now
-        now = then.over.now ∙ ticks.acts.now
-
-        its_client_stays : ClientStays then.net asks_key its_ask
-        its_client_stays = stays links apart W x bound readable old n h c s limits r asked a parts (between ++ Tick c ∷ []) ticked
-            (run_join x.overtake between (Tick c ∷ []) asked late ticked run (ticked, ticks, refl)) (on_then c between (Tick c ∷ []) on tt) then.net then.over
+        its_client_stays : StaysSince then.net asks_key n.now
+        its_client_stays = stays links apart W x bound readable old n h c s limits r asked a parts then.net (then.lives c tt ∙ f.lives c on)
 
         logged_first : IdleIsLogged first
         logged_first = logged_path x Any n first (made_path links apart W x bound readable old n h c s limits r asked a parts Any)
-            (reached_bounded x n h.sound) logged
+            (bounded_over links apart W x old n h) logged
 
         logged_then : IdleIsLogged then.net
         logged_then = logged_path x Any first then.net path
             (made_bounded links apart W x bound readable old n h c s limits r asked a parts) logged_first
 
-        go : Tracked x asks_key n.asks its_ask then.net → HasEnded n.asks then.net.log
+        go : Tracked x asks_key n.asks its_ask n.now then.net → HasEnded n.asks then.net.log
         go (inr e) = e
         go (inl t) = by (is_idle t.ticket.phase) refl
           where
             by : (b : Bool) → is_idle t.ticket.phase ≡ b → HasEnded n.asks then.net.log
-            by true idle = subst (λ (k : ℕ). HasEnded k then.net.log) t.number_is ((logged_then asks_key t.ticket t.at).1
-                (subst (ClientStays then.net asks_key) (sym t.is) its_client_stays) idle)
+            by true idle = subst (λ (k : ℕ). HasEnded k then.net.log) t.number_is (logged_then asks_key t.ticket t.at
+                (let le = its_client_stays in let e = t.made_is in omega arith) idle)
             by false going = absurd (
-                let young = open_in_time late ticked then.net then.over c ticks now asks_key refl t.ticket t.at going a.link
+                let young = open_in_time late ticked then.net then.over c ticks asks_key refl t.ticket t.at going a.link
                 (server_link links apart W x bound readable old n h c s limits r asked a parts) in
-                let first : t.ticket.ask.first ≡ n.now = ap (λ (y : Ask). y.first) t.is in
-                let when : n.now ≡ old.now = h.now in
+                let first : t.ticket.ask.first ≡ here_at n c = ap (λ (y : Ask). y.first) t.is in
+                let when : here_at n c ≡ told old c = ap (λ (y : Clock). y.shows) (h.here c) in
                 omega arith
                 )
 
         ended : HasEnded n.asks then.net.log
-        ended = go (tracked_path x asks_key n.asks its_ask first then.net path
+        ended = go (tracked_path x asks_key n.asks its_ask n.now first then.net path
             (made_bounded links apart W x bound readable old n h c s limits r asked a parts) its_client_stays logged_first
             (inl (there links apart W x bound readable old n h c s limits r asked a parts Any)))
 
     -- a copy of its server's that is heard
-    module _ (w answered : World) (m : Net) (over : Over links apart W x w m) (late : DEADLINE < w.now - old.now) (number : ℕ) (d : Copy)
+    module _ (w answered : World) (m : Net) (over : Over links apart W x w m) (late : DEADLINE < told w c - told old c) (number : ℕ) (d : Copy)
         (may : MayArrive x.overtake w number d) (from : IsFromServer c s a.accepted.invoke_id d) (did : WorldStep x.overtake w (Deliver number) answered)
-        (t : IsThere x Any asks_key n.asks its_ask m) (going : is_idle t.ticket.phase ≡ false) where
+        (t : IsThere x Any asks_key n.asks its_ask n.now m) (going : is_idle t.ticket.phase ≡ false) where
       abbrev z : IsPaired (IsCopyOf links apart) m.posts number d
       z = post links apart W x bound readable w answered m over number d may.at
 
@@ -371,27 +369,27 @@ module _ (links : ℕ → Option Octets) (apart : (i j : ℕ) (l : Octets) → l
       at : m.tickets z.other.key ≡ Some t.ticket
       at = ap m.tickets key_is ∙ t.at
 
-      known : (up : Up) × (down : Down) × Sound W z.other.key (m.serves_from z.other.key.server) m.now m.asks (m.numbers z.other.key) t.ticket (m.entries z.other.key)
-          (one m z.other.key).copies m.log up down
-      known = sound_at W m z.other.key (Some t.ticket) at (reached_net W x bound m over.sound)
+      known : (up : Up) × (down : Down) × SoundIn W m z.other.key t.ticket up down
+      known = sound_at W m z.other.key (Some t.ticket) at
+          (reached_net W x bound over.sound.0 over.sound.2 over.sound.1 m over.sound.3)
 
       of_server : is_from_server z.other.copy.apdu ≡ true
-      of_server = from_server W (m.numbers z.other.key) t.ticket.ask m.log known.0 known.1 z.other.copy.moment (later z.other.key number m.posts)
+      of_server = from_server W (moments_of m z.other.key) (m.numbers z.other.key) t.ticket.ask m.log known.0 known.1 z.other.copy.moment (later z.other.key number m.posts)
           z.other.copy.apdu (((known.2).arriving (later z.other.key number m.posts) z.other.copy (copy_at number m.posts z.other heard.at) heard.young).1) down
 
       abbrev turn : Reaction
-      turn = client.client_on_apdu (client_context x z.other.key m.now) x.readable t.ticket z.other.copy.apdu
+      turn = client.client_on_apdu (client_context x z.other.key (client_now m z.other.key)) x.readable t.ticket z.other.copy.apdu
 
-      told : Over links apart W x answered (client_acts m z.other.key t.ticket turn)
-      told = subst (λ (o : Option ClientTransaction). Over links apart W x answered (taken_by_client x m z.other o)) at
+      told_so : Over links apart W x answered (client_acts m z.other.key t.ticket turn)
+      told_so = subst (λ (o : Option ClientTransaction). Over links apart W x answered (taken_by_client x m z.other o)) at
           (told_over links apart W x bound readable w answered m over number z.other d heard down)
 
       expires : turn ≡ Ends [] Ending.Expired
       expires =
-          let first : t.ticket.ask.first ≡ n.now = ap (λ (y : Ask). y.first) t.is in
-          let when : n.now ≡ old.now = h.now in
-          let now : m.now ≡ w.now = over.now in
-          late_gets x.readable (client_context x z.other.key m.now) t.ticket z.other.copy.apdu of_server going (omega arith)
+          let first : t.ticket.ask.first ≡ here_at n c = ap (λ (y : Ask). y.first) t.is in
+          let when : here_at n c ≡ told old c = ap (λ (y : Clock). y.shows) (h.here c) in
+          let now : client_now m z.other.key ≡ told w c = ap (client_now m) key_is ∙ ap (λ (y : Clock). y.shows) (over.here c) in
+          late_gets x.readable (client_context x z.other.key (client_now m z.other.key)) t.ticket z.other.copy.apdu of_server going (omega arith)
 
       number_is : m.numbers z.other.key ≡ n.asks
       number_is = ap m.numbers key_is ∙ t.number_is
@@ -402,25 +400,25 @@ module _ (links : ℕ → Option Octets) (apart : (i j : ℕ) (l : Octets) → l
           log_is : (client_acts m z.other.key t.ticket turn).log ≡ octets.Fact.Ended n.asks Ending.Expired ∷ m.log
           log_is = (λ i. ended (number_is i) (client.ending_of (expires i)) m.log)
 
-    answer : (between : List Event) (late answered : World) → WorldRun x.overtake asked between late → RunsOn c between → DEADLINE < late.now - old.now
-        → (number : ℕ) (d : Copy) → MayArrive x.overtake late number d → IsFromServer c s a.accepted.invoke_id d
+    answer : (between : List Event) (late answered : World) → WorldRun x.overtake asked between late → RunsOn c between
+        → DEADLINE < told late c - told old c → (number : ℕ) (d : Copy) → MayArrive x.overtake late number d → IsFromServer c s a.accepted.invoke_id d
         → WorldStep x.overtake late (Deliver number) answered
         → (after : List Event) (w : World) → WorldRun x.overtake answered after w → endings_of (length old.notes) w.log ≡ 1
-    answer between late answered run on over number d may from did after w run' = go (tracked_path x asks_key n.asks its_ask first f.net f.path
+    answer between late answered run on over number d may from did after w run' = go (tracked_path x asks_key n.asks its_ask n.now first f.net f.path
         (made_bounded links apart W x bound readable old n h c s limits r asked a parts) its_client_stays logged_first
         (inl (there links apart W x bound readable old n h c s limits r asked a parts Any)))
       where
-        f : Followed links apart W x bound readable Any late first
+        f : Followed links apart W x bound readable Any between late first
         f = followed between late run
 
-        its_client_stays : ClientStays f.net asks_key its_ask
-        its_client_stays = stays links apart W x bound readable old n h c s limits r asked a parts between late run on f.net f.over
+        its_client_stays : StaysSince f.net asks_key n.now
+        its_client_stays = stays links apart W x bound readable old n h c s limits r asked a parts f.net (f.lives c on)
 
         logged_first : IdleIsLogged first
         logged_first = logged_path x Any n first (made_path links apart W x bound readable old n h c s limits r asked a parts Any)
-            (reached_bounded x n h.sound) logged
+            (bounded_over links apart W x old n h) logged
 
-        then : Followed links apart W x bound readable Any answered f.net
+        then : Followed links apart W x bound readable Any (Deliver number ∷ []) answered f.net
         then = on_step late answered f.net f.over (Deliver number) did
 
         conclude : (m : Net) → Over links apart W x answered m → HasEnded n.asks m.log → endings_of (length old.notes) w.log ≡ 1
@@ -431,26 +429,33 @@ module _ (links : ℕ → Option Octets) (apart : (i j : ℕ) (l : Octets) → l
         was : HasEnded n.asks f.net.log → endings_of (length old.notes) w.log ≡ 1
         was e = conclude then.net then.over (ended_grows n.asks f.net.log then.net.log (path_log x Any f.net then.net then.path) e)
 
-        go : Tracked x asks_key n.asks its_ask f.net → endings_of (length old.notes) w.log ≡ 1
+        go : Tracked x asks_key n.asks its_ask n.now f.net → endings_of (length old.notes) w.log ≡ 1
         go (inr e) = was e
         go (inl t) = by (is_idle t.ticket.phase) refl
           where
             by : (b : Bool) → is_idle t.ticket.phase ≡ b → endings_of (length old.notes) w.log ≡ 1
             by true idle = was (subst (λ (k : ℕ). HasEnded k f.net.log) t.number_is
-                ((logged_path x Any first f.net f.path (made_bounded links apart W x bound readable old n h c s limits r asked a parts) logged_first asks_key
-                t.ticket t.at).1 (subst (ClientStays f.net asks_key) (sym t.is) its_client_stays) idle))
-            by false going = conclude (client_acts f.net _ t.ticket _) (told late answered f.net f.over over number d may from did t going)
+                (logged_path x Any first f.net f.path (made_bounded links apart W x bound readable old n h c s limits r asked a parts) logged_first asks_key
+                t.ticket t.at (let le = its_client_stays in let e = t.made_is in omega arith) idle))
+            by false going = conclude (client_acts f.net _ t.ticket _) (told_so late answered f.net f.over over number d may from did t going)
                 (has_ended late answered f.net f.over over number d may from did t going)
 
     ends : EndsInTime x.overtake old c s a.accepted.invoke_id asked
     ends = record { before = before; tick = tick; answer = answer }
 
-pub asks_end : (W overtake : ℕ) (opening reached : World) → IsFresh opening → IsBounded W overtake opening
+-- the net of a fresh world
+abbrev pub opened_net : World → Net
+opened_net w = net_start w.time.pace (λ i. (w.time.clocks i).exact)
+
+pub opened_bounded : (w : World) → Bounded (opened_net w)
+opened_bounded w = bounded_start w.time.pace (λ i. (w.time.clocks i).exact)
+
+pub asks_end : (W overtake : ℕ) (opening reached : World) → IsFresh opening → IsTimely opening.time.pace → IsBounded W overtake opening
     → (events : List Event) → WorldRun overtake opening events reached → AsksEnd overtake reached
-asks_end W overtake opening reached fresh bounded events run c s limits r asked a =
+asks_end W overtake opening reached fresh timely bounded events run c s limits r asked a =
     let links : ℕ → Option Octets = link_at opening.nodes in
     let x : Rules = rules_of overtake opening in
     let bound = rules_bounded W overtake opening bounded in
-    let f = on_run links fresh.apart W x bound refl events opening reached net_start (fresh_over W overtake opening fresh bounded) run in
+    let f = on_run links fresh.apart W x bound refl events opening reached (opened_net opening) (fresh_over W overtake opening fresh timely bounded) run in
     ends links fresh.apart W x bound refl reached f.net f.over
-    (logged_path x Any net_start f.net f.path bounded_start (λ key t at. absurd cc)) c s limits r asked a
+    (logged_path x Any (opened_net opening) f.net f.path (opened_bounded opening) (λ key t at stays. absurd cc)) c s limits r asked a

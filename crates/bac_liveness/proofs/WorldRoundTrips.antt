@@ -19,15 +19,18 @@ use Rattle.bac_protocol.specs.Server as server
 use Rattle.bac_protocol.specs.Server.{ServerTransaction, is_live, live_entry, is_none_live, server_on_apdu}
 use Rattle.bac_protocol.specs.Log as octets
 use Rattle.bac_protocol.specs.Transaction.{Key, Rules, client_context, server_context}
-use Rattle.bac_protocol.specs.World.{Net, Post, post_of, client_acts, server_acts, net_start}
+use Rattle.bac_protocol.specs.World.{Net, Post, post_of, client_acts, server_acts, client_now, server_now}
 use Rattle.bac_protocol.specs.Moves.{taken_by_client}
 use Rattle.bac_protocol.specs.Straight.{KindFits}
 use Rattle.bac_protocol.specs.Claims as claims
-use Rattle.bac_protocol.specs.Claims.{ClientStays}
+use Rattle.bac_protocol.specs.Pace.{Clock, IsTimely}
+use Rattle.bac_protocol.proofs.Paces.{since_now}
+use Rattle.bac_liveness.specs.Runs.{StaysSince}
+use Rattle.bac_liveness.proofs.Clocks.{MadeIn, made_path, here_path}
 use Rattle.bac_protocol.proofs.Keys.{set_same}
 use Rattle.bac_protocol.proofs.SingleMoves.{reached_net}
 use Rattle.bac_liveness.specs.RoundTrip.{FitsInOne, request_to, answer_to}
-use Rattle.bac_liveness.proofs.Paths.{Any, some_is, Path, bounded_start, path_now, path_log, path_posts}
+use Rattle.bac_liveness.proofs.Paths.{Any, some_is, Path, path_now, path_log, path_posts}
 use Rattle.bac_liveness.proofs.Changes.{IdleIsLogged, HasEnded, IsThere, logged_path}
 use Rattle.bac_liveness.proofs.Endings.{Tracked, tracked_path}
 use Rattle.bac_liveness.proofs.Serving.{answer_not_from_client, performed_entry}
@@ -38,20 +41,19 @@ use Rattle.bac_liveness.proofs.Robust.{at_end}
 use Rattle.bac_transaction.specs.Sends.{Pairwise}
 use Rattle.bac_world.specs.Node.{Node}
 use Rattle.bac_world.specs.Once.{Stores, IsOnce}
-use Rattle.bac_world.specs.World.{World, Event, Copy, WorldStep, WorldRun, IsFresh, IsBounded, IsAsked, RunsOn, link_at, stores_of, peer_at}
+use Rattle.bac_world.specs.World.{World, Event, Copy, WorldStep, WorldRun, IsFresh, IsBounded, IsAsked, RunsOn, told, link_at, stores_of, peer_at}
 use Rattle.bac_world.specs.World.Event.{Deliver}
 use Rattle.bac_world.proofs.Pairs.{IsPaired}
-use Rattle.bac_world.proofs.Bridge.{IsCopyOf}
+use Rattle.bac_world.proofs.Bridge.{here_at, IsCopyOf}
 use Rattle.bac_world.proofs.Steps.{Over}
 use Rattle.bac_world.proofs.Asking.{accepted_whole}
 use Rattle.bac_world.proofs.Headline.{headline, fresh_over, rules_of, rules_bounded}
 use Rattle.bac_liveness.specs.WorldRuns.{endings_of}
 use Rattle.bac_liveness.specs.WorldRoundTrip.{MayArrive, IsRequest, CanPerform, IsAnswered, IsServed, RoundTripSuffices}
 use Rattle.bac_liveness.proofs.Following.{Followed, Parts, IsTaken, IsServedBy, served_reaction, accepted, post, heard_now, served_over, told_over}
-use Rattle.bac_liveness.proofs.Staying.{reached_bounded}
-use Rattle.bac_liveness.proofs.Asked.{key, ask, made, made_over, made_bounded, made_path, there, stays, foreign, request_is, pairwise_rest, pairwise_length}
+use Rattle.bac_liveness.proofs.Asked.{key, ask, made, made_over, made_bounded, made_path as asked_path, made_clock, bounded_over, there, stays, foreign, request_is, pairwise_rest, pairwise_length}
 use Rattle.bac_liveness.proofs.Asked.{just_one}
-use Rattle.bac_liveness.proofs.WorldEndings.{run_join, on_then, on_run, once_in}
+use Rattle.bac_liveness.proofs.WorldEndings.{run_join, on_run, once_in, opened_net, opened_bounded}
 use Rattle.bac_liveness.proofs.Performing.{way, does, reaction}
 use Rattle.bac_liveness.proofs.Values.{answered_values, kind_fits}
 
@@ -71,34 +73,34 @@ module _ (links : ℕ → Option Octets) (apart : (i j : ℕ) (l : Octets) → l
 
   logged_on : (m : Net) → Path x Any first m → IdleIsLogged m
   logged_on m path = logged_path x Any first m path (made_bounded links apart W x bound readable old n h c s limits r asked a p)
-      (logged_path x Any n first (made_path links apart W x bound readable old n h c s limits r asked a p Any) (reached_bounded x n h.sound) logged)
+      (logged_path x Any n first (asked_path links apart W x bound readable old n h c s limits r asked a p Any) (bounded_over links apart W x old n h) logged)
 
   -- an ask that has no ending is open
   abbrev IsOpenIn : Net → Type 0
-  IsOpenIn m = (t : IsThere x Any its_key n.asks its_ask m) × (is_idle t.ticket.phase ≡ false)
+  IsOpenIn m = (t : IsThere x Any its_key n.asks its_ask n.now m) × (is_idle t.ticket.phase ≡ false)
 
-  unended_open : (w : World) (m : Net) → Over links apart W x w m → ClientStays m its_key its_ask → endings_of (length old.notes) w.log ≡ 0
-      → IdleIsLogged m → IsThere x Any its_key n.asks its_ask m → IsOpenIn m
+  unended_open : (w : World) (m : Net) → Over links apart W x w m → StaysSince m its_key n.now → endings_of (length old.notes) w.log ≡ 0
+      → IdleIsLogged m → IsThere x Any its_key n.asks its_ask n.now m → IsOpenIn m
   unended_open w m over life none log t = go (is_idle t.ticket.phase) refl
     where
       go : (b : Bool) → is_idle t.ticket.phase ≡ b → IsOpenIn m
       go false e = (t, e)
       go true e = absurd (
           let ended = subst (λ (k : ℕ). HasEnded k m.log) t.number_is
-          ((log its_key t.ticket t.at).1 (subst (ClientStays m its_key) (sym t.is) life) e) in
+          (log its_key t.ticket t.at (let le = life in let same = t.made_is in omega arith) e) in
           let one = once_in links apart W x bound readable w m over n.asks ended in
           let zero = subst (λ (k : ℕ). endings_of k w.log ≡ 0) (sym h.asks) none in
           omega arith
           )
 
-  open_in : (w : World) (m : Net) → Path x Any first m → Over links apart W x w m → ClientStays m its_key its_ask
+  open_in : (w : World) (m : Net) → Path x Any first m → Over links apart W x w m → StaysSince m its_key n.now
       → endings_of (length old.notes) w.log ≡ 0 → IsOpenIn m
-  open_in w m path over life none = go (tracked_path x its_key n.asks its_ask first m path
+  open_in w m path over life none = go (tracked_path x its_key n.asks its_ask n.now first m path
       (made_bounded links apart W x bound readable old n h c s limits r asked a p) life
-      (logged_path x Any n first (made_path links apart W x bound readable old n h c s limits r asked a p Any) (reached_bounded x n h.sound) logged)
+      (logged_path x Any n first (asked_path links apart W x bound readable old n h c s limits r asked a p Any) (bounded_over links apart W x old n h) logged)
       (inl (there links apart W x bound readable old n h c s limits r asked a p Any)))
     where
-      go : Tracked x its_key n.asks its_ask m → IsOpenIn m
+      go : Tracked x its_key n.asks its_ask n.now m → IsOpenIn m
       go (inl t) = unended_open w m over life none (logged_on m path) t
       go (inr ended) = absurd (
           let one = once_in links apart W x bound readable w m over n.asks ended in
@@ -114,10 +116,10 @@ module _ (links : ℕ → Option Octets) (apart : (i j : ℕ) (l : Octets) → l
 
   -- A copy of the request is performed.
 
-  module _ (before : List Event) (w served : World) (run : WorldRun x.overtake asked before w) (on : RunsOn c before) (m : Net) (path : Path x Any first m)
-      (over : Over links apart W x w m) (t : IsThere x Any its_key n.asks its_ask m) (number : ℕ) (d : Copy)
+  module _ (before : List Event) (w served : World) (run : WorldRun x.overtake asked before w) (m : Net) (path : Path x Any first m)
+      (lives : m.restarted c ≡ n.restarted c) (over : Over links apart W x w m) (t : IsThere x Any its_key n.asks its_ask n.now m) (number : ℕ) (d : Copy)
       (may : MayArrive x.overtake w number d) (q : IsRequest a.sent d) (node : Node) (at : slice_get w.nodes s ≡ Some node)
-      (can : CanPerform w.now a.before node a.accepted.invoke_id r) (did : WorldStep x.overtake w (Deliver number) served) where
+      (can : CanPerform (told w s) a.before node a.accepted.invoke_id r) (did : WorldStep x.overtake w (Deliver number) served) where
     abbrev y : IsPaired (IsCopyOf links apart) m.posts number d
     y = post links apart W x bound readable w served m over number d may.at
 
@@ -156,16 +158,26 @@ module _ (links : ℕ → Option Octets) (apart : (i j : ℕ) (l : Octets) → l
         (subst (λ (k : Key). Over links apart W x served (server_acts m k
         (served_reaction links apart W x bound readable w served m over number y.other d taken))) is.0 so.over)
 
-    since : its_ask.first ≤ m.now
-    since = path_now x Any first m path
+    -- the ask by the clocks of its two ends
+    clock : MadeIn m its_key its_ask.first n.now
+    clock = made_path x Any its_key its_ask.first n.now first m path
+        (made_bounded links apart W x bound readable old n h c s limits r asked a p)
+        (stays links apart W x bound readable old n h c s limits r asked a p m lives)
+        (made_clock links apart W x bound readable old n h c s limits r asked a p)
 
-    kept : IsKept x Any its_key n.asks its_ask m.now answer since u
+    kept : IsKept x Any its_key n.asks its_ask n.now (server_now m its_key) answer u
     kept = record {
-      there = record { ticket = t.ticket; at = t.at; is = t.is; number_is = t.number_is };
-      entry = performed_entry m.now sender its_ask answer;
-      at = set_same m.entries its_key (Some (performed_entry m.now sender its_ask answer));
+      there = record { ticket = t.ticket; at = t.at; is = t.is; number_is = t.number_is; made_is = t.made_is };
+      entry = performed_entry (server_now m its_key) sender its_ask answer;
+      at = set_same m.entries its_key (Some (performed_entry (server_now m its_key) sender its_ask answer));
       begun = refl;
       state = refl;
+      runs = clock;
+      since = record {
+        began = m.now;
+        after = path_now x Any first m path;
+        since = since_now m.pace m.now (m.server_clocks its_key.server) clock.server_told;
+      };
     }
 
     performed : octets.Has (octets.Fact.Performed n.asks (request_of its_ask) can.reply) u.log
@@ -183,9 +195,9 @@ module _ (links : ℕ → Option Octets) (apart : (i j : ℕ) (l : Octets) → l
     -- The answer is delivered.
 
     module _ (between : List Event) (v answered : World) (after : WorldRun x.overtake served between v) (on_between : RunsOn c between)
-        (unended : endings_of (length old.notes) v.log ≡ 0) (young : v.now - old.now ≤ DEADLINE)
+        (unended : endings_of (length old.notes) v.log ≡ 0) (young : told v c - told old c ≤ DEADLINE)
         (comes : MayArrive x.overtake v (length w.copies) one.0) (hears : WorldStep x.overtake v (Deliver (length w.copies)) answered) where
-      f : Followed links apart W x bound readable Any v u
+      f : Followed links apart W x bound readable Any between v u
       f = on_run links apart W x bound readable between served v u u_over after
 
       abbrev reply_post : IsPaired (IsCopyOf links apart) f.net.posts (length w.copies) one.0
@@ -206,21 +218,28 @@ module _ (links : ℕ → Option Octets) (apart : (i j : ℕ) (l : Octets) → l
       reply_taken = heard_now links apart W x bound readable v answered f.net f.over (length w.copies) one.0 comes.at comes.arrives
           (away reply_post.other.key (ap (λ (z : Post). z.key) post_is)) hears
 
-      in_time : f.net.now - its_ask.first ≤ DEADLINE
-      in_time = let one = f.over.now in let two = h.now in omega arith
+      in_time : client_now f.net its_key - its_ask.first ≤ DEADLINE
+      in_time =
+          let one : here_at f.net c ≡ told v c = ap (λ (y : Clock). y.shows) (f.over.here c) in
+          let two : here_at n c ≡ told old c = ap (λ (y : Clock). y.shows) (h.here c) in
+          omega arith
 
-      kept_then : IsAwaited x Any its_key n.asks its_ask answer (answer_whole x its_key its_ask can.reply) f.net
-      kept_then = awaited_path x Any its_key n.asks its_ask answer (answer_whole x its_key its_ask can.reply) u f.net f.path
-          (awaited_at W x its_key its_ask n.asks m.now can.reply since u (reached_net W x bound u u_over.sound) kept (inl whole)) in_time
+      life : StaysSince f.net its_key n.now
+      life = stays links apart W x bound readable old n h c s limits r asked a p f.net (f.lives c on_between ∙ lives)
+
+      -- the client's clock has gone on since
+      early : client_now u its_key - its_ask.first ≤ DEADLINE
+      early = let late = in_time in let on = here_path x Any its_key its_ask.first n.now u f.net f.path (bounded_over links apart W x served u u_over) life clock in omega arith
+
+      kept_then : IsAwaited x Any its_key n.asks its_ask n.now answer (answer_whole x its_key its_ask can.reply) f.net
+      kept_then = awaited_path x Any its_key n.asks its_ask n.now answer (answer_whole x its_key its_ask can.reply) u f.net f.path
+          (bounded_over links apart W x served u u_over)
+          (awaited_at W x its_key its_ask n.asks (server_now m its_key) can.reply n.now u
+          (reached_net W x bound u_over.sound.0 u_over.sound.2 u_over.sound.1 u u_over.sound.3) kept early (inl whole)) life in_time
 
       logged_then : IdleIsLogged f.net
-      logged_then = logged_path x Any u f.net f.path (reached_bounded x u u_over.sound)
-          (λ k z is_at. let e = logged_on m path k z is_at in (e.0, λ stays idle. let ended = e.1 stays idle in (ended.0, inr ended.1)))
-
-      life : ClientStays f.net its_key its_ask
-      life = stays links apart W x bound readable old n h c s limits r asked a p (before ++ Deliver number ∷ between) v
-          (run_join x.overtake before (Deliver number ∷ between) asked w v run (served, did, after)) (on_then c before (Deliver number ∷ between) on on_between)
-          f.net f.over
+      logged_then = logged_path x Any u f.net f.path (bounded_over links apart W x served u u_over)
+          (λ k z is_at on idle. let ended = logged_on m path k z is_at on idle in (ended.0, inr ended.1))
 
       going : is_idle kept_then.there.ticket.phase ≡ false
       going = still (unended_open v f.net f.over life unended logged_then kept_then.there)
@@ -246,11 +265,11 @@ module _ (links : ℕ → Option Octets) (apart : (i j : ℕ) (l : Octets) → l
       takes : TakesAnswer kept_then.there.ticket.phase
       takes = takes_awaited kept_then.there.ticket.phase going kept_then.phase
 
-      ends : client.client_on_apdu (client_context x its_key f.net.now) x.readable kept_then.there.ticket answer ≡ Ends [] (Answered can.reply)
-      ends = subst (λ (k : Ask). client.client_on_apdu (client_context x its_key f.net.now) x.readable kept_then.there.ticket (answer_to x its_key k can.reply)
+      ends : client.client_on_apdu (client_context x its_key (client_now f.net its_key)) x.readable kept_then.there.ticket answer ≡ Ends [] (Answered can.reply)
+      ends = subst (λ (k : Ask). client.client_on_apdu (client_context x its_key (client_now f.net its_key)) x.readable kept_then.there.ticket (answer_to x its_key k can.reply)
           ≡ Ends [] (Answered can.reply)) kept_then.there.is
-          (takes_ends x f.net.now its_key kept_then.there.ticket can.reply takes
-          (subst (λ (k : Ask). f.net.now - k.first ≤ DEADLINE) (sym kept_then.there.is) in_time)
+          (takes_ends x (client_now f.net its_key) its_key kept_then.there.ticket can.reply takes
+          (subst (λ (k : Ask). client_now f.net its_key - k.first ≤ DEADLINE) (sym kept_then.there.is) in_time)
           (subst (λ (k : Ask). FitsInOne x its_key k can.reply) (sym kept_then.there.is) (record { way = way_is; kind = kind })))
 
       last_over : Over links apart W x answered (client_acts f.net its_key kept_then.there.ticket (Ends [] (Answered can.reply)))
@@ -273,7 +292,7 @@ module _ (links : ℕ → Option Octets) (apart : (i j : ℕ) (l : Octets) → l
           (grown (octets.Fact.Ended n.asks (Answered can.reply))
           (inl (ap (λ (k : ℕ). octets.Fact.Ended k (Answered can.reply)) kept_then.there.number_is))))
         where
-          end : Followed links apart W x bound readable Any last ended_net
+          end : Followed links apart W x bound readable Any more last ended_net
           end = on_run links apart W x bound readable more answered last ended_net last_over ran
 
           grown : (q : octets.Fact) → octets.Has q ended_net.log → octets.Has q end.net.log
@@ -289,25 +308,26 @@ module _ (links : ℕ → Option Octets) (apart : (i j : ℕ) (l : Octets) → l
 
   pub suffices : (before : List Event) (w served : World) → WorldRun x.overtake asked before w → RunsOn c before → endings_of (length old.notes) w.log ≡ 0
       → (number : ℕ) (d : Copy) → MayArrive x.overtake w number d → IsRequest a.sent d
-      → (node : Node) → slice_get w.nodes s ≡ Some node → CanPerform w.now a.before node a.accepted.invoke_id r
+      → (node : Node) → slice_get w.nodes s ≡ Some node → CanPerform (told w s) a.before node a.accepted.invoke_id r
       → WorldStep x.overtake w (Deliver number) served → IsServed x.overtake old c r w served
   suffices before w served run on none number d may q node at can did =
       let f = on_run links apart W x bound readable before asked w first (made_over links apart W x bound readable old n h c s limits r asked a p) run in
-      let life = stays links apart W x bound readable old n h c s limits r asked a p before w run on f.net f.over in
+      let life = stays links apart W x bound readable old n h c s limits r asked a p f.net (f.lives c on) in
       let o = open_in w f.net f.path f.over life none in
-      is_served before w served run on f.net f.path f.over o.0 number d may q node at can did
+      is_served before w served run f.net f.path (f.lives c on) f.over o.0 number d may q node at can did
 
-pub round_trip_suffices : (W overtake : ℕ) (opening reached : World) → IsFresh opening → IsBounded W overtake opening
+pub round_trip_suffices : (W overtake : ℕ) (opening reached : World) → IsFresh opening → IsTimely opening.time.pace → IsBounded W overtake opening
     → (events : List Event) → WorldRun overtake opening events reached → RoundTripSuffices overtake reached
-round_trip_suffices W overtake opening reached fresh bounded events run c s limits r asked a in_one =
+round_trip_suffices W overtake opening reached fresh timely bounded events run c s limits r asked a in_one =
     let links : ℕ → Option Octets = link_at opening.nodes in
     let x : Rules = rules_of overtake opening in
     let bound = rules_bounded W overtake opening bounded in
-    let f = on_run links fresh.apart W x bound refl events opening reached net_start (fresh_over W overtake opening fresh bounded) run in
-    let p = accepted_whole (x.settings c) f.net.now (peer_at a.link) (choice_of r) a.asks.octets a.before.clients a.accepted limits
+    let f = on_run links fresh.apart W x bound refl events opening reached (opened_net opening)
+    (fresh_over W overtake opening fresh timely bounded) run in
+    let p = accepted_whole (x.settings c) (here_at f.net c) (peer_at a.link) (choice_of r) a.asks.octets a.before.clients a.accepted limits
     (accepted links fresh.apart W x bound refl reached f.net f.over c s limits r asked a)
     (subst (λ (z : Settings). request_way_of z limits a.asks.octets ≡ InOne) (f.over.nodes c a.before a.at).settings in_one) in
     suffices links fresh.apart W x bound refl (stores_of opening.nodes) reached f.net f.over
-    (logged_path x Any net_start f.net f.path bounded_start (λ key t at. absurd cc)) c s limits r asked a p.0 p.1
-    (λ more w after. headline W overtake opening w fresh bounded (events ++ Event.Ask c s limits r ∷ more)
+    (logged_path x Any (opened_net opening) f.net f.path (opened_bounded opening) (λ key t at stays. absurd cc)) c s limits r asked a p.0 p.1
+    (λ more w after. headline W overtake opening w fresh timely bounded (events ++ Event.Ask c s limits r ∷ more)
     (run_join overtake events (Event.Ask c s limits r ∷ more) opening reached w run (asked, inl a, after)))

@@ -11,8 +11,8 @@ use Rattle.bac_protocol.specs.Client.{Ask, ClientTransaction, asked_ticket}
 use Rattle.bac_protocol.specs.Log.{Fact}
 use Rattle.bac_protocol.specs.Log.Fact.{Asked, Performed, Ended, Changed}
 use Rattle.bac_protocol.specs.Transaction.{client_context}
-use Rattle.bac_protocol.specs.Pace.{one_clock}
-use Rattle.bac_protocol.specs.World.{World, Event, client_now, server_now, is_id_held, net_start, run, start}
+use Rattle.bac_protocol.specs.Pace.{IsTimely, one_clock}
+use Rattle.bac_protocol.specs.World.{World, Event, client_now, is_id_held, net_start, run, start}
 use Rattle.bac_protocol.specs.World.Event.{MakeAsk, Deliver, Tick, Noise, Change}
 use Rattle.bac_protocol.specs.Claims.{IsBounded}
 use Rattle.bac_protocol.specs.Straight.{AreStraight}
@@ -57,6 +57,7 @@ was_performed octets p = Performed 0 (record { choice = 7; service = octets }) p
 -- nothing arrives, and the client's first tick comes at 60,001
 pub record LateTick : Type 0 where
   pub bounded : IsBounded 3 (rules 3)
+  pub timely : IsTimely one_clock
   pub ticket : (world position (ask_append ∷ [])).net.tickets key ≡ Some (ticket_of whole_ask)
   pub late : DEADLINE < client_now (world position (ask_append ∷ elapse 60001 ∷ [])).net key - 0
   pub client : Contains (key ∷ []) key

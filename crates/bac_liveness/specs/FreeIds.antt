@@ -7,7 +7,7 @@ use Rattle.bac_slots.specs.Slots.{value_at}
 use Rattle.bac_transaction.specs.Keys.{same_key}
 use Rattle.bac_transaction.specs.Ends.{is_id_taken}
 use Rattle.bac_world.specs.Node.{Node}
-use Rattle.bac_world.specs.World.{World, IsAsked, peer_at}
+use Rattle.bac_world.specs.World.{World, IsAsked, told, peer_at}
 
 -- a server has no live entry of that node and invoke ID
 abbrev pub HasNoneLive : (now : ℕ) → (server client : Node) → (invoke_id : ℕ) → Type 0
@@ -18,6 +18,6 @@ HasNoneLive now server client invoke_id =
 -- accepted ask has none for it
 pub record FreeIdsAreUnused (w : World) : Type 0 where
   pub free : (i j : ℕ) (client server : Node) → slice_get w.nodes i ≡ Some client → slice_get w.nodes j ≡ Some server
-      → (invoke_id : ℕ) → is_id_taken w.now client.clients (peer_at server.link) invoke_id ≡ false → HasNoneLive w.now server client invoke_id
+      → (invoke_id : ℕ) → is_id_taken (told w i) client.clients (peer_at server.link) invoke_id ≡ false → HasNoneLive (told w j) server client invoke_id
   pub asked : (i j : ℕ) (limits : Limits) (r : Request) (new : World) → (asks : IsAsked w i j limits r new)
-      → (server : Node) → slice_get w.nodes j ≡ Some server → HasNoneLive w.now server asks.before asks.accepted.invoke_id
+      → (server : Node) → slice_get w.nodes j ≡ Some server → HasNoneLive (told w j) server asks.before asks.accepted.invoke_id

@@ -18,7 +18,7 @@ use Rattle.bac_transaction.specs.Meanings.Ending.{Answered}
 use Rattle.bac_transaction.specs.Ends.{is_free}
 use Rattle.bac_world.specs.Node.{Node}
 use Rattle.bac_world.specs.Once.Fact.{Asked, Performed, Ended}
-use Rattle.bac_world.specs.World.{World, stores_of}
+use Rattle.bac_world.specs.World.{World, stores_of, told}
 use Rattle.bac_liveness.specs.StraightRuns.{IsStraight}
 
 -- in how many datagrams data go that way
@@ -61,7 +61,7 @@ pub record IsAnswered (old : World) (client server : ℕ) (r : Request) (store :
       ∷ Asked (length old.notes) client server r
       ∷ old.log
   pub stores : (node : ℕ) → stores_of new.nodes node ≡ (if nat_eq node server then Some (after store r) else stores_of old.nodes node)
-  pub now : new.now ≡ old.now
+  pub time : new.time ≡ old.time
   pub cheap : count ≤ cost n m
 
 -- each straight run of that world, whatever the server is said to take, answers where it can be answered
@@ -69,6 +69,6 @@ abbrev pub StraightAnswers : (overtake : ℕ) → World → Type 0
 StraightAnswers overtake old =
     (client server : ℕ) (limits : Limits) (r : Request) (ending : Option Ending) (count : ℕ) (new : World)
     → (run : IsStraight overtake old client server limits r ending count new)
-    → (b : Node) → slice_get old.nodes server ≡ Some b → CanAnswer overtake old.now run.asks.before b r
+    → (b : Node) → slice_get old.nodes server ≡ Some b → CanAnswer overtake (told old server) run.asks.before b r
     → IsAnswered old client server r b.store (datagrams (request_way_of run.asks.before.settings limits run.asks.asks.octets))
     (datagrams (way_between run.asks.before.settings b.settings (reply_to b.store r))) ending count new

@@ -3,6 +3,7 @@ use Rattle.std.specs.Prelude.{◌≡◌, ℕ, zero, suc, pos, [], ◌∷◌, Som
 use Rattle.bac_service.specs.Values.{Request}
 use Rattle.bac_service.specs.Values.WriteAccess.{WriteStream}
 use Rattle.bac_store.specs.Replies.{reply_to}
+use Rattle.bac_protocol.specs.Pace.{IsTimely}
 use Rattle.bac_protocol.specs.Service.{Octets}
 use Rattle.bac_protocol.specs.Sizes.{request_way_of}
 use Rattle.bac_transaction.specs.Meanings.Ending.{Answered}
@@ -24,6 +25,7 @@ WRITE = Request.WriteFile (record { kind = 10; instance = 1 }) (WriteStream (pos
 -- node 0 asks node 1, with windows of 1, and 253 later copies that may overtake one; the request has so many datagrams, and so many copies are delivered
 pub record IsAnsweredRun (r : Request) (n count : ℕ) : Type 0 where
   pub fresh : IsFresh OPENING
+  pub timely : IsTimely OPENING.time.pace
   pub bounded : IsBounded 1 253 OPENING
   pub can : CanAnswer 253 0 (node 0) (node 1) r
   pub last : World

@@ -15,7 +15,7 @@ use Rattle.bac_transaction.specs.Ends.TransactionSlot.{Open, Closed}
 use Rattle.bac_world.specs.Node.{Node, Outcome, NodeTick}
 use Rattle.bac_world.specs.Laws.{Gets}
 use Rattle.bac_world.specs.Keys.{HasKeysApart}
-use Rattle.bac_world.specs.World.{World, Copy, Event, WorldStep, WorldRun, IsAsked, RunsOn}
+use Rattle.bac_world.specs.World.{World, Copy, Event, WorldStep, WorldRun, IsAsked, RunsOn, told}
 use Rattle.bac_world.specs.World.Event.{Deliver, Tick}
 use Rattle.bac_liveness.specs.WorldRuns.{endings_of}
 use Rattle.bac_liveness.specs.WorldRoundTrip.{MayArrive, IsFromServer}
@@ -65,15 +65,16 @@ AnswerEnds =
 
 -- In every world.
 
--- the next ask is accepted: until DEADLINE and beyond it ends at most once; a tick of its client more than DEADLINE later, or a copy of its server's in
--- this transaction that is delivered then, leaves it ended, once, for good, whatever happens in between, but for a restart of its client, and afterwards
+-- the next ask is accepted: until DEADLINE and beyond it ends at most once; a tick of its client more than DEADLINE later by its own clock, or a copy of its
+-- server's in this transaction that is delivered then, leaves it ended, once, for good, whatever happens in between, but for a restart of its client, and
+-- afterwards
 pub record EndsInTime (overtake : ℕ) (old : World) (client server : ℕ) (invoke_id : ℕ) (asked : World) : Type 0 where
   pub before : (events : List Event) (w : World) → WorldRun overtake asked events w → endings_of (length old.notes) w.log ≤ 1
-  pub tick : (between : List Event) (late ticked : World) → WorldRun overtake asked between late → RunsOn client between → DEADLINE < late.now - old.now
+  pub tick : (between : List Event) (late ticked : World) → WorldRun overtake asked between late → RunsOn client between → DEADLINE < told late client - told old client
       → WorldStep overtake late (Tick client) ticked
       → (after : List Event) (w : World) → WorldRun overtake ticked after w → endings_of (length old.notes) w.log ≡ 1
   pub answer : (between : List Event) (late answered : World) → WorldRun overtake asked between late → RunsOn client between
-      → DEADLINE < late.now - old.now
+      → DEADLINE < told late client - told old client
       → (number : ℕ) (c : Copy) → MayArrive overtake late number c → IsFromServer client server invoke_id c → WorldStep overtake late (Deliver number) answered
       → (after : List Event) (w : World) → WorldRun overtake answered after w → endings_of (length old.notes) w.log ≡ 1
 

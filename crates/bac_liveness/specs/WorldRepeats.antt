@@ -11,7 +11,7 @@ use Rattle.bac_liveness.specs.Repeats.{PATIENCE}
 use Rattle.bac_slots.specs.Slots.{value_at}
 use Rattle.bac_transaction.specs.Keys.{same_key}
 use Rattle.bac_world.specs.Node.{Node}
-use Rattle.bac_world.specs.World.{World, Copy, Event, WorldStep, WorldRun, IsAsked, RunsOn, peer_at}
+use Rattle.bac_world.specs.World.{World, Copy, Event, WorldStep, WorldRun, IsAsked, RunsOn, told, peer_at}
 use Rattle.bac_world.specs.World.Event.{Deliver}
 use Rattle.bac_liveness.specs.WorldRuns.{Throughout}
 use Rattle.bac_liveness.specs.WorldRoundTrip.{MayArrive, IsFromServer, IsWhole, IsRequest, CanPerform, IsAnswered}
@@ -21,8 +21,8 @@ use Rattle.bac_liveness.specs.WorldEnds.{IsOpen}
 abbrev pub FindsServer : (overtake : ℕ) → (server : ℕ) → Node → (invoke_id : ℕ) → Request → List Copy → World → Event → Type 0
 FindsServer overtake server client invoke_id r sent w (Deliver number) =
     (c : Copy) → MayArrive overtake w number c → IsRequest sent c → (node : Node) → slice_get w.nodes server ≡ Some node
-    → live_entry w.now (value_at same_key (record { peer = peer_at client.link; invoke_id = invoke_id }) node.servers.slots) ≡ None
-    → CanPerform w.now client node invoke_id r
+    → live_entry (told w server) (value_at same_key (record { peer = peer_at client.link; invoke_id = invoke_id }) node.servers.slots) ≡ None
+    → CanPerform (told w server) client node invoke_id r
 FindsServer overtake server client invoke_id r sent w _ = Unit {0}
 
 -- its ticket is open at its client and waits for the answer; where its timer is due a repeat is left
@@ -33,22 +33,22 @@ pub record IsWaiting (w : World) (client : ℕ) (server_link : List ℕ) (invoke
   pub ticket : ClientTransaction
   pub there : IsOpen node (record { peer = peer_at server_link; invoke_id = invoke_id }) number ticket
   pub waits : ticket.phase ≡ AwaitConfirmation
-  pub left : T_OUT ≤ w.now - ticket.since → 1 ≤ ticket.repeats
+  pub left : T_OUT ≤ told w client - ticket.since → 1 ≤ ticket.repeats
 
--- fewer milliseconds than PATIENCE have passed
-abbrev pub InPatience : (old new : World) → Type 0
-InPatience old new = new.now < old.now + PATIENCE
+-- fewer milliseconds than PATIENCE have passed by the clock of a client that has not restarted
+abbrev pub InPatience : (client : ℕ) → (old new : World) → Type 0
+InPatience client old new = told new client < told old client + PATIENCE
 
 -- the next ask, of one APDU, is accepted; as long as each copy of its request that is delivered finds its server, and PATIENCE has not passed:
 pub record IsRobust (overtake : ℕ) (old : World) (client server : ℕ) (limits : Limits) (r : Request) (asked : World)
     (a : IsAsked old client server limits r asked) : Type 0 where
   -- it is waited for or answered, whatever is lost, repeated, reordered or asked of others, where its client does not restart
   pub waits : (events : List Event) (w : World) (run : WorldRun overtake asked events w)
-      → Throughout overtake (FindsServer overtake server a.before a.accepted.invoke_id r a.sent) asked events w run → RunsOn client events → InPatience old w
+      → Throughout overtake (FindsServer overtake server a.before a.accepted.invoke_id r a.sent) asked events w run → RunsOn client events → InPatience client old w
       → IsWaiting w client a.link a.accepted.invoke_id ⊎ IsAnswered (length old.notes) r w.log
-  -- each copy of its request that is delivered brings one answer
+  -- each copy of its request that is delivered brings one answer, where its client does not restart
   pub brings : (events : List Event) (w : World) (run : WorldRun overtake asked events w)
-      → Throughout overtake (FindsServer overtake server a.before a.accepted.invoke_id r a.sent) asked events w run → InPatience old w
+      → Throughout overtake (FindsServer overtake server a.before a.accepted.invoke_id r a.sent) asked events w run → RunsOn client events → InPatience client old w
       → (number : ℕ) (c : Copy) → MayArrive overtake w number c → IsRequest a.sent c
       → FindsServer overtake server a.before a.accepted.invoke_id r a.sent w (Deliver number)
       → (served : World) → WorldStep overtake w (Deliver number) served
@@ -56,7 +56,7 @@ pub record IsRobust (overtake : ℕ) (old : World) (client server : ℕ) (limits
       × (served.copies ≡ w.copies ++ answer ∷ []) × IsFromServer client server a.accepted.invoke_id answer
   -- and each answer that is delivered leaves it answered, where its client does not restart
   pub answers : (events : List Event) (w : World) (run : WorldRun overtake asked events w)
-      → Throughout overtake (FindsServer overtake server a.before a.accepted.invoke_id r a.sent) asked events w run → RunsOn client events → InPatience old w
+      → Throughout overtake (FindsServer overtake server a.before a.accepted.invoke_id r a.sent) asked events w run → RunsOn client events → InPatience client old w
       → (number : ℕ) (answer : Copy) → MayArrive overtake w number answer → IsFromServer client server a.accepted.invoke_id answer
       → (answered : World) → WorldStep overtake w (Deliver number) answered → IsAnswered (length old.notes) r answered.log
 

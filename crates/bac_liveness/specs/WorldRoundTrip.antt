@@ -19,14 +19,14 @@ use Rattle.bac_transaction.specs.Services.{outcome_of}
 use Rattle.bac_world.specs.Node.{Node}
 use Rattle.bac_world.specs.Once.{Fact, Has}
 use Rattle.bac_world.specs.Once.Fact.{Performed, Ended}
-use Rattle.bac_world.specs.World.{World, Copy, Event, WorldStep, WorldRun, IsAsked, RunsOn, is_deliverable, peer_at}
+use Rattle.bac_world.specs.World.{World, Copy, Event, WorldStep, WorldRun, IsAsked, RunsOn, told, is_deliverable, peer_at}
 use Rattle.bac_world.specs.World.Event.{Deliver}
 use Rattle.bac_liveness.specs.WorldRuns.{endings_of}
 
 -- the copy of that number is deliverable
 pub record MayArrive (overtake : ℕ) (w : World) (number : ℕ) (c : Copy) : Type 0 where
   pub at : slice_get w.copies number ≡ Some c
-  pub arrives : is_deliverable overtake w.now number w.copies c ≡ true
+  pub arrives : is_deliverable overtake w.time.pace.life w.time.now number w.copies c ≡ true
 
 -- a copy comes from the server, in the transaction of that client and invoke ID
 pub record IsFromServer (client server invoke_id : ℕ) (c : Copy) : Type 0 where
@@ -59,12 +59,12 @@ pub record IsAnswered (n : ℕ) (r : Request) (log : List Fact) : Type 0 where
   pub ended : Has (Ended n (Answered reply)) log
 
 -- a copy of the request was delivered in world w: one answer was sent, and where, after any further events, it is delivered while the ask is open and in
--- time, and its client has not restarted, the ask is answered, whatever happens after that
+-- time by its client's clock, and its client has not restarted, the ask is answered, whatever happens after that
 pub record IsServed (overtake : ℕ) (old : World) (client : ℕ) (r : Request) (w served : World) : Type 0 where
   pub answer : Copy
   pub sent : served.copies ≡ w.copies ++ answer ∷ []
   pub answered : (between : List Event) (v answered : World) → WorldRun overtake served between v → RunsOn client between
-      → endings_of (length old.notes) v.log ≡ 0 → v.now - old.now ≤ DEADLINE
+      → endings_of (length old.notes) v.log ≡ 0 → told v client - told old client ≤ DEADLINE
       → MayArrive overtake v (length w.copies) answer → WorldStep overtake v (Deliver (length w.copies)) answered
       → (after : List Event) (last : World) → WorldRun overtake answered after last → IsAnswered (length old.notes) r last.log
 
@@ -76,5 +76,5 @@ RoundTripSuffices overtake old =
     → IsWhole old client server limits r asked a
     → (before : List Event) (w served : World) → WorldRun overtake asked before w → RunsOn client before → endings_of (length old.notes) w.log ≡ 0
     → (number : ℕ) (c : Copy) → MayArrive overtake w number c → IsRequest a.sent c
-    → (node : Node) → slice_get w.nodes server ≡ Some node → CanPerform w.now a.before node a.accepted.invoke_id r
+    → (node : Node) → slice_get w.nodes server ≡ Some node → CanPerform (told w server) a.before node a.accepted.invoke_id r
     → WorldStep overtake w (Deliver number) served → IsServed overtake old client r w served

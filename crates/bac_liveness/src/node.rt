@@ -1,6 +1,7 @@
 //! How an ask ends at its node.
 
 ghost use Rattle.std.specs.Prelude.{ℕ, List};
+ghost use Rattle.bac_protocol.specs.Pace.{IsTimely};
 ghost use Rattle.bac_world.specs.World.{World, Event, WorldRun, IsFresh, IsBounded};
 ghost use Rattle.bac_liveness.specs.WorldEnds.{TickEnds, AnswerEnds, NodesAreInOrder};
 
@@ -17,6 +18,6 @@ pub fn answer_ends()
 
 /// In every world that a run reached, the slots of each table of a node have different keys, and its open tickets have different numbers and have not ended.
 pub fn nodes_are_in_order()
-    ensures { (W overtake : ℕ) (opening reached : World) → IsFresh opening → IsBounded W overtake opening
+    ensures { (W overtake : ℕ) (opening reached : World) → IsFresh opening → IsTimely opening.time.pace → IsBounded W overtake opening
         → (events : List Event) → WorldRun overtake opening events reached → NodesAreInOrder reached }
 {}

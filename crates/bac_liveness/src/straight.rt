@@ -1,6 +1,7 @@
 //! The straight run: where nothing is lost, repeated or reordered, an ask is answered.
 
 ghost use Rattle.std.specs.Prelude.{ℕ, List};
+ghost use Rattle.bac_protocol.specs.Pace.{IsTimely};
 ghost use Rattle.bac_world.specs.World.{World, Event, WorldRun, IsFresh, IsBounded};
 ghost use Rattle.bac_liveness.specs.StraightAnswers.{StraightAnswers};
 ghost use Rattle.bac_liveness.specs.StraightRuns.{CopiesAreItsOwn, DeliveriesGoOn, IsRunOfDeliveries};
@@ -11,7 +12,8 @@ ghost use Rattle.bac_liveness.specs.StraightRuns.{CopiesAreItsOwn, DeliveriesGoO
 /// are at most 2n + 2m deliveries, past 256 segments too. Windows are from 1, and the client's is no greater than the number of copies that may overtake
 /// one; a reply has at most 65,535 octets of service data, as every reply of a `Store` (bac_store's `replies_can_be_sent`).
 pub fn straight_run_answers()
-    ensures { (W overtake : ℕ) (first old : World) → IsFresh first → IsBounded W overtake first → (events : List Event) → WorldRun overtake first events old
+    ensures { (W overtake : ℕ) (first old : World) → IsFresh first → IsTimely first.time.pace → IsBounded W overtake first → (events : List Event)
+        → WorldRun overtake first events old
         → StraightAnswers overtake old }
 {}
 
@@ -22,7 +24,8 @@ pub fn straight_run_is_run()
 
 /// In every world that a run of a fresh one led to, each copy that arises in a straight run is of its ask's transaction.
 pub fn straight_copies_are_its_own()
-    ensures { (W overtake : ℕ) (first old : World) → IsFresh first → IsBounded W overtake first → (events : List Event) → WorldRun overtake first events old
+    ensures { (W overtake : ℕ) (first old : World) → IsFresh first → IsTimely first.time.pace → IsBounded W overtake first → (events : List Event)
+        → WorldRun overtake first events old
         → CopiesAreItsOwn overtake old }
 {}
 

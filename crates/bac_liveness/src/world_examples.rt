@@ -1,12 +1,18 @@
 //! For each law a run that meets its premises: no premise is empty.
 
-ghost use Rattle.bac_liveness.specs.WorldExamples.{LateTick, LateAnswer, OneRoundTrip, SecondSending};
+ghost use Rattle.bac_liveness.specs.WorldExamples.{LateTick, SlowTick, LateAnswer, OneRoundTrip, SecondSending};
 ghost use Rattle.bac_liveness.specs.StraightExamples.{OfOneApdu, InSegments};
 
 /// An ask that ends at a tick at 60,001.
 #[tactic(auto, using(crate::proofs::WorldComputed::late_tick))]
 pub fn late_tick()
     ensures { LateTick }
+{}
+
+/// An ask that ends by its client's clock, which is slow: only after 60,061 ms.
+#[tactic(auto, using(crate::proofs::WorldComputed::slow_tick))]
+pub fn slow_tick()
+    ensures { SlowTick }
 {}
 
 /// An answer that comes to its node at 60,001 ends the ask.

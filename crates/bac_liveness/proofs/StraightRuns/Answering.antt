@@ -1,6 +1,6 @@
 -- A straight run answers its ask.
 use Rattle.std.proofs.Common.{◌≡◌, ◌+◌, ◌≤◌, ◌<◌, ◌⊎◌, ℕ, suc, Bool, true, false, List, [], ◌∷◌, ◌++◌, length, Option, Some, slice_get, if◌then◌else◌}
-use Rattle.std.proofs.Common.{nat_eq, Ok, refl, sym, ap, subst, inl, inr, ◌∙◌, arith, append_assoc}
+use Rattle.std.proofs.Common.{◌&&◌, not, nat_eq, Ok, refl, sym, ap, subst, inl, inr, ◌∙◌, arith, append_assoc}
 use Rattle.std.proofs.lemmas.Bool.Decides.{nat_tests}
 use Rattle.std.specs.Option.{option_map}
 use Rattle.bac_apdu.specs.Apdu.{Limits}
@@ -25,8 +25,9 @@ use Rattle.bac_protocol.specs.Client.{Ask}
 use Rattle.bac_protocol.specs.Server.{is_none_live}
 use Rattle.bac_protocol.specs.Log as machine_log
 use Rattle.bac_protocol.specs.Transaction.{Key, Rules, client_context}
-use Rattle.bac_protocol.specs.World.{Net, ask_made, asked_at, is_held_since, is_id_held}
+use Rattle.bac_protocol.specs.World.{Net, ask_made, asked_at, server_now, is_lost, is_key_held, is_id_held}
 use Rattle.bac_protocol.specs.Claims.{IsBounded}
+use Rattle.bac_protocol.specs.Pace.{Clock}
 use Rattle.bac_protocol.specs.Straight.{IsLike, CanAsk, KindFits, AreStraight, RequestFits, Stops, WayFits, request_count, way_count, way_to, cost}
 use Rattle.bac_protocol.specs.Straight as machine_straight
 use Rattle.bac_protocol.proofs.Nets.{room_opens}
@@ -42,10 +43,10 @@ use Rattle.bac_transaction.specs.Ends.AskOutcome.{Asked}
 use Rattle.bac_transaction.specs.Services.{outcome_of, outcome_by}
 use Rattle.bac_world.specs.Node.{Node}
 use Rattle.bac_world.specs.Once.{Fact, Stores, IsOnce}
-use Rattle.bac_world.specs.World.{World, stores_of, peer_at}
+use Rattle.bac_world.specs.World.{World, Time, stores_of, told, peer_at}
 use Rattle.bac_world.proofs.Pairs.{pairwise_get}
 use Rattle.bac_world.proofs.Logs.{FactMeans, performed_as}
-use Rattle.bac_world.proofs.Bridge.{IsCopyOf, key_of, slot_key}
+use Rattle.bac_world.proofs.Bridge.{here_at, IsCopyOf, key_of, slot_key}
 use Rattle.bac_world.proofs.Steps.{Over, Goes, stores_same}
 use Rattle.bac_world.proofs.Serving.{room_is}
 use Rattle.bac_world.proofs.Asking.{IsAccepted, accepted_is, asks_with, free_ticket, key_free}
@@ -95,13 +96,13 @@ module _ (links : ℕ → Option Octets) (apart : (i j : ℕ) (l : Octets) → l
   server_at : links s ≡ Some run.asks.link
   server_at = sym (h.linked s) ∙ run.asks.peer
 
-  asks_so : requester_ask (x.settings i) n.now (peer_at run.asks.link) limits (choice_of r) run.asks.asks.octets a.clients ≡ Asked run.asks.accepted
+  asks_so : requester_ask (x.settings i) (here_at n i) (peer_at run.asks.link) limits (choice_of r) run.asks.asks.octets a.clients ≡ Asked run.asks.accepted
   asks_so =
       let by : Settings → ℕ → AskOutcome = λ c now. requester_ask c now (peer_at run.asks.link) limits (choice_of r) run.asks.asks.octets a.clients in
-      (λ d. by (sym client_set d) (h.now d)) ∙ run.asks.asks.accepted
+      (λ d. by (sym client_set d) (h.here i d).shows) ∙ run.asks.asks.accepted
 
-  parts : IsAccepted (x.settings i) n.now (peer_at run.asks.link) (choice_of r) run.asks.asks.octets a.clients run.asks.accepted
-  parts = accepted_is (x.settings i) n.now (peer_at run.asks.link) (choice_of r) run.asks.asks.octets a.clients run.asks.accepted limits asks_so
+  parts : IsAccepted (x.settings i) (here_at n i) (peer_at run.asks.link) (choice_of r) run.asks.asks.octets a.clients run.asks.accepted
+  parts = accepted_is (x.settings i) (here_at n i) (peer_at run.asks.link) (choice_of r) run.asks.asks.octets a.clients run.asks.accepted limits asks_so
 
   abbrev key : Key
   key = key_of i s parts.id
@@ -110,13 +111,13 @@ module _ (links : ℕ → Option Octets) (apart : (i j : ℕ) (l : Octets) → l
   pieces = parts.front ∷ parts.rest
 
   abbrev ask : Ask
-  ask = record { first = n.now; choice = choice_of r; whole = parts.whole; pieces = pieces }
+  ask = record { first = here_at n i; choice = choice_of r; whole = parts.whole; pieces = pieces }
 
   went : Goes links apart W x w run.asked (asked_at x n key ask)
   went = asks_with links apart W x bound w run.asked n h i s limits r run.asks server_at parts
 
-  free : is_held_since (n.asks_from i) n.now (n.tickets key) ≡ false
-  free = free_ticket (n.asks_from i) n.now w.notes i (n.numbers key) (value_at same_key (slot_key run.asks.link parts.id) a.clients.slots) (n.tickets key)
+  free : (not (is_lost n key) && is_key_held (here_at n i) (n.tickets key)) ≡ false
+  free = free_ticket (is_lost n key) (here_at n i) w.notes i (n.numbers key) (value_at same_key (slot_key run.asks.link parts.id) a.clients.slots) (n.tickets key)
       ((h.nodes i a run.asks.at).clients.found s run.asks.link parts.id server_at) parts.free
 
   unheld : is_id_held n key ≡ false
@@ -150,7 +151,7 @@ module _ (links : ℕ → Option Octets) (apart : (i j : ℕ) (l : Octets) → l
   }
 
   own : AreOwn n.posts key v1.net.posts
-  own = own_more n.posts key n.posts (own_none n.posts key) n.now (client.sends_of (client.asks (client_context x key n.now) ask))
+  own = own_more n.posts key n.posts (own_none n.posts key) n.now (client.sends_of (client.asks (client_context x key (here_at n i)) ask))
 
   counted : length n.posts ≡ length w.copies
   counted = pairwise_length _ n.posts w.copies h.posts
@@ -158,14 +159,14 @@ module _ (links : ℕ → Option Octets) (apart : (i j : ℕ) (l : Octets) → l
   key_is : key_of_ask w i s limits r run.asked run.asks ≡ slot_key run.asks.link key.invoke_id
   key_is = λ d. slot_key run.asks.link ((parts.is d).invoke_id)
 
-  followed : (has_slot : Bool) → (has_slot ≡ true → is_free w.now b.servers ≡ true)
+  followed : (has_slot : Bool) → (has_slot ≡ true → is_free (told w s) b.servers ≡ true)
       → Followed links apart W x bound readable opening run.asked new v1 n.posts key has_slot count (length n.posts)
   followed has_slot slot = follows links apart W x bound readable opening n.posts key two run.asks.link server_at count (length n.posts) run.asked new
       v1 fit own (omega arith)
       (subst (λ (k : ℕ). DeliverEach x.overtake i (slot_key run.asks.link key.invoke_id) count k run.asked new) (sym counted)
       (subst (λ (q : PeerKey). DeliverEach x.overtake i q count (length w.copies) run.asked new) key_is run.delivers))
       has_slot
-      (λ e. (b, run.asks.nodes.others s (λ same. two (sym same)) ∙ there, ap (λ (k : ℕ). is_free k b.servers) run.asks.now ∙ slot e))
+      (λ e. (b, run.asks.nodes.others s (λ same. two (sym same)) ∙ there, ap (λ (t : Time). is_free (t.clocks s).shows b.servers) run.asks.time ∙ slot e))
 
   -- what arises is the ask's
   pub copies_own : AreOf (key_of i s run.asks.accepted.invoke_id) (length w.copies) new.copies
@@ -188,15 +189,15 @@ module _ (links : ℕ → Option Octets) (apart : (i j : ℕ) (l : Octets) → l
       go (inr e) = inr (let all = pairwise_length _ end.net.posts new.copies f.over.posts in let c = counted in omega arith)
 
   -- Where it can be answered.
-  module _ (can : CanAnswer x.overtake w.now a b r) (m : machine.Reply) (says : outcome_of p ≡ Replies m) where
+  module _ (can : CanAnswer x.overtake (told w s) a b r) (m : machine.Reply) (says : outcome_of p ≡ Replies m) where
     way_so : way_to x key m ≡ way_between a.settings b.settings p
     way_so = (λ d. reply_way_of (sym server_set d) (sym client_set d).limits m) ∙ way_is a.settings b.settings p m says
 
     way_goes : WayFits (way_to x key m)
     way_goes = subst WayFits (sym way_so) (way_fits a.settings b.settings p can.goes can.short)
 
-    goes : ways.Goes (x.settings i) n.now (peer_at run.asks.link) a.clients run.asks.accepted (request_way_of (x.settings i) limits run.asks.asks.octets)
-    goes = asked_goes (x.settings i) n.now (peer_at run.asks.link) a.clients run.asks.accepted limits (choice_of r) run.asks.asks.octets asks_so
+    goes : ways.Goes (x.settings i) (here_at n i) (peer_at run.asks.link) a.clients run.asks.accepted (request_way_of (x.settings i) limits run.asks.asks.octets)
+    goes = asked_goes (x.settings i) (here_at n i) (peer_at run.asks.link) a.clients run.asks.accepted limits (choice_of r) run.asks.asks.octets asks_so
 
     ask_so : run.asks.accepted.ask ≡ ask
     ask_so = ap (λ (y : Accepted). y.ask) parts.is
@@ -225,12 +226,12 @@ module _ (links : ℕ → Option Octets) (apart : (i j : ℕ) (l : Octets) → l
     abbrev end : Machines
     end = f.end
 
-    dead : is_none_live n.now (n.entries key) ≡ true
-    dead = (in_order W x bound n h.sound).dead key unheld
+    dead : is_none_live (server_now n key) (n.entries key) ≡ true
+    dead = (in_order W x bound h.sound.0 h.sound.2 h.sound.1 n h.sound.3).dead key unheld
 
-    serving : n.serves_from key.server ≤ n.now
-    serving = room_opens n key (is_free n.now b.servers)
-        (room_is n key b.servers (h.nodes s b there).serves ∙ ap (λ (now : ℕ). is_free now b.servers) h.now ∙ can.slot)
+    serving : n.serves_from key.server ≤ server_now n key
+    serving = room_opens n key (is_free (server_now n key) b.servers)
+        (room_is n key b.servers (h.nodes s b there).serves ∙ ap (λ (c : Clock). is_free c.shows b.servers) (h.there s) ∙ can.slot)
 
     -- the request is performed, so its reply can be read
     reads : (c : Complex) → m ≡ machine.Reply.Complex (complex_spelling c) → x.readable (choice_of r) (complex_spelling c) ≡ true
@@ -257,7 +258,7 @@ module _ (links : ℕ → Option Octets) (apart : (i j : ℕ) (l : Octets) → l
           (request_count parts.whole pieces) count v0 end
       answered_so = machines_answer (Option Store) model x key good v0 (choice_of r) parts.whole parts.front parts.rest m can_ask v1
           (subst (λ (y : Machines). IsLike (Option Store) key v1 y) (sym (ap (λ b'. if b' then v0 else v1) unheld))
-          (record { moment = refl; asks = refl; number = refl; ticket = refl; entry = refl; posts = refl; stores = refl; log = refl; serves = refl }))
+          (record { moment = refl; client = refl; server = refl; asks = refl; number = refl; ticket = refl; entry = refl; posts = refl; stores = refl; log = refl; serves = refl }))
           count end f.run (stops end f.fit)
 
       abbrev asked_octets : machine.Request
@@ -314,7 +315,7 @@ module _ (links : ℕ → Option Octets) (apart : (i j : ℕ) (l : Octets) → l
         stores = λ j. sym (f.fit.stores j) ∙ answered_so.stores j
             ∙ ap (λ (y : Option Store). if nat_eq j s then y else stores_of w.nodes j)
             (ap (λ (y : Option Store). after_read y (request_at (choice_of r) (join pieces))) store_at ∙ ap (after_read (Some b.store)) read);
-        now = f.now ∙ run.asks.now;
+        time = f.time ∙ run.asks.time;
         cheap = cheap;
       }
 

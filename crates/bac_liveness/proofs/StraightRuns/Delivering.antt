@@ -10,7 +10,7 @@ use Rattle.bac_npdu.specs.Datagram.{Means}
 use Rattle.bac_npdu.proofs.Datagrams.{frame_means}
 use Rattle.bac_service.specs.Services.{reads_reply}
 use Rattle.bac_store.specs.Stores.{Store}
-use Rattle.bac_protocol.specs.declared.times.TheConstants.{LIFE}
+use Rattle.bac_protocol.specs.Pace.{Clock}
 use Rattle.bac_protocol.specs.Service.{Octets}
 use Rattle.bac_protocol.specs.Wire.{is_from_client}
 use Rattle.bac_protocol.specs.Client as client
@@ -18,7 +18,7 @@ use Rattle.bac_protocol.specs.Client.{ClientTransaction}
 use Rattle.bac_protocol.specs.Server as server
 use Rattle.bac_protocol.specs.Server.{Service, server_on_apdu}
 use Rattle.bac_protocol.specs.Transaction.{Key, Rules, client_context, server_context}
-use Rattle.bac_protocol.specs.World.{Net, Post, happens, delivered, takes_at_client, takes_at_server}
+use Rattle.bac_protocol.specs.World.{Net, Post, client_now, server_now, happens, delivered, takes_at_client, takes_at_server}
 use Rattle.bac_protocol.specs.World as net
 use Rattle.bac_protocol.specs.World.Event.{Deliver}
 use Rattle.bac_protocol.specs.Claims.{IsBounded}
@@ -29,7 +29,7 @@ use Rattle.bac_world.specs.Services.{ArePerformed}
 use Rattle.bac_world.specs.Node.{Node, Outcome, NodeOn, IsHeard, IsHeardBy}
 use Rattle.bac_world.specs.Laws.{IsMeaningless}
 use Rattle.bac_world.specs.Once.{Stores, IsOnce}
-use Rattle.bac_world.specs.World.{World, Copy, stores_of, Acts, Delivers, DeliversIf, IsDelivered, later, peer_at}
+use Rattle.bac_world.specs.World.{World, Copy, stores_of, Acts, Delivers, DeliversIf, IsDelivered, later, told, peer_at}
 use Rattle.bac_world.specs.World as world
 use Rattle.bac_world.proofs.NodeLaws.{drops_exactly}
 use Rattle.bac_world.proofs.Pairs.{IsPaired, pairwise_get}
@@ -67,10 +67,10 @@ module _ (links : ℕ → Option Octets) (apart : (i j : ℕ) (l : Octets) → l
   -- that delivery, with what is kept through it; a server that has a slot has one there too
   pub record Delivery (w w' : World) (v : Machines) (number : ℕ) (old : List Post) (key : Key) : Type 0 where
     pub free : Bool
-    pub slot : (b : Node) → slice_get w.nodes key.server ≡ Some b → is_free w.now b.servers ≡ true → free ≡ true
+    pub slot : (b : Node) → slice_get w.nodes key.server ≡ Some b → is_free (told w key.server) b.servers ≡ true → free ≡ true
     pub fit : Fit w' (with_free v number free)
     pub own : AreOwn old key (with_free v number free).net.posts
-    pub now : w'.now ≡ w.now
+    pub time : w'.time ≡ w.time
     pub grows : Grows w.log w'.log
 
   at_client_net : (v : Machines) (p : Post) (o : Option ClientTransaction) → (takes_at_client (Option Store) x v p.key p.copy.apdu o).net ≡ taken_by_client x v.net p o
@@ -84,7 +84,7 @@ module _ (links : ℕ → Option Octets) (apart : (i j : ℕ) (l : Octets) → l
   at_client_own : (old : List Post) (n : Net) (p : Post) → AreOwn old p.key n.posts → (o : Option ClientTransaction) → AreOwn old p.key (taken_by_client x n p o).posts
   at_client_own old n p h None = h
   at_client_own old n p h (Some t) =
-      own_more old p.key n.posts h n.now (client.sends_of (client.client_on_apdu (client_context x p.key n.now) x.readable t p.copy.apdu))
+      own_more old p.key n.posts h n.now (client.sends_of (client.client_on_apdu (client_context x p.key (client_now n p.key)) x.readable t p.copy.apdu))
 
   module _ (w w' : World) (v : Machines) (f : Fit w v) (number : ℕ) (c : Copy) (there : slice_get w.copies number ≡ Some c) (old : List Post) (key : Key)
       (ne : key.client ≡ key.server → ⊥) (own : AreOwn old key v.net.posts) (le : length old ≤ number) where
@@ -106,17 +106,17 @@ module _ (links : ℕ → Option Octets) (apart : (i j : ℕ) (l : Octets) → l
     own_of_post : AreOwn old p.key n.posts
     own_of_post = subst (λ (k : Key). AreOwn old k n.posts) (sym key_is) own
 
-    alike : world.is_deliverable x.overtake w.now number w.copies c ≡ net.is_deliverable x n.now number n.posts p
+    alike : world.is_deliverable x.overtake w.time.pace.life w.time.now number w.copies c ≡ net.is_deliverable x n number p
     alike =
         let laters : later c.key number w.copies ≡ net.later p.key number n.posts =
         ap (λ (k : Key). later k number w.copies) post.goes.key ∙ later_alike links apart p.key number n.posts w.copies h.posts in
-        λ i. nat_le (sym h.now i - post.goes.moment i) LIFE && nat_le (laters i) x.overtake
+        λ i. nat_le (sym h.now i - post.goes.moment i) (sym h.pace i).life && nat_le (laters i) x.overtake
 
-    lost : net.is_deliverable x n.now number n.posts p ≡ false → with_free v number true ≡ v
+    lost : net.is_deliverable x n number p ≡ false → with_free v number true ≡ v
     lost is = ap (delivered (Option Store) model x v number true) post.there
         ∙ ap (λ b. if b then net.arrives (Option Store) model x v p.key true p.copy.apdu else v) is
 
-    reaches : (free : Bool) → net.is_deliverable x n.now number n.posts p ≡ true → (up : Bool) → is_from_client p.copy.apdu ≡ up
+    reaches : (free : Bool) → net.is_deliverable x n number p ≡ true → (up : Bool) → is_from_client p.copy.apdu ≡ up
         → with_free v number free
         ≡ (if up then takes_at_server (Option Store) model x v p.key free p.copy.apdu
         else takes_at_client (Option Store) x v p.key p.copy.apdu (n.tickets p.key))
@@ -126,11 +126,11 @@ module _ (links : ℕ → Option Octets) (apart : (i j : ℕ) (l : Octets) → l
         else takes_at_client (Option Store) x v p.key p.copy.apdu (n.tickets p.key)) way
 
     -- It arrives.
-    module _ (is : net.is_deliverable x n.now number n.posts p ≡ true) where
-      tests : (nat_le (n.now - p.copy.moment) LIFE ≡ true) × (nat_le (net.later p.key number n.posts) x.overtake ≡ true)
-      tests = and_both (nat_le (n.now - p.copy.moment) LIFE) (nat_le (net.later p.key number n.posts) x.overtake) is
+    module _ (is : net.is_deliverable x n number p ≡ true) where
+      tests : (nat_le (n.now - p.copy.moment) n.pace.life ≡ true) × (nat_le (net.later p.key number n.posts) x.overtake ≡ true)
+      tests = and_both (nat_le (n.now - p.copy.moment) n.pace.life) (nat_le (net.later p.key number n.posts) x.overtake) is
 
-      young : n.now - p.copy.moment ≤ LIFE
+      young : n.now - p.copy.moment ≤ n.pace.life
       young = let e = tests.0 in grind (arith, nat_tests)
 
       few : net.later p.key number n.posts ≤ x.overtake
@@ -138,12 +138,13 @@ module _ (links : ℕ → Option Octets) (apart : (i j : ℕ) (l : Octets) → l
 
       at_server : is_from_client p.copy.apdu ≡ true → c.from ≡ p.key.client → c.to ≡ p.key.server
           → (a b : Node) (o : Outcome) → slice_get w.nodes c.to ≡ Some a → (l : Octets) → links c.from ≡ Some l
-          → IsHeardBy true (peer_at l) p.copy.apdu w.now a b o → Acts w c.to b o w' → Delivery w w' v number old key
+          → IsHeardBy true (peer_at l) p.copy.apdu (told w c.to) a b o → Acts w c.to b o w' → Delivery w w' v number old key
       at_server up from_is to_is a b o node l link turn acts = record {
         free = free;
         slot = λ b' at' yes.
             let same : a ≡ b' = let e : Some a ≡ Some b' = sym node' ∙ ap (λ (k : Key). slice_get w.nodes k.server) key_is ∙ at' in cc in
-            ap (λ (y : ℕ). is_free y a.servers) h.now ∙ ap (λ (y : Node). is_free w.now y.servers) same ∙ yes;
+            ap (λ (y : ℕ). is_free y a.servers) (ap (server_now n) key_is ∙ ap (λ (y : Clock). y.shows) (h.there key.server))
+            ∙ ap (λ (y : Node). is_free (told w key.server) y.servers) same ∙ yes;
         fit = subst (λ (y : Machines). Fit w' y) (sym becomes) (record {
           over = s.0.bridge;
           once = s.0.once opening f.once;
@@ -153,12 +154,12 @@ module _ (links : ℕ → Option Octets) (apart : (i j : ℕ) (l : Octets) → l
         own = subst (λ (y : Machines). AreOwn old key y.net.posts) (sym becomes)
             (subst (λ (k : Key). AreOwn old k (n.posts ++ map (net.post_of p.key n.now) u.sends)) key_is
             (own_more old p.key n.posts own_of_post n.now u.sends));
-        now = acts.now;
+        time = acts.time;
         grows = acts_grow w w' c.to b o acts;
       }
         where
           free : Bool
-          free = is_free n.now a.servers
+          free = is_free (server_now n p.key) a.servers
 
           node' : slice_get w.nodes p.key.server ≡ Some a
           node' = subst (λ (i : ℕ). slice_get w.nodes i ≡ Some a) to_is node
@@ -173,17 +174,17 @@ module _ (links : ℕ → Option Octets) (apart : (i j : ℕ) (l : Octets) → l
           s = serves links apart W x bound w w' n h number p c post.there post.goes young few up from_is to_is a b o node l link (service_of a.store) turn acts
 
           reacts : Service → Machines
-          reacts y = net.serves (Option Store) model v p.key (server_on_apdu (server_context x p.key n.now) y (n.entries p.key) free p.copy.apdu)
+          reacts y = net.serves (Option Store) model v p.key (server_on_apdu (server_context x p.key (server_now n p.key)) y (n.entries p.key) free p.copy.apdu)
 
           becomes : with_free v number free ≡ reacts (service_of a.store)
           becomes = reaches free is true up
-              ∙ ap (λ b. net.serves (Option Store) model v p.key (server_on_apdu (server_context x p.key n.now) (net.service_of (Option Store) model v p.key)
+              ∙ ap (λ b. net.serves (Option Store) model v p.key (server_on_apdu (server_context x p.key (server_now n p.key)) (net.service_of (Option Store) model v p.key)
               (n.entries p.key) b p.copy.apdu)) (room_is n p.key a.servers (h.nodes p.key.server a node').serves)
               ∙ ap (λ y. reacts (outcome_at y)) (f.stores p.key.server ∙ ap (λ (y : Option Node). option_map (λ (m : Node). m.store) y) node')
 
       at_client : is_from_client p.copy.apdu ≡ false → c.from ≡ p.key.server → c.to ≡ p.key.client
           → (a b : Node) (o : Outcome) → slice_get w.nodes c.to ≡ Some a → (l : Octets) → links c.from ≡ Some l
-          → IsHeardBy false (peer_at l) p.copy.apdu w.now a b o → Acts w c.to b o w' → Delivery w w' v number old key
+          → IsHeardBy false (peer_at l) p.copy.apdu (told w c.to) a b o → Acts w c.to b o w' → Delivery w w' v number old key
       at_client down from_is to_is a b o node l link turn acts = record {
         free = true;
         slot = λ b' at' yes. refl;
@@ -196,7 +197,7 @@ module _ (links : ℕ → Option Octets) (apart : (i j : ℕ) (l : Octets) → l
         own = subst (λ (y : Machines). AreOwn old key y.net.posts) (sym becomes)
             (subst (λ (m : Net). AreOwn old key m.posts) (sym (at_client_net v p (n.tickets p.key)))
             (subst (λ (k : Key). AreOwn old k (taken_by_client x n p (n.tickets p.key)).posts) key_is (at_client_own old n p own_of_post (n.tickets p.key))));
-        now = acts.now;
+        time = acts.time;
         grows = acts_grow w w' c.to b o acts;
       }
         where
@@ -224,36 +225,36 @@ module _ (links : ℕ → Option Octets) (apart : (i j : ℕ) (l : Octets) → l
         link = sym (h.linked c.from) ∙ y.sender
 
         way : (up : Bool) → is_from_client p.copy.apdu ≡ up → IsBetween up p.key c.from c.to
-            → IsHeardBy up (peer_at y.link) p.copy.apdu w.now y.hears.before y.hears.after y.hears.outcome → Delivery w w' v number old key
+            → IsHeardBy up (peer_at y.link) p.copy.apdu (told w c.to) y.hears.before y.hears.after y.hears.outcome → Delivery w w' v number old key
         way true up b turn = at_server up b.0 b.1 y.hears.before y.hears.after y.hears.outcome y.hears.at y.link link turn y.hears.acts
         way false down b turn = at_client down b.0 b.1 y.hears.before y.hears.after y.hears.outcome y.hears.at y.link link turn y.hears.acts
 
-        heard : IsHeard w.now y.link c.octets y.hears.before y.hears.after y.hears.outcome → Delivery w w' v number old key
+        heard : IsHeard (told w c.to) y.link c.octets y.hears.before y.hears.after y.hears.outcome → Delivery w w' v number old key
         heard z =
             let one = framed_means y.link post.goes.to_link p.copy.apdu z.apdu z.peer c.octets post.goes.frame post.goes.short z.means in
             way (is_from_client p.copy.apdu) refl post.goes.between
-            (subst (λ (q : PeerView). IsHeardBy (is_from_client p.copy.apdu) q p.copy.apdu w.now y.hears.before y.hears.after y.hears.outcome) one.0
-            (subst (λ (e : Apdu). IsHeardBy (is_from_client e) z.peer e w.now y.hears.before y.hears.after y.hears.outcome) one.1 z.heard))
+            (subst (λ (q : PeerView). IsHeardBy (is_from_client p.copy.apdu) q p.copy.apdu (told w c.to) y.hears.before y.hears.after y.hears.outcome) one.0
+            (subst (λ (e : Apdu). IsHeardBy (is_from_client e) z.peer e (told w c.to) y.hears.before y.hears.after y.hears.outcome) one.1 z.heard))
 
         -- it can't be dropped
         undropped : ((y.link ≡ y.hears.before.link) ⊎ IsMeaningless y.link c.octets) → ⊥
         undropped (inl mine) = not_to_itself (apart c.from c.to y.link link ((h.nodes c.to y.hears.before y.hears.at).link ∙ ap Some (sym mine)))
         undropped (inr none) = none (peer_at y.link) p.copy.apdu (carried y.link post.goes.to_link p c links apart post.goes)
 
-        arrives : NodeOn w.now y.link c.octets y.hears.before y.hears.after y.hears.outcome → Delivery w w' v number old key
-        arrives (inl z) = absurd (undropped (drops_exactly.only w.now y.link c.octets y.hears.before y.hears.after y.hears.outcome z))
+        arrives : NodeOn (told w c.to) y.link c.octets y.hears.before y.hears.after y.hears.outcome → Delivery w w' v number old key
+        arrives (inl z) = absurd (undropped (drops_exactly.only (told w c.to) y.link c.octets y.hears.before y.hears.after y.hears.outcome z))
         arrives (inr z) = heard z
 
-    goes : (b : Bool) → net.is_deliverable x n.now number n.posts p ≡ b → DeliversIf b w c w' → Delivery w w' v number old key
+    goes : (b : Bool) → net.is_deliverable x n number p ≡ b → DeliversIf b w c w' → Delivery w w' v number old key
     goes false is same = record {
       free = true;
       slot = λ b' at' yes. refl;
       fit = subst (λ (y : Machines). Fit w' y) (sym (lost is)) (subst (λ (y : World). Fit y v) (sym same) f);
       own = subst (λ (y : Machines). AreOwn old key y.net.posts) (sym (lost is)) own;
-      now = ap (λ (y : World). y.now) same;
+      time = ap (λ (y : World). y.time) same;
       grows = grows_not w.log w'.log (ap (λ (y : World). y.log) same);
     }
     goes true is y = arrives is y y.hears.on
 
-    pub delivers : DeliversIf (world.is_deliverable x.overtake w.now number w.copies c) w c w' → Delivery w w' v number old key
-    delivers d = goes (net.is_deliverable x n.now number n.posts p) refl (subst (λ b. DeliversIf b w c w') alike d)
+    pub delivers : DeliversIf (world.is_deliverable x.overtake w.time.pace.life w.time.now number w.copies c) w c w' → Delivery w w' v number old key
+    delivers d = goes (net.is_deliverable x n number p) refl (subst (λ b. DeliversIf b w c w') alike d)

@@ -11,7 +11,7 @@ use Rattle.bac_protocol.specs.Straight.{IsLike, like_machine, Straight}
 use Rattle.bac_transaction.specs.Ends.{is_free}
 use Rattle.bac_world.specs.Node.{Node}
 use Rattle.bac_world.specs.Once.{Stores}
-use Rattle.bac_world.specs.World.{World}
+use Rattle.bac_world.specs.World.{World, told}
 use Rattle.bac_world.proofs.Pairs.{pairwise_get}
 use Rattle.bac_world.proofs.Bridge.{IsCopyOf, slot_key}
 use Rattle.bac_liveness.specs.StraightRuns.{DeliverEach}
@@ -24,20 +24,20 @@ use Rattle.bac_liveness.proofs.StraightRuns.Tickets.{open_there}
 module _ (links : ℕ → Option Octets) (apart : (i j : ℕ) (l : Octets) → links i ≡ Some l → links j ≡ Some l → i ≡ j) (W : ℕ) (x : Rules)
     (bound : IsBounded W x) (readable : x.readable ≡ reads_reply) (opening : Stores) where
   like_self : (key : Key) (v : Machines) → IsLike (Option Store) key v v
-  like_self key v = record { moment = refl; asks = refl; number = refl; ticket = refl; entry = refl; posts = refl; stores = refl; log = refl; serves = refl }
+  like_self key v = record { moment = refl; client = refl; server = refl; asks = refl; number = refl; ticket = refl; entry = refl; posts = refl; stores = refl; log = refl; serves = refl }
 
   pub record Followed (w new : World) (v : Machines) (old : List Post) (key : Key) (has_slot : Bool) (count number : ℕ) : Type 0 where
     pub end : Machines
     pub run : Straight (Option Store) (like_machine (Option Store) model x key) key has_slot count number v end
     pub fit : Fit links apart W x bound readable opening new end
     pub own : AreOwn old key end.net.posts
-    pub now : new.now ≡ w.now
+    pub time : new.time ≡ w.time
     pub grows : Grows w.log new.log
 
   module _ (old : List Post) (key : Key) (ne : key.client ≡ key.server → ⊥) (l : Octets) (at : links key.server ≡ Some l) where
     -- the server has a slot without a live entry
     abbrev HasSlot : World → Type 0
-    HasSlot w = (b : Node) × (slice_get w.nodes key.server ≡ Some b) × (is_free w.now b.servers ≡ true)
+    HasSlot w = (b : Node) × (slice_get w.nodes key.server ≡ Some b) × (is_free (told w key.server) b.servers ≡ true)
 
     pub follows : (count number : ℕ) (w new : World) (v : Machines) → Fit links apart W x bound readable opening w v → AreOwn old key v.net.posts
         → length old ≤ number → DeliverEach x.overtake key.client (slot_key l key.invoke_id) count number w new
@@ -47,7 +47,7 @@ module _ (links : ℕ → Option Octets) (apart : (i j : ℕ) (l : Octets) → l
       run = refl;
       fit = subst (λ (y : World). Fit links apart W x bound readable opening y v) (sym run) f;
       own = own;
-      now = ap (λ (y : World). y.now) run;
+      time = ap (λ (y : World). y.time) run;
       grows = grows_not w.log new.log (ap (λ (y : World). y.log) run);
     }
     follows (suc count) number w new v f own le run has_slot slot =
@@ -69,6 +69,6 @@ module _ (links : ℕ → Option Octets) (apart : (i j : ℕ) (l : Octets) → l
           );
           fit = again.fit;
           own = again.own;
-          now = again.now ∙ d.now;
+          time = again.time ∙ d.time;
           grows = grows_then w.log u.log new.log d.grows again.grows;
         }

@@ -16,6 +16,7 @@ use Rattle.bac_protocol.specs.Service.{Octets}
 use Rattle.bac_protocol.specs.Service as machine
 use Rattle.bac_protocol.specs.Server as server
 use Rattle.bac_protocol.specs.Server.{ServerTransaction, begins, performs_so}
+use Rattle.bac_protocol.proofs.AtDrift.{lives}
 use Rattle.bac_transaction.specs.Keys.{PeerKey}
 use Rattle.bac_transaction.specs.Meanings.Ending.{Answered}
 use Rattle.bac_transaction.specs.Ends.{Accepted, ClientEnd, ServerEnd, accepts, context_of, requester_on_apdu, responder_on_apdu, server_goes}
@@ -172,7 +173,7 @@ asked = record {
   sends = datagram 1 FIRST ∷ [];
   asks = asks;
   nodes = record { here = refl; others = first_other (client ACCEPTED.end) (node 0) (node 1) };
-  now = refl;
+  time = refl;
   sent = copy 0 1 FIRST ∷ [];
   copies = refl;
   copied = copied OPENING.nodes 0 1 refl refl (FIRST ∷ []) (first_good, tt);
@@ -337,6 +338,7 @@ run = record {
 pub in_segments : InSegments
 in_segments = record {
   fresh = answered_run.fresh;
+  timely = lives.today;
   bounded = answered_run.bounded;
   can = record {
     slot = refl;

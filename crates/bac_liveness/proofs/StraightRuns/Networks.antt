@@ -13,7 +13,7 @@ use Rattle.bac_world.specs.Node.{Node, Outcome, IsHeardBy}
 use Rattle.bac_world.specs.Once.{Fact}
 use Rattle.bac_world.specs.World.{World, Copy, Note, AreEnded, AreLogged, IsCopied, IsDelivered, IsWithNode, is_deliverable, link_at, peer_at, transaction_of}
 use Rattle.bac_world.specs.World.{DeliversIf}
-use Rattle.bac_world.specs.AnsweredRun.{link}
+use Rattle.bac_world.specs.AnsweredRun.{TIME, link}
 
 abbrev pub KEY : Key
 KEY = record { client = 0; server = 1; invoke_id = 0 }
@@ -28,7 +28,7 @@ abbrev pub copy : (from to : ℕ) → Apdu → Copy
 copy from to a = record { moment = 0; from = from; to = to; key = KEY; octets = (datagram to a).octets }
 
 abbrev pub world : List Node → List Copy → List Fact → World
-world nodes copies log = record { nodes = nodes; now = 0; copies = copies; log = log; notes = NOTES }
+world nodes copies log = record { nodes = nodes; time = TIME; copies = copies; log = log; notes = NOTES }
 
 -- an APDU of the one transaction, which has a frame
 pub record IsGood (from to : ℕ) (a : Apdu) : Type 0 where
@@ -93,7 +93,7 @@ pub record IsDelivery (from to : ℕ) (old new : List Node) (copies : List Copy)
     pub foreign : link from ≢ before.link
     pub good : IsGood from to a
     pub there : slice_get copies number ≡ Some (copy from to a)
-    pub may : is_deliverable 253 0 number copies (copy from to a) ≡ true
+    pub may : is_deliverable 253 TIME.pace.life TIME.now number copies (copy from to a) ≡ true
     pub heard : IsHeardBy (is_from_client a) (peer_at (link from)) a 0 before after outcome
     pub nodes : IsWithNode old to after new
     pub sends_are : outcome.sends ≡ map (datagram from) sends
@@ -118,7 +118,7 @@ delivers from to old new copies log log' number a sends d = record {
       on = inr (record { peer = peer_at (link from); apdu = a; foreign = d.foreign; means = means from to a d.good; heard = d.heard });
       acts = record {
         nodes = d.nodes;
-        now = refl;
+        time = refl;
         notes = refl;
         sent = map (copy to from) sends;
         copies = refl;

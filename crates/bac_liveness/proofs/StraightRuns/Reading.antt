@@ -11,9 +11,9 @@ use Rattle.bac_protocol.specs.Server.{Effect, is_none_live}
 use Rattle.bac_protocol.specs.Log.{Fact, Has, StoreModel}
 use Rattle.bac_protocol.specs.Log.Fact.{Asked, Performed}
 use Rattle.bac_protocol.specs.Transaction.{Key, Rules, ended, performed}
-use Rattle.bac_protocol.specs.World.{World, Post, delivered, arrives, takes_at_client, takes_at_server, is_deliverable}
+use Rattle.bac_protocol.specs.World.{World, Post, client_now, server_now, delivered, arrives, takes_at_client, takes_at_server, is_deliverable}
 use Rattle.bac_protocol.specs.Straight.{AreStraight, RequestFits, WayFits, Straight, Stops, like_machine, request_count, way_to}
-use Rattle.bac_protocol.proofs.Queue.{TransactionPair, Leads, Starts, step}
+use Rattle.bac_protocol.proofs.Queue.{Nows, TransactionPair, Leads, Starts, step}
 use Rattle.bac_protocol.proofs.Requested.{whole_read, pieces_read}
 use Rattle.bac_protocol.proofs.Follow.{Shows, went, not_stopped}
 use Rattle.bac_protocol.proofs.StraightRuns.{asked, first_duo, asked_shows}
@@ -45,7 +45,7 @@ module _ (S : Type 0) (model : StoreModel S) (x : Rules) (f : Fact) where
 
   delivered_has : (w : World S) (number : ℕ) (free : Bool) (o : Option Post) → Has f w.net.log → Has f (delivered S model x w number free o).net.log
   delivered_has w number free None h = h
-  delivered_has w number free (Some p) h = go (is_deliverable x w.net.now number w.net.posts p)
+  delivered_has w number free (Some p) h = go (is_deliverable x w.net number p)
     where
       go : (b : Bool) → Has f (if b then arrives S model x w p.key free p.copy.apdu else w).net.log
       go true = arrives_has w p.key free p.copy.apdu h
@@ -57,7 +57,7 @@ module _ (S : Type 0) (model : StoreModel S) (x : Rules) (f : Fact) where
   has_still key has_slot (suc count) number w v run h = has_still key false count (suc number) run.4 v run.6
       (subst (Has f) (sym run.5.log) (delivered_has w number run.0 (slice_get w.net.posts number) h))
 
-module _ (S : Type 0) (model : StoreModel S) (x : Rules) (now number : ℕ) (key : Key) where
+module _ (S : Type 0) (model : StoreModel S) (x : Rules) (now : Nows) (number : ℕ) (key : Key) where
   stops_at : (a b : ℕ) (u : World S) → a ≡ b → Stops S key a u → Stops S key b u
   stops_at a b u e h = subst (λ (n : ℕ). Stops S key n u) e h
 
@@ -89,14 +89,17 @@ module _ (S : Type 0) (model : StoreModel S) (x : Rules) (now number : ℕ) (key
       (stops_at (first + suc j) (suc first + j) u (omega arith) stops)
 
 module _ (S : Type 0) (model : StoreModel S) (x : Rules) (w : World S) (key : Key) (good : AreStraight x key) (choice : ℕ) (front : Octets) (rest : List Octets)
-    (p : Reply) (dead : is_none_live w.net.now (w.net.entries key) ≡ true)
+    (p : Reply) (dead : is_none_live (server_now w.net key) (w.net.entries key) ≡ true)
     (outcome : model.outcome (w.stores key.server) choice (join (front ∷ rest)) ≡ Replies p)
     (way : WayFits (way_to x key p)) where
   abbrev pieces : List Octets
   pieces = front ∷ rest
 
+  abbrev now : Nows
+  now = record { real = w.net.now; here = client_now w.net key; there = server_now w.net key }
+
   abbrev ask : Bool → Ask
-  ask whole = record { first = w.net.now; choice = choice; whole = whole; pieces = front ∷ rest }
+  ask whole = record { first = client_now w.net key; choice = choice; whole = whole; pieces = front ∷ rest }
 
   abbrev fact : Bool → Fact
   fact whole = Performed w.net.asks (request_of (ask whole)) p
@@ -105,7 +108,7 @@ module _ (S : Type 0) (model : StoreModel S) (x : Rules) (w : World S) (key : Ke
   log whole = Asked w.net.asks key.client key.server (request_of (ask whole)) ∷ w.net.log
 
   abbrev Begins : Bool → TransactionPair S → Type 0
-  Begins whole q = Starts S model x w.net.now w.net.asks key (2 * request_count whole pieces) (first_duo S model x w key (ask whole) whole) q
+  Begins whole q = Starts S model x now w.net.asks key (2 * request_count whole pieces) (first_duo S model x w key (ask whole) whole) q
 
   -- where it was performed
   record Performs (whole : Bool) : Type 0 where
@@ -115,7 +118,7 @@ module _ (S : Type 0) (model : StoreModel S) (x : Rules) (w : World S) (key : Ke
 
   performs : (whole : Bool) → RequestFits whole pieces → Performs whole
   performs true fits =
-      let h = whole_read S model x w.net.now w.net.asks key (ask true) refl w.stores (log true) p outcome way (w.net.entries key) dead in
+      let h = whole_read S model x now w.net.asks key (ask true) refl w.stores (log true) p outcome way (w.net.entries key) dead in
       record {
         end = _;
         has = inl refl;
@@ -138,15 +141,15 @@ module _ (S : Type 0) (model : StoreModel S) (x : Rules) (w : World S) (key : Ke
       record {
         end = _;
         has = inl refl;
-        begins = pieces_read S model x w.net.now w.net.asks key (ask false) refl w.stores (log false) p outcome way (w.net.entries key) dead (omega arith)
+        begins = pieces_read S model x now w.net.asks key (ask false) refl w.stores (log false) p outcome way (w.net.entries key) dead (omega arith)
             (record { some = omega arith; small = omega arith; within = omega arith; room = omega arith; few = fits.0; short = fits.1 });
       }
 
-  module _ (serving : w.net.serves_from key.server ≤ w.net.now) (whole : Bool) (fits : RequestFits whole (front ∷ rest)) (count : ℕ) (new : World S)
+  module _ (serving : w.net.serves_from key.server ≤ server_now w.net key) (whole : Bool) (fits : RequestFits whole (front ∷ rest)) (count : ℕ) (new : World S)
       (run : Straight S (like_machine S model x key) key true count (length w.net.posts) (asked S model x w key (ask whole)) new)
       (stops : Stops S key (length w.net.posts + count) new) where
-    reached : ComesBy S model x w.net.now w.net.asks key new (performs whole fits).end
-    reached = starts_by S model x w.net.now w.net.asks key (2 * request_count whole (front ∷ rest)) count (length w.net.posts)
+    reached : ComesBy S model x now w.net.asks key new (performs whole fits).end
+    reached = starts_by S model x now w.net.asks key (2 * request_count whole (front ∷ rest)) count (length w.net.posts)
         (asked S model x w key (ask whole)) new (first_duo S model x w key (ask whole) whole) (performs whole fits).end (performs whole fits).begins
         (asked_shows S model x w key serving (ask whole) (omega arith)) run stops
 

@@ -1,13 +1,16 @@
 -- No more client slots are held, and no more entries are live, than there are slots.
-use Rattle.std.proofs.Common.{◌≡◌, ◌+◌, ◌≤◌, ◌<◌, ◌⊎◌, ◌||◌, ℕ, Bool, true, false, not, List, [], ◌∷◌, ◌++◌, filter, count_by, Option, Some, None, slice_get}
+use Rattle.std.proofs.Common.{◌≡◌, ◌+◌, ◌*◌, ◌/◌, ◌≤◌, ◌<◌, ◌⊎◌, ◌||◌, ℕ, zero, suc, Bool, true, false, not, List, [], ◌∷◌, ◌++◌, filter, count_by, Option, Some, None, slice_get}
 use Rattle.std.proofs.Common.{if◌then◌else◌, nat_eq, nat_le, refl, sym, ap, subst, inl, inr, ◌∙◌, arith}
 use Rattle.std.proofs.lemmas.Bool.Decides.{nat_tests}
+use Rattle.std.proofs.lemmas.Nat.{le-div}
+use Rattle.std.proofs.Math.Nat.{div-zero, div-mul-le_self}
 use Rattle.bac_apdu.specs.Apdu.{Apdu, Limits}
 use Rattle.bac_apdu.specs.Apdu.Apdu.{ConfirmedRequest, UnconfirmedRequest, SimpleAck, ComplexAck, SegmentAck, Error, Reject, Abort}
 use Rattle.bac_npdu.specs.Peers.{PeerView}
 use Rattle.bac_service.specs.Values.{Request, choice_of}
 use Rattle.bac_service.specs.Services.{reads_reply}
 use Rattle.bac_protocol.specs.Context.{Settings, Context}
+use Rattle.bac_protocol.specs.Pace.{Pace, Clock, clock_at, goes_on, steps}
 use Rattle.bac_protocol.specs.Sizes.{Way, RequestFault, request_way_of}
 use Rattle.bac_protocol.specs.Sizes.Way.{InOne, InSegments, Refused}
 use Rattle.bac_protocol.specs.Service.{Octets, OTHER}
@@ -26,7 +29,7 @@ use Rattle.bac_transaction.specs.Ends.TransactionSlot.{Open, Closed}
 use Rattle.bac_transaction.specs.Ends.AskOutcome.{Asked}
 use Rattle.bac_transaction.specs.Services.{service_of}
 use Rattle.bac_world.specs.Node.{Node, Outcome, NodeOn, NodeTick, NodeAsks, IsHeardBy, with_change}
-use Rattle.bac_world.specs.World.{World, Event, WorldStep, WorldRun, IsFresh, IsFreshNode, IsWithNode, Acts, DeliversIf, Hears, is_deliverable}
+use Rattle.bac_world.specs.World.{World, Event, WorldStep, WorldRun, IsFresh, IsFreshNode, IsWithNode, DeliversIf, Hears, is_deliverable, Time, passes, with_clock, told}
 use Rattle.bac_world.specs.World.Event.{Deliver, Noise, Tick, Advance, Change, Restart}
 use Rattle.bac_world.proofs.Steps.{decide_number}
 use Rattle.bac_world.proofs.Asking.{accepted_is}
@@ -221,19 +224,19 @@ asks_room now peer limits r old new a sends asks h =
       live = h.live;
     })
 
-later_room : (now by : ℕ) (n : Node) → HasRoom now n → HasRoom (now + by) n
-later_room now by n h = record {
+later_room : (now after : ℕ) → now ≤ after → (n : Node) → HasRoom now n → HasRoom after n
+later_room now after le n h = record {
   held =
-      let k = count_weaker Client (holds now) (holds (now + by)) (λ v l. earlier v.held l) n.clients.slots in
+      let k = count_weaker Client (holds now) (holds after) (λ v l. earlier v.held l) n.clients.slots in
       let r = h.held in
       omega arith;
   live =
-      let k = count_weaker ServerTransaction (is_live now) (is_live (now + by)) (λ d l. grind (arith, nat_tests)) n.servers.slots in
+      let k = count_weaker ServerTransaction (is_live now) (is_live after) (λ d l. grind (arith, nat_tests)) n.servers.slots in
       let r = h.live in
       omega arith;
 }
   where
-    earlier : (y : TransactionSlot) → is_held (now + by) y ≡ true → is_held now y ≡ true
+    earlier : (y : TransactionSlot) → is_held after y ≡ true → is_held now y ≡ true
     earlier (Open t) l = refl
     earlier (Closed first) l = grind (arith, nat_tests)
 
@@ -243,54 +246,112 @@ fresh_room now n fresh = record {
   live = subst (λ l. count_by (is_slot_live now) l ≤ n.servers.capacity) (sym fresh.entries) (omega arith);
 }
 
+-- Clocks.
+
+-- each clock shows its whole milliseconds
+abbrev AreShown : Time → Type 0
+AreShown t = (i : ℕ) → t.clocks i ≡ clock_at t.pace (t.clocks i).exact
+
+divided : (a b grain : ℕ) → a ≤ b → a / grain ≤ b / grain
+divided a b zero le = let e : a / zero ≡ zero = div-zero a in omega arith
+divided a b (suc k) le =
+    let low : a / suc k * suc k ≤ a = div-mul-le_self a (suc k) in
+    le-div (a / suc k) b (suc k) (omega arith) (omega arith)
+
+-- and so it never shows less than before
+goes_on_later : (p : Pace) (by own : ℕ) (c : Clock) → c ≡ clock_at p c.exact → c.shows ≤ (goes_on p by own c).shows
+goes_on_later p by own c told =
+    subst (λ (k : ℕ). k ≤ (goes_on p by own c).shows) (sym (ap (λ (y : Clock). y.shows) told))
+    (divided c.exact (c.exact + steps p by own) p.grain (omega arith))
+
+with_shown : (t : Time) (i exact : ℕ) → AreShown t → AreShown (with_clock t i exact)
+with_shown t i exact h j = go (nat_eq j i)
+  where
+    go : (b : Bool) → (if b then clock_at t.pace exact else t.clocks j) ≡ clock_at t.pace (if b then clock_at t.pace exact else t.clocks j).exact
+    go true = refl
+    go false = h j
+
 -- Worlds.
 
-with_room : (now : ℕ) (old new : List Node) (i : ℕ) (b : Node) → IsWithNode old i b new → HasRoom now b
-    → ((j : ℕ) (n : Node) → slice_get old j ≡ Some n → HasRoom now n) → (j : ℕ) (n : Node) → slice_get new j ≡ Some n → HasRoom now n
+with_room : (now : ℕ → ℕ) (old new : List Node) (i : ℕ) (b : Node) → IsWithNode old i b new → HasRoom (now i) b
+    → ((j : ℕ) (n : Node) → (j ≡ i → ⊥) → slice_get old j ≡ Some n → HasRoom (now j) n) → (j : ℕ) (n : Node) → slice_get new j ≡ Some n → HasRoom (now j) n
 with_room now old new i b nodes room h j n at = go (decide_number j i)
   where
-    go : ((j ≡ i) ⊎ (j ≡ i → ⊥)) → HasRoom now n
+    go : ((j ≡ i) ⊎ (j ≡ i → ⊥)) → HasRoom (now j) n
     go (inl is) =
         let e : Some b ≡ Some n = sym nodes.here ∙ ap (slice_get new) (sym is) ∙ at in
         let same : b ≡ n = cc in
-        subst (HasRoom now) same room
-    go (inr ne) = h j n (sym (nodes.others j ne) ∙ at)
+        subst (λ (k : ℕ). HasRoom (now k) n) (sym is) (subst (HasRoom (now i)) same room)
+    go (inr ne) = h j n ne (sym (nodes.others j ne) ∙ at)
 
-acts_room : (w w' : World) (i : ℕ) (b : Node) (o : Outcome) → Acts w i b o w' → HasRoom w.now b → HaveRoom w → HaveRoom w'
-acts_room w w' i b o acts room h j n at =
-    subst (λ (t : ℕ). HasRoom t n) (sym acts.now) (with_room w.now w.nodes w'.nodes i b acts.nodes room h j n at)
+-- where one node is another one and no time passes
+still_room : (w w' : World) (i : ℕ) (b : Node) → IsWithNode w.nodes i b w'.nodes → w'.time ≡ w.time → HasRoom (told w i) b → HaveRoom w → HaveRoom w'
+still_room w w' i b nodes time room h j n at = subst (λ (t : Time). HasRoom (t.clocks j).shows n) (sym time)
+    (with_room (told w) w.nodes w'.nodes i b nodes room (λ k m ne there. h k m there) j n at)
 
 hears_stays : (w w' : World) (i : ℕ) (from octets : Octets) → Hears w i from octets w' → HaveRoom w → HaveRoom w'
 hears_stays w w' i from octets y h =
-    acts_room w w' i y.after y.outcome y.acts (on_room w.now from octets y.before y.after y.outcome y.on (h i y.before y.at)) h
+    still_room w w' i y.after y.acts.nodes y.acts.time (on_room (told w i) from octets y.before y.after y.outcome y.on (h i y.before y.at)) h
 
 same_room : (w w' : World) → w' ≡ w → HaveRoom w → HaveRoom w'
 same_room w w' same h = subst HaveRoom (sym same) h
 
-step_room : (overtake : ℕ) (w w' : World) (e : Event) → WorldStep overtake w e w' → HaveRoom w → HaveRoom w'
-step_room overtake w w' (Event.Ask client server limits r) (inl s) h = λ j n at.
-    subst (λ (t : ℕ). HasRoom t n) (sym s.now) (with_room w.now w.nodes w'.nodes client s.after s.nodes
-    (asks_room w.now _ limits r s.before s.after s.accepted s.sends s.asks (h client s.before s.at)) h j n at)
-step_room overtake w w' (Event.Ask client server limits r) (inr s) h = same_room w w' s.same h
-step_room overtake w w' (Deliver number) s h = go (is_deliverable overtake w.now number w.copies s.copy) s.goes
+-- a node that restarts holds nothing, and others are as they were
+restart_room : (w w' : World) (i exact : ℕ) (b : Node) → IsWithNode w.nodes i b w'.nodes → w'.time ≡ with_clock w.time i exact
+    → ((now : ℕ) → HasRoom now b) → HaveRoom w → HaveRoom w'
+restart_room w w' i exact b nodes time room h j n at = subst (λ (t : Time). HasRoom (t.clocks j).shows n) (sym time)
+    (with_room (λ k. ((with_clock w.time i exact).clocks k).shows) w.nodes w'.nodes i b nodes (room _) others j n at)
+  where
+    others : (k : ℕ) (m : Node) → (k ≡ i → ⊥) → slice_get w.nodes k ≡ Some m → HasRoom ((with_clock w.time i exact).clocks k).shows m
+    others k m ne there = go (nat_eq k i) refl
+      where
+        go : (y : Bool) → nat_eq k i ≡ y → HasRoom (if y then clock_at w.time.pace exact else w.time.clocks k).shows m
+        go true e = absurd (ne (grind (arith, nat_tests)))
+        go false e = h k m there
+
+step_room : (overtake : ℕ) (w w' : World) (e : Event) → WorldStep overtake w e w' → AreShown w.time → HaveRoom w → HaveRoom w'
+step_room overtake w w' (Event.Ask client server limits r) (inl s) shown h = still_room w w' client s.after s.nodes s.time
+    (asks_room (told w client) _ limits r s.before s.after s.accepted s.sends s.asks (h client s.before s.at)) h
+step_room overtake w w' (Event.Ask client server limits r) (inr s) shown h = same_room w w' s.same h
+step_room overtake w w' (Deliver number) s shown h = go (is_deliverable overtake w.time.pace.life w.time.now number w.copies s.copy) s.goes
   where
     go : (b : Bool) → DeliversIf b w s.copy w' → HaveRoom w'
     go true d = hears_stays w w' s.copy.to d.link s.copy.octets d.hears h
     go false same = same_room w w' same h
-step_room overtake w w' (Noise node from octets) (inl s) h = hears_stays w w' node from octets s.hears h
-step_room overtake w w' (Noise node from octets) (inr s) h = same_room w w' s.same h
-step_room overtake w w' (Tick node) s h =
-    acts_room w w' node s.after s.outcome s.acts (tick_room w.now s.before s.after s.outcome s.tick (h node s.before s.at)) h
-step_room overtake w w' (Advance by) s h = subst HaveRoom (sym s) (λ j n at. later_room w.now by n (h j n at))
-step_room overtake w w' (Change node change) s h = λ j n at. subst (λ (t : ℕ). HasRoom t n) (sym s.now)
-    (with_room w.now w.nodes w'.nodes node (with_change change s.before) s.nodes
-    (let room = h node s.before s.at in record { held = room.held; live = room.live }) h j n at)
-step_room overtake w w' (Restart node store) s h = λ j n at. subst (λ (t : ℕ). HasRoom t n) (sym s.now)
-    (with_room w.now w.nodes w'.nodes node _ s.nodes (record { held = omega arith; live = omega arith }) h j n at)
+step_room overtake w w' (Noise node from octets) (inl s) shown h = hears_stays w w' node from octets s.hears h
+step_room overtake w w' (Noise node from octets) (inr s) shown h = same_room w w' s.same h
+step_room overtake w w' (Tick node) s shown h = still_room w w' node s.after s.acts.nodes s.acts.time
+    (tick_room (told w node) s.before s.after s.outcome s.tick (h node s.before s.at)) h
+step_room overtake w w' (Advance by own) s shown h = subst HaveRoom (sym s) (λ j n at. later_room (told w j)
+    (goes_on w.time.pace by (own j) (w.time.clocks j)).shows (goes_on_later w.time.pace by (own j) (w.time.clocks j) (shown j)) n (h j n at))
+step_room overtake w w' (Change node change) s shown h = still_room w w' node (with_change change s.before) s.nodes s.time
+    (let room = h node s.before s.at in record { held = room.held; live = room.live }) h
+step_room overtake w w' (Restart node exact store) s shown h =
+    restart_room w w' node exact _ s.nodes s.time (λ now. record { held = omega arith; live = omega arith }) h
 
-run_room : (overtake : ℕ) (events : List Event) (w w' : World) → WorldRun overtake w events w' → HaveRoom w → HaveRoom w'
-run_room overtake [] w w' run h = same_room w w' run h
-run_room overtake (e ∷ es) w w' run h = run_room overtake es run.0 w' run.2 (step_room overtake w run.0 e run.1 h)
+still_shown : (t u : Time) → u ≡ t → AreShown t → AreShown u
+still_shown t u same h = subst AreShown (sym same) h
+
+step_shown : (overtake : ℕ) (w w' : World) (e : Event) → WorldStep overtake w e w' → AreShown w.time → AreShown w'.time
+step_shown overtake w w' (Event.Ask client server limits r) (inl s) h = still_shown w.time w'.time s.time h
+step_shown overtake w w' (Event.Ask client server limits r) (inr s) h = still_shown w.time w'.time (ap (λ (y : World). y.time) s.same) h
+step_shown overtake w w' (Deliver number) s h = go (is_deliverable overtake w.time.pace.life w.time.now number w.copies s.copy) s.goes
+  where
+    go : (b : Bool) → DeliversIf b w s.copy w' → AreShown w'.time
+    go true d = still_shown w.time w'.time d.hears.acts.time h
+    go false same = still_shown w.time w'.time (ap (λ (y : World). y.time) same) h
+step_shown overtake w w' (Noise node from octets) (inl s) h = still_shown w.time w'.time s.hears.acts.time h
+step_shown overtake w w' (Noise node from octets) (inr s) h = still_shown w.time w'.time (ap (λ (y : World). y.time) s.same) h
+step_shown overtake w w' (Tick node) s h = still_shown w.time w'.time s.acts.time h
+step_shown overtake w w' (Advance by own) s h = still_shown (passes w.time by own) w'.time (ap (λ (y : World). y.time) s) (λ i. refl)
+step_shown overtake w w' (Change node change) s h = still_shown w.time w'.time s.time h
+step_shown overtake w w' (Restart node exact store) s h = still_shown (with_clock w.time node exact) w'.time s.time (with_shown w.time node exact h)
+
+run_room : (overtake : ℕ) (events : List Event) (w w' : World) → WorldRun overtake w events w' → AreShown w.time → HaveRoom w → HaveRoom w'
+run_room overtake [] w w' run shown h = same_room w w' run h
+run_room overtake (e ∷ es) w w' run shown h =
+    run_room overtake es run.0 w' run.2 (step_shown overtake w run.0 e run.1 shown) (step_room overtake w run.0 e run.1 shown h)
 
 pub have_room : (overtake : ℕ) (events : List Event) (first old : World) → WorldRun overtake first events old → IsFresh first → HaveRoom old
-have_room overtake events first old run fresh = run_room overtake events first old run (λ j n at. fresh_room first.now n (fresh.nodes j n at))
+have_room overtake events first old run fresh =
+    run_room overtake events first old run fresh.clocks (λ j n at. fresh_room (told first j) n (fresh.nodes j n at))

@@ -14,6 +14,7 @@ use Rattle.bac_protocol.specs.Service.{Octets}
 use Rattle.bac_protocol.specs.Service as machine
 use Rattle.bac_protocol.specs.Server as server
 use Rattle.bac_protocol.specs.Server.{ServerTransaction, begins, performs_so}
+use Rattle.bac_protocol.proofs.AtDrift.{lives}
 use Rattle.bac_transaction.specs.Keys.{PeerKey}
 use Rattle.bac_transaction.specs.Meanings.Ending.{Answered}
 use Rattle.bac_transaction.specs.Ends.{Accepted, ClientEnd, ServerEnd, accepts, context_of, requester_on_apdu, server_goes}
@@ -118,7 +119,7 @@ asked = record {
   sends = datagram 1 ASK ∷ [];
   asks = asks;
   nodes = record { here = refl; others = first_other (client ACCEPTED.end) (node 0) (node 1) };
-  now = refl;
+  time = refl;
   sent = copy 0 1 ASK ∷ [];
   copies = refl;
   copied = copied OPENING.nodes 0 1 refl refl (ASK ∷ []) (ask_good, tt);
@@ -203,6 +204,7 @@ run = record {
 pub of_one_apdu : OfOneApdu
 of_one_apdu = record {
   fresh = answered_run.fresh;
+  timely = lives.today;
   bounded = answered_run.bounded;
   can = record {
     slot = refl;

@@ -3,4 +3,4 @@ use Rattle.bac_liveness.proofs.WorldEndings.{asks_end}
 use Rattle.bac_liveness.proofs.worlds.asks_end.Goals as goal
 
 pub returns : goal.returns
-returns c = λ W overtake opening reached fresh bounded events run. asks_end W overtake opening reached fresh bounded events run
+returns c = λ W overtake opening reached fresh timely bounded events run. asks_end W overtake opening reached fresh timely bounded events run
