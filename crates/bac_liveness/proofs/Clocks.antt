@@ -9,7 +9,7 @@ use Rattle.bac_protocol.specs.World.{Net, client_now, passes}
 use Rattle.bac_liveness.specs.Runs.{StaysSince}
 use Rattle.bac_protocol.proofs.Paces.{shown_at, since_later, shows_on, within_most, beyond_least}
 use Rattle.bac_liveness.proofs.Paths.{Step, Path, Bounded, path_bounded, step_restarted}
-use Rattle.bac_liveness.proofs.Paths.Step.{Asks, Serves, Hears, TicksTicket, TicksEntry, Passes, Changes, RestartsClient, RestartsServer}
+use Rattle.bac_liveness.proofs.Paths.Step.{Asks, Serves, Hears, TicksTicket, TicksEntry, Passes, Changes, RestartsClient, RestartsServer, Strange}
 use Rattle.bac_liveness.proofs.Paths.Path.{Here, Then}
 
 -- the ask was made at that real moment, when its client's clock showed `first`, and its client has not restarted since
@@ -91,6 +91,7 @@ module _ (x : Rules) (Q : Net → ℕ → Bool → Service → Type 0) (key : Ke
     since = since_later n.pace made first n.now by (clients key.client) (n.client_clocks key.client) h.since;
   }
   made_step n _ (Changes node change) stays h = h
+  made_step n _ (Strange asks far log g) stays h = h
   made_step n _ (RestartsClient node exact) stays h = go (nat_eq key.client node) stays
     where
       go : (b : Bool) → (if b then n.now + 1 else n.restarted key.client) ≤ made
@@ -134,6 +135,7 @@ module _ (x : Rules) (Q : Net → ℕ → Bool → Service → Type 0) (key : Ke
   here_step n _ (TicksEntry k) stays h = omega arith
   here_step n _ (Passes by clients servers) stays h = shows_on n.pace h.timely.some by (clients key.client) (n.client_clocks key.client) h.client_told
   here_step n _ (Changes node change) stays h = omega arith
+  here_step n _ (Strange asks far log g) stays h = omega arith
   here_step n _ (RestartsClient node exact) stays h = go (nat_eq key.client node) stays
     where
       go : (b : Bool) → (if b then n.now + 1 else n.restarted key.client) ≤ made

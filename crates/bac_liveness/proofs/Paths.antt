@@ -17,7 +17,11 @@ use Rattle.bac_protocol.specs.World.{set_at}
 use Rattle.bac_protocol.proofs.Keys.{decide_key, set_same, set_other}
 use Rattle.bac_protocol.specs.World.{client_now, server_now, passes, takes_at_client, takes_at_server}
 use Rattle.bac_protocol.specs.World.{net_start, delivered, happens, run, ticks_ticket, ticks_as_client, ticks_as_server, serves, service_of, post_of}
-use Rattle.bac_protocol.specs.World.Event.{MakeAsk, Deliver, Tick, Noise, Advance, Change, RestartClient, RestartServer}
+use Rattle.bac_protocol.specs.World.Event.{MakeAsk, Deliver, Tick, Noise, Advance, Change, RestartClient, RestartServer, Stray, AskAway, TickAway}
+use Rattle.bac_protocol.specs.World.{Strangers, set_at, begin_of, client_acts_away, server_acts_away, is_id_held_away, strays_to_client, strays_to_server}
+use Rattle.bac_protocol.specs.World.{asked_away, ticks_ticket_away, ticks_as_client_away, ticks_as_server_away, serves_away}
+use Rattle.bac_protocol.specs.Transaction.{ended_away, served}
+use Rattle.bac_protocol.specs.Log.Fact.{AskedAway}
 use Rattle.bac_protocol.specs.Moves.{taken_by_client, taken_by_server, ticket_ticked}
 use Rattle.bac_protocol.proofs.Facts.{Grows, grows_same, grows_more}
 use Rattle.bac_liveness.specs.Runs.{Throughout}
@@ -46,6 +50,8 @@ pub data Step (x : Rules) (Q : Net → ℕ → Bool → Service → Type 0) (n :
   Changes : (node : ℕ) (change : Octets) → Step x Q n (notes_change n node change)
   RestartsClient : (node exact : ℕ) → Step x Q n (client_restarted n node exact)
   RestartsServer : (node exact : ℕ) (store : Option Octets) → Step x Q n (server_restarted n node exact store)
+  -- a step with a stranger: nothing of nodes among themselves changes
+  Strange : (asks : ℕ) (far : Strangers) (log : List Fact) → Grows n.log log → Step x Q n (record n { asks = asks; far = far; log = log })
 
 -- no ask was made later than now, and no client restarted later
 pub record Bounded (n : Net) : Type 0 where
@@ -82,6 +88,7 @@ module _ (x : Rules) (Q : Net → ℕ → Bool → Service → Type 0) where
   step_now n _ (TicksTicket key t there) = omega arith
   step_now n _ (TicksEntry key) = omega arith
   step_now n _ (Passes by clients servers) = omega arith
+  step_now n _ (Strange asks far log g) = omega arith
   step_now n _ (Changes node change) = omega arith
   step_now n _ (RestartsClient node exact) = omega arith
   step_now n _ (RestartsServer node exact store) = omega arith
@@ -95,6 +102,7 @@ module _ (x : Rules) (Q : Net → ℕ → Bool → Service → Type 0) where
   step_log n _ (TicksTicket key t there) = grows_ended (n.numbers key) (client.ending_of (client.client_ticks (client_context x key (client_now n key)) t)) n.log
   step_log n _ (TicksEntry key) = grows_performed (n.numbers key) (server.server_ticks (server_context x key (server_now n key)) (n.entries key)).effect n.log
   step_log n _ (Passes by clients servers) = grows_same n.log
+  step_log n _ (Strange asks far log g) = g
   step_log n _ (Changes node change) = grows_more (Changed node change) n.log
   step_log n _ (RestartsClient node exact) = grows_same n.log
   step_log n _ (RestartsServer node exact store) = grows_more (Restarted node store) n.log
@@ -114,6 +122,7 @@ module _ (x : Rules) (Q : Net → ℕ → Bool → Service → Type 0) where
   step_posts n _ (TicksEntry key) i q e =
       front_stays n.posts (map (post_of key n.now) (server.server_ticks (server_context x key (server_now n key)) (n.entries key)).sends) i q e
   step_posts n _ (Passes by clients servers) i q e = e
+  step_posts n _ (Strange asks far log g) i q e = e
   step_posts n _ (Changes node change) i q e = e
   step_posts n _ (RestartsClient node exact) i q e = e
   step_posts n _ (RestartsServer node exact store) i q e = e
@@ -133,6 +142,7 @@ module _ (x : Rules) (Q : Net → ℕ → Bool → Service → Type 0) where
   bounded_step n _ (TicksEntry key) h = record { made = h.made; lives = h.lives }
   bounded_step n _ (Passes by clients servers) h =
       record { made = λ key. let le = h.made key in omega arith; lives = λ node. let le = h.lives node in omega arith }
+  bounded_step n _ (Strange asks far log g) h = record { made = h.made; lives = h.lives }
   bounded_step n _ (Changes node change) h = record { made = h.made; lives = h.lives }
   bounded_step n _ (RestartsClient node exact) h = record { made = h.made; lives = λ i. go i (nat_eq i node) }
     where
@@ -148,6 +158,7 @@ module _ (x : Rules) (Q : Net → ℕ → Bool → Service → Type 0) where
   step_restarted n _ (TicksTicket key t there) h i = omega arith
   step_restarted n _ (TicksEntry key) h i = omega arith
   step_restarted n _ (Passes by clients servers) h i = omega arith
+  step_restarted n _ (Strange asks far log g) h i = omega arith
   step_restarted n _ (Changes node change) h i = omega arith
   step_restarted n _ (RestartsClient node exact) h i = go (nat_eq i node)
     where
@@ -237,6 +248,40 @@ module _ (x : Rules) (Q : Net → ℕ → Bool → Service → Type 0) where
         let u = serves S model w key (server.server_ticks (server_context x key (server_now w.net key)) (w.net.entries key)) in
         path_then w.net u.net (ticks_as_server S model x keys u).net (step_path w.net u.net (TicksEntry key)) (servers_path keys u)
 
+    strange_client : (n : Net) (key : Key) (t : ClientTransaction) (r : client.Reaction) → Step x Q n (client_acts_away n key t r)
+    strange_client n key t r = Strange n.asks (record (n.far) { tickets = set_at n.far.tickets key (Some (client.after (client_now n key) t r)) })
+        (ended_away (n.far.numbers key) (client.ending_of r) n.log) (grows (client.ending_of r))
+      where
+        grows : (o : Option Ending) → Grows n.log (ended_away (n.far.numbers key) o n.log)
+        grows None = grows_same n.log
+        grows (Some how) = λ f h. inr h
+
+    strange_server : (n : Net) (key : Key) (v : server.Reaction) → Step x Q n (server_acts_away n key v)
+    strange_server n key v = Strange n.asks (record (n.far) { entries = set_at n.far.entries key v.entry }) (served key (begin_of v.entry) v.effect n.log)
+        (grows v.effect)
+      where
+        grows : (o : Option Effect) → Grows n.log (served key (begin_of v.entry) o n.log)
+        grows None = grows_same n.log
+        grows (Some e) = λ f h. inr h
+
+    far_ticket : (w : World S) (key : Key) (o : Option ClientTransaction) → Path x Q w.net (ticks_ticket_away S x w key o).net
+    far_ticket w key None = Here
+    far_ticket w key (Some t) = step_path w.net (ticks_ticket_away S x w key (Some t)).net
+        (strange_client w.net key t (client.client_ticks (client_context x key (client_now w.net key)) t))
+
+    far_clients : (keys : List Key) (w : World S) → Path x Q w.net (ticks_as_client_away S x keys w).net
+    far_clients [] w = Here
+    far_clients (key ∷ keys) w =
+        let u = ticks_ticket_away S x w key (w.net.far.tickets key) in
+        path_then w.net u.net (ticks_as_client_away S x keys u).net (far_ticket w key (w.net.far.tickets key)) (far_clients keys u)
+
+    far_servers : (keys : List Key) (w : World S) → Path x Q w.net (ticks_as_server_away S model x keys w).net
+    far_servers [] w = Here
+    far_servers (key ∷ keys) w =
+        let v = server.server_ticks (server_context x key (server_now w.net key)) (w.net.far.entries key) in
+        let u = serves_away S model w key v in
+        path_then w.net u.net (ticks_as_server_away S model x keys u).net (step_path w.net u.net (strange_server w.net key v)) (far_servers keys u)
+
     pub event_path : (w : World S) (e : Event) → Gives w e → Path x Q w.net (happens S model x w e).net
     event_path w (MakeAsk key choice whole front rest) q = ask_path w key choice whole front rest (is_id_held w.net key) refl
     event_path w (Deliver number free) q = delivered_path w number free q (slice_get w.net.posts number) refl
@@ -248,6 +293,30 @@ module _ (x : Rules) (Q : Net → ℕ → Bool → Service → Type 0) where
     event_path w (Change node change) q = step_path w.net (notes_change w.net node change) (Changes node change)
     event_path w (RestartClient node exact) q = step_path w.net (client_restarted w.net node exact) (RestartsClient node exact)
     event_path w (RestartServer node exact store) q = step_path w.net (server_restarted w.net node exact store) (RestartsServer node exact store)
+
+    event_path w (Stray key free a) q = go (is_from_client a)
+      where
+        to_client : (o : Option ClientTransaction) → Path x Q w.net (strays_to_client S x w key a o).net
+        to_client None = Here
+        to_client (Some t) = step_path w.net (strays_to_client S x w key a (Some t)).net (strange_client w.net key t
+            (client.client_on_apdu (client_context x key (client_now w.net key)) x.readable t a))
+
+        go : (up : Bool) → Path x Q w.net (if up then strays_to_server S model x w key free a else strays_to_client S x w key a (w.net.far.tickets key)).net
+        go true = step_path w.net (strays_to_server S model x w key free a).net (strange_server w.net key
+            (server.server_on_apdu (server_context x key (server_now w.net key)) (service_of S model w key) (w.net.far.entries key) (is_room w.net key free) a))
+        go false = to_client (w.net.far.tickets key)
+    event_path w (AskAway key choice whole front rest) q = go (is_id_held_away w.net key)
+      where
+        go : (b : Bool) → Path x Q w.net (if b then w else asked_away S x w key (ask_of (client_now w.net key) choice whole front rest)).net
+        go true = Here
+        go false = step_path w.net (asked_away S x w key (ask_of (client_now w.net key) choice whole front rest)).net
+            (Strange (w.net.asks + 1) (record (w.net.far) {
+              numbers = set_at w.net.far.numbers key w.net.asks;
+              tickets = set_at w.net.far.tickets key (Some (client.asked_ticket (client_context x key (client_now w.net key)) (ask_of (client_now w.net key) choice whole front rest)));
+            }) (AskedAway w.net.asks key.client key.server (client.request_of (ask_of (client_now w.net key) choice whole front rest)) ∷ w.net.log) (λ f h. inr h))
+    event_path w (TickAway as_client as_server) q =
+        let u = ticks_as_client_away S x as_client w in
+        path_then w.net u.net (ticks_as_server_away S model x as_server u).net (far_clients as_client w) (far_servers as_server u)
 
     pub run_path : (events : List Event) (w : World S) → Throughout S model x Gives events w → Path x Q w.net (run S model x events w).net
     run_path [] w q = Here
@@ -266,6 +335,9 @@ module _ (x : Rules) (S : Type 0) (model : StoreModel S) where
   any_event w (Deliver number free) = λ p at up arrives. tt
   any_event w (Tick as_client as_server) = tt
   any_event w Noise = tt
+  any_event w (Stray key free a) = tt
+  any_event w (AskAway key choice whole front rest) = tt
+  any_event w (TickAway as_client as_server) = tt
   any_event w (Advance by clients servers) = tt
   any_event w (Change node change) = tt
   any_event w (RestartClient node exact) = tt

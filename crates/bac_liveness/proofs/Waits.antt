@@ -31,7 +31,8 @@ use Rattle.bac_liveness.specs.Repeats.{IsAnswered, PATIENCE}
 use Rattle.bac_liveness.specs.Runs.{StaysSince}
 use Rattle.bac_protocol.specs.Pace.{clock_at}
 use Rattle.bac_liveness.proofs.Paths.{Bounded, path_bounded, step_restarted, some_is, ask_of, Comes, Step, Path, grows_ended, grows_performed}
-use Rattle.bac_liveness.proofs.Paths.Step.{Asks, Serves, Hears, TicksTicket, TicksEntry, Passes, Changes, RestartsClient, RestartsServer}
+use Rattle.bac_liveness.proofs.Paths.Step.{Asks, Serves, Hears, TicksTicket, TicksEntry, Passes, Changes, RestartsClient, RestartsServer, Strange}
+use Rattle.bac_protocol.specs.World.{Strangers}
 use Rattle.bac_liveness.proofs.Paths.Path.{Here, Then}
 use Rattle.bac_protocol.specs.Pace.{Pace, Clock}
 use Rattle.bac_protocol.specs.World.{client_now, server_now, passes}
@@ -531,6 +532,17 @@ module _ (x : Rules) (key : Key) (ask : Ask) (number made : ℕ) where
       g : Grows n.log log
       g = grows_more (Changed node change) n.log
 
+  -- a step with a stranger
+  strange_waits : (n : Net) (asks : ℕ) (far : Strangers) (log : List Fact) → Grows n.log log → Waits n → Waits (record n { asks = asks; far = far; log = log })
+  strange_waits n asks far log g h = record {
+    clock = h.clock;
+    entry = entry_grows n.pace n.now (n.server_clocks key.server) (n.entries key) n.log log g h.entry;
+    posts = λ i q at is young. fine_grows n.log log g q.copy.apdu (h.posts i q at is young);
+    ticket = ticket_grows (client_now n key) (n.tickets key) n.log log g h.ticket;
+    number_is = h.number_is;
+    made_is = h.made_is;
+  }
+
   -- another client's restart, and one of a server, which loses the entry
   client_lost : (n : Net) (node exact : ℕ) → StaysSince (client_restarted n node exact) key made → Waits n → Waits (client_restarted n node exact)
   client_lost n node exact stays h = record {
@@ -593,6 +605,7 @@ module _ (x : Rules) (key : Key) (ask : Ask) (number made : ℕ) where
       subst (λ (j : Key). ServerGoal n (server.server_ticks (server_context x j (server_now n j)) (n.entries j))) (sym is) (ticks_entry n h.clock young h.entry))
   waits_step whole n _ (Passes by clients servers) stays h young = passes_waits n by clients servers h
   waits_step whole n _ (Changes node change) stays h young = changes_waits n node change h
+  waits_step whole n _ (Strange asks far log g) stays h young = strange_waits n asks far log g h
   waits_step whole n _ (RestartsClient node exact) stays h young = client_lost n node exact stays h
   waits_step whole n _ (RestartsServer node exact store) stays h young = server_lost n node exact store h
 
