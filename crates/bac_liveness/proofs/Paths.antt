@@ -1,7 +1,7 @@
 -- A run of events is a path of single steps of one end, or of asks, of time, of changes at nodes, or of restarts. Of each delivery to a server a premise
 -- says with which service it comes, and whether a slot is free.
 use Rattle.std.proofs.Common.{◌≡◌, ℕ, zero, suc, ◌+◌, ◌≤◌, Bool, true, false, List, [], ◌∷◌, ◌++◌, map, Option, Some, None, slice_get, if◌then◌else◌}
-use Rattle.std.proofs.Common.{◌⊎◌, nat_eq, refl, inl, inr, subst, arith}
+use Rattle.std.proofs.Common.{◌⊎◌, nat_eq, refl, sym, inl, inr, subst, arith}
 use Rattle.bac_protocol.specs.Service.{Octets, Ending}
 use Rattle.bac_protocol.specs.Wire.{is_from_client}
 use Rattle.bac_protocol.specs.Client as client
@@ -18,10 +18,9 @@ use Rattle.bac_protocol.proofs.Keys.{decide_key, set_same, set_other}
 use Rattle.bac_protocol.specs.World.{client_now, server_now, passes, takes_at_client, takes_at_server}
 use Rattle.bac_protocol.specs.World.{net_start, delivered, happens, run, ticks_ticket, ticks_as_client, ticks_as_server, serves, service_of, post_of}
 use Rattle.bac_protocol.specs.World.Event.{MakeAsk, Deliver, Tick, Noise, Advance, Change, RestartClient, RestartServer, Stray, AskAway, TickAway}
-use Rattle.bac_protocol.specs.World.{Strangers, set_at, begin_of, client_acts_away, server_acts_away, is_id_held_away, strays_to_client, strays_to_server}
+use Rattle.bac_protocol.specs.World.{Strangers, client_acts_away, server_acts_away, asked_away_at, is_id_held_away, strays_to_client, strays_to_server}
 use Rattle.bac_protocol.specs.World.{asked_away, ticks_ticket_away, ticks_as_client_away, ticks_as_server_away, serves_away}
-use Rattle.bac_protocol.specs.Transaction.{ended_away, served}
-use Rattle.bac_protocol.specs.Log.Fact.{AskedAway}
+use Rattle.bac_protocol.proofs.Aside.{IsAside, client_aside, server_aside, asked_aside}
 use Rattle.bac_protocol.specs.Moves.{taken_by_client, taken_by_server, ticket_ticked}
 use Rattle.bac_protocol.proofs.Facts.{Grows, grows_same, grows_more}
 use Rattle.bac_liveness.specs.Runs.{Throughout}
@@ -197,6 +196,10 @@ module _ (x : Rules) (Q : Net → ℕ → Bool → Service → Type 0) where
   step_path : (n m : Net) → Step x Q n m → Path x Q n m
   step_path n m s = Then n m Here s
 
+  -- what a node does with strangers is a step
+  pub aside_step : (n m : Net) → IsAside n m → Step x Q n m
+  aside_step n m h = subst (Step x Q n) (sym h.is) (Strange h.asks h.far h.log h.grows)
+
   -- A run of events is a path.
   module _ (S : Type 0) (model : StoreModel S) where
     -- what the premise says of an event
@@ -248,26 +251,12 @@ module _ (x : Rules) (Q : Net → ℕ → Bool → Service → Type 0) where
         let u = serves S model w key (server.server_ticks (server_context x key (server_now w.net key)) (w.net.entries key)) in
         path_then w.net u.net (ticks_as_server S model x keys u).net (step_path w.net u.net (TicksEntry key)) (servers_path keys u)
 
-    strange_client : (n : Net) (key : Key) (t : ClientTransaction) (r : client.Reaction) → Step x Q n (client_acts_away n key t r)
-    strange_client n key t r = Strange n.asks (record (n.far) { tickets = set_at n.far.tickets key (Some (client.after (client_now n key) t r)) })
-        (ended_away (n.far.numbers key) (client.ending_of r) n.log) (grows (client.ending_of r))
-      where
-        grows : (o : Option Ending) → Grows n.log (ended_away (n.far.numbers key) o n.log)
-        grows None = grows_same n.log
-        grows (Some how) = λ f h. inr h
-
-    strange_server : (n : Net) (key : Key) (v : server.Reaction) → Step x Q n (server_acts_away n key v)
-    strange_server n key v = Strange n.asks (record (n.far) { entries = set_at n.far.entries key v.entry }) (served key (begin_of v.entry) v.effect n.log)
-        (grows v.effect)
-      where
-        grows : (o : Option Effect) → Grows n.log (served key (begin_of v.entry) o n.log)
-        grows None = grows_same n.log
-        grows (Some e) = λ f h. inr h
-
     far_ticket : (w : World S) (key : Key) (o : Option ClientTransaction) → Path x Q w.net (ticks_ticket_away S x w key o).net
     far_ticket w key None = Here
-    far_ticket w key (Some t) = step_path w.net (ticks_ticket_away S x w key (Some t)).net
-        (strange_client w.net key t (client.client_ticks (client_context x key (client_now w.net key)) t))
+    far_ticket w key (Some t) =
+        let r = client.client_ticks (client_context x key (client_now w.net key)) t in
+        let m = client_acts_away w.net key t r in
+        step_path w.net m (aside_step w.net m (client_aside w.net key t r))
 
     far_clients : (keys : List Key) (w : World S) → Path x Q w.net (ticks_as_client_away S x keys w).net
     far_clients [] w = Here
@@ -280,7 +269,8 @@ module _ (x : Rules) (Q : Net → ℕ → Bool → Service → Type 0) where
     far_servers (key ∷ keys) w =
         let v = server.server_ticks (server_context x key (server_now w.net key)) (w.net.far.entries key) in
         let u = serves_away S model w key v in
-        path_then w.net u.net (ticks_as_server_away S model x keys u).net (step_path w.net u.net (strange_server w.net key v)) (far_servers keys u)
+        path_then w.net u.net (ticks_as_server_away S model x keys u).net (step_path w.net u.net (aside_step w.net u.net (server_aside w.net key v)))
+        (far_servers keys u)
 
     pub event_path : (w : World S) (e : Event) → Gives w e → Path x Q w.net (happens S model x w e).net
     event_path w (MakeAsk key choice whole front rest) q = ask_path w key choice whole front rest (is_id_held w.net key) refl
@@ -293,27 +283,30 @@ module _ (x : Rules) (Q : Net → ℕ → Bool → Service → Type 0) where
     event_path w (Change node change) q = step_path w.net (notes_change w.net node change) (Changes node change)
     event_path w (RestartClient node exact) q = step_path w.net (client_restarted w.net node exact) (RestartsClient node exact)
     event_path w (RestartServer node exact store) q = step_path w.net (server_restarted w.net node exact store) (RestartsServer node exact store)
-
     event_path w (Stray key free a) q = go (is_from_client a)
       where
         to_client : (o : Option ClientTransaction) → Path x Q w.net (strays_to_client S x w key a o).net
         to_client None = Here
-        to_client (Some t) = step_path w.net (strays_to_client S x w key a (Some t)).net (strange_client w.net key t
-            (client.client_on_apdu (client_context x key (client_now w.net key)) x.readable t a))
+        to_client (Some t) =
+            let r = client.client_on_apdu (client_context x key (client_now w.net key)) x.readable t a in
+            let m = client_acts_away w.net key t r in
+            step_path w.net m (aside_step w.net m (client_aside w.net key t r))
 
         go : (up : Bool) → Path x Q w.net (if up then strays_to_server S model x w key free a else strays_to_client S x w key a (w.net.far.tickets key)).net
-        go true = step_path w.net (strays_to_server S model x w key free a).net (strange_server w.net key
-            (server.server_on_apdu (server_context x key (server_now w.net key)) (service_of S model w key) (w.net.far.entries key) (is_room w.net key free) a))
+        go true =
+            let v = server.server_on_apdu (server_context x key (server_now w.net key)) (service_of S model w key) (w.net.far.entries key)
+            (is_room w.net key free) a in
+            let m = server_acts_away w.net key v in
+            step_path w.net m (aside_step w.net m (server_aside w.net key v))
         go false = to_client (w.net.far.tickets key)
     event_path w (AskAway key choice whole front rest) q = go (is_id_held_away w.net key)
       where
         go : (b : Bool) → Path x Q w.net (if b then w else asked_away S x w key (ask_of (client_now w.net key) choice whole front rest)).net
         go true = Here
-        go false = step_path w.net (asked_away S x w key (ask_of (client_now w.net key) choice whole front rest)).net
-            (Strange (w.net.asks + 1) (record (w.net.far) {
-              numbers = set_at w.net.far.numbers key w.net.asks;
-              tickets = set_at w.net.far.tickets key (Some (client.asked_ticket (client_context x key (client_now w.net key)) (ask_of (client_now w.net key) choice whole front rest)));
-            }) (AskedAway w.net.asks key.client key.server (client.request_of (ask_of (client_now w.net key) choice whole front rest)) ∷ w.net.log) (λ f h. inr h))
+        go false =
+            let ask = ask_of (client_now w.net key) choice whole front rest in
+            let m = asked_away_at x w.net key ask in
+            step_path w.net m (aside_step w.net m (asked_aside x w.net key ask))
     event_path w (TickAway as_client as_server) q =
         let u = ticks_as_client_away S x as_client w in
         path_then w.net u.net (ticks_as_server_away S model x as_server u).net (far_clients as_client w) (far_servers as_server u)

@@ -140,6 +140,7 @@ module _ (links : ℕ → Option Octets) (apart : (i j : ℕ) (l : Octets) → l
 
   gives : (w : World) (m : Net) → Over links apart W x w m → (e : Event) → Finding w e → Gives links apart W x bound readable Goes w m e
   gives w m over (Event.Ask client server' limits' r') f = tt
+  gives w m over (Event.AskAway client peer limits' r') f = tt
   gives w m over (Deliver number) f = λ w' y d t up on none.
       let same = some_is y on.post (sym t.at ∙ on.at) in
       let found = finds w w' m over number y d t (ap (λ (z : Post). z.key) same ∙ on.key_is) (ap (λ (z : Post). z.copy.apdu) same ∙ on.apdu_is) f none in

@@ -277,6 +277,13 @@ module _ (links : ℕ → Option Octets) (apart : (i j : ℕ) (l : Octets) → l
         absurd (g.none k.copy.to (sym (linked k.copy.to) ∙ k.copied.to ∙ ap Some s.0.link))
     copied_none p g (a ∷ sends) (d ∷ ds) cs s (inr k) = copied_none p g sends ds cs s.1 k.1
 
+-- where each becomes a copy
+pub each_copied : (nodes : List Node) (now i : ℕ) (ds : List Datagram) (cs : List Copy) → Pairwise (IsCopied nodes now i) ds cs → AreCopied nodes now i ds cs
+each_copied nodes now i [] [] k = refl
+each_copied nodes now i [] (c ∷ cs) k = absurd k
+each_copied nodes now i (d ∷ ds) [] k = absurd k
+each_copied nodes now i (d ∷ ds) (c ∷ cs) k = inl (record { copy = c; rest = cs; is = refl; copied = k.0; others = each_copied nodes now i ds cs k.1 })
+
 -- datagrams of two lists become copies one list after the other
 pub record AreParted (nodes : List Node) (now i : ℕ) (ds es : List Datagram) (cs : List Copy) : Type 0 where
   pub front : List Copy

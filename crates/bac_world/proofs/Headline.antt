@@ -127,8 +127,10 @@ module _ (links : ℕ → Option Octets) (apart : (i j : ℕ) (l : Octets) → l
       on (inr z) = meant d.outside
         where
           meant : IsOutside w.nodes from octets → Next links apart W x w w'
-          meant (inl foreign) = hears_stranger links apart W x bound readable w w' n h i from foreign d.hears.before d.hears.after d.hears.outcome d.hears.at
-              d.hears.acts octets z
+          meant (inl foreign) =
+              let next = hears_stranger links apart W x bound readable w w' n h i from foreign d.hears.before d.hears.after d.hears.outcome d.hears.at
+              d.hears.acts octets z in
+              (next.0, next.1)
           meant (inr noise) = absurd (noise z.peer z.apdu z.means)
 
   -- Time.
@@ -265,7 +267,7 @@ module _ (links : ℕ → Option Octets) (apart : (i j : ℕ) (l : Octets) → l
   step_over : (w w' : World) (n : Net) → Over links apart W x w n → (e : Event) → WorldStep x.overtake w e w' → Next links apart W x w w'
   step_over w w' n h (Ask client server limits r) (inl s) = asks_over links apart W x bound w w' n h client server limits r s
   step_over w w' n h (Ask client server limits r) (inr s) = same_over w w' n h s.same
-  step_over w w' n h (AskAway client peer limits r) (inl s) = asks_away_over links apart W x bound w w' n h client peer limits r s
+  step_over w w' n h (AskAway client peer limits r) (inl s) = let next = asks_away_over links apart W x bound w w' n h client peer limits r s in (next.0, next.1)
   step_over w w' n h (AskAway client peer limits r) (inr s) = same_over w w' n h s.same
   step_over w w' n h (Deliver number) s = delivered w w' n h number s.copy s.there (nat_le (w.time.now - s.copy.moment) w.time.pace.life)
       (nat_le (later s.copy.key number w.copies) x.overtake) refl refl s.goes

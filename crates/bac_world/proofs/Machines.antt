@@ -108,6 +108,11 @@ module _ (W : ℕ) (x : Rules) (bound : IsBounded W x) where
   pub away_of : (n : Net) → Sound x n → (key : Key) (t : ClientTransaction) → n.far.tickets key ≡ Some t → WasAskedAway (n.far.numbers key) n.log
   away_of n s key t is = (known n s).away key t is
 
+  -- no two asks of strangers have one number
+  pub away_apart : (n : Net) → Sound x n → (a b : Key) (t u : ClientTransaction) → n.far.tickets a ≡ Some t → n.far.tickets b ≡ Some u
+      → n.far.numbers a ≡ n.far.numbers b → a ≡ b
+  away_apart n s = (known n s).apart
+
   pub away_below : (n : Net) → Sound x n → (key : Key) (t : ClientTransaction) → n.far.tickets key ≡ Some t → n.far.numbers key < n.asks
   away_below n s key t is = let lt = was_below (n.far.numbers key) n.log (orderly n s) (away_of n s key t is) in let e = counted n s in omega arith
 

@@ -29,6 +29,7 @@ use Rattle.bac_world.proofs.Machines.{Sound, counted, asked_away, away_below}
 use Rattle.bac_world.proofs.Logs.{FactMeans, asks_counted}
 use Rattle.bac_world.proofs.Bridge.{here_at, there_at, NodeFits, ClientsFit, IsKnown, IsStranger, IsCopyOf, TicketFits, AwayNoted, key_of, slot_key, out_key, away_more}
 use Rattle.bac_world.proofs.Steps.{Over, Fits, Goes, linked_with, stores_same, decide_number}
+use Rattle.bac_protocol.proofs.Aside.{IsAside, asked_aside}
 use Rattle.bac_world.proofs.Hearing.{out_one}
 use Rattle.bac_world.proofs.Asking.{IsAccepted, accepted_is, holds, free_ticket, free_kept, fits_kept, fits_noted, differ, and_false, equal_self}
 
@@ -257,11 +258,11 @@ module _ (links : ℕ → Option Octets) (apart : (i j : ℕ) (l : Octets) → l
       before,
     )
 
-    pub asks_away_with : (m : Net) × Goes links apart W x w w' m
-    asks_away_with = (after, record { bridge = over; once = once })
+    pub asks_away_with : (m : Net) × Goes links apart W x w w' m × IsAside n m
+    asks_away_with = (after, record { bridge = over; once = once }, asked_aside x n key ask)
 
   pub asks_away_over : (w w' : World) (n : Net) → Over links apart W x w n → (client : ℕ) (peer : PeerView) (limits : Limits) (r : Request)
-      → IsAskedAway w client peer limits r w' → (m : Net) × Goes links apart W x w w' m
+      → IsAskedAway w client peer limits r w' → (m : Net) × Goes links apart W x w w' m × IsAside n m
   asks_away_over w w' n h i peer limits r step =
       let fits : Fits links apart W x w n n i step.before = h.nodes i step.before step.at in
       let asked_of : Settings → ℕ → AskOutcome =

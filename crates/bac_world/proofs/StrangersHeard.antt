@@ -47,9 +47,10 @@ use Rattle.std.proofs.Common.{◌-◌, nat_le}
 use Rattle.bac_world.proofs.Pairs.{pairwise_none, append_none}
 use Rattle.bac_world.proofs.Logs.{FactMeans}
 use Rattle.bac_world.proofs.Bridge.{here_at, there_at, NodeFits, ServersFit, IsKnown, IsStranger, IsCopyOf, EntryFits, key_of, slot_key, stranger_key, out_key, copied_none}
-use Rattle.bac_world.proofs.Steps.{Over, Fits, Next, acts_over, once_same, stores_same}
+use Rattle.bac_world.proofs.Steps.{Over, Fits, Goes, acts_over, once_same, stores_same}
 use Rattle.bac_world.proofs.Serving.{Logged, room_is}
 use Rattle.bac_world.proofs.Clients.{quiet, arrived}
+use Rattle.bac_protocol.proofs.Aside.{IsAside, still_aside, client_aside, server_aside}
 use Rattle.bac_transaction.proofs.Entries.{entry_here, entry_there, entry_distinct, entry_each}
 use Rattle.bac_world.proofs.Table.{none_left}
 
@@ -172,14 +173,18 @@ module _ (links : ℕ → Option Octets) (apart : (i j : ℕ) (l : Octets) → l
       );
     }
 
+  -- the world goes on, and of the net only what is of strangers
+  abbrev pub Aside : World → World → Net → Type 0
+  Aside w w' n = (m : Net) × Goes links apart W x w w' m × IsAside n m
+
   module _ (bound : IsBounded W x) where
     -- a stranger's request
     serves_stranger : (w w' : World) (n : Net) → Over links apart W x w n → (i : ℕ) (p : PeerKey) → IsStranger links apart p → (apdu : Apdu)
         → is_from_client apdu ≡ true → (a b : Node) (o : Outcome) → slice_get w.nodes i ≡ Some a
         → IsServerTurn (server_goes (told w i) a.servers p (server_on_apdu (context_of a.settings (told w i) p) (service_of a.store) (value_at same_key p a.servers.slots)
         (is_free (told w i) a.servers) apdu)) (told w i) a b o
-        → Acts w i b o w' → Next links apart W x w w'
-    serves_stranger w w' n h i p g apdu up a b o node turn acts = (m, record { bridge = over; once = logged.once })
+        → Acts w i b o w' → Aside w w' n
+    serves_stranger w w' n h i p g apdu up a b o node turn acts = (m, record { bridge = over; once = logged.once }, server_aside n key u)
       where
         key : Key
         key = stranger_key i p
@@ -282,15 +287,16 @@ module _ (links : ℕ → Option Octets) (apart : (i j : ℕ) (l : Octets) → l
     -- a stranger's answer: to an open ticket of its own, or it is dropped
     module _ (readable : x.readable ≡ reads_reply) (w w' : World) (n : Net) (h : Over links apart W x w n) (i : ℕ) (p : PeerKey) (g : IsStranger links apart p)
         (apdu : Apdu) (down : is_from_client apdu ≡ false) (a b : Node) (o : Outcome) (node : slice_get w.nodes i ≡ Some a) (acts : Acts w i b o w') where
-      unheard : IsClientTurn (stays a.clients) (told w i) a b o → Next links apart W x w w'
+      unheard : IsClientTurn (stays a.clients) (told w i) a b o → Aside w w' n
       unheard t = (
         n,
         quiet links apart W x w w' n h i a b o node acts t.performed (pairwise_none IsSent o.sends t.sends) (pairwise_none IsEndedView o.ended t.ended) t.node,
+        still_aside n,
       )
 
       answers : (k : ℕ) (t : ClientTransaction) → value_at same_key p a.clients.slots ≡ Some (record { number = k; held = Open t })
           → IsClientTurn (client_goes (here_at n i) a.clients p k t (client_on_apdu (client_context x (out_key i p) (here_at n i)) x.readable t apdu)) (told w i) a b o
-          → Next links apart W x w w'
+          → Aside w w' n
       answers k t found turn = (
         client_acts_away n (out_key i p) t (client_on_apdu (client_context x (out_key i p) (here_at n i)) x.readable t apdu),
         arrived links apart W x w w' n h i a b o node acts turn.performed made turn.node refl
@@ -306,6 +312,7 @@ module _ (links : ℕ → Option Octets) (apart : (i j : ℕ) (l : Octets) → l
             (with_same Client p (client_after (here_at n i) k t r) (record { number = k; held = Open t }) a.clients.slots found)
             (λ y ne. with_other Client p y (client_after (here_at n i) k t r) a.clients.slots ne)
             o.ended acts.between turn.ended acts.ended)),
+        client_aside n (out_key i p) t (client_on_apdu (client_context x (out_key i p) (here_at n i)) x.readable t apdu),
       )
         where
           key : Key
@@ -327,17 +334,17 @@ module _ (links : ℕ → Option Octets) (apart : (i j : ℕ) (l : Octets) → l
           sent_is = copied_none links apart w.nodes h.linked w.time.now i p g (client.sends_of r) o.sends acts.sent turn.sends acts.copied
 
       held : (k : ℕ) (y : TransactionSlot) → value_at same_key p a.clients.slots ≡ Some (record { number = k; held = y })
-          → IsClientTurn (requester_on_apdu_in_slot (x.settings i) x.readable (here_at n i) apdu a.clients p k y) (told w i) a b o → Next links apart W x w w'
+          → IsClientTurn (requester_on_apdu_in_slot (x.settings i) x.readable (here_at n i) apdu a.clients p k y) (told w i) a b o → Aside w w' n
       held k (Closed first) is turn = unheard turn
       held k (Open t) is turn = answers k t is turn
 
       found_so : (s : Option Client) → value_at same_key p a.clients.slots ≡ s
-          → IsClientTurn (requester_on_apdu_at (x.settings i) x.readable (here_at n i) apdu a.clients p s) (told w i) a b o → Next links apart W x w w'
+          → IsClientTurn (requester_on_apdu_at (x.settings i) x.readable (here_at n i) apdu a.clients p s) (told w i) a b o → Aside w w' n
       found_so None is turn = unheard turn
       found_so (Some s) is turn = held s.number s.held is turn
 
       to_client : IsClientTurn (requester_on_apdu_at a.settings reads_reply (told w i) apdu a.clients p (value_at same_key p a.clients.slots)) (told w i) a b o
-          → Next links apart W x w w'
+          → Aside w w' n
       to_client turn =
           let fits : Fits links apart W x w n n i a = h.nodes i a node in
           let heard : Settings → Readable → ℕ → ClientTurn =
@@ -350,7 +357,7 @@ module _ (links : ℕ → Option Octets) (apart : (i j : ℕ) (l : Octets) → l
     pub hears_stranger : x.readable ≡ reads_reply → (w w' : World) (n : Net) → Over links apart W x w n → (i : ℕ) (from : Octets)
         → ((j : ℕ) → link_at w.nodes j ≡ Some from → ⊥)
         → (a b : Node) (o : Outcome) → slice_get w.nodes i ≡ Some a → Acts w i b o w' → (octets : Octets) → IsHeard (told w i) from octets a b o
-        → Next links apart W x w w'
+        → Aside w w' n
     hears_stranger readable w w' n h i from foreign a b o node acts octets z = go (is_from_client z.apdu) refl z.heard
       where
         p : PeerKey
@@ -359,6 +366,6 @@ module _ (links : ℕ → Option Octets) (apart : (i j : ℕ) (l : Octets) → l
         g : IsStranger links apart p
         g = record { none = λ k e. foreign k (h.linked k ∙ e ∙ ap (λ (q : PeerView). Some q.link) z.means.carries.sender) }
 
-        go : (up : Bool) → is_from_client z.apdu ≡ up → IsHeardBy up z.peer z.apdu (told w i) a b o → Next links apart W x w w'
+        go : (up : Bool) → is_from_client z.apdu ≡ up → IsHeardBy up z.peer z.apdu (told w i) a b o → Aside w w' n
         go true up turn = serves_stranger w w' n h i p g z.apdu up a b o node turn acts
         go false down turn = to_client readable w w' n h i p g z.apdu down a b o node acts turn

@@ -313,6 +313,9 @@ step_room : (overtake : ℕ) (w w' : World) (e : Event) → WorldStep overtake w
 step_room overtake w w' (Event.Ask client server limits r) (inl s) shown h = still_room w w' client s.after s.nodes s.time
     (asks_room (told w client) _ limits r s.before s.after s.accepted s.sends s.asks (h client s.before s.at)) h
 step_room overtake w w' (Event.Ask client server limits r) (inr s) shown h = same_room w w' s.same h
+step_room overtake w w' (Event.AskAway client peer limits r) (inl s) shown h = still_room w w' client s.after s.nodes s.time
+    (asks_room (told w client) _ limits r s.before s.after s.accepted s.sends s.asks (h client s.before s.at)) h
+step_room overtake w w' (Event.AskAway client peer limits r) (inr s) shown h = same_room w w' s.same h
 step_room overtake w w' (Deliver number) s shown h = go (is_deliverable overtake w.time.pace.life w.time.now number w.copies s.copy) s.goes
   where
     go : (b : Bool) → DeliversIf b w s.copy w' → HaveRoom w'
@@ -335,6 +338,8 @@ still_shown t u same h = subst AreShown (sym same) h
 step_shown : (overtake : ℕ) (w w' : World) (e : Event) → WorldStep overtake w e w' → AreShown w.time → AreShown w'.time
 step_shown overtake w w' (Event.Ask client server limits r) (inl s) h = still_shown w.time w'.time s.time h
 step_shown overtake w w' (Event.Ask client server limits r) (inr s) h = still_shown w.time w'.time (ap (λ (y : World). y.time) s.same) h
+step_shown overtake w w' (Event.AskAway client peer limits r) (inl s) h = still_shown w.time w'.time s.time h
+step_shown overtake w w' (Event.AskAway client peer limits r) (inr s) h = still_shown w.time w'.time (ap (λ (y : World). y.time) s.same) h
 step_shown overtake w w' (Deliver number) s h = go (is_deliverable overtake w.time.pace.life w.time.now number w.copies s.copy) s.goes
   where
     go : (b : Bool) → DeliversIf b w s.copy w' → AreShown w'.time
