@@ -1,6 +1,6 @@
 -- Wherever the two ends of a transaction are in step, one turn answers its ask.
-use Rattle.std.proofs.Common.{◌≡◌, ℕ, zero, suc, ◌+◌, ◌-◌, ◌*◌, ◌<◌, ◌≤◌, min, Bool, true, false, ◌||◌, List, [], ◌∷◌, length}
-use Rattle.std.proofs.Common.{Option, Some, None, if◌then◌else◌, nat_le, refl, sym, ap, subst, inl, ◌∙◌, arith}
+use Rattle.std.proofs.Common.{◌≡◌, ℕ, zero, suc, ◌+◌, ◌-◌, ◌*◌, ◌<◌, ◌≤◌, min, Bool, true, false, ◌||◌, List, [], ◌∷◌, length, Option, Some, None}
+use Rattle.std.proofs.Common.{if◌then◌else◌, nat_le, refl, sym, ap, subst, inl, ◌∙◌, arith}
 use Rattle.std.proofs.lemmas.Bool.Decides.{nat_tests}
 use Rattle.bac_apdu.specs.Apdu.{Apdu}
 use Rattle.bac_segment.specs.Limits.{N_RETRY}
@@ -25,11 +25,10 @@ use Rattle.bac_protocol.specs.Server.Transfer.{Running, Stopped, Finished}
 use Rattle.bac_protocol.specs.Log.{Fact, Has, StoreModel}
 use Rattle.bac_protocol.specs.Log.Fact.{Performed}
 use Rattle.bac_protocol.specs.Transaction.{Key, Rules, client_context, server_context}
-use Rattle.bac_protocol.specs.World.{World, happens, start}
+use Rattle.bac_protocol.specs.World.{World, happens, start, client_now, server_now}
 use Rattle.bac_protocol.specs.World.Event.{Tick}
 use Rattle.bac_protocol.specs.Claims.{IsBounded}
 use Rattle.bac_protocol.specs.Straight.{AreStraight, FitsData, WayFits, KindFits, way_count, way_to, request_count}
-use Rattle.bac_protocol.specs.World.{client_now, server_now}
 use Rattle.bac_protocol.proofs.Headline.{Kept}
 use Rattle.bac_protocol.proofs.Ways.{way_cut}
 use Rattle.bac_protocol.proofs.Replied.{way_taken}
@@ -37,13 +36,12 @@ use Rattle.bac_protocol.proofs.Queue.{Nows, TransactionPair}
 use Rattle.bac_protocol.proofs.Follow.{Shows}
 use Rattle.bac_protocol.proofs.Carries.{Sender, Fitting}
 use Rattle.bac_liveness.specs.AfterPast.{ClientIsDue, HearsRequest, TakesRequest, Keeps, Gives, CanStill}
-use Rattle.bac_liveness.specs.InStep.{IsAtStart, IsSending, AreTogether, StandsSending, StandsWaiting, StandsCollecting, Stands, IsCutFor}
-use Rattle.bac_liveness.specs.InStep.{IsOfAsk, AreInStep}
+use Rattle.bac_liveness.specs.InStep.{IsAtStart, IsSending, AreTogether, StandsSending, StandsWaiting, StandsCollecting, Stands, IsCutFor, IsOfAsk, AreInStep}
 use Rattle.bac_liveness.proofs.Deliveries.{Within, within_then, Starts, starts_then, starts_of}
 use Rattle.bac_liveness.proofs.Gets.{alive_now}
 use Rattle.bac_liveness.proofs.Downloads.{Waits, await_waits, sending_waits}
-use Rattle.bac_liveness.proofs.Retried.{window_most, window_some, together_again, round_of, none_live, fits_data}
-use Rattle.bac_liveness.proofs.Retried.{sending_ticks, awaiting_ticks, collecting_ticks}
+use Rattle.bac_liveness.proofs.Retried.{window_most, window_some, together_again, round_of, none_live, fits_data, sending_ticks, awaiting_ticks}
+use Rattle.bac_liveness.proofs.Retried.{collecting_ticks}
 use Rattle.bac_liveness.proofs.Uploads as up
 use Rattle.bac_liveness.proofs.Downloads as down
 use Rattle.bac_liveness.proofs.Begins as begins
@@ -220,12 +218,13 @@ module _ (S : Type 0) (model : StoreModel S) (opening : ℕ → S) (W : ℕ) (x 
   abbrev entry_with : (begin : ℕ) → Option Octets → State → ServerTransaction
   entry_with begin kept state = record { begin = begin; choice = ask.choice; limits = c.settings.limits; request = kept; state = state }
 
-  same_entry : (e : ServerTransaction) → IsOfAsk x key ask e → (kept : Option Octets) → e.request ≡ kept → (st : State) → e.state ≡ st → e ≡ entry_with e.begin kept st
+  same_entry : (e : ServerTransaction) → IsOfAsk x key ask e → (kept : Option Octets) → e.request ≡ kept → (st : State) → e.state ≡ st
+      → e ≡ entry_with e.begin kept st
   same_entry e of kept request st state i =
       record { begin = e.begin; choice = of.choice i; limits = of.limits i; request = request i; state = state i }
 
-  entry_shows : (e : ServerTransaction) → live_entry now.there (w.net.entries key) ≡ Some e → IsOfAsk x key ask e → (kept : Option Octets) → e.request ≡ kept → (st : State)
-      → e.state ≡ st → live_entry now.there (w.net.entries key) ≡ live_entry now.there (Some (entry_with e.begin kept st))
+  entry_shows : (e : ServerTransaction) → live_entry now.there (w.net.entries key) ≡ Some e → IsOfAsk x key ask e → (kept : Option Octets) → e.request ≡ kept
+      → (st : State) → e.state ≡ st → live_entry now.there (w.net.entries key) ≡ live_entry now.there (Some (entry_with e.begin kept st))
   entry_shows e entry of kept request st state =
       entry ∙ sym (live_self now.there e ((there now.there (w.net.entries key) e entry).live))
       ∙ ap (λ (y : ServerTransaction). live_entry now.there (Some y)) (same_entry e of kept request st state)
@@ -508,8 +507,8 @@ module _ (S : Type 0) (model : StoreModel S) (opening : ℕ → S) (W : ℕ) (x 
       → waiting phase ≡ q.ticket → client.request_apdu c ask ∷ [] ≡ q.pending → w.stores ≡ q.stores → log ≡ q.log
       → live_entry now.there (w.net.entries key) ≡ live_entry now.there q.entry → Shows S model x now number key after_tick q (length w.net.posts)
   whole_shows phase ticks is q ticket pending stores log_is entry =
-      ticked S model opening W x bound w kept_in key t at can.serving (Repeats t.phase (client.request_apdu c ask ∷ [])) q ticks (ap waiting is ∙ ticket) pending refl
-      stores log_is entry
+      ticked S model opening W x bound w kept_in key t at can.serving (Repeats t.phase (client.request_apdu c ask ∷ [])) q ticks
+      (ap waiting is ∙ ticket) pending refl stores log_is entry
 
   module _ (is : t.phase ≡ AwaitConfirmation) (due : T_OUT ≤ now.here - t.since) (left : 0 < t.repeats) (some : 0 < n) where
     waiting_new : ask.whole ≡ true → live_entry now.there (w.net.entries key) ≡ None
@@ -525,7 +524,8 @@ module _ (S : Type 0) (model : StoreModel S) (opening : ℕ → S) (W : ℕ) (x 
           shows = whole_shows AwaitConfirmation (awaiting_ticks c t young is due left true whole) is q refl refl refl refl refl;
           most = 1 + 3 * wc;
           cheap = omega arith;
-          fin = read_finishes (t.repeats - 1) now.there (alive_now now.there) outcome 1 1 0 0 (Some (join ask.pieces)) q (omega arith) (λ h. absurd (omega arith))
+          fin = read_finishes (t.repeats - 1) now.there (alive_now now.there) outcome 1 1 0 0 (Some (join ask.pieces)) q (omega arith)
+              (λ h. absurd (omega arith))
               (omega arith) z;
         }
 
@@ -578,8 +578,8 @@ module _ (S : Type 0) (model : StoreModel S) (opening : ℕ → S) (W : ℕ) (x 
               (waiting (SegmentedRequest anew true)) st (pieces_from (client.request_piece c ask.choice ask.pieces) 0 1) in
               let big = room in
               let big' = positive in
-              let z = again_.segments_answered S model x now number key ask young (t.repeats - 1) e.begin there_is.live None w.stores log p 1 0 now.here anew refl
-              (omega arith) (omega arith) can.kind in
+              let z = again_.segments_answered S model x now number key ask young
+              (t.repeats - 1) e.begin there_is.live None w.stores log p 1 0 now.here anew refl (omega arith) (omega arith) can.kind in
               let count = count_is whole in
               record {
                 q = q;
@@ -623,8 +623,8 @@ module _ (S : Type 0) (model : StoreModel S) (opening : ℕ → S) (W : ℕ) (x 
                 most = 1 + 3 * wc;
                 cheap = omega arith;
                 fin = ends_finish (t.repeats - 1) e.begin there_is.live request (1 + 3 * wc) q refl done
-                    (down.ends_then S model x now number key ask young (t.repeats - 1) e.begin there_is.live request w.stores log 1 (3 * wc) (1 + 3 * wc) q mid p
-                    (omega arith) y z);
+                    (down.ends_then S model x now number key ask young (t.repeats - 1) e.begin there_is.live request w.stores log 1 (3 * wc)
+                    (1 + 3 * wc) q mid p (omega arith) y z);
               }
           go false whole =
               let big = room in
@@ -636,8 +636,8 @@ module _ (S : Type 0) (model : StoreModel S) (opening : ℕ → S) (W : ℕ) (x 
               (SegmentedResponse (resume reply_out) Running now.there) (server.reply_window d ask.choice (resume reply_out)) in
               let y = again_.segments_resume S model x now number key ask young (t.repeats - 1) e.begin there_is.live None w.stores log ticket reply_out since
               0 0 refl refl (omega arith) in
-              let z = from_start reply_out same cut (t.repeats - 1) e.begin there_is.live None N_RETRY (SegmentedRequest anew true) now.here (sending_waits anew)
-              refl start in
+              let z = from_start reply_out same cut (t.repeats - 1) e.begin there_is.live None N_RETRY (SegmentedRequest anew true) now.here
+              (sending_waits anew) refl start in
               let count = count_is whole in
               record {
                 q = q;
@@ -761,7 +761,8 @@ module _ (S : Type 0) (model : StoreModel S) (opening : ℕ → S) (W : ℕ) (x 
     sending_turn out all is due whole sends Dropped state hears stands keeps cut = absurd hears
 
     waiting_turn : t.phase ≡ AwaitConfirmation → ClientIsDue now.here t AwaitConfirmation
-        → (st : State) → e.state ≡ st → HearsRequest now.there st → StandsWaiting st → Keeps x key now.there t p st Outcome → IsCutFor x key st → Ready after_tick
+        → (st : State) → e.state ≡ st → HearsRequest now.there st → StandsWaiting st → Keeps x key now.there t p st Outcome → IsCutFor x key st
+        → Ready after_tick
     waiting_turn is due (State.SegmentedRequest inc since) state hears stands keeps cut = absurd stands
     waiting_turn is due (Done kept) state hears stands keeps cut = waiting_done is due.0 due.1 some e entry of kept state keeps
     waiting_turn is due (SegmentedResponse reply_out Stopped since) state hears stands keeps cut =
@@ -781,8 +782,8 @@ module _ (S : Type 0) (model : StoreModel S) (opening : ℕ → S) (W : ℕ) (x 
     collecting_turn inc is due (SegmentedResponse reply_out Finished since) state hears stands keeps cut = absurd hears
     collecting_turn inc is due Dropped state hears stands keeps cut = absurd stands
 
-  pub client_turn : (phase : Phase) → t.phase ≡ phase → ClientIsDue now.here t phase → (o : Option ServerTransaction) → live_entry now.there (w.net.entries key) ≡ o
-      → TakesRequest now.there o → AreInStep x key ask phase o → Gives S model x w key t p o → Ready after_tick
+  pub client_turn : (phase : Phase) → t.phase ≡ phase → ClientIsDue now.here t phase → (o : Option ServerTransaction)
+      → live_entry now.there (w.net.entries key) ≡ o → TakesRequest now.there o → AreInStep x key ask phase o → Gives S model x w key t p o → Ready after_tick
   client_turn Idle is due o entry takes step gives = absurd due
   client_turn (SegmentedRequest out all) is due None entry takes step gives =
       let h = step.stand in sending_new out all is due.0 due.1 h.0 h.1 entry h.2 gives

@@ -1,7 +1,7 @@
 -- An accepted ask of a world, as its machines make it, and the copies of its request.
-use Rattle.std.proofs.Common.{◌≡◌, ℕ, suc, ◌≤◌, Bool, true, false, List, [], ◌∷◌, ◌++◌, map, length, Option, Some, None, if◌then◌else◌}
-use Rattle.std.proofs.Common.{refl, sym, ap, subst, ◌∙◌, arith}
 use Rattle.std.specs.Option.{option_map}
+use Rattle.std.proofs.Common.{◌≡◌, ℕ, suc, ◌≤◌, Bool, true, false, List, [], ◌∷◌, ◌++◌, map, length, Option, Some, None, if◌then◌else◌, refl, sym, ap, subst}
+use Rattle.std.proofs.Common.{◌∙◌, arith}
 use Rattle.bac_apdu.specs.Apdu.{Apdu, Limits}
 use Rattle.bac_apdu.specs.Spelling.{SpellsApdu, apdu_spelling, is_confirmed_request}
 use Rattle.bac_npdu.specs.Datagram.{Means, IsFrameTo, frame}
@@ -21,20 +21,20 @@ use Rattle.bac_protocol.specs.World.{Net, Post, post_of}
 use Rattle.bac_protocol.specs.Claims as claims
 use Rattle.bac_protocol.proofs.Calm.{spent_free}
 use Rattle.bac_protocol.proofs.Paces.{since_now}
-use Rattle.bac_liveness.proofs.Clocks.{MadeIn}
 use Rattle.bac_protocol.proofs.Keys.{set_same}
 use Rattle.bac_protocol.proofs.SingleMoves.{reached_net, reached_calm}
-use Rattle.bac_liveness.specs.Runs.{StaysSince}
-use Rattle.bac_liveness.specs.RoundTrip.{request_to}
-use Rattle.bac_liveness.proofs.Paths.{ask_of, Bounded, Step, Path}
-use Rattle.bac_liveness.proofs.Paths.Path.{Here, Then}
-use Rattle.bac_liveness.proofs.Changes.{IsThere}
 use Rattle.bac_transaction.specs.Sends.{Pairwise}
 use Rattle.bac_world.specs.Node.{Node}
 use Rattle.bac_world.specs.World.{World, Copy, IsAsked, peer_at}
 use Rattle.bac_world.proofs.Bridge.{here_at, IsCopyOf, IsBetween, key_of, framed_means}
 use Rattle.bac_world.proofs.Steps.{Over}
+use Rattle.bac_liveness.specs.Runs.{StaysSince}
+use Rattle.bac_liveness.specs.RoundTrip.{request_to}
 use Rattle.bac_liveness.specs.WorldRoundTrip.{IsRequest}
+use Rattle.bac_liveness.proofs.Clocks.{MadeIn}
+use Rattle.bac_liveness.proofs.Paths.{ask_of, Bounded, Step, Path}
+use Rattle.bac_liveness.proofs.Paths.Path.{Here, Then}
+use Rattle.bac_liveness.proofs.Changes.{IsThere}
 use Rattle.bac_liveness.proofs.Staying.{reached_bounded}
 use Rattle.bac_liveness.proofs.Following.{Parts, asked_free, asked_net, asked_over}
 

@@ -1,6 +1,6 @@
 -- Each ask ends, at its node.
-use Rattle.std.proofs.Common.{◌≡◌, ◌⊎◌, ℕ, suc, ◌+◌, ◌-◌, ◌<◌, Bool, true, false, List, [], ◌∷◌, ◌++◌, Option, Some, None, slice_get}
-use Rattle.std.proofs.Common.{if◌then◌else◌, nat_eq, refl, sym, ap, subst, inl, inr, ◌∙◌, arith}
+use Rattle.std.proofs.Common.{◌≡◌, ◌⊎◌, ℕ, suc, ◌+◌, ◌-◌, ◌<◌, Bool, true, false, List, [], ◌∷◌, ◌++◌, Option, Some, None, slice_get, if◌then◌else◌, nat_eq}
+use Rattle.std.proofs.Common.{refl, sym, ap, subst, inl, inr, ◌∙◌, arith}
 use Rattle.std.proofs.lemmas.Bool.Decides.{nat_tests}
 use Rattle.bac_service.specs.Services.{reads_reply}
 use Rattle.bac_protocol.specs.declared.times.TheConstants.{DEADLINE}
@@ -15,31 +15,30 @@ use Rattle.bac_protocol.specs.Pace.{IsTimely}
 use Rattle.bac_protocol.specs.World.{Net, is_lost}
 use Rattle.bac_protocol.specs.Claims as claims
 use Rattle.bac_protocol.proofs.SingleMoves.{reached_net}
-use Rattle.bac_liveness.proofs.Endings.{not_from_client}
 use Rattle.bac_slots.specs.Slots.{value_at, in_order, IsApart, IsDistinct}
 use Rattle.bac_transaction.specs.Keys.{PeerKey, peer_key_cmp, same_key}
 use Rattle.bac_transaction.specs.Sends.{Pairwise}
 use Rattle.bac_transaction.specs.Meanings as plain
 use Rattle.bac_transaction.specs.Meanings.{EndedView, IsEndedView, MeansEnding}
-use Rattle.bac_transaction.specs.Ends.{Client, TransactionSlot, ClientSlot, Ended, context_of, from_each, client_tick_ends}
-use Rattle.bac_transaction.specs.Ends.{requester_on_apdu_at, key_of, kept, ended_with}
+use Rattle.bac_transaction.specs.Ends.{Client, TransactionSlot, ClientSlot, Ended, context_of, from_each, client_tick_ends, requester_on_apdu_at, key_of, kept}
+use Rattle.bac_transaction.specs.Ends.{ended_with}
 use Rattle.bac_transaction.specs.Ends.TransactionSlot.{Open, Closed}
-use Rattle.bac_world.specs.Node.{Node, Outcome, NodeTick, IsHeardBy, IsClientTurn}
-use Rattle.bac_world.specs.World.{World, WorldRun, Event, IsFresh, IsBounded, ask_of, peer_at, link_at}
 use Rattle.bac_transaction.proofs.KeyedSlots.{EachSlot, changed_value, value_changed, with_same, slot, decide_slot_key, apart_none, found_first, passed_first}
 use Rattle.bac_transaction.proofs.KeyedSlots.{distinct_in_order, each_in_order, found_in_order, each_at}
-use Rattle.bac_world.proofs.Bridge.{here_at, IsKnown, IsStranger, TicketFits, slot_key, out_key, newest_near}
+use Rattle.bac_world.specs.Node.{Node, Outcome, NodeTick, IsHeardBy, IsClientTurn}
+use Rattle.bac_world.specs.World.{World, WorldRun, Event, IsFresh, IsBounded, ask_of, is_away, peer_at, link_at}
+use Rattle.bac_world.proofs.Bridge.{here_at, IsKnown, IsStranger, TicketFits, slot_key, out_key, newest_near, key_of as node_key}
 use Rattle.bac_world.proofs.Machines.{away_apart}
-use Rattle.bac_world.specs.World.{is_away}
-use Rattle.bac_world.proofs.Bridge.{key_of as node_key}
 use Rattle.bac_world.proofs.Pairs.{IsSplit, pairwise_split, pairwise_none}
 use Rattle.bac_world.proofs.ClientTick.{client_tick}
 use Rattle.bac_world.proofs.Hearing.{ticket_at, out_one}
 use Rattle.bac_world.proofs.NodeLaws.{heard_as}
 use Rattle.bac_world.proofs.Steps.{Over}
-use Rattle.bac_liveness.specs.WorldEnds.{IsOpen, finishes_of, expired, HasFinish, HasTicketsApart, TickEnds, AnswerEnds, NodesAreInOrder}
 use Rattle.bac_world.proofs.Headline.{fresh_over, rules_of, rules_bounded}
-use Rattle.bac_liveness.proofs.WorldEndings.{opened, late_gets, tick_leaves, on_run, opened_net}
+use Rattle.bac_liveness.specs.WorldEnds.{IsOpen, finishes_of, expired, HasFinish, HasTicketsApart, TickEnds, AnswerEnds, NodesAreInOrder}
+use Rattle.bac_liveness.proofs.Serving.{late_gets}
+use Rattle.bac_liveness.proofs.Endings.{not_from_client}
+use Rattle.bac_liveness.proofs.WorldEndings.{opened, tick_leaves, on_run, opened_net}
 
 -- Lists of endings.
 
@@ -70,7 +69,8 @@ pub record IsOnlyExpired (number : ℕ) (fs : List EndedView) : Type 0 where
   pub has : HasFinish (expired number) fs
   pub once : finishes_of number fs ≡ 1
 
-only_expired : (number choice : ℕ) (fs : List EndedView) → Pairwise IsEndedView (ended_with number choice (Some machine.Ending.Expired)) fs → IsOnlyExpired number fs
+only_expired : (number choice : ℕ) (fs : List EndedView) → Pairwise IsEndedView (ended_with number choice (Some machine.Ending.Expired)) fs
+    → IsOnlyExpired number fs
 only_expired number choice [] h = absurd h
 only_expired number choice (f ∷ g ∷ fs) h = absurd h.1
 only_expired number choice (f ∷ []) h = record { has = inl (go f.how h.0.how); once = one (nat_eq f.ticket number) refl }
@@ -103,7 +103,8 @@ others_end number k choice (Some how) (f ∷ []) ne h = go (nat_eq f.ticket numb
 
 -- A ticket that is too old.
 
-late_ticks : (c : Context) (t : ClientTransaction) → is_idle t.phase ≡ false → DEADLINE < c.now - t.ask.first → client_ticks c t ≡ Ends [] machine.Ending.Expired
+late_ticks : (c : Context) (t : ClientTransaction) → is_idle t.phase ≡ false → DEADLINE < c.now - t.ask.first
+    → client_ticks c t ≡ Ends [] machine.Ending.Expired
 late_ticks c t going late =
     ap (λ (b : Bool). if b then Stays else if is_expired c.now t.ask then Ends [] machine.Ending.Expired else client.open_ticks c t t.phase) going
     ∙ ap (λ (b : Bool). if b then Ends [] machine.Ending.Expired else client.open_ticks c t t.phase) expires
@@ -264,15 +265,19 @@ module _ (links : ℕ → Option Octets) (apart : (i j : ℕ) (l : Octets) → l
   ticket_near p number t there known =
       let fits = (over.nodes i a at).clients in
       let key_is : slot_key known.link p.invoke_id ≡ p = λ j. record { peer = sym known.peer j; invoke_id = p.invoke_id } in
-      let found : TicketFits (is_lost n (node_key i known.node p.invoke_id)) (here_at n i) w.notes i (n.numbers (node_key i known.node p.invoke_id)) (Some (record { number = number; held = Open t }))
+      let found : TicketFits (is_lost n (node_key i known.node p.invoke_id)) (here_at n i) w.notes i (n.numbers (node_key i known.node p.invoke_id))
+      (Some (record { number = number; held = Open t }))
       (n.tickets (node_key i known.node p.invoke_id)) =
-      subst (λ (v : Option Client). TicketFits (is_lost n (node_key i known.node p.invoke_id)) (here_at n i) w.notes i (n.numbers (node_key i known.node p.invoke_id)) v
+      subst (λ (v : Option Client). TicketFits (is_lost n (node_key i known.node p.invoke_id)) (here_at n i) w.notes i
+      (n.numbers (node_key i known.node p.invoke_id)) v
       (n.tickets (node_key i known.node p.invoke_id))) (ap (λ (q : PeerKey). value_at same_key q a.clients.slots) key_is ∙ there)
       (fits.found known.node known.link p.invoke_id known.at) in
       let is = ticket_at (is_lost n (node_key i known.node p.invoke_id)) (here_at n i) w.notes i (n.numbers (node_key i known.node p.invoke_id)) number t
       (n.tickets (node_key i known.node p.invoke_id)) found in
-      let held : TicketFits (is_lost n (node_key i known.node p.invoke_id)) (here_at n i) w.notes i (n.numbers (node_key i known.node p.invoke_id)) (Some (record { number = number; held = Open t })) (Some t) =
-      subst (λ (v : Option ClientTransaction). TicketFits (is_lost n (node_key i known.node p.invoke_id)) (here_at n i) w.notes i (n.numbers (node_key i known.node p.invoke_id))
+      let held : TicketFits (is_lost n (node_key i known.node p.invoke_id)) (here_at n i) w.notes i (n.numbers (node_key i known.node p.invoke_id))
+      (Some (record { number = number; held = Open t })) (Some t) =
+      subst (λ (v : Option ClientTransaction). TicketFits (is_lost n (node_key i known.node p.invoke_id)) (here_at n i) w.notes i
+      (n.numbers (node_key i known.node p.invoke_id))
       (Some (record { number = number; held = Open t })) v) is.0 found in
       record {
         server = known.node;

@@ -1,13 +1,13 @@
 -- Once an entry keeps the answer to an ask, in one APDU, its ticket takes that answer whenever it comes in time, also where its server restarts: no segment
 -- of a reply can come, and a request that was sent whole stays so.
-use Rattle.std.proofs.Common.{◌≡◌, ℕ, ◌+◌, ◌-◌, ◌≤◌, ◌⊎◌, Bool, true, false, ◌&&◌, ◌||◌, not, List, [], ◌∷◌, ◌++◌, Option, Some, None}
-use Rattle.std.proofs.Common.{slice_get, if◌then◌else◌, nat_eq, nat_le, nat_lt, refl, sym, ap, subst, inl, inr, ◌∙◌, arith}
 use Rattle.std.specs.Prelude.{is_some}
+use Rattle.std.proofs.Common.{◌≡◌, ℕ, ◌+◌, ◌-◌, ◌≤◌, ◌⊎◌, Bool, true, false, ◌&&◌, ◌||◌, not, List, [], ◌∷◌, ◌++◌, Option, Some, None, slice_get, if◌then◌else◌}
+use Rattle.std.proofs.Common.{nat_eq, nat_le, nat_lt, refl, sym, ap, subst, inl, inr, ◌∙◌, arith}
 use Rattle.std.proofs.lemmas.Bool.Decides.{nat_tests}
 use Rattle.bac_apdu.specs.Apdu.{Apdu}
 use Rattle.bac_apdu.specs.Apdu.Apdu.{ConfirmedRequest, SimpleAck, ComplexAck, SegmentAck, Error, Reject, Abort}
-use Rattle.bac_segment.specs.Window.{Outgoing, outgoing, is_finished, acknowledged, again}
 use Rattle.bac_service.specs.Choices.{has_simple_ack, has_complex_ack}
+use Rattle.bac_segment.specs.Window.{Outgoing, outgoing, is_finished, acknowledged, again}
 use Rattle.bac_protocol.specs.declared.times.TheConstants.{T_OUT, T_SEG, DEADLINE, KEEP}
 use Rattle.bac_protocol.specs.Context.{Context}
 use Rattle.bac_protocol.specs.Service.{Octets, OTHER, Readable, Reply as reply}
@@ -21,25 +21,23 @@ use Rattle.bac_protocol.specs.Server as server
 use Rattle.bac_protocol.specs.Server.{State, ServerTransaction, Service, is_live}
 use Rattle.bac_protocol.specs.Server.State.{Done}
 use Rattle.bac_protocol.specs.Transaction.{Key, Rules, Copy, client_context, server_context}
-use Rattle.bac_protocol.specs.World.{Net, Post, later, is_room, lost, set_at, copies_of, client_acts, server_acts, asked_at, is_id_held}
-use Rattle.bac_protocol.specs.World.{client_restarted, server_restarted}
+use Rattle.bac_protocol.specs.World.{Net, Post, later, is_room, lost, set_at, copies_of, client_acts, server_acts, asked_at, is_id_held, client_restarted}
+use Rattle.bac_protocol.specs.World.{server_restarted, client_now, server_now, passes}
 use Rattle.bac_protocol.specs.Claims.{EachCopy}
 use Rattle.bac_protocol.specs.Own.{IsOfClient}
+use Rattle.bac_protocol.specs.Pace.{clock_at, Pace, Clock}
 use Rattle.bac_protocol.proofs.Alone.{sent}
 use Rattle.bac_protocol.proofs.Facts.{all_map, each_sent}
 use Rattle.bac_protocol.proofs.Keys.{decide_key, set_same, set_other, copies_posted, copies_other, copy_at}
 use Rattle.bac_protocol.proofs.Own.{client_sends_own}
+use Rattle.bac_protocol.proofs.Paces.{shown_at, since_now}
 use Rattle.bac_liveness.specs.Runs.{StaysSince}
-use Rattle.bac_protocol.specs.Pace.{clock_at}
-use Rattle.bac_protocol.proofs.Paces.{shown_at}
 use Rattle.bac_liveness.proofs.Paths.{Bounded, path_bounded, step_restarted, some_is, ask_of, Comes, Step, Path}
 use Rattle.bac_liveness.proofs.Paths.Step.{Asks, Serves, Hears, TicksTicket, TicksEntry, Passes, Changes, RestartsClient, RestartsServer, Strange}
 use Rattle.bac_liveness.proofs.Paths.Path.{Here, Then}
 use Rattle.bac_liveness.proofs.Changes.{IsThere, there_step}
-use Rattle.bac_protocol.specs.Pace.{Pace, Clock}
-use Rattle.bac_protocol.specs.World.{client_now, server_now, passes}
-use Rattle.bac_protocol.proofs.Paces.{since_now}
-use Rattle.bac_liveness.proofs.Clocks.{IsBegunAfter, IsLostAfter, MadeIn, BegunIn, LostIn, alive, closed, made_step, begun_passes, lost_passes, here_step, made_path}
+use Rattle.bac_liveness.proofs.Clocks.{IsBegunAfter, IsLostAfter, MadeIn, BegunIn, LostIn, alive, closed, made_step, begun_passes, lost_passes, here_step}
+use Rattle.bac_liveness.proofs.Clocks.{made_path}
 use Rattle.bac_liveness.proofs.Kept.{held_in_time}
 
 -- an APDU is no segment of a reply
@@ -146,7 +144,8 @@ module _ (c : Context) where
 -- What its server does.
 
 module _ (c : Context) (service : Service) where
-  either_sends : (b : Bool) (o : Option ServerTransaction) (x y : Apdu) → IsWhole x → IsWhole y → Each IsWhole (server.rests o ((if b then x else y) ∷ [])).sends
+  either_sends : (b : Bool) (o : Option ServerTransaction) (x y : Apdu) → IsWhole x → IsWhole y
+      → Each IsWhole (server.rests o ((if b then x else y) ∷ [])).sends
   either_sends true o x y h k = (h, tt)
   either_sends false o x y h k = (k, tt)
 
@@ -207,7 +206,8 @@ module _ (x : Rules) (Q : Net → ℕ → Bool → Service → Type 0) (key : Ke
   abbrev InTime : Net → Type 0
   InTime n = client_now n key - ask.first ≤ DEADLINE
 
-  whole_sent : (life now : ℕ) (sends : List Apdu) (copies : List Copy) → Each IsWhole sends → AreWhole life now copies → AreWhole life now (sent now sends copies)
+  whole_sent : (life now : ℕ) (sends : List Apdu) (copies : List Copy) → Each IsWhole sends → AreWhole life now copies
+      → AreWhole life now (sent now sends copies)
   whole_sent life now sends copies h old = each_sent (λ k c. now - c.moment ≤ life → IsWhole c.apdu) now sends copies
       (all_map IsWhole (λ a. (k : ℕ) → now - now ≤ life → IsWhole a) (λ a w k young. w) sends h)
       old
@@ -222,12 +222,14 @@ module _ (x : Rules) (Q : Net → ℕ → Bool → Service → Type 0) (key : Ke
   -- a step at a moment at which the ask is in time
   module _ (n : Net) (h : IsAwaited n) (young : InTime n) (stays : StaysSince n key made) where
     live : (e : ServerTransaction) → BegunIn n key made e.begin → is_live (server_now n key) e ≡ true
-    live e since = alive n.pace n.now (n.client_clocks key.client) (n.server_clocks key.server) (n.restarted key.client) ask.first made h.runs (omega arith) e since
+    live e since = alive n.pace n.now (n.client_clocks key.client) (n.server_clocks key.server) (n.restarted key.client) ask.first made h.runs
+        (omega arith) e since
 
     -- a server that restarted since begins nothing
     shut : LostIn n key made (n.serves_from key.server) → (free : Bool) → is_room n key free ≡ false
     shut lost free =
-        let lt = closed n.pace n.now (n.client_clocks key.client) (n.server_clocks key.server) (n.restarted key.client) ask.first made h.runs (omega arith) (n.serves_from key.server) lost in
+        let lt = closed n.pace n.now (n.client_clocks key.client) (n.server_clocks key.server) (n.restarted key.client) ask.first made h.runs (omega arith)
+        (n.serves_from key.server) lost in
         let waits : nat_lt (server_now n key) (n.serves_from key.server) ≡ true = grind (arith, nat_tests) in
         ap (λ (b : Bool). free && not b) waits ∙ go free
       where
@@ -251,7 +253,8 @@ module _ (x : Rules) (Q : Net → ℕ → Bool → Service → Type 0) (key : Ke
         c = server_context x key (server_now n key)
 
         go : DoneIn n (n.serves_from key.server) (n.entries key) → Goes (gets service free a)
-        go (inl d) = subst Goes (sym (ap (λ (o : Option ServerTransaction). server.server_on_apdu (server_context x key (server_now n key)) service o (is_room n key free) a) d.at
+        go (inl d) = subst Goes (sym (ap (λ (o : Option ServerTransaction). server.server_on_apdu (server_context x key (server_now n key)) service o
+            (is_room n key free) a) d.at
             ∙ kept_gets (server_context x key (server_now n key)) service d.entry kept (live d.entry d.since) d.state (is_room n key free) a)) (
               done_sends (server_context x key (server_now n key)) service d.entry kept whole a,
               inl (record {
@@ -263,7 +266,8 @@ module _ (x : Rules) (Q : Net → ℕ → Bool → Service → Type 0) (key : Ke
             )
         go (inr lost) =
             let none = closed_sends (server_context x key (server_now n key)) service a in
-            subst Goes (λ i. server.server_on_apdu (server_context x key (server_now n key)) service (sym lost.0 i) (sym (shut lost.1 free) i) a) (none.0, inr (none.1, lost.1))
+            subst Goes (λ i. server.server_on_apdu (server_context x key (server_now n key)) service (sym lost.0 i) (sym (shut lost.1 free) i) a)
+            (none.0, inr (none.1, lost.1))
 
     ticked : Goes (server.server_ticks (server_context x key (server_now n key)) (n.entries key))
     ticked = go h.entry
@@ -401,7 +405,8 @@ module _ (x : Rules) (Q : Net → ℕ → Bool → Service → Type 0) (key : Ke
     next : (m : Net) → Step x Q n m → Next m
     next _ (Asks k choice w front rest free) = ask_next k (ask_of (client_now n k) choice w front rest) free
     next _ (Serves i p free service comes up q) =
-        server_next p.key (server.server_on_apdu (server_context x p.key (server_now n p.key)) service (n.entries p.key) (is_room n p.key free) p.copy.apdu) (λ is.
+        server_next p.key (server.server_on_apdu (server_context x p.key (server_now n p.key)) service (n.entries p.key) (is_room n p.key free) p.copy.apdu)
+        (λ is.
         subst (λ (j : Key). Goes (server.server_on_apdu (server_context x j (server_now n j)) service (n.entries j) (is_room n j free) p.copy.apdu)) (sym is)
         (served service free p.copy.apdu))
     next _ (Hears i p t comes down at) =

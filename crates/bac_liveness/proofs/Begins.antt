@@ -1,6 +1,6 @@
 -- A request that its server has not heard of reaches it whole, and is performed.
-use Rattle.std.proofs.Common.{◌≡◌, ℕ, ◌+◌, ◌-◌, ◌*◌, ◌%◌, ◌<◌, ◌≤◌, min, Bool, true, false, List, [], ◌∷◌, length, get_or}
-use Rattle.std.proofs.Common.{Option, Some, None, nat_lt, refl, ap, inl, ◌∙◌, arith}
+use Rattle.std.proofs.Common.{◌≡◌, ℕ, ◌+◌, ◌-◌, ◌*◌, ◌%◌, ◌<◌, ◌≤◌, min, Bool, true, false, List, [], ◌∷◌, length, get_or, Option, Some, None, nat_lt, refl, ap}
+use Rattle.std.proofs.Common.{inl, ◌∙◌, arith}
 use Rattle.std.proofs.lemmas.Bool.Decides.{nat_tests}
 use Rattle.bac_apdu.specs.Apdu.{Apdu}
 use Rattle.bac_segment.specs.Pieces.{join}
@@ -89,12 +89,14 @@ module _ (S : Type 0) (model : StoreModel S) (x : Rules) (now : Nows) (number : 
   abbrev empty : Incoming
   empty = incoming d.settings.window c.settings.window
 
-  first_taken : (o : Option ServerTransaction) (y : Taking) → is_none_live now.there o ≡ true → takes empty (0 % 256) (nat_lt (0 + 1) n) (get_or ask.pieces 0 []) ≡ y
+  first_taken : (o : Option ServerTransaction) (y : Taking) → is_none_live now.there o ≡ true
+      → takes empty (0 % 256) (nat_lt (0 + 1) n) (get_or ask.pieces 0 []) ≡ y
       → server.server_on_apdu d service o true (piece 0) ≡ server.request_segment_taken d service (server.begins d ask.choice c.settings.limits None) 0 actual y
   first_taken o y dead e = server_new d service o (piece 0) dead
       ∙ ap (λ (z : Taking). server.request_segment_taken d service (server.begins d ask.choice c.settings.limits None) 0 actual z) e
 
-  module _ (o : Option ServerTransaction) (dead : is_none_live now.there o ≡ true) (sizes : Fitting x.overtake actual c.settings.window ask.pieces) (near : actual < 256)
+  module _ (o : Option ServerTransaction) (dead : is_none_live now.there o ≡ true) (sizes : Fitting x.overtake actual c.settings.window ask.pieces)
+      (near : actual < 256)
       (out : Outgoing) (same : out.pieces ≡ ask.pieces) (at_start : out.first ≡ 0) (one_piece : out.window ≡ 1) (all_sent : Bool) where
     abbrev from : TransactionPair S
     from = asking (SegmentedRequest out all_sent) o (piece 0 ∷ [])
@@ -123,7 +125,8 @@ module _ (S : Type 0) (model : StoreModel S) (x : Rules) (now : Nows) (number : 
               (first_step S model x now number key from mid [] (piece 0) refl (omega arith) refl
               (up.performs_now S model x now number key ask young repeats now.there (alive_now now.there) stores log p outcome_is fits
               (in_phase (SegmentedRequest out all_sent)) o None Dropped (piece 0) (ack false 0 ∷ []) [] refl (first_taken o (Whole ask.pieces) dead e)))
-              (up.last_acked S model x now number key ask young repeats now.there (alive_now now.there) stores log (Some entry) (lives now.there entry (alive_now now.there))
+              (up.last_acked S model x now number key ask young repeats now.there (alive_now now.there) stores log (Some entry)
+              (lives now.there entry (alive_now now.there))
               mid.stores mid.log s 0 (sent_first ∷ []) (omega arith) (omega arith) same (omega arith) (omega arith) one);
         }
 
@@ -145,9 +148,11 @@ module _ (S : Type 0) (model : StoreModel S) (x : Rules) (now : Nows) (number : 
         (ap (λ (v : server.Reaction). served S model x now number key from [] v) (first_taken o (Taken true inc) dead e)) in
         let sent = requesting s' inc now.there (pieces_from piece 1 (in_window s'.out)) in
         let two : Within S model x now number key 1 acked sent = acks_read S model x now number key actual c.settings.window ask.pieces sizes near
-        (moving S model x now number key actual c.settings.window ask.pieces carries inc now.there) 0 s false 0 [] same (omega arith) (omega arith) (omega arith)
+        (moving S model x now number key actual c.settings.window ask.pieces carries inc now.there) 0 s false 0 [] same (omega arith) (omega arith)
+        (omega arith)
         (omega arith) (omega arith) in
-        let z = up.upload S model x now number key ask young repeats now.there (alive_now now.there) stores log p outcome_is fits sizes near s' inc now.there 1 (3 * n - 3)
+        let z = up.upload S model x now number key ask young repeats now.there (alive_now now.there) stores log p outcome_is fits sizes near s' inc now.there 1
+        (3 * n - 3)
         (record {
           pieces = same;
           shape = inl (omega arith);

@@ -1,6 +1,5 @@
 -- What a step makes of one transaction's ticket.
-use Rattle.std.proofs.Common.{◌≡◌, ℕ, ◌+◌, ◌⊎◌, Bool, true, false, List, Some, if◌then◌else◌, nat_eq}
-use Rattle.std.proofs.Common.{refl, sym, ap, subst, inl, inr, ◌∙◌, arith}
+use Rattle.std.proofs.Common.{◌≡◌, ℕ, ◌+◌, ◌⊎◌, Bool, true, false, List, Some, if◌then◌else◌, nat_eq, refl, sym, ap, subst, inl, inr, ◌∙◌, arith}
 use Rattle.bac_protocol.specs.Service.{Ending}
 use Rattle.bac_protocol.specs.Client as client
 use Rattle.bac_protocol.specs.Client.{Ask, ClientTransaction, Reaction, is_idle, after, ending_of}
@@ -10,14 +9,13 @@ use Rattle.bac_protocol.specs.Server.{Service}
 use Rattle.bac_protocol.specs.Log.{Fact, Has}
 use Rattle.bac_protocol.specs.Log.Fact.{Ended}
 use Rattle.bac_protocol.specs.Transaction.{Key, Rules, client_context, ended}
-use Rattle.bac_protocol.specs.World.{Net, is_id_held, asked_at, client_acts, client_restarted, lost}
-use Rattle.bac_protocol.specs.World.{client_now}
+use Rattle.bac_protocol.specs.World.{Net, is_id_held, asked_at, client_acts, client_restarted, lost, client_now}
 use Rattle.bac_protocol.specs.Claims.{ClientStays}
 use Rattle.bac_protocol.proofs.Facts.{Grows}
 use Rattle.bac_protocol.proofs.Keys.{decide_key, set_same, set_other}
+use Rattle.bac_liveness.specs.Runs.{StaysSince}
 use Rattle.bac_liveness.proofs.Opens.{Opens, gets_opens, ticks_opens, asked_opens}
 use Rattle.bac_liveness.proofs.Paths.{some_is, ask_of, Step, Path, Bounded, step_log, step_restarted, path_bounded}
-use Rattle.bac_liveness.specs.Runs.{StaysSince}
 use Rattle.bac_liveness.proofs.Paths.Step.{Asks, Serves, Hears, TicksTicket, TicksEntry, Passes, Changes, RestartsClient, RestartsServer, Strange}
 use Rattle.bac_liveness.proofs.Paths.Path.{Here, Then}
 

@@ -1,15 +1,15 @@
 -- Each step of a client keeps its transaction in step.
-use Rattle.std.proofs.Common.{◌≡◌, ℕ, ◌+◌, ◌-◌, ◌<◌, ◌≤◌, ◌⊎◌, Bool, true, false, ◌&&◌, ◌||◌, not, List, [], ◌∷◌, ◌++◌, length}
-use Rattle.std.proofs.Common.{Option, Some, None, if◌then◌else◌, nat_le, nat_eq, refl, sym, ap, subst, inl, inr, ◌∙◌, arith}
+use Rattle.std.proofs.Common.{◌≡◌, ℕ, ◌+◌, ◌-◌, ◌<◌, ◌≤◌, ◌⊎◌, Bool, true, false, ◌&&◌, ◌||◌, not, List, [], ◌∷◌, ◌++◌, length, Option, Some, None}
+use Rattle.std.proofs.Common.{if◌then◌else◌, nat_le, nat_eq, refl, sym, ap, subst, inl, inr, ◌∙◌, arith}
 use Rattle.std.proofs.lemmas.Bool.Decides.{nat_tests}
 use Rattle.bac_apdu.specs.Apdu.{Apdu}
 use Rattle.bac_apdu.specs.Apdu.Apdu.{ConfirmedRequest, UnconfirmedRequest, SimpleAck, ComplexAck, SegmentAck, Error, Reject, Abort}
+use Rattle.bac_service.specs.Choices.{has_simple_ack, has_complex_ack}
 use Rattle.bac_segment.specs.Limits.{N_RETRY}
 use Rattle.bac_segment.specs.Numbers.{ahead}
 use Rattle.bac_segment.specs.Pieces.{join}
 use Rattle.bac_segment.specs.Window.{Outgoing, outgoing, in_window, is_finished, acknowledged, again, Incoming, incoming, Taking, takes}
 use Rattle.bac_segment.specs.Window.Taking.{Taken, Whole, Nak, TooLong}
-use Rattle.bac_service.specs.Choices.{has_simple_ack, has_complex_ack}
 use Rattle.bac_protocol.specs.declared.times.TheConstants.{T_OUT, T_SEG, T_WAIT_FOR_SEG}
 use Rattle.bac_protocol.specs.Context.{Context}
 use Rattle.bac_protocol.specs.Service.{Octets, OTHER, Readable, Reply as reply}
@@ -245,7 +245,8 @@ module _ (W : ℕ) (x : Rules) (key : Key) (now : Hands) (ask : Ask) (repeats : 
           (record { pieces_are = (flows.0).pieces_are; left = (flows.0).left; window = (flows.0).window }) (omega arith) (omega arith)
 
   -- a repeat of a request in segments begins a later pass; a whole one is repeated in the state it is in
-  whole_fine : (t : ClientTransaction) → t.ask ≡ ask → t.repeats ≡ repeats → t.phase ≡ phase → ((out : Outgoing) (all : Bool) → phase ≡ SegmentedRequest out all → ⊥)
+  whole_fine : (t : ClientTransaction) → t.ask ≡ ask → t.repeats ≡ repeats → t.phase ≡ phase
+      → ((out : Outgoing) (all : Bool) → phase ≡ SegmentedRequest out all → ⊥)
       → ((inc : Incoming) → phase ≡ SegmentedConf inc → CollectsIt inc) → repeats ≤ N_RETRY → Fine (client.repeats_whole c t)
   whole_fine t same rep is not_sending collects few = go (nat_eq t.repeats 0) refl
     where

@@ -3,8 +3,8 @@ use Rattle.std.proofs.Common.{refl, inl, arith}
 use Rattle.bac_protocol.specs.World.{post_of}
 use Rattle.bac_protocol.specs.Examples.{key, rules, append_apdu, position, position_apdu}
 use Rattle.bac_protocol.proofs.AtDrift.{lives}
-use Rattle.bac_liveness.specs.Examples.{whole_ask, LateTick, LateAnswer, OneRoundTrip, SecondRoundTrip}
-use Rattle.bac_liveness.specs.Examples.{RoundTripOfSegment, FourthSending, LateTurn, StoppedReply, HalfWindow}
+use Rattle.bac_liveness.specs.Examples.{whole_ask, LateTick, LateAnswer, OneRoundTrip, SecondRoundTrip, RoundTripOfSegment, FourthSending, LateTurn}
+use Rattle.bac_liveness.specs.Examples.{StoppedReply, HalfWindow}
 use Rattle.bac_liveness.specs.RoundTrip.{FitsInOne}
 use Rattle.bac_liveness.specs.Failures.{WindowUsedUp, ReplyUsedUp, TooOld, OutOfPatience, RepeatWasted, OldAbort}
 
@@ -64,7 +64,22 @@ fourth_sending = record {
   free = refl;
   ticket = refl;
   due = omega arith;
-  finds = (tt, (tt, (tt, (tt, (tt, (tt, ((λ m none. (position, record { none = refl; slot = refl; serving = omega arith; outcome = refl }, whole_fits)), (tt, tt))))))));
+  finds = (
+    tt,
+    (
+      tt,
+      (
+        tt,
+        (
+          tt,
+          (
+            tt,
+            (tt, ((λ m none. (position, record { none = refl; slot = refl; serving = omega arith; outcome = refl }, whole_fits)), (tt, tt))),
+          ),
+        ),
+      ),
+    ),
+  );
   young = omega arith;
   request = record { post = post_of key 9000 append_apdu; at = refl; key_is = refl; apdu_is = refl; arrives = refl };
   answer = record { post = post_of key 9000 position_apdu; at = refl; key_is = refl; apdu_is = refl; arrives = refl };
@@ -92,7 +107,16 @@ half_window = record {
   ticket = _;
   is = refl;
   straight = record { client = omega arith; server = omega arith; small = omega arith; room = omega arith };
-  can = record { going = refl; in_time = omega arith; serving = omega arith; request = (omega arith, omega arith); way = tt; kind = (refl, refl); gives = refl };
+  can = record {
+    going = refl;
+    in_time = omega arith;
+    serving = omega arith;
+    request = (omega arith, omega arith);
+    way = tt;
+    kind = (refl, refl);
+    gives =
+        refl;
+  };
   turn = inl ((omega arith, omega arith), omega arith, refl, refl);
   not_yet = refl;
   ends = refl;

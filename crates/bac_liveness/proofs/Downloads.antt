@@ -1,13 +1,13 @@
 -- A reply in segments reaches its client whole, wherever its two ends stood, and ends its ticket; so does one of one APDU.
-use Rattle.std.proofs.Common.{◌≡◌, ℕ, zero, suc, ◌+◌, ◌-◌, ◌*◌, ◌%◌, ◌<◌, ◌≤◌, min, Bool, true, false, ◌&&◌, List, [], ◌∷◌, ◌++◌, length, get_or}
-use Rattle.std.proofs.Common.{Option, Some, None, is_some, if◌then◌else◌, nat_lt, nat_le, nat_eq, append-nil, refl, sym, ap, subst, inl, ◌∙◌, arith}
+use Rattle.std.proofs.Common.{◌≡◌, ℕ, zero, suc, ◌+◌, ◌-◌, ◌*◌, ◌%◌, ◌<◌, ◌≤◌, min, Bool, true, false, ◌&&◌, List, [], ◌∷◌, ◌++◌, length, get_or, Option, Some}
+use Rattle.std.proofs.Common.{None, is_some, if◌then◌else◌, nat_lt, nat_le, nat_eq, append-nil, refl, sym, ap, subst, inl, ◌∙◌, arith}
 use Rattle.std.proofs.lemmas.Bool.Decides.{nat_tests}
 use Rattle.bac_apdu.specs.Apdu.{Apdu}
 use Rattle.bac_apdu.specs.Apdu.Apdu.{SimpleAck, ComplexAck, Error, Abort}
+use Rattle.bac_service.specs.Choices.{has_simple_ack, has_complex_ack}
 use Rattle.bac_segment.specs.Pieces.{join}
 use Rattle.bac_segment.specs.Window.{Outgoing, outgoing, in_window, is_finished, acknowledged, Incoming, incoming, Taking, takes}
 use Rattle.bac_segment.specs.Window.Taking.{Taken, Whole, Nak}
-use Rattle.bac_service.specs.Choices.{has_simple_ack, has_complex_ack}
 use Rattle.bac_protocol.specs.declared.times.TheConstants.{KEEP}
 use Rattle.bac_protocol.specs.Context.{Context}
 use Rattle.bac_protocol.specs.Sizes.{Way, reply_way_of}
@@ -372,8 +372,10 @@ module _ (S : Type 0) (model : StoreModel S) (x : Rules) (now : Nows) (number : 
               left = omega arith;
             }) (omega arith) in
             ends_then 1 (3 * n - 1 + extra) (3 * n + extra) from (replying s inc now.here (segments first extra ++ acks)) p (omega arith) one
-            (ends_then extra (3 * n - 1) (3 * n - 1 + extra) (replying s inc now.here (segments first extra ++ acks)) (replying s inc now.here acks) p (omega arith) two
-            (ends_then 1 (3 * n - 3) (3 * n - 1) (replying s inc now.here acks) (replying s' inc now.here (pieces_from piece 1 (in_window s'.out))) p (omega arith)
+            (ends_then extra (3 * n - 1) (3 * n - 1 + extra) (replying s inc now.here (segments first extra ++ acks)) (replying s inc now.here acks) p
+            (omega arith) two
+            (ends_then 1 (3 * n - 3) (3 * n - 1) (replying s inc now.here acks) (replying s' inc now.here (pieces_from piece 1 (in_window s'.out))) p
+            (omega arith)
             three z))
 
         pub first_given : 0 < n → EndsWith (3 * n + extra) from p
@@ -406,7 +408,8 @@ module _ (S : Type 0) (model : StoreModel S) (x : Rules) (now : Nows) (number : 
 
   module _ (phase : Phase) (m : ℕ) (waits : Waits phase) (going : is_idle phase ≡ false) where
     -- the answer is the oldest copy
-    pub at_once : (p : reply) (e : ServerTransaction) (xs : List Apdu) → KindFits x.readable ask.choice p → is_none_live now.there (Some e) ≡ false → length xs ≤ x.overtake
+    pub at_once : (p : reply) (e : ServerTransaction) (xs : List Apdu) → KindFits x.readable ask.choice p → is_none_live now.there (Some e) ≡ false
+        → length xs ≤ x.overtake
         → EndsWith 1 (record {
           ticket = in_phase phase m;
           entry = Some e;

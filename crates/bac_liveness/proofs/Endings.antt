@@ -1,8 +1,8 @@
 -- Each ask ends, once.
-use Rattle.std.proofs.Common.{◌≡◌, ℕ, zero, suc, ◌-◌, ◌<◌, ◌⊎◌, Bool, true, false, ◌||◌, not, List, [], ◌∷◌, Option, Some, None, if◌then◌else◌}
-use Rattle.std.proofs.Common.{nat_eq, nat_lt, ◌&&◌, refl, sym, ap, subst, inl, inr, ◌∙◌, arith}
-use Rattle.std.proofs.lemmas.Bool.Decides.{nat_tests}
 use Rattle.std.specs.List.{Contains}
+use Rattle.std.proofs.Common.{◌≡◌, ℕ, zero, suc, ◌-◌, ◌<◌, ◌⊎◌, Bool, true, false, ◌||◌, not, List, [], ◌∷◌, Option, Some, None, if◌then◌else◌, nat_eq, nat_lt}
+use Rattle.std.proofs.Common.{◌&&◌, refl, sym, ap, subst, inl, inr, ◌∙◌, arith}
+use Rattle.std.proofs.lemmas.Bool.Decides.{nat_tests}
 use Rattle.bac_apdu.specs.Apdu.{Apdu}
 use Rattle.bac_apdu.specs.Apdu.Apdu.{ConfirmedRequest, UnconfirmedRequest, SimpleAck, ComplexAck, SegmentAck, Error, Reject, Abort}
 use Rattle.bac_protocol.specs.declared.times.TheConstants.{DEADLINE}
@@ -18,8 +18,8 @@ use Rattle.bac_protocol.specs.Log.{Fact, StoreModel, IsUnended, IsOrderly}
 use Rattle.bac_protocol.specs.Log.Fact.{Asked, Performed, Ended, Changed, Restarted, Served, AskedAway, EndedAway}
 use Rattle.bac_protocol.specs.Transaction.{Key, Rules, client_context, ended}
 use Rattle.bac_protocol.specs.World.{is_key_held, Net, World, Event, is_id_held, happens, run, start, ticks_ticket, ticks_as_client, ticks_as_server}
-use Rattle.bac_protocol.specs.Pace.{Pace, IsTimely}
 use Rattle.bac_protocol.specs.World.{client_now, takes_at_client, takes_at_server, arrives, delivered}
+use Rattle.bac_protocol.specs.Pace.{Pace, IsTimely}
 use Rattle.bac_protocol.specs.World.Event.{Tick, Deliver}
 use Rattle.bac_protocol.specs.Claims.{IsBounded, ClientStays}
 use Rattle.bac_protocol.proofs.Dead.{ended_is_silent}
@@ -130,7 +130,8 @@ answer_now S model x w key a number free down m =
     ∙ ap (λ b. if b then takes_at_server S model x w key free a else takes_at_client S x w key a (w.net.tickets key)) down
 
 -- a ticket that holds its invoke ID no longer, where its client has not restarted since
-unheld : (n : Net) (key : Key) (t : ClientTransaction) → n.tickets key ≡ Some t → ClientStays n key → is_id_held n key ≡ false → is_held (client_now n key) t ≡ false
+unheld : (n : Net) (key : Key) (t : ClientTransaction) → n.tickets key ≡ Some t → ClientStays n key → is_id_held n key ≡ false
+    → is_held (client_now n key) t ≡ false
 unheld n key t at stays free = go (nat_lt (client_now n key) (n.asks_from key.client)) (sym free)
   where
     kept : nat_lt (n.made key) (n.restarted key.client) ≡ false
@@ -187,7 +188,8 @@ module _ (x : Rules) (key : Key) (number : ℕ) (ask : Ask) (made : ℕ) where
     late_tick (inr h) = let u = ticks_ticket S x w key (w.net.tickets key) in
         ended_grows number w.net.log u.net.log (path_log x Any w.net u.net (ticket_path x Any S model w key (w.net.tickets key) refl)) h
     late_tick (inl h) = subst (λ (o : Option ClientTransaction). HasEnded number (ticks_ticket S x w key o).net.log) (sym h.at)
-        (own_log h (ending_of (client.client_ticks c h.ticket)) (go (is_idle h.ticket.phase) refl (is_expired (client_now w.net key) h.ticket.ask) (expired h.ticket h.is)))
+        (own_log h (ending_of (client.client_ticks c h.ticket)) (go (is_idle h.ticket.phase) refl (is_expired (client_now w.net key) h.ticket.ask)
+        (expired h.ticket h.is)))
       where
         go : (b : Bool) → is_idle h.ticket.phase ≡ b → (d : Bool) → d ≡ true
             → HasEnded number (ended number (ending_of (if b then Stays else if d then Ends [] Expired
@@ -243,14 +245,17 @@ module _ (S : Type 0) (model : StoreModel S) (x : Rules) (key : Key) (number : �
           (subst (λ (m : ℕ). DEADLINE < m - ask.first) (sym (still_now w k (w.net.tickets k))) late)
 
   tick_ends : (as_client as_server : List Key) → Contains as_client key → (w : World S) → Bounded w.net → StaysSince w.net key made → IdleIsLogged w.net
-      → Tracked x key number ask made w.net → DEADLINE < client_now w.net key - ask.first → HasEnded number (happens S model x w (Tick as_client as_server)).net.log
+      → Tracked x key number ask made w.net → DEADLINE < client_now w.net key - ask.first
+      → HasEnded number (happens S model x w (Tick as_client as_server)).net.log
   tick_ends as_client as_server i w b stays logged t late =
       let u = ticks_as_client S x as_client w in
       ended_grows number u.net.log (ticks_as_server S model x as_server u).net.log
-      (path_log x Any u.net (ticks_as_server S model x as_server u).net (servers_path x Any S model as_server u)) (ticks_end as_client i w b stays logged t late)
+      (path_log x Any u.net (ticks_as_server S model x as_server u).net (servers_path x Any S model as_server u))
+      (ticks_end as_client i w b stays logged t late)
 
   answer_ends_late : (at : ℕ) (free : Bool) (a : Apdu) → is_from_server a ≡ true → (w : World S) → StaysSince w.net key made → IdleIsLogged w.net
-      → Tracked x key number ask made w.net → DEADLINE < client_now w.net key - ask.first → IsOnItsWay x w.net key a at → HasEnded number (happens S model x w (Deliver at free)).net.log
+      → Tracked x key number ask made w.net → DEADLINE < client_now w.net key - ask.first → IsOnItsWay x w.net key a at
+      → HasEnded number (happens S model x w (Deliver at free)).net.log
   answer_ends_late at free a from w stays logged (inr h) late m =
       let u = happens S model x w (Deliver at free) in
       ended_grows number w.net.log u.net.log (path_log x Any w.net u.net (event_steps x S model w (Deliver at free))) h
@@ -263,7 +268,8 @@ module _ (S : Type 0) (model : StoreModel S) (opening : ℕ → S) (W : ℕ) (x 
     (pace : Pace) (timely : IsTimely pace) (clocks : ℕ → ℕ) where
   pub bounded_in_run : (events : List Event) → Bounded (run S model x events (start S pace clocks opening)).net
   bounded_in_run events =
-      path_bounded x Any (start S pace clocks opening).net (run S model x events (start S pace clocks opening)).net (run_steps x S model events (start S pace clocks opening)) (bounded_start pace clocks)
+      path_bounded x Any (start S pace clocks opening).net (run S model x events (start S pace clocks opening)).net
+      (run_steps x S model events (start S pace clocks opening)) (bounded_start pace clocks)
 
   pub idle_in_run : (events : List Event) → IdleIsLogged (run S model x events (start S pace clocks opening)).net
   idle_in_run events = logged_path x Any (start S pace clocks opening).net (run S model x events (start S pace clocks opening)).net
@@ -294,13 +300,15 @@ module _ (S : Type 0) (model : StoreModel S) (opening : ℕ → S) (W : ℕ) (x 
 
       tracked : (key : Key) (t : ClientTransaction) → w.net.tickets key ≡ Some t → (events : List Event)
           → StaysSince (run S model x events w).net key (w.net.made key) → Tracked x key (w.net.numbers key) t.ask (w.net.made key) (run S model x events w).net
-      tracked key t at events stays = tracked_path x key (w.net.numbers key) t.ask (w.net.made key) w.net (run S model x events w).net (run_steps x S model events w) b
+      tracked key t at events stays = tracked_path x key (w.net.numbers key) t.ask (w.net.made key) w.net (run S model x events w).net
+          (run_steps x S model events w) b
           stays logged
           (inl (record { ticket = t; at = at; is = refl; number_is = refl; made_is = refl }))
 
   pub all_end : (events : List Event) → EndsInTime S model x (run S model x events (start S pace clocks opening))
   all_end events = ends_in_time (run S model x events (start S pace clocks opening))
-      (run_kept S model opening W x bound events (start S pace clocks opening) (start_kept S model opening W x bound pace timely clocks)) (bounded_in_run events) (idle_in_run events)
+      (run_kept S model opening W x bound events (start S pace clocks opening) (start_kept S model opening W x bound pace timely clocks))
+      (bounded_in_run events) (idle_in_run events)
 
   pub endings_in_run : (events : List Event) → EndingsAreLogged (run S model x events (start S pace clocks opening)).net
   endings_in_run events key t at stays = go (is_idle t.phase) refl

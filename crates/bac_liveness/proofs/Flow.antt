@@ -1,6 +1,5 @@
 -- What a run keeps of the two ends of a transaction: that they stay in step. The first piece that a sender has not sent is known from where it stands.
-use Rattle.std.proofs.Common.{◌≡◌, ℕ, ◌+◌, ◌-◌, ◌<◌, ◌≤◌, ◌⊎◌, Bool, true, List, length, Option, Some, None}
-use Rattle.std.proofs.Common.{if◌then◌else◌, subst, arith}
+use Rattle.std.proofs.Common.{◌≡◌, ℕ, ◌+◌, ◌-◌, ◌<◌, ◌≤◌, ◌⊎◌, Bool, true, List, length, Option, Some, None, if◌then◌else◌, subst, arith}
 use Rattle.std.proofs.lemmas.Bool.Decides.{nat_tests}
 use Rattle.bac_apdu.specs.Apdu.{Apdu, Limits, Segment}
 use Rattle.bac_apdu.specs.Apdu.Apdu.{ConfirmedRequest, UnconfirmedRequest, SimpleAck, ComplexAck, SegmentAck, Error, Reject, Abort}
@@ -177,13 +176,15 @@ pub record IsMade (x : Rules) (key : Key) (ask : Ask) (e : ServerTransaction) : 
   pub request : e.request ≡ (if ask.whole then Some (join ask.pieces) else None)
   pub state : StateMade x key e.state
 
-pub record Flow (W : ℕ) (x : Rules) (key : Key) (now : Hands) (ask : Ask) (repeats : ℕ) (phase : Phase) (o : Option ServerTransaction) (copies : List Copy) : Type 0 where
+pub record Flow (W : ℕ) (x : Rules) (key : Key) (now : Hands) (ask : Ask) (repeats : ℕ) (phase : Phase) (o : Option ServerTransaction)
+    (copies : List Copy) : Type 0 where
   pub some : 0 < length ask.pieces
   pub few : repeats ≤ N_RETRY
   pub limits : EachCopy (λ k c. SaysLimits (x.settings key.client).limits c.apdu) copies
   pub client : PhaseFlows (lesser_window x key) ask repeats phase
   pub sent_up : (out : Outgoing) (all : Bool) → phase ≡ SegmentedRequest out all → repeats ≡ N_RETRY → AllUp W now ask.pieces (reach out) copies
-  pub taken_up : (out : Outgoing) (all : Bool) → phase ≡ SegmentedRequest out all → repeats ≡ N_RETRY → (e : ServerTransaction) → o ≡ Some e → is_live now.server e ≡ true
+  pub taken_up : (out : Outgoing) (all : Bool) → phase ≡ SegmentedRequest out all → repeats ≡ N_RETRY → (e : ServerTransaction) → o ≡ Some e
+      → is_live now.server e ≡ true
       → TakenUp (length ask.pieces) (reach out) e.state
   pub made : (e : ServerTransaction) → o ≡ Some e → is_live now.server e ≡ true → IsMade x key ask e
   pub sent_down : (e : ServerTransaction) → o ≡ Some e → is_live now.server e ≡ true → (out : Outgoing) (transfer : server.Transfer) (since : ℕ)
@@ -192,7 +193,8 @@ pub record Flow (W : ℕ) (x : Rules) (key : Key) (now : Hands) (ask : Ask) (rep
       → (out : Outgoing) (transfer : server.Transfer) (since : ℕ) → e.state ≡ SegmentedResponse out transfer since → length inc.parts ≤ reach out
 
 -- time passes
-pub flow_later : (W : ℕ) (x : Rules) (key : Key) (now after : Hands) (ask : Ask) (repeats : ℕ) (phase : Phase) (o : Option ServerTransaction) (copies : List Copy)
+pub flow_later : (W : ℕ) (x : Rules) (key : Key) (now after : Hands) (ask : Ask) (repeats : ℕ) (phase : Phase) (o : Option ServerTransaction)
+    (copies : List Copy)
     → now.now ≤ after.now → after.life ≡ now.life → now.server ≤ after.server
     → Flow W x key now ask repeats phase o copies → Flow W x key after ask repeats phase o copies
 flow_later W x key now after ask repeats phase o copies le same on h = record {
@@ -264,7 +266,8 @@ module _ (W : ℕ) (x : Rules) (key : Key) (now : Hands) (ask : Ask) (phase : Ph
           let z = a.1 full in
           all_up W now (reach z.old) (reach out) ask.pieces sends copies z.onward z.few z.near (h.sent_up z.old z.all z.was (first full))
 
-      taken_more : (out : Outgoing) (all : Bool) → After r (SegmentedRequest out all) sends → r ≡ N_RETRY → (e : ServerTransaction) → o ≡ Some e → is_live now.server e ≡ true
+      taken_more : (out : Outgoing) (all : Bool) → After r (SegmentedRequest out all) sends → r ≡ N_RETRY → (e : ServerTransaction) → o ≡ Some e
+          → is_live now.server e ≡ true
           → TakenUp (length ask.pieces) (reach out) e.state
       taken_more out all a full e at begun =
           let z = a.1 full in
@@ -273,7 +276,8 @@ module _ (W : ℕ) (x : Rules) (key : Key) (now : Hands) (ask : Ask) (phase : Ph
 -- What a server does.
 
 -- its entry after it
-pub record EntryFlows (W : ℕ) (x : Rules) (key : Key) (now : Hands) (ask : Ask) (repeats : ℕ) (phase : Phase) (e : ServerTransaction) (copies : List Copy) : Type 0 where
+pub record EntryFlows (W : ℕ) (x : Rules) (key : Key) (now : Hands) (ask : Ask) (repeats : ℕ) (phase : Phase) (e : ServerTransaction)
+    (copies : List Copy) : Type 0 where
   pub made : IsMade x key ask e
   pub taken_up : (out : Outgoing) (all : Bool) → phase ≡ SegmentedRequest out all → repeats ≡ N_RETRY → TakenUp (length ask.pieces) (reach out) e.state
   pub sent_down : (out : Outgoing) (transfer : server.Transfer) (since : ℕ) → e.state ≡ SegmentedResponse out transfer since

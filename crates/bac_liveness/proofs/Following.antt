@@ -24,11 +24,10 @@ use Rattle.bac_slots.specs.Slots.{value_at}
 use Rattle.bac_transaction.specs.Keys.{same_key}
 use Rattle.bac_transaction.specs.Ends.{AskOutcome, act_at, is_free, requester_ask}
 use Rattle.bac_transaction.specs.Services.{service_of}
-use Rattle.bac_liveness.proofs.Paths.{ask_of, Comes, Step, Path, path_then}
-use Rattle.bac_liveness.proofs.Paths.Path.{Here, Then}
 use Rattle.bac_world.specs.Services.{ArePerformed}
 use Rattle.bac_world.specs.Node.{Node, Outcome, IsDropped, IsHeard, IsHeardBy, NodeOn}
-use Rattle.bac_world.specs.World.{World, Event, Copy, later, is_deliverable, peer_at, Acts, DeliversIf, Delivers, HearsNoise, IsOutside, IsAsked, WorldStep, WorldRun, RunsOn, told}
+use Rattle.bac_world.specs.World.{World, Event, Copy, later, is_deliverable, peer_at, Acts, DeliversIf, Delivers, HearsNoise, IsOutside, IsAsked, WorldStep}
+use Rattle.bac_world.specs.World.{WorldRun, RunsOn, told}
 use Rattle.bac_world.specs.World.Event.{Ask, AskAway, Deliver, Noise, Tick, Advance, Change, Restart}
 use Rattle.bac_world.specs.Laws.{IsMeaningless}
 use Rattle.bac_world.proofs.NodeLaws.{drops_exactly}
@@ -51,6 +50,8 @@ use Rattle.bac_world.proofs.Restarting.{restarted_net, restarted_over}
 use Rattle.bac_world.proofs.Headline.{advanced_over, changed_over}
 use Rattle.bac_liveness.specs.WorldRuns.{Throughout}
 use Rattle.bac_liveness.specs.WorldRoundTrip.{MayArrive}
+use Rattle.bac_liveness.proofs.Paths.{ask_of, Comes, Step, Path, path_then}
+use Rattle.bac_liveness.proofs.Paths.Path.{Here, Then}
 
 -- in the first of these events a node does not restart, nor in the rest
 first_on : (i : ℕ) (e : Event) (es : List Event) → RunsOn i (e ∷ es) → RunsOn i (e ∷ []) × RunsOn i es
@@ -86,7 +87,8 @@ module _ (links : ℕ → Option Octets) (apart : (i j : ℕ) (l : Octets) → l
     asked_key = key_of c s p.id
 
     asked_unheld : (not (is_lost n (key_of c s p.id)) && is_key_held (here_at n c) (n.tickets (key_of c s p.id))) ≡ false
-    asked_unheld = free_ticket (is_lost n (key_of c s p.id)) (here_at n c) w.notes c (n.numbers (key_of c s p.id)) (value_at same_key (slot_key a.link p.id) a.before.clients.slots)
+    asked_unheld = free_ticket (is_lost n (key_of c s p.id)) (here_at n c) w.notes c (n.numbers (key_of c s p.id))
+        (value_at same_key (slot_key a.link p.id) a.before.clients.slots)
         (n.tickets (key_of c s p.id)) ((h.nodes c a.before a.at).clients.found s a.link p.id (sym (h.linked s) ∙ a.peer)) p.free
 
     pub asked_free : is_id_held n (key_of c s p.id) ≡ false
@@ -287,7 +289,8 @@ module _ (links : ℕ → Option Octets) (apart : (i j : ℕ) (l : Octets) → l
       lives = λ j on. refl;
     }
 
-    told_path : (n : Net) (number : ℕ) (p : Post) → Comes x n number p → is_from_client p.copy.apdu ≡ false → (t : Option ClientTransaction) → n.tickets p.key ≡ t
+    told_path : (n : Net) (number : ℕ) (p : Post) → Comes x n number p → is_from_client p.copy.apdu ≡ false → (t : Option ClientTransaction)
+        → n.tickets p.key ≡ t
         → Path x Q n (taken_by_client x n p t)
     told_path n number p comes_now down None there = Here
     told_path n number p comes_now down (Some t) there =
@@ -309,7 +312,8 @@ module _ (links : ℕ → Option Octets) (apart : (i j : ℕ) (l : Octets) → l
               net = server_acts n p.key (served_so links apart W x n p (service_of t.before.store) t.before.servers);
               over = s.over;
               path = subst (λ (b : Bool). Path x Q n (server_acts n p.key (server.server_on_apdu (server_context x p.key (server_now n p.key))
-                  (service_of t.before.store) (n.entries p.key) b p.copy.apdu))) (room_is n p.key t.before.servers (h.nodes p.key.server t.before s.node).serves)
+                  (service_of t.before.store) (n.entries p.key) b p.copy.apdu)))
+                  (room_is n p.key t.before.servers (h.nodes p.key.server t.before s.node).serves)
                   (Then n (taken_by_server x n p (is_free (server_now n p.key) t.before.servers) (service_of t.before.store)) Here
                   (Step.Serves number p (is_free (server_now n p.key) t.before.servers) (service_of t.before.store) comes_now up (gives w' p c t up)));
               lives = λ i on. refl;

@@ -1,12 +1,11 @@
 -- In every run the two ends of each transaction stay in step.
-use Rattle.std.proofs.Common.{◌≡◌, ℕ, ◌+◌, ◌-◌, ◌*◌, ◌<◌, ◌≤◌, ◌⊎◌, Bool, true, false, List, [], ◌∷◌, ◌++◌, length}
-use Rattle.std.proofs.Common.{Option, Some, None, slice_get, if◌then◌else◌, refl, sym, ap, subst, inl, inr, ◌∙◌, arith}
+use Rattle.std.proofs.Common.{◌≡◌, ℕ, ◌+◌, ◌-◌, ◌*◌, ◌<◌, ◌≤◌, ◌⊎◌, Bool, true, false, List, [], ◌∷◌, ◌++◌, length, Option, Some, None, slice_get}
+use Rattle.std.proofs.Common.{if◌then◌else◌, refl, sym, ap, subst, inl, inr, ◌∙◌, arith}
 use Rattle.std.proofs.lemmas.Bool.Decides.{nat_tests}
 use Rattle.bac_apdu.specs.Apdu.{Apdu, Segment}
 use Rattle.bac_apdu.specs.Apdu.Apdu.{ConfirmedRequest, UnconfirmedRequest, SimpleAck, ComplexAck, SegmentAck, Error, Reject, Abort}
 use Rattle.bac_segment.specs.Window.{Outgoing, Incoming, incoming, Taking, takes}
 use Rattle.bac_protocol.specs.declared.times.TheConstants.{KEEP}
-use Rattle.bac_protocol.proofs.Paces.{beyond_least}
 use Rattle.bac_protocol.specs.Context.{Context}
 use Rattle.bac_protocol.specs.Service.{Octets, Readable}
 use Rattle.bac_protocol.specs.Wire.{is_from_client, Each}
@@ -21,15 +20,14 @@ use Rattle.bac_protocol.specs.Log.{Fact}
 use Rattle.bac_protocol.specs.Own.{PhaseHas, lesser_window, IsSentByClient, IsSentByServer, IsOfClient}
 use Rattle.bac_protocol.specs.Transaction.{Key, Rules, Copy, client_context, server_context}
 use Rattle.bac_protocol.specs.Claims.{Moments, HasRestartedSince, IsBegunSince, IsBounded, EachCopy, IsPiece}
+use Rattle.bac_protocol.proofs.Paces.{beyond_least}
 use Rattle.bac_protocol.proofs.Alone.{sent}
-use Rattle.bac_protocol.proofs.Sound.{IsUnderway, Up, Down, Says, ClientFits, CollectsDown, IsKeptFor, IsUnbegun}
-use Rattle.bac_protocol.proofs.Sound.{SendsDown, StateFits, ServerFits, Sound}
+use Rattle.bac_protocol.proofs.Sound.{IsUnderway, Up, Down, Says, ClientFits, CollectsDown, IsKeptFor, IsUnbegun, SendsDown, StateFits, ServerFits, Sound}
 use Rattle.bac_protocol.proofs.Sound.Up.{Reading, Repeated}
 use Rattle.bac_protocol.proofs.Sound.Down.{Unsent, Sent}
 use Rattle.bac_protocol.proofs.Own.{ClientSends, BeginsAnswer, own_sends, gets_own, ticks_own, client_sends_own}
 use Rattle.bac_protocol.proofs.Transfer.{takes_cases, takes_below}
-use Rattle.bac_liveness.proofs.Flow.{Hands, reach, NearDown, SaysLimits, PhaseFlows}
-use Rattle.bac_liveness.proofs.Flow.{StateMade, Flow, client_flows, server_flows}
+use Rattle.bac_liveness.proofs.Flow.{Hands, reach, NearDown, SaysLimits, PhaseFlows, StateMade, Flow, client_flows, server_flows}
 use Rattle.bac_liveness.proofs.ClientFlows.{window_bound}
 use Rattle.bac_liveness.proofs.ClientFlows as of_client
 use Rattle.bac_liveness.proofs.ServerFlows as of_server
@@ -295,7 +293,8 @@ module _ (W : ℕ) (x : Rules) (bound : IsBounded W x) (key : Key) (some : 0 < l
           omega arith
 
       -- the entry is not live, while a copy of the client's may arrive
-      none_begun : (m : ℕ) → m ≤ times.until → now.now - m ≤ now.life → (e : ServerTransaction) → o ≡ Some e → server.is_none_live now.server (Some e) ≡ true → down ≡ Unsent
+      none_begun : (m : ℕ) → m ≤ times.until → now.now - m ≤ now.life → (e : ServerTransaction) → o ≡ Some e → server.is_none_live now.server (Some e) ≡ true
+          → down ≡ Unsent
       none_begun m sent_by young e at dead =
           by_fit (subst (λ (y : Option ServerTransaction). ServerFits W times number t.ask y up down log) at s.server)
         where
@@ -396,7 +395,8 @@ module _ (W : ℕ) (x : Rules) (bound : IsBounded W x) (key : Key) (some : 0 < l
           d : Context
           d = server_context x key now.server
 
-          go : (b : Bool) → is_live now.server e ≡ b → FineAt (if b then server.live_on_apdu d service e e.state a else server.idle_on_apdu d service (Some e) free a)
+          go : (b : Bool) → is_live now.server e ≡ b → FineAt (if b then server.live_on_apdu d service e e.state a else server.idle_on_apdu d service
+              (Some e) free a)
           go true live =
               let f = live_begun e is live in
               of_server.live_fine x.overtake W x key now t.ask t.repeats t.phase o copies flow some L_small L_server bound.room service k late apart e is live

@@ -1,6 +1,6 @@
 -- Each event of a run keeps a transaction in step.
-use Rattle.std.proofs.Common.{◌≡◌, ℕ, ◌+◌, ◌-◌, ◌<◌, ◌≤◌, ◌⊎◌, Bool, true, false, ◌||◌, List, [], ◌∷◌, ◌++◌, map, length, Option, Some, None}
-use Rattle.std.proofs.Common.{slice_get, if◌then◌else◌, nat_le, nat_eq, refl, sym, subst, inl, inr, ◌∙◌, arith, append_assoc, append-nil}
+use Rattle.std.proofs.Common.{◌≡◌, ℕ, ◌+◌, ◌-◌, ◌<◌, ◌≤◌, ◌⊎◌, Bool, true, false, ◌||◌, List, [], ◌∷◌, ◌++◌, map, length, Option, Some, None, slice_get}
+use Rattle.std.proofs.Common.{if◌then◌else◌, nat_le, nat_eq, refl, sym, subst, inl, inr, ◌∙◌, arith, append_assoc, append-nil}
 use Rattle.std.proofs.lemmas.Bool.Decides.{nat_tests}
 use Rattle.bac_apdu.specs.Apdu.{Apdu}
 use Rattle.bac_segment.specs.Limits.{N_RETRY}
@@ -16,17 +16,15 @@ use Rattle.bac_protocol.specs.Server.{ServerTransaction, is_live}
 use Rattle.bac_protocol.specs.Log.{StoreModel}
 use Rattle.bac_protocol.specs.Own.{lesser_window, IsOwnPost, AreOwn}
 use Rattle.bac_protocol.specs.Transaction.{Key, Rules, Copy, client_context, server_context}
-use Rattle.bac_protocol.specs.World.{Net, World, Post, Event, later, is_deliverable, copies_of, is_id_held, is_room, lost, asked_at, ask_made, client_acts, server_acts}
-use Rattle.bac_protocol.specs.World.{client_restarted, server_restarted}
-use Rattle.bac_protocol.specs.World.{delivered, arrives, takes_at_client, takes_at_server, ticks_ticket, ticks_as_client, ticks_as_server, serves, service_of}
-use Rattle.bac_protocol.specs.World.{happens, run, start, post_of}
+use Rattle.bac_protocol.specs.World.{Net, World, Post, Event, later, is_deliverable, copies_of, is_id_held, is_room, lost, asked_at, ask_made, client_acts}
+use Rattle.bac_protocol.specs.World.{server_acts, client_restarted, server_restarted, delivered, arrives, takes_at_client, takes_at_server, ticks_ticket}
+use Rattle.bac_protocol.specs.World.{ticks_as_client, ticks_as_server, serves, service_of, happens, run, start, post_of, client_now, server_now}
 use Rattle.bac_protocol.specs.World.Event.{MakeAsk, Deliver, Tick, Noise, Advance, Change, RestartClient, RestartServer, Stray, AskAway, TickAway}
-use Rattle.bac_protocol.specs.Pace.{Pace, IsTimely, clock_at}
-use Rattle.bac_protocol.specs.World.{client_now, server_now}
-use Rattle.bac_protocol.proofs.Paces.{shows_on}
-use Rattle.bac_protocol.specs.Claims.{moments_of, IsBounded, EachCopy}
 use Rattle.bac_protocol.specs.World.{serves_away, is_id_held_away, strays_to_server, strays_to_client, asked_away, ticks_ticket_away, ticks_as_client_away}
 use Rattle.bac_protocol.specs.World.{ticks_as_server_away}
+use Rattle.bac_protocol.specs.Pace.{Pace, IsTimely, clock_at}
+use Rattle.bac_protocol.specs.Claims.{moments_of, IsBounded, EachCopy}
+use Rattle.bac_protocol.proofs.Paces.{shows_on}
 use Rattle.bac_protocol.proofs.Alone.{one, sent}
 use Rattle.bac_protocol.proofs.Asks.{IsSpent}
 use Rattle.bac_protocol.proofs.Claimed.{in_place}
@@ -56,7 +54,8 @@ module _ (W : ℕ) (x : Rules) (bound : IsBounded W x) (key : Key) (some : 0 < l
   -- What one end does.
 
   client_own : (n : Net) (t : ClientTransaction) (r : client.Reaction)
-      → FlowOf (hands n) (client.after (client_now n key) t r) (n.entries key) (sent n.now (client.sends_of r) (copies_of key n.posts)) → FlowAt (client_acts n key t r)
+      → FlowOf (hands n) (client.after (client_now n key) t r) (n.entries key) (sent n.now (client.sends_of r) (copies_of key n.posts))
+      → FlowAt (client_acts n key t r)
   client_own n t r flow u at =
       let made = client.after (client_now n key) t r in
       let same : made ≡ u = some_is made u (sym (set_same n.tickets key (Some made)) ∙ at) in
@@ -69,14 +68,17 @@ module _ (W : ℕ) (x : Rules) (bound : IsBounded W x) (key : Key) (some : 0 < l
       (flow u (sym (set_other n.tickets k (Some (client.after (client_now n k) t r)) key ne) ∙ at))
 
   server_own : (n : Net) (v : server.Reaction)
-      → ((t : ClientTransaction) → n.tickets key ≡ Some t → FlowOf (hands n) t v.entry (sent n.now v.sends (copies_of key n.posts))) → FlowAt (server_acts n key v)
+      → ((t : ClientTransaction) → n.tickets key ≡ Some t → FlowOf (hands n) t v.entry (sent n.now v.sends (copies_of key n.posts)))
+      → FlowAt (server_acts n key v)
   server_own n v flow u at =
-      subst (λ (o : Option ServerTransaction). FlowOf (hands n) u o (copies_of key (n.posts ++ map (post_of key n.now) v.sends))) (sym (set_same n.entries key v.entry))
+      subst (λ (o : Option ServerTransaction). FlowOf (hands n) u o (copies_of key (n.posts ++ map (post_of key n.now) v.sends)))
+      (sym (set_same n.entries key v.entry))
       (subst (λ (cs : List Copy). FlowOf (hands n) u v.entry cs) (sym (copies_posted key n.now v.sends n.posts)) (flow u at))
 
   server_other : (n : Net) (k : Key) (v : server.Reaction) → (k ≡ key → ⊥) → FlowAt n → FlowAt (server_acts n k v)
   server_other n k v ne flow u at =
-      subst (λ (o : Option ServerTransaction). FlowOf (hands n) u o (copies_of key (n.posts ++ map (post_of k n.now) v.sends))) (sym (set_other n.entries k v.entry key ne))
+      subst (λ (o : Option ServerTransaction). FlowOf (hands n) u o (copies_of key (n.posts ++ map (post_of k n.now) v.sends)))
+      (sym (set_other n.entries k v.entry key ne))
       (subst (λ (cs : List Copy). FlowOf (hands n) u (n.entries key) cs) (sym (copies_other k key ne n.now v.sends n.posts)) (flow u at))
 
   -- An ask.
@@ -192,7 +194,8 @@ module _ (W : ℕ) (x : Rules) (bound : IsBounded W x) (key : Key) (some : 0 < l
       same_moment : (k : ℕ) → k ≤ k
       same_moment k = omega arith
 
-      idle : (o : Option ClientTransaction) → n.tickets key ≡ o → (u : ClientTransaction) → lost o ≡ Some u → FlowOf (hands n) u (n.entries key) (copies_of key n.posts)
+      idle : (o : Option ClientTransaction) → n.tickets key ≡ o → (u : ClientTransaction) → lost o ≡ Some u
+          → FlowOf (hands n) u (n.entries key) (copies_of key n.posts)
       idle None was u is = absurd cc
       idle (Some t) was u is =
           let f = flow t was in
@@ -257,7 +260,8 @@ module _ (W : ℕ) (x : Rules) (bound : IsBounded W x) (key : Key) (some : 0 < l
         v : Key → server.Reaction
         v j = server.server_on_apdu (server_context x j (server_now n j)) (service_of S model w j) (n.entries j) (is_room n j free) p.copy.apdu
 
-        mine : p.key ≡ key → (t : ClientTransaction) → n.tickets key ≡ Some t → FlowOf (hands n) t (v key).entry (sent n.now (v key).sends (copies_of key n.posts))
+        mine : p.key ≡ key → (t : ClientTransaction) → n.tickets key ≡ Some t
+            → FlowOf (hands n) t (v key).entry (sent n.now (v key).sends (copies_of key n.posts))
         mine is t there =
             let f = sound_at W n key (Some t) there s.net in
             let place = subst (λ (j : Key). slice_get (copies_of j n.posts) (later j number n.posts) ≡ Some p.copy) is (copy_at number n.posts p at) in
@@ -265,7 +269,8 @@ module _ (W : ℕ) (x : Rules) (bound : IsBounded W x) (key : Key) (some : 0 < l
             let sent_is = subst (λ (j : Key). IsOwnPost x (record { key = j; copy = p.copy })) is (own.posts number p at) in
             served_flow W x bound key some (moments_of n key) t (n.entries key) (copies_of key n.posts) (flow t there) (v key)
             (served_by W x bound key some (moments_of n key) t (n.entries key) (copies_of key n.posts) (flow t there) n.asks (n.numbers key)
-            n.log f.0 f.1 f.2 (service_of S model w key) (is_room n key free) (room_opens n key free) (later key number n.posts) p.copy.moment late p.copy.apdu place young up sent_is (n.entries key) refl)
+            n.log f.0 f.1 f.2 (service_of S model w key) (is_room n key free) (room_opens n key free)
+            (later key number n.posts) p.copy.moment late p.copy.apdu place young up sent_is (n.entries key) refl)
 
         go : ((p.key ≡ key) ⊎ (p.key ≡ key → ⊥)) → FlowAt (server_acts n p.key (v p.key))
         go (inr ne) = server_other n p.key (v p.key) ne flow
@@ -284,7 +289,8 @@ module _ (W : ℕ) (x : Rules) (bound : IsBounded W x) (key : Key) (some : 0 < l
         r : Key → client.Reaction
         r j = client.client_on_apdu (client_context x j (client_now n j)) x.readable t p.copy.apdu
 
-        mine : p.key ≡ key → FlowOf (hands n) (client.after (client_now n key) t (r key)) (n.entries key) (sent n.now (client.sends_of (r key)) (copies_of key n.posts))
+        mine : p.key ≡ key → FlowOf (hands n) (client.after (client_now n key) t (r key)) (n.entries key)
+            (sent n.now (client.sends_of (r key)) (copies_of key n.posts))
         mine is =
             let there' : n.tickets key ≡ Some t = subst (λ (j : Key). n.tickets j ≡ Some t) is there in
             let f = sound_at W n key (Some t) there' s.net in
@@ -336,7 +342,8 @@ module _ (W : ℕ) (x : Rules) (bound : IsBounded W x) (key : Key) (some : 0 < l
             subst (λ (j : Key). FlowAt (client_acts n j t (r j))) (sym is)
             (client_own n t (r key) (ticks_flow W x bound key some (moments_of n key) t (n.entries key) (copies_of key n.posts) (flow t there') x.readable))
 
-    entry_on : (w : World S) → FlowAt w.net → (k : Key) → FlowAt (serves S model w k (server.server_ticks (server_context x k (server_now w.net k)) (w.net.entries k))).net
+    entry_on : (w : World S) → FlowAt w.net → (k : Key) → FlowAt
+        (serves S model w k (server.server_ticks (server_context x k (server_now w.net k)) (w.net.entries k))).net
     entry_on w flow k = go (decide_key k key)
       where
         n : Net

@@ -1,7 +1,7 @@
 -- A run of events is a path of single steps of one end, or of asks, of time, of changes at nodes, or of restarts. Of each delivery to a server a premise
 -- says with which service it comes, and whether a slot is free.
-use Rattle.std.proofs.Common.{◌≡◌, ℕ, zero, suc, ◌+◌, ◌≤◌, Bool, true, false, List, [], ◌∷◌, ◌++◌, map, Option, Some, None, slice_get, if◌then◌else◌}
-use Rattle.std.proofs.Common.{◌⊎◌, nat_eq, refl, sym, inl, inr, subst, arith}
+use Rattle.std.proofs.Common.{◌≡◌, ℕ, zero, suc, ◌+◌, ◌≤◌, Bool, true, false, List, [], ◌∷◌, ◌++◌, map, Option, Some, None, slice_get, if◌then◌else◌, ◌⊎◌}
+use Rattle.std.proofs.Common.{nat_eq, refl, sym, inl, inr, subst, arith}
 use Rattle.bac_protocol.specs.Service.{Octets, Ending}
 use Rattle.bac_protocol.specs.Wire.{is_from_client}
 use Rattle.bac_protocol.specs.Client as client
@@ -11,17 +11,16 @@ use Rattle.bac_protocol.specs.Server.{Effect, Service}
 use Rattle.bac_protocol.specs.Log.{Fact, StoreModel}
 use Rattle.bac_protocol.specs.Log.Fact.{Ended, Changed, Restarted}
 use Rattle.bac_protocol.specs.Transaction.{Key, Rules, client_context, server_context, ended, performed}
-use Rattle.bac_protocol.specs.World.{Net, World, Post, Event, is_deliverable, is_id_held, is_room, asked_at, ask_made, server_acts, notes_change, client_restarted, server_restarted}
+use Rattle.bac_protocol.specs.World.{Net, World, Post, Event, is_deliverable, is_id_held, is_room, asked_at, ask_made, server_acts, notes_change}
+use Rattle.bac_protocol.specs.World.{client_restarted, server_restarted, set_at, client_now, server_now, passes, takes_at_client, takes_at_server, net_start}
+use Rattle.bac_protocol.specs.World.{delivered, happens, run, ticks_ticket, ticks_as_client, ticks_as_server, serves, service_of, post_of}
 use Rattle.bac_protocol.specs.Pace.{Pace}
-use Rattle.bac_protocol.specs.World.{set_at}
-use Rattle.bac_protocol.proofs.Keys.{decide_key, set_same, set_other}
-use Rattle.bac_protocol.specs.World.{client_now, server_now, passes, takes_at_client, takes_at_server}
-use Rattle.bac_protocol.specs.World.{net_start, delivered, happens, run, ticks_ticket, ticks_as_client, ticks_as_server, serves, service_of, post_of}
 use Rattle.bac_protocol.specs.World.Event.{MakeAsk, Deliver, Tick, Noise, Advance, Change, RestartClient, RestartServer, Stray, AskAway, TickAway}
 use Rattle.bac_protocol.specs.World.{Strangers, client_acts_away, server_acts_away, asked_away_at, is_id_held_away, strays_to_client, strays_to_server}
 use Rattle.bac_protocol.specs.World.{asked_away, ticks_ticket_away, ticks_as_client_away, ticks_as_server_away, serves_away}
 use Rattle.bac_protocol.proofs.Aside.{IsAside, client_aside, server_aside, asked_aside}
 use Rattle.bac_protocol.specs.Moves.{taken_by_client, taken_by_server, ticket_ticked}
+use Rattle.bac_protocol.proofs.Keys.{decide_key, set_same, set_other}
 use Rattle.bac_protocol.proofs.Facts.{Grows, grows_same, grows_more}
 use Rattle.bac_liveness.specs.Runs.{Throughout}
 
@@ -95,10 +94,12 @@ module _ (x : Rules) (Q : Net → ℕ → Bool → Service → Type 0) where
   pub step_log : (n m : Net) → Step x Q n m → Grows n.log m.log
   step_log n _ (Asks key choice whole front rest free) = λ f h. inr h
   step_log n _ (Serves number p free service at up q) =
-      grows_performed (n.numbers p.key) (server.server_on_apdu (server_context x p.key (server_now n p.key)) service (n.entries p.key) (is_room n p.key free) p.copy.apdu).effect n.log
+      grows_performed (n.numbers p.key) (server.server_on_apdu (server_context x p.key (server_now n p.key)) service (n.entries p.key)
+      (is_room n p.key free) p.copy.apdu).effect n.log
   step_log n _ (Hears number p t at down there) =
       grows_ended (n.numbers p.key) (client.ending_of (client.client_on_apdu (client_context x p.key (client_now n p.key)) x.readable t p.copy.apdu)) n.log
-  step_log n _ (TicksTicket key t there) = grows_ended (n.numbers key) (client.ending_of (client.client_ticks (client_context x key (client_now n key)) t)) n.log
+  step_log n _ (TicksTicket key t there) = grows_ended (n.numbers key)
+      (client.ending_of (client.client_ticks (client_context x key (client_now n key)) t)) n.log
   step_log n _ (TicksEntry key) = grows_performed (n.numbers key) (server.server_ticks (server_context x key (server_now n key)) (n.entries key)).effect n.log
   step_log n _ (Passes by clients servers) = grows_same n.log
   step_log n _ (Strange asks far log g) = g
@@ -130,7 +131,8 @@ module _ (x : Rules) (Q : Net → ℕ → Bool → Service → Type 0) where
   made_by n key h k = go (decide_key key k)
     where
       go : ((key ≡ k) ⊎ (key ≡ k → ⊥)) → set_at n.made key n.now k ≤ n.now
-      go (inl is) = let e : set_at n.made key n.now k ≡ n.now = subst (λ (j : Key). set_at n.made key n.now j ≡ n.now) is (set_same n.made key n.now) in omega arith
+      go (inl is) = let e : set_at n.made key n.now k ≡ n.now = subst (λ (j : Key). set_at n.made key n.now j ≡ n.now) is
+          (set_same n.made key n.now) in omega arith
       go (inr ne) = let e = set_other n.made key n.now k ne in let le = h.made k in omega arith
 
   pub bounded_step : (n m : Net) → Step x Q n m → Bounded n → Bounded m

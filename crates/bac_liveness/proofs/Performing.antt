@@ -1,10 +1,10 @@
 -- A server that can perform the request of an accepted ask does so when a copy of it comes.
 use Rattle.std.proofs.Common.{◌≡◌, ℕ, Bool, true, false, Option, Some, None, slice_get, if◌then◌else◌, refl, sym, ap, ◌∙◌}
 use Rattle.bac_apdu.specs.Apdu.{Apdu, Limits}
-use Rattle.bac_segment.specs.Pieces.{join}
 use Rattle.bac_service.specs.Services.{reads_reply}
 use Rattle.bac_service.specs.Values.{Request, choice_of}
 use Rattle.bac_service.proofs.Wholes.{request_again}
+use Rattle.bac_segment.specs.Pieces.{join}
 use Rattle.bac_protocol.specs.Context.{Settings}
 use Rattle.bac_protocol.specs.Sizes.{reply_way_of}
 use Rattle.bac_protocol.specs.Sizes.Way.{InOne}
@@ -17,8 +17,6 @@ use Rattle.bac_protocol.specs.Transaction.{Key, Rules, client_context, server_co
 use Rattle.bac_protocol.specs.Pace.{Clock}
 use Rattle.bac_protocol.specs.World.{Net, Post, server_now}
 use Rattle.bac_protocol.specs.Claims as claims
-use Rattle.bac_liveness.specs.RoundTrip.{request_to, answer_to}
-use Rattle.bac_liveness.proofs.Serving.{answer_any_time, performed_entry, answers_first, serves_new}
 use Rattle.bac_slots.specs.Slots.{value_at}
 use Rattle.bac_transaction.specs.Keys.{same_key}
 use Rattle.bac_transaction.specs.Ends.{is_free}
@@ -27,7 +25,9 @@ use Rattle.bac_world.specs.Node.{Node}
 use Rattle.bac_world.specs.World.{World, IsAsked, told}
 use Rattle.bac_world.proofs.Bridge.{here_at, there_at, NodeFits, slot_key}
 use Rattle.bac_world.proofs.Steps.{Over}
+use Rattle.bac_liveness.specs.RoundTrip.{request_to, answer_to}
 use Rattle.bac_liveness.specs.WorldRoundTrip.{CanPerform}
+use Rattle.bac_liveness.proofs.Serving.{answer_any_time, performed_entry, answers_first, serves_new}
 use Rattle.bac_liveness.proofs.Following.{Parts}
 use Rattle.bac_liveness.proofs.Asked.{key, ask, client_link}
 
@@ -94,7 +94,8 @@ module _ (links : ℕ → Option Octets) (apart : (i j : ℕ) (l : Octets) → l
           ∙ ap (λ (z : Settings). reply_way_of node.settings z.limits can.reply) (sym client_settings) ∙ can.way
 
       abbrev pub does : server.Reaction
-      does = answers_first (performed_entry (server_now m its_key) (client_context x its_key its_ask.first) its_ask (answer_to x its_key its_ask can.reply)) its_ask can.reply
+      does = answers_first (performed_entry (server_now m its_key) (client_context x its_key its_ask.first) its_ask
+          (answer_to x its_key its_ask can.reply)) its_ask can.reply
           (answer_to x its_key its_ask can.reply)
 
       abbrev gets : Key → Node → Apdu → server.Reaction
@@ -102,12 +103,15 @@ module _ (links : ℕ → Option Octets) (apart : (i j : ℕ) (l : Octets) → l
 
       -- what it makes of a copy
       pub reaction : (y : Post) → y.key ≡ its_key → y.copy.apdu ≡ request_to x its_key its_ask → (b : Node) → b ≡ node
-          → server_on_apdu (server_context x y.key (server_now m y.key)) (service_of b.store) (m.entries y.key) (is_free (server_now m y.key) b.servers) y.copy.apdu
+          → server_on_apdu (server_context x y.key (server_now m y.key)) (service_of b.store) (m.entries y.key)
+          (is_free (server_now m y.key) b.servers) y.copy.apdu
           ≡ does
       reaction y is apdu b same =
           (λ i. gets (is i) (same i) (apdu i))
-          ∙ ap (λ (z : Bool). server_on_apdu (server_context x its_key (server_now m its_key)) (service_of node.store) (m.entries its_key) z (request_to x its_key its_ask)) slot
-          ∙ serves_new (server_context x its_key (server_now m its_key)) (client_context x its_key its_ask.first) (service_of node.store) (m.entries its_key) its_ask can.reply
+          ∙ ap (λ (z : Bool). server_on_apdu (server_context x its_key (server_now m its_key)) (service_of node.store) (m.entries its_key) z
+          (request_to x its_key its_ask)) slot
+          ∙ serves_new (server_context x its_key (server_now m its_key)) (client_context x its_key its_ask.first) (service_of node.store)
+          (m.entries its_key) its_ask can.reply
           none outcome way
           ∙ ap (λ (z : Apdu). answers_first (performed_entry (server_now m its_key) (client_context x its_key its_ask.first) its_ask z) its_ask can.reply z)
           (answer_any_time x its_key (server_now m its_key) its_ask.first its_ask.choice can.reply)

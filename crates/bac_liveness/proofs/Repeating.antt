@@ -1,13 +1,13 @@
 -- Repeats suffice, in every world.
-use Rattle.std.proofs.Common.{◌≡◌, ◌⊎◌, ℕ, ◌+◌, ◌-◌, ◌<◌, ◌≤◌, Bool, true, false, List, [], ◌∷◌, ◌++◌, map, length, Option, Some, None, slice_get}
-use Rattle.std.proofs.Common.{refl, sym, ap, subst, inl, inr, ◌∙◌, arith}
+use Rattle.std.proofs.Common.{◌≡◌, ◌⊎◌, ℕ, ◌+◌, ◌-◌, ◌<◌, ◌≤◌, Bool, true, false, List, [], ◌∷◌, ◌++◌, map, length, Option, Some, None, slice_get, refl, sym}
+use Rattle.std.proofs.Common.{ap, subst, inl, inr, ◌∙◌, arith}
 use Rattle.bac_apdu.specs.Apdu.{Apdu, Limits}
-use Rattle.bac_segment.specs.Pieces.{join}
 use Rattle.bac_service.specs.Services.{reads_reply}
 use Rattle.bac_service.specs.Values.{Request, choice_of}
 use Rattle.bac_service.specs.Requests.{SpellsRequest}
+use Rattle.bac_segment.specs.Pieces.{join}
 use Rattle.bac_store.specs.Stores.{Store}
-use Rattle.bac_protocol.specs.declared.times.TheConstants.{T_OUT}
+use Rattle.bac_protocol.specs.declared.times.TheConstants.{T_OUT, DEADLINE}
 use Rattle.bac_protocol.specs.Context.{Settings}
 use Rattle.bac_protocol.specs.Sizes.{request_way_of}
 use Rattle.bac_protocol.specs.Sizes.Way.{InOne}
@@ -25,17 +25,8 @@ use Rattle.bac_protocol.specs.World.{Net, Post, post_of, asked_at, client_acts, 
 use Rattle.bac_protocol.specs.Moves.{taken_by_client}
 use Rattle.bac_protocol.specs.Straight.{KindFits}
 use Rattle.bac_protocol.specs.Claims as claims
-use Rattle.bac_protocol.specs.Pace.{Clock, IsTimely}
+use Rattle.bac_protocol.specs.Pace.{Pace, Clock, most, IsTimely}
 use Rattle.bac_protocol.proofs.SingleMoves.{reached_net, reached_calm}
-use Rattle.bac_liveness.specs.Runs.{StaysSince}
-use Rattle.bac_liveness.specs.RoundTrip.{FitsInOne, request_to, answer_to}
-use Rattle.bac_liveness.specs.Repeats as machine
-use Rattle.bac_liveness.specs.Repeats.{PATIENCE}
-use Rattle.bac_liveness.proofs.Paths.{some_is, ask_of}
-use Rattle.bac_liveness.proofs.Serving.{answer_not_from_client}
-use Rattle.bac_liveness.proofs.Waits.{Waits, Finds, PatientOrOver, WasGiven, waits_path, repeat_left, fine_comes, fine_down, told_answered}
-use Rattle.bac_liveness.proofs.Waits.{brings_answer}
-use Rattle.bac_liveness.proofs.Robust.{asked_on}
 use Rattle.bac_slots.specs.Slots.{value_at}
 use Rattle.bac_transaction.specs.Keys.{PeerKey, same_key}
 use Rattle.bac_transaction.specs.Sends.{Pairwise}
@@ -53,13 +44,22 @@ use Rattle.bac_world.proofs.Steps.{Over}
 use Rattle.bac_world.proofs.Serving.{room_is}
 use Rattle.bac_world.proofs.Asking.{accepted_whole}
 use Rattle.bac_world.proofs.Headline.{headline, fresh_over, rules_of, rules_bounded}
+use Rattle.bac_liveness.specs.Runs.{StaysSince}
+use Rattle.bac_liveness.specs.RoundTrip.{FitsInOne, request_to, answer_to}
+use Rattle.bac_liveness.specs.Repeats as machine
+use Rattle.bac_liveness.specs.Repeats.{PATIENCE}
 use Rattle.bac_liveness.specs.WorldRuns.{Throughout}
 use Rattle.bac_liveness.specs.WorldRoundTrip.{MayArrive, IsRequest, CanPerform, IsAnswered, IsFromServer}
-use Rattle.bac_liveness.specs.WorldRepeats.{FindsServer, IsWaiting, IsRobust, RepeatsSuffice}
+use Rattle.bac_liveness.specs.WorldRepeats.{FindsServer, IsSoon, IsWaiting, IsRobust, RepeatsSuffice}
+use Rattle.bac_liveness.proofs.Paths.{some_is, ask_of}
+use Rattle.bac_liveness.proofs.Serving.{answer_not_from_client}
+use Rattle.bac_liveness.proofs.Clocks.{AskedIn, SoonIn, soon_of, asked_path}
+use Rattle.bac_liveness.proofs.Waits.{Waits, Finds, PatientOrOver, WasGiven, waits_path, repeat_left, fine_comes, fine_down, told_answered, brings_answer}
+use Rattle.bac_liveness.proofs.Robust.{asked_on}
 use Rattle.bac_liveness.proofs.Following.{Gives, Followed, Parts, IsTaken, IsServedBy, served_reaction, accepted, asked_free, post, comes, heard_now}
 use Rattle.bac_liveness.proofs.Following.{served_over, told_over, run_followed}
-use Rattle.bac_liveness.proofs.Asked.{key, ask, made, made_over, made_bounded, node_at, stays, client_link, server_link, foreign, request_is, is_request}
-use Rattle.bac_liveness.proofs.Asked.{pairwise_rest, just_one}
+use Rattle.bac_liveness.proofs.Asked.{key, ask, made, made_over, node_at, stays, client_link, server_link, foreign, request_is, is_request, pairwise_rest}
+use Rattle.bac_liveness.proofs.Asked.{just_one}
 use Rattle.bac_liveness.proofs.WorldEndings.{run_join, on_run, opened_net}
 use Rattle.bac_liveness.proofs.Performing.{id_is, is_none, entry_is, slot, outcome, way, does, reaction}
 use Rattle.bac_liveness.proofs.Values.{answered_values, reply_kind}
@@ -127,7 +127,8 @@ module _ (links : ℕ → Option Octets) (apart : (i j : ℕ) (l : Octets) → l
       where
         can : CanPerform (told w s) a.before t.before a.accepted.invoke_id r
         can = f d t.may (is_request links apart W x bound readable old n h c s limits r asked a p whole y d t.copied is apdu) t.before at
-            (entry_is links apart W x bound readable old n h c s limits r asked a p w m over t.before at ∙ is_none (server_now m its_key) (m.entries its_key) none)
+            (entry_is links apart W x bound readable old n h c s limits r asked a p w m over t.before at
+            ∙ is_none (server_now m its_key) (m.entries its_key) none)
 
         reaction_is : served_reaction links apart W x bound readable w w' m over number y d t
             ≡ does links apart W x bound readable old n h c s limits r asked a p w m over t.before at can
@@ -180,10 +181,21 @@ module _ (links : ℕ → Option Octets) (apart : (i j : ℕ) (l : Octets) → l
   lives : (events : List Event) (w : World) (f : Followed links apart W x bound readable Goes events w first) → RunsOn c events → StaysSince f.net its_key n.now
   lives events w f life = stays links apart W x bound readable old n h c s limits r asked a p f.net (f.lives c life)
 
+  asked_in : (events : List Event) (w : World) (f : Followed links apart W x bound readable Goes events w first)
+      → AskedIn f.net its_key its_ask.first n.now
+  asked_in events w f = asked_path x Goes its_key its_ask.first n.now first f.net f.path first_on.clock
+
+  on_soon : (events : List Event) (w : World) (f : Followed links apart W x bound readable Goes events w first) → SoonIn f.net n.now → On f.net
+  on_soon events w f soon = waits_path x its_key its_ask n.asks n.now whole first f.net f.path first_on soon
+
   on_of : (events : List Event) (w : World) (f : Followed links apart W x bound readable Goes events w first) → RunsOn c events
       → told w c < told old c + PATIENCE → On f.net
-  on_of events w f life young = waits_path x its_key its_ask n.asks n.now whole first f.net f.path
-      (made_bounded links apart W x bound readable old n h c s limits r asked a p) first_on (lives events w f life) (wait_limit w f.net f.over young)
+  on_of events w f life young = on_soon events w f (soon_of f.net its_key its_ask.first n.now (asked_in events w f) (lives events w f life)
+      (let lt = wait_limit w f.net f.over young in omega arith))
+
+  soon_in : (w : World) (m : Net) → Over links apart W x w m → IsSoon old w → SoonIn m n.now
+  soon_in w m over soon = subst (λ (q : Pace). m.now ≤ n.now + most q DEADLINE) (sym over.pace)
+      (let one = over.now in let two = h.now in let le = soon in omega arith)
 
   spelled : SpellsRequest (request_of its_ask).choice r (request_of its_ask).service
   spelled = subst (λ (z : Octets). SpellsRequest (choice_of r) r z) (sym p.joined) a.asks.spelled
@@ -195,10 +207,12 @@ module _ (links : ℕ → Option Octets) (apart : (i j : ℕ) (l : Octets) → l
       (answered_values opening (stores_of w.nodes) n.asks (request_of its_ask) k.0 log w.log means right k.1 r spelled k.2)
 
   -- the ticket at its client
-  waiting : (w : World) (m : Net) → Over links apart W x w m → client_now m its_key < its_ask.first + PATIENCE → (o : On m) → (t : ClientTransaction) → m.tickets its_key ≡ Some t
+  waiting : (w : World) (m : Net) → Over links apart W x w m → client_now m its_key < its_ask.first + PATIENCE → (o : On m) → (t : ClientTransaction)
+      → m.tickets its_key ≡ Some t
       → t.phase ≡ AwaitConfirmation → (T_OUT ≤ client_now m its_key - t.since → 0 < t.repeats) → IsWaiting w c a.link a.accepted.invoke_id
   waiting w m over young o t at waits left = go (value_at same_key (slot_key a.link p.id) node.0.clients.slots) refl
-      (subst (λ (z : Option ClientTransaction). TicketFits (is_lost m its_key) (here_at m c) w.notes c (m.numbers its_key) (value_at same_key (slot_key a.link p.id) node.0.clients.slots) z) at
+      (subst (λ (z : Option ClientTransaction). TicketFits (is_lost m its_key) (here_at m c) w.notes c (m.numbers its_key)
+      (value_at same_key (slot_key a.link p.id) node.0.clients.slots) z) at
       ((over.nodes c node.0 node.1).clients.found s a.link p.id (server_link links apart W x bound readable old n h c s limits r asked a p)))
     where
       node : (b : Node) × (slice_get w.nodes c ≡ Some b)
@@ -233,16 +247,18 @@ module _ (links : ℕ → Option Octets) (apart : (i j : ℕ) (l : Octets) → l
       o : On f.net
       o = on_of events w f life young
 
-      go : PatientOrOver x its_key its_ask n.asks n.now (client_now f.net its_key) o.ticket.ticket f.net.log
+      go : PatientOrOver x its_key its_ask n.asks n.now (f.net.restarted its_key.client) (client_now f.net its_key) o.ticket.ticket f.net.log
           → IsWaiting w c a.link a.accepted.invoke_id ⊎ IsAnswered (length old.notes) r w.log
       go (inl k) = inl (waiting w f.net f.over (wait_limit w f.net f.over young) o o.ticket.ticket o.ticket.at k.waits
           (λ due. repeat_left x its_key its_ask n.asks n.now (client_now f.net its_key) o.ticket.ticket k (wait_limit w f.net f.over young) due))
-      go (inr (idle, answered)) = inr (answered_as w f.net f.net.log f.over.log (once events w run) answered)
+      go (inr (idle, inr (inl lost))) = let le = lives events w f life in absurd (omega arith)
+      go (inr (idle, inr (inr late))) = let lt = wait_limit w f.net f.over young in absurd (omega arith)
+      go (inr (idle, inl answered)) = inr (answered_as w f.net f.net.log f.over.log (once events w run) answered)
 
   -- A copy of the request brings an answer.
 
-  module _ (w served : World) (m : Net) (over : Over links apart W x w m) (on : On m) (young : client_now m its_key < its_ask.first + PATIENCE) (number : ℕ) (d : Copy)
-      (may : MayArrive x.overtake w number d) (q : IsRequest a.sent d) (f : Finding w (Deliver number))
+  module _ (w served : World) (m : Net) (over : Over links apart W x w m) (on : On m) (soon : SoonIn m n.now)
+      (number : ℕ) (d : Copy) (may : MayArrive x.overtake w number d) (q : IsRequest a.sent d) (f : Finding w (Deliver number))
       (did : WorldStep x.overtake w (Deliver number) served) where
     abbrev y : IsPaired (IsCopyOf links apart) m.posts number d
     y = post links apart W x bound readable w served m over number d may.at
@@ -258,11 +274,12 @@ module _ (links : ℕ → Option Octets) (apart : (i j : ℕ) (l : Octets) → l
 
     brought : (u : Reply) × ((server_on_apdu (server_context x its_key (server_now m its_key)) (service_of taken.before.store) (m.entries its_key)
         (is_free (server_now m its_key) taken.before.servers) (request_to x its_key its_ask)).sends ≡ answer_to x its_key its_ask u ∷ [])
-    brought = brings_answer x its_key its_ask n.asks n.now m on young (service_of taken.before.store) (is_free (server_now m its_key) taken.before.servers)
+    brought = brings_answer x its_key its_ask n.asks n.now m on soon (service_of taken.before.store) (is_free (server_now m its_key) taken.before.servers)
         (λ none. finds w served m over number y.other d taken is.0 is.1 f none)
 
     abbrev gets : Key → Apdu → server.Reaction
-    gets k z = server_on_apdu (server_context x k (server_now m k)) (service_of taken.before.store) (m.entries k) (is_free (server_now m k) taken.before.servers) z
+    gets k z = server_on_apdu (server_context x k (server_now m k)) (service_of taken.before.store) (m.entries k)
+        (is_free (server_now m k) taken.before.servers) z
 
     sends_is : map (post_of y.other.key m.now) (gets y.other.key y.other.copy.apdu).sends ≡ post_of its_key m.now (answer_to x its_key its_ask brought.0) ∷ []
     sends_is = (λ i. map (post_of (is.0 i) m.now) (gets (is.0 i) (is.1 i)).sends) ∙ ap (map (post_of its_key m.now)) brought.1
@@ -296,7 +313,8 @@ module _ (links : ℕ → Option Octets) (apart : (i j : ℕ) (l : Octets) → l
   -- An answer is delivered.
 
   module _ (events : List Event) (w answered : World) (run : WorldRun x.overtake asked events w) (m : Net) (over : Over links apart W x w m)
-      (on : On m) (young : client_now m its_key < its_ask.first + PATIENCE) (number : ℕ) (d : Copy) (may : MayArrive x.overtake w number d)
+      (kept : StaysSince m its_key n.now) (on : On m) (young : client_now m its_key < its_ask.first + PATIENCE) (number : ℕ) (d : Copy)
+      (may : MayArrive x.overtake w number d)
       (from : IsFromServer c s a.accepted.invoke_id d) (did : WorldStep x.overtake w (Deliver number) answered) where
     abbrev z : IsPaired (IsCopyOf links apart) m.posts number d
     z = post links apart W x bound readable w answered m over number d may.at
@@ -336,17 +354,19 @@ module _ (links : ℕ → Option Octets) (apart : (i j : ℕ) (l : Octets) → l
         (once (events ++ Deliver number ∷ []) answered
         (run_join x.overtake events (Deliver number ∷ []) asked w answered run (answered, did, refl)))
         (subst (λ (k : ℕ). machine.IsAnswered n.asks its_ask (log_after k)) (sym on.number_is)
-        (told_answered x its_key its_ask n.asks n.now m on young on.ticket.ticket on.ticket.at fine.0 fine.2))
+        (told_answered x its_key its_ask n.asks n.now m on kept young on.ticket.ticket on.ticket.at fine.0 fine.2))
 
   pub robust : IsRobust x.overtake old c s limits r asked a
   robust = record {
     waits = λ events w run each life young. waits events w run each life young;
-    brings = λ events w run each life young number d may q f served did.
+    brings = λ events w run each soon number d may q f served did.
         let g = followed events w run each in
-        brings_one w served g.net g.over (on_of events w g life young) (wait_limit w g.net g.over young) number d may q f did;
+        let early = soon_in w g.net g.over soon in
+        brings_one w served g.net g.over (on_soon events w g early) early number d may q f did;
     answers = λ events w run each life young number d may from answered did.
         let g = followed events w run each in
-        is_answered events w answered run g.net g.over (on_of events w g life young) (wait_limit w g.net g.over young) number d may from did;
+        is_answered events w answered run g.net g.over (lives events w g life) (on_of events w g life young) (wait_limit w g.net g.over young)
+        number d may from did;
   }
 
 pub repeats_suffice : (W overtake : ℕ) (opening reached : World) → IsFresh opening → IsTimely opening.time.pace → IsBounded W overtake opening

@@ -12,13 +12,12 @@ use Rattle.bac_protocol.specs.Server.State.{SegmentedResponse}
 use Rattle.bac_protocol.specs.Server.Transfer.{Running}
 use Rattle.bac_protocol.specs.Log.{StoreModel}
 use Rattle.bac_protocol.specs.Transaction.{Key, Rules, client_context, server_context}
-use Rattle.bac_protocol.specs.World.{World, Event, is_room, serves, service_of, happens, run, start}
+use Rattle.bac_protocol.specs.World.{World, Event, is_room, serves, service_of, happens, run, start, server_now}
 use Rattle.bac_protocol.specs.World.Event.{Deliver}
 use Rattle.bac_protocol.specs.Claims.{IsBounded}
+use Rattle.bac_protocol.specs.Pace.{Pace, IsTimely}
 use Rattle.bac_protocol.proofs.Headline.{Kept}
 use Rattle.bac_protocol.proofs.Keys.{set_same}
-use Rattle.bac_protocol.specs.Pace.{Pace, IsTimely}
-use Rattle.bac_protocol.specs.World.{server_now}
 use Rattle.bac_liveness.specs.Runs.{IsOnItsWay}
 use Rattle.bac_liveness.specs.RoundTrip.{request_to, segment_to}
 use Rattle.bac_liveness.specs.Stopped.{HasStopped, GoesOnWith, StoppedGoesOn}
@@ -48,18 +47,22 @@ module _ (S : Type 0) (model : StoreModel S) (opening : ℕ → S) (W : ℕ) (x 
 
         path : happens S model x w (Deliver number free) ≡ serves S model w key v
         path = request_now S model x w key a number free up m
-            ∙ ap (λ (o : Option ServerTransaction). serves S model w key (server.server_on_apdu (server_context x key (server_now w.net key)) (service_of S model w key) o (is_room w.net key free) a)) h.at
+            ∙ ap (λ (o : Option ServerTransaction). serves S model w key
+            (server.server_on_apdu (server_context x key (server_now w.net key)) (service_of S model w key) o (is_room w.net key free) a)) h.at
             ∙ ap (serves S model w key) gets
 
-  pub stopped_go_on : (pace : Pace) → IsTimely pace → (clocks : ℕ → ℕ) → (events : List Event) → StoppedGoesOn S model x (run S model x events (start S pace clocks opening))
+  pub stopped_go_on : (pace : Pace) → IsTimely pace → (clocks : ℕ → ℕ) → (events : List Event)
+      → StoppedGoesOn S model x (run S model x events (start S pace clocks opening))
   stopped_go_on pace timely clocks events = record {
     whole = λ key t at out h number free m.
         on w (reached S model opening W x bound pace timely clocks events) key t at (Some (join t.ask.pieces)) out h number free (request_to x key t.ask) refl m
-        (serves_stopped (server_context x key (server_now w.net key)) (client_context x key t.ask.first) (service_of S model w key) h.entry (is_room w.net key free) t.ask out h.since
+        (serves_stopped (server_context x key (server_now w.net key)) (client_context x key t.ask.first) (service_of S model w key) h.entry
+        (is_room w.net key free) t.ask out h.since
         h.live (choice w (reached S model opening W x bound pace timely clocks events) key t at (Some (join t.ask.pieces)) out h) h.state h.request_is);
     segment = λ key t at out h number piece free m.
         on w (reached S model opening W x bound pace timely clocks events) key t at None out h number free (segment_to x key t.ask piece) refl m
-        (serves_stopped_segment (server_context x key (server_now w.net key)) (client_context x key t.ask.first) (service_of S model w key) h.entry (is_room w.net key free) t.ask out h.since
+        (serves_stopped_segment (server_context x key (server_now w.net key)) (client_context x key t.ask.first) (service_of S model w key) h.entry
+        (is_room w.net key free) t.ask out h.since
         h.live (choice w (reached S model opening W x bound pace timely clocks events) key t at None out h) h.state h.request_is piece);
   }
     where

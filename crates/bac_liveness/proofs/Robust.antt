@@ -1,8 +1,8 @@
 -- Repeats make an ask robust.
-use Rattle.std.proofs.Common.{◌≡◌, ℕ, ◌+◌, ◌-◌, ◌<◌, ◌≤◌, ◌⊎◌, Bool, true, false, List, [], ◌∷◌, ◌++◌, length, Option, Some, None, slice_get}
-use Rattle.std.proofs.Common.{if◌then◌else◌, refl, sym, ap, subst, inl, inr, ◌∙◌, arith}
-use Rattle.std.proofs.lemmas.Bool.Decides.{nat_tests}
 use Rattle.std.specs.List.{Contains}
+use Rattle.std.proofs.Common.{◌≡◌, ℕ, ◌+◌, ◌-◌, ◌<◌, ◌≤◌, ◌⊎◌, Bool, true, false, List, [], ◌∷◌, ◌++◌, length, Option, Some, None, slice_get, if◌then◌else◌}
+use Rattle.std.proofs.Common.{refl, sym, ap, subst, inl, inr, ◌∙◌, arith}
+use Rattle.std.proofs.lemmas.Bool.Decides.{nat_tests}
 use Rattle.bac_apdu.specs.Apdu.{Apdu}
 use Rattle.bac_segment.specs.Pieces.{join}
 use Rattle.bac_protocol.specs.declared.times.TheConstants.{T_OUT, KEEP}
@@ -16,10 +16,11 @@ use Rattle.bac_protocol.specs.Server.{ServerTransaction, is_live, is_none_live}
 use Rattle.bac_protocol.specs.Log.{Fact, Has, StoreModel}
 use Rattle.bac_protocol.specs.Log.Fact.{Asked, Performed, Ended}
 use Rattle.bac_protocol.specs.Transaction.{Key, Rules, client_context}
-use Rattle.bac_protocol.specs.World.{Net, World, Post, Event, is_deliverable, is_id_held, asked_at, ask_made}
-use Rattle.bac_protocol.specs.World.{happens, run, start, post_of, later, copies_of, service_of}
+use Rattle.bac_protocol.specs.World.{Net, World, Post, Event, is_deliverable, is_id_held, asked_at, ask_made, happens, run, start, post_of, later, copies_of}
+use Rattle.bac_protocol.specs.World.{service_of, client_now, server_now}
 use Rattle.bac_protocol.specs.World.Event.{MakeAsk, Deliver, Tick, Noise, Advance, Change, RestartClient, RestartServer, Stray, AskAway, TickAway}
 use Rattle.bac_protocol.specs.Claims.{IsBounded}
+use Rattle.bac_protocol.specs.Pace.{Pace, IsTimely}
 use Rattle.bac_protocol.proofs.Alone.{one}
 use Rattle.bac_protocol.proofs.Asks.{IsSpent}
 use Rattle.bac_protocol.proofs.Facts.{Grows}
@@ -27,19 +28,15 @@ use Rattle.bac_protocol.proofs.Nets.{NetSound}
 use Rattle.bac_protocol.proofs.Calm.{Calm, spent_free}
 use Rattle.bac_protocol.proofs.Headline.{Kept, run_kept, event_kept, start_kept}
 use Rattle.bac_protocol.proofs.Keys.{copy_at, set_same}
+use Rattle.bac_protocol.proofs.Paces.{since_now}
 use Rattle.bac_liveness.specs.Runs.{Throughout, IsOnItsWay, StaysSince}
 use Rattle.bac_liveness.specs.RoundTrip.{FitsInOne, CanPerform, HasPerformed, IsServed, request_to, answer_to}
 use Rattle.bac_liveness.specs.Repeats.{PATIENCE, FindsServer, IsAnswered, IsWaiting, IsSentAgain, IsRobust, RepeatsSuffice}
-use Rattle.bac_liveness.proofs.Paths.{Bounded, path_bounded, path_restarted, some_is, ask_of, Gives, event_steps, run_steps, path_log, path_posts, run_path}
-use Rattle.bac_liveness.proofs.Paths.{Any}
+use Rattle.bac_liveness.proofs.Paths.{Bounded, path_bounded, some_is, ask_of, Gives, event_steps, run_steps, path_log, path_posts, run_path, Any}
 use Rattle.bac_liveness.proofs.RoundTrips.{room_is, trip, bounded_in}
-use Rattle.bac_protocol.specs.Pace.{Pace, IsTimely}
-use Rattle.bac_protocol.specs.World.{client_now, server_now}
-use Rattle.bac_protocol.proofs.Paces.{since_now}
-use Rattle.bac_liveness.proofs.Clocks.{made_path, here_path}
+use Rattle.bac_liveness.proofs.Clocks.{AskedIn, SoonIn, made_of, soon_of, asked_path, soon_since}
 use Rattle.bac_liveness.proofs.Ticking.{tick_sends}
-use Rattle.bac_liveness.proofs.Waits.{IsFine, DoneFor, PatientOrOver, Waits, Finds, answered_grows, done_live, repeat_left}
-use Rattle.bac_liveness.proofs.Waits.{waits_path, got, of_map}
+use Rattle.bac_liveness.proofs.Waits.{IsFine, DoneFor, PatientOrOver, Waits, Finds, answered_grows, done_live, repeat_left, waits_path, got, of_map}
 
 pub at_end : (xs : List Post) (q : Post) → slice_get (xs ++ q ∷ []) (length xs) ≡ Some q
 at_end [] q = refl
@@ -54,6 +51,9 @@ module _ (S : Type 0) (model : StoreModel S) (x : Rules) (key : Key) (ask : Ask)
 
   abbrev Stays_ : World S → Type 0
   Stays_ w = StaysSince w.net key made
+
+  abbrev Soon_ : World S → Type 0
+  Soon_ w = SoonIn w.net made
 
   -- what is said of events is what is said of the steps that they are
   finds_event : (w : World S) (e : Event) → FindsServer S model x key ask w e → Gives x (Finds x key ask number made) S model w e
@@ -77,14 +77,22 @@ module _ (S : Type 0) (model : StoreModel S) (x : Rules) (key : Key) (ask : Ask)
   finds_run [] w h = tt
   finds_run (e ∷ es) w h = (finds_event w e h.0, finds_run es (happens S model x w e) h.1)
 
-  run_on : (events : List Event) (w : World S) → Throughout S model x (FindsServer S model x key ask) events w → Bounded w.net → On w
-      → Stays_ (run S model x events w) → Young (run S model x events w)
-      → On (run S model x events w)
-  run_on events w served b h stays young = waits_path x key ask number made whole w.net (run S model x events w).net
-      (run_path x (Finds x key ask number made) S model events w (finds_run events w served)) b h stays young
+  run_on : (events : List Event) (w : World S) → Throughout S model x (FindsServer S model x key ask) events w → On w
+      → Soon_ (run S model x events w) → On (run S model x events w)
+  run_on events w served h soon = waits_path x key ask number made whole w.net (run S model x events w).net
+      (run_path x (Finds x key ask number made) S model events w (finds_run events w served)) h soon
 
-  event_on : (w : World S) (e : Event) → FindsServer S model x key ask w e → Bounded w.net → On w → Stays_ (happens S model x w e) → Young (happens S model x w e) → On (happens S model x w e)
-  event_on w e served b h stays young = run_on (e ∷ []) w (served, tt) b h stays young
+  event_on : (w : World S) (e : Event) → FindsServer S model x key ask w e → On w → Soon_ (happens S model x w e) → On (happens S model x w e)
+  event_on w e served h soon = run_on (e ∷ []) w (served, tt) h soon
+
+  -- a client that has not restarted, and is in time, is not late by real time
+  soon_at : (v : World S) → AskedIn v.net key ask.first made → Stays_ v → Young v → Soon_ v
+  soon_at v h stays young = soon_of v.net key ask.first made h stays (omega arith)
+
+  on_at : (events : List Event) (w : World S) → Throughout S model x (FindsServer S model x key ask) events w → On w
+      → Stays_ (run S model x events w) → Young (run S model x events w) → On (run S model x events w)
+  on_at events w served h stays young = run_on events w served h (soon_at (run S model x events w)
+      (asked_path x Any key ask.first made w.net (run S model x events w).net (run_steps x S model events w) h.clock) stays young)
 
   split : (before : List Event) (e : Event) (between : List Event) (w : World S)
       → Throughout S model x (FindsServer S model x key ask) (before ++ e ∷ between) w
@@ -94,29 +102,33 @@ module _ (S : Type 0) (model : StoreModel S) (x : Rules) (key : Key) (ask : Ask)
   split [] e between w h = (tt, h.0, h.1)
   split (f ∷ before) e between w h = let r = split before e between (happens S model x w f) h.1 in ((h.0, r.0), r.1, r.2)
 
-  waiting_of : (w : World S) → On w → IsWaiting w.net key ask ⊎ IsAnswered number ask w.net.log
-  waiting_of w h = go h.ticket.state
+  waiting_of : (w : World S) → On w → Stays_ w → Young w → IsWaiting w.net key ask ⊎ IsAnswered number ask w.net.log
+  waiting_of w h stays young = go h.ticket.state
     where
-      go : PatientOrOver x key ask number made (client_now w.net key) h.ticket.ticket w.net.log
+      go : PatientOrOver x key ask number made (w.net.restarted key.client) (client_now w.net key) h.ticket.ticket w.net.log
           → IsWaiting w.net key ask ⊎ IsAnswered number ask w.net.log
       go (inl p) = inl (record { ticket = h.ticket.ticket; at = h.ticket.at; ask_is = h.ticket.is; waits = p.waits })
-      go (inr (idle, answered)) = inr answered
+      go (inr (idle, inl answered)) = inr answered
+      go (inr (idle, inr (inl lost))) = let le = stays in absurd (omega arith)
+      go (inr (idle, inr (inr late))) = let lt = young in absurd (omega arith)
 
   -- a tick that is due
-  sent_again : (v : World S) → On v → Young v → (t : ClientTransaction) → v.net.tickets key ≡ Some t → t.phase ≡ AwaitConfirmation → T_OUT ≤ client_now v.net key - t.since
+  sent_again : (v : World S) → On v → Stays_ v → Young v → (t : ClientTransaction) → v.net.tickets key ≡ Some t → t.phase ≡ AwaitConfirmation
+      → T_OUT ≤ client_now v.net key - t.since
       → (as_client as_server : List Key) → Contains as_client key
       → IsSentAgain x key ask t v.net (happens S model x v (Tick as_client as_server)).net
-  sent_again v h young t at awaits due as_client as_server i =
-      go (subst (λ (y : ClientTransaction). PatientOrOver x key ask number made (client_now v.net key) y v.net.log) same h.ticket.state)
+  sent_again v h stays young t at awaits due as_client as_server i =
+      go (subst (λ (y : ClientTransaction). PatientOrOver x key ask number made (v.net.restarted key.client)
+      (client_now v.net key) y v.net.log) same h.ticket.state)
     where
       same : h.ticket.ticket ≡ t
       same = some_is h.ticket.ticket t (sym h.ticket.at ∙ at)
 
-      go : PatientOrOver x key ask number made (client_now v.net key) t v.net.log
+      go : PatientOrOver x key ask number made (v.net.restarted key.client) (client_now v.net key) t v.net.log
           → IsSentAgain x key ask t v.net (happens S model x v (Tick as_client as_server)).net
       go (inr o) = absurd (let z = sym o.0 ∙ ap is_idle awaits in cc)
       go (inl w) =
-          let sends = tick_sends S model x key ask number made whole v t as_client as_server h.clock at
+          let sends = tick_sends S model x key ask number made whole v t as_client as_server (made_of v.net key ask.first made h.clock stays) at
           (subst (λ (y : ClientTransaction). y.ask ≡ ask) same h.ticket.is) w young due h.entry i in
           record { left = repeat_left x key ask number made (client_now v.net key) t w young due; sent = sends.copies_are; ticket = sends.ticket }
 
@@ -126,9 +138,10 @@ module _ (S : Type 0) (model : StoreModel S) (x : Rules) (key : Key) (ask : Ask)
       reply : Reply
       served : IsServed S model x key ask reply v u
 
-    brings : (v : World S) → Kept S model opening W x bound v → Bounded v.net → On v → Young v → (i : ℕ) (free : Bool) → IsOnItsWay x v.net key (request_to x key ask) i
+    brings : (v : World S) → Kept S model opening W x bound v → Bounded v.net → On v → Soon_ v → (i : ℕ) (free : Bool)
+        → IsOnItsWay x v.net key (request_to x key ask) i
         → FindsServer S model x key ask v (Deliver i free) → Brings v (happens S model x v (Deliver i free))
-    brings v s bounded h young i free m finds = go h.entry
+    brings v s bounded h soon i free m finds = go h.entry
       where
         is : h.ticket.ticket.ask ≡ ask
         is = h.ticket.is
@@ -148,14 +161,15 @@ module _ (S : Type 0) (model : StoreModel S) (x : Rules) (key : Key) (ask : Ask)
             → Brings v (happens S model x v (Deliver i free))
         go (inl none) = let f = finds m none in served f.0 f.2 (inl f.1)
         go (inr d) = served d.reply d.given.0
-            (inr (record { entry = d.entry; at = d.at; live = done_live x key ask number made v.net h.clock young d; request_is = d.request; state = d.state }))
+            (inr (record { entry = d.entry; at = d.at; live = done_live x key ask number made v.net h.clock soon d; request_is = d.request; state = d.state }))
 
-    through : (v : World S) → Kept S model opening W x bound v → Bounded v.net → On v → Young v → (i : ℕ) (free : Bool) → IsOnItsWay x v.net key (request_to x key ask) i
+    through : (v : World S) → Kept S model opening W x bound v → Bounded v.net → On v → Soon_ v → (i : ℕ) (free : Bool)
+        → IsOnItsWay x v.net key (request_to x key ask) i
         → FindsServer S model x key ask v (Deliver i free) → (between : List Event) (answer : Apdu) (other : Bool)
         → (let u = run S model x between (happens S model x v (Deliver i free)) in
         On u → Stays_ u → Young u → IsOnItsWay x u.net key answer (length v.net.posts)
         → IsAnswered number ask (happens S model x u (Deliver (length v.net.posts) other)).net.log)
-    through v s bounded h young i free m finds between answer other on stays young_u m_u = go on.ticket.state
+    through v s bounded h soon i free m finds between answer other on stays young_u m_u = go on.ticket.state
       where
         b : World S
         b = happens S model x v (Deliver i free)
@@ -167,7 +181,7 @@ module _ (S : Type 0) (model : StoreModel S) (x : Rules) (key : Key) (ask : Ask)
         z = happens S model x (run S model x between (happens S model x v (Deliver i free))) (Deliver (length v.net.posts) other)
 
         r : Brings v (happens S model x v (Deliver i free))
-        r = brings v s bounded h young i free m finds
+        r = brings v s bounded h soon i free m finds
 
         post : Post
         post = post_of key v.net.now (answer_to x key ask r.reply)
@@ -190,8 +204,11 @@ module _ (S : Type 0) (model : StoreModel S) (x : Rules) (key : Key) (ask : Ask)
             (path_log x Any b.net u.net (run_steps x S model between b) (Performed number (request_of ask) r.reply)
             (subst (λ (k : ℕ). Has (Performed k (request_of ask) r.reply) b.net.log) h.number_is (r.served).performed))
 
-        go : PatientOrOver x key ask number made (client_now u.net key) on.ticket.ticket u.net.log → IsAnswered number ask z.net.log
-        go (inr (idle, answered)) = answered_grows x key ask number made u.net.log z.net.log grown answered
+        go : PatientOrOver x key ask number made (u.net.restarted key.client) (client_now u.net key) on.ticket.ticket u.net.log
+            → IsAnswered number ask z.net.log
+        go (inr (idle, inl answered)) = answered_grows x key ask number made u.net.log z.net.log grown answered
+        go (inr (idle, inr (inl lost))) = let le = stays in absurd (omega arith)
+        go (inr (idle, inr (inr late))) = let lt = young_u in absurd (omega arith)
         go (inl p) =
             let now = (r.served).answered between (subst (λ (k : ℕ). StaysSince u.net key k) (sym h.made_is) stays)
             (record { ticket = on.ticket.ticket; at = on.ticket.at; going = ap is_idle p.waits; in_time = omega arith }) (length v.net.posts)
@@ -204,28 +221,30 @@ module _ (S : Type 0) (model : StoreModel S) (x : Rules) (key : Key) (ask : Ask)
 
     robust : (w : World S) → Kept S model opening W x bound w → Bounded w.net → On w → IsRobust S model x key ask number w
     robust w s bounded h = record {
-      waits = λ events served stays young. waiting_of (run S model x events w) (run_on events w served bounded h (stays_at w (run S model x events w) h stays) young);
+      waits = λ events served stays young.
+          let v = run S model x events w in
+          let kept = stays_at w v h stays in
+          waiting_of v (on_at events w served h kept young) kept young;
       repeats = λ events as_client as_server served stays young t at awaits due there.
-          sent_again (run S model x events w) (run_on events w served bounded h (stays_at w (run S model x events w) h stays) young) young t at awaits due as_client as_server there;
+          let v = run S model x events w in
+          let kept = stays_at w v h stays in
+          sent_again v (on_at events w served h kept young) kept young t at awaits due as_client as_server there;
       answered = λ before between i free other answer served stays young m m_u.
           let sp = split before (Deliver i free) between w served in
           let v = run S model x before w in
           let b = happens S model x v (Deliver i free) in
           let u = run S model x between b in
-          let bound_v = path_bounded x Any w.net v.net (run_steps x S model before w) bounded in
-          let bound_b = path_bounded x Any v.net b.net (event_steps x S model v (Deliver i free)) bound_v in
-          let stays_u = stays_at w u h stays in
-          let le_b = path_restarted x Any b.net u.net (run_steps x S model between b) bound_b key.client in
-          let le_v = path_restarted x Any v.net b.net (event_steps x S model v (Deliver i free)) bound_v key.client in
-          let stays_b : Stays_ b = omega arith in
-          let stays_v : Stays_ v = omega arith in
-          let runs_v = made_path x Any key ask.first made w.net v.net (run_steps x S model before w) bounded stays_v h.clock in
-          let runs_b = made_path x Any key ask.first made v.net b.net (event_steps x S model v (Deliver i free)) bound_v stays_b runs_v in
-          let le = here_path x Any key ask.first made b.net u.net (run_steps x S model between b) bound_b stays_u runs_b in
-          let first = here_path x Any key ask.first made v.net b.net (event_steps x S model v (Deliver i free)) bound_v stays_b runs_v in
-          let on_v = run_on before w sp.0 bounded h stays_v (omega arith) in
-          through v (run_kept S model opening W x bound before w s) bound_v on_v (omega arith) i free m sp.1 between answer other
-          (run_on between b sp.2 bound_b (event_on v (Deliver i free) sp.1 bound_v on_v stays_b (omega arith)) stays_u young) stays_u young m_u;
+          let kept = stays_at w u h stays in
+          let asked_v = asked_path x Any key ask.first made w.net v.net (run_steps x S model before w) h.clock in
+          let asked_b = asked_path x Any key ask.first made v.net b.net (event_steps x S model v (Deliver i free)) asked_v in
+          let asked_u = asked_path x Any key ask.first made b.net u.net (run_steps x S model between b) asked_b in
+          let soon_u = soon_at u asked_u kept young in
+          let soon_b = soon_since x Any key ask.first made b.net u.net (run_steps x S model between b) soon_u in
+          let soon_v = soon_since x Any key ask.first made v.net b.net (event_steps x S model v (Deliver i free)) soon_b in
+          let on_v = run_on before w sp.0 h soon_v in
+          let on_b = event_on v (Deliver i free) sp.1 on_v soon_b in
+          through v (run_kept S model opening W x bound before w s) (path_bounded x Any w.net v.net (run_steps x S model before w) bounded) on_v soon_v
+          i free m sp.1 between answer other (run_on between b sp.2 on_b soon_u) kept young m_u;
     }
       where
         stays_at : (y u : World S) → On y → StaysSince u.net key (y.net.made key) → Stays_ u
@@ -240,8 +259,8 @@ asked_on W x n s key choice front rest calm free = record {
     timely = (calm key).timely;
     client_told = (calm key).client;
     server_told = (calm key).server;
-    stays = spent.lives;
-    since = since_now n.pace n.now (n.client_clocks key.client) (calm key).client;
+    on = omega arith;
+    life = inl (record { stays = spent.lives; since = since_now n.pace n.now (n.client_clocks key.client) (calm key).client });
   };
   entry = inl (none_live (n.entries key) (λ e at. spent.dead e at));
   posts = λ i q at is young. posts i q at is young (got n.posts (post_of key n.now (request_to x key ask) ∷ []) i q at);
@@ -261,7 +280,8 @@ asked_on W x n s key choice front rest calm free = record {
     spent : IsSpent (one n key)
     spent = spent_free W n s calm key free
 
-    none_live : (o : Option ServerTransaction) → ((e : ServerTransaction) → o ≡ Some e → e.begin + KEEP < server_now n key) → is_none_live (server_now n key) o ≡ true
+    none_live : (o : Option ServerTransaction) → ((e : ServerTransaction) → o ≡ Some e → e.begin + KEEP < server_now n key)
+        → is_none_live (server_now n key) o ≡ true
     none_live None d = refl
     none_live (Some e) d =
         let lt = d e refl in

@@ -1,6 +1,6 @@
 -- One round trip suffices.
-use Rattle.std.proofs.Common.{◌≡◌, ℕ, ◌-◌, ◌≤◌, ◌⊎◌, Bool, true, false, List, [], ◌∷◌, Option, Some, None}
-use Rattle.std.proofs.Common.{nat_lt, ◌&&◌, not, refl, sym, ap, subst, inl, inr, ◌∙◌, arith}
+use Rattle.std.proofs.Common.{◌≡◌, ℕ, ◌-◌, ◌≤◌, ◌⊎◌, Bool, true, false, List, [], ◌∷◌, Option, Some, None, nat_lt, ◌&&◌, not, refl, sym, ap, subst, inl, inr}
+use Rattle.std.proofs.Common.{◌∙◌, arith}
 use Rattle.std.proofs.lemmas.Bool.Decides.{nat_tests}
 use Rattle.bac_apdu.specs.Apdu.{Apdu}
 use Rattle.bac_apdu.specs.Apdu.Apdu.{ComplexAck}
@@ -20,29 +20,25 @@ use Rattle.bac_protocol.specs.Server.State.{Done}
 use Rattle.bac_protocol.specs.Log.{Fact, Has, StoreModel}
 use Rattle.bac_protocol.specs.Log.Fact.{Performed, Ended}
 use Rattle.bac_protocol.specs.Transaction.{Key, Rules, client_context, server_context, performed}
-use Rattle.bac_protocol.specs.World.{Net, World, Event, is_room, takes_at_client, reacts, serves, service_of, happens, run, start}
+use Rattle.bac_protocol.specs.World.{Net, World, Event, is_room, takes_at_client, reacts, serves, service_of, happens, run, start, client_now, server_now}
 use Rattle.bac_protocol.specs.World.Event.{Deliver}
-use Rattle.bac_protocol.specs.Claims.{IsBounded, WasPerformed}
+use Rattle.bac_protocol.specs.Claims.{IsBounded, WasPerformed, Moments, moments_of}
 use Rattle.bac_protocol.specs.Straight.{is_ended}
+use Rattle.bac_protocol.specs.Pace.{Pace, IsTimely}
 use Rattle.bac_protocol.proofs.Alone.{one}
-use Rattle.bac_protocol.proofs.Sound.{Up, Down, Says, ClientFits, StateFits, ServerFits, IsBegunFor, IsKeptFor, Sound}
+use Rattle.bac_protocol.proofs.Sound.{Up, Down, Says, ClientFits, StateFits, ServerFits, IsBegunFor, IsKeptFor, Sound, IsTimed}
 use Rattle.bac_protocol.proofs.Sound.Down.{Unsent, Sent}
 use Rattle.bac_protocol.proofs.Nets.{NetSound, sound_at}
 use Rattle.bac_protocol.proofs.Headline.{Kept, run_kept, event_kept, start_kept}
 use Rattle.bac_protocol.proofs.Keys.{set_same}
-use Rattle.bac_liveness.specs.Runs.{IsOnItsWay}
-use Rattle.bac_liveness.specs.RoundTrip.{request_to, segment_to, answer_to, FitsInOne, CanPerform, HasPerformed, IsOpenInTime}
-use Rattle.bac_liveness.specs.RoundTrip.{IsAnsweredNow, IsServed, RoundTripSuffices}
-use Rattle.bac_liveness.specs.Runs.{StaysSince}
+use Rattle.bac_protocol.proofs.Paces.{since_now}
+use Rattle.bac_liveness.specs.Runs.{IsOnItsWay, StaysSince}
+use Rattle.bac_liveness.specs.RoundTrip.{request_to, segment_to, answer_to, FitsInOne, CanPerform, HasPerformed, IsOpenInTime, IsAnsweredNow, IsServed}
+use Rattle.bac_liveness.specs.RoundTrip.{RoundTripSuffices}
 use Rattle.bac_liveness.proofs.Paths.{Path, Bounded, bounded_start, path_bounded, path_restarted, event_steps, some_is, Any, run_steps}
 use Rattle.bac_liveness.proofs.Endings.{request_now, answer_now}
 use Rattle.bac_liveness.proofs.Serving.{answer_any_time, answer_not_from_client, answer_ends, answer_ends_sending, performed_entry, answers_first}
 use Rattle.bac_liveness.proofs.Serving.{answers_again, serves_new, serves_again, serves_segment}
-use Rattle.bac_protocol.specs.Pace.{Pace, IsTimely}
-use Rattle.bac_protocol.specs.World.{client_now, server_now}
-use Rattle.bac_protocol.specs.Claims.{Moments, moments_of}
-use Rattle.bac_protocol.proofs.Paces.{since_now}
-use Rattle.bac_protocol.proofs.Sound.{IsTimed}
 use Rattle.bac_liveness.proofs.Clocks.{MadeIn, BegunIn, alive, here_path}
 use Rattle.bac_liveness.proofs.Kept.{IsKept}
 use Rattle.bac_liveness.proofs.Awaiting.{IsWhole, Awaits, IsAwaited, awaited_path}
@@ -75,7 +71,8 @@ takes_awaited (SegmentedConf inc) going h = absurd h
 takes_awaited Idle going h = absurd cc
 
 -- then no segment of a reply may arrive
-said_whole : (W : ℕ) (times : Moments) (number m k : ℕ) (ask : Ask) (kept : Apdu) (up : Up) (down : Down) (log : List Fact) → StateFits W number ask (Done kept) up down log
+said_whole : (W : ℕ) (times : Moments) (number m k : ℕ) (ask : Ask) (kept : Apdu) (up : Up) (down : Down) (log : List Fact)
+    → StateFits W number ask (Done kept) up down log
     → (a : Apdu) → Says W times number ask log up down m k a → IsWhole a
 said_whole W times number m k ask kept up Unsent log s (ComplexAck id (Some g) choice o) h = absurd h.1
 said_whole W times number m k ask kept up (Sent ps t n) log s (ComplexAck id (Some g) choice o) h = absurd s
@@ -109,9 +106,11 @@ abbrev pub SoundIn : ℕ → Net → Key → ClientTransaction → Up → Down �
 SoundIn W n key t up down = Sound W key (moments_of n key) n.asks (n.numbers key) t (n.entries key) (one n key).copies n.log up down
 
 -- an entry that is live, or was begun since the ask was made, was begun for it
-begun_in : (W : ℕ) (n : Net) (key : Key) (t : ClientTransaction) (up : Up) (down : Down) → SoundIn W n key t up down → (e : ServerTransaction) → n.entries key ≡ Some e
+begun_in : (W : ℕ) (n : Net) (key : Key) (t : ClientTransaction) (up : Up) (down : Down) → SoundIn W n key t up down → (e : ServerTransaction)
+    → n.entries key ≡ Some e
     → (server.is_live (server_now n key) e ≡ true) → IsBegunFor W (moments_of n key) (n.numbers key) t.ask e up down n.log
-begun_in W n key t up down s e at when = go (subst (λ (o : Option ServerTransaction). ServerFits W (moments_of n key) (n.numbers key) t.ask o up down n.log) at s.server) when
+begun_in W n key t up down s e at when = go (subst (λ (o : Option ServerTransaction). ServerFits W (moments_of n key)
+    (n.numbers key) t.ask o up down n.log) at s.server) when
   where
     go : ServerFits W (moments_of n key) (n.numbers key) t.ask (Some e) up down n.log → (server.is_live (server_now n key) e ≡ true)
         → IsBegunFor W (moments_of n key) (n.numbers key) t.ask e up down n.log
@@ -119,7 +118,8 @@ begun_in W n key t up down s e at when = go (subst (λ (o : Option ServerTransac
     go (inl past) live = let d = past.dead in absurd (grind (arith, nat_tests))
 
 -- an answer ends a ticket that takes it
-pub takes_ends : (x : Rules) (now : ℕ) (key : Key) (t : ClientTransaction) (p : Reply) → TakesAnswer t.phase → now - t.ask.first ≤ DEADLINE → FitsInOne x key t.ask p
+pub takes_ends : (x : Rules) (now : ℕ) (key : Key) (t : ClientTransaction) (p : Reply) → TakesAnswer t.phase → now - t.ask.first ≤ DEADLINE
+    → FitsInOne x key t.ask p
     → client.client_on_apdu (client_context x key now) x.readable t (answer_to x key t.ask p) ≡ Ends [] (Answered p)
 takes_ends x now key t p phase young fits = go phase
   where
@@ -132,12 +132,14 @@ takes_ends x now key t p phase young fits = go phase
 
 -- in a net in which an entry is done for an ask, whose ticket is there, the ticket waits for the answer, once it has sent all
 pub awaited_at : (W : ℕ) (x : Rules) (key : Key) (ask : Ask) (number begin : ℕ) (p : Reply) (made : ℕ) (n : Net) → NetSound W n
-    → (h : IsKept x Any key number ask made begin (answer_to x key ask p) n) → client_now n key - ask.first ≤ DEADLINE → (ask.whole ≡ true) ⊎ HasSentAll h.there.ticket.phase
+    → (h : IsKept x Any key number ask made begin (answer_to x key ask p) n) → client_now n key - ask.first ≤ DEADLINE → (ask.whole ≡ true)
+    ⊎ HasSentAll h.there.ticket.phase
     → IsAwaited x Any key number ask made (answer_to x key ask p) (answer_whole x key ask p) n
 awaited_at W x key ask number begin p made n s h young ready = record {
   there = h.there;
   phase = go ready;
-  copies = λ k c at young. said_whole W (moments_of n key) (n.numbers key) c.moment k h.there.ticket.ask (answer_to x key ask p) known.0 known.1 n.log done c.apdu
+  copies = λ k c at young. said_whole W (moments_of n key) (n.numbers key) c.moment k h.there.ticket.ask
+      (answer_to x key ask p) known.0 known.1 n.log done c.apdu
       ((known.2).arriving k c at young).1;
   entry = inl (record { entry = h.entry; at = h.at; since = subst (λ (b : ℕ). BegunIn n key made b) (sym h.begun) h.since; state = h.state });
   runs = h.runs;
@@ -166,7 +168,8 @@ awaited_at W x key ask number begin p made n s h young ready = record {
     go (inr all) = by all
 
 -- a free slot of a server that does not wait
-pub room_is : {S : Type 0} (w : World S) (key : Key) (free : Bool) → free ≡ true → w.net.serves_from key.server ≤ server_now w.net key → is_room w.net key free ≡ true
+pub room_is : {S : Type 0} (w : World S) (key : Key) (free : Bool) → free ≡ true → w.net.serves_from key.server ≤ server_now w.net key
+    → is_room w.net key free ≡ true
 room_is w key free slot serving =
     let waits : nat_lt (server_now w.net key) (w.net.serves_from key.server) ≡ false = grind (arith, nat_tests) in λ i. slot i && not (waits i)
 
@@ -179,7 +182,8 @@ module _ (S : Type 0) (model : StoreModel S) (opening : ℕ → S) (W : ℕ) (x 
       → (up : Up) × (down : Down) × SoundWith w key t up down
   sound w s key t at = sound_at W w.net key (Some t) at s.net
 
-  pub begun_for : (w : World S) (key : Key) (t : ClientTransaction) (up : Up) (down : Down) → SoundWith w key t up down → (e : ServerTransaction) → w.net.entries key ≡ Some e
+  pub begun_for : (w : World S) (key : Key) (t : ClientTransaction) (up : Up) (down : Down) → SoundWith w key t up down → (e : ServerTransaction)
+      → w.net.entries key ≡ Some e
       → (server.is_live (server_now w.net key) e ≡ true) → IsBegunFor W (moments_of w.net key) (w.net.numbers key) t.ask e up down w.net.log
   begun_for w key t up down s e at when = begun_in W w.net key t up down s e at when
 
@@ -196,14 +200,16 @@ module _ (S : Type 0) (model : StoreModel S) (opening : ℕ → S) (W : ℕ) (x 
   abbrev pub SendsAll : Key → Ask → Reply → World S → Type 0
   SendsAll key ask p v =
       (t : ClientTransaction) → v.net.tickets key ≡ Some t → t.ask ≡ ask → client_now v.net key - ask.first ≤ DEADLINE
-      → (e : ServerTransaction) → v.net.entries key ≡ Some e → server.is_live (server_now v.net key) e ≡ true → e.state ≡ Done (answer_to x key ask p) → HasSentAll t.phase
+      → (e : ServerTransaction) → v.net.entries key ≡ Some e → server.is_live (server_now v.net key) e ≡ true → e.state ≡ Done (answer_to x key ask p)
+      → HasSentAll t.phase
 
   -- from a world in which an entry is done for an ask, whose ticket is there
   module _ (key : Key) (ask : Ask) (number begin : ℕ) (p : Reply) (made : ℕ) (fits : FitsInOne x key ask p) where
     abbrev KeptIn : World S → Type 0
     KeptIn u = IsKept x Any key number ask made begin (answer_to x key ask p) u.net
 
-    answered : (u : World S) → Kept S model opening W x bound u → Bounded u.net → (StaysSince u.net key made → KeptIn u) → (ask.whole ≡ true) ⊎ SendsAll key ask p u
+    answered : (u : World S) → Kept S model opening W x bound u → Bounded u.net → (StaysSince u.net key made → KeptIn u) → (ask.whole ≡ true)
+        ⊎ SendsAll key ask p u
         → (events : List Event) → (let v = run S model x events u in StaysSince v.net key made → IsOpenInTime v.net key ask
         → (k : ℕ) → IsOnItsWay x v.net key (answer_to x key ask p) k → (free : Bool)
         → IsAnsweredNow S key number p v (happens S model x v (Deliver k free)))
@@ -231,7 +237,8 @@ module _ (S : Type 0) (model : StoreModel S) (opening : ℕ → S) (W : ℕ) (x 
         is_ready : (ask.whole ≡ true) ⊎ SendsAll key ask p u → (ask.whole ≡ true) ⊎ HasSentAll h.there.ticket.phase
         is_ready (inl whole) = inl whole
         is_ready (inr all) = inr (all h.there.ticket h.there.at h.there.is early h.entry h.at
-            (alive u.net.pace u.net.now (u.net.client_clocks key.client) (u.net.server_clocks key.server) (u.net.restarted key.client) ask.first made h.runs (let y = early in omega arith) h.entry
+            (alive u.net.pace u.net.now (u.net.client_clocks key.client) (u.net.server_clocks key.server) (u.net.restarted key.client) ask.first made h.runs
+            (let y = early in omega arith) h.entry
             (subst (λ (b : ℕ). BegunIn u.net key made b) (sym h.begun) h.since)) h.state)
 
         there : IsAwaited x Any key number ask made (answer_to x key ask p) (answer_whole x key ask p) v.net
@@ -249,7 +256,8 @@ module _ (S : Type 0) (model : StoreModel S) (opening : ℕ → S) (W : ℕ) (x 
             (subst (λ (a : Ask). FitsInOne x key a p) (sym there.there.is) fits)
 
   -- a delivery performs the request, or finds it performed
-  module _ (w : World S) (s : Kept S model opening W x bound w) (bounded : Bounded w.net) (key : Key) (t : ClientTransaction) (at : w.net.tickets key ≡ Some t) (p : Reply)
+  module _ (w : World S) (s : Kept S model opening W x bound w) (bounded : Bounded w.net) (key : Key) (t : ClientTransaction) (at : w.net.tickets key ≡ Some t)
+      (p : Reply)
       (fits : FitsInOne x key t.ask p) where
     runs_in : IsTimed (moments_of w.net key) t.ask.first → StaysSince w.net key (w.net.made key) → MadeIn w.net key t.ask.first (w.net.made key)
     runs_in c stays = record { timely = c.timely; client_told = c.client; server_told = c.server; stays = stays; since = (c.counts stays).since }
@@ -279,22 +287,27 @@ module _ (S : Type 0) (model : StoreModel S) (opening : ℕ → S) (W : ℕ) (x 
         u = happens S model x w (Deliver number free)
 
         kept : StaysSince u.net key (w.net.made key) → IsKept x Any key (w.net.numbers key) t.ask (w.net.made key) e.begin (answer_to x key t.ask p) u.net
-        kept stays = subst (λ (y : World S). IsKept x Any key (w.net.numbers key) t.ask (w.net.made key) e.begin (answer_to x key t.ask p) y.net) (sym path) (record {
-          there = record { ticket = t; at = at; is = refl; number_is = refl; made_is = refl };
-          entry = e;
-          at = set_same w.net.entries key (Some e);
-          begun = refl;
-          state = state;
-          runs = runs_in (((sound w s key t at).2).clock)
-              (let le = path_restarted x Any w.net u.net (event_steps x S model w (Deliver number free)) bounded key.client in let last = stays in omega arith);
-          since = since;
-        })
+        kept stays = subst (λ (y : World S). IsKept x Any key (w.net.numbers key) t.ask (w.net.made key) e.begin (answer_to x key t.ask p) y.net) (sym path)
+            (record {
+              there = record { ticket = t; at = at; is = refl; number_is = refl; made_is = refl };
+              entry = e;
+              at = set_same w.net.entries key (Some e);
+              begun = refl;
+              state = state;
+              runs = runs_in (((sound w s key t at).2).clock) (
+                  let le = path_restarted x Any w.net u.net (event_steps x S model w (Deliver number free)) bounded key.client in
+                  let last = stays in
+                  omega arith
+                  );
+              since = since;
+            })
 
     -- it was performed before: the entry was begun for the ask
     again : (request : Option Octets) → (h : HasPerformed x w.net key t.ask request p) → (a : Apdu) → is_from_client a ≡ true
         → (number : ℕ) (free : Bool) → (t.ask.whole ≡ true) ⊎ SendsAll key t.ask p (happens S model x w (Deliver number free))
         → IsOnItsWay x w.net key a number
-        → (h.entry.choice ≡ t.ask.choice → server.server_on_apdu (server_context x key (server_now w.net key)) (service_of S model w key) (Some h.entry) (is_room w.net key free) a
+        → (h.entry.choice ≡ t.ask.choice → server.server_on_apdu (server_context x key (server_now w.net key)) (service_of S model w key) (Some h.entry)
+        (is_room w.net key free) a
         ≡ answers_again h.entry (answer_to x key t.ask p))
         → IsServed S model x key t.ask p w (happens S model x w (Deliver number free))
     again request h a up number free ready m gets =
@@ -304,7 +317,8 @@ module _ (S : Type 0) (model : StoreModel S) (opening : ℕ → S) (W : ℕ) (x 
         (subst (λ (st : State). StateFits W (w.net.numbers key) t.ask st known.0 known.1 w.net.log) h.state begun.state)))
         number free ready
         (request_now S model x w key a number free up m
-        ∙ ap (λ (o : Option ServerTransaction). serves S model w key (server.server_on_apdu (server_context x key (server_now w.net key)) (service_of S model w key) o (is_room w.net key free) a)) h.at
+        ∙ ap (λ (o : Option ServerTransaction). serves S model w key
+        (server.server_on_apdu (server_context x key (server_now w.net key)) (service_of S model w key) o (is_room w.net key free) a)) h.at
         ∙ ap (serves S model w key) (gets begun.choice))
       where
         known : (up : Up) × (down : Down) × SoundWith w key t up down
@@ -319,7 +333,8 @@ module _ (S : Type 0) (model : StoreModel S) (opening : ℕ → S) (W : ℕ) (x 
         → (number : ℕ) → IsOnItsWay x w.net key (request_to x key t.ask) number
         → IsServed S model x key t.ask p w (happens S model x w (Deliver number free))
     trip whole free (inr h) number m = again (Some (join t.ask.pieces)) h (request_to x key t.ask) refl number free (inl whole) m
-        (λ choice. serves_again (server_context x key (server_now w.net key)) (client_context x key t.ask.first) (service_of S model w key) h.entry (is_room w.net key free) t.ask
+        (λ choice. serves_again (server_context x key (server_now w.net key)) (client_context x key t.ask.first) (service_of S model w key) h.entry
+        (is_room w.net key free) t.ask
         (answer_to x key t.ask p) h.live h.state choice h.request_is)
     trip whole free (inl c) number m = served_by
         (performed_entry (server_now w.net key) (client_context x key t.ask.first) t.ask (answer_to x key t.ask p))
@@ -337,7 +352,8 @@ module _ (S : Type 0) (model : StoreModel S) (opening : ℕ → S) (W : ℕ) (x 
         → SendsAll key t.ask p (happens S model x w (Deliver number free)) → IsOnItsWay x w.net key (segment_to x key t.ask piece) number
         → IsServed S model x key t.ask p w (happens S model x w (Deliver number free))
     trip_of_segment h number piece free all m = again None h (segment_to x key t.ask piece) refl number free (inr all) m
-        (λ choice. serves_segment (server_context x key (server_now w.net key)) (client_context x key t.ask.first) (service_of S model w key) h.entry (is_room w.net key free) t.ask
+        (λ choice. serves_segment (server_context x key (server_now w.net key)) (client_context x key t.ask.first) (service_of S model w key) h.entry
+        (is_room w.net key free) t.ask
         (answer_to x key t.ask p) h.live h.state h.request_is piece)
 
   module _ (pace : Pace) (timely : IsTimely pace) (clocks : ℕ → ℕ) where

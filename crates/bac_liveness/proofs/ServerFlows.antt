@@ -1,6 +1,6 @@
 -- Each step of a server keeps its transaction in step.
-use Rattle.std.proofs.Common.{◌≡◌, ℕ, ◌+◌, ◌-◌, ◌*◌, ◌%◌, ◌<◌, ◌≤◌, Bool, true, false, not, is_some, List, [], ◌∷◌, ◌++◌, length}
-use Rattle.std.proofs.Common.{Option, Some, None, if◌then◌else◌, nat_lt, nat_le, nat_eq, refl, sym, ap, subst, inl, inr, ◌∙◌, arith}
+use Rattle.std.proofs.Common.{◌≡◌, ℕ, ◌+◌, ◌-◌, ◌*◌, ◌%◌, ◌<◌, ◌≤◌, Bool, true, false, not, is_some, List, [], ◌∷◌, ◌++◌, length, Option, Some, None}
+use Rattle.std.proofs.Common.{if◌then◌else◌, nat_lt, nat_le, nat_eq, refl, sym, ap, subst, inl, inr, ◌∙◌, arith}
 use Rattle.std.proofs.lemmas.Bool.Decides.{nat_tests}
 use Rattle.bac_apdu.specs.Apdu.{Apdu, Limits, Segment}
 use Rattle.bac_apdu.specs.Apdu.Apdu.{ConfirmedRequest, UnconfirmedRequest, SimpleAck, ComplexAck, SegmentAck, Error, Reject, Abort}
@@ -30,8 +30,7 @@ use Rattle.bac_protocol.proofs.Facts.{all_map, pieces_all, pieces_length}
 use Rattle.bac_protocol.proofs.Sound.{IsUnderway}
 use Rattle.bac_protocol.proofs.Transfer.{moved, acknowledged_cases, piece_at_is, takes_cases, takes_below}
 use Rattle.bac_protocol.proofs.Ways.{way_cut}
-use Rattle.bac_liveness.proofs.Flow.{Hands, reach, NearDown, AllDown, all_down, reply_window_near, TakenUp, IsReplySender, StateMade, Flow}
-use Rattle.bac_liveness.proofs.Flow.{EntryFlows}
+use Rattle.bac_liveness.proofs.Flow.{Hands, reach, NearDown, AllDown, all_down, reply_window_near, TakenUp, IsReplySender, StateMade, Flow, EntryFlows}
 use Rattle.bac_liveness.proofs.ClientFlows.{window_bound, reach_moved}
 
 abbrev pub IsDown : Apdu → Type 0
@@ -124,7 +123,8 @@ module _ (V W : ℕ) (x : Rules) (key : Key) (now : Hands) (ask : Ask) (repeats 
   quiet_down ps s sends quiet old = all_down W now s s ps sends copies (omega arith) (omega arith)
       (all_map IsQuiet (λ a. (k : ℕ) → NearDown W ps s k a) (λ a h k. quiet_near W ps s k a h) sends quiet) old
 
-  old_down : (e : ServerTransaction) → o ≡ Some e → is_live now.server e ≡ true → (sends : List Apdu) → Each IsQuiet sends → (st : State) → e.state ≡ st → DownOf sends st
+  old_down : (e : ServerTransaction) → o ≡ Some e → is_live now.server e ≡ true → (sends : List Apdu) → Each IsQuiet sends → (st : State) → e.state ≡ st
+      → DownOf sends st
   old_down e at begun sends quiet (SegmentedResponse out transfer since) is = (
     quiet_down out.pieces (reach out) sends quiet (flow.sent_down e at begun out transfer since is),
     λ inc f. flow.taken_down inc f e at begun out transfer since is,
@@ -304,7 +304,8 @@ module _ (V W : ℕ) (x : Rules) (key : Key) (now : Hands) (ask : Ask) (repeats 
   given_of e at begun out transfer since is =
       (flow.sent_down e at begun out transfer since is, λ inc f. flow.taken_down inc f e at begun out transfer since is)
 
-  response_fine : (e : ServerTransaction) → o ≡ Some e → is_live now.server e ≡ true → (out next : Outgoing) (transfer transfer' : server.Transfer) (since since' : ℕ)
+  response_fine : (e : ServerTransaction) → o ≡ Some e → is_live now.server e ≡ true
+      → (out next : Outgoing) (transfer transfer' : server.Transfer) (since since' : ℕ)
       → e.state ≡ SegmentedResponse out transfer since → next.pieces ≡ out.pieces → IsReplySender L next → reach out ≤ reach next
       → (sends : List Apdu) → reach next ≤ reach out + length sends → Each (λ a. (k : ℕ) → NearDown W out.pieces (reach next) k a) sends
       → IsFine sends (SegmentedResponse next transfer' since')
@@ -345,7 +346,8 @@ module _ (V W : ℕ) (x : Rules) (key : Key) (now : Hands) (ask : Ask) (repeats 
       (reply_window_near W d e.choice next (window_bound L W next some bounded ((sender begun).window)))))
 
   -- with other retries
-  retried_fine : (e : ServerTransaction) → o ≡ Some e → (out : Outgoing) (transfer : server.Transfer) (since r : ℕ) → e.state ≡ SegmentedResponse out transfer since
+  retried_fine : (e : ServerTransaction) → o ≡ Some e → (out : Outgoing) (transfer : server.Transfer) (since r : ℕ)
+      → e.state ≡ SegmentedResponse out transfer since
       → Fine (server.sends_reply_window d e (record out { retries = r }))
   retried_fine e at out transfer since r is =
       window_fine e at out (record out { retries = r }) transfer since is refl

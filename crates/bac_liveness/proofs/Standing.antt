@@ -1,7 +1,6 @@
 -- After every run the two ends of an open transaction that is in time are in step, so one turn answers its ask.
-use Rattle.std.proofs.Common.{◌≡◌, ℕ, ◌+◌, ◌-◌, ◌<◌, ◌≤◌, ◌⊎◌, Bool, true, false, List, length, take, Option, Some, None, if◌then◌else◌}
-use Rattle.std.proofs.Common.{refl, sym, ap, subst, inl, inr, ◌∙◌, arith}
-use Rattle.std.proofs.Common.{nat_le}
+use Rattle.std.proofs.Common.{◌≡◌, ℕ, ◌+◌, ◌-◌, ◌<◌, ◌≤◌, ◌⊎◌, Bool, true, false, List, length, take, Option, Some, None, if◌then◌else◌, refl, sym, ap, subst}
+use Rattle.std.proofs.Common.{inl, inr, ◌∙◌, arith, nat_le}
 use Rattle.std.proofs.lemmas.Bool.Decides.{nat_tests}
 use Rattle.bac_segment.specs.Limits.{N_RETRY}
 use Rattle.bac_segment.specs.Window.{Outgoing, Incoming}
@@ -14,16 +13,15 @@ use Rattle.bac_protocol.specs.Server.State.{Done, SegmentedResponse, Dropped}
 use Rattle.bac_protocol.specs.Log.{Fact, StoreModel}
 use Rattle.bac_protocol.specs.Own.{lesser_window, StateHas, EntryHas, PhaseHas, TicketHas, IsSentByServer, IsLesser}
 use Rattle.bac_protocol.specs.Transaction.{Key, Rules, Copy}
-use Rattle.bac_protocol.specs.World.{World, Event, run, start, copies_of}
+use Rattle.bac_protocol.specs.World.{World, Event, run, start, copies_of, client_now, server_now}
 use Rattle.bac_protocol.specs.Claims.{Moments, moments_of, HasRestartedSince, IsBegunSince, IsBounded}
 use Rattle.bac_protocol.specs.Pace.{Pace, IsTimely}
-use Rattle.bac_protocol.specs.World.{client_now, server_now}
 use Rattle.bac_protocol.proofs.Paces.{within_most, beyond_least}
 use Rattle.bac_protocol.proofs.Headline.{run_kept, start_kept}
 use Rattle.bac_protocol.proofs.Nets.{sound_at}
 use Rattle.bac_protocol.proofs.Owned.{own_in_run}
-use Rattle.bac_protocol.proofs.Sound.{Up, Down, IsUntaken, ClientFits, IsRead, PassFits, CollectsDown, IsUnbegun, SendsDown, StateFits, ServerFits}
-use Rattle.bac_protocol.proofs.Sound.{IsBegunFor, Sound}
+use Rattle.bac_protocol.proofs.Sound.{Up, Down, IsUntaken, ClientFits, IsRead, PassFits, CollectsDown, IsUnbegun, SendsDown, StateFits, ServerFits, IsBegunFor}
+use Rattle.bac_protocol.proofs.Sound.{Sound}
 use Rattle.bac_protocol.proofs.Sound.Up.{Reading, Repeated}
 use Rattle.bac_protocol.proofs.Sound.Down.{Unsent, Sent}
 use Rattle.bac_liveness.specs.Runs.{HasWindows}
@@ -69,9 +67,11 @@ first_pass : (ask : Ask) (repeats t s : ℕ) → ask.whole ≡ false → PassFit
 first_pass ask repeats t s whole (inl is) = absurd (let z = sym whole ∙ is in cc)
 first_pass ask repeats t s whole (inr is) = is
 
-module _ (W : ℕ) (x : Rules) (bound : IsBounded W x) (key : Key) (some : 0 < lesser_window x key) (times : Moments) (asks number : ℕ) (t : ClientTransaction) (o : Option ServerTransaction)
+module _ (W : ℕ) (x : Rules) (bound : IsBounded W x) (key : Key) (some : 0 < lesser_window x key) (times : Moments) (asks number : ℕ) (t : ClientTransaction)
+    (o : Option ServerTransaction)
     (copies : List Copy) (log : List Fact) (flow : Flow W x key (hands_of times) t.ask t.repeats t.phase o copies) (up : Up) (down : Down)
-    (s : Sound W key times asks number t o copies log up down) (stays : o ≡ None → HasRestartedSince times → ⊥) (young : times.client.shows - t.ask.first ≤ DEADLINE)
+    (s : Sound W key times asks number t o copies log up down) (stays : o ≡ None → HasRestartedSince times → ⊥)
+    (young : times.client.shows - t.ask.first ≤ DEADLINE)
     (entry_window : EntryHas (IsSentByServer x key) (IsLesser x key) o) (ticket_window : TicketHas (IsLesser x key) (Some t)) where
   abbrev now : ℕ
   now = times.server.shows
@@ -97,7 +97,8 @@ module _ (W : ℕ) (x : Rules) (bound : IsBounded W x) (key : Key) (some : 0 < l
       go false is =
           let dead : e.begin + KEEP < now = grind (arith, nat_tests) in
           let late = beyond_least times.pace s.clock.timely KEEP begun.began e.begin times.now times.server s.clock.server begun.since dead in
-          let early = within_most times.pace s.clock.timely DEADLINE times.made t.ask.first times.now times.client s.clock.client (s.clock.counts (s.lives going)).since (omega arith) in
+          let early = within_most times.pace s.clock.timely DEADLINE times.made t.ask.first times.now times.client s.clock.client
+          (s.clock.counts (s.lives going)).since (omega arith) in
           let after = begun.after in
           let keeps = s.clock.timely.keeps in
           absurd (omega arith)
@@ -280,7 +281,8 @@ module _ (W : ℕ) (x : Rules) (bound : IsBounded W x) (key : Key) (some : 0 < l
       let f = there now o e is in
       in_step_beside e f.at (live_begun_for e f.at f.live) f.live
 
-pub stands_in_step : (S : Type 0) (model : StoreModel S) (opening : ℕ → S) (W : ℕ) (x : Rules) → IsBounded W x → (pace : Pace) → IsTimely pace → (clocks : ℕ → ℕ)
+pub stands_in_step : (S : Type 0) (model : StoreModel S) (opening : ℕ → S) (W : ℕ) (x : Rules) → IsBounded W x → (pace : Pace) → IsTimely pace
+    → (clocks : ℕ → ℕ)
     → (events : List Event) → (let w = run S model x events (start S pace clocks opening) in (key : Key) → HasWindows x key → (t : ClientTransaction)
     → w.net.tickets key ≡ Some t → (w.net.entries key ≡ None → HasRestartedSince (moments_of w.net key) → ⊥) → client_now w.net key - t.ask.first ≤ DEADLINE
     → AreInStep x key t.ask t.phase (live_entry (server_now w.net key) (w.net.entries key)))
@@ -293,7 +295,8 @@ stands_in_step S model opening W x bound pace timely clocks events key windows t
     let flow = flows_in_run W x bound key some S model opening pace timely clocks events t at in
     let own = own_in_run x S model pace clocks opening events in
     let f = sound_at W w.net key (Some t) at s.net in
-    in_step W x bound key some (moments_of w.net key) w.net.asks (w.net.numbers key) t (w.net.entries key) (copies_of key w.net.posts) w.net.log flow f.0 f.1 f.2
+    in_step W x bound key some (moments_of w.net key) w.net.asks (w.net.numbers key) t (w.net.entries key)
+    (copies_of key w.net.posts) w.net.log flow f.0 f.1 f.2
     stays young (own.entries key) (subst (λ (y : Option ClientTransaction). TicketHas (IsLesser x key) y) at (own.tickets key))
     (live_entry (server_now w.net key) (w.net.entries key)) refl
 
@@ -315,5 +318,7 @@ module _ (S : Type 0) (model : StoreModel S) (opening : ℕ → S) (W : ℕ) (x 
 
   pub answering_run : AnsweringRunExists S model x reached
   answering_run key t at stays good p can =
-      in_step_runs S model opening W x bound reached (run_kept S model opening W x bound events (start S pace clocks opening) (start_kept S model opening W x bound pace timely clocks))
-      key t at good p can (ends_in_step S model opening W x bound pace timely clocks events key (record { client = good.client; server = good.server }) t at stays can.in_time)
+      in_step_runs S model opening W x bound reached (run_kept S model opening W x bound events (start S pace clocks opening)
+      (start_kept S model opening W x bound pace timely clocks))
+      key t at good p can (ends_in_step S model opening W x bound pace timely clocks events key
+      (record { client = good.client; server = good.server }) t at stays can.in_time)

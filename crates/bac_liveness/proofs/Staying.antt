@@ -35,7 +35,8 @@ module _ (x : Rules) (n : Net) where
   heard_path number free service p comes true up = Then n (taken_by_server x n p free service) Here (Step.Serves number p free service comes up tt)
   heard_path number free service p comes false down = taken_path number p comes down (n.tickets p.key) refl
 
-  arrived_path : (number : ℕ) (free : Bool) (service : Service) (o : Option Post) → slice_get n.posts number ≡ o → Path x Any n (arrived x n number free service o)
+  arrived_path : (number : ℕ) (free : Bool) (service : Service) (o : Option Post) → slice_get n.posts number ≡ o
+      → Path x Any n (arrived x n number free service o)
   arrived_path number free service None at = Here
   arrived_path number free service (Some p) at = go (is_deliverable x n number p) refl
     where

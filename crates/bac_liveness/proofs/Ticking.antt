@@ -1,8 +1,8 @@
 -- A tick of a client whose timer is due sends the request again, whatever other tickets and entries tick with it.
+use Rattle.std.specs.List.{Contains}
 use Rattle.std.proofs.Common.{◌≡◌, ℕ, ◌-◌, ◌<◌, ◌≤◌, ◌⊎◌, Bool, true, false, List, [], ◌∷◌, Option, Some, None, if◌then◌else◌, nat_le, refl, sym, ap, subst}
 use Rattle.std.proofs.Common.{inl, inr, ◌∙◌, arith, ◌+◌}
 use Rattle.std.proofs.lemmas.Bool.Decides.{nat_tests}
-use Rattle.std.specs.List.{Contains}
 use Rattle.bac_protocol.specs.declared.times.TheConstants.{T_OUT}
 use Rattle.bac_protocol.specs.Client as client
 use Rattle.bac_protocol.specs.Client.{Ask, ClientTransaction, after, sends_of}
@@ -11,7 +11,7 @@ use Rattle.bac_protocol.specs.Server as server
 use Rattle.bac_protocol.specs.Server.{State, ServerTransaction, is_live, is_none_live}
 use Rattle.bac_protocol.specs.Log.{Fact, StoreModel}
 use Rattle.bac_protocol.specs.Transaction.{Key, Rules, Copy, client_context, server_context}
-use Rattle.bac_protocol.specs.World.{World, copies_of, reacts, serves, happens, ticks_ticket, ticks_as_client, ticks_as_server}
+use Rattle.bac_protocol.specs.World.{World, copies_of, reacts, serves, happens, ticks_ticket, ticks_as_client, ticks_as_server, client_now, server_now}
 use Rattle.bac_protocol.specs.World.Event.{Tick}
 use Rattle.bac_protocol.proofs.Alone.{sent}
 use Rattle.bac_protocol.proofs.Keys.{decide_key, set_same, set_other, copies_posted, copies_other}
@@ -19,7 +19,6 @@ use Rattle.bac_liveness.specs.RoundTrip.{request_to}
 use Rattle.bac_liveness.specs.Repeats.{PATIENCE}
 use Rattle.bac_liveness.proofs.Paths.{some_is}
 use Rattle.bac_liveness.proofs.Endings.{contains_tail}
-use Rattle.bac_protocol.specs.World.{client_now, server_now}
 use Rattle.bac_liveness.proofs.Clocks.{MadeIn, alive}
 use Rattle.bac_liveness.proofs.Waits.{EntryIn, Patient, ticks_by, tick_repeats, patient_on}
 
@@ -41,7 +40,8 @@ module _ (S : Type 0) (model : StoreModel S) (x : Rules) (key : Key) where
 
   module _ (now : Nows) (t : ClientTransaction) (o : Option ServerTransaction) (copies : List Copy) where
     -- another ticket ticks, and its own
-    other_ticket : (u : World S) (k : Key) → (k ≡ key → ⊥) → (y : Option ClientTransaction) → Shows now t o copies u → Shows now t o copies (ticks_ticket S x u k y)
+    other_ticket : (u : World S) (k : Key) → (k ≡ key → ⊥) → (y : Option ClientTransaction) → Shows now t o copies u
+        → Shows now t o copies (ticks_ticket S x u k y)
     other_ticket u k ne None h = h
     other_ticket u k ne (Some s) h =
         let r = client.client_ticks (client_context x k (client_now u.net k)) s in
@@ -120,7 +120,8 @@ module _ (S : Type 0) (model : StoreModel S) (x : Rules) (key : Key) where
 
   -- where its own tick does something, and nothing when it comes again
   module _ (now : Nows) (t : ClientTransaction) (o : Option ServerTransaction) (copies : List Copy) (r : client.Reaction) where
-    pub requester_tick : client.client_ticks (client_context x key now.here) t ≡ r → client.client_ticks (client_context x key now.here) (after now.here t r) ≡ Stays
+    pub requester_tick : client.client_ticks (client_context x key now.here) t ≡ r
+        → client.client_ticks (client_context x key now.here) (after now.here t r) ≡ Stays
         → (keys : List Key) → Contains keys key → (u : World S) → Shows now t o copies u
         → Shows now (after now.here t r) o (sent now.real (sends_of r) copies) (ticks_as_client S x keys u)
     requester_tick is rests [] i u h = let lt = i.1 in absurd (omega arith)
@@ -162,11 +163,13 @@ module _ (S : Type 0) (model : StoreModel S) (x : Rules) (key : Key) where
         let c = server_context x key (server_now v.net key) in
         let same : d.entry ≡ e = some_is d.entry e (sym d.at) in
         let live : is_live (server_now v.net key) e ≡ true = subst (λ (y : ServerTransaction). is_live (server_now v.net key) y ≡ true) same
-        (alive v.net.pace v.net.now (v.net.client_clocks key.client) (v.net.server_clocks key.server) (v.net.restarted key.client) ask.first made runs (omega arith) d.entry d.begun) in
+        (alive v.net.pace v.net.now (v.net.client_clocks key.client) (v.net.server_clocks key.server) (v.net.restarted key.client) ask.first made runs
+        (omega arith) d.entry d.begun) in
         ap (λ b. if b then server.live_ticks c e e.state else server.rests (Some e) []) live
         ∙ ap (λ (st : State). server.live_ticks c e st) (ap (λ (y : ServerTransaction). y.state) (sym same) ∙ d.state)
 
-    pub tick_sends : (v : World S) (t : ClientTransaction) (as_client as_server : List Key) → MadeIn v.net key ask.first made → v.net.tickets key ≡ Some t → t.ask ≡ ask
+    pub tick_sends : (v : World S) (t : ClientTransaction) (as_client as_server : List Key) → MadeIn v.net key ask.first made → v.net.tickets key ≡ Some t
+        → t.ask ≡ ask
         → Patient x key ask number made (client_now v.net key) t → client_now v.net key < ask.first + PATIENCE → T_OUT ≤ client_now v.net key - t.since
         → EntryIn x key ask number made v.net (v.net.entries key) v.net.log → Contains as_client key
         → Shows (now_in v) (record t { repeats = t.repeats - 1; since = client_now v.net key }) (v.net.entries key)
@@ -184,7 +187,7 @@ module _ (S : Type 0) (model : StoreModel S) (x : Rules) (key : Key) where
         again : client.client_ticks (client_context x key (client_now v.net key)) (after (client_now v.net key) t r) ≡ Stays
         again =
             let next : Patient x key ask number made (client_now v.net key) (after (client_now v.net key) t r) =
-            patient_on x key ask number made (client_now v.net key) t w young due in
+            patient_on x key ask number made (client_now v.net key) t w due in
             let undue : nat_le T_OUT (client_now v.net key - client_now v.net key) ≡ false = grind (arith, nat_tests) in
             ticks_by x key ask number made (client_now v.net key) (after (client_now v.net key) t r) is next young
             ∙ ap (λ b. if b then client.repeats (client_context x key (client_now v.net key)) (after (client_now v.net key) t r) else Stays) undue

@@ -1,6 +1,6 @@
 -- What a tick that is due makes of a transaction, and what a run in which each copy is delivered once makes of that.
-use Rattle.std.proofs.Common.{◌≡◌, ℕ, ◌+◌, ◌-◌, ◌*◌, ◌<◌, ◌≤◌, true, false, List, [], ◌∷◌, ◌++◌, map, length, Option, Some, None}
-use Rattle.std.proofs.Common.{if◌then◌else◌, nat_le, nat_eq, refl, sym, ap, subst, inl, inr, ◌∙◌, arith}
+use Rattle.std.proofs.Common.{◌≡◌, ℕ, ◌+◌, ◌-◌, ◌*◌, ◌<◌, ◌≤◌, true, false, List, [], ◌∷◌, ◌++◌, map, length, Option, Some, None, if◌then◌else◌, nat_le, nat_eq}
+use Rattle.std.proofs.Common.{refl, sym, ap, subst, inl, inr, ◌∙◌, arith}
 use Rattle.std.proofs.lemmas.Bool.Decides.{nat_tests}
 use Rattle.bac_apdu.specs.Apdu.{Apdu}
 use Rattle.bac_segment.specs.Pieces.{join}
@@ -19,7 +19,7 @@ use Rattle.bac_protocol.specs.Server.Transfer.{Running}
 use Rattle.bac_protocol.specs.Log.{Fact, Has, StoreModel}
 use Rattle.bac_protocol.specs.Log.Fact.{Performed, Ended}
 use Rattle.bac_protocol.specs.Transaction.{Key, Rules, client_context, server_context, ended}
-use Rattle.bac_protocol.specs.World.{World, happens, post_of, reacts, serves, ticks_ticket}
+use Rattle.bac_protocol.specs.World.{World, happens, post_of, reacts, serves, ticks_ticket, client_now, server_now}
 use Rattle.bac_protocol.specs.World.Event.{Tick}
 use Rattle.bac_protocol.specs.Claims.{IsBounded}
 use Rattle.bac_protocol.specs.Straight.{Straight, Stops, way_count, way_to, request_count}
@@ -32,7 +32,6 @@ use Rattle.bac_protocol.proofs.Follow.{Shows}
 use Rattle.bac_liveness.specs.AfterPast.{IsAnsweredIn}
 use Rattle.bac_liveness.proofs.Deliveries.{Starts, starts_follow}
 use Rattle.bac_liveness.proofs.RoundTrips.{sound, begun_for}
-use Rattle.bac_protocol.specs.World.{client_now, server_now}
 
 -- What was performed, as the log says.
 
@@ -69,7 +68,8 @@ module _ (S : Type 0) (model : StoreModel S) (opening : ℕ → S) (W : ℕ) (x 
       kept_performed number t.ask (server_context x key now.there) w.net.log p
       (subst (λ (a : Apdu). IsKeptFor number t.ask a w.net.log) same (done_fits W number t.ask kept f.0 f.1 w.net.log f.2))
 
-  pub reply_performed : (e : ServerTransaction) → w.net.entries key ≡ Some e → is_live now.there e ≡ true → (out : Outgoing) (transfer : server.Transfer) (since : ℕ)
+  pub reply_performed : (e : ServerTransaction) → w.net.entries key ≡ Some e → is_live now.there e ≡ true
+      → (out : Outgoing) (transfer : server.Transfer) (since : ℕ)
       → e.state ≡ SegmentedResponse out transfer since → (p : reply) → p ≡ Complex (join out.pieces)
       → Has (Performed number (request_of t.ask) p) w.net.log
   reply_performed e entry live out transfer since is p same =
@@ -78,7 +78,8 @@ module _ (S : Type 0) (model : StoreModel S) (opening : ℕ → S) (W : ℕ) (x 
 
   -- The tick of the client.
 
-  pub ticked : w.net.serves_from key.server ≤ now.there → (r : client.Reaction) (q : TransactionPair S) → client.client_ticks (client_context x key now.here) t ≡ r → client.after now.here t r ≡ q.ticket
+  pub ticked : w.net.serves_from key.server ≤ now.there → (r : client.Reaction) (q : TransactionPair S)
+      → client.client_ticks (client_context x key now.here) t ≡ r → client.after now.here t r ≡ q.ticket
       → client.sends_of r ≡ q.pending → client.ending_of r ≡ None → w.stores ≡ q.stores → w.net.log ≡ q.log
       → live_entry now.there (w.net.entries key) ≡ live_entry now.there q.entry
       → Shows S model x now number key (happens S model x w (Tick (key ∷ []) [])) q (length w.net.posts)
@@ -102,7 +103,8 @@ module _ (S : Type 0) (model : StoreModel S) (opening : ℕ → S) (W : ℕ) (x 
 
   -- The tick of the server: the window of a reply is sent again.
 
-  pub server_ticked : w.net.serves_from key.server ≤ now.there → (e : ServerTransaction) → w.net.entries key ≡ Some e → is_live now.there e ≡ true → (out : Outgoing) (since : ℕ)
+  pub server_ticked : w.net.serves_from key.server ≤ now.there → (e : ServerTransaction) → w.net.entries key ≡ Some e → is_live now.there e ≡ true
+      → (out : Outgoing) (since : ℕ)
       → e.state ≡ SegmentedResponse out Running since → T_SEG ≤ now.there - since → 0 < out.retries → (q : TransactionPair S) → q.ticket ≡ t
       → q.entry ≡ Some (record e { state = SegmentedResponse (record out { retries = out.retries - 1 }) Running now.there })
       → q.pending ≡ server.reply_window (server_context x key now.there) e.choice (record out { retries = out.retries - 1 })

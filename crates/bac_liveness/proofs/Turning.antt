@@ -1,6 +1,6 @@
 -- One turn suffices.
-use Rattle.std.proofs.Common.{◌≡◌, ℕ, ◌+◌, ◌-◌, ◌⊎◌, Bool, true, false, ◌&&◌, List, [], ◌∷◌, ◌++◌, length, Some, slice_get}
-use Rattle.std.proofs.Common.{if◌then◌else◌, nat_le, nat_eq, refl, sym, ap, subst, inl, inr, ◌∙◌, arith}
+use Rattle.std.proofs.Common.{◌≡◌, ℕ, ◌+◌, ◌-◌, ◌⊎◌, Bool, true, false, ◌&&◌, List, [], ◌∷◌, ◌++◌, length, Some, slice_get, if◌then◌else◌, nat_le, nat_eq, refl}
+use Rattle.std.proofs.Common.{sym, ap, subst, inl, inr, ◌∙◌, arith}
 use Rattle.std.proofs.lemmas.Bool.Decides.{nat_tests}
 use Rattle.bac_apdu.specs.Apdu.{Apdu}
 use Rattle.bac_segment.specs.Pieces.{join}
@@ -15,13 +15,12 @@ use Rattle.bac_protocol.specs.Client.Reaction.{Stays, Repeats, Ends}
 use Rattle.bac_protocol.specs.Log.{Has, StoreModel}
 use Rattle.bac_protocol.specs.Log.Fact.{Performed}
 use Rattle.bac_protocol.specs.Transaction.{Key, Rules, client_context}
-use Rattle.bac_protocol.specs.World.{World, Post, Event, later, is_deliverable, post_of, happens, run, start, reacts, ticks_ticket, takes_at_server}
+use Rattle.bac_protocol.specs.World.{World, Post, Event, later, is_deliverable, post_of, happens, run, start, reacts, ticks_ticket, takes_at_server, client_now}
 use Rattle.bac_protocol.specs.World.Event.{Tick, Deliver}
 use Rattle.bac_protocol.specs.Claims.{IsBounded}
+use Rattle.bac_protocol.specs.Pace.{Pace, IsTimely}
 use Rattle.bac_protocol.proofs.Headline.{Kept, run_kept, event_kept, start_kept}
 use Rattle.bac_protocol.proofs.Keys.{set_same}
-use Rattle.bac_protocol.specs.Pace.{Pace, IsTimely}
-use Rattle.bac_protocol.specs.World.{client_now}
 use Rattle.bac_liveness.specs.Runs.{IsOnItsWay, StaysSince}
 use Rattle.bac_liveness.specs.RoundTrip.{request_to, answer_to, FitsInOne, CanPerform, HasPerformed, IsAnsweredNow, IsServed}
 use Rattle.bac_liveness.specs.Turns.{IsDue, OneTurnSuffices}
@@ -76,7 +75,8 @@ due_repeats c t whole d =
     left = let y = d.left in grind (arith, nat_tests)
 
 module _ (S : Type 0) (model : StoreModel S) (opening : ℕ → S) (W : ℕ) (x : Rules) (bound : IsBounded W x) where
-  module _ (w : World S) (s : Kept S model opening W x bound w) (bounded : Bounded w.net) (key : Key) (t : ClientTransaction) (at : w.net.tickets key ≡ Some t) (whole : t.ask.whole ≡ true)
+  module _ (w : World S) (s : Kept S model opening W x bound w) (bounded : Bounded w.net) (key : Key) (t : ClientTransaction) (at : w.net.tickets key ≡ Some t)
+      (whole : t.ask.whole ≡ true)
       (d : IsDue (client_now w.net key) t) (p : Reply) (fits : FitsInOne x key t.ask p) (free other : Bool)
       (can : CanPerform S model w key t.ask free p ⊎ HasPerformed x w.net key t.ask (Some (join t.ask.pieces)) p) where
     -- the tick
@@ -158,7 +158,9 @@ module _ (S : Type 0) (model : StoreModel S) (opening : ℕ → S) (W : ℕ) (x 
         Has (Performed (w.net.numbers key) (request_of t.ask) p) y.net.log
         × IsAnsweredNow S key (w.net.numbers key) p y (happens S model x y (Deliver (length w.net.posts + 1) other))) (sym ticked) turn_at_v
 
-  pub turns : (pace : Pace) → IsTimely pace → (clocks : ℕ → ℕ) → (events : List Event) → OneTurnSuffices S model x (run S model x events (start S pace clocks opening))
+  pub turns : (pace : Pace) → IsTimely pace → (clocks : ℕ → ℕ) → (events : List Event)
+      → OneTurnSuffices S model x (run S model x events (start S pace clocks opening))
   turns pace timely clocks events key t at whole d p fits free other can =
-      turn (run S model x events (start S pace clocks opening)) (run_kept S model opening W x bound events (start S pace clocks opening) (start_kept S model opening W x bound pace timely clocks))
+      turn (run S model x events (start S pace clocks opening)) (run_kept S model opening W x bound events (start S pace clocks opening)
+      (start_kept S model opening W x bound pace timely clocks))
       (bounded_in S model opening W x bound pace timely clocks events) key t at whole d p fits free other can

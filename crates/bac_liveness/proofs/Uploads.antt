@@ -1,6 +1,6 @@
 -- A request in segments reaches its server whole, wherever its two ends stood, and is performed.
-use Rattle.std.proofs.Common.{◌≡◌, ℕ, zero, suc, ◌+◌, ◌-◌, ◌*◌, ◌%◌, ◌<◌, ◌≤◌, min, Bool, true, false, List, [], ◌∷◌, ◌++◌, length, get_or}
-use Rattle.std.proofs.Common.{Option, Some, None, if◌then◌else◌, nat_lt, nat_le, append-nil, refl, ap, subst, ◌∙◌, arith}
+use Rattle.std.proofs.Common.{◌≡◌, ℕ, zero, suc, ◌+◌, ◌-◌, ◌*◌, ◌%◌, ◌<◌, ◌≤◌, min, Bool, true, false, List, [], ◌∷◌, ◌++◌, length, get_or, Option, Some, None}
+use Rattle.std.proofs.Common.{if◌then◌else◌, nat_lt, nat_le, append-nil, refl, ap, subst, ◌∙◌, arith}
 use Rattle.std.proofs.lemmas.Bool.Decides.{nat_tests}
 use Rattle.bac_apdu.specs.Apdu.{Apdu}
 use Rattle.bac_segment.specs.Pieces.{join}
@@ -228,7 +228,8 @@ module _ (S : Type 0) (model : StoreModel S) (x : Rules) (now : Nows) (number : 
     asking t o pending = record { ticket = t; entry = o; pending = pending; stores = stores; log = log }
 
     -- the whole request was taken, and is performed
-    pub performs_now : (t : ClientTransaction) (o : Option ServerTransaction) (kept : Option Octets) (state : State) (a : Apdu) (acks xs : List Apdu) → is_from_client a ≡ true
+    pub performs_now : (t : ClientTransaction) (o : Option ServerTransaction) (kept : Option Octets) (state : State) (a : Apdu) (acks xs : List Apdu)
+        → is_from_client a ≡ true
         → server.server_on_apdu d service o true a ≡ server.performs d service (begun kept state) acks (join ask.pieces)
         → step S model x now number key (asking t o (a ∷ xs)) xs a ≡ performed t kept (xs ++ (acks ++ sent_first ∷ []))
     performs_now t o kept state a acks xs up is =
@@ -289,7 +290,8 @@ module _ (S : Type 0) (model : StoreModel S) (x : Rules) (now : Nows) (number : 
           (performs_now (sending z.s) (Some (taking z.inc z.m)) None (State.SegmentedRequest z.inc z.m) (piece z.p) (ack false (z.p % 256) ∷ []) xs refl f)
 
       -- and what the client then hears
-      all_acked : (from : TransactionPair S) (most : ℕ) (z : LastOf from most) → Goes z.spent from (requesting z.s z.inc z.m (piece z.p ∷ acks_of z.nak z.q z.acks))
+      all_acked : (from : TransactionPair S) (most : ℕ) (z : LastOf from most)
+          → Goes z.spent from (requesting z.s z.inc z.m (piece z.p ∷ acks_of z.nak z.q z.acks))
           → (j : ℕ) → z.acks ≡ j → IsRead from most
       unfolding carries sends_on
       all_acked from most z reaches zero e =

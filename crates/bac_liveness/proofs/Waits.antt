@@ -1,6 +1,6 @@
--- An ask of one APDU whose copies find their server is waited for or answered, where its client does not restart.
-use Rattle.std.proofs.Common.{◌≡◌, ℕ, zero, suc, ◌+◌, ◌-◌, ◌*◌, ◌<◌, ◌≤◌, ◌⊎◌, Bool, true, false, ◌&&◌, List, [], ◌∷◌, ◌++◌, map}
-use Rattle.std.proofs.Common.{Option, Some, None, slice_get, if◌then◌else◌, nat_le, nat_eq, refl, sym, ap, subst, inl, inr, ◌∙◌, arith}
+-- An ask of one APDU whose copies find their server is waited for, answered, or given up by its client's clock or restart.
+use Rattle.std.proofs.Common.{◌≡◌, ℕ, zero, suc, ◌+◌, ◌-◌, ◌*◌, ◌<◌, ◌≤◌, ◌⊎◌, Bool, true, false, ◌&&◌, List, [], ◌∷◌, ◌++◌, map, Option, Some, None, slice_get}
+use Rattle.std.proofs.Common.{if◌then◌else◌, ◌||◌, not, nat_le, nat_lt, nat_eq, refl, sym, ap, subst, inl, inr, ◌∙◌, arith}
 use Rattle.std.proofs.lemmas.Bool.Decides.{nat_tests}
 use Rattle.bac_apdu.specs.Apdu.{Apdu}
 use Rattle.bac_segment.specs.Pieces.{join}
@@ -21,25 +21,23 @@ use Rattle.bac_protocol.specs.Log.{Fact, Has}
 use Rattle.bac_protocol.specs.Log.Fact.{Asked, Performed, Ended, Changed, Restarted}
 use Rattle.bac_protocol.specs.Transaction.{Key, Rules, client_context, server_context, ended, performed}
 use Rattle.bac_protocol.specs.World.{Net, Post, is_id_held, is_room, lost, asked_at, client_acts, server_acts, notes_change, client_restarted, server_restarted}
-use Rattle.bac_protocol.specs.World.{post_of, set_at, later}
+use Rattle.bac_protocol.specs.World.{is_lost, is_key_held, post_of, set_at, later, client_now, server_now, passes}
+use Rattle.bac_protocol.specs.Pace.{clock_at, Pace, Clock}
 use Rattle.bac_protocol.proofs.Facts.{Grows, grows_more}
 use Rattle.bac_protocol.proofs.Keys.{decide_key, set_same, set_other}
 use Rattle.bac_protocol.proofs.Dead.{ended_is_silent}
-use Rattle.bac_liveness.specs.Runs.{IsOnItsWay}
+use Rattle.bac_protocol.proofs.Paces.{since_now, shows_on}
+use Rattle.bac_liveness.specs.Runs.{IsOnItsWay, StaysSince}
 use Rattle.bac_liveness.specs.RoundTrip.{FitsInOne, request_to, answer_to}
 use Rattle.bac_liveness.specs.Repeats.{IsAnswered, PATIENCE}
-use Rattle.bac_liveness.specs.Runs.{StaysSince}
-use Rattle.bac_protocol.specs.Pace.{clock_at}
-use Rattle.bac_liveness.proofs.Paths.{Bounded, path_bounded, step_restarted, some_is, ask_of, Comes, Step, Path, grows_ended, grows_performed}
+use Rattle.bac_liveness.proofs.Paths.{some_is, ask_of, Comes, Step, Path, grows_ended, grows_performed}
 use Rattle.bac_liveness.proofs.Paths.Step.{Asks, Serves, Hears, TicksTicket, TicksEntry, Passes, Changes, RestartsClient, RestartsServer, Strange}
 use Rattle.bac_protocol.specs.World.{Strangers}
 use Rattle.bac_liveness.proofs.Paths.Path.{Here, Then}
-use Rattle.bac_protocol.specs.Pace.{Pace, Clock}
-use Rattle.bac_protocol.specs.World.{client_now, server_now, passes}
-use Rattle.bac_protocol.proofs.Paces.{since_now, shows_on}
-use Rattle.bac_liveness.proofs.Clocks.{IsBegunAfter, MadeIn, alive, made_step, begun_passes, here_step, made_path}
+use Rattle.bac_liveness.proofs.Clocks.{IsBegunAfter, AskedIn, SoonIn, alive_soon, asks_no_more, asked_step, soon_before, begun_passes}
 use Rattle.bac_liveness.proofs.Kept.{held_in_time}
-use Rattle.bac_liveness.proofs.Serving.{answer_any_time, answer_not_from_client, answer_ends, performed_entry, answers_first, serves_new, serves_again}
+use Rattle.bac_liveness.proofs.Serving.{answer_any_time, answer_not_from_client, answer_from_server, late_gets, answer_ends, performed_entry, answers_first}
+use Rattle.bac_liveness.proofs.Serving.{serves_new, serves_again}
 
 -- Lists of copies.
 
@@ -104,21 +102,25 @@ module _ (x : Rules) (key : Key) (ask : Ask) (number made : ℕ) where
     pub since : ask.first + (3 - t.repeats) * 3000 ≤ t.since
     pub passed : t.since ≤ now
 
-  -- or it is over, and the ask is answered
-  abbrev pub PatientOrOver : (now : ℕ) → ClientTransaction → List Fact → Type 0
-  PatientOrOver now t log = Patient now t ⊎ ((is_idle t.phase ≡ true) × IsAnswered number ask log)
+  -- the client restarted since, or PATIENCE has passed by its clock
+  abbrev pub IsGivenUp : (restarted now : ℕ) → Type 0
+  IsGivenUp restarted now = (made < restarted) ⊎ (ask.first + PATIENCE ≤ now)
 
-  pub record TicketFits (now : ℕ) (o : Option ClientTransaction) (log : List Fact) : Type 0 where
+  -- or it is over: the ask is answered or given up
+  abbrev pub PatientOrOver : (restarted now : ℕ) → ClientTransaction → List Fact → Type 0
+  PatientOrOver restarted now t log = Patient now t ⊎ ((is_idle t.phase ≡ true) × (IsAnswered number ask log ⊎ IsGivenUp restarted now))
+
+  pub record TicketFits (restarted now : ℕ) (o : Option ClientTransaction) (log : List Fact) : Type 0 where
     pub ticket : ClientTransaction
     pub at : o ≡ Some ticket
     pub is : ticket.ask ≡ ask
-    pub state : PatientOrOver now ticket log
+    pub state : PatientOrOver restarted now ticket log
 
   pub record Waits (n : Net) : Type 0 where
-    pub clock : MadeIn n key ask.first made
+    pub clock : AskedIn n key ask.first made
     pub entry : EntryIn n (n.entries key) n.log
     pub posts : (i : ℕ) (q : Post) → slice_get n.posts i ≡ Some q → q.key ≡ key → n.now - q.copy.moment ≤ n.pace.life → IsFine n.log q.copy.apdu
-    pub ticket : TicketFits (client_now n key) (n.tickets key) n.log
+    pub ticket : TicketFits (n.restarted key.client) (client_now n key) (n.tickets key) n.log
     pub number_is : n.numbers key ≡ number
     pub made_is : n.made key ≡ made
 
@@ -145,12 +147,18 @@ module _ (x : Rules) (key : Key) (ask : Ask) (number made : ℕ) where
   pub answered_grows : (log new : List Fact) → Grows log new → IsAnswered number ask log → IsAnswered number ask new
   answered_grows log new g h = (h.0, g (Performed number (request_of ask) h.0) h.1, g (Ended number (Answered h.0)) h.2)
 
-  ticket_grows : (now : ℕ) (o : Option ClientTransaction) (log new : List Fact) → Grows log new → TicketFits now o log → TicketFits now o new
-  ticket_grows now o log new g h = record { ticket = h.ticket; at = h.at; is = h.is; state = go h.state }
+  over_grows : (restarted now : ℕ) (log new : List Fact) → Grows log new → IsAnswered number ask log ⊎ IsGivenUp restarted now
+      → IsAnswered number ask new ⊎ IsGivenUp restarted now
+  over_grows restarted now log new g (inl h) = inl (answered_grows log new g h)
+  over_grows restarted now log new g (inr h) = inr h
+
+  ticket_grows : (restarted now : ℕ) (o : Option ClientTransaction) (log new : List Fact) → Grows log new → TicketFits restarted now o log
+      → TicketFits restarted now o new
+  ticket_grows restarted now o log new g h = record { ticket = h.ticket; at = h.at; is = h.is; state = go h.state }
     where
-      go : PatientOrOver now h.ticket log → PatientOrOver now h.ticket new
+      go : PatientOrOver restarted now h.ticket log → PatientOrOver restarted now h.ticket new
       go (inl p) = inl p
-      go (inr o) = inr (o.0, answered_grows log new g o.1)
+      go (inr o) = inr (o.0, over_grows restarted now log new g o.1)
 
   -- the copies after some were sent
   posts_on : (n : Net) (k : Key) (sends : List Apdu) (log : List Fact) → Waits n → Grows n.log log → (k ≡ key → Each (IsFine log) sends)
@@ -165,7 +173,8 @@ module _ (x : Rules) (key : Key) (ask : Ask) (number made : ℕ) where
   -- What one end does.
 
   abbrev ClientGoal : Net → ClientTransaction → client.Reaction → Type 0
-  ClientGoal n t r = TicketFits (client_now n key) (Some (after (client_now n key) t r)) (ended number (ending_of r) n.log) × Each (IsFine n.log) (sends_of r)
+  ClientGoal n t r = TicketFits (n.restarted key.client) (client_now n key) (Some (after (client_now n key) t r)) (ended number (ending_of r) n.log)
+      × Each (IsFine n.log) (sends_of r)
 
   abbrev ServerGoal : Net → server.Reaction → Type 0
   ServerGoal n v = EntryIn n v.entry (performed number v.effect n.log) × Each (IsFine (performed number v.effect n.log)) v.sends
@@ -193,21 +202,24 @@ module _ (x : Rules) (key : Key) (ask : Ask) (number made : ℕ) where
       kept : Option ClientTransaction
       kept = Some (after (client_now n k) t r)
 
-      go : ((k ≡ key) ⊎ (k ≡ key → ⊥)) → TicketFits (client_now n key) (set_at n.tickets k kept key) log
+      go : ((k ≡ key) ⊎ (k ≡ key → ⊥)) → TicketFits (n.restarted key.client) (client_now n key) (set_at n.tickets k kept key) log
       go (inl is) =
           let own_log : n.numbers k ≡ number = ap n.numbers is ∙ h.number_is in
-          subst (λ (o : Option ClientTransaction). TicketFits (client_now n key) o log)
+          subst (λ (o : Option ClientTransaction). TicketFits (n.restarted key.client) (client_now n key) o log)
           (sym (subst (λ (j : Key). set_at n.tickets k kept j ≡ kept) is (set_same n.tickets k kept)))
-          (subst (λ (m : ℕ). TicketFits (client_now n key) kept (ended m (ending_of r) n.log)) (sym own_log) (subst (λ (j : Key). TicketFits (client_now n key) (Some (after (client_now n j) t r)) (ended number (ending_of r) n.log)) (sym is) (own is).0))
-      go (inr ne) = subst (λ (o : Option ClientTransaction). TicketFits (client_now n key) o log) (sym (set_other n.tickets k kept key ne))
-          (ticket_grows (client_now n key) (n.tickets key) n.log log g h.ticket)
+          (subst (λ (m : ℕ). TicketFits (n.restarted key.client) (client_now n key) kept (ended m (ending_of r) n.log)) (sym own_log)
+          (subst (λ (j : Key). TicketFits (n.restarted key.client) (client_now n key) (Some (after (client_now n j) t r)) (ended number (ending_of r) n.log))
+          (sym is) (own is).0))
+      go (inr ne) = subst (λ (o : Option ClientTransaction). TicketFits (n.restarted key.client) (client_now n key) o log)
+          (sym (set_other n.tickets k kept key ne))
+          (ticket_grows (n.restarted key.client) (client_now n key) (n.tickets key) n.log log g h.ticket)
 
   server_waits : (n : Net) (k : Key) (v : server.Reaction) → Waits n → (k ≡ key → ServerGoal n v) → Waits (server_acts n k v)
   server_waits n k v h own = record {
     clock = h.clock;
     entry = go (decide_key k key);
     posts = posts_on n k v.sends log h g (λ is. subst (λ (m : ℕ). Each (IsFine (performed m v.effect n.log)) v.sends) (sym (own_log is)) (own is).1);
-    ticket = ticket_grows (client_now n key) (n.tickets key) n.log log g h.ticket;
+    ticket = ticket_grows (n.restarted key.client) (client_now n key) (n.tickets key) n.log log g h.ticket;
     number_is = h.number_is;
     made_is = h.made_is;
   }
@@ -231,37 +243,75 @@ module _ (x : Rules) (key : Key) (ask : Ask) (number made : ℕ) where
   abbrev pub InPatience : Net → Type 0
   InPatience n = client_now n key < ask.first + PATIENCE
 
+  -- no more real time has passed since the ask than may pass while a clock goes on by DEADLINE
+  abbrev pub Soon : Net → Type 0
+  Soon n = SoonIn n made
+
   -- The ticket is over, or an answer or its timer comes.
 
-  idle_stays : (n : Net) (t : ClientTransaction) → t.ask ≡ ask → is_idle t.phase ≡ true → IsAnswered number ask n.log → ClientGoal n t Stays
+  idle_stays : (n : Net) (t : ClientTransaction) → t.ask ≡ ask → is_idle t.phase ≡ true
+      → IsAnswered number ask n.log ⊎ IsGivenUp (n.restarted key.client) (client_now n key) → ClientGoal n t Stays
   idle_stays n t is idle over = (record { ticket = t; at = refl; is = is; state = inr (idle, over) }, tt)
 
   -- what is known of the ticket, by its name
-  pub known : (n : Net) (t : ClientTransaction) → n.tickets key ≡ Some t → Waits n → (t.ask ≡ ask) × PatientOrOver (client_now n key) t n.log
+  pub known : (n : Net) (t : ClientTransaction) → n.tickets key ≡ Some t → Waits n → (t.ask ≡ ask)
+      × PatientOrOver (n.restarted key.client) (client_now n key) t n.log
   known n t at h =
-      let same : h.ticket.ticket ≡ t = some_is h.ticket.ticket t (sym h.ticket.at ∙ at) in
-      (subst (λ (y : ClientTransaction). y.ask ≡ ask) same h.ticket.is, subst (λ (y : ClientTransaction). PatientOrOver (client_now n key) y n.log) same h.ticket.state)
+      let same : h.ticket.ticket ≡ t = some_is h.ticket.ticket t (sym h.ticket.at ∙ at) in (
+        subst (λ (y : ClientTransaction). y.ask ≡ ask) same h.ticket.is,
+        subst
+            (λ (y : ClientTransaction). PatientOrOver (n.restarted key.client) (client_now n key) y n.log) same h.ticket.state,
+      )
 
-  hears_answer : (n : Net) → InPatience n → (p : Reply) → WasGiven p n.log → (t : ClientTransaction) → t.ask ≡ ask → PatientOrOver (client_now n key) t n.log
+  hears_answer : (n : Net) (p : Reply) → WasGiven p n.log → (t : ClientTransaction) → t.ask ≡ ask
+      → PatientOrOver (n.restarted key.client) (client_now n key) t n.log
       → ClientGoal n t (client.client_on_apdu (client_context x key (client_now n key)) x.readable t (answer_to x key ask p))
-  hears_answer n young p given t is (inr o) =
-      subst (ClientGoal n t) (sym (ended_is_silent.gets (client_context x key (client_now n key)) x.readable t (answer_to x key ask p) o.0)) (idle_stays n t is o.0 o.1)
-  hears_answer n young p given t is (inl w) =
-      let c = client_context x key (client_now n key) in
-      let first : t.ask.first ≡ ask.first = ap (λ (a : Ask). a.first) is in
-      subst (ClientGoal n t) (sym (subst (λ (a : Ask). client.client_on_apdu c x.readable t (answer_to x key a p) ≡ Ends [] (Answered p)) is
-      (answer_ends c (server_context x key t.ask.first) x.readable t p w.waits (grind (arith, nat_tests))
-      (subst (λ (a : Ask). FitsInOne x key a p) (sym is) given.0).kind)))
-      (record { ticket = record t { phase = Idle }; at = refl; is = is; state = inr (refl, (p, inr given.1, inl refl)) }, tt)
+  hears_answer n p given t is (inr o) =
+      subst (ClientGoal n t) (sym (ended_is_silent.gets (client_context x key (client_now n key)) x.readable t (answer_to x key ask p) o.0))
+      (idle_stays n t is o.0 o.1)
+  hears_answer n p given t is (inl w) = go (is_expired (client_now n key) t.ask) refl
+    where
+      c : Context
+      c = client_context x key (client_now n key)
+
+      first : t.ask.first ≡ ask.first
+      first = ap (λ (a : Ask). a.first) is
+
+      over : ClientTransaction
+      over = record t { phase = Idle }
+
+      go : (b : Bool) → is_expired (client_now n key) t.ask ≡ b
+          → ClientGoal n t (client.client_on_apdu (client_context x key (client_now n key)) x.readable t (answer_to x key ask p))
+      go false young =
+          subst (ClientGoal n t) (sym (subst (λ (a : Ask). client.client_on_apdu c x.readable t (answer_to x key a p) ≡ Ends [] (Answered p)) is
+          (answer_ends c (server_context x key t.ask.first) x.readable t p w.waits young
+          (subst (λ (a : Ask). FitsInOne x key a p) (sym is) given.0).kind)))
+          (record { ticket = record t { phase = Idle }; at = refl; is = is; state = inr (refl, inl (p, inr given.1, inl refl)) }, tt)
+      go true late =
+          subst (ClientGoal n t) (sym (late_gets x.readable c t (answer_to x key ask p)
+          (answer_from_server (server_context x key ask.first) ask.choice p) (ap is_idle w.waits) (grind (arith, nat_tests)))) (
+            record {
+              ticket = record t { phase = Idle };
+              at = refl;
+              is = is;
+              state = inr (refl, inr (inr (let f = first in grind (arith, nat_tests))));
+            },
+            tt,
+          )
 
   -- an answer that comes to it leaves the ask answered, where its client has not restarted
-  pub told_answered : (n : Net) → Waits n → InPatience n → (t : ClientTransaction) → n.tickets key ≡ Some t → (p : Reply) → WasGiven p n.log
-      → IsAnswered number ask (ended number (ending_of (client.client_on_apdu (client_context x key (client_now n key)) x.readable t (answer_to x key ask p))) n.log)
-  told_answered n h young t at p given = go (known n t at h).0 (known n t at h).1
+  pub told_answered : (n : Net) → Waits n → StaysSince n key made → InPatience n → (t : ClientTransaction) → n.tickets key ≡ Some t → (p : Reply)
+      → WasGiven p n.log
+      → IsAnswered number ask (ended number (ending_of (client.client_on_apdu (client_context x key (client_now n key)) x.readable t
+      (answer_to x key ask p))) n.log)
+  told_answered n h stays young t at p given = go (known n t at h).0 (known n t at h).1
     where
-      go : t.ask ≡ ask → PatientOrOver (client_now n key) t n.log
-          → IsAnswered number ask (ended number (ending_of (client.client_on_apdu (client_context x key (client_now n key)) x.readable t (answer_to x key ask p))) n.log)
-      go is (inr (idle, o)) = answered_grows n.log
+      go : t.ask ≡ ask → PatientOrOver (n.restarted key.client) (client_now n key) t n.log
+          → IsAnswered number ask (ended number (ending_of (client.client_on_apdu (client_context x key (client_now n key)) x.readable t
+          (answer_to x key ask p))) n.log)
+      go is (inr (idle, inr (inl lost))) = let le = stays in absurd (omega arith)
+      go is (inr (idle, inr (inr late))) = let lt = young in absurd (omega arith)
+      go is (inr (idle, inl o)) = answered_grows n.log
           (ended number (ending_of (client.client_on_apdu (client_context x key (client_now n key)) x.readable t (answer_to x key ask p))) n.log)
           (grows_ended number (ending_of (client.client_on_apdu (client_context x key (client_now n key)) x.readable t (answer_to x key ask p))) n.log) o
       go is (inl w) =
@@ -311,33 +361,65 @@ module _ (x : Rules) (key : Key) (ask : Ask) (number made : ℕ) where
       left : nat_eq t.repeats 0 ≡ false
       left = let some = repeat_left now t w young due in grind (arith, nat_tests)
 
-  pub patient_on : (now : ℕ) (t : ClientTransaction) → Patient now t → now < ask.first + PATIENCE → T_OUT ≤ now - t.since
+  pub patient_on : (now : ℕ) (t : ClientTransaction) → Patient now t → T_OUT ≤ now - t.since
       → Patient now (after now t (Repeats t.phase (request_to x key ask ∷ [])))
-  patient_on now t w young due = record { waits = w.waits; few = let f = w.few in omega arith; since = steps t.repeats w.few w.since; passed = omega arith }
+  patient_on now t w due = record { waits = w.waits; few = let f = w.few in omega arith; since = steps t.repeats w.few w.since; passed = omega arith }
     where
       steps : (r : ℕ) → r ≤ 3 → ask.first + (3 - r) * 3000 ≤ t.since → ask.first + (3 - (r - 1)) * 3000 ≤ now
       steps r few s = let p = w.passed in omega arith
 
-  ticks_timer : (n : Net) → ask.whole ≡ true → InPatience n → (t : ClientTransaction) → t.ask ≡ ask → PatientOrOver (client_now n key) t n.log
+  -- what its timer does, also later
+  module _ (n : Net) (whole : ask.whole ≡ true) (t : ClientTransaction) (is : t.ask ≡ ask) (w : Patient (client_now n key) t) where
+    abbrev ticking : Context
+    ticking = client_context x key (client_now n key)
+
+    given_up : (log : List Fact) → ask.first + PATIENCE ≤ client_now n key
+        → TicketFits (n.restarted key.client) (client_now n key) (Some (record t { phase = Idle })) log
+    given_up log late = record { ticket = record t { phase = Idle }; at = refl; is = is; state = inr (refl, inr (inr late)) }
+
+    due_goal : T_OUT ≤ client_now n key - t.since → (b : Bool) → nat_eq t.repeats 0 ≡ b
+        → ClientGoal n t (if b then Ends [] TimedOut else Repeats t.phase (client.request_apdu ticking t.ask ∷ []))
+    due_goal due true none = (given_up (Ended number TimedOut ∷ n.log) (used_up t.repeats (grind (arith, nat_tests)) w.since), tt)
+      where
+        used_up : (r : ℕ) → r ≡ 0 → ask.first + (3 - r) * 3000 ≤ t.since → ask.first + PATIENCE ≤ client_now n key
+        used_up zero e since = omega arith
+        used_up (suc r) e since = absurd (omega arith)
+    due_goal due false some = (
+      record {
+        ticket = after (client_now n key) t (Repeats t.phase (request_to x key ask ∷ []));
+        at = refl;
+        is = is;
+        state = inl (patient_on (client_now n key) t w due);
+      },
+      (inl (ap (client.request_apdu ticking) is), tt),
+    )
+
+    timer_goal : (b : Bool) → nat_le T_OUT (client_now n key - t.since) ≡ b → ClientGoal n t (if b then client.repeats ticking t else Stays)
+    timer_goal false e = (record { ticket = t; at = refl; is = is; state = inl w }, tt)
+    timer_goal true e = subst (λ (b : Bool). ClientGoal n t (if b then client.repeats_whole ticking t else client.repeats_pieces ticking t))
+        (sym (ap (λ (a : Ask). a.whole) is ∙ whole)) (due_goal (grind (arith, nat_tests)) (nat_eq t.repeats 0) refl)
+
+    open_goal : (b : Bool) → is_expired (client_now n key) t.ask ≡ b
+        → ClientGoal n t (if b then Ends [] Expired else client.open_ticks ticking t AwaitConfirmation)
+    open_goal true late = (
+      given_up (Ended number Expired ∷ n.log)
+          (let f : t.ask.first ≡ ask.first = ap (λ (a : Ask). a.first) is in grind (arith, nat_tests)),
+      tt,
+    )
+    open_goal false young = timer_goal (nat_le T_OUT (client_now n key - t.since)) refl
+
+  ticks_timer : (n : Net) → ask.whole ≡ true → (t : ClientTransaction) → t.ask ≡ ask → PatientOrOver (n.restarted key.client) (client_now n key) t n.log
       → ClientGoal n t (client.client_ticks (client_context x key (client_now n key)) t)
-  ticks_timer n whole young t is (inr o) =
+  ticks_timer n whole t is (inr o) =
       subst (ClientGoal n t) (sym (ended_is_silent.ticks (client_context x key (client_now n key)) t o.0)) (idle_stays n t is o.0 o.1)
-  ticks_timer n whole young t is (inl w) = go (nat_le T_OUT (client_now n key - t.since)) refl
-    where
-      go : (b : Bool) → nat_le T_OUT (client_now n key - t.since) ≡ b → ClientGoal n t (client.client_ticks (client_context x key (client_now n key)) t)
-      go false e = subst (ClientGoal n t)
-          (sym (ticks_by (client_now n key) t is w young ∙ ap (λ b. if b then client.repeats (client_context x key (client_now n key)) t else Stays) e))
-          (record { ticket = t; at = refl; is = is; state = inl w }, tt)
-      go true e =
-          let due : T_OUT ≤ client_now n key - t.since = grind (arith, nat_tests) in
-          let r : client.Reaction = Repeats t.phase (request_to x key ask ∷ []) in
-          subst (ClientGoal n t) (sym (tick_repeats (client_now n key) t whole is w young due))
-          (record { ticket = after (client_now n key) t r; at = refl; is = is; state = inl (patient_on (client_now n key) t w young due) }, (inl refl, tt))
+  ticks_timer n whole t is (inl w) = subst (λ (ph : Phase). ClientGoal n t (if is_idle ph then Stays
+      else if is_expired (client_now n key) t.ask then Ends [] Expired else client.open_ticks (client_context x key (client_now n key)) t ph))
+      (sym w.waits) (open_goal n whole t is w (is_expired (client_now n key) t.ask) refl)
 
   -- The request or a tick comes to the server.
 
-  pub done_live : (n : Net) → MadeIn n key ask.first made → InPatience n → (d : DoneFor n (n.entries key) n.log) → is_live (server_now n key) d.entry ≡ true
-  done_live n runs young d = alive n.pace n.now (n.client_clocks key.client) (n.server_clocks key.server) (n.restarted key.client) ask.first made runs (omega arith) d.entry d.begun
+  pub done_live : (n : Net) → AskedIn n key ask.first made → Soon n → (d : DoneFor n (n.entries key) n.log) → is_live (server_now n key) d.entry ≡ true
+  done_live n runs soon d = alive_soon n.pace runs.timely n.now (n.server_clocks key.server) runs.server_told made soon d.entry d.begun
 
   -- a delivery finds a free slot of a server that does not wait and a reply that goes in one APDU, where no entry is live
   abbrev pub Finds : Net → ℕ → Bool → Service → Type 0
@@ -363,21 +445,23 @@ module _ (x : Rules) (key : Key) (ask : Ask) (number made : ℕ) where
     fine,
   )
 
-  serves_request : (n : Net) → Waits n → InPatience n → (service : Service) (free : Bool)
-      → (is_none_live (server_now n key) (n.entries key) ≡ true → (p : Reply) × (free ≡ true) × (service ask.choice (join ask.pieces) ≡ Replies p) × FitsInOne x key ask p)
+  serves_request : (n : Net) → Waits n → Soon n → (service : Service) (free : Bool)
+      → (is_none_live (server_now n key) (n.entries key) ≡ true → (p : Reply) × (free ≡ true) × (service ask.choice (join ask.pieces) ≡ Replies p)
+      × FitsInOne x key ask p)
       → EntryIn n (n.entries key) n.log → ServerGoal n (on_request n service (n.entries key) free)
   serves_request n h young service free finds (inl none) =
       let cl = client_context x key ask.first in
       let y = finds none in
       subst (ServerGoal n) (sym (ap (on_request n service (n.entries key)) y.1
       ∙ serves_new (server_context x key (server_now n key)) cl service (n.entries key) ask y.0 none y.2 (y.3).way
-      ∙ ap (λ (a : Apdu). answers_first (performed_entry (server_now n key) cl ask a) ask y.0 a) (answer_any_time x key (server_now n key) ask.first ask.choice y.0))) (
+      ∙ ap (λ (a : Apdu). answers_first (performed_entry (server_now n key) cl ask a) ask y.0 a)
+      (answer_any_time x key (server_now n key) ask.first ask.choice y.0))) (
         inr (record {
           entry = performed_entry (server_now n key) cl ask (answer_to x key ask y.0);
           at = refl;
           begun = record {
             began = n.now;
-            after = h.clock.since.on;
+            after = h.clock.on;
             since = since_now n.pace n.now (n.server_clocks key.server) h.clock.server_told;
           };
           choice = refl;
@@ -395,9 +479,11 @@ module _ (x : Rules) (key : Key) (ask : Ask) (number made : ℕ) where
       (kept_goal n (n.entries key) d (answer_to x key ask d.reply ∷ []) (inr (d.reply, refl, d.given), tt))
 
   -- it brings one answer
-  pub brings_answer : (n : Net) → Waits n → InPatience n → (service : Service) (free : Bool)
-      → (is_none_live (server_now n key) (n.entries key) ≡ true → (p : Reply) × (free ≡ true) × (service ask.choice (join ask.pieces) ≡ Replies p) × FitsInOne x key ask p)
-      → (p : Reply) × ((server.server_on_apdu (server_context x key (server_now n key)) service (n.entries key) free (request_to x key ask)).sends ≡ answer_to x key ask p ∷ [])
+  pub brings_answer : (n : Net) → Waits n → Soon n → (service : Service) (free : Bool)
+      → (is_none_live (server_now n key) (n.entries key) ≡ true → (p : Reply) × (free ≡ true) × (service ask.choice (join ask.pieces) ≡ Replies p)
+      × FitsInOne x key ask p)
+      → (p : Reply) × ((server.server_on_apdu (server_context x key (server_now n key)) service (n.entries key) free
+      (request_to x key ask)).sends ≡ answer_to x key ask p ∷ [])
   brings_answer n h young service free finds = go h.entry
     where
       go : EntryIn n (n.entries key) n.log → (p : Reply) × ((on_request n service (n.entries key) free).sends ≡ answer_to x key ask p ∷ [])
@@ -416,11 +502,12 @@ module _ (x : Rules) (key : Key) (ask : Ask) (number made : ℕ) where
             (done_live n h.clock young d) d.state d.choice d.request),
       )
 
-  ticks_entry : (n : Net) → MadeIn n key ask.first made → InPatience n → EntryIn n (n.entries key) n.log
+  ticks_entry : (n : Net) → AskedIn n key ask.first made → Soon n → EntryIn n (n.entries key) n.log
       → ServerGoal n (server.server_ticks (server_context x key (server_now n key)) (n.entries key))
   ticks_entry n runs young (inl none) = go (n.entries key) none
     where
-      go : (o : Option ServerTransaction) → is_none_live (server_now n key) o ≡ true → ServerGoal n (server.server_ticks (server_context x key (server_now n key)) o)
+      go : (o : Option ServerTransaction) → is_none_live (server_now n key) o ≡ true
+          → ServerGoal n (server.server_ticks (server_context x key (server_now n key)) o)
       go None e = (inl refl, tt)
       go (Some d) e = by (is_live (server_now n key) d) refl e
         where
@@ -454,9 +541,17 @@ module _ (x : Rules) (key : Key) (ask : Ask) (number made : ℕ) where
   fine_down log a down (inl is) = absurd (let z = sym (ap is_from_client is) ∙ down in cc)
   fine_down log a down (inr r) = r
 
-  key_held : (n : Net) → Waits n → InPatience n → is_id_held n key ≡ true
-  key_held n h young = held_in_time x Finds key number ask made n
-      (record { ticket = h.ticket.ticket; at = h.ticket.at; is = h.ticket.is; number_is = h.number_is; made_is = h.made_is }) h.clock.stays (omega arith)
+  key_held : (n : Net) → Waits n → Soon n → is_id_held n key ≡ true
+  key_held n h soon = go (asks_no_more n key ask.first made h.clock soon)
+    where
+      go : ((n.restarted key.client ≤ made) × (client_now n key ≤ ask.first + REST)) ⊎ (client_now n key < n.asks_from key.client)
+          → is_id_held n key ≡ true
+      go (inl k) = held_in_time x Finds key number ask made n
+          (record { ticket = h.ticket.ticket; at = h.ticket.at; is = h.ticket.is; number_is = h.number_is; made_is = h.made_is }) k.0
+          (let le = k.1 in omega arith)
+      go (inr lt) =
+          let waits : nat_lt (client_now n key) (n.asks_from key.client) ≡ true = grind (arith, nat_tests) in
+          ap (λ (b : Bool). b || (not (is_lost n key) && is_key_held (client_now n key) (n.tickets key))) waits
 
   -- another transaction's ask
   asked_waits : (n : Net) (k : Key) (other : Ask) → (k ≡ key → ⊥) → Waits n → Waits (asked_at x n k other)
@@ -464,8 +559,9 @@ module _ (x : Rules) (key : Key) (ask : Ask) (number made : ℕ) where
     clock = h.clock;
     entry = entry_grows n.pace n.now (n.server_clocks key.server) (n.entries key) n.log log g h.entry;
     posts = posts_on n k (sends_of (client.asks (client_context x k (client_now n k)) other)) log h g (λ is. absurd (ne is));
-    ticket = subst (λ (o : Option ClientTransaction). TicketFits (client_now n key) o log) (sym (set_other n.tickets k next_ticket key ne))
-        (ticket_grows (client_now n key) (n.tickets key) n.log log g h.ticket);
+    ticket = subst (λ (o : Option ClientTransaction). TicketFits (n.restarted key.client) (client_now n key) o log)
+        (sym (set_other n.tickets k next_ticket key ne))
+        (ticket_grows (n.restarted key.client) (client_now n key) (n.tickets key) n.log log g h.ticket);
     number_is = set_other n.numbers k n.asks key ne ∙ h.number_is;
     made_is = set_other n.made k n.now key ne ∙ h.made_is;
   }
@@ -481,7 +577,7 @@ module _ (x : Rules) (key : Key) (ask : Ask) (number made : ℕ) where
 
   passes_waits : (n : Net) (by : ℕ) (clients servers : ℕ → ℕ) → Waits n → Waits (passes n by clients servers)
   passes_waits n by clients servers h = record {
-    clock = made_step x Finds key ask.first made n (passes n by clients servers) (Passes by clients servers) h.clock.stays h.clock;
+    clock = asked_step x Finds key ask.first made n (passes n by clients servers) (Passes by clients servers) h.clock;
     entry = entry_later h.entry;
     posts = λ i q at is young. h.posts i q at is (omega arith);
     ticket = record { ticket = h.ticket.ticket; at = h.ticket.at; is = h.ticket.is; state = state_later h.ticket.state };
@@ -503,25 +599,31 @@ module _ (x : Rules) (key : Key) (ask : Ask) (number made : ℕ) where
         given = d.given;
       })
 
-      state_later : PatientOrOver (client_now n key) h.ticket.ticket n.log
-          → PatientOrOver (client_now (passes n by clients servers) key) h.ticket.ticket n.log
+      on : client_now n key ≤ client_now (passes n by clients servers) key
+      on = shows_on n.pace h.clock.timely.some by (clients key.client) (n.client_clocks key.client) h.clock.client_told
+
+      over_later : IsAnswered number ask n.log ⊎ IsGivenUp (n.restarted key.client) (client_now n key)
+          → IsAnswered number ask n.log ⊎ IsGivenUp (n.restarted key.client) (client_now (passes n by clients servers) key)
+      over_later (inl a) = inl a
+      over_later (inr (inl lost)) = inr (inl lost)
+      over_later (inr (inr late)) = inr (inr (let le = on in omega arith))
+
+      state_later : PatientOrOver (n.restarted key.client) (client_now n key) h.ticket.ticket n.log
+          → PatientOrOver (n.restarted key.client) (client_now (passes n by clients servers) key) h.ticket.ticket n.log
       state_later (inl p) = inl (record {
         waits = p.waits;
         few = p.few;
         since = p.since;
-        passed =
-            let q = p.passed in
-            let on = shows_on n.pace h.clock.timely.some by (clients key.client) (n.client_clocks key.client) h.clock.client_told in
-            omega arith;
+        passed = let q = p.passed in let le = on in omega arith;
       })
-      state_later (inr o) = inr o
+      state_later (inr o) = inr (o.0, over_later o.1)
 
   changes_waits : (n : Net) (node : ℕ) (change : Octets) → Waits n → Waits (notes_change n node change)
   changes_waits n node change h = record {
     clock = h.clock;
     entry = entry_grows n.pace n.now (n.server_clocks key.server) (n.entries key) n.log log g h.entry;
     posts = λ i q at is young. fine_grows n.log log g q.copy.apdu (h.posts i q at is young);
-    ticket = ticket_grows (client_now n key) (n.tickets key) n.log log g h.ticket;
+    ticket = ticket_grows (n.restarted key.client) (client_now n key) (n.tickets key) n.log log g h.ticket;
     number_is = h.number_is;
     made_is = h.made_is;
   }
@@ -538,33 +640,38 @@ module _ (x : Rules) (key : Key) (ask : Ask) (number made : ℕ) where
     clock = h.clock;
     entry = entry_grows n.pace n.now (n.server_clocks key.server) (n.entries key) n.log log g h.entry;
     posts = λ i q at is young. fine_grows n.log log g q.copy.apdu (h.posts i q at is young);
-    ticket = ticket_grows (client_now n key) (n.tickets key) n.log log g h.ticket;
+    ticket = ticket_grows (n.restarted key.client) (client_now n key) (n.tickets key) n.log log g h.ticket;
     number_is = h.number_is;
     made_is = h.made_is;
   }
 
-  -- another client's restart, and one of a server, which loses the entry
-  client_lost : (n : Net) (node exact : ℕ) → StaysSince (client_restarted n node exact) key made → Waits n → Waits (client_restarted n node exact)
-  client_lost n node exact stays h = record {
-    clock = made_step x Finds key ask.first made n (client_restarted n node exact) (RestartsClient node exact) stays h.clock;
+  -- its client's restart loses the ticket, and its server's the entry
+  client_lost : (n : Net) (node exact : ℕ) → Waits n → Waits (client_restarted n node exact)
+  client_lost n node exact h = record {
+    clock = asked_step x Finds key ask.first made n (client_restarted n node exact) (RestartsClient node exact) h.clock;
     entry = h.entry;
     posts = h.posts;
-    ticket = go (nat_eq key.client node) stays;
+    ticket = go (nat_eq key.client node);
     number_is = h.number_is;
     made_is = h.made_is;
   }
     where
-      go : (b : Bool) → (if b then n.now + 1 else n.restarted key.client) ≤ made
-          → TicketFits (if b then clock_at n.pace exact else n.client_clocks key.client).shows (if b then lost (n.tickets key) else n.tickets key) n.log
-      go true le = let on = h.clock.since.on in absurd (omega arith)
-      go false le = h.ticket
+      go : (b : Bool) → TicketFits (if b then n.now + 1 else n.restarted key.client)
+          (if b then clock_at n.pace exact else n.client_clocks key.client).shows (if b then lost (n.tickets key) else n.tickets key) n.log
+      go true = record {
+        ticket = record (h.ticket.ticket) { phase = Idle };
+        at = ap lost h.ticket.at;
+        is = h.ticket.is;
+        state = inr (refl, inr (inl (let on = h.clock.on in omega arith)));
+      }
+      go false = h.ticket
 
   server_lost : (n : Net) (node exact : ℕ) (store : Option Octets) → Waits n → Waits (server_restarted n node exact store)
   server_lost n node exact store h = record {
-    clock = made_step x Finds key ask.first made n (server_restarted n node exact store) (RestartsServer node exact store) h.clock.stays h.clock;
+    clock = asked_step x Finds key ask.first made n (server_restarted n node exact store) (RestartsServer node exact store) h.clock;
     entry = go (nat_eq key.server node);
     posts = λ i q at is young. fine_grows n.log log g q.copy.apdu (h.posts i q at is young);
-    ticket = ticket_grows (client_now n key) (n.tickets key) n.log log g h.ticket;
+    ticket = ticket_grows (n.restarted key.client) (client_now n key) (n.tickets key) n.log log g h.ticket;
     number_is = h.number_is;
     made_is = h.made_is;
   }
@@ -579,40 +686,42 @@ module _ (x : Rules) (key : Key) (ask : Ask) (number made : ℕ) where
       go true = inl refl
       go false = entry_grows n.pace n.now (n.server_clocks key.server) (n.entries key) n.log log g h.entry
 
-  waits_step : ask.whole ≡ true → (n m : Net) → Step x Finds n m → StaysSince m key made → Waits n → InPatience n → Waits m
-  waits_step whole n _ (Asks k choice w front rest free) stays h young = asked_waits n k (ask_of (client_now n k) choice w front rest)
-      (λ is. let held = ap (is_id_held n) is ∙ key_held n h young in absurd (let z = sym held ∙ free in cc)) h
-  waits_step whole n _ (Serves i q free service comes up finds) stays h young =
-      server_waits n q.key (server.server_on_apdu (server_context x q.key (server_now n q.key)) service (n.entries q.key) (is_room n q.key free) q.copy.apdu) h (λ is.
+  waits_step : ask.whole ≡ true → (n m : Net) → Step x Finds n m → Waits n → Soon n → Waits m
+  waits_step whole n _ (Asks k choice w front rest free) h soon = asked_waits n k (ask_of (client_now n k) choice w front rest)
+      (λ is. let held = ap (is_id_held n) is ∙ key_held n h soon in absurd (let z = sym held ∙ free in cc)) h
+  waits_step whole n _ (Serves i q free service comes up finds) h soon =
+      server_waits n q.key (server.server_on_apdu (server_context x q.key (server_now n q.key)) service (n.entries q.key) (is_room n q.key free) q.copy.apdu) h
+      (λ is.
       let a = fine_up n.log q.copy.apdu up (fine_comes n h i q comes is) in
-      subst (λ (j : Key). ServerGoal n (server.server_on_apdu (server_context x j (server_now n j)) service (n.entries j) (is_room n j free) q.copy.apdu)) (sym is)
-      (subst (λ (y : Apdu). ServerGoal n (server.server_on_apdu (server_context x key (server_now n key)) service (n.entries key) (is_room n key free) y)) (sym a)
-      (serves_request n h young service (is_room n key free)
+      subst (λ (j : Key). ServerGoal n (server.server_on_apdu (server_context x j (server_now n j)) service (n.entries j) (is_room n j free) q.copy.apdu))
+      (sym is)
+      (subst (λ (y : Apdu). ServerGoal n (server.server_on_apdu (server_context x key (server_now n key)) service (n.entries key) (is_room n key free) y))
+      (sym a)
+      (serves_request n h soon service (is_room n key free)
       (finds (record { post = q; at = comes.at; key_is = is; apdu_is = a; arrives = comes.arrives })) h.entry)))
-  waits_step whole n _ (Hears i q t comes down there) stays h young =
+  waits_step whole n _ (Hears i q t comes down there) h soon =
       client_waits n q.key t (client.client_on_apdu (client_context x q.key (client_now n q.key)) x.readable t q.copy.apdu) h (λ is.
       let r = fine_down n.log q.copy.apdu down (fine_comes n h i q comes is) in
       let k = known n t (ap n.tickets (sym is) ∙ there) h in
       subst (λ (j : Key). ClientGoal n t (client.client_on_apdu (client_context x j (client_now n j)) x.readable t q.copy.apdu)) (sym is)
       (subst (λ (y : Apdu). ClientGoal n t (client.client_on_apdu (client_context x key (client_now n key)) x.readable t y)) (sym r.1)
-      (hears_answer n young r.0 r.2 t k.0 k.1)))
-  waits_step whole n _ (TicksTicket k t there) stays h young =
+      (hears_answer n r.0 r.2 t k.0 k.1)))
+  waits_step whole n _ (TicksTicket k t there) h soon =
       client_waits n k t (client.client_ticks (client_context x k (client_now n k)) t) h (λ is.
       let y = known n t (ap n.tickets (sym is) ∙ there) h in
-      subst (λ (j : Key). ClientGoal n t (client.client_ticks (client_context x j (client_now n j)) t)) (sym is) (ticks_timer n whole young t y.0 y.1))
-  waits_step whole n _ (TicksEntry k) stays h young =
+      subst (λ (j : Key). ClientGoal n t (client.client_ticks (client_context x j (client_now n j)) t)) (sym is) (ticks_timer n whole t y.0 y.1))
+  waits_step whole n _ (TicksEntry k) h soon =
       server_waits n k (server.server_ticks (server_context x k (server_now n k)) (n.entries k)) h (λ is.
-      subst (λ (j : Key). ServerGoal n (server.server_ticks (server_context x j (server_now n j)) (n.entries j))) (sym is) (ticks_entry n h.clock young h.entry))
-  waits_step whole n _ (Passes by clients servers) stays h young = passes_waits n by clients servers h
-  waits_step whole n _ (Changes node change) stays h young = changes_waits n node change h
-  waits_step whole n _ (Strange asks far log g) stays h young = strange_waits n asks far log g h
-  waits_step whole n _ (RestartsClient node exact) stays h young = client_lost n node exact stays h
-  waits_step whole n _ (RestartsServer node exact store) stays h young = server_lost n node exact store h
+      subst (λ (j : Key). ServerGoal n (server.server_ticks (server_context x j (server_now n j)) (n.entries j))) (sym is)
+      (ticks_entry n h.clock soon h.entry))
+  waits_step whole n _ (Passes by clients servers) h soon = passes_waits n by clients servers h
+  waits_step whole n _ (Changes node change) h soon = changes_waits n node change h
+  waits_step whole n _ (Strange asks far log g) h soon = strange_waits n asks far log g h
+  waits_step whole n _ (RestartsClient node exact) h soon = client_lost n node exact h
+  waits_step whole n _ (RestartsServer node exact store) h soon = server_lost n node exact store h
 
-  pub waits_path : ask.whole ≡ true → (n m : Net) → Path x Finds n m → Bounded n → Waits n → StaysSince m key made → InPatience m → Waits m
-  waits_path whole n _ Here b h stays young = h
-  waits_path whole n _ (Then l m p s) b h stays young =
-      let before : StaysSince l key made = let le = step_restarted x Finds l m s (path_bounded x Finds n l p b) key.client in omega arith in
-      let on = here_step x Finds key ask.first made l m s stays (made_path x Finds key ask.first made n l p b before h.clock) in
-      let earlier : InPatience l = omega arith in
-      waits_step whole l m s stays (waits_path whole n l p b h before earlier) earlier
+  pub waits_path : ask.whole ≡ true → (n m : Net) → Path x Finds n m → Waits n → Soon m → Waits m
+  waits_path whole n _ Here h soon = h
+  waits_path whole n _ (Then l m p s) h soon =
+      let earlier = soon_before x Finds key ask.first made l m s soon in
+      waits_step whole l m s (waits_path whole n l p h earlier) earlier

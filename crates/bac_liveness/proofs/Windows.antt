@@ -1,7 +1,6 @@
 -- A window that is sent again, of which some pieces were taken before: each of its copies is delivered once, in order.
-use Rattle.std.proofs.Common.{◌≡◌, ℕ, zero, suc, ◌+◌, ◌%◌, ◌<◌, ◌≤◌, ◌⊎◌, Bool, true, false, ◌||◌, List, [], ◌∷◌, ◌++◌, length, get_or, take}
-use Rattle.std.proofs.Common.{Some, None, if◌then◌else◌, nat_lt, nat_le, nat_eq, refl, sym, ap, subst, inl, inr, ◌∙◌, arith, append_assoc, append-nil}
-use Rattle.std.proofs.Common.{length-append}
+use Rattle.std.proofs.Common.{◌≡◌, ℕ, zero, suc, ◌+◌, ◌%◌, ◌<◌, ◌≤◌, ◌⊎◌, Bool, true, false, ◌||◌, List, [], ◌∷◌, ◌++◌, length, get_or, take, Some, None}
+use Rattle.std.proofs.Common.{if◌then◌else◌, nat_lt, nat_le, nat_eq, refl, sym, ap, subst, inl, inr, ◌∙◌, arith, append_assoc, append-nil, length-append}
 use Rattle.std.proofs.lemmas.Bool.Decides.{nat_tests}
 use Rattle.bac_apdu.specs.Apdu.{Apdu}
 use Rattle.bac_segment.specs.Window.{Outgoing, in_window, is_finished, acknowledged, Incoming, is_too_long, takes_expected, takes}
@@ -130,7 +129,8 @@ module _ (S : Type 0) (model : StoreModel S) (x : Rules) (now : Nows) (number : 
     pub parts : inc.parts ≡ take t ps
     pub reaches : Goes most from (c.ends s inc m (pieces_from c.piece t k ++ tail))
 
-  pub took_at : (from : TransactionPair S) (most : ℕ) (s : Sender) (a b k : ℕ) (tail : List Apdu) → a ≡ b → Took from most s a k tail → Took from most s b k tail
+  pub took_at : (from : TransactionPair S) (most : ℕ) (s : Sender) (a b k : ℕ) (tail : List Apdu) → a ≡ b → Took from most s a k tail
+      → Took from most s b k tail
   took_at from most s a b k tail e h = subst (λ (i : ℕ). Took from most s i k tail) e h
 
   pub quiet_on : (r j t k : ℕ) (s : Sender) (inc : Incoming) (m : ℕ) (tail : List Apdu) → j ≡ r + k → 0 < t → t + r < n → inc.unacknowledged + r < actual

@@ -23,9 +23,8 @@ use Rattle.bac_world.specs.Once.Fact.{Performed, Ended}
 use Rattle.bac_world.specs.World.{World, Time, passes, Copy, Hears, Ticks, IsAsked, IsCopied, link_at, peer_at, transaction_of}
 use Rattle.bac_world.specs.Examples.{REQUEST, REPLY, STORE, ASKED}
 use Rattle.bac_world.specs.AnsweredRun.{TIME, LIMITS, SETTINGS, LOG, link, node}
-use Rattle.bac_world.proofs.Answered.{SERVICE_DATA, ASK, ANSWER, apart, spelled, datagram, ASKED_NODE, copy, NOTES, SECOND, THIRD, LAST}
-use Rattle.bac_world.proofs.Answered.{ask_fits, ask_short, ask_copied, sent, means, others_first, ACCEPTED, asks, asked, answered_run}
-use Rattle.bac_world.proofs.Answered.{request_delivered, answer_delivered}
+use Rattle.bac_world.proofs.Answered.{SERVICE_DATA, ASK, ANSWER, apart, spelled, datagram, ASKED_NODE, copy, NOTES, SECOND, THIRD, LAST, ask_fits, ask_short}
+use Rattle.bac_world.proofs.Answered.{ask_copied, sent, means, others_first, ACCEPTED, asks, asked, answered_run, request_delivered, answer_delivered}
 use Rattle.bac_liveness.specs.WorldRoundTrip.{CanPerform, IsRequest}
 use Rattle.bac_liveness.specs.WorldExamples.{DRIFTS, LateTick, SlowTick, LateAnswer, OneRoundTrip, SecondSending}
 

@@ -1,6 +1,6 @@
 -- Each ask ends, in every world.
-use Rattle.std.proofs.Common.{◌≡◌, ◌⊎◌, ℕ, suc, ◌-◌, ◌<◌, ◌≤◌, Bool, true, false, List, [], ◌∷◌, ◌++◌, length, Option, Some, None, if◌then◌else◌, not, ◌||◌}
-use Rattle.std.proofs.Common.{nat_eq, refl, sym, ap, subst, inl, inr, ◌∙◌, arith}
+use Rattle.std.proofs.Common.{◌≡◌, ◌⊎◌, ℕ, suc, ◌-◌, ◌<◌, ◌≤◌, Bool, true, false, List, [], ◌∷◌, ◌++◌, length, Option, Some, None, if◌then◌else◌, nat_eq, refl}
+use Rattle.std.proofs.Common.{sym, ap, subst, inl, inr, ◌∙◌, arith}
 use Rattle.std.proofs.lemmas.Bool.Decides.{nat_tests}
 use Rattle.bac_apdu.specs.Apdu.{Apdu, Limits}
 use Rattle.bac_apdu.specs.Apdu.Apdu.{ConfirmedRequest, UnconfirmedRequest, SimpleAck, ComplexAck, SegmentAck, Error, Reject, Abort}
@@ -8,9 +8,8 @@ use Rattle.bac_service.specs.Services.{reads_reply}
 use Rattle.bac_service.specs.Values.{Request, choice_of}
 use Rattle.bac_protocol.specs.declared.times.TheConstants.{DEADLINE}
 use Rattle.bac_protocol.specs.Context.{Context}
-use Rattle.bac_protocol.specs.Service.{Octets, Readable}
+use Rattle.bac_protocol.specs.Service.{Octets, Ending}
 use Rattle.bac_protocol.specs.Wire.{is_from_client, is_from_server}
-use Rattle.bac_protocol.specs.Service.{Ending}
 use Rattle.bac_protocol.specs.Client as client
 use Rattle.bac_protocol.specs.Client.{Ask, ClientTransaction, Reaction, is_idle, is_expired}
 use Rattle.bac_protocol.specs.Client.Reaction.{Stays, GoesOn, Repeats, Ends}
@@ -21,26 +20,21 @@ use Rattle.bac_protocol.specs.Moves.{taken_by_client}
 use Rattle.bac_protocol.specs.Claims as claims
 use Rattle.bac_protocol.specs.Claims.{Moments, moments_of}
 use Rattle.bac_protocol.specs.Pace.{Clock, IsTimely}
-use Rattle.bac_liveness.specs.Runs.{StaysSince}
 use Rattle.bac_protocol.proofs.Keys.{copy_at}
 use Rattle.bac_protocol.proofs.Sound.{Up, Down, Says}
 use Rattle.bac_protocol.proofs.Nets.{sound_at}
 use Rattle.bac_protocol.proofs.SingleMoves.{reached_net}
-use Rattle.bac_liveness.specs.Runs as net
-use Rattle.bac_liveness.proofs.Paths.{Any, Bounded, Path, bounded_start, path_then, path_log}
-use Rattle.bac_liveness.proofs.Changes.{IdleIsLogged, HasEnded, IsThere, ended_grows, logged_path}
-use Rattle.bac_liveness.proofs.Endings.{Tracked, tracked_path, ended_once}
 use Rattle.bac_slots.specs.Slots.{value_at}
 use Rattle.bac_transaction.specs.Keys.{PeerKey, same_key}
 use Rattle.bac_transaction.specs.Sends.{Pairwise}
 use Rattle.bac_transaction.specs.Ends.{Client, TransactionSlot, context_of, kept, open_unless, held_ticked}
 use Rattle.bac_transaction.specs.Ends.TransactionSlot.{Open, Closed}
+use Rattle.bac_transaction.proofs.KeyedSlots.{changed, changed_value, value_changed}
 use Rattle.bac_world.specs.Node.{Node, Outcome, NodeTick}
 use Rattle.bac_world.specs.Once.{Fact}
 use Rattle.bac_world.specs.Once.Fact.{Asked, Performed, Ended, Changed, Restarted, Served, AskedAway, EndedAway}
 use Rattle.bac_world.specs.World.{World, Copy, Event, WorldStep, WorldRun, IsFresh, IsBounded, IsAsked, Ticks, RunsOn, told, link_at, peer_at}
 use Rattle.bac_world.specs.World.Event.{Deliver, Tick}
-use Rattle.bac_transaction.proofs.KeyedSlots.{changed, changed_value, value_changed}
 use Rattle.bac_world.proofs.Machines.{orderly}
 use Rattle.bac_world.proofs.Logs.{FactMeans}
 use Rattle.bac_world.proofs.Bridge.{here_at, IsCopyOf, IsBetween, TicketFits, key_of, slot_key}
@@ -49,9 +43,15 @@ use Rattle.bac_world.proofs.Steps.{Over}
 use Rattle.bac_world.proofs.Asking.{accepted_is}
 use Rattle.bac_world.proofs.ClientTick.{client_tick}
 use Rattle.bac_world.proofs.Headline.{fresh_over, rules_of, rules_bounded}
+use Rattle.bac_liveness.specs.Runs.{StaysSince}
+use Rattle.bac_liveness.specs.Runs as net
 use Rattle.bac_liveness.specs.WorldRuns.{Throughout, endings_of}
 use Rattle.bac_liveness.specs.WorldRoundTrip.{MayArrive, IsFromServer}
 use Rattle.bac_liveness.specs.WorldEnds.{IsOpen, EndsInTime, AsksEnd}
+use Rattle.bac_liveness.proofs.Serving.{late_gets}
+use Rattle.bac_liveness.proofs.Paths.{Any, Bounded, Path, bounded_start, path_then, path_log}
+use Rattle.bac_liveness.proofs.Changes.{IdleIsLogged, HasEnded, IsThere, ended_grows, logged_path}
+use Rattle.bac_liveness.proofs.Endings.{Tracked, tracked_path, ended_once}
 use Rattle.bac_liveness.proofs.RoundTrips.{SoundIn}
 use Rattle.bac_liveness.proofs.Asked.{after_ask, bounded_over, key, ask, made, made_over, made_bounded, made_path, there, stays, server_link, foreign}
 use Rattle.bac_liveness.proofs.Following.{Followed, Parts, IsTaken, accepted, post, heard_now, told_over, Gives, step_followed, run_followed}
@@ -150,7 +150,8 @@ ticked_in_time c t u e = go (is_idle t.phase) refl (is_expired c.now t.ask) refl
     go false is false ex = let f = first in grind (arith, nat_tests)
 
 -- a slot that is open after a tick was open before it
-held_in_time : (c : Context) (number : ℕ) (y : TransactionSlot) (u : ClientTransaction) → (held_ticked c number y).held ≡ Open u → c.now - u.ask.first ≤ DEADLINE
+held_in_time : (c : Context) (number : ℕ) (y : TransactionSlot) (u : ClientTransaction) → (held_ticked c number y).held ≡ Open u
+    → c.now - u.ask.first ≤ DEADLINE
 held_in_time c number (Closed first) u e = absurd cc
 held_in_time c number (Open t) u e = ticked_in_time c t u e
 
@@ -173,18 +174,6 @@ tick_leaves now old new o tick key number u is = go (value_at same_key key old.c
         held_in_time (context_of old.settings now key) v.number v.held u (ap (λ (y : Client). y.held) same)
 
 -- An APDU of a server ends an old ticket.
-
-pub late_gets : (readable : Readable) (c : Context) (t : ClientTransaction) (a : Apdu) → is_from_server a ≡ true → is_idle t.phase ≡ false → DEADLINE < c.now - t.ask.first
-    → client.client_on_apdu c readable t a ≡ Ends [] Ending.Expired
-late_gets readable c t a from going late =
-    ap (λ (b : Bool). if b || not (is_from_server a) then Stays else if is_expired c.now t.ask then Ends [] Ending.Expired
-    else client.open_on_apdu c readable t.ask t.phase a) going
-    ∙ ap (λ (b : Bool). if not b then Stays else if is_expired c.now t.ask then Ends [] Ending.Expired
-    else client.open_on_apdu c readable t.ask t.phase a) from
-    ∙ ap (λ (b : Bool). if b then Ends [] Ending.Expired else client.open_on_apdu c readable t.ask t.phase a) expires
-  where
-    expires : is_expired c.now t.ask ≡ true
-    expires = grind (arith, nat_tests)
 
 -- what a copy of a transaction says is sent by its client or by its server
 from_server : (W : ℕ) (times : Moments) (number : ℕ) (ask : Ask) (log : List octets.Fact) (up : Up) (down : Down) (moment k : ℕ) (a : Apdu)
@@ -249,7 +238,8 @@ module _ (links : ℕ → Option Octets) (apart : (i j : ℕ) (l : Octets) → l
       own_at : n.tickets own ≡ Some t
       own_at = ap n.tickets own_is ∙ at
 
-      fit : TicketFits (is_lost n own) (here_at n client) w'.notes client (n.numbers own) (value_at same_key (slot_key l key.invoke_id) did.after.clients.slots) (n.tickets own)
+      fit : TicketFits (is_lost n own) (here_at n client) w'.notes client (n.numbers own)
+          (value_at same_key (slot_key l key.invoke_id) did.after.clients.slots) (n.tickets own)
       fit = (h.nodes client did.after did.acts.nodes.here).clients.found key.server l key.invoke_id link
 
       still : kept t ≡ Open t
@@ -382,7 +372,8 @@ module _ (links : ℕ → Option Octets) (apart : (i j : ℕ) (l : Octets) → l
           (reached_net W x bound over.sound.0 over.sound.2 over.sound.1 m over.sound.3)
 
       of_server : is_from_server z.other.copy.apdu ≡ true
-      of_server = from_server W (moments_of m z.other.key) (m.numbers z.other.key) t.ticket.ask m.log known.0 known.1 z.other.copy.moment (later z.other.key number m.posts)
+      of_server = from_server W (moments_of m z.other.key) (m.numbers z.other.key) t.ticket.ask m.log known.0 known.1 z.other.copy.moment
+          (later z.other.key number m.posts)
           z.other.copy.apdu (((known.2).arriving (later z.other.key number m.posts) z.other.copy (copy_at number m.posts z.other heard.at) heard.young).1) down
 
       abbrev turn : Reaction

@@ -1,6 +1,6 @@
 -- One round trip suffices, in every world.
-use Rattle.std.proofs.Common.{◌≡◌, ℕ, ◌-◌, ◌≤◌, Bool, true, false, List, [], ◌∷◌, ◌++◌, length, Option, Some, slice_get}
-use Rattle.std.proofs.Common.{refl, sym, ap, subst, inl, inr, ◌∙◌, arith}
+use Rattle.std.proofs.Common.{◌≡◌, ℕ, ◌-◌, ◌≤◌, Bool, true, false, List, [], ◌∷◌, ◌++◌, length, Option, Some, slice_get, refl, sym, ap, subst, inl, inr, ◌∙◌}
+use Rattle.std.proofs.Common.{arith}
 use Rattle.bac_apdu.specs.Apdu.{Apdu, Limits}
 use Rattle.bac_service.specs.Services.{reads_reply}
 use Rattle.bac_service.specs.Values.{Request, choice_of}
@@ -25,19 +25,8 @@ use Rattle.bac_protocol.specs.Straight.{KindFits}
 use Rattle.bac_protocol.specs.Claims as claims
 use Rattle.bac_protocol.specs.Pace.{Clock, IsTimely}
 use Rattle.bac_protocol.proofs.Paces.{since_now}
-use Rattle.bac_liveness.specs.Runs.{StaysSince}
-use Rattle.bac_liveness.proofs.Clocks.{MadeIn, made_path, here_path}
 use Rattle.bac_protocol.proofs.Keys.{set_same}
 use Rattle.bac_protocol.proofs.SingleMoves.{reached_net}
-use Rattle.bac_liveness.specs.RoundTrip.{FitsInOne, request_to, answer_to}
-use Rattle.bac_liveness.proofs.Paths.{Any, some_is, Path, path_now, path_log, path_posts}
-use Rattle.bac_liveness.proofs.Changes.{IdleIsLogged, HasEnded, IsThere, logged_path}
-use Rattle.bac_liveness.proofs.Endings.{Tracked, tracked_path}
-use Rattle.bac_liveness.proofs.Serving.{answer_not_from_client, performed_entry}
-use Rattle.bac_liveness.proofs.Kept.{IsKept}
-use Rattle.bac_liveness.proofs.Awaiting.{IsAwaited, awaited_path}
-use Rattle.bac_liveness.proofs.RoundTrips.{TakesAnswer, takes_ends, awaited_at, takes_awaited, answer_whole}
-use Rattle.bac_liveness.proofs.Robust.{at_end}
 use Rattle.bac_transaction.specs.Sends.{Pairwise}
 use Rattle.bac_world.specs.Node.{Node}
 use Rattle.bac_world.specs.Once.{Stores, IsOnce}
@@ -48,11 +37,22 @@ use Rattle.bac_world.proofs.Bridge.{here_at, IsCopyOf}
 use Rattle.bac_world.proofs.Steps.{Over}
 use Rattle.bac_world.proofs.Asking.{accepted_whole}
 use Rattle.bac_world.proofs.Headline.{headline, fresh_over, rules_of, rules_bounded}
+use Rattle.bac_liveness.specs.Runs.{StaysSince}
+use Rattle.bac_liveness.specs.RoundTrip.{FitsInOne, request_to, answer_to}
 use Rattle.bac_liveness.specs.WorldRuns.{endings_of}
 use Rattle.bac_liveness.specs.WorldRoundTrip.{MayArrive, IsRequest, CanPerform, IsAnswered, IsServed, RoundTripSuffices}
+use Rattle.bac_liveness.proofs.Clocks.{MadeIn, made_path, here_path}
+use Rattle.bac_liveness.proofs.Paths.{Any, some_is, Path, path_now, path_log, path_posts}
+use Rattle.bac_liveness.proofs.Changes.{IdleIsLogged, HasEnded, IsThere, logged_path}
+use Rattle.bac_liveness.proofs.Endings.{Tracked, tracked_path}
+use Rattle.bac_liveness.proofs.Serving.{answer_not_from_client, performed_entry}
+use Rattle.bac_liveness.proofs.Kept.{IsKept}
+use Rattle.bac_liveness.proofs.Awaiting.{IsAwaited, awaited_path}
+use Rattle.bac_liveness.proofs.RoundTrips.{TakesAnswer, takes_ends, awaited_at, takes_awaited, answer_whole}
+use Rattle.bac_liveness.proofs.Robust.{at_end}
 use Rattle.bac_liveness.proofs.Following.{Followed, Parts, IsTaken, IsServedBy, served_reaction, accepted, post, heard_now, served_over, told_over}
-use Rattle.bac_liveness.proofs.Asked.{key, ask, made, made_over, made_bounded, made_path as asked_path, made_clock, bounded_over, there, stays, foreign, request_is, pairwise_rest, pairwise_length}
-use Rattle.bac_liveness.proofs.Asked.{just_one}
+use Rattle.bac_liveness.proofs.Asked.{key, ask, made, made_over, made_bounded, made_path as asked_path, made_clock, bounded_over, there, stays, foreign}
+use Rattle.bac_liveness.proofs.Asked.{request_is, pairwise_rest, pairwise_length, just_one}
 use Rattle.bac_liveness.proofs.WorldEndings.{run_join, on_run, once_in, opened_net, opened_bounded}
 use Rattle.bac_liveness.proofs.Performing.{way, does, reaction}
 use Rattle.bac_liveness.proofs.Values.{answered_values, kind_fits}
@@ -229,7 +229,8 @@ module _ (links : ℕ → Option Octets) (apart : (i j : ℕ) (l : Octets) → l
 
       -- the client's clock has gone on since
       early : client_now u its_key - its_ask.first ≤ DEADLINE
-      early = let late = in_time in let on = here_path x Any its_key its_ask.first n.now u f.net f.path (bounded_over links apart W x served u u_over) life clock in omega arith
+      early = let late = in_time in let on = here_path x Any its_key its_ask.first n.now u f.net f.path
+          (bounded_over links apart W x served u u_over) life clock in omega arith
 
       kept_then : IsAwaited x Any its_key n.asks its_ask n.now answer (answer_whole x its_key its_ask can.reply) f.net
       kept_then = awaited_path x Any its_key n.asks its_ask n.now answer (answer_whole x its_key its_ask can.reply) u f.net f.path
@@ -266,7 +267,8 @@ module _ (links : ℕ → Option Octets) (apart : (i j : ℕ) (l : Octets) → l
       takes = takes_awaited kept_then.there.ticket.phase going kept_then.phase
 
       ends : client.client_on_apdu (client_context x its_key (client_now f.net its_key)) x.readable kept_then.there.ticket answer ≡ Ends [] (Answered can.reply)
-      ends = subst (λ (k : Ask). client.client_on_apdu (client_context x its_key (client_now f.net its_key)) x.readable kept_then.there.ticket (answer_to x its_key k can.reply)
+      ends = subst (λ (k : Ask). client.client_on_apdu (client_context x its_key (client_now f.net its_key)) x.readable kept_then.there.ticket
+          (answer_to x its_key k can.reply)
           ≡ Ends [] (Answered can.reply)) kept_then.there.is
           (takes_ends x (client_now f.net its_key) its_key kept_then.there.ticket can.reply takes
           (subst (λ (k : Ask). client_now f.net its_key - k.first ≤ DEADLINE) (sym kept_then.there.is) in_time)

@@ -15,11 +15,10 @@ use Rattle.bac_protocol.specs.Server.Transfer.{Running, Stopped, Finished}
 use Rattle.bac_protocol.specs.Log.{Has, StoreModel}
 use Rattle.bac_protocol.specs.Log.Fact.{Performed, Ended}
 use Rattle.bac_protocol.specs.Transaction.{Key, Rules, server_context}
-use Rattle.bac_protocol.specs.World.{World, happens}
+use Rattle.bac_protocol.specs.World.{World, happens, Net, client_now, server_now}
 use Rattle.bac_protocol.specs.World.Event.{Tick}
 use Rattle.bac_protocol.specs.Straight.{AreStraight, Straight, Stops, RequestFits, WayFits, KindFits, way_to, way_count, request_count, is_ended}
 use Rattle.bac_protocol.specs.Claims.{HasRestartedSince, moments_of}
-use Rattle.bac_protocol.specs.World.{Net, client_now, server_now}
 use Rattle.bac_liveness.specs.Runs.{HasWindows}
 use Rattle.bac_liveness.specs.InStep.{AreInStep}
 
@@ -104,7 +103,8 @@ TurnAnswers S model x w key t =
     → IsAnsweredIn S x key t (w.net.numbers key) p count v
 
 -- there is such a run, and its last delivery ends the ticket
-pub record RunsOut (S : Type 0) (model : StoreModel S) (x : Rules) (key : Key) (t : ClientTransaction) (number : ℕ) (p : Reply) (first : ℕ) (ticked : World S) : Type 0 where
+pub record RunsOut (S : Type 0) (model : StoreModel S) (x : Rules) (key : Key) (t : ClientTransaction) (number : ℕ) (p : Reply) (first : ℕ)
+    (ticked : World S) : Type 0 where
   pub count : ℕ
   pub last : World S
   pub run : Straight S (λ u e y. y ≡ happens S model x u e) key true count first ticked last
@@ -134,5 +134,6 @@ AnsweringRunExists S model x w = (key : Key) (t : ClientTransaction) → w.net.t
 -- the two ends of each transaction are in step whose ask is in time, and whose server has not restarted since
 abbrev pub EndsAreInStep : (S : Type 0) → Rules → World S → Type 0
 EndsAreInStep S x w =
-    (key : Key) → HasWindows x key → (t : ClientTransaction) → w.net.tickets key ≡ Some t → ServerStays w.net key → client_now w.net key - t.ask.first ≤ DEADLINE
+    (key : Key) → HasWindows x key → (t : ClientTransaction) → w.net.tickets key ≡ Some t → ServerStays w.net key
+    → client_now w.net key - t.ask.first ≤ DEADLINE
     → AreInStep x key t.ask t.phase (live_entry (server_now w.net key) (w.net.entries key))

@@ -23,7 +23,8 @@ pub record IsDue (now : ℕ) (t : ClientTransaction) : Type 0 where
 -- the ask with the reply with which it was performed
 abbrev pub OneTurnSuffices : (S : Type 0) → StoreModel S → Rules → World S → Type 0
 OneTurnSuffices S model x w =
-    (key : Key) (t : ClientTransaction) → w.net.tickets key ≡ Some t → t.ask.whole ≡ true → IsDue (client_now w.net key) t → (p : Reply) → FitsInOne x key t.ask p
+    (key : Key) (t : ClientTransaction) → w.net.tickets key ≡ Some t → t.ask.whole ≡ true → IsDue (client_now w.net key) t → (p : Reply)
+    → FitsInOne x key t.ask p
     → (free other : Bool) → CanPerform S model w key t.ask free p ⊎ HasPerformed x w.net key t.ask (Some (join t.ask.pieces)) p
     → (let u = happens S model x (happens S model x w (Tick (key ∷ []) [])) (Deliver (length w.net.posts) free) in
     Has (Performed (w.net.numbers key) (request_of t.ask) p) u.net.log

@@ -52,7 +52,8 @@ pub record Expires (n : Node) (key : PeerKey) (number : ℕ) (t : ClientTransact
 
 -- a tick leaves no ticket open whose first sending is more than DEADLINE ago; each that was open ends in that tick, once
 pub record TickEnds : Type 0 where
-  pub leaves : (now : ℕ) (old new : Node) (o : Outcome) → NodeTick now old new o → (key : PeerKey) (number : ℕ) (t : ClientTransaction) → IsOpen new key number t
+  pub leaves : (now : ℕ) (old new : Node) (o : Outcome) → NodeTick now old new o → (key : PeerKey) (number : ℕ) (t : ClientTransaction)
+      → IsOpen new key number t
       → now - t.ask.first ≤ DEADLINE
   pub ends : (now : ℕ) (old new : Node) (o : Outcome) → NodeTick now old new o → HasTicketsApart old → (key : PeerKey) (number : ℕ) (t : ClientTransaction)
       → IsOpen old key number t → DEADLINE < now - t.ask.first → Expires new key number t o.ended
@@ -70,7 +71,8 @@ AnswerEnds =
 -- afterwards
 pub record EndsInTime (overtake : ℕ) (old : World) (client server : ℕ) (invoke_id : ℕ) (asked : World) : Type 0 where
   pub before : (events : List Event) (w : World) → WorldRun overtake asked events w → endings_of (length old.notes) w.log ≤ 1
-  pub tick : (between : List Event) (late ticked : World) → WorldRun overtake asked between late → RunsOn client between → DEADLINE < told late client - told old client
+  pub tick : (between : List Event) (late ticked : World) → WorldRun overtake asked between late → RunsOn client between
+      → DEADLINE < told late client - told old client
       → WorldStep overtake late (Tick client) ticked
       → (after : List Event) (w : World) → WorldRun overtake ticked after w → endings_of (length old.notes) w.log ≡ 1
   pub answer : (between : List Event) (late answered : World) → WorldRun overtake asked between late → RunsOn client between

@@ -6,7 +6,6 @@ use Rattle.bac_protocol.specs.Pace.{IsTimely}
 use Rattle.bac_protocol.specs.Drift.{thousandth}
 use Rattle.bac_protocol.specs.Wire.{is_from_server}
 use Rattle.bac_protocol.specs.Client.{ClientTransaction}
-use Rattle.bac_liveness.specs.Repeats.{PATIENCE}
 use Rattle.bac_transaction.specs.Meanings.Ending.{Expired}
 use Rattle.bac_transaction.specs.Ends.{key_of}
 use Rattle.bac_world.specs.Node.{Node, Outcome}
@@ -16,6 +15,7 @@ use Rattle.bac_world.specs.World.{World, Copy, WorldStep, WorldRun, IsFresh, IsB
 use Rattle.bac_world.specs.World.Event.{Deliver, Tick, Advance}
 use Rattle.bac_world.specs.Examples.{REQUEST, ASKED}
 use Rattle.bac_world.specs.AnsweredRun.{LIMITS, TIME, OPENING, LOG}
+use Rattle.bac_liveness.specs.Repeats.{PATIENCE}
 use Rattle.bac_liveness.specs.WorldRuns.{Throughout, endings_of}
 use Rattle.bac_liveness.specs.WorldRoundTrip.{MayArrive, IsFromServer, IsWhole, IsRequest, CanPerform}
 use Rattle.bac_liveness.specs.WorldEnds.{IsOpen, expired}

@@ -1,4 +1,5 @@
-//! What must come of an ask among the machines of both ends, whatever is lost, repeated or reordered: a law each.
+//! What must come of an ask among the machines of both ends, whatever is lost, repeated or reordered: a law each. The age of an ask is by its client's clock,
+//! as are its client's timers; those of its server are by the server's clock.
 ghost use Rattle.std.specs.Prelude.{ℕ, List};
 ghost use Rattle.bac_protocol.specs.Log.{StoreModel};
 ghost use Rattle.bac_protocol.specs.Transaction.{Rules};
@@ -12,8 +13,9 @@ ghost use Rattle.bac_liveness.specs.RoundTrip.{RoundTripSuffices, RoundTripSuffi
 ghost use Rattle.bac_liveness.specs.Stopped.{StoppedGoesOn};
 ghost use Rattle.bac_liveness.specs.Turns.{OneTurnSuffices};
 
-/// Each ask ends: after any run, more than 60,000 ms after its first sending, a tick of its client leaves it ended, and so does each APDU of a server
-/// that comes for it, whatever happens in between, but for a restart of that client, which loses the ask. The log then has one ending of that ask.
+/// Each ask ends: after any run, more than 60,000 ms after its first sending by its client's clock, a tick of its client leaves it ended, and so does each
+/// APDU of a server that comes for it, whatever happens in between, but for a restart of that client, which loses the ask. The log then has one ending of
+/// that ask.
 pub fn asks_end<S>()
     ensures { (model : StoreModel S) (opening : ℕ → S) (W : ℕ) (rules : Rules) → IsBounded W rules → (pace : Pace) → IsTimely pace → (clocks : ℕ → ℕ)
         → (events : List Event)
@@ -56,8 +58,8 @@ pub fn repeats_suffice<S>()
 {}
 
 /// One turn suffices: after any run, where an ask of one APDU waits, in time, with a repeat left and its timer due, and its server can perform it, so does
-/// not wait after a restart, or has performed it, a tick and the delivery of the copy that it sends, and then of the answer that this brings, end it with the reply with which it was
-/// performed.
+/// not wait after a restart, or has performed it, a tick and the delivery of the copy that it sends, and then of the answer that this brings, end it with
+/// the reply with which it was performed.
 pub fn one_turn_suffices<S>()
     ensures { (model : StoreModel S) (opening : ℕ → S) (W : ℕ) (rules : Rules) → IsBounded W rules → (pace : Pace) → IsTimely pace → (clocks : ℕ → ℕ)
         → (events : List Event)
@@ -88,8 +90,9 @@ pub fn ends_are_in_step<S>()
         → EndsAreInStep S rules (run S model rules events (start S pace clocks opening)) }
 {}
 
-/// After any past in which its server has not restarted since the ask one turn answers: after any run, whatever was lost, one timer of an ask in time that is due, and then each copy that is sent from then on,
-/// delivered once, in order of sending, at one moment, end the ask with the reply with which it was performed, after at most 3n + 3m deliveries.
+/// After any past in which its server has not restarted since the ask one turn answers: after any run, whatever was lost, one timer of an ask in time that
+/// is due, and then each copy that is sent from then on, delivered once, in order of sending, at one moment, end the ask with the reply with which it was
+/// performed, after at most 3n + 3m deliveries.
 pub fn after_any_past<S>()
     ensures { (model : StoreModel S) (opening : ℕ → S) (W : ℕ) (rules : Rules) → IsBounded W rules → (pace : Pace) → IsTimely pace → (clocks : ℕ → ℕ)
         → (events : List Event)

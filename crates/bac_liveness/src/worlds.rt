@@ -23,10 +23,11 @@ pub fn round_trip_suffices()
         → (events : List Event) → WorldRun overtake opening events reached → RoundTripSuffices overtake reached }
 {}
 
-/// Repeats suffice: in every world that a run reached, an ask of one APDU is accepted; until 12,000 ms have passed by its client's clock, as long as each copy of its request that
-/// is delivered to a server with no live entry for it finds a free slot and a reply that goes in one APDU, the ask waits for its answer, with a repeat left
-/// wherever its timer is due, or is answered, whatever is lost, repeated, reordered or asked of others. Each copy of the request that is delivered brings
-/// one answer, and each answer that is delivered leaves the ask ended with the reply with which it was performed. Its client does not restart in between.
+/// Repeats suffice: in every world that a run reached, an ask of one APDU is accepted. Until 12,000 ms have passed by the clock of its client, which does
+/// not restart, and as long as each copy of its request that is delivered to a server with no live entry for it finds a free slot and a reply that goes in
+/// one APDU, the ask waits for its answer, with a repeat left wherever its timer is due, or is answered, whatever is lost, repeated, reordered or asked of
+/// others; and each answer that is delivered leaves the ask ended with the reply with which it was performed. Each copy of the request that is delivered
+/// brings one answer, also where its client has restarted, while no more real time has passed than the slowest clock takes for 60,000 ms.
 pub fn repeats_suffice()
     ensures { (W overtake : ℕ) (opening reached : World) → IsFresh opening → IsTimely opening.time.pace → IsBounded W overtake opening
         → (events : List Event) → WorldRun overtake opening events reached → RepeatsSuffice overtake reached }

@@ -1,8 +1,8 @@
 -- A straight run answers its ask.
-use Rattle.std.proofs.Common.{◌≡◌, ◌+◌, ◌≤◌, ◌<◌, ◌⊎◌, ℕ, suc, Bool, true, false, List, [], ◌∷◌, ◌++◌, length, Option, Some, slice_get, if◌then◌else◌}
-use Rattle.std.proofs.Common.{◌&&◌, not, nat_eq, Ok, refl, sym, ap, subst, inl, inr, ◌∙◌, arith, append_assoc}
-use Rattle.std.proofs.lemmas.Bool.Decides.{nat_tests}
 use Rattle.std.specs.Option.{option_map}
+use Rattle.std.proofs.Common.{◌≡◌, ◌+◌, ◌≤◌, ◌<◌, ◌⊎◌, ℕ, suc, Bool, true, false, List, [], ◌∷◌, ◌++◌, length, Option, Some, slice_get, if◌then◌else◌, ◌&&◌}
+use Rattle.std.proofs.Common.{not, nat_eq, Ok, refl, sym, ap, subst, inl, inr, ◌∙◌, arith, append_assoc}
+use Rattle.std.proofs.lemmas.Bool.Decides.{nat_tests}
 use Rattle.bac_apdu.specs.Apdu.{Limits}
 use Rattle.bac_service.specs.Values.{Request, Complex, choice_of}
 use Rattle.bac_service.specs.Replies.{Reply}
@@ -117,7 +117,8 @@ module _ (links : ℕ → Option Octets) (apart : (i j : ℕ) (l : Octets) → l
   went = asks_with links apart W x bound w run.asked n h i s limits r run.asks server_at parts
 
   free : (not (is_lost n key) && is_key_held (here_at n i) (n.tickets key)) ≡ false
-  free = free_ticket (is_lost n key) (here_at n i) w.notes i (n.numbers key) (value_at same_key (slot_key run.asks.link parts.id) a.clients.slots) (n.tickets key)
+  free = free_ticket (is_lost n key) (here_at n i) w.notes i (n.numbers key) (value_at same_key (slot_key run.asks.link parts.id) a.clients.slots)
+      (n.tickets key)
       ((h.nodes i a run.asks.at).clients.found s run.asks.link parts.id server_at) parts.free
 
   unheld : is_id_held n key ≡ false
@@ -196,7 +197,8 @@ module _ (links : ℕ → Option Octets) (apart : (i j : ℕ) (l : Octets) → l
     way_goes : WayFits (way_to x key m)
     way_goes = subst WayFits (sym way_so) (way_fits a.settings b.settings p can.goes can.short)
 
-    goes : ways.Goes (x.settings i) (here_at n i) (peer_at run.asks.link) a.clients run.asks.accepted (request_way_of (x.settings i) limits run.asks.asks.octets)
+    goes : ways.Goes (x.settings i) (here_at n i) (peer_at run.asks.link) a.clients run.asks.accepted
+        (request_way_of (x.settings i) limits run.asks.asks.octets)
     goes = asked_goes (x.settings i) (here_at n i) (peer_at run.asks.link) a.clients run.asks.accepted limits (choice_of r) run.asks.asks.octets asks_so
 
     ask_so : run.asks.accepted.ask ≡ ask
@@ -236,7 +238,8 @@ module _ (links : ℕ → Option Octets) (apart : (i j : ℕ) (l : Octets) → l
     -- the request is performed, so its reply can be read
     reads : (c : Complex) → m ≡ machine.Reply.Complex (complex_spelling c) → x.readable (choice_of r) (complex_spelling c) ≡ true
     reads c is =
-        let has = was_performed (Option Store) model x v0 key good (choice_of r) parts.front parts.rest m dead outcome way_goes serving parts.whole request_fits count
+        let has = was_performed (Option Store) model x v0 key good
+        (choice_of r) parts.front parts.rest m dead outcome way_goes serving parts.whole request_fits count
         end f.run (stops end f.fit) in
         let was = performed_as n.asks (record { choice = choice_of r; service = join pieces }) m end.net.log new.log f.fit.over.log has in
         ap (λ (y : machine.Readable). y (choice_of r) (complex_spelling c)) readable
@@ -258,7 +261,20 @@ module _ (links : ℕ → Option Octets) (apart : (i j : ℕ) (l : Octets) → l
           (request_count parts.whole pieces) count v0 end
       answered_so = machines_answer (Option Store) model x key good v0 (choice_of r) parts.whole parts.front parts.rest m can_ask v1
           (subst (λ (y : Machines). IsLike (Option Store) key v1 y) (sym (ap (λ b'. if b' then v0 else v1) unheld))
-          (record { moment = refl; client = refl; server = refl; asks = refl; number = refl; ticket = refl; entry = refl; posts = refl; stores = refl; log = refl; serves = refl }))
+          (record {
+            moment = refl;
+            client = refl;
+            server = refl;
+            asks = refl;
+            number = refl;
+            ticket = refl;
+            entry = refl;
+            posts = refl;
+            stores = refl;
+            log =
+                refl;
+            serves = refl;
+          }))
           count end f.run (stops end f.fit)
 
       abbrev asked_octets : machine.Request

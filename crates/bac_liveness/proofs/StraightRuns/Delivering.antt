@@ -1,8 +1,8 @@
 -- A delivery of a straight run is a delivery of the machines.
-use Rattle.std.proofs.Common.{◌≡◌, ◌-◌, ◌≤◌, ℕ, Bool, true, false, ◌&&◌, List, ◌++◌, map, length, Option, Some, None, slice_get, if◌then◌else◌, nat_le}
-use Rattle.std.proofs.Common.{refl, sym, ap, subst, ◌∙◌, inl, inr, arith, ◌⊎◌}
-use Rattle.std.proofs.lemmas.Bool.Decides.{nat_tests}
 use Rattle.std.specs.Option.{option_map}
+use Rattle.std.proofs.Common.{◌≡◌, ◌-◌, ◌≤◌, ℕ, Bool, true, false, ◌&&◌, List, ◌++◌, map, length, Option, Some, None, slice_get, if◌then◌else◌, nat_le, refl}
+use Rattle.std.proofs.Common.{sym, ap, subst, ◌∙◌, inl, inr, arith, ◌⊎◌}
+use Rattle.std.proofs.lemmas.Bool.Decides.{nat_tests}
 use Rattle.bac_apdu.specs.Apdu.{Apdu}
 use Rattle.bac_apdu.specs.Spelling.{SpellsApdu, is_confirmed_request}
 use Rattle.bac_npdu.specs.Peers.{PeerView}
@@ -73,7 +73,8 @@ module _ (links : ℕ → Option Octets) (apart : (i j : ℕ) (l : Octets) → l
     pub time : w'.time ≡ w.time
     pub grows : Grows w.log w'.log
 
-  at_client_net : (v : Machines) (p : Post) (o : Option ClientTransaction) → (takes_at_client (Option Store) x v p.key p.copy.apdu o).net ≡ taken_by_client x v.net p o
+  at_client_net : (v : Machines) (p : Post) (o : Option ClientTransaction)
+      → (takes_at_client (Option Store) x v p.key p.copy.apdu o).net ≡ taken_by_client x v.net p o
   at_client_net v p None = refl
   at_client_net v p (Some t) = refl
 
@@ -81,7 +82,8 @@ module _ (links : ℕ → Option Octets) (apart : (i j : ℕ) (l : Octets) → l
   at_client_stores v p None = refl
   at_client_stores v p (Some t) = refl
 
-  at_client_own : (old : List Post) (n : Net) (p : Post) → AreOwn old p.key n.posts → (o : Option ClientTransaction) → AreOwn old p.key (taken_by_client x n p o).posts
+  at_client_own : (old : List Post) (n : Net) (p : Post) → AreOwn old p.key n.posts → (o : Option ClientTransaction)
+      → AreOwn old p.key (taken_by_client x n p o).posts
   at_client_own old n p h None = h
   at_client_own old n p h (Some t) =
       own_more old p.key n.posts h n.now (client.sends_of (client.client_on_apdu (client_context x p.key (client_now n p.key)) x.readable t p.copy.apdu))
@@ -178,7 +180,8 @@ module _ (links : ℕ → Option Octets) (apart : (i j : ℕ) (l : Octets) → l
 
           becomes : with_free v number free ≡ reacts (service_of a.store)
           becomes = reaches free is true up
-              ∙ ap (λ b. net.serves (Option Store) model v p.key (server_on_apdu (server_context x p.key (server_now n p.key)) (net.service_of (Option Store) model v p.key)
+              ∙ ap (λ b. net.serves (Option Store) model v p.key (server_on_apdu (server_context x p.key (server_now n p.key))
+              (net.service_of (Option Store) model v p.key)
               (n.entries p.key) b p.copy.apdu)) (room_is n p.key a.servers (h.nodes p.key.server a node').serves)
               ∙ ap (λ y. reacts (outcome_at y)) (f.stores p.key.server ∙ ap (λ (y : Option Node). option_map (λ (m : Node). m.store) y) node')
 

@@ -24,7 +24,20 @@ use Rattle.bac_liveness.proofs.StraightRuns.Tickets.{open_there}
 module _ (links : ℕ → Option Octets) (apart : (i j : ℕ) (l : Octets) → links i ≡ Some l → links j ≡ Some l → i ≡ j) (W : ℕ) (x : Rules)
     (bound : IsBounded W x) (readable : x.readable ≡ reads_reply) (opening : Stores) where
   like_self : (key : Key) (v : Machines) → IsLike (Option Store) key v v
-  like_self key v = record { moment = refl; client = refl; server = refl; asks = refl; number = refl; ticket = refl; entry = refl; posts = refl; stores = refl; log = refl; serves = refl }
+  like_self key v = record {
+    moment = refl;
+    client = refl;
+    server = refl;
+    asks = refl;
+    number = refl;
+    ticket = refl;
+    entry = refl;
+    posts = refl;
+    stores =
+        refl;
+    log = refl;
+    serves = refl;
+  }
 
   pub record Followed (w new : World) (v : Machines) (old : List Post) (key : Key) (has_slot : Bool) (count number : ℕ) : Type 0 where
     pub end : Machines

@@ -1,8 +1,8 @@
 -- What a loop over the copies of a straight run needs; and that it is a run.
 use Rattle.std.proofs.Common.{◌≡◌, ◌+◌, ◌-◌, ◌≤◌, ℕ, zero, suc, true, length, refl, subst, inl, arith, ◌⊎◌, false, inr}
-use Rattle.bac_transaction.specs.Keys.{PeerKey}
 use Rattle.bac_apdu.specs.Apdu.{Limits}
 use Rattle.bac_service.specs.Values.{Request}
+use Rattle.bac_transaction.specs.Keys.{PeerKey}
 use Rattle.bac_world.specs.World.{World, WorldStep, WorldRun, IsAsked}
 use Rattle.bac_world.specs.World.Event.{Deliver}
 use Rattle.bac_liveness.specs.StraightRuns.{is_open, DeliverEach, deliveries, IsRunOfDeliveries, DeliveriesGoOn, IsStraight, key_of_ask, ending_in}

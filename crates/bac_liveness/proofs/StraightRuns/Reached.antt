@@ -1,7 +1,6 @@
 -- The laws of worlds that a run of a fresh one led to.
-use Rattle.std.proofs.Common.{◌≡◌, ℕ, Bool, true, false, List, length, Option, Some, None, slice_get, refl, sym, ap, subst, ◌∙◌}
-use Rattle.std.proofs.Common.{if◌then◌else◌, ◌&&◌, not}
 use Rattle.std.specs.Option.{option_map}
+use Rattle.std.proofs.Common.{◌≡◌, ℕ, Bool, true, false, List, length, Option, Some, None, slice_get, refl, sym, ap, subst, ◌∙◌, if◌then◌else◌, ◌&&◌, not}
 use Rattle.bac_apdu.specs.Apdu.{Limits}
 use Rattle.bac_service.specs.Values.{Request, choice_of}
 use Rattle.bac_protocol.specs.Service.{Octets}
@@ -23,14 +22,15 @@ use Rattle.bac_world.proofs.Bridge.{here_at, key_of, slot_key}
 use Rattle.bac_world.proofs.Steps.{Over}
 use Rattle.bac_world.proofs.Asking.{accepted_is, free_ticket, key_free}
 use Rattle.bac_world.proofs.Headline.{rules_of, rules_bounded, fresh_over, run_over}
-use Rattle.bac_liveness.proofs.WorldEndings.{opened_net}
 use Rattle.bac_liveness.specs.StraightRuns.{AreOf, CopiesAreItsOwn}
 use Rattle.bac_liveness.specs.StraightAnswers.{StraightAnswers}
 use Rattle.bac_liveness.specs.FreeIds.{HasNoneLive, FreeIdsAreUnused}
+use Rattle.bac_liveness.proofs.WorldEndings.{opened_net}
 use Rattle.bac_liveness.proofs.StraightRuns.Answering as answering
 use Rattle.bac_liveness.proofs.StraightRuns.Answering.{answered}
 
-module _ (W overtake : ℕ) (first old : World) (fresh : IsFresh first) (timely : IsTimely first.time.pace) (bound : IsBounded W overtake first) (events : List Event)
+module _ (W overtake : ℕ) (first old : World) (fresh : IsFresh first) (timely : IsTimely first.time.pace) (bound : IsBounded W overtake first)
+    (events : List Event)
     (run : WorldRun overtake first events old) where
   abbrev links : ℕ → Option Octets
   links = link_at first.nodes

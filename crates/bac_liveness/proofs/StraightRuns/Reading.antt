@@ -1,6 +1,6 @@
 -- In a straight run that stops the request is performed, so its reply means something.
-use Rattle.std.proofs.Common.{◌≡◌, ◌≤◌, ◌+◌, ◌*◌, ℕ, zero, suc, Bool, true, false, List, ◌∷◌, length, Option, Some, None, if◌then◌else◌}
-use Rattle.std.proofs.Common.{refl, sym, subst, inl, inr, arith, slice_get}
+use Rattle.std.proofs.Common.{◌≡◌, ◌≤◌, ◌+◌, ◌*◌, ℕ, zero, suc, Bool, true, false, List, ◌∷◌, length, Option, Some, None, if◌then◌else◌, refl, sym, subst, inl}
+use Rattle.std.proofs.Common.{inr, arith, slice_get}
 use Rattle.bac_apdu.specs.Apdu.{Apdu}
 use Rattle.bac_segment.specs.Pieces.{join}
 use Rattle.bac_protocol.specs.Service.{Octets, Reply, Ending}

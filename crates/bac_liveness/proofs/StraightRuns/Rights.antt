@@ -1,6 +1,6 @@
 -- A log that is right tells the stores, so a performed request's reply is that of its server's store.
-use Rattle.std.proofs.Common.{◌≡◌, ◌<◌, ℕ, List, [], ◌∷◌, Some, refl, sym, ap, inl, inr, ◌∙◌, if◌then◌else◌, nat_eq, arith}
 use Rattle.std.specs.Option.{option_map}
+use Rattle.std.proofs.Common.{◌≡◌, ◌<◌, ℕ, List, [], ◌∷◌, Some, refl, sym, ap, inl, inr, ◌∙◌, if◌then◌else◌, nat_eq, arith}
 use Rattle.bac_service.specs.Values.{Request}
 use Rattle.bac_service.specs.Replies.{Reply}
 use Rattle.bac_store.specs.Stores.{Store}

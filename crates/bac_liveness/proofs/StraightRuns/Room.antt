@@ -1,9 +1,7 @@
 -- No more client slots are held, and no more entries are live, than there are slots.
-use Rattle.std.proofs.Common.{◌≡◌, ◌+◌, ◌*◌, ◌/◌, ◌≤◌, ◌<◌, ◌⊎◌, ◌||◌, ℕ, zero, suc, Bool, true, false, not, List, [], ◌∷◌, ◌++◌, filter, count_by, Option, Some, None, slice_get}
+use Rattle.std.proofs.Common.{◌≡◌, ◌+◌, ◌≤◌, ◌<◌, ◌⊎◌, ◌||◌, ℕ, Bool, true, false, not, List, [], ◌∷◌, ◌++◌, filter, count_by, Option, Some, None, slice_get}
 use Rattle.std.proofs.Common.{if◌then◌else◌, nat_eq, nat_le, refl, sym, ap, subst, inl, inr, ◌∙◌, arith}
 use Rattle.std.proofs.lemmas.Bool.Decides.{nat_tests}
-use Rattle.std.proofs.lemmas.Nat.{le-div}
-use Rattle.std.proofs.Math.Nat.{div-zero, div-mul-le_self}
 use Rattle.bac_apdu.specs.Apdu.{Apdu, Limits}
 use Rattle.bac_apdu.specs.Apdu.Apdu.{ConfirmedRequest, UnconfirmedRequest, SimpleAck, ComplexAck, SegmentAck, Error, Reject, Abort}
 use Rattle.bac_npdu.specs.Peers.{PeerView}
@@ -21,19 +19,22 @@ use Rattle.bac_protocol.specs.Server.{ServerTransaction, Service, is_live, is_no
 use Rattle.bac_slots.specs.Slots.{value_at}
 use Rattle.bac_transaction.specs.Keys.{PeerKey, same_key}
 use Rattle.bac_transaction.specs.Sends.{Datagram}
-use Rattle.bac_transaction.specs.Ends.{Client, ClientEnd, ServerEnd, TransactionSlot, Accepted, AskOutcome, AskRefusal, is_held, is_slot_held, is_slot_live, is_free}
-use Rattle.bac_transaction.specs.Ends.{requester_on_apdu_at, requester_on_apdu_in_slot, client_after, client_ticked, held_ticked, server_ticked, entry_or, set_or_put, put_entry}
-use Rattle.bac_transaction.specs.Ends.{key_of, context_of, has_no_slot, asks_with_id, asks_for, asks_by_way, accepts, free_id, MOST_ASKS, new_client}
-use Rattle.bac_transaction.proofs.ServerTables.{has_space}
+use Rattle.bac_transaction.specs.Ends.{Client, ClientEnd, ServerEnd, TransactionSlot, Accepted, AskOutcome, AskRefusal, is_held, is_slot_held, is_slot_live}
+use Rattle.bac_transaction.specs.Ends.{is_free, requester_on_apdu_at, requester_on_apdu_in_slot, client_after, client_ticked, held_ticked, server_ticked}
+use Rattle.bac_transaction.specs.Ends.{entry_or, set_or_put, put_entry, key_of, context_of, has_no_slot, asks_with_id, asks_for, asks_by_way, accepts, free_id}
+use Rattle.bac_transaction.specs.Ends.{MOST_ASKS, new_client}
 use Rattle.bac_transaction.specs.Ends.TransactionSlot.{Open, Closed}
 use Rattle.bac_transaction.specs.Ends.AskOutcome.{Asked}
 use Rattle.bac_transaction.specs.Services.{service_of}
+use Rattle.bac_transaction.proofs.ServerTables.{has_space}
 use Rattle.bac_world.specs.Node.{Node, Outcome, NodeOn, NodeTick, NodeAsks, IsHeardBy, with_change}
-use Rattle.bac_world.specs.World.{World, Event, WorldStep, WorldRun, IsFresh, IsFreshNode, IsWithNode, DeliversIf, Hears, is_deliverable, Time, passes, with_clock, told}
+use Rattle.bac_world.specs.World.{World, Event, WorldStep, WorldRun, IsFresh, IsFreshNode, IsWithNode, DeliversIf, Hears, is_deliverable, Time, passes}
+use Rattle.bac_world.specs.World.{with_clock, told}
 use Rattle.bac_world.specs.World.Event.{Deliver, Noise, Tick, Advance, Change, Restart}
 use Rattle.bac_world.proofs.Steps.{decide_number}
 use Rattle.bac_world.proofs.Asking.{accepted_is}
 use Rattle.bac_liveness.specs.Room.{HasRoom, HaveRoom}
+use Rattle.bac_liveness.proofs.Clocks.{divided}
 use Rattle.bac_liveness.proofs.StraightRuns.Counts.{count, count_changed, count_weaker, count_put, count_with}
 
 -- Entries.
@@ -119,7 +120,8 @@ holds now v = is_held now v.held
 module _ (c : Settings) (now : ℕ) (a : Apdu) (e : ClientEnd) (key : PeerKey) where
   held_room : (number : ℕ) (y : TransactionSlot) → value_at same_key key e.slots ≡ Some (record { number = number; held = y })
       → count Client (holds now) e.slots ≤ e.capacity
-      → count Client (holds now) (requester_on_apdu_in_slot c reads_reply now a e key number y).end.slots ≤ (requester_on_apdu_in_slot c reads_reply now a e key number
+      → count Client (holds now) (requester_on_apdu_in_slot c reads_reply now a e key number y).end.slots ≤
+      (requester_on_apdu_in_slot c reads_reply now a e key number
       y).end.capacity
   held_room number (Closed first) at room = room
   held_room number (Open t) at room =
@@ -165,7 +167,8 @@ tick_room now old new o tick h = subst (HasRoom now) (sym tick.node) (record {
       omega arith;
 })
   where
-    still : (key : PeerKey) (number : ℕ) (y : TransactionSlot) → is_held now (held_ticked (context_of old.settings now key) number y).held ≡ true → is_held now y ≡ true
+    still : (key : PeerKey) (number : ℕ) (y : TransactionSlot) → is_held now (held_ticked (context_of old.settings now key) number y).held ≡ true
+        → is_held now y ≡ true
     still key number (Closed first) l = l
     still key number (Open t) l = refl
 
@@ -251,12 +254,6 @@ fresh_room now n fresh = record {
 -- each clock shows its whole milliseconds
 abbrev AreShown : Time → Type 0
 AreShown t = (i : ℕ) → t.clocks i ≡ clock_at t.pace (t.clocks i).exact
-
-divided : (a b grain : ℕ) → a ≤ b → a / grain ≤ b / grain
-divided a b zero le = let e : a / zero ≡ zero = div-zero a in omega arith
-divided a b (suc k) le =
-    let low : a / suc k * suc k ≤ a = div-mul-le_self a (suc k) in
-    le-div (a / suc k) b (suc k) (omega arith) (omega arith)
 
 -- and so it never shows less than before
 goes_on_later : (p : Pace) (by own : ℕ) (c : Clock) → c ≡ clock_at p c.exact → c.shows ≤ (goes_on p by own c).shows

@@ -1,7 +1,7 @@
 -- The stores of a world as the stores of the machines.
+use Rattle.std.specs.Option.{option_map}
 use Rattle.std.proofs.Common.{◌≡◌, ℕ, Bool, true, false, Option, Some, None, Result, Ok, Err, if◌then◌else◌, nat_eq, refl, sym, ap, ◌∙◌, List, slice_get, arith}
 use Rattle.std.proofs.lemmas.Bool.Decides.{nat_tests}
-use Rattle.std.specs.Option.{option_map}
 use Rattle.bac_service.specs.Values.{Request}
 use Rattle.bac_service.specs.Services.{request_at}
 use Rattle.bac_service.proofs.Wholes.{request_again}

@@ -1,6 +1,6 @@
 -- How an accepted ask and a store's reply go.
-use Rattle.std.proofs.Common.{◌≡◌, ◌+◌, ◌-◌, ◌≤◌, ℕ, Bool, true, false, List, [], ◌∷◌, length, Option, Some, None, if◌then◌else◌, nat_lt, nat_le}
-use Rattle.std.proofs.Common.{refl, sym, ap, subst, ◌∙◌, arith}
+use Rattle.std.proofs.Common.{◌≡◌, ◌+◌, ◌-◌, ◌≤◌, ℕ, Bool, true, false, List, [], ◌∷◌, length, Option, Some, None, if◌then◌else◌, nat_lt, nat_le, refl, sym, ap}
+use Rattle.std.proofs.Common.{subst, ◌∙◌, arith}
 use Rattle.std.proofs.lemmas.Bool.Decides.{nat_tests}
 use Rattle.bac_apdu.specs.Apdu.{Limits}
 use Rattle.bac_npdu.specs.Peers.{PeerView}
@@ -10,10 +10,10 @@ use Rattle.bac_service.specs.Values.Complex.{FileRead, StreamWritten, RecordsWri
 use Rattle.bac_service.specs.Replies as plain
 use Rattle.bac_service.specs.Spellings.{complex_spelling}
 use Rattle.bac_service.proofs.LengthLaws.{length_complex}
-use Rattle.bac_store.specs.ReplyKinds.{FitsChoice}
-use Rattle.bac_store.specs.ReplyLengths.{DATA_LIMIT, reply_length}
 use Rattle.bac_segment.specs.Limits.{DATA}
 use Rattle.bac_segment.specs.Pieces.{pieces_of}
+use Rattle.bac_store.specs.ReplyKinds.{FitsChoice}
+use Rattle.bac_store.specs.ReplyLengths.{DATA_LIMIT, reply_length}
 use Rattle.bac_protocol.specs.Context.{Settings, Context}
 use Rattle.bac_protocol.specs.Sizes.{Way, RequestFault, request_way_of, request_way_of_size, request_way_in_segments, reply_way_of, transfer_size}
 use Rattle.bac_protocol.specs.Sizes.Way.{InOne, InSegments, Refused}
