@@ -61,7 +61,7 @@ stranger_one i p q is =
     λ j. record { peer = peer j; invoke_id = (is j).invoke_id }
 
 -- an entry in which a request was performed is live
-live_for : (now : ℕ) (a : Apdu) (o : Option ServerTransaction) (d : ServerTransaction) → IsEntryFor now (live_entry now o) a d → is_live now d ≡ true
+pub live_for : (now : ℕ) (a : Apdu) (o : Option ServerTransaction) (d : ServerTransaction) → IsEntryFor now (live_entry now o) a d → is_live now d ≡ true
 live_for now a None d h = let is = h.begin in grind (arith, nat_tests)
 live_for now a (Some e) d h = go (is_live now e) refl h
   where
