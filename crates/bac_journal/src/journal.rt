@@ -179,8 +179,8 @@ impl Journal {
         Ok(())
     }
 
-    /// The datagrams that a node sends become the newest copies, for which room was made. Each goes to a node, and means an APDU of a transaction that was
-    /// asked. It takes no memory.
+    /// The datagrams that a node sends to nodes become the newest copies, for which room was made. Each means an APDU of a transaction that was asked, or goes
+    /// to a stranger, a link of no node. It takes no memory.
     pub fn send(&mut self, sender: usize, sends: Vec<Datagram>)
         requires can { CanGo self.old.links self.old.notes self.old.moment sender sends.items }
         requires room { length sends.items ≤ self.old.room }
@@ -188,7 +188,7 @@ impl Journal {
         ensures copies { (nodes : List Node) → AreLinks nodes self.old.links
             → BecomeCopies nodes self.old.moment sender sends.items self.old.copies self.new.copies }
         ensures same { self.new ≡ record (self.old) { copies = self.new.copies; room = self.new.room } }
-        ensures room { self.new.room + length sends.items ≡ self.old.room }
+        ensures room { self.old.room ≤ self.new.room + length sends.items }
     {
         send_all(
             &self.links,
