@@ -220,6 +220,7 @@ impl Journal {
     /// An ask that was accepted is noted, for which room was made. Its ticket is one that its client had before, as one that restarts numbers its tickets
     /// anew, or the one after them. It takes no memory.
     pub fn note(&mut self, note: Note)
+        requires node { note.stranger ≡ None }
         requires room { HasNoteRoom self.old note.transaction.client note.transaction.server }
         requires ticket { note.ticket ≤ tickets_of note.transaction.client self.old.notes }
         ensures { self.new ≡ record (self.old) { notes = note_view note ∷ self.old.notes; note_room = self.new.note_room } }
