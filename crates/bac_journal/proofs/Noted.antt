@@ -3,6 +3,7 @@ use Rattle.std.proofs.Common.{◌≡◌, ℕ, suc, ◌+◌, ◌<◌, ◌≤◌, 
 use Rattle.std.proofs.Common.{if◌then◌else◌, refl, sym, ap, subst, inl, inr, ◌∙◌, arith, nat_eq, nat_lt, slice_set}
 use Rattle.std.proofs.lemmas.Bool.Decides.{nat_tests}
 use Rattle.std.proofs.lemmas.List.{length-append, length-set, length-map, length-reverse, map-append, reverse-append, reverse-reverse}
+use Rattle.std.proofs.lemmas.Option.{slice_get-map}
 use Rattle.std.specs.Prelude.{option_and_then, reverse, vec_capacity, is_some, not}
 use Rattle.std.specs.Option.{option_map}
 use Rattle.bac_npdu.specs.declared.peer.Peer.{Peer}
@@ -12,7 +13,7 @@ use Rattle.std.specs.Global.{Vec}
 use Rattle.bac_protocol.specs.Transaction.{Key}
 use Rattle.bac_protocol.specs.World.{same_key}
 use Rattle.bac_protocol.proofs.Keys.{decide_key, same_key_self}
-use Rattle.bac_world.specs.World.{Note, newest, ask_of, count_of}
+use Rattle.bac_world.specs.World.{Note, newest, ask_of, count_of, is_away}
 use Rattle.bac_world.proofs.Steps.{decide_number}
 use Rattle.bac_journal.specs.declared.asks.Cell.{Cell}
 use Rattle.bac_journal.specs.declared.asks.Row.{Row}
@@ -263,3 +264,34 @@ notes_many notes = sym (length-reverse (map note_view notes) ∙ length-map note
 -- the notes in their order
 pub notes_mapped : (xs ys : List code.Note) → notes_view xs ≡ notes_view ys → map note_view xs ≡ map note_view ys
 notes_mapped xs ys e = sym (reverse-reverse (map note_view xs)) ∙ ap reverse e ∙ reverse-reverse (map note_view ys)
+
+-- Whose ask a note is of.
+
+abbrev pub asked_away : Option Note → Bool
+asked_away None = false
+asked_away (Some n) = is_some n.away
+
+away_in : (number : ℕ) (notes : List Note) → is_away number notes ≡ asked_away (slice_get (reverse notes) number)
+away_in number [] = refl
+away_in number (n ∷ notes) = go (decide_number number (length notes)) (away_in number notes)
+  where
+    turned : reverse (n ∷ notes) ≡ reverse notes ++ n ∷ []
+    turned = reverse-append (n ∷ []) notes
+
+    many : length (reverse notes) ≡ length notes
+    many = length-reverse notes
+
+    go : ((number ≡ length notes) ⊎ (number ≡ length notes → ⊥)) → is_away number notes ≡ asked_away (slice_get (reverse notes) number)
+        → is_away number (n ∷ notes) ≡ asked_away (slice_get (reverse (n ∷ notes)) number)
+    go (inl is) rest =
+        ap (λ x. if x then is_some n.away else is_away number notes) (ap (λ k. nat_eq k (length notes)) is ∙ nat_self (length notes))
+        ∙ sym (ap (λ l. asked_away (slice_get l number)) turned ∙ ap (λ k. asked_away (slice_get (reverse notes ++ n ∷ []) k)) (is ∙ sym many)
+        ∙ ap asked_away (get_push (reverse notes) n))
+    go (inr ne) rest =
+        ap (λ x. if x then is_some n.away else is_away number notes) (nat_other number (length notes) ne) ∙ rest
+        ∙ sym (ap (λ l. asked_away (slice_get l number)) turned ∙ ap asked_away (get_push_other (reverse notes) n number (λ e. ne (e ∙ many))))
+
+pub away_at : (notes : List code.Note) (number : ℕ) → is_away number (notes_view notes) ≡ asked_away (option_map note_view (slice_get notes number))
+away_at notes number =
+    away_in number (notes_view notes) ∙ ap (λ l. asked_away (slice_get l number)) (reverse-reverse (map note_view notes))
+    ∙ ap asked_away (slice_get-map note_view notes number)

@@ -4,7 +4,7 @@ ghost use Rattle.std.specs.Prelude.{IsTrue, OnOk, OnErr, List, [], ◌∷◌, No
 ghost use Rattle.bac_protocol.specs.declared.times.TheConstants.{LIFE};
 ghost use Rattle.bac_world.specs.Node.{Node};
 ghost use Rattle.bac_world.specs.World as world;
-ghost use Rattle.bac_world.specs.World.{ask_of, is_deliverable, newest};
+ghost use Rattle.bac_world.specs.World.{ask_of, is_away, is_deliverable, newest};
 ghost use Rattle.bac_journal.specs.Entering.{tickets_of};
 ghost use Rattle.bac_journal.specs.Growing.{BecomeCopies, CanGo};
 ghost use Rattle.bac_journal.specs.Journals.{AreEmpty, AreFresh, AreSame, HasNoteRoom, HasStrangerRoom, IsFreshRow, JournalView};
@@ -15,7 +15,7 @@ use crate::arriving::deliverable;
 use crate::asks::{Cell, Row, known, number_of, reserve_ask, reserve_ticket};
 use crate::comparing::{are_same_copies, are_same_links, are_same_notes};
 use crate::copies::{Copy, node_at};
-use crate::noting::{Note, add_note, add_stranger_note};
+use crate::noting::{Note, add_note, add_stranger_note, is_of_stranger};
 use crate::sending::send_all;
 use crate::transaction::Transaction;
 use bac_npdu::LinkAddress;
@@ -167,6 +167,13 @@ impl Journal {
         ensures { result ≡ ask_of client ticket self.now.notes }
     {
         number_of(&self.rows, client, ticket)
+    }
+
+    /// Whether the ask of that number was of a stranger; false where there is none. It takes no memory.
+    pub fn is_away(&self, number: usize) -> bool
+        ensures { result ≡ is_away number self.now.notes }
+    {
+        is_of_stranger(&self.notes, number)
     }
 
     /// Makes room for so many more copies. After an Err nothing has changed.

@@ -1,5 +1,6 @@
 //! How asks are noted.
 ghost use Rattle.std.specs.Prelude.{◌≡◌, ◌+◌, ◌≤◌, List, ◌∷◌, IsSome, None, Some, length, slice_get, vec_capacity};
+ghost use Rattle.bac_world.specs.World.{is_away};
 ghost use Rattle.bac_journal.specs.declared.asks.Cell.{Cell};
 ghost use Rattle.bac_journal.specs.declared.asks.Row.{Row};
 ghost use Rattle.bac_journal.specs.declared.copies.Copy.{Copy};
@@ -69,4 +70,14 @@ pub(crate) fn add_stranger_note(notes: &mut Vec<Note>, rows: &mut [Row], note: N
     let number = notes.len();
     add_number(rows, note.transaction.client, note.ticket, number);
     notes.push_reserved(note);
+}
+
+/// Whether the ask of that number was of a stranger.
+pub(crate) fn is_of_stranger(notes: &[Note], number: usize) -> bool
+    ensures { result ≡ is_away number (notes_view notes.now) }
+{
+    match notes.get(number) {
+        Some(note) => note.stranger.is_some(),
+        None => false,
+    }
 }
