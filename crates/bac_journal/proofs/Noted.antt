@@ -72,7 +72,8 @@ module _ (old new : List Row) (client ticket number : ℕ) (h : IsWithRow old cl
 -- An ask was noted: it is its transaction's newest, and its ticket's.
 
 module _ (old mid new : List Row) (key : Key) (cell known : Cell) (number : ℕ)
-    (a : IsWithRow old key.client (IsWithCell key.server key.invoke_id cell) mid) (ticket : ℕ) (b : IsWithRow mid key.client (IsWithNumber ticket number) new) (fits : key.invoke_id < 256) (there : cell_at old key ≡ Some known)
+    (a : IsWithRow old key.client (IsWithCell key.server key.invoke_id cell) mid) (ticket : ℕ)
+    (b : IsWithRow mid key.client (IsWithNumber ticket number) new) (fits : key.invoke_id < 256) (there : cell_at old key ≡ Some known)
     (newest_cell : cell.newest ≡ Some number) (same_sent : cell.sent ≡ known.sent) (copies : List Copy) (notes : List Note)
     (numbered : number ≡ length notes) (h : IsKept old copies notes) where
   abbrev note : Note

@@ -1,4 +1,5 @@
--- What comes of a node's call can enter the world: each datagram goes to a node, in a transaction that was asked; each ending is an ask's, and so is what was performed.
+-- What comes of a node's call can enter the world: each datagram goes to a node, in a transaction that was asked, or to a stranger; each ending is an
+-- ask's; what was performed is an ask's, or a stranger's.
 use Rattle.std.specs.Prelude.{◌≡◌, ◌⊎◌, ℕ, suc, ◌+◌, ◌≤◌, true, List, [], ◌∷◌, length, if◌then◌else◌, nat_eq, nat_lt, Option, Some, None, slice_get}
 use Rattle.bac_apdu.specs.Apdu.{Limits}
 use Rattle.bac_service.specs.Values.{Request}
@@ -99,5 +100,5 @@ pub record CanGoOn (W overtake : ℕ) (w : World) : Type 0 where
       → Every (CanBeCopied w.nodes (note_of client server accepted.invoke_id accepted.ticket ∷ w.notes) w.time.now client) sends × (length sends ≤ W + 1)
 
 abbrev pub RunsCanGoOn : Type 0
-RunsCanGoOn = (W overtake : ℕ) (w w' : World) → IsFresh w → IsTimely w.time.pace → IsBounded W overtake w → (events : List Event) → WorldRun overtake w events w'
-    → CanGoOn W overtake w'
+RunsCanGoOn = (W overtake : ℕ) (w w' : World) → IsFresh w → IsTimely w.time.pace → IsBounded W overtake w → (events : List Event)
+    → WorldRun overtake w events w' → CanGoOn W overtake w'

@@ -224,8 +224,8 @@ impl Journal {
         reserve_ask(alloc, &mut self.rows, client, server)
     }
 
-    /// An ask of a node that was accepted is noted, for which room was made. Its ticket is one that its client had before, as one that restarts numbers its tickets
-    /// anew, or the one after them. It takes no memory.
+    /// An ask of a node that was accepted is noted, for which room was made. Its ticket is one that its client had before, as one that restarts numbers its
+    /// tickets anew, or the one after them. It takes no memory.
     pub fn note(&mut self, note: Note)
         requires node { note.stranger ≡ None }
         requires room { HasNoteRoom self.old note.transaction.client note.transaction.server }
