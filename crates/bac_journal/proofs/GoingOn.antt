@@ -28,7 +28,7 @@ use Rattle.bac_world.specs.World.{World, Time, Event, Copy, told, passes, with_c
 use Rattle.bac_world.specs.World.{Note}
 use Rattle.bac_transaction.specs.Sends.{Datagram}
 use Rattle.bac_world.specs.World.{DeliversIf, WorldStep, WorldRun, IsFresh, IsBounded}
-use Rattle.bac_world.specs.World.Event.{Ask, AskAway, Deliver, Noise, Tick, Advance, Change, Restart}
+use Rattle.bac_world.specs.World.Event.{Ask, AskAway, Deliver, Noise, Stray, Tick, Advance, Change, Restart}
 use Rattle.bac_world.proofs.Pairs.{IsPaired, pairwise_get}
 use Rattle.bac_world.proofs.Bridge.{IsCopyOf, IsBetween, framed_means}
 use Rattle.bac_world.proofs.Steps.{Over, decide_number, each_with}
@@ -267,6 +267,8 @@ tidy_step overtake w w' (AskAway client peer limits r) t (inr s) = subst Tidy (s
 tidy_step overtake w w' (Deliver number) t s = tidy_delivered (is_deliverable overtake w.time.pace.life w.time.now number w.copies s.copy) w s.copy w' t s.goes
 tidy_step overtake w w' (Noise node from octets) t (inl s) = tidy_hears w w' t node from octets s.hears
 tidy_step overtake w w' (Noise node from octets) t (inr s) = subst Tidy (sym s.same) t
+tidy_step overtake w w' (Stray node from octets) t (inl s) = tidy_hears w w' t node from octets s.hears
+tidy_step overtake w w' (Stray node from octets) t (inr s) = subst Tidy (sym s.same) t
 tidy_step overtake w w' (Tick node) t s =
     tidy_acts w w' t node s.before s.after s.outcome s.at s.acts (tick_counted (told w node) s.before s.after s.outcome s.tick)
 tidy_step overtake w w' (Advance by own) t s = subst Tidy (sym s) (tidy_later w t by own)

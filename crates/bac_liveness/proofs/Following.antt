@@ -26,9 +26,9 @@ use Rattle.bac_transaction.specs.Ends.{AskOutcome, act_at, is_free, requester_as
 use Rattle.bac_transaction.specs.Services.{service_of}
 use Rattle.bac_world.specs.Services.{ArePerformed}
 use Rattle.bac_world.specs.Node.{Node, Outcome, IsDropped, IsHeard, IsHeardBy, NodeOn}
-use Rattle.bac_world.specs.World.{World, Event, Copy, later, is_deliverable, peer_at, Acts, DeliversIf, Delivers, HearsNoise, IsOutside, IsAsked, WorldStep}
+use Rattle.bac_world.specs.World.{World, Event, Copy, later, is_deliverable, peer_at, Acts, DeliversIf, Delivers, HearsNoise, HearsStranger, IsAsked, WorldStep}
 use Rattle.bac_world.specs.World.{WorldRun, RunsOn, told}
-use Rattle.bac_world.specs.World.Event.{Ask, AskAway, Deliver, Noise, Tick, Advance, Change, Restart}
+use Rattle.bac_world.specs.World.Event.{Ask, AskAway, Deliver, Noise, Stray, Tick, Advance, Change, Restart}
 use Rattle.bac_world.specs.Laws.{IsMeaningless}
 use Rattle.bac_world.proofs.NodeLaws.{drops_exactly}
 use Rattle.bac_world.proofs.Pairs.{IsPaired, pairwise_get}
@@ -59,6 +59,7 @@ first_on i (Ask c s limits r) es h = (tt, h)
 first_on i (AskAway c peer limits r) es h = (tt, h)
 first_on i (Deliver number) es h = (tt, h)
 first_on i (Noise node from octets) es h = (tt, h)
+first_on i (Stray node from octets) es h = (tt, h)
 first_on i (Tick node) es h = (tt, h)
 first_on i (Advance by own) es h = (tt, h)
 first_on i (Change node change) es h = (tt, h)
@@ -346,12 +347,16 @@ module _ (links : ℕ → Option Octets) (apart : (i j : ℕ) (l : Octets) → l
       where
         on : NodeOn (told w i) from octets d.hears.before d.hears.after d.hears.outcome → Followed events w' n
         on (inl z) = dropped events w w' n h i d.hears.before d.hears.after d.hears.outcome d.hears.at d.hears.acts from octets z
-        on (inr z) = meant d.outside
-          where
-            meant : IsOutside w.nodes from octets → Followed events w' n
-            meant (inl foreign) = aside events w w' n (hears_stranger links apart W x bound readable w w' n h i from foreign d.hears.before d.hears.after
-                d.hears.outcome d.hears.at d.hears.acts octets z)
-            meant (inr noise) = absurd (noise z.peer z.apdu z.means)
+        on (inr z) = absurd (d.meaningless z.peer z.apdu z.means)
+
+    stray : (events : List Event) (w w' : World) (n : Net) → Over links apart W x w n → (i : ℕ) (from octets : Octets) → HearsStranger w i from octets w'
+        → Followed events w' n
+    stray events w w' n h i from octets d = on d.hears.on
+      where
+        on : NodeOn (told w i) from octets d.hears.before d.hears.after d.hears.outcome → Followed events w' n
+        on (inl z) = dropped events w w' n h i d.hears.before d.hears.after d.hears.outcome d.hears.at d.hears.acts from octets z
+        on (inr z) = aside events w w' n (hears_stranger links apart W x bound readable w w' n h i from d.stranger d.hears.before d.hears.after
+            d.hears.outcome d.hears.at d.hears.acts octets z)
 
     asks : (events : List Event) (w w' : World) (n : Net) → Over links apart W x w n → (c s : ℕ) (limits : Limits) (r : Request) → IsAsked w c s limits r w'
         → Followed events w' n
@@ -384,6 +389,8 @@ module _ (links : ℕ → Option Octets) (apart : (i j : ℕ) (l : Octets) → l
         (nat_le (w.time.now - d.copy.moment) w.time.pace.life) (nat_le (later d.copy.key number w.copies) x.overtake) refl refl d.goes
     step_followed w w' n h (Noise node from octets) gives (inl d) = noise (Noise node from octets ∷ []) w w' n h node from octets d
     step_followed w w' n h (Noise node from octets) gives (inr d) = same_followed (Noise node from octets ∷ []) w w' n h d.same
+    step_followed w w' n h (Stray node from octets) gives (inl d) = stray (Stray node from octets ∷ []) w w' n h node from octets d
+    step_followed w w' n h (Stray node from octets) gives (inr d) = same_followed (Stray node from octets ∷ []) w w' n h d.same
     step_followed w w' n h (Tick node) gives d = record {
       net = (tick_over links apart W x bound w w' n h node d).0;
       over = (tick_over links apart W x bound w w' n h node d).1.bridge;

@@ -153,6 +153,7 @@ module _ (links : ℕ → Option Octets) (apart : (i j : ℕ) (l : Octets) → l
         found.3,
       )
   gives w m over (Event.Noise node from data') f = tt
+  gives w m over (Event.Stray node from data') f = tt
   gives w m over (Event.Tick node) f = tt
   gives w m over (Event.Advance by own) f = tt
   gives w m over (Event.Change node change) f = tt

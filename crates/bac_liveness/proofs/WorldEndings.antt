@@ -68,6 +68,7 @@ on_then i (Event.Ask c s limits r ∷ es) fs h k = on_then i es fs h k
 on_then i (Event.AskAway c peer limits r ∷ es) fs h k = on_then i es fs h k
 on_then i (Event.Deliver number ∷ es) fs h k = on_then i es fs h k
 on_then i (Event.Noise node from octets ∷ es) fs h k = on_then i es fs h k
+on_then i (Event.Stray node from octets ∷ es) fs h k = on_then i es fs h k
 on_then i (Event.Tick node ∷ es) fs h k = on_then i es fs h k
 on_then i (Event.Advance by own ∷ es) fs h k = on_then i es fs h k
 on_then i (Event.Change node change ∷ es) fs h k = on_then i es fs h k
@@ -203,6 +204,7 @@ module _ (links : ℕ → Option Octets) (apart : (i j : ℕ) (l : Octets) → l
   gives_any w n (Event.AskAway c peer limits r) = tt
   gives_any w n (Event.Deliver number) = λ w' p c t up. tt
   gives_any w n (Event.Noise node from octets) = tt
+  gives_any w n (Event.Stray node from octets) = tt
   gives_any w n (Event.Tick node) = tt
   gives_any w n (Event.Advance by own) = tt
   gives_any w n (Event.Change node change) = tt

@@ -390,7 +390,7 @@ pub stranger_run : StrangerRun
 stranger_run = record {
   octets = (datagram (link 1) ASK).octets;
   last = STRANGER_WORLD;
-  run = (STRANGER_WORLD, inl (record { outside = inl no_node; hears = stranger_served }), refl);
+  run = (STRANGER_WORLD, inl (record { stranger = no_node; hears = stranger_served }), refl);
   log = refl;
   copies = refl;
 }

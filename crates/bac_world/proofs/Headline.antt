@@ -27,9 +27,9 @@ use Rattle.bac_transaction.specs.Ends.{Client}
 use Rattle.bac_transaction.specs.Services.{service_of}
 use Rattle.bac_world.specs.Node.{Node, Outcome, IsDropped, IsHeard, IsHeardBy, NodeOn, with_change}
 use Rattle.bac_world.specs.Once.{Fact, Stores, IsOnce, MayChange, with_changed}
-use Rattle.bac_world.specs.World.{World, Time, passes, Event, Copy, Note, link_at, stores_of, newest, later, peer_at, Acts, DeliversIf, Delivers, HearsNoise, IsOutside}
+use Rattle.bac_world.specs.World.{World, Time, passes, Event, Copy, Note, link_at, stores_of, newest, later, peer_at, Acts, DeliversIf, Delivers, HearsNoise, HearsStranger}
 use Rattle.bac_world.specs.World.{IsChanged, WorldStep, WorldRun, IsFresh, IsBounded}
-use Rattle.bac_world.specs.World.Event.{Ask, AskAway, Deliver, Noise, Tick, Advance, Change, Restart}
+use Rattle.bac_world.specs.World.Event.{Ask, AskAway, Deliver, Noise, Stray, Tick, Advance, Change, Restart}
 use Rattle.bac_transaction.proofs.KeyedSlots.{EachSlot}
 use Rattle.bac_protocol.specs.World.{client_now, server_now, is_lost, is_key_held}
 use Rattle.bac_world.specs.World.{told}
@@ -124,14 +124,17 @@ module _ (links : ℕ → Option Octets) (apart : (i j : ℕ) (l : Octets) → l
     where
       on : NodeOn (told w i) from octets d.hears.before d.hears.after d.hears.outcome → Next links apart W x w w'
       on (inl z) = dropped w w' n h i d.hears.before d.hears.after d.hears.outcome d.hears.at d.hears.acts from octets z
-      on (inr z) = meant d.outside
-        where
-          meant : IsOutside w.nodes from octets → Next links apart W x w w'
-          meant (inl foreign) =
-              let next = hears_stranger links apart W x bound readable w w' n h i from foreign d.hears.before d.hears.after d.hears.outcome d.hears.at
-              d.hears.acts octets z in
-              (next.0, next.1)
-          meant (inr noise) = absurd (noise z.peer z.apdu z.means)
+      on (inr z) = absurd (d.meaningless z.peer z.apdu z.means)
+
+  stray : (w w' : World) (n : Net) → Over links apart W x w n → (i : ℕ) (from octets : Octets) → HearsStranger w i from octets w' → Next links apart W x w w'
+  stray w w' n h i from octets d = on d.hears.on
+    where
+      on : NodeOn (told w i) from octets d.hears.before d.hears.after d.hears.outcome → Next links apart W x w w'
+      on (inl z) = dropped w w' n h i d.hears.before d.hears.after d.hears.outcome d.hears.at d.hears.acts from octets z
+      on (inr z) =
+          let next = hears_stranger links apart W x bound readable w w' n h i from d.stranger d.hears.before d.hears.after d.hears.outcome d.hears.at
+          d.hears.acts octets z in
+          (next.0, next.1)
 
   -- Time.
 
@@ -273,6 +276,8 @@ module _ (links : ℕ → Option Octets) (apart : (i j : ℕ) (l : Octets) → l
       (nat_le (later s.copy.key number w.copies) x.overtake) refl refl s.goes
   step_over w w' n h (Noise node from octets) (inl s) = noise w w' n h node from octets s
   step_over w w' n h (Noise node from octets) (inr s) = same_over w w' n h s.same
+  step_over w w' n h (Stray node from octets) (inl s) = stray w w' n h node from octets s
+  step_over w w' n h (Stray node from octets) (inr s) = same_over w w' n h s.same
   step_over w w' n h (Tick node) s = tick_over links apart W x bound w w' n h node s
   step_over w w' n h (Advance by own) s = subst (λ (u : World). Next links apart W x w u) (sym s) (advanced w n h by own)
   step_over w w' n h (Change node change) s = changed_next w w' n h node change s

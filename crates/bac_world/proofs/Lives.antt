@@ -16,7 +16,7 @@ use Rattle.bac_world.specs.Node.{Node, Outcome, IsHeardBy, NodeOn, NodeTick, Nod
 use Rattle.bac_world.specs.Once.{HasNoRestart}
 use Rattle.bac_world.specs.World.{World, Event, Copy, IsWithNode, Hears, DeliversIf, is_deliverable, peer_at}
 use Rattle.bac_world.specs.World.{WorldStep, WorldRun, RunsOn, MakeNoRestart, MakeRequestsAlone, NeverRestarted, IsFresh}
-use Rattle.bac_world.specs.World.Event.{Ask, AskAway, Deliver, Noise, Tick, Advance, Change, Restart}
+use Rattle.bac_world.specs.World.Event.{Ask, AskAway, Deliver, Noise, Stray, Tick, Advance, Change, Restart}
 use Rattle.bac_world.specs.World.{told}
 use Rattle.bac_world.proofs.Steps.{decide_number}
 use Rattle.bac_world.proofs.Asking.{accepted_is}
@@ -116,6 +116,8 @@ step_lived overtake w w' (AskAway client peer limits r) (inr s) i on = subst (λ
 step_lived overtake w w' (Deliver number) s i on = delivers_lived (is_deliverable overtake w.time.pace.life w.time.now number w.copies s.copy) w s.copy w' s.goes i
 step_lived overtake w w' (Noise node from octets) (inl s) i on = hears_lived w w' node from octets s.hears i
 step_lived overtake w w' (Noise node from octets) (inr s) i on = subst (λ (u : World). LiveOn w.nodes u.nodes i) (sym s.same) (same_lived w.nodes i)
+step_lived overtake w w' (Stray node from octets) (inl s) i on = hears_lived w w' node from octets s.hears i
+step_lived overtake w w' (Stray node from octets) (inr s) i on = subst (λ (u : World). LiveOn w.nodes u.nodes i) (sym s.same) (same_lived w.nodes i)
 step_lived overtake w w' (Tick node) s i on =
     with_lived w.nodes w'.nodes node s.before s.after s.at s.acts.nodes (tick_stays (told w node) s.before s.after s.outcome s.tick) i
 step_lived overtake w w' (Advance by own) s i on = subst (λ (u : World). LiveOn w.nodes u.nodes i) (sym s) (same_lived w.nodes i)
@@ -130,6 +132,7 @@ first_on i (Ask client server limits r) es h = (tt, h)
 first_on i (AskAway client peer limits r) es h = (tt, h)
 first_on i (Deliver number) es h = (tt, h)
 first_on i (Noise node from octets) es h = (tt, h)
+first_on i (Stray node from octets) es h = (tt, h)
 first_on i (Tick node) es h = (tt, h)
 first_on i (Advance by own) es h = (tt, h)
 first_on i (Change node c) es h = (tt, h)
@@ -152,6 +155,7 @@ each_on i (Ask client server limits r ∷ es) h = each_on i es h
 each_on i (AskAway client peer limits r ∷ es) h = each_on i es h
 each_on i (Deliver number ∷ es) h = each_on i es h
 each_on i (Noise node from octets ∷ es) h = each_on i es h
+each_on i (Stray node from octets ∷ es) h = each_on i es h
 each_on i (Tick node ∷ es) h = each_on i es h
 each_on i (Advance by own ∷ es) h = each_on i es h
 each_on i (Change node c ∷ es) h = each_on i es h
@@ -180,6 +184,8 @@ quiet_run overtake (Deliver number ∷ es) w w' run calm none = quiet_run overta
     (quiet_step overtake w run.0 (Deliver number) tt run.1 none)
 quiet_run overtake (Noise node from octets ∷ es) w w' run calm none = quiet_run overtake es run.0 w' run.2 calm
     (quiet_step overtake w run.0 (Noise node from octets) tt run.1 none)
+quiet_run overtake (Stray node from octets ∷ es) w w' run calm none = quiet_run overtake es run.0 w' run.2 calm
+    (quiet_step overtake w run.0 (Stray node from octets) tt run.1 none)
 quiet_run overtake (Tick node ∷ es) w w' run calm none = quiet_run overtake es run.0 w' run.2 calm
     (quiet_step overtake w run.0 (Tick node) tt run.1 none)
 quiet_run overtake (Advance by own ∷ es) w w' run calm none = quiet_run overtake es run.0 w' run.2 calm

@@ -9,7 +9,7 @@ use Rattle.bac_world.specs.Once.{Fact, HasRequestsAlone}
 use Rattle.bac_world.specs.Once.Fact.{Asked, Performed, Ended, Served, AskedAway, EndedAway}
 use Rattle.bac_world.specs.Services as service
 use Rattle.bac_world.specs.World.{World, Event, Copy, Note, Acts, AreEnded, ending_fact, is_away, AreLogged, DeliversIf, WorldStep, WorldRun, MakeRequestsAlone, is_deliverable}
-use Rattle.bac_world.specs.World.Event.{Ask, AskAway, Deliver, Noise, Tick, Advance, Change, Restart}
+use Rattle.bac_world.specs.World.Event.{Ask, AskAway, Deliver, Noise, Stray, Tick, Advance, Change, Restart}
 
 -- what stays true so
 pub record IsKept (P : List Fact → Type 0) : Type 0 where
@@ -54,6 +54,8 @@ module _ (P : List Fact → Type 0) (kept : IsKept P) where
       after_delivery (is_deliverable overtake w.time.pace.life w.time.now number w.copies s.copy) w s.copy w' s.goes p
   after_step overtake w w' (Noise node from octets) alone (inl s) p = after_acts w w' node s.hears.after s.hears.outcome s.hears.acts p
   after_step overtake w w' (Noise node from octets) alone (inr s) p = subst (λ (u : World). P u.log) (sym s.same) p
+  after_step overtake w w' (Stray node from octets) alone (inl s) p = after_acts w w' node s.hears.after s.hears.outcome s.hears.acts p
+  after_step overtake w w' (Stray node from octets) alone (inr s) p = subst (λ (u : World). P u.log) (sym s.same) p
   after_step overtake w w' (Tick node) alone s p = after_acts w w' node s.after s.outcome s.acts p
   after_step overtake w w' (Advance by own) alone s p = subst (λ (u : World). P u.log) (sym s) p
   after_step overtake w w' (Change node c) alone s p = absurd alone
@@ -77,6 +79,7 @@ first_alone (Ask client server limits r) es alone = (tt, alone)
 first_alone (AskAway client peer limits r) es alone = (tt, alone)
 first_alone (Deliver number) es alone = (tt, alone)
 first_alone (Noise node from octets) es alone = (tt, alone)
+first_alone (Stray node from octets) es alone = (tt, alone)
 first_alone (Tick node) es alone = (tt, alone)
 first_alone (Advance by own) es alone = (tt, alone)
 first_alone (Change node c) es alone = absurd alone

@@ -14,7 +14,7 @@ use Rattle.bac_world.specs.Node.{Node, Outcome, NodeOn, IsHeardBy}
 use Rattle.bac_world.specs.Once.{Fact, HasNoStranger}
 use Rattle.bac_world.specs.World.{World, Event, Copy, Note, Acts, AreEnded, AreLogged, IsOfNone, IsFresh, DeliversIf, WorldStep, WorldRun, MakeNoStray}
 use Rattle.bac_world.specs.World.{ending_fact, is_away, is_deliverable, told}
-use Rattle.bac_world.specs.World.Event.{Ask, AskAway, Deliver, Noise, Tick, Advance, Change, Restart}
+use Rattle.bac_world.specs.World.Event.{Ask, AskAway, Deliver, Noise, Stray, Tick, Advance, Change, Restart}
 
 -- no ask of a stranger is noted
 abbrev AreNear : List Note → Type 0
@@ -91,8 +91,9 @@ after_step overtake w w' (Noise node from octets) calm (inl s) alone = after_act
     go : NodeOn (told w node) from octets s.hears.before s.hears.after s.hears.outcome → (q : service.Performed) → s.hears.outcome.performed ≡ Some q
         → IsOfNone w.nodes q.key.peer.link → ⊥
     go (inl d) q is none = let nothing : s.hears.outcome.performed ≡ None = ap (λ (y : Outcome). y.performed) d.outcome in absurd cc
-    go (inr z) q is none = calm.0 z.peer z.apdu z.means
+    go (inr z) q is none = s.meaningless z.peer z.apdu z.means
 after_step overtake w w' (Noise node from octets) calm (inr s) alone = subst IsAlone (sym s.same) alone
+after_step overtake w w' (Stray node from octets) calm s alone = absurd calm
 after_step overtake w w' (Tick node) calm s alone =
     after_acts w w' node s.after s.outcome s.acts (λ q is none. let nothing : s.outcome.performed ≡ None = s.tick.performed in absurd cc) alone
 after_step overtake w w' (Advance by own) calm s alone = subst IsAlone (sym s) (record { log = alone.log; notes = alone.notes })
@@ -105,7 +106,8 @@ first_calm : (e : Event) (es : List Event) → MakeNoStray (e ∷ es) → MakeNo
 first_calm (Ask client server limits r) es calm = (tt, calm)
 first_calm (AskAway client peer limits r) es calm = absurd calm
 first_calm (Deliver number) es calm = (tt, calm)
-first_calm (Noise node from octets) es calm = ((calm.0, tt), calm.1)
+first_calm (Noise node from octets) es calm = (tt, calm)
+first_calm (Stray node from octets) es calm = absurd calm
 first_calm (Tick node) es calm = (tt, calm)
 first_calm (Advance by own) es calm = (tt, calm)
 first_calm (Change node c) es calm = (tt, calm)

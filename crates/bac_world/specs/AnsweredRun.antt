@@ -9,7 +9,7 @@ use Rattle.bac_world.specs.Node.{Node}
 use Rattle.bac_world.specs.Once.{Fact}
 use Rattle.bac_world.specs.Once.Fact.{Performed, Ended, Served}
 use Rattle.bac_world.specs.World.{World, Time, Event, WorldRun, IsFresh, IsBounded, peer_at}
-use Rattle.bac_world.specs.World.Event.{Ask, Deliver, Noise}
+use Rattle.bac_world.specs.World.Event.{Ask, Deliver, Stray}
 use Rattle.bac_world.specs.Examples.{REQUEST, REPLY, STORE, ASKED}
 
 abbrev pub LIMITS : Limits
@@ -58,6 +58,6 @@ pub record AnsweredRun : Type 0 where
 pub record StrangerRun : Type 0 where
   pub octets : Octets
   pub last : World
-  pub run : WorldRun 253 OPENING (Noise 1 (link 2) octets ∷ []) last
+  pub run : WorldRun 253 OPENING (Stray 1 (link 2) octets ∷ []) last
   pub log : last.log ≡ Served (peer_at (link 2)) 1 0 0 REQUEST REPLY ∷ []
   pub copies : last.copies ≡ []

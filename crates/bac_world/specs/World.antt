@@ -218,6 +218,7 @@ pub data Event : Type 0 where
   Ask : (client server : ℕ) (limits : Limits) (request : Request) → Event
   Deliver : (number : ℕ) → Event
   Noise : (node : ℕ) (from octets : Octets) → Event
+  Stray : (node : ℕ) (from octets : Octets) → Event
   AskAway : (client : ℕ) (peer : PeerView) (limits : Limits) (request : Request) → Event
   Tick : (node : ℕ) → Event
   Advance : (by : ℕ) (own : ℕ → ℕ) → Event
@@ -295,16 +296,21 @@ pub record IsDelivered (overtake : ℕ) (old : World) (number : ℕ) (new : Worl
 abbrev pub IsOutside : List Node → (from octets : Octets) → Type 0
 IsOutside nodes from octets = IsOfNone nodes from ⊎ IsMeaningless from octets
 
--- they are heard
+-- noise is heard
 pub record HearsNoise (old : World) (i : ℕ) (from octets : Octets) (new : World) : Type 0 where
-  pub outside : IsOutside old.nodes from octets
+  pub meaningless : IsMeaningless from octets
   pub hears : Hears old i from octets new
 
--- other octets are lost: from a node's link only that node sends what means something
-pub record LosesOctets (old : World) (i : ℕ) (from octets : Octets) (new : World) : Type 0 where
+-- octets of a stranger, from a link of no node, are heard, whatever they are
+pub record HearsStranger (old : World) (i : ℕ) (from octets : Octets) (new : World) : Type 0 where
+  pub stranger : IsOfNone old.nodes from
+  pub hears : Hears old i from octets new
+
+-- other octets are lost
+pub record LosesOctets (IsFit : Type 0) (old : World) (i : ℕ) (new : World) : Type 0 where
   pub node : Node
   pub at : slice_get old.nodes i ≡ Some node
-  pub not_outside : IsOutside old.nodes from octets → ⊥
+  pub unfit : IsFit → ⊥
   pub same : new ≡ old
 
 pub record Ticks (old : World) (i : ℕ) (new : World) : Type 0 where
@@ -341,7 +347,8 @@ abbrev pub WorldStep : (overtake : ℕ) → World → Event → World → Type 0
 WorldStep overtake old (Ask client server limits r) new = IsAsked old client server limits r new ⊎ IsRefused old client server limits r new
 WorldStep overtake old (AskAway client peer limits r) new = IsAskedAway old client peer limits r new ⊎ IsRefusedAway old client peer limits r new
 WorldStep overtake old (Deliver number) new = IsDelivered overtake old number new
-WorldStep overtake old (Noise node from octets) new = HearsNoise old node from octets new ⊎ LosesOctets old node from octets new
+WorldStep overtake old (Noise node from octets) new = HearsNoise old node from octets new ⊎ LosesOctets (IsMeaningless from octets) old node new
+WorldStep overtake old (Stray node from octets) new = HearsStranger old node from octets new ⊎ LosesOctets (IsOfNone old.nodes from) old node new
 WorldStep overtake old (Tick node) new = Ticks old node new
 WorldStep overtake old (Advance by own) new = new ≡ record old { time = passes old.time by own }
 WorldStep overtake old (Change node change) new = IsChanged old node change new
@@ -370,11 +377,11 @@ MakeRequestsAlone (Change i change ∷ es) = ⊥
 MakeRequestsAlone (Restart i exact store ∷ es) = ⊥
 MakeRequestsAlone (e ∷ es) = MakeRequestsAlone es
 
--- in these events there are no strangers: none is asked, and all octets from outside are without meaning
+-- in these events there are no strangers: none is asked, and none sends anything
 abbrev pub MakeNoStray : List Event → Type 0
 MakeNoStray [] = Unit {0}
 MakeNoStray (AskAway client peer limits r ∷ es) = ⊥
-MakeNoStray (Noise node from octets ∷ es) = IsMeaningless from octets × MakeNoStray es
+MakeNoStray (Stray node from octets ∷ es) = ⊥
 MakeNoStray (e ∷ es) = MakeNoStray es
 
 -- no node waits, nor ever did
