@@ -1,6 +1,6 @@
 -- What a machine sends can become copies, and what ends has an ask's number.
 use Rattle.std.proofs.Common.{◌≡◌, ℕ, suc, ◌≤◌, Bool, true, false, List, [], ◌∷◌, ◌++◌, length, Option, Some, None, if◌then◌else◌}
-use Rattle.std.proofs.Common.{refl, sym, ap, subst, ◌∙◌, arith}
+use Rattle.std.proofs.Common.{refl, sym, ap, subst, inl, inr, ◌∙◌, arith}
 use Rattle.bac_apdu.specs.Apdu.{Apdu}
 use Rattle.bac_apdu.specs.Spelling.{SpellsApdu, is_confirmed_request}
 use Rattle.bac_npdu.proofs.Datagrams.{frame_means}
@@ -18,7 +18,9 @@ use Rattle.bac_transaction.specs.Ends.{ended_with}
 use Rattle.bac_world.specs.World.{World, Note, link_at, peer_at, transaction_of, ask_of}
 use Rattle.bac_transaction.proofs.KeyedSlots.{EachSlot, found_first}
 use Rattle.bac_world.proofs.Bridge.{key_of, copies_of, IsBetween, IsWay}
-use Rattle.bac_journal.specs.Entering.{Every, CanBeCopied, IsNoted, WasAsked}
+use Rattle.bac_journal.specs.Entering.{Every, CanBeCopied, CanLeave, IsNoted, WasAsked}
+use Rattle.bac_world.specs.Node.{Node}
+use Rattle.bac_npdu.specs.Peers.{PeerView}
 
 -- Lists.
 
@@ -40,9 +42,17 @@ paired_length R [] (y ∷ ys) k = absurd k
 paired_length R (x ∷ xs) [] k = absurd k
 paired_length R (x ∷ xs) (y ∷ ys) k = ap suc (paired_length R xs ys k.1)
 
+pub sent_to : (peer : PeerView) (sends : List Apdu) → length (to_all peer sends) ≡ length sends
+sent_to peer [] = refl
+sent_to peer (a ∷ sends) = ap suc (sent_to peer sends)
+
 pub sent_length : (l : Octets) (sends : List Apdu) → length (to_all (peer_at l) sends) ≡ length sends
-sent_length l [] = refl
-sent_length l (a ∷ sends) = ap suc (sent_length l sends)
+sent_length l sends = sent_to (peer_at l) sends
+
+pub every_leaves : (nodes : List Node) (notes : List Note) (now sender : ℕ) (ds : List Datagram) → Every (CanBeCopied nodes notes now sender) ds
+    → Every (CanLeave nodes notes now sender) ds
+every_leaves nodes notes now sender [] h = tt
+every_leaves nodes notes now sender (d ∷ ds) h = (inl h.0, every_leaves nodes notes now sender ds h.1)
 
 -- each slot's value is found at its key
 module _ (T : Type 0) where
@@ -98,6 +108,19 @@ module _ (links : ℕ → Option Octets) (apart : (i j : ℕ) (l : Octets) → l
     can_all [] (d ∷ ds) own s = absurd s
     can_all (a ∷ sends) [] own s = absurd s
     can_all (a ∷ sends) (d ∷ ds) own s = (can_one a d own.0.0 own.0.1 s.0, can_all sends ds own.1 s.1)
+
+    pub leave_all : (sends : List Apdu) (ds : List Datagram) → Each (λ a. (is_from_client a ≡ up) × (invoke_id_of a ≡ key.invoke_id)) sends
+        → Pairwise IsSent (to_all (peer_at lj) sends) ds → Every (CanLeave w.nodes notes w.time.now i) ds
+    leave_all sends ds own s = every_leaves w.nodes notes w.time.now i ds (can_all sends ds own s)
+
+  -- what goes to a stranger
+  pub leave_away : (notes : List Note) (i : ℕ) (peer : PeerView) → ((k : ℕ) → links k ≡ Some peer.link → ⊥) → (sends : List Apdu) (ds : List Datagram)
+      → Pairwise IsSent (to_all peer sends) ds → Every (CanLeave w.nodes notes w.time.now i) ds
+  leave_away notes i peer none [] [] s = tt
+  leave_away notes i peer none [] (d ∷ ds) s = absurd s
+  leave_away notes i peer none (a ∷ sends) [] s = absurd s
+  leave_away notes i peer none (a ∷ sends) (d ∷ ds) s =
+      (inr (λ k at. none k (sym (linked k) ∙ at ∙ ap Some s.0.link)), leave_away notes i peer none sends ds s.1)
 
   -- a ticket that ends
   pub can_end : (i k number : ℕ) → ask_of i k w.notes ≡ Some number → (choice : ℕ) (o : Option machine.Ending) (fs : List EndedView)

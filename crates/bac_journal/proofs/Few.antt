@@ -29,9 +29,11 @@ use Rattle.bac_protocol.specs.Sizes.Way.{InOne, InSegments, Refused}
 use Rattle.bac_protocol.specs.Transaction.{Key, Rules, server_context}
 use Rattle.bac_protocol.specs.Pace.{Pace}
 use Rattle.bac_protocol.specs.World.{Net, Post, net_start, set_at, is_id_held, is_room, asked_at, is_deliverable, client_now, server_now}
+use Rattle.bac_protocol.specs.World.{is_id_held_away, asked_away_at}
 use Rattle.bac_protocol.specs.Claims.{IsBounded}
 use Rattle.bac_protocol.specs.Moves.{Move, taken_by_client, taken_by_server, arrived, ticket_ticked, moved, IsReached}
-use Rattle.bac_protocol.specs.Moves.Move.{Asks, Arrives, TicksTicket, TicksEntry, Passes, Changes, RestartsClient, RestartsServer}
+use Rattle.bac_protocol.specs.Moves.{strayed_to_client, strayed_to_server, ticket_ticked_away}
+use Rattle.bac_protocol.specs.Moves.Move.{Asks, Arrives, TicksTicket, TicksEntry, Passes, Changes, RestartsClient, RestartsServer, Strays, AsksAway, TicksTicketAway, TicksEntryAway}
 use Rattle.bac_protocol.specs.Moves.IsReached.{Still, Moved}
 use Rattle.bac_protocol.proofs.Keys.{set_same, set_other, decide_key}
 use Rattle.bac_protocol.proofs.Facts.{pieces_length}
@@ -335,21 +337,34 @@ module _ (c : Context) (W : ℕ) (some : 1 ≤ W) (own : c.settings.window ≤ W
 -- All entries of a net that moves lead to.
 
 module _ (W : ℕ) (x : Rules) (bound : IsBounded W x) where
+  abbrev AllFew : (Key → Option ServerTransaction) → Type 0
+  AllFew entries = (key : Key) → EntryFew W (entries key)
+
   abbrev Small : Net → Type 0
-  Small n = (key : Key) → EntryFew W (n.entries key)
+  Small n = AllFew n.entries × AllFew n.far.entries
 
-  small_set : (n : Net) → Small n → (key : Key) (o : Option ServerTransaction) → EntryFew W o → (k : Key) → EntryFew W (set_at n.entries key o k)
-  small_set n s key o few k = go (decide_key key k)
+  few_set : (entries : Key → Option ServerTransaction) → AllFew entries → (key : Key) (o : Option ServerTransaction) → EntryFew W o
+      → AllFew (set_at entries key o)
+  few_set entries s key o few k = go (decide_key key k)
     where
-      go : ((key ≡ k) ⊎ (key ≡ k → ⊥)) → EntryFew W (set_at n.entries key o k)
-      go (inl is) = subst (λ (j : Key). EntryFew W (set_at n.entries key o j)) is (subst (EntryFew W) (sym (set_same n.entries key o)) few)
-      go (inr ne) = subst (EntryFew W) (sym (set_other n.entries key o k ne)) (s k)
+      go : ((key ≡ k) ⊎ (key ≡ k → ⊥)) → EntryFew W (set_at entries key o k)
+      go (inl is) = subst (λ (j : Key). EntryFew W (set_at entries key o j)) is (subst (EntryFew W) (sym (set_same entries key o)) few)
+      go (inr ne) = subst (EntryFew W) (sym (set_other entries key o k ne)) (s k)
 
-  served_small : (n : Net) → Small n → (p : Post) (free : Bool) (service : Service) → Small (taken_by_server x n p free service)
-  served_small n s p free service =
-      let c = server_context x p.key (server_now n p.key) in
-      small_set n s p.key (server.server_on_apdu c service (n.entries p.key) (is_room n p.key free) p.copy.apdu).entry
-      (server_gets_few c service W bound.some (bound.windows p.key.server) (n.entries p.key) (is_room n p.key free) p.copy.apdu (s p.key)).entry
+  -- what an APDU or a tick makes of an entry
+  gets_small : (now : Net → Key → ℕ) (n : Net) (entries : Key → Option ServerTransaction) → AllFew entries → (key : Key) (free : Bool) (service : Service)
+      → (a : Apdu) → AllFew (set_at entries key (server.server_on_apdu (server_context x key (now n key)) service (entries key) free a).entry)
+  gets_small now n entries s key free service a =
+      let c = server_context x key (now n key) in
+      few_set entries s key (server.server_on_apdu c service (entries key) free a).entry
+      (server_gets_few c service W bound.some (bound.windows key.server) (entries key) free a (s key)).entry
+
+  ticks_small : (now : Net → Key → ℕ) (n : Net) (entries : Key → Option ServerTransaction) → AllFew entries → (key : Key)
+      → AllFew (set_at entries key (server.server_ticks (server_context x key (now n key)) (entries key)).entry)
+  ticks_small now n entries s key =
+      let c = server_context x key (now n key) in
+      few_set entries s key (server.server_ticks c (entries key)).entry
+      (server_ticks_few c W bound.some (bound.windows key.server) (entries key) (s key)).entry
 
   heard_small : (n : Net) → Small n → (p : Post) (o : Option ClientTransaction) → Small (taken_by_client x n p o)
   heard_small n s p None = s
@@ -360,13 +375,21 @@ module _ (W : ℕ) (x : Rules) (bound : IsBounded W x) where
   arrived_small n s number free service (Some p) = go (is_deliverable x n number p) (is_from_client p.copy.apdu)
     where
       go : (a b : Bool) → Small (if a then (if b then taken_by_server x n p free service else taken_by_client x n p (n.tickets p.key)) else n)
-      go true true = served_small n s p free service
+      go true true = (gets_small server_now n n.entries s.0 p.key (is_room n p.key free) service p.copy.apdu, s.1)
       go true false = heard_small n s p (n.tickets p.key)
       go false b = s
 
   ticked_small : (n : Net) → Small n → (key : Key) (o : Option ClientTransaction) → Small (ticket_ticked x n key o)
   ticked_small n s key None = s
   ticked_small n s key (Some t) = s
+
+  strayed_small : (n : Net) → Small n → (key : Key) (a : Apdu) (o : Option ClientTransaction) → Small (strayed_to_client x n key a o)
+  strayed_small n s key a None = s
+  strayed_small n s key a (Some t) = s
+
+  ticked_away_small : (n : Net) → Small n → (key : Key) (o : Option ClientTransaction) → Small (ticket_ticked_away x n key o)
+  ticked_away_small n s key None = s
+  ticked_away_small n s key (Some t) = s
 
   moved_small : (n : Net) → Small n → (m : Move) → Small (moved x n m)
   moved_small n s (Asks key choice whole front rest) = go (is_id_held n key)
@@ -376,22 +399,36 @@ module _ (W : ℕ) (x : Rules) (bound : IsBounded W x) where
       go false = s
   moved_small n s (Arrives number free service) = arrived_small n s number free service (slice_get n.posts number)
   moved_small n s (TicksTicket key) = ticked_small n s key (n.tickets key)
-  moved_small n s (TicksEntry key) =
-      let c = server_context x key (server_now n key) in
-      small_set n s key (server.server_ticks c (n.entries key)).entry
-      (server_ticks_few c W bound.some (bound.windows key.server) (n.entries key) (s key)).entry
+  moved_small n s (TicksEntry key) = (ticks_small server_now n n.entries s.0 key, s.1)
   moved_small n s (Passes by clients servers) = s
   moved_small n s (Changes node change) = s
   moved_small n s (RestartsClient node exact) = s
-  moved_small n s (RestartsServer node exact store) = λ key. go key (nat_eq key.server node)
+  moved_small n s (RestartsServer node exact store) = (λ key. go (n.entries key) (s.0 key) (nat_eq key.server node), λ key. go (n.far.entries key) (s.1 key) (nat_eq key.server node))
     where
-      go : (key : Key) (b : Bool) → EntryFew W (if b then None else n.entries key)
-      go key true = tt
-      go key false = s key
+      go : (o : Option ServerTransaction) → EntryFew W o → (b : Bool) → EntryFew W (if b then None else o)
+      go o few true = tt
+      go o few false = few
+  moved_small n s (Strays key free service a) = go (is_from_client a)
+    where
+      go : (up : Bool) → Small (if up then strayed_to_server x n key free service a else strayed_to_client x n key a (n.far.tickets key))
+      go true = (s.0, gets_small server_now n n.far.entries s.1 key (is_room n key free) service a)
+      go false = strayed_small n s key a (n.far.tickets key)
+  moved_small n s (AsksAway key choice whole front rest) = go (is_id_held_away n key)
+    where
+      go : (b : Bool)
+          → Small (if b then n else asked_away_at x n key (record { first = client_now n key; choice = choice; whole = whole; pieces = front ∷ rest }))
+      go true = s
+      go false = s
+  moved_small n s (TicksTicketAway key) = ticked_away_small n s key (n.far.tickets key)
+  moved_small n s (TicksEntryAway key) = (s.0, ticks_small server_now n n.far.entries s.1 key)
 
   reached_small : (pace : Pace) (clocks : ℕ → ℕ) (n : Net) → IsReached x (net_start pace clocks) n → Small n
-  reached_small pace clocks _ Still = λ key. tt
+  reached_small pace clocks _ Still = (λ key. tt, λ key. tt)
   reached_small pace clocks _ (Moved n m h) = moved_small n (reached_small pace clocks n h) m
 
   pub entries_few : (n : Net) → Sound x n → (key : Key) → EntryFew W (n.entries key)
-  entries_few n s = reached_small s.0 s.1 n s.3
+  entries_few n s = (reached_small s.0 s.1 n s.3).0
+
+  -- those of strangers too
+  pub far_entries_few : (n : Net) → Sound x n → (key : Key) → EntryFew W (n.far.entries key)
+  far_entries_few n s = (reached_small s.0 s.1 n s.3).1

@@ -24,16 +24,19 @@ use Rattle.bac_transaction.specs.Ends.TransactionSlot.{Open, Closed}
 use Rattle.bac_transaction.specs.Services.{service_of}
 use Rattle.bac_world.specs.Node.{Node, Outcome, IsHeardBy, NodeOn, NodeTick, NodeAsks, with_change}
 use Rattle.bac_world.specs.Once.{IsOnce}
-use Rattle.bac_world.specs.World.{World, Time, Event, Copy, told, passes, with_clock, link_at, stores_of, peer_at, is_deliverable, IsWithNode, Acts, Hears, IsAsked, IsChanged, IsRestarted}
+use Rattle.bac_world.specs.World.{World, Time, Event, Copy, told, passes, with_clock, link_at, stores_of, peer_at, is_deliverable, IsWithNode, Acts, Hears, IsOutside, IsChanged, IsRestarted}
+use Rattle.bac_world.specs.World.{Note}
+use Rattle.bac_transaction.specs.Sends.{Datagram}
 use Rattle.bac_world.specs.World.{DeliversIf, WorldStep, WorldRun, IsFresh, IsBounded}
-use Rattle.bac_world.specs.World.Event.{Ask, Deliver, Noise, Tick, Advance, Change, Restart}
+use Rattle.bac_world.specs.World.Event.{Ask, AskAway, Deliver, Noise, Stray, Tick, Advance, Change, Restart}
 use Rattle.bac_world.proofs.Pairs.{IsPaired, pairwise_get}
 use Rattle.bac_world.proofs.Bridge.{IsCopyOf, IsBetween, framed_means}
 use Rattle.bac_world.proofs.Steps.{Over, decide_number, each_with}
 use Rattle.bac_world.proofs.Asking.{accepted_is}
 use Rattle.bac_world.proofs.Headline.{run_over, rules_of, rules_bounded, fresh_over}
-use Rattle.bac_journal.specs.Entering.{CanGoOn, with_ticket, tickets_of}
+use Rattle.bac_journal.specs.Entering.{CanGoOn, note_of, with_ticket, tickets_of}
 use Rattle.bac_journal.proofs.Heard.{Enters, nothing_enters, server_enters, client_enters}
+use Rattle.bac_journal.proofs.HeardOutside.{stranger_enters}
 use Rattle.bac_journal.proofs.Ticked.{tick_enters, ask_enters}
 
 -- What a call makes of a node's moment and of its count of asks.
@@ -79,10 +82,10 @@ tick_counted now a b o t = record {
   asked = ap (λ (n : Node). n.clients.asked) t.node ∙ no_more a.clients.asked;
 }
 
-ask_counted : (now : ℕ) (l : Octets) (limits : Limits) (r : Request) (a b : Node) (accepted : Accepted) (ds : List _)
-    → NodeAsks now (peer_at l) limits r a b accepted ds → IsCounted now 1 a b
-ask_counted now l limits r a b accepted ds k =
-    let parts = accepted_is a.settings now (peer_at l) (choice_of r) k.octets a.clients accepted limits k.accepted in
+ask_counted : (now : ℕ) (peer : PeerView) (limits : Limits) (r : Request) (a b : Node) (accepted : Accepted) (ds : List _)
+    → NodeAsks now peer limits r a b accepted ds → IsCounted now 1 a b
+ask_counted now peer limits r a b accepted ds k =
+    let parts = accepted_is a.settings now peer (choice_of r) k.octets a.clients accepted limits k.accepted in
     record {
       latest = ap (λ (n : Node). n.latest) k.node;
       asked = ap (λ (n : Node). n.clients.asked) k.node ∙ ap (λ (y : Accepted). y.end.asked) parts.is;
@@ -171,29 +174,33 @@ away i j ne = go (nat_eq i j) refl
     go true e = absurd (ne (grind (arith, nat_tests)))
     go false e = refl
 
-tidy_asked : (w w' : World) → Tidy w → (i s : ℕ) (limits : Limits) (r : Request) → IsAsked w i s limits r w' → Tidy w'
-tidy_asked w w' t i s limits r k = tidy_still w w' t i k.after k.nodes k.time f.latest
-    (subst (λ notes. k.after.clients.asked ≤ tickets_of i notes) (sym k.notes)
-    (subst (λ (b : Bool). k.after.clients.asked ≤ (if b then with_ticket k.accepted.ticket (tickets_of i w.notes) else tickets_of i w.notes))
-    (sym (self i)) one_more))
-    (λ j ne. ap (tickets_of j) k.notes
-    ∙ ap (λ b. if b then with_ticket k.accepted.ticket (tickets_of j w.notes) else tickets_of j w.notes) (away i j (λ is. ne (sym is))))
-  where
-    f : IsCounted (told w i) 1 k.before k.after
-    f = ask_counted (told w i) k.link limits r k.before k.after k.accepted k.sends k.asks
+-- an ask of a peer was noted
+module _ (w w' : World) (t : Tidy w) (i : ℕ) (peer : PeerView) (limits : Limits) (r : Request) (a b : Node) (at : slice_get w.nodes i ≡ Some a)
+    (accepted : Accepted) (ds : List Datagram) (k : NodeAsks (told w i) peer limits r a b accepted ds) (nodes : IsWithNode w.nodes i b w'.nodes)
+    (time : w'.time ≡ w.time) (note : Note) (client : note.key.client ≡ i) (ticket : note.ticket ≡ accepted.ticket) (notes : w'.notes ≡ note ∷ w.notes) where
+  counted : IsCounted (told w i) 1 a b
+  counted = ask_counted (told w i) peer limits r a b accepted ds k
 
-    ticket_is : k.accepted.ticket ≡ k.before.clients.asked
-    ticket_is =
-        let parts = accepted_is k.before.settings (told w i) (peer_at k.link) (choice_of r) k.asks.octets k.before.clients k.accepted limits k.asks.accepted in
-        ap (λ (y : Accepted). y.ticket) parts.is
+  ticket_is : accepted.ticket ≡ a.clients.asked
+  ticket_is =
+      let parts = accepted_is a.settings (told w i) peer (choice_of r) k.octets a.clients accepted limits k.accepted in
+      ap (λ (y : Accepted). y.ticket) parts.is
 
-    one_more : k.after.clients.asked ≤ with_ticket k.accepted.ticket (tickets_of i w.notes)
-    one_more =
-        let next : k.after.clients.asked ≡ k.before.clients.asked + 1 = f.asked in
-        let counted : k.accepted.ticket + 1 ≤ with_ticket k.accepted.ticket (tickets_of i w.notes) =
-        counts_it k.accepted.ticket (tickets_of i w.notes) in
-        let same = ticket_is in
-        omega arith
+  one_more : b.clients.asked ≤ with_ticket note.ticket (tickets_of i w.notes)
+  one_more =
+      let next : b.clients.asked ≡ a.clients.asked + 1 = counted.asked in
+      let many : note.ticket + 1 ≤ with_ticket note.ticket (tickets_of i w.notes) = counts_it note.ticket (tickets_of i w.notes) in
+      let same = ticket_is in
+      omega arith
+
+  abbrev tickets_in : Bool → ℕ → ℕ
+  tickets_in y j = if y then with_ticket note.ticket (tickets_of j w.notes) else tickets_of j w.notes
+
+  tidy_noted : Tidy w'
+  tidy_noted = tidy_still w w' t i b nodes time counted.latest
+      (subst (λ notes'. b.clients.asked ≤ tickets_of i notes') (sym notes)
+      (subst (λ (y : Bool). b.clients.asked ≤ tickets_in y i) (sym (ap (λ (c : ℕ). nat_eq c i) client ∙ self i)) one_more))
+      (λ j ne. ap (tickets_of j) notes ∙ ap (λ y. tickets_in y j) (ap (λ (c : ℕ). nat_eq c j) client ∙ away i j (λ is. ne (sym is))))
 
 tidy_changed : (w w' : World) → Tidy w → (i : ℕ) (c : at_node.Change) → IsChanged w i c w' → Tidy w'
 tidy_changed w w' t i c k = record {
@@ -250,11 +257,18 @@ tidy_delivered true w c w' t d = tidy_hears w w' t c.to d.link c.octets d.hears
 tidy_delivered false w c w' t same = subst Tidy (sym same) t
 
 tidy_step : (overtake : ℕ) (w w' : World) (e : Event) → Tidy w → WorldStep overtake w e w' → Tidy w'
-tidy_step overtake w w' (Ask client server limits r) t (inl s) = tidy_asked w w' t client server limits r s
+tidy_step overtake w w' (Ask client server limits r) t (inl s) = tidy_noted w w' t client (peer_at s.link) limits r s.before s.after s.at s.accepted s.sends s.asks
+    s.nodes s.time (note_of client server s.accepted.invoke_id s.accepted.ticket) refl refl s.notes
 tidy_step overtake w w' (Ask client server limits r) t (inr s) = subst Tidy (sym s.same) t
+tidy_step overtake w w' (AskAway client peer limits r) t (inl s) = tidy_noted w w' t client peer limits r s.before s.after s.at s.accepted s.sends s.asks
+    s.nodes s.time
+    (record { key = record { client = client; server = 0; invoke_id = s.accepted.invoke_id }; ticket = s.accepted.ticket; away = Some peer }) refl refl s.notes
+tidy_step overtake w w' (AskAway client peer limits r) t (inr s) = subst Tidy (sym s.same) t
 tidy_step overtake w w' (Deliver number) t s = tidy_delivered (is_deliverable overtake w.time.pace.life w.time.now number w.copies s.copy) w s.copy w' t s.goes
 tidy_step overtake w w' (Noise node from octets) t (inl s) = tidy_hears w w' t node from octets s.hears
 tidy_step overtake w w' (Noise node from octets) t (inr s) = subst Tidy (sym s.same) t
+tidy_step overtake w w' (Stray node from octets) t (inl s) = tidy_hears w w' t node from octets s.hears
+tidy_step overtake w w' (Stray node from octets) t (inr s) = subst Tidy (sym s.same) t
 tidy_step overtake w w' (Tick node) t s =
     tidy_acts w w' t node s.before s.after s.outcome s.at s.acts (tick_counted (told w node) s.before s.after s.outcome s.tick)
 tidy_step overtake w w' (Advance by own) t s = subst Tidy (sym s) (tidy_later w t by own)
@@ -283,7 +297,7 @@ node_there nodes i l at = go (slice_get nodes i) refl at
 
 module _ (links : ℕ → Option Octets) (apart : (i j : ℕ) (l : Octets) → links i ≡ Some l → links j ≡ Some l → i ≡ j) (W : ℕ) (x : Rules)
     (bound : IsBoundedNet W x) (w : World) (n : Net) (h : Over links apart W x w n) where
-  Result : ℕ → Outcome → Type 0
+  Result : ℕ → Node → Outcome → Type 0
   Result = Enters links apart W x bound w n h
 
   copied : (number : ℕ) (c : Copy) → slice_get w.copies number ≡ Some c → IsPaired (IsCopyOf links apart) n.posts number c
@@ -291,21 +305,21 @@ module _ (links : ℕ → Option Octets) (apart : (i j : ℕ) (l : Octets) → l
 
   by_way : (number : ℕ) (p : Post) (c : Copy) → slice_get n.posts number ≡ Some p → IsCopyOf links apart p c → (a b : Node) (o : Outcome)
       → slice_get w.nodes c.to ≡ Some a → (l : Octets) → links c.from ≡ Some l → (up : Bool) → IsBetween up p.key c.from c.to
-      → IsHeardBy up (peer_at l) p.copy.apdu (told w c.to) a b o → Enters links apart W x bound w n h c.to o
+      → IsHeardBy up (peer_at l) p.copy.apdu (told w c.to) a b o → Enters links apart W x bound w n h c.to b o
   by_way number p c at k a b o node l link true between turn =
-      subst (λ (i : ℕ). Enters links apart W x bound w n h i o) (sym between.1)
+      subst (λ (i : ℕ). Enters links apart W x bound w n h i b o) (sym between.1)
       (server_enters links apart W x bound w n h number p at a b o (subst (λ (i : ℕ). slice_get w.nodes i ≡ Some a) between.1 node) l
       (subst (λ (i : ℕ). links i ≡ Some l) between.0 link) k.invoke (service_of a.store)
       (subst (λ (i : ℕ). IsHeardBy true (peer_at l) p.copy.apdu (told w i) a b o) between.1 turn))
   by_way number p c at k a b o node l link false between turn =
-      subst (λ (i : ℕ). Enters links apart W x bound w n h i o) (sym between.1)
+      subst (λ (i : ℕ). Enters links apart W x bound w n h i b o) (sym between.1)
       (client_enters links apart W x bound w n h p a b o (subst (λ (i : ℕ). slice_get w.nodes i ≡ Some a) between.1 node) l
       (subst (λ (i : ℕ). links i ≡ Some l) between.0 link) k.invoke
       (subst (λ (i : ℕ). IsHeardBy false (peer_at l) p.copy.apdu (told w i) a b o) between.1 turn))
 
   copy_enters : (number : ℕ) (c : Copy) → slice_get w.copies number ≡ Some c → (l : Octets) → link_at w.nodes c.from ≡ Some l → (a b : Node) (o : Outcome)
-      → slice_get w.nodes c.to ≡ Some a → NodeOn (told w c.to) l c.octets a b o → Enters links apart W x bound w n h c.to o
-  copy_enters number c at l link a b o node (inl d) = nothing_enters links apart W x bound w n h c.to o
+      → slice_get w.nodes c.to ≡ Some a → NodeOn (told w c.to) l c.octets a b o → Enters links apart W x bound w n h c.to b o
+  copy_enters number c at l link a b o node (inl d) = nothing_enters links apart W x bound w n h c.to b o
       (ap (λ (y : Outcome). y.sends) d.outcome) (ap (λ (y : Outcome). y.ended) d.outcome) (ap (λ (y : Outcome). y.performed) d.outcome)
   copy_enters number c at l link a b o node (inr d) =
       let p = copied number c at in
@@ -313,6 +327,14 @@ module _ (links : ℕ → Option Octets) (apart : (i j : ℕ) (l : Octets) → l
       by_way number p.other c p.there p.goes a b o node l (sym (h.linked c.from) ∙ link) (is_from_client p.other.copy.apdu) p.goes.between
       (subst (λ (q : PeerView). IsHeardBy (is_from_client p.other.copy.apdu) q p.other.copy.apdu (told w c.to) a b o) one.0
       (subst (λ (y : Apdu). IsHeardBy (is_from_client y) d.peer y (told w c.to) a b o) one.1 d.heard))
+
+  outside_enters : (i : ℕ) (from octets : Octets) → IsOutside w.nodes from octets → (a b : Node) (o : Outcome) → slice_get w.nodes i ≡ Some a
+      → NodeOn (told w i) from octets a b o → Enters links apart W x bound w n h i b o
+  outside_enters i from octets out a b o node (inl d) = nothing_enters links apart W x bound w n h i b o
+      (ap (λ (y : Outcome). y.sends) d.outcome) (ap (λ (y : Outcome). y.ended) d.outcome) (ap (λ (y : Outcome). y.performed) d.outcome)
+  outside_enters i from octets (inr noise) a b o node (inr d) = absurd (noise d.peer d.apdu d.means)
+  outside_enters i from octets (inl foreign) a b o node (inr d) = stranger_enters links apart W x bound w n h i d.peer d.apdu
+      (λ k at. foreign k (h.linked k ∙ at ∙ ap (λ (q : PeerView). Some q.link) d.means.carries.sender)) a b o node (is_from_client d.apdu) d.heard
 
   opens : Tidy w → (overtake : ℕ) → CanGoOn W overtake w
   opens t overtake = record {
@@ -322,6 +344,7 @@ module _ (links : ℕ → Option Octets) (apart : (i j : ℕ) (l : Octets) → l
     to = λ number c at. node_there w.nodes c.to (copied number c at).goes.to_link (h.linked c.to ∙ (copied number c at).goes.to_at);
     hears = λ number c at young l link a b o node on.
         let e = copy_enters number c at l link a b o node on in (e.can, e.few, e.one);
+    outside = λ i from octets out a b o node on. let e = outside_enters i from octets out a b o node on in (e.can, e.few, e.one);
     ticks = tick_enters links apart W x bound w n h;
     asks = ask_enters links apart W x bound w n h;
   }

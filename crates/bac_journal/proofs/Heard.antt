@@ -1,6 +1,6 @@
 -- What comes of a copy that a node hears can enter the world.
 use Rattle.std.proofs.Common.{◌≡◌, ℕ, ◌+◌, ◌≤◌, Bool, true, false, List, [], length, Option, Some, None, slice_get}
-use Rattle.std.proofs.Common.{refl, sym, ap, subst, ◌∙◌, arith}
+use Rattle.std.proofs.Common.{inl, refl, sym, ap, subst, ◌∙◌, arith}
 use Rattle.bac_apdu.specs.Apdu.{Apdu}
 use Rattle.bac_service.specs.Services.{reads_reply}
 use Rattle.bac_protocol.specs.Context.{Settings, Context}
@@ -34,23 +34,23 @@ use Rattle.bac_world.proofs.Bridge.{IsWay, TicketFits, here_at, there_at, key_of
 use Rattle.bac_world.proofs.Steps.{Over, Fits}
 use Rattle.bac_world.proofs.Serving.{each_of_server}
 use Rattle.bac_world.proofs.Hearing.{ticket_at}
-use Rattle.bac_journal.specs.Entering.{Every, CanBeCopied, IsNoted, AreOfClient, CanEnter}
+use Rattle.bac_journal.specs.Entering.{Every, CanLeave, IsNoted, AreOfPeer, CanEnter}
 use Rattle.bac_journal.proofs.Few.{client_gets_few, server_gets_few, entries_few}
-use Rattle.bac_journal.proofs.Copied.{paired_length, sent_length, can_all, can_end}
+use Rattle.bac_journal.proofs.Copied.{paired_length, sent_length, leave_all, can_end}
 
 module _ (links : ℕ → Option Octets) (apart : (i j : ℕ) (l : Octets) → links i ≡ Some l → links j ≡ Some l → i ≡ j) (W : ℕ) (x : Rules)
     (bound : IsBounded W x) (w : World) (n : Net) (h : Over links apart W x w n) where
-  pub record Enters (i : ℕ) (o : Outcome) : Type 0 where
-    pub can : CanEnter w i o
+  pub record Enters (i : ℕ) (b : Node) (o : Outcome) : Type 0 where
+    pub can : CanEnter w i b o
     pub few : length o.sends ≤ W + 1
     pub one : length o.ended ≤ 1
 
-  pub nothing_enters : (i : ℕ) (o : Outcome) → o.sends ≡ [] → o.ended ≡ [] → o.performed ≡ None → Enters i o
-  nothing_enters i o sends ended performed = record {
+  pub nothing_enters : (i : ℕ) (b : Node) (o : Outcome) → o.sends ≡ [] → o.ended ≡ [] → o.performed ≡ None → Enters i b o
+  nothing_enters i b o sends ended performed = record {
     can = record {
-      sends = subst (Every (CanBeCopied w.nodes w.notes w.time.now i)) (sym sends) tt;
+      sends = subst (Every (CanLeave w.nodes w.notes w.time.now i)) (sym sends) tt;
       ended = subst (Every (IsNoted w i)) (sym ended) tt;
-      performed = subst (AreOfClient w i) (sym performed) tt;
+      performed = subst (AreOfPeer w i b) (sym performed) tt;
     };
     few = (let e : length o.sends ≡ 0 = ap (λ (ds : List Datagram). length ds) sends in omega arith);
     one = (let e : length o.ended ≡ 0 = ap (λ (fs : List EndedView). length fs) ended in omega arith);
@@ -141,14 +141,14 @@ module _ (links : ℕ → Option Octets) (apart : (i j : ℕ) (l : Octets) → l
     ticket : (t : ClientTransaction) × (n.tickets p.key ≡ Some t)
     ticket = ticket_of W x bound n h.sound number p at
 
-    of_client : (d : Option Performed) → o.performed ≡ d → AreOfClient w p.key.server d
+    of_client : (d : Option Performed) → o.performed ≡ d → AreOfPeer w p.key.server b d
     of_client None is = tt
-    of_client (Some d) is = record {
+    of_client (Some d) is = inl (record {
       client = key.client;
       number = n.numbers key;
       link = h.linked key.client ∙ client_at ∙ ap (λ (y : PeerKey). Some y.peer.link) (sym (done d is));
       noted = ap (λ (k : Key). newest k w.notes) (λ i. key_of key.client key.server (done d is i).invoke_id) ∙ h.noted key ticket.0 ticket.1;
-    }
+    })
 
     few : length o.sends ≤ W + 1
     few =
@@ -157,10 +157,10 @@ module _ (links : ℕ → Option Octets) (apart : (i j : ℕ) (l : Octets) → l
         let all : length o.sends ≡ length u.sends = paired_length IsSent (to_all (peer_at l) u.sends) o.sends sent ∙ sent_length l u.sends in
         omega arith
 
-    pub server_enters : Enters p.key.server o
+    pub server_enters : Enters p.key.server b o
     server_enters = record {
       can = record {
-        sends = can_all links apart w h.linked false key key.server key.client a.link l way w.notes (n.numbers key, h.noted key ticket.0 ticket.1)
+        sends = leave_all links apart w h.linked false key key.server key.client a.link l way w.notes (n.numbers key, h.noted key ticket.0 ticket.1)
             u.sends o.sends own sent;
         ended = subst (Every (IsNoted w key.server)) (sym turn.ended) tt;
         performed = of_client o.performed refl;
@@ -176,8 +176,8 @@ module _ (links : ℕ → Option Octets) (apart : (i j : ℕ) (l : Octets) → l
     abbrev Turn : ClientTurn → Type 0
     Turn t = IsClientTurn t (told w p.key.client) a b o
 
-    still : Turn (stays a.clients) → Enters p.key.client o
-    still t = nothing_enters p.key.client o (pairwise_none IsSent o.sends t.sends) (pairwise_none IsEndedView o.ended t.ended) t.performed
+    still : Turn (stays a.clients) → Enters p.key.client b o
+    still t = nothing_enters p.key.client b o (pairwise_none IsSent o.sends t.sends) (pairwise_none IsEndedView o.ended t.ended) t.performed
 
     at_client : Fits links apart W x w n n p.key.client a
     at_client = h.nodes p.key.client a node
@@ -185,7 +185,7 @@ module _ (links : ℕ → Option Octets) (apart : (i j : ℕ) (l : Octets) → l
     goes : (k : ℕ) (t : ClientTransaction) → value_at same_key (slot_key l p.key.invoke_id) a.clients.slots ≡ Some (record { number = k; held = Open t })
         → (now : ℕ) (c : Settings) → c.window ≤ W
         → Turn (client_goes now a.clients (slot_key l p.key.invoke_id) k t
-        (client_on_apdu (context_of c now (slot_key l p.key.invoke_id)) reads_reply t p.copy.apdu)) → Enters p.key.client o
+        (client_on_apdu (context_of c now (slot_key l p.key.invoke_id)) reads_reply t p.copy.apdu)) → Enters p.key.client b o
     goes k t found now c small turn =
         let context : Context = context_of c now (slot_key l p.key.invoke_id) in
         let r : client.Reaction = client_on_apdu context reads_reply t p.copy.apdu in
@@ -200,28 +200,28 @@ module _ (links : ℕ → Option Octets) (apart : (i j : ℕ) (l : Octets) → l
         paired_length IsSent (to_all (peer_at l) (client.sends_of r)) o.sends turn.sends ∙ sent_length l (client.sends_of r) in
         record {
           can = record {
-            sends = can_all links apart w h.linked true p.key p.key.client p.key.server a.link l
+            sends = leave_all links apart w h.linked true p.key p.key.client p.key.server a.link l
                 (record { between = (refl, refl); from = at_client.link; to = server_at }) w.notes (n.numbers p.key, h.noted p.key t there.0)
                 (client.sends_of r) o.sends
                 (client_sends_own.gets context reads_reply t p.copy.apdu) turn.sends;
             ended = ends.0;
-            performed = subst (AreOfClient w p.key.client) (sym turn.performed) tt;
+            performed = subst (AreOfPeer w p.key.client b) (sym turn.performed) tt;
           };
           few = omega arith;
           one = ends.1;
         }
 
     held : (k : ℕ) (y : TransactionSlot) → value_at same_key (slot_key l p.key.invoke_id) a.clients.slots ≡ Some (record { number = k; held = y })
-        → Turn (requester_on_apdu_in_slot a.settings reads_reply (told w p.key.client) p.copy.apdu a.clients (slot_key l p.key.invoke_id) k y) → Enters p.key.client o
+        → Turn (requester_on_apdu_in_slot a.settings reads_reply (told w p.key.client) p.copy.apdu a.clients (slot_key l p.key.invoke_id) k y) → Enters p.key.client b o
     held k (Closed first) is turn = still turn
     held k (Open t) is turn = goes k t is (told w p.key.client) a.settings (subst (λ (c : Settings). c.window ≤ W) (sym at_client.settings) (bound.windows p.key.client)) turn
 
     slot : (found : Option Client) → value_at same_key (slot_key l p.key.invoke_id) a.clients.slots ≡ found
-        → Turn (requester_on_apdu_at a.settings reads_reply (told w p.key.client) p.copy.apdu a.clients (slot_key l p.key.invoke_id) found) → Enters p.key.client o
+        → Turn (requester_on_apdu_at a.settings reads_reply (told w p.key.client) p.copy.apdu a.clients (slot_key l p.key.invoke_id) found) → Enters p.key.client b o
     slot None is turn = still turn
     slot (Some v) is turn = held v.number v.held is turn
 
-    pub client_enters : Turn (requester_on_apdu a.settings reads_reply (told w p.key.client) (peer_at l) p.copy.apdu a.clients) → Enters p.key.client o
+    pub client_enters : Turn (requester_on_apdu a.settings reads_reply (told w p.key.client) (peer_at l) p.copy.apdu a.clients) → Enters p.key.client b o
     client_enters turn = slot (value_at same_key (slot_key l p.key.invoke_id) a.clients.slots) refl
         (subst (λ (id : ℕ). Turn (requester_on_apdu_at a.settings reads_reply (told w p.key.client) p.copy.apdu a.clients (slot_key l id)
         (value_at same_key (slot_key l id) a.clients.slots))) invoke turn)

@@ -9,5 +9,6 @@ pub mod Pages
 pub mod Few
 pub mod Copied
 pub mod Heard
+pub mod HeardOutside
 pub mod Ticked
 pub mod GoingOn

@@ -1,14 +1,19 @@
 -- What is kept, after an ask was noted.
-use Rattle.std.proofs.Common.{◌≡◌, ℕ, suc, ◌+◌, ◌<◌, ◌≤◌, ◌⊎◌, Bool, true, false, ◌&&◌, List, [], ◌∷◌, ◌++◌, map, length, Option, Some, slice_get}
+use Rattle.std.proofs.Common.{◌≡◌, ℕ, suc, ◌+◌, ◌<◌, ◌≤◌, ◌⊎◌, Bool, true, false, ◌&&◌, List, [], ◌∷◌, ◌++◌, map, length, Option, Some, None, slice_get}
 use Rattle.std.proofs.Common.{if◌then◌else◌, refl, sym, ap, subst, inl, inr, ◌∙◌, arith, nat_eq, nat_lt, slice_set}
 use Rattle.std.proofs.lemmas.Bool.Decides.{nat_tests}
 use Rattle.std.proofs.lemmas.List.{length-append, length-set, length-map, length-reverse, map-append, reverse-append, reverse-reverse}
-use Rattle.std.specs.Prelude.{option_and_then, reverse, vec_capacity}
+use Rattle.std.proofs.lemmas.Option.{slice_get-map}
+use Rattle.std.specs.Prelude.{option_and_then, reverse, vec_capacity, is_some, not}
+use Rattle.std.specs.Option.{option_map}
+use Rattle.bac_npdu.specs.declared.peer.Peer.{Peer}
+use Rattle.bac_npdu.specs.Peers.{PeerView}
+use Rattle.bac_npdu.specs.Views.{peer_view}
 use Rattle.std.specs.Global.{Vec}
 use Rattle.bac_protocol.specs.Transaction.{Key}
 use Rattle.bac_protocol.specs.World.{same_key}
 use Rattle.bac_protocol.proofs.Keys.{decide_key, same_key_self}
-use Rattle.bac_world.specs.World.{Note, newest, ask_of, count_of}
+use Rattle.bac_world.specs.World.{Note, newest, ask_of, count_of, is_away}
 use Rattle.bac_world.proofs.Steps.{decide_number}
 use Rattle.bac_journal.specs.declared.asks.Cell.{Cell}
 use Rattle.bac_journal.specs.declared.asks.Row.{Row}
@@ -31,6 +36,10 @@ nat_other m n ne = go (nat_eq m n) refl
     go : (b : Bool) → nat_eq m n ≡ b → b ≡ false
     go true e = absurd (ne (grind (arith, nat_tests)))
     go false e = refl
+
+right_false : (x y : Bool) → y ≡ false → (x && y) ≡ false
+right_false true y e = e
+right_false false y e = refl
 
 -- A number was added to a client's row.
 
@@ -63,11 +72,12 @@ module _ (old new : List Row) (client ticket number : ℕ) (h : IsWithRow old cl
 -- An ask was noted: it is its transaction's newest, and its ticket's.
 
 module _ (old mid new : List Row) (key : Key) (cell known : Cell) (number : ℕ)
-    (a : IsWithRow old key.client (IsWithCell key.server key.invoke_id cell) mid) (ticket : ℕ) (b : IsWithRow mid key.client (IsWithNumber ticket number) new) (fits : key.invoke_id < 256) (there : cell_at old key ≡ Some known)
+    (a : IsWithRow old key.client (IsWithCell key.server key.invoke_id cell) mid) (ticket : ℕ)
+    (b : IsWithRow mid key.client (IsWithNumber ticket number) new) (fits : key.invoke_id < 256) (there : cell_at old key ≡ Some known)
     (newest_cell : cell.newest ≡ Some number) (same_sent : cell.sent ≡ known.sent) (copies : List Copy) (notes : List Note)
     (numbered : number ≡ length notes) (h : IsKept old copies notes) where
   abbrev note : Note
-  note = record { key = key; ticket = ticket }
+  note = record { key = key; ticket = ticket; away = None }
 
   mid_row : a.after ≡ b.before
   mid_row = let e : Some a.after ≡ Some b.before = sym a.here ∙ b.was in cc
@@ -88,10 +98,6 @@ module _ (old mid new : List Row) (key : Key) (cell known : Cell) (number : ℕ)
   passes_note : (c t : ℕ) → (nat_eq key.client c && nat_eq ticket t) ≡ false → ask_of c t (note ∷ notes) ≡ ask_of c t notes
   passes_note c t e = ap (λ x. if x then Some (length notes) else ask_of c t notes) e
 
-  and_right : (x y : Bool) → y ≡ false → (x && y) ≡ false
-  and_right true y e = e
-  and_right false y e = refl
-
   numbers : (c t : ℕ) → ((c ≡ key.client) ⊎ (c ≡ key.client → ⊥)) → ((t ≡ ticket) ⊎ (t ≡ ticket → ⊥)) → number_at new c t ≡ ask_of c t (note ∷ notes)
   numbers c t (inl is) (inl it) =
       ap (λ d. number_at new d t) is ∙ ap (number_at new key.client) it ∙ number_here mid new key.client ticket number b ∙ ap Some numbered
@@ -100,7 +106,7 @@ module _ (old mid new : List Row) (key : Key) (cell known : Cell) (number : ℕ)
   numbers c t (inl is) (inr ne) =
       ap (λ d. number_at new d t) is ∙ number_there mid new key.client ticket number b t ne
       ∙ numbers_same old mid key cell a key.client t ∙ h.number_is key.client t ∙ ap (λ d. ask_of d t notes) (sym is)
-      ∙ sym (passes_note c t (and_right (nat_eq key.client c) (nat_eq ticket t) (nat_other ticket t (λ e. ne (sym e)))))
+      ∙ sym (passes_note c t (right_false (nat_eq key.client c) (nat_eq ticket t) (nat_other ticket t (λ e. ne (sym e)))))
   numbers c t (inr ne) w =
       number_away mid new key.client ticket number b c t ne ∙ numbers_same old mid key cell a c t ∙ h.number_is c t
       ∙ sym (passes_note c t (ap (λ x. x && nat_eq ticket t) (nat_other key.client c (λ e. ne (sym e)))))
@@ -142,6 +148,68 @@ module _ (old mid new : List Row) (key : Key) (cell known : Cell) (number : ℕ)
     before = h.before;
     placed = λ n c at.
         let p = still_placed old mid key cell a c (h.placed n c at) in (p.0, cells_same mid new key.client ticket number b (key_view c.transaction) ∙ p.1);
+  }
+
+-- An ask of a stranger was noted: it is its ticket's alone.
+
+pub is_asked : (o : Option Peer) → is_some o ≡ true → is_some (option_map peer_view o) ≡ true
+is_asked None e = e
+is_asked (Some p) e = refl
+
+module _ (old new : List Row) (key : Key) (number ticket : ℕ) (b : IsWithRow old key.client (IsWithNumber ticket number) new) (away : Option PeerView)
+    (stranger : is_some away ≡ true) (copies : List Copy) (notes : List Note) (numbered : number ≡ length notes) (h : IsKept old copies notes) where
+  abbrev away_note : Note
+  away_note = record { key = key; ticket = ticket; away = away }
+
+  away_newests : (q : Key) → q.invoke_id < 256 → newest_at new q ≡ newest q (record { key = key; ticket = ticket; away = away } ∷ notes)
+  away_newests q lq =
+      ap (λ (o : Option Cell). option_and_then (λ (c : Cell). c.newest) o) (cells_same old new key.client ticket number b q) ∙ h.newest_is q lq
+      ∙ sym (ap (λ x. if not x && same_key key q then Some (length notes) else newest q notes) stranger)
+
+  away_passes : (c t : ℕ) → (nat_eq key.client c && nat_eq ticket t) ≡ false → ask_of c t (away_note ∷ notes) ≡ ask_of c t notes
+  away_passes c t e = ap (λ x. if x then Some (length notes) else ask_of c t notes) e
+
+  away_numbers : (c t : ℕ) → ((c ≡ key.client) ⊎ (c ≡ key.client → ⊥)) → ((t ≡ ticket) ⊎ (t ≡ ticket → ⊥))
+      → number_at new c t ≡ ask_of c t (away_note ∷ notes)
+  away_numbers c t (inl is) (inl it) =
+      ap (λ d. number_at new d t) is ∙ ap (number_at new key.client) it ∙ number_here old new key.client ticket number b ∙ ap Some numbered
+      ∙ sym (ap (λ x. if x && nat_eq ticket t then Some (length notes) else ask_of c t notes) (ap (nat_eq key.client) is ∙ nat_self key.client)
+      ∙ ap (λ x. if x then Some (length notes) else ask_of c t notes) (ap (nat_eq ticket) it ∙ nat_self ticket))
+  away_numbers c t (inl is) (inr ne) =
+      ap (λ d. number_at new d t) is ∙ number_there old new key.client ticket number b t ne
+      ∙ h.number_is key.client t ∙ ap (λ d. ask_of d t notes) (sym is)
+      ∙ sym (away_passes c t (right_false (nat_eq key.client c) (nat_eq ticket t) (nat_other ticket t (λ e. ne (sym e)))))
+  away_numbers c t (inr ne) w =
+      number_away old new key.client ticket number b c t ne ∙ h.number_is c t
+      ∙ sym (away_passes c t (ap (λ x. x && nat_eq ticket t) (nat_other key.client c (λ e. ne (sym e)))))
+
+  away_counts : (c : ℕ) (r : Row) → slice_get new c ≡ Some r → ((c ≡ key.client) ⊎ (c ≡ key.client → ⊥))
+      → length r.numbers.items ≡ tickets_of c (away_note ∷ notes)
+  away_counts c r at (inl is) =
+      let same : b.after ≡ r = let e : Some b.after ≡ Some r = sym b.here ∙ ap (slice_get new) (sym is) ∙ at in cc in
+      ap (λ (q : Row). length q.numbers.items) (sym same) ∙ b.goes.many
+      ∙ ap (with_ticket ticket) (h.counted key.client b.before b.was ∙ ap (λ d. tickets_of d notes) (sym is))
+      ∙ sym (ap (λ x. if x then with_ticket ticket (tickets_of c notes) else tickets_of c notes) (ap (nat_eq key.client) is ∙ nat_self key.client))
+  away_counts c r at (inr ne) = h.counted c r (sym (b.others c ne) ∙ at)
+      ∙ sym (ap (λ x. if x then with_ticket ticket (tickets_of c notes) else tickets_of c notes) (nat_other key.client c (λ e. ne (sym e))))
+
+  away_places : (c : ℕ) (r : Row) → slice_get new c ≡ Some r → ((c ≡ key.client) ⊎ (c ≡ key.client → ⊥)) → ArePlaces (length new) (places_of r)
+  away_places c r at (inl is) =
+      let same : b.after ≡ r = let e : Some b.after ≡ Some r = sym b.here ∙ ap (slice_get new) (sym is) ∙ at in cc in
+      let pages : b.before.pages ≡ r.pages = sym b.goes.pages ∙ ap (λ (q : Row). q.pages) same in
+      subst (λ n. ArePlaces n (places_of r)) (sym b.many)
+      (subst (λ (v : Vec (Vec Cell)). ArePlaces (length old) (map cells_of v.items)) pages (h.places key.client b.before b.was))
+  away_places c r at (inr ne) = subst (λ n. ArePlaces n (places_of r)) (sym b.many) (h.places c r (sym (b.others c ne) ∙ at))
+
+  pub kept_away : IsKept new copies (away_note ∷ notes)
+  kept_away = record {
+    newest_is = λ q lq. away_newests q lq;
+    number_is = λ c t. away_numbers c t (decide_number c key.client) (decide_number t ticket);
+    counted = λ c r at. away_counts c r at (decide_number c key.client);
+    places = λ c r at. away_places c r at (decide_number c key.client);
+    sent = λ q c lq at. h.sent q c lq (sym (cells_same old new key.client ticket number b q) ∙ at);
+    before = h.before;
+    placed = λ n c at. let p = h.placed n c at in (p.0, cells_same old new key.client ticket number b (key_view c.transaction) ∙ p.1);
   }
 
 -- a cell leaves the numbers of its row and their room as they were
@@ -197,3 +265,34 @@ notes_many notes = sym (length-reverse (map note_view notes) ∙ length-map note
 -- the notes in their order
 pub notes_mapped : (xs ys : List code.Note) → notes_view xs ≡ notes_view ys → map note_view xs ≡ map note_view ys
 notes_mapped xs ys e = sym (reverse-reverse (map note_view xs)) ∙ ap reverse e ∙ reverse-reverse (map note_view ys)
+
+-- Whose ask a note is of.
+
+abbrev pub asked_away : Option Note → Bool
+asked_away None = false
+asked_away (Some n) = is_some n.away
+
+away_in : (number : ℕ) (notes : List Note) → is_away number notes ≡ asked_away (slice_get (reverse notes) number)
+away_in number [] = refl
+away_in number (n ∷ notes) = go (decide_number number (length notes)) (away_in number notes)
+  where
+    turned : reverse (n ∷ notes) ≡ reverse notes ++ n ∷ []
+    turned = reverse-append (n ∷ []) notes
+
+    many : length (reverse notes) ≡ length notes
+    many = length-reverse notes
+
+    go : ((number ≡ length notes) ⊎ (number ≡ length notes → ⊥)) → is_away number notes ≡ asked_away (slice_get (reverse notes) number)
+        → is_away number (n ∷ notes) ≡ asked_away (slice_get (reverse (n ∷ notes)) number)
+    go (inl is) rest =
+        ap (λ x. if x then is_some n.away else is_away number notes) (ap (λ k. nat_eq k (length notes)) is ∙ nat_self (length notes))
+        ∙ sym (ap (λ l. asked_away (slice_get l number)) turned ∙ ap (λ k. asked_away (slice_get (reverse notes ++ n ∷ []) k)) (is ∙ sym many)
+        ∙ ap asked_away (get_push (reverse notes) n))
+    go (inr ne) rest =
+        ap (λ x. if x then is_some n.away else is_away number notes) (nat_other number (length notes) ne) ∙ rest
+        ∙ sym (ap (λ l. asked_away (slice_get l number)) turned ∙ ap asked_away (get_push_other (reverse notes) n number (λ e. ne (e ∙ many))))
+
+pub away_at : (notes : List code.Note) (number : ℕ) → is_away number (notes_view notes) ≡ asked_away (option_map note_view (slice_get notes number))
+away_at notes number =
+    away_in number (notes_view notes) ∙ ap (λ l. asked_away (slice_get l number)) (reverse-reverse (map note_view notes))
+    ∙ ap asked_away (slice_get-map note_view notes number)

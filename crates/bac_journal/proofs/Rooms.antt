@@ -1,5 +1,5 @@
 -- Room for a note, as contracts see it.
-use Rattle.std.proofs.Common.{◌≡◌, ℕ, suc, ◌-◌, ◌≤◌, ◌⊎◌, List, [], ◌∷◌, ◌++◌, length, map}
+use Rattle.std.proofs.Common.{◌≡◌, ℕ, suc, ◌+◌, ◌-◌, ◌≤◌, ◌⊎◌, List, [], ◌∷◌, ◌++◌, length, map}
 use Rattle.std.proofs.Common.{take, drop, Option, Some, None, slice_get, refl, sym, ap, inl, inr, ◌∙◌, arith}
 use Rattle.std.specs.Prelude.{vec_capacity, Result, Ok, Err, IsOk, OnOk}
 use Rattle.std.specs.Option.{option_map}
@@ -8,7 +8,7 @@ use Rattle.bac_world.proofs.Steps.{decide_number}
 use Rattle.bac_journal.specs.declared.asks.Cell.{Cell}
 use Rattle.bac_journal.specs.declared.asks.Row.{Row}
 use Rattle.bac_journal.specs.Index.{IsOpenTo, IsWithCell, IsWithRow}
-use Rattle.bac_journal.specs.Journals.{ClientRoom, HasNoteRoom, JournalView, room_of}
+use Rattle.bac_journal.specs.Journals.{ClientRoom, HasNoteRoom, HasStrangerRoom, JournalView, room_of}
 
 pub room_seen : (rows : List Row) (client server : ℕ) → (h : IsOpenTo rows client server)
     → (slice_get (map room_of rows) client ≡ Some (room_of h.0)) × (1 ≤ (room_of h.0).tickets)
@@ -61,6 +61,26 @@ cell_leaves_room old new client server invoke_id cell h = same_members (map room
 pub open_there : (rows : List Row) (client server : ℕ) (j : JournalView) → j.note_room.clients ≡ map room_of rows → HasNoteRoom j client server
     → IsOpenTo rows client server
 open_there rows client server j is h = room_there rows client server h.room (ap (λ l. slice_get l client) (sym is) ∙ h.at) h.ticket h.place
+
+-- there is room for the client's next ticket
+abbrev pub HasTicketRoom : List Row → (client : ℕ) → Type 0
+HasTicketRoom rows client = (r : Row) × (slice_get rows client ≡ Some r) × (length r.numbers.items + 1 ≤ vec_capacity r.numbers)
+
+pub ticket_seen : (rows : List Row) (client : ℕ) → (h : HasTicketRoom rows client)
+    → (slice_get (map room_of rows) client ≡ Some (room_of h.0)) × (1 ≤ (room_of h.0).tickets)
+ticket_seen rows client h = (slice_get-map room_of rows client ∙ ap (option_map room_of) h.1, (let room = h.2 in omega (arith, room)))
+
+pub ticket_there : (rows : List Row) (client : ℕ) (j : JournalView) → j.note_room.clients ≡ map room_of rows → HasStrangerRoom j client
+    → HasTicketRoom rows client
+ticket_there rows client j is h = go (slice_get rows client) refl (sym (slice_get-map room_of rows client) ∙ ap (λ l. slice_get l client) (sym is) ∙ h.at)
+  where
+    go : (o : Option Row) → slice_get rows client ≡ o → option_map room_of o ≡ Some h.room → HasTicketRoom rows client
+    go None e f = absurd cc
+    go (Some r) e f =
+        let same : room_of r ≡ h.room = cc in
+        let free : (room_of r).tickets ≡ h.room.tickets = ap (λ (c : ClientRoom). c.tickets) same in
+        let some = h.ticket in
+        (r, e, omega (arith, free, some))
 
 -- a list that was written over from its first element on
 pub refilled : {A : Type 0} (n : ℕ) (ws xs : List A) → length ws ≡ length xs → n ≡ length xs → take n (ws ++ drop (length ws) xs) ≡ ws

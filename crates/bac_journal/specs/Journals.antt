@@ -38,6 +38,13 @@ pub record HasNoteRoom (j : JournalView) (client server : ℕ) : Type 0 where
   pub ticket : 1 ≤ room.tickets
   pub place : slice_get room.places server ≡ Some 256
 
+-- there is room for a note of the next ask of that client of a stranger
+pub record HasStrangerRoom (j : JournalView) (client : ℕ) : Type 0 where
+  pub note : 1 ≤ j.note_room.notes
+  pub room : ClientRoom
+  pub at : slice_get j.note_room.clients client ≡ Some room
+  pub ticket : 1 ≤ room.tickets
+
 -- both say the same, whatever there is room for
 pub record AreSame (one other : JournalView) : Type 0 where
   pub links : one.links ≡ other.links

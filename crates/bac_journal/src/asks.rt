@@ -127,3 +127,22 @@ pub(crate) fn reserve_ask(
 {
     reserve_in(alloc, &mut rows[client], server)
 }
+
+/// Makes room for the number of one more ask; nothing else changes.
+fn reserve_number(row: &mut Row) -> Result<(), NoMemory>
+    ensures ok { IsOk result → length row.new.numbers.items + 1 ≤ vec_capacity row.new.numbers }
+    ensures same { IsReadied row.old row.new }
+{
+    row.numbers.reserve(1)?;
+    Ok(())
+}
+
+/// Makes room for the ask of a client's next ticket, of a stranger; nothing else changes.
+pub(crate) fn reserve_ticket(rows: &mut [Row], client: usize) -> Result<(), NoMemory>
+    requires client { client < length rows.old }
+    ensures ok { IsOk result → (r : _) × (slice_get rows.new client ≡ Some r) × (length r.numbers.items + 1 ≤ vec_capacity r.numbers) }
+    ensures kept { (copies : List Copy) (notes : List Note) → IsKept rows.old copies notes → IsKept rows.new copies notes }
+    ensures many { length rows.new ≡ length rows.old }
+{
+    reserve_number(&mut rows[client])
+}

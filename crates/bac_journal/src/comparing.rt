@@ -1,12 +1,14 @@
 //! Whether links, copies and notes are the same to contracts.
 ghost use Rattle.std.specs.Prelude.{◌≡◌, ◌↔◌, IsTrue, map, MatchBool};
+ghost use Rattle.std.specs.Option.{option_map};
+ghost use Rattle.bac_npdu.specs.Views.{peer_view};
 ghost use Rattle.bac_journal.specs.Notes.{note_view};
 ghost use Rattle.bac_journal.specs.Views.{key_view, copy_view};
 
 use crate::copies::Copy;
 use crate::noting::Note;
 use crate::transaction::Transaction;
-use bac_npdu::LinkAddress;
+use bac_npdu::{LinkAddress, Peer};
 
 fn is_same_transaction(one: &Transaction, other: &Transaction) -> bool
     ensures { MatchBool result (key_view one.now ≡ key_view other.now) (key_view one.now ≡ key_view other.now → ⊥) }
@@ -53,13 +55,36 @@ pub(crate) fn are_same_copies(ones: &[Copy], others: &[Copy]) -> bool
     true
 }
 
+fn is_same_peer(one: &Peer, other: &Peer) -> bool
+    ensures { MatchBool result (peer_view one.now ≡ peer_view other.now) (peer_view one.now ≡ peer_view other.now → ⊥) }
+{
+    one == other
+}
+
+/// Whether both asked the same stranger, or neither asked one.
+fn is_same_stranger(one: &Option<Peer>, other: &Option<Peer>) -> bool
+    ensures { MatchBool result (option_map peer_view one.now ≡ option_map peer_view other.now)
+        (option_map peer_view one.now ≡ option_map peer_view other.now → ⊥) }
+{
+    match one {
+        Some(peer) => match other {
+            Some(another) => is_same_peer(peer, another),
+            None => false,
+        },
+        None => other.is_none(),
+    }
+}
+
 fn is_same_note(one: &Note, other: &Note) -> bool
     ensures { MatchBool result (note_view one.now ≡ note_view other.now) (note_view one.now ≡ note_view other.now → ⊥) }
 {
     if !is_same_transaction(&one.transaction, &other.transaction) {
         return false;
     }
-    one.ticket == other.ticket
+    if one.ticket != other.ticket {
+        return false;
+    }
+    is_same_stranger(&one.stranger, &other.stranger)
 }
 
 /// Whether both are the same notes in the same order.

@@ -4,18 +4,18 @@ ghost use Rattle.std.specs.Prelude.{IsTrue, OnOk, OnErr, List, [], ◌∷◌, No
 ghost use Rattle.bac_protocol.specs.declared.times.TheConstants.{LIFE};
 ghost use Rattle.bac_world.specs.Node.{Node};
 ghost use Rattle.bac_world.specs.World as world;
-ghost use Rattle.bac_world.specs.World.{ask_of, is_deliverable, newest};
+ghost use Rattle.bac_world.specs.World.{ask_of, is_away, is_deliverable, newest};
 ghost use Rattle.bac_journal.specs.Entering.{tickets_of};
 ghost use Rattle.bac_journal.specs.Growing.{BecomeCopies, CanGo};
-ghost use Rattle.bac_journal.specs.Journals.{AreEmpty, AreFresh, AreSame, HasNoteRoom, IsFreshRow, JournalView};
+ghost use Rattle.bac_journal.specs.Journals.{AreEmpty, AreFresh, AreSame, HasNoteRoom, HasStrangerRoom, IsFreshRow, JournalView};
 ghost use Rattle.bac_journal.specs.Notes.{note_view, notes_view};
 ghost use Rattle.bac_journal.specs.Views.{copy_view, key_view, AreLinks};
 
 use crate::arriving::deliverable;
-use crate::asks::{Cell, Row, known, number_of, reserve_ask};
+use crate::asks::{Cell, Row, known, number_of, reserve_ask, reserve_ticket};
 use crate::comparing::{are_same_copies, are_same_links, are_same_notes};
 use crate::copies::{Copy, node_at};
-use crate::noting::{Note, add_note};
+use crate::noting::{Note, add_note, add_stranger_note, is_of_stranger};
 use crate::sending::send_all;
 use crate::transaction::Transaction;
 use bac_npdu::LinkAddress;
@@ -169,6 +169,13 @@ impl Journal {
         number_of(&self.rows, client, ticket)
     }
 
+    /// Whether the ask of that number was of a stranger; false where there is none. It takes no memory.
+    pub fn is_away(&self, number: usize) -> bool
+        ensures { result ≡ is_away number self.now.notes }
+    {
+        is_of_stranger(&self.notes, number)
+    }
+
     /// Makes room for so many more copies. After an Err nothing has changed.
     pub fn reserve(&mut self, count: usize) -> Result<(), NoMemory>
         ensures ok { OnOk result (count ≤ self.new.room) }
@@ -179,8 +186,8 @@ impl Journal {
         Ok(())
     }
 
-    /// The datagrams that a node sends become the newest copies, for which room was made. Each goes to a node, and means an APDU of a transaction that was
-    /// asked. It takes no memory.
+    /// The datagrams that a node sends to nodes become the newest copies, for which room was made. Each means an APDU of a transaction that was asked, or goes
+    /// to a stranger, a link of no node. It takes no memory.
     pub fn send(&mut self, sender: usize, sends: Vec<Datagram>)
         requires can { CanGo self.old.links self.old.notes self.old.moment sender sends.items }
         requires room { length sends.items ≤ self.old.room }
@@ -188,7 +195,7 @@ impl Journal {
         ensures copies { (nodes : List Node) → AreLinks nodes self.old.links
             → BecomeCopies nodes self.old.moment sender sends.items self.old.copies self.new.copies }
         ensures same { self.new ≡ record (self.old) { copies = self.new.copies; room = self.new.room } }
-        ensures room { self.new.room + length sends.items ≡ self.old.room }
+        ensures room { self.old.room ≤ self.new.room + length sends.items }
     {
         send_all(
             &self.links,
@@ -217,15 +224,36 @@ impl Journal {
         reserve_ask(alloc, &mut self.rows, client, server)
     }
 
-    /// An ask that was accepted is noted, for which room was made. Its ticket is one that its client had before, as one that restarts numbers its tickets
-    /// anew, or the one after them. It takes no memory.
+    /// An ask of a node that was accepted is noted, for which room was made. Its ticket is one that its client had before, as one that restarts numbers its
+    /// tickets anew, or the one after them. It takes no memory.
     pub fn note(&mut self, note: Note)
+        requires node { note.stranger ≡ None }
         requires room { HasNoteRoom self.old note.transaction.client note.transaction.server }
         requires ticket { note.ticket ≤ tickets_of note.transaction.client self.old.notes }
         ensures { self.new ≡ record (self.old) { notes = note_view note ∷ self.old.notes; note_room = self.new.note_room } }
     {
         note.transaction.fits();
         add_note(&mut self.notes, &mut self.rows, note);
+    }
+
+    /// Makes room for a note of a client's next ask of a stranger. Nothing else changes, after an Err neither.
+    pub fn reserve_stranger(&mut self, client: usize) -> Result<(), NoMemory>
+        requires client { client < length self.old.links }
+        ensures ok { OnOk result (HasStrangerRoom self.new client) }
+        ensures same { self.new ≡ record (self.old) { note_room = self.new.note_room } }
+    {
+        self.notes.reserve(1)?;
+        reserve_ticket(&mut self.rows, client)
+    }
+
+    /// An ask of a stranger that was accepted is noted, for which room was made; its ticket is one as `note` says. It takes no memory.
+    pub fn note_stranger(&mut self, note: Note)
+        requires stranger { IsSome note.stranger }
+        requires room { HasStrangerRoom self.old note.transaction.client }
+        requires ticket { note.ticket ≤ tickets_of note.transaction.client self.old.notes }
+        ensures { self.new ≡ record (self.old) { notes = note_view note ∷ self.old.notes; note_room = self.new.note_room } }
+    {
+        add_stranger_note(&mut self.notes, &mut self.rows, note);
     }
 
     /// Whether both have the same links, moment, copies and notes; it doesn't matter for how many more there is room. It takes no memory.

@@ -1,5 +1,5 @@
 //! How copies come into the list of them.
-ghost use Rattle.std.specs.Prelude.{◌≡◌, ◌+◌, ◌≤◌, List, [], ◌∷◌, ◌++◌, Some, length, map, vec_capacity};
+ghost use Rattle.std.specs.Prelude.{◌≡◌, ◌+◌, ◌<◌, ◌≤◌, List, [], ◌∷◌, ◌++◌, Some, length, map, vec_capacity};
 ghost use Rattle.bac_world.specs.Node.{Node};
 ghost use Rattle.bac_world.specs.World.{Note};
 ghost use Rattle.bac_journal.specs.Growing.{BecomeCopies, CanGo};
@@ -44,7 +44,7 @@ pub(crate) fn add_copy(copies: &mut Vec<Copy>, rows: &mut [Row], copy: Copy)
     set_known(rows, &transaction, cell);
 }
 
-/// A datagram that a node sends becomes the newest copy.
+/// A datagram that a node sends becomes the newest copy, or goes to a stranger, and becomes none.
 fn send_one(
     links: &[LinkAddress],
     now: u64,
@@ -53,23 +53,24 @@ fn send_one(
     rows: &mut [Row],
     datagram: Datagram,
 )
+    requires sender { sender < length links.now }
     requires can { (notes : List Note) × IsKept rows.old copies.old.items notes × CanGo links.now notes now sender (datagram ∷ []) }
     requires room { length copies.old.items + 1 ≤ vec_capacity copies.old }
     ensures copies { (nodes : List Node) → AreLinks nodes links.now
         → BecomeCopies nodes now sender (datagram ∷ []) (map copy_view copies.old.items) (map copy_view copies.new.items) }
     ensures kept { (notes : List Note) → IsKept rows.old copies.old.items notes → IsKept rows.new copies.new.items notes }
     ensures nodes { length rows.new ≡ length rows.old }
-    ensures many { length copies.new.items ≡ length copies.old.items + 1 }
+    ensures many { length copies.new.items ≤ length copies.old.items + 1 }
     ensures room { vec_capacity copies.new ≡ vec_capacity copies.old }
     ensures rooms { map room_of rows.new ≡ map room_of rows.old }
 {
-    let Some(copy) = copy_of(links, now, sender, datagram) else {
-        unreachable!()
-    };
-    add_copy(copies, rows, copy);
+    match copy_of(links, now, sender, datagram) {
+        Some(copy) => add_copy(copies, rows, copy),
+        None => {}
+    }
 }
 
-/// The datagrams that a node sends become the newest copies, for which there is room.
+/// The datagrams that a node sends to nodes become the newest copies, for which there is room.
 pub(crate) fn send_all(
     links: &[LinkAddress],
     now: u64,
@@ -78,13 +79,14 @@ pub(crate) fn send_all(
     rows: &mut [Row],
     sends: Vec<Datagram>,
 )
+    requires sender { sender < length links.now }
     requires can { (notes : List Note) × IsKept rows.old copies.old.items notes × CanGo links.now notes now sender sends.items }
     requires room { length copies.old.items + length sends.items ≤ vec_capacity copies.old }
     ensures copies { (nodes : List Node) → AreLinks nodes links.now
         → BecomeCopies nodes now sender sends.items (map copy_view copies.old.items) (map copy_view copies.new.items) }
     ensures kept { (notes : List Note) → IsKept rows.old copies.old.items notes → IsKept rows.new copies.new.items notes }
     ensures nodes { length rows.new ≡ length rows.old }
-    ensures many { length copies.new.items ≡ length copies.old.items + length sends.items }
+    ensures many { length copies.new.items ≤ length copies.old.items + length sends.items }
     ensures room { vec_capacity copies.new ≡ vec_capacity copies.old }
     ensures rooms { map room_of rows.new ≡ map room_of rows.old }
 {

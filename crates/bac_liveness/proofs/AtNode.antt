@@ -26,11 +26,12 @@ use Rattle.bac_transaction.specs.Ends.TransactionSlot.{Open, Closed}
 use Rattle.bac_transaction.proofs.KeyedSlots.{EachSlot, changed_value, value_changed, with_same, slot, decide_slot_key, apart_none, found_first, passed_first}
 use Rattle.bac_transaction.proofs.KeyedSlots.{distinct_in_order, each_in_order, found_in_order, each_at}
 use Rattle.bac_world.specs.Node.{Node, Outcome, NodeTick, IsHeardBy, IsClientTurn}
-use Rattle.bac_world.specs.World.{World, WorldRun, Event, IsFresh, IsBounded, ask_of, peer_at, link_at}
-use Rattle.bac_world.proofs.Bridge.{here_at, IsKnown, TicketFits, slot_key, key_of as node_key}
+use Rattle.bac_world.specs.World.{World, WorldRun, Event, IsFresh, IsBounded, ask_of, is_away, peer_at, link_at}
+use Rattle.bac_world.proofs.Bridge.{here_at, IsKnown, IsStranger, TicketFits, slot_key, out_key, newest_near, key_of as node_key}
+use Rattle.bac_world.proofs.Machines.{away_apart}
 use Rattle.bac_world.proofs.Pairs.{IsSplit, pairwise_split, pairwise_none}
 use Rattle.bac_world.proofs.ClientTick.{client_tick}
-use Rattle.bac_world.proofs.Hearing.{ticket_at}
+use Rattle.bac_world.proofs.Hearing.{ticket_at, out_one}
 use Rattle.bac_world.proofs.NodeLaws.{heard_as}
 use Rattle.bac_world.proofs.Steps.{Over}
 use Rattle.bac_world.proofs.Headline.{fresh_over, rules_of, rules_bounded}
@@ -251,11 +252,18 @@ module _ (links : ℕ → Option Octets) (apart : (i j : ℕ) (l : Octets) → l
     pub number_is : ask_of i number w.notes ≡ Some (n.numbers (node_key i server p.invoke_id))
     pub going : is_idle t.phase ≡ false
 
-  ticket_of : (p : PeerKey) (number : ℕ) (t : ClientTransaction) → IsOpen a p number t → IsTicketOf p number t
-  ticket_of p number t there =
+  -- of an ask of a stranger
+  pub record IsTicketAway (p : PeerKey) (number : ℕ) (t : ClientTransaction) : Type 0 where
+    pub ticket : n.far.tickets (out_key i p) ≡ Some t
+    pub number_is : ask_of i number w.notes ≡ Some (n.far.numbers (out_key i p))
+    pub going : is_idle t.phase ≡ false
+
+  abbrev Peer : PeerKey → Type 0
+  Peer q = IsKnown links apart q ⊎ IsStranger links apart q
+
+  ticket_near : (p : PeerKey) (number : ℕ) (t : ClientTransaction) → IsOpen a p number t → IsKnown links apart p → IsTicketOf p number t
+  ticket_near p number t there known =
       let fits = (over.nodes i a at).clients in
-      let known = (each_at Client (λ q v. IsKnown links apart q × (v.number < a.clients.asked)) p (record { number = number; held = Open t }) a.clients.slots
-      fits.known there).0 in
       let key_is : slot_key known.link p.invoke_id ≡ p = λ j. record { peer = sym known.peer j; invoke_id = p.invoke_id } in
       let found : TicketFits (is_lost n (node_key i known.node p.invoke_id)) (here_at n i) w.notes i (n.numbers (node_key i known.node p.invoke_id))
       (Some (record { number = number; held = Open t }))
@@ -281,22 +289,64 @@ module _ (links : ℕ → Option Octets) (apart : (i j : ℕ) (l : Octets) → l
         going = (opened t t (sym held.held)).1;
       }
 
+  ticket_away : (p : PeerKey) (number : ℕ) (t : ClientTransaction) → IsOpen a p number t → IsStranger links apart p → IsTicketAway p number t
+  ticket_away p number t there stranger =
+      let k : Key = out_key i p in
+      let slot : Option Client = Some (record { number = number; held = Open t }) in
+      let found : TicketFits false (here_at n i) w.notes i (n.far.numbers k) slot (n.far.tickets k) =
+      subst (λ (v : Option Client). TicketFits false (here_at n i) w.notes i (n.far.numbers k) v (n.far.tickets k)) there
+      ((over.nodes i a at).clients.strangers p stranger) in
+      let is = ticket_at false (here_at n i) w.notes i (n.far.numbers k) number t (n.far.tickets k) found in
+      let held : TicketFits false (here_at n i) w.notes i (n.far.numbers k) slot (Some t) =
+      subst (λ (v : Option ClientTransaction). TicketFits false (here_at n i) w.notes i (n.far.numbers k) slot v) is.0 found in
+      record { ticket = is.0; number_is = is.1; going = (opened t t (sym held.held)).1 }
+
+  ticket_of : (p : PeerKey) (number : ℕ) (t : ClientTransaction) → IsOpen a p number t → IsTicketOf p number t ⊎ IsTicketAway p number t
+  ticket_of p number t there = go (each_at Client (λ q v. Peer q × (v.number < a.clients.asked)) p (record { number = number; held = Open t }) a.clients.slots
+      (over.nodes i a at).clients.known there).0
+    where
+      go : Peer p → IsTicketOf p number t ⊎ IsTicketAway p number t
+      go (inl known) = inl (ticket_near p number t there known)
+      go (inr stranger) = inr (ticket_away p number t there stranger)
+
+  -- an ask of a node and one of a stranger have numbers of their own
+  near_and_away : (p q : PeerKey) (number : ℕ) (t u : ClientTransaction) → IsTicketOf p number t → IsTicketAway q number u → ⊥
+  near_and_away p q number t u one two =
+      let k : Key = node_key i one.server p.invoke_id in
+      let numbers : n.numbers k ≡ n.far.numbers (out_key i q) =
+      (let e : Some (n.numbers k) ≡ Some (n.far.numbers (out_key i q)) = sym one.number_is ∙ two.number_is in cc) in
+      let near : is_away (n.numbers k) w.notes ≡ false = newest_near k w.notes (n.numbers k) (over.noted k t one.ticket) in
+      let away : is_away (n.numbers k) w.notes ≡ true =
+      ap (λ (y : ℕ). is_away y w.notes) numbers ∙ over.away (out_key i q) u two.ticket in
+      absurd (let e : true ≡ false = sym away ∙ near in cc)
+
+  going_of : (p : PeerKey) (number : ℕ) (t : ClientTransaction) → IsTicketOf p number t ⊎ IsTicketAway p number t → is_idle t.phase ≡ false
+  going_of p number t (inl one) = one.going
+  going_of p number t (inr one) = one.going
+
+  same_key_of : (p q : PeerKey) (number : ℕ) (t u : ClientTransaction) → IsTicketOf p number t ⊎ IsTicketAway p number t
+      → IsTicketOf q number u ⊎ IsTicketAway q number u → p ≡ q
+  same_key_of p q number t u (inl one) (inr two) = absurd (near_and_away p q number t u one two)
+  same_key_of p q number t u (inr one) (inl two) = absurd (near_and_away q p number u t two one)
+  same_key_of p q number t u (inr one) (inr two) =
+      let numbers : n.far.numbers (out_key i p) ≡ n.far.numbers (out_key i q) =
+      (let e : Some (n.far.numbers (out_key i p)) ≡ Some (n.far.numbers (out_key i q)) = sym one.number_is ∙ two.number_is in cc) in
+      out_one i p q (away_apart W x bound n over.sound (out_key i p) (out_key i q) t u one.ticket two.ticket numbers)
+  same_key_of p q number t u (inl one) (inl two) =
+      let numbers : n.numbers (node_key i one.server p.invoke_id) ≡ n.numbers (node_key i two.server q.invoke_id) =
+      (let e : Some (n.numbers (node_key i one.server p.invoke_id)) ≡ Some (n.numbers (node_key i two.server q.invoke_id)) =
+      sym one.number_is ∙ two.number_is in cc) in
+      let key = (reached_net W x bound over.sound.0 over.sound.2 over.sound.1 n over.sound.3).apart (node_key i one.server p.invoke_id) (node_key i two.server q.invoke_id) t u
+      one.ticket two.ticket numbers in
+      let link : one.link ≡ two.link =
+      (let e : Some one.link ≡ Some two.link = sym one.linked ∙ ap (λ (k : Key). links k.server) key ∙ two.linked in cc) in
+      (λ j. record { peer = (one.peer ∙ ap peer_at link ∙ sym two.peer) j; invoke_id = (key j).invoke_id })
+
   pub tickets_apart : HasTicketsApart a
   tickets_apart = record {
     keys = record { clients = (over.nodes i a at).clients.distinct; servers = (over.nodes i a at).servers.distinct };
-    apart = λ p q number t u here there.
-        let one = ticket_of p number t here in
-        let two = ticket_of q number u there in
-        let numbers : n.numbers (node_key i one.server p.invoke_id) ≡ n.numbers (node_key i two.server q.invoke_id) =
-        (let e : Some (n.numbers (node_key i one.server p.invoke_id)) ≡ Some (n.numbers (node_key i two.server q.invoke_id)) =
-        sym one.number_is ∙ two.number_is in cc) in
-        let key = (reached_net W x bound over.sound.0 over.sound.2 over.sound.1 n over.sound.3).apart (node_key i one.server p.invoke_id)
-        (node_key i two.server q.invoke_id) t u
-        one.ticket two.ticket numbers in
-        let link : one.link ≡ two.link =
-        (let e : Some one.link ≡ Some two.link = sym one.linked ∙ ap (λ (k : Key). links k.server) key ∙ two.linked in cc) in
-        (λ j. record { peer = (one.peer ∙ ap peer_at link ∙ sym two.peer) j; invoke_id = (key j).invoke_id });
-    going = λ p number t there. (ticket_of p number t there).going;
+    apart = λ p q number t u here there. same_key_of p q number t u (ticket_of p number t here) (ticket_of q number u there);
+    going = λ p number t there. going_of p number t (ticket_of p number t there);
   }
 
 pub nodes_in_order : (W overtake : ℕ) (opening reached : World) → IsFresh opening → IsTimely opening.time.pace → IsBounded W overtake opening

@@ -33,7 +33,7 @@ use Rattle.bac_protocol.proofs.Own.{client_sends_own}
 use Rattle.bac_protocol.proofs.Paces.{shown_at, since_now}
 use Rattle.bac_liveness.specs.Runs.{StaysSince}
 use Rattle.bac_liveness.proofs.Paths.{Bounded, path_bounded, step_restarted, some_is, ask_of, Comes, Step, Path}
-use Rattle.bac_liveness.proofs.Paths.Step.{Asks, Serves, Hears, TicksTicket, TicksEntry, Passes, Changes, RestartsClient, RestartsServer}
+use Rattle.bac_liveness.proofs.Paths.Step.{Asks, Serves, Hears, TicksTicket, TicksEntry, Passes, Changes, RestartsClient, RestartsServer, Strange}
 use Rattle.bac_liveness.proofs.Paths.Path.{Here, Then}
 use Rattle.bac_liveness.proofs.Changes.{IsThere, there_step}
 use Rattle.bac_liveness.proofs.Clocks.{IsBegunAfter, IsLostAfter, MadeIn, BegunIn, LostIn, alive, closed, made_step, begun_passes, lost_passes, here_step}
@@ -427,6 +427,7 @@ module _ (x : Rules) (Q : Net → ℕ → Bool → Service → Type 0) (key : Ke
         })
         entry_later (inr lost) = inr (lost.0, lost_passes x Q key ask.first made n by servers (n.serves_from key.server) lost.1)
     next _ (Changes node change) = record { ticket = awaiting; copies = h.copies; entry = h.entry }
+    next _ (Strange asks far log g) = record { ticket = awaiting; copies = h.copies; entry = h.entry }
     next _ (RestartsClient node exact) = client_lost node exact
     next _ (RestartsServer node exact store) = server_lost node exact store
 

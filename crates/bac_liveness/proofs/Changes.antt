@@ -16,7 +16,7 @@ use Rattle.bac_protocol.proofs.Keys.{decide_key, set_same, set_other}
 use Rattle.bac_liveness.specs.Runs.{StaysSince}
 use Rattle.bac_liveness.proofs.Opens.{Opens, gets_opens, ticks_opens, asked_opens}
 use Rattle.bac_liveness.proofs.Paths.{some_is, ask_of, Step, Path, Bounded, step_log, step_restarted, path_bounded}
-use Rattle.bac_liveness.proofs.Paths.Step.{Asks, Serves, Hears, TicksTicket, TicksEntry, Passes, Changes, RestartsClient, RestartsServer}
+use Rattle.bac_liveness.proofs.Paths.Step.{Asks, Serves, Hears, TicksTicket, TicksEntry, Passes, Changes, RestartsClient, RestartsServer, Strange}
 use Rattle.bac_liveness.proofs.Paths.Path.{Here, Then}
 
 -- it stays, a new ask takes its place, its client's machine acts on it, or its client restarts
@@ -90,6 +90,7 @@ module _ (x : Rules) (Q : Net → ℕ → Bool → Service → Type 0) where
   step_change n _ (Changes node change) key = Change.Same refl refl refl
   step_change n _ (RestartsClient node exact) key = restart_change n node exact key (nat_eq key.client node) refl
   step_change n _ (RestartsServer node exact store) key = Change.Same refl refl refl
+  step_change n _ (Strange asks far log g) key = Change.Same refl refl refl
 
   pub stays_before : (n m : Net) → Step x Q n m → Bounded n → (key : Key) (made : ℕ) → StaysSince m key made → StaysSince n key made
   stays_before n m s b key made stays = let le = step_restarted x Q n m s b key.client in omega arith

@@ -11,7 +11,7 @@ use Rattle.bac_protocol.specs.World.{Net, client_now, passes}
 use Rattle.bac_protocol.proofs.Paces.{shown_at, since_now, since_later, shows_on, within_most, beyond_least}
 use Rattle.bac_liveness.specs.Runs.{StaysSince}
 use Rattle.bac_liveness.proofs.Paths.{Step, Path, Bounded, path_bounded, step_restarted}
-use Rattle.bac_liveness.proofs.Paths.Step.{Asks, Serves, Hears, TicksTicket, TicksEntry, Passes, Changes, RestartsClient, RestartsServer}
+use Rattle.bac_liveness.proofs.Paths.Step.{Asks, Serves, Hears, TicksTicket, TicksEntry, Passes, Changes, RestartsClient, RestartsServer, Strange}
 use Rattle.bac_liveness.proofs.Paths.Path.{Here, Then}
 
 -- the ask was made at that real moment, when its client's clock showed `first`, and its client has not restarted since
@@ -199,6 +199,7 @@ module _ (x : Rules) (Q : Net → ℕ → Bool → Service → Type 0) (key : Ke
     since = since_later n.pace made first n.now by (clients key.client) (n.client_clocks key.client) h.since;
   }
   made_step n _ (Changes node change) stays h = h
+  made_step n _ (Strange asks far log g) stays h = h
   made_step n _ (RestartsClient node exact) stays h = go (nat_eq key.client node) stays
     where
       go : (b : Bool) → (if b then n.now + 1 else n.restarted key.client) ≤ made
@@ -242,6 +243,7 @@ module _ (x : Rules) (Q : Net → ℕ → Bool → Service → Type 0) (key : Ke
   here_step n _ (TicksEntry k) stays h = omega arith
   here_step n _ (Passes by clients servers) stays h = shows_on n.pace h.timely.some by (clients key.client) (n.client_clocks key.client) h.client_told
   here_step n _ (Changes node change) stays h = omega arith
+  here_step n _ (Strange asks far log g) stays h = omega arith
   here_step n _ (RestartsClient node exact) stays h = go (nat_eq key.client node) stays
     where
       go : (b : Bool) → (if b then n.now + 1 else n.restarted key.client) ≤ made
@@ -299,6 +301,7 @@ module _ (x : Rules) (Q : Net → ℕ → Bool → Service → Type 0) (key : Ke
         from_is = w.from_is;
       })
   asked_step n _ (Changes node change) h = h
+  asked_step n _ (Strange asks far log g) h = h
   asked_step n _ (RestartsClient node exact) h = go (nat_eq key.client node)
     where
       go : (b : Bool) → IsAsked n.pace n.now (if b then clock_at n.pace exact else n.client_clocks key.client) (n.server_clocks key.server)
@@ -344,6 +347,7 @@ module _ (x : Rules) (Q : Net → ℕ → Bool → Service → Type 0) (key : Ke
   soon_before n _ (TicksEntry k) h = h
   soon_before n _ (Passes by clients servers) h = let le = h in omega arith
   soon_before n _ (Changes node change) h = h
+  soon_before n _ (Strange asks far log g) h = h
   soon_before n _ (RestartsClient node exact) h = h
   soon_before n _ (RestartsServer node exact store) h = h
 

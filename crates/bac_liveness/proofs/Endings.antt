@@ -15,7 +15,7 @@ use Rattle.bac_protocol.specs.Client.{Ask, Phase, ClientTransaction, is_idle, is
 use Rattle.bac_protocol.specs.Client.Phase.{SegmentedRequest, AwaitConfirmation, SegmentedConf, Idle}
 use Rattle.bac_protocol.specs.Client.Reaction.{Stays, Ends}
 use Rattle.bac_protocol.specs.Log.{Fact, StoreModel, IsUnended, IsOrderly}
-use Rattle.bac_protocol.specs.Log.Fact.{Asked, Performed, Ended, Changed, Restarted}
+use Rattle.bac_protocol.specs.Log.Fact.{Asked, Performed, Ended, Changed, Restarted, Served, AskedAway, EndedAway}
 use Rattle.bac_protocol.specs.Transaction.{Key, Rules, client_context, ended}
 use Rattle.bac_protocol.specs.World.{is_key_held, Net, World, Event, is_id_held, happens, run, start, ticks_ticket, ticks_as_client, ticks_as_server}
 use Rattle.bac_protocol.specs.World.{client_now, takes_at_client, takes_at_server, arrives, delivered}
@@ -41,6 +41,9 @@ unended_none n (Asked m c s r ∷ log) h = unended_none n log h
 unended_none n (Performed m r p ∷ log) h = unended_none n log h
 unended_none n (Changed s c ∷ log) h = unended_none n log h
 unended_none n (Restarted s o ∷ log) h = unended_none n log h
+unended_none n (Served q s i b r p ∷ log) h = unended_none n log h
+unended_none n (AskedAway m c q r ∷ log) h = unended_none n log h
+unended_none n (EndedAway m how ∷ log) h = unended_none n log h
 unended_none n (Ended m how ∷ log) h =
     let other : nat_eq m n ≡ false = go (nat_eq m n) refl in
     ap (λ b. if b then suc (endings_of n log) else endings_of n log) other ∙ unended_none n log h.1
@@ -59,6 +62,12 @@ ended_once n (Changed s c ∷ log) o (how, inl e) = absurd cc
 ended_once n (Changed s c ∷ log) o (how, inr k) = ended_once n log o (how, k)
 ended_once n (Restarted s q ∷ log) o (how, inl e) = absurd cc
 ended_once n (Restarted s q ∷ log) o (how, inr k) = ended_once n log o (how, k)
+ended_once n (EndedAway m other ∷ log) o (how, inl e) = absurd cc
+ended_once n (EndedAway m other ∷ log) o (how, inr k) = ended_once n log o.2 (how, k)
+ended_once n (AskedAway m c z r ∷ log) o (how, inl e) = absurd cc
+ended_once n (AskedAway m c z r ∷ log) o (how, inr k) = ended_once n log o.1 (how, k)
+ended_once n (Served z s i b r p ∷ log) o (how, inl e) = absurd cc
+ended_once n (Served z s i b r p ∷ log) o (how, inr k) = ended_once n log o (how, k)
 ended_once n (Ended m other ∷ log) o (how, inl e) =
     let same : m ≡ n = cc in
     let is : nat_eq m n ≡ true = grind (arith, nat_tests) in

@@ -15,7 +15,7 @@ use Rattle.bac_protocol.specs.Wire.{is_from_client}
 use Rattle.bac_protocol.specs.Client.{ClientTransaction}
 use Rattle.bac_protocol.specs.Server as server
 use Rattle.bac_protocol.specs.Server.{Service, server_ticks}
-use Rattle.bac_protocol.specs.Transaction.{Key, Rules, server_context}
+use Rattle.bac_protocol.specs.Transaction.{Key, Rules, client_context, server_context}
 use Rattle.bac_protocol.specs.World.{Net, Post, asked_at, server_acts, notes_change, is_id_held, is_lost, is_key_held, client_now, server_now, client_restarted}
 use Rattle.bac_protocol.specs.World as machine
 use Rattle.bac_protocol.specs.Moves.{taken_by_client, taken_by_server, ticket_ticked}
@@ -26,14 +26,20 @@ use Rattle.bac_transaction.specs.Ends.{AskOutcome, act_at, is_free, requester_as
 use Rattle.bac_transaction.specs.Services.{service_of}
 use Rattle.bac_world.specs.Services.{ArePerformed}
 use Rattle.bac_world.specs.Node.{Node, Outcome, IsDropped, IsHeard, IsHeardBy, NodeOn}
-use Rattle.bac_world.specs.World.{World, Event, Copy, later, is_deliverable, peer_at, Acts, DeliversIf, Delivers, HearsNoise, IsAsked, WorldStep, WorldRun}
-use Rattle.bac_world.specs.World.{RunsOn, told}
-use Rattle.bac_world.specs.World.Event.{Ask, Deliver, Noise, Tick, Advance, Change, Restart}
+use Rattle.bac_world.specs.World.{World, Event, Copy, later, is_deliverable, peer_at, Acts, DeliversIf, Delivers, HearsNoise, HearsStranger, IsAsked, WorldStep}
+use Rattle.bac_world.specs.World.{WorldRun, RunsOn, told}
+use Rattle.bac_world.specs.World.Event.{Ask, AskAway, Deliver, Noise, Stray, Tick, Advance, Change, Restart}
 use Rattle.bac_world.specs.Laws.{IsMeaningless}
 use Rattle.bac_world.proofs.NodeLaws.{drops_exactly}
 use Rattle.bac_world.proofs.Pairs.{IsPaired, pairwise_get}
 use Rattle.bac_world.proofs.Bridge.{here_at, IsCopyOf, IsBetween, key_of, slot_key, framed_means, later_alike}
-use Rattle.bac_world.proofs.Steps.{Over}
+use Rattle.bac_world.proofs.Steps.{Over, Goes}
+use Rattle.bac_world.proofs.StrangersHeard.{hears_stranger}
+use Rattle.bac_world.proofs.StrangersAsked.{asks_away_over}
+use Rattle.bac_protocol.specs.World.{client_acts_away, server_acts_away}
+use Rattle.bac_protocol.specs.Client as client
+use Rattle.bac_protocol.proofs.Aside.{IsAside, client_aside, server_aside}
+use Rattle.bac_liveness.proofs.Paths.{aside_step}
 use Rattle.bac_world.proofs.Leads.{Leads}
 use Rattle.bac_world.proofs.Machines.{may_arrive}
 use Rattle.bac_world.proofs.Serving.{room_is, serves, served_so}
@@ -50,8 +56,10 @@ use Rattle.bac_liveness.proofs.Paths.Path.{Here, Then}
 -- in the first of these events a node does not restart, nor in the rest
 first_on : (i : ℕ) (e : Event) (es : List Event) → RunsOn i (e ∷ es) → RunsOn i (e ∷ []) × RunsOn i es
 first_on i (Ask c s limits r) es h = (tt, h)
+first_on i (AskAway c peer limits r) es h = (tt, h)
 first_on i (Deliver number) es h = (tt, h)
 first_on i (Noise node from octets) es h = (tt, h)
+first_on i (Stray node from octets) es h = (tt, h)
 first_on i (Tick node) es h = (tt, h)
 first_on i (Advance by own) es h = (tt, h)
 first_on i (Change node change) es h = (tt, h)
@@ -244,12 +252,33 @@ module _ (links : ℕ → Option Octets) (apart : (i j : ℕ) (l : Octets) → l
         Then m (ticket_ticked x m key (Some t)) (leads_path n m before) (Step.TicksTicket key t there)
     leads_path n _ (Leads.TicksEntry m key before) =
         Then m (server_acts m key (server_ticks (server_context x key (server_now m key)) (m.entries key))) (leads_path n m before) (Step.TicksEntry key)
+    leads_path n _ (Leads.TicksEntryAway m key before) =
+        let v = server_ticks (server_context x key (server_now m key)) (m.far.entries key) in
+        Then m (server_acts_away m key v) (leads_path n m before) (aside_step x Q m (server_acts_away m key v) (server_aside m key v))
+    leads_path n _ (Leads.StraysToClient m key t a before down there) =
+        let r = client.client_on_apdu (client_context x key (client_now m key)) x.readable t a in
+        Then m (client_acts_away m key t r) (leads_path n m before) (aside_step x Q m (client_acts_away m key t r) (client_aside m key t r))
+    leads_path n _ (Leads.TicksTicketAway m key t before there) =
+        let r = client.client_ticks (client_context x key (client_now m key)) t in
+        Then m (client_acts_away m key t r) (leads_path n m before) (aside_step x Q m (client_acts_away m key t r) (client_aside m key t r))
 
     leads_lives : (n m : Net) → Leads x n m → (i : ℕ) → m.restarted i ≡ n.restarted i
     leads_lives n _ Leads.Here i = refl
     leads_lives n _ (Leads.Hears m number p t before at arrives down there) i = leads_lives n m before i
     leads_lives n _ (Leads.TicksTicket m key t before there) i = leads_lives n m before i
     leads_lives n _ (Leads.TicksEntry m key before) i = leads_lives n m before i
+    leads_lives n _ (Leads.TicksEntryAway m key before) i = leads_lives n m before i
+    leads_lives n _ (Leads.StraysToClient m key t a before down there) i = leads_lives n m before i
+    leads_lives n _ (Leads.TicksTicketAway m key t before there) i = leads_lives n m before i
+
+    -- what a node does with strangers
+    aside : (events : List Event) (w w' : World) (n : Net) → (m : Net) × Goes links apart W x w w' m × IsAside n m → Followed events w' n
+    aside events w w' n h = record {
+      net = h.0;
+      over = h.1.bridge;
+      path = Then n h.0 Here (aside_step x Q n h.0 h.2);
+      lives = λ i on. ap (λ (k : Net). k.restarted i) h.2.is;
+    }
 
     dropped : (events : List Event) (w w' : World) (n : Net) → Over links apart W x w n → (i : ℕ) (a b : Node) (o : Outcome) → slice_get w.nodes i ≡ Some a
         → Acts w i b o w' → (from octets : Octets) → IsDropped (told w i) from octets a b o → Followed events w' n
@@ -318,7 +347,16 @@ module _ (links : ℕ → Option Octets) (apart : (i j : ℕ) (l : Octets) → l
       where
         on : NodeOn (told w i) from octets d.hears.before d.hears.after d.hears.outcome → Followed events w' n
         on (inl z) = dropped events w w' n h i d.hears.before d.hears.after d.hears.outcome d.hears.at d.hears.acts from octets z
-        on (inr z) = absurd (d.noise z.peer z.apdu z.means)
+        on (inr z) = absurd (d.meaningless z.peer z.apdu z.means)
+
+    stray : (events : List Event) (w w' : World) (n : Net) → Over links apart W x w n → (i : ℕ) (from octets : Octets) → HearsStranger w i from octets w'
+        → Followed events w' n
+    stray events w w' n h i from octets d = on d.hears.on
+      where
+        on : NodeOn (told w i) from octets d.hears.before d.hears.after d.hears.outcome → Followed events w' n
+        on (inl z) = dropped events w w' n h i d.hears.before d.hears.after d.hears.outcome d.hears.at d.hears.acts from octets z
+        on (inr z) = aside events w w' n (hears_stranger links apart W x bound readable w w' n h i from d.stranger d.hears.before d.hears.after
+            d.hears.outcome d.hears.at d.hears.acts octets z)
 
     asks : (events : List Event) (w w' : World) (n : Net) → Over links apart W x w n → (c s : ℕ) (limits : Limits) (r : Request) → IsAsked w c s limits r w'
         → Followed events w' n
@@ -344,10 +382,15 @@ module _ (links : ℕ → Option Octets) (apart : (i j : ℕ) (l : Octets) → l
     pub step_followed : (w w' : World) (n : Net) → Over links apart W x w n → (e : Event) → Gives w n e → WorldStep x.overtake w e w' → Followed (e ∷ []) w' n
     step_followed w w' n h (Ask c s limits r) gives (inl a) = asks (Ask c s limits r ∷ []) w w' n h c s limits r a
     step_followed w w' n h (Ask c s limits r) gives (inr a) = same_followed (Ask c s limits r ∷ []) w w' n h a.same
+    step_followed w w' n h (AskAway c peer limits r) gives (inl a) =
+        aside (AskAway c peer limits r ∷ []) w w' n (asks_away_over links apart W x bound w w' n h c peer limits r a)
+    step_followed w w' n h (AskAway c peer limits r) gives (inr a) = same_followed (AskAway c peer limits r ∷ []) w w' n h a.same
     step_followed w w' n h (Deliver number) gives d = delivered (Deliver number ∷ []) w w' n h number gives d.copy d.there
         (nat_le (w.time.now - d.copy.moment) w.time.pace.life) (nat_le (later d.copy.key number w.copies) x.overtake) refl refl d.goes
     step_followed w w' n h (Noise node from octets) gives (inl d) = noise (Noise node from octets ∷ []) w w' n h node from octets d
     step_followed w w' n h (Noise node from octets) gives (inr d) = same_followed (Noise node from octets ∷ []) w w' n h d.same
+    step_followed w w' n h (Stray node from octets) gives (inl d) = stray (Stray node from octets ∷ []) w w' n h node from octets d
+    step_followed w w' n h (Stray node from octets) gives (inr d) = same_followed (Stray node from octets ∷ []) w w' n h d.same
     step_followed w w' n h (Tick node) gives d = record {
       net = (tick_over links apart W x bound w w' n h node d).0;
       over = (tick_over links apart W x bound w w' n h node d).1.bridge;

@@ -19,7 +19,9 @@ use Rattle.bac_protocol.specs.Transaction.{Key, Rules, Copy, client_context, ser
 use Rattle.bac_protocol.specs.World.{Net, World, Post, Event, later, is_deliverable, copies_of, is_id_held, is_room, lost, asked_at, ask_made, client_acts}
 use Rattle.bac_protocol.specs.World.{server_acts, client_restarted, server_restarted, delivered, arrives, takes_at_client, takes_at_server, ticks_ticket}
 use Rattle.bac_protocol.specs.World.{ticks_as_client, ticks_as_server, serves, service_of, happens, run, start, post_of, client_now, server_now}
-use Rattle.bac_protocol.specs.World.Event.{MakeAsk, Deliver, Tick, Noise, Advance, Change, RestartClient, RestartServer}
+use Rattle.bac_protocol.specs.World.Event.{MakeAsk, Deliver, Tick, Noise, Advance, Change, RestartClient, RestartServer, Stray, AskAway, TickAway}
+use Rattle.bac_protocol.specs.World.{serves_away, is_id_held_away, strays_to_server, strays_to_client, asked_away, ticks_ticket_away, ticks_as_client_away}
+use Rattle.bac_protocol.specs.World.{ticks_as_server_away}
 use Rattle.bac_protocol.specs.Pace.{Pace, IsTimely, clock_at}
 use Rattle.bac_protocol.specs.Claims.{moments_of, IsBounded, EachCopy}
 use Rattle.bac_protocol.proofs.Paces.{shows_on}
@@ -377,6 +379,35 @@ module _ (W : ℕ) (x : Rules) (bound : IsBounded W x) (key : Key) (some : 0 < l
     event_on w s own flow (Deliver number free) = delivers_on w s own flow number free (slice_get w.net.posts number) refl
     event_on w s own flow (Tick as_client as_server) = entries_on as_server (ticks_as_client S x as_client w) (tickets_on as_client w flow)
     event_on w s own flow Noise = flow
+    event_on w s own flow (Stray k free a) = go (is_from_client a)
+      where
+        to_client : (o : Option ClientTransaction) → FlowAt (strays_to_client S x w k a o).net
+        to_client None = flow
+        to_client (Some t) = flow
+
+        go : (up : Bool) → FlowAt (if up then strays_to_server S model x w k free a else strays_to_client S x w k a (w.net.far.tickets k)).net
+        go true = flow
+        go false = to_client (w.net.far.tickets k)
+    event_on w s own flow (AskAway k choice whole front rest) = go (is_id_held_away w.net k)
+      where
+        go : (held : Bool) → FlowAt (if held then w else asked_away S x w k
+            (record { first = client_now w.net k; choice = choice; whole = whole; pieces = front ∷ rest })).net
+        go true = flow
+        go false = flow
+    event_on w s own flow (TickAway as_client as_server) = servers as_server (ticks_as_client_away S x as_client w) (clients as_client w flow)
+      where
+        ticket : (w : World S) → FlowAt w.net → (k : Key) (o : Option ClientTransaction) → FlowAt (ticks_ticket_away S x w k o).net
+        ticket w flow k None = flow
+        ticket w flow k (Some t) = flow
+
+        clients : (keys : List Key) (w : World S) → FlowAt w.net → FlowAt (ticks_as_client_away S x keys w).net
+        clients [] w flow = flow
+        clients (k ∷ keys) w flow = clients keys (ticks_ticket_away S x w k (w.net.far.tickets k)) (ticket w flow k (w.net.far.tickets k))
+
+        servers : (keys : List Key) (w : World S) → FlowAt w.net → FlowAt (ticks_as_server_away S model x keys w).net
+        servers [] w flow = flow
+        servers (k ∷ keys) w flow =
+            servers keys (serves_away S model w k (server.server_ticks (server_context x k (server_now w.net k)) (w.net.far.entries k))) flow
     event_on w s own flow (Advance by clients servers) = λ t there.
         flow_later W x key (hands w.net) (hands (happens S model x w (Advance by clients servers)).net) t.ask t.repeats t.phase (w.net.entries key)
         (copies_of key w.net.posts) (passes w.net.now by) refl (server_on w s by clients servers) (flow t there)

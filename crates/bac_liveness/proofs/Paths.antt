@@ -1,7 +1,7 @@
 -- A run of events is a path of single steps of one end, or of asks, of time, of changes at nodes, or of restarts. Of each delivery to a server a premise
 -- says with which service it comes, and whether a slot is free.
 use Rattle.std.proofs.Common.{◌≡◌, ℕ, zero, suc, ◌+◌, ◌≤◌, Bool, true, false, List, [], ◌∷◌, ◌++◌, map, Option, Some, None, slice_get, if◌then◌else◌, ◌⊎◌}
-use Rattle.std.proofs.Common.{nat_eq, refl, inl, inr, subst, arith}
+use Rattle.std.proofs.Common.{nat_eq, refl, sym, inl, inr, subst, arith}
 use Rattle.bac_protocol.specs.Service.{Octets, Ending}
 use Rattle.bac_protocol.specs.Wire.{is_from_client}
 use Rattle.bac_protocol.specs.Client as client
@@ -15,7 +15,10 @@ use Rattle.bac_protocol.specs.World.{Net, World, Post, Event, is_deliverable, is
 use Rattle.bac_protocol.specs.World.{client_restarted, server_restarted, set_at, client_now, server_now, passes, takes_at_client, takes_at_server, net_start}
 use Rattle.bac_protocol.specs.World.{delivered, happens, run, ticks_ticket, ticks_as_client, ticks_as_server, serves, service_of, post_of}
 use Rattle.bac_protocol.specs.Pace.{Pace}
-use Rattle.bac_protocol.specs.World.Event.{MakeAsk, Deliver, Tick, Noise, Advance, Change, RestartClient, RestartServer}
+use Rattle.bac_protocol.specs.World.Event.{MakeAsk, Deliver, Tick, Noise, Advance, Change, RestartClient, RestartServer, Stray, AskAway, TickAway}
+use Rattle.bac_protocol.specs.World.{Strangers, client_acts_away, server_acts_away, asked_away_at, is_id_held_away, strays_to_client, strays_to_server}
+use Rattle.bac_protocol.specs.World.{asked_away, ticks_ticket_away, ticks_as_client_away, ticks_as_server_away, serves_away}
+use Rattle.bac_protocol.proofs.Aside.{IsAside, client_aside, server_aside, asked_aside}
 use Rattle.bac_protocol.specs.Moves.{taken_by_client, taken_by_server, ticket_ticked}
 use Rattle.bac_protocol.proofs.Keys.{decide_key, set_same, set_other}
 use Rattle.bac_protocol.proofs.Facts.{Grows, grows_same, grows_more}
@@ -45,6 +48,8 @@ pub data Step (x : Rules) (Q : Net → ℕ → Bool → Service → Type 0) (n :
   Changes : (node : ℕ) (change : Octets) → Step x Q n (notes_change n node change)
   RestartsClient : (node exact : ℕ) → Step x Q n (client_restarted n node exact)
   RestartsServer : (node exact : ℕ) (store : Option Octets) → Step x Q n (server_restarted n node exact store)
+  -- a step with a stranger: nothing of nodes among themselves changes
+  Strange : (asks : ℕ) (far : Strangers) (log : List Fact) → Grows n.log log → Step x Q n (record n { asks = asks; far = far; log = log })
 
 -- no ask was made later than now, and no client restarted later
 pub record Bounded (n : Net) : Type 0 where
@@ -81,6 +86,7 @@ module _ (x : Rules) (Q : Net → ℕ → Bool → Service → Type 0) where
   step_now n _ (TicksTicket key t there) = omega arith
   step_now n _ (TicksEntry key) = omega arith
   step_now n _ (Passes by clients servers) = omega arith
+  step_now n _ (Strange asks far log g) = omega arith
   step_now n _ (Changes node change) = omega arith
   step_now n _ (RestartsClient node exact) = omega arith
   step_now n _ (RestartsServer node exact store) = omega arith
@@ -96,6 +102,7 @@ module _ (x : Rules) (Q : Net → ℕ → Bool → Service → Type 0) where
       (client.ending_of (client.client_ticks (client_context x key (client_now n key)) t)) n.log
   step_log n _ (TicksEntry key) = grows_performed (n.numbers key) (server.server_ticks (server_context x key (server_now n key)) (n.entries key)).effect n.log
   step_log n _ (Passes by clients servers) = grows_same n.log
+  step_log n _ (Strange asks far log g) = g
   step_log n _ (Changes node change) = grows_more (Changed node change) n.log
   step_log n _ (RestartsClient node exact) = grows_same n.log
   step_log n _ (RestartsServer node exact store) = grows_more (Restarted node store) n.log
@@ -115,6 +122,7 @@ module _ (x : Rules) (Q : Net → ℕ → Bool → Service → Type 0) where
   step_posts n _ (TicksEntry key) i q e =
       front_stays n.posts (map (post_of key n.now) (server.server_ticks (server_context x key (server_now n key)) (n.entries key)).sends) i q e
   step_posts n _ (Passes by clients servers) i q e = e
+  step_posts n _ (Strange asks far log g) i q e = e
   step_posts n _ (Changes node change) i q e = e
   step_posts n _ (RestartsClient node exact) i q e = e
   step_posts n _ (RestartsServer node exact store) i q e = e
@@ -135,6 +143,7 @@ module _ (x : Rules) (Q : Net → ℕ → Bool → Service → Type 0) where
   bounded_step n _ (TicksEntry key) h = record { made = h.made; lives = h.lives }
   bounded_step n _ (Passes by clients servers) h =
       record { made = λ key. let le = h.made key in omega arith; lives = λ node. let le = h.lives node in omega arith }
+  bounded_step n _ (Strange asks far log g) h = record { made = h.made; lives = h.lives }
   bounded_step n _ (Changes node change) h = record { made = h.made; lives = h.lives }
   bounded_step n _ (RestartsClient node exact) h = record { made = h.made; lives = λ i. go i (nat_eq i node) }
     where
@@ -150,6 +159,7 @@ module _ (x : Rules) (Q : Net → ℕ → Bool → Service → Type 0) where
   step_restarted n _ (TicksTicket key t there) h i = omega arith
   step_restarted n _ (TicksEntry key) h i = omega arith
   step_restarted n _ (Passes by clients servers) h i = omega arith
+  step_restarted n _ (Strange asks far log g) h i = omega arith
   step_restarted n _ (Changes node change) h i = omega arith
   step_restarted n _ (RestartsClient node exact) h i = go (nat_eq i node)
     where
@@ -187,6 +197,10 @@ module _ (x : Rules) (Q : Net → ℕ → Bool → Service → Type 0) where
 
   step_path : (n m : Net) → Step x Q n m → Path x Q n m
   step_path n m s = Then n m Here s
+
+  -- what a node does with strangers is a step
+  pub aside_step : (n m : Net) → IsAside n m → Step x Q n m
+  aside_step n m h = subst (Step x Q n) (sym h.is) (Strange h.asks h.far h.log h.grows)
 
   -- A run of events is a path.
   module _ (S : Type 0) (model : StoreModel S) where
@@ -239,6 +253,27 @@ module _ (x : Rules) (Q : Net → ℕ → Bool → Service → Type 0) where
         let u = serves S model w key (server.server_ticks (server_context x key (server_now w.net key)) (w.net.entries key)) in
         path_then w.net u.net (ticks_as_server S model x keys u).net (step_path w.net u.net (TicksEntry key)) (servers_path keys u)
 
+    far_ticket : (w : World S) (key : Key) (o : Option ClientTransaction) → Path x Q w.net (ticks_ticket_away S x w key o).net
+    far_ticket w key None = Here
+    far_ticket w key (Some t) =
+        let r = client.client_ticks (client_context x key (client_now w.net key)) t in
+        let m = client_acts_away w.net key t r in
+        step_path w.net m (aside_step w.net m (client_aside w.net key t r))
+
+    far_clients : (keys : List Key) (w : World S) → Path x Q w.net (ticks_as_client_away S x keys w).net
+    far_clients [] w = Here
+    far_clients (key ∷ keys) w =
+        let u = ticks_ticket_away S x w key (w.net.far.tickets key) in
+        path_then w.net u.net (ticks_as_client_away S x keys u).net (far_ticket w key (w.net.far.tickets key)) (far_clients keys u)
+
+    far_servers : (keys : List Key) (w : World S) → Path x Q w.net (ticks_as_server_away S model x keys w).net
+    far_servers [] w = Here
+    far_servers (key ∷ keys) w =
+        let v = server.server_ticks (server_context x key (server_now w.net key)) (w.net.far.entries key) in
+        let u = serves_away S model w key v in
+        path_then w.net u.net (ticks_as_server_away S model x keys u).net (step_path w.net u.net (aside_step w.net u.net (server_aside w.net key v)))
+        (far_servers keys u)
+
     pub event_path : (w : World S) (e : Event) → Gives w e → Path x Q w.net (happens S model x w e).net
     event_path w (MakeAsk key choice whole front rest) q = ask_path w key choice whole front rest (is_id_held w.net key) refl
     event_path w (Deliver number free) q = delivered_path w number free q (slice_get w.net.posts number) refl
@@ -250,6 +285,33 @@ module _ (x : Rules) (Q : Net → ℕ → Bool → Service → Type 0) where
     event_path w (Change node change) q = step_path w.net (notes_change w.net node change) (Changes node change)
     event_path w (RestartClient node exact) q = step_path w.net (client_restarted w.net node exact) (RestartsClient node exact)
     event_path w (RestartServer node exact store) q = step_path w.net (server_restarted w.net node exact store) (RestartsServer node exact store)
+    event_path w (Stray key free a) q = go (is_from_client a)
+      where
+        to_client : (o : Option ClientTransaction) → Path x Q w.net (strays_to_client S x w key a o).net
+        to_client None = Here
+        to_client (Some t) =
+            let r = client.client_on_apdu (client_context x key (client_now w.net key)) x.readable t a in
+            let m = client_acts_away w.net key t r in
+            step_path w.net m (aside_step w.net m (client_aside w.net key t r))
+
+        go : (up : Bool) → Path x Q w.net (if up then strays_to_server S model x w key free a else strays_to_client S x w key a (w.net.far.tickets key)).net
+        go true =
+            let v = server.server_on_apdu (server_context x key (server_now w.net key)) (service_of S model w key) (w.net.far.entries key)
+            (is_room w.net key free) a in
+            let m = server_acts_away w.net key v in
+            step_path w.net m (aside_step w.net m (server_aside w.net key v))
+        go false = to_client (w.net.far.tickets key)
+    event_path w (AskAway key choice whole front rest) q = go (is_id_held_away w.net key)
+      where
+        go : (b : Bool) → Path x Q w.net (if b then w else asked_away S x w key (ask_of (client_now w.net key) choice whole front rest)).net
+        go true = Here
+        go false =
+            let ask = ask_of (client_now w.net key) choice whole front rest in
+            let m = asked_away_at x w.net key ask in
+            step_path w.net m (aside_step w.net m (asked_aside x w.net key ask))
+    event_path w (TickAway as_client as_server) q =
+        let u = ticks_as_client_away S x as_client w in
+        path_then w.net u.net (ticks_as_server_away S model x as_server u).net (far_clients as_client w) (far_servers as_server u)
 
     pub run_path : (events : List Event) (w : World S) → Throughout S model x Gives events w → Path x Q w.net (run S model x events w).net
     run_path [] w q = Here
@@ -268,6 +330,9 @@ module _ (x : Rules) (S : Type 0) (model : StoreModel S) where
   any_event w (Deliver number free) = λ p at up arrives. tt
   any_event w (Tick as_client as_server) = tt
   any_event w Noise = tt
+  any_event w (Stray key free a) = tt
+  any_event w (AskAway key choice whole front rest) = tt
+  any_event w (TickAway as_client as_server) = tt
   any_event w (Advance by clients servers) = tt
   any_event w (Change node change) = tt
   any_event w (RestartClient node exact) = tt

@@ -141,6 +141,7 @@ module _ (links : ℕ → Option Octets) (apart : (i j : ℕ) (l : Octets) → l
 
   gives : (w : World) (m : Net) → Over links apart W x w m → (e : Event) → Finding w e → Gives links apart W x bound readable Goes w m e
   gives w m over (Event.Ask client server' limits' r') f = tt
+  gives w m over (Event.AskAway client peer limits' r') f = tt
   gives w m over (Deliver number) f = λ w' y d t up on none.
       let same = some_is y on.post (sym t.at ∙ on.at) in
       let found = finds w w' m over number y d t (ap (λ (z : Post). z.key) same ∙ on.key_is) (ap (λ (z : Post). z.copy.apdu) same ∙ on.apdu_is) f none in
@@ -152,6 +153,7 @@ module _ (links : ℕ → Option Octets) (apart : (i j : ℕ) (l : Octets) → l
         found.3,
       )
   gives w m over (Event.Noise node from data') f = tt
+  gives w m over (Event.Stray node from data') f = tt
   gives w m over (Event.Tick node) f = tt
   gives w m over (Event.Advance by own) f = tt
   gives w m over (Event.Change node change) f = tt

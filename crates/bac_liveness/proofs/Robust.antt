@@ -18,7 +18,7 @@ use Rattle.bac_protocol.specs.Log.Fact.{Asked, Performed, Ended}
 use Rattle.bac_protocol.specs.Transaction.{Key, Rules, client_context}
 use Rattle.bac_protocol.specs.World.{Net, World, Post, Event, is_deliverable, is_id_held, asked_at, ask_made, happens, run, start, post_of, later, copies_of}
 use Rattle.bac_protocol.specs.World.{service_of, client_now, server_now}
-use Rattle.bac_protocol.specs.World.Event.{MakeAsk, Deliver, Tick, Noise, Advance, Change, RestartClient, RestartServer}
+use Rattle.bac_protocol.specs.World.Event.{MakeAsk, Deliver, Tick, Noise, Advance, Change, RestartClient, RestartServer, Stray, AskAway, TickAway}
 use Rattle.bac_protocol.specs.Claims.{IsBounded}
 use Rattle.bac_protocol.specs.Pace.{Pace, IsTimely}
 use Rattle.bac_protocol.proofs.Alone.{one}
@@ -64,6 +64,9 @@ module _ (S : Type 0) (model : StoreModel S) (x : Rules) (key : Key) (ask : Ask)
       (f.0, room_is w key free (f.1).slot (f.1).serving, ap (λ (k : Key). service_of S model w k ask.choice (join ask.pieces)) same ∙ (f.1).outcome, f.2)
   finds_event w (Tick as_client as_server) h = tt
   finds_event w Noise h = tt
+  finds_event w (Stray k free a) h = tt
+  finds_event w (AskAway k choice whole front rest) h = tt
+  finds_event w (TickAway as_client as_server) h = tt
   finds_event w (Advance by clients servers) h = tt
   finds_event w (Change node change) h = tt
   finds_event w (RestartClient node exact) h = tt

@@ -5,12 +5,17 @@ use Rattle.bac_protocol.specs.Service.{Octets}
 use Rattle.bac_protocol.specs.Wire.{is_from_client}
 use Rattle.bac_protocol.specs.Client.{ClientTransaction}
 use Rattle.bac_protocol.specs.Server.{Service}
-use Rattle.bac_protocol.specs.Transaction.{Key, Rules}
+use Rattle.bac_protocol.specs.Transaction.{Key, Rules, client_context, server_context}
 use Rattle.bac_protocol.specs.World.{Net, Post, asked_at, client_now, is_deliverable, is_id_held, net_start}
 use Rattle.bac_protocol.specs.Moves.{Move, IsReached, moved, arrived, taken_by_client, taken_by_server, ticket_ticked}
-use Rattle.bac_protocol.specs.Moves.Move.{Asks, Arrives, TicksTicket, TicksEntry, Passes, Changes, RestartsClient, RestartsServer}
+use Rattle.bac_protocol.specs.Moves.{strayed_to_client, strayed_to_server, ticket_ticked_away}
+use Rattle.bac_protocol.specs.World.{client_acts_away, server_acts_away, asked_away_at, is_id_held_away, is_room, server_now}
+use Rattle.bac_protocol.specs.Client as client
+use Rattle.bac_protocol.specs.Server as server
+use Rattle.bac_protocol.proofs.Aside.{client_aside, server_aside, asked_aside}
+use Rattle.bac_protocol.specs.Moves.Move.{Asks, Arrives, TicksTicket, TicksEntry, Passes, Changes, RestartsClient, RestartsServer, Strays, AsksAway, TicksTicketAway, TicksEntryAway}
 use Rattle.bac_protocol.specs.Moves.IsReached.{Still, Moved}
-use Rattle.bac_liveness.proofs.Paths.{Any, Bounded, Comes, Path, Step, ask_of, bounded_start, path_bounded, path_then}
+use Rattle.bac_liveness.proofs.Paths.{Any, Bounded, Comes, Path, Step, ask_of, aside_step, bounded_start, path_bounded, path_then}
 use Rattle.bac_liveness.proofs.Paths.Path.{Here, Then}
 
 module _ (x : Rules) (n : Net) where
@@ -44,11 +49,44 @@ module _ (x : Rules) (n : Net) where
   ticked_path key None there = Here
   ticked_path key (Some t) there = Then n (ticket_ticked x n key (Some t)) Here (Step.TicksTicket key t there)
 
+  -- with strangers
+  client_step : (key : Key) (t : ClientTransaction) (r : client.Reaction) → Step x Any n (client_acts_away n key t r)
+  client_step key t r = aside_step x Any n (client_acts_away n key t r) (client_aside n key t r)
+
+  server_step : (key : Key) (v : server.Reaction) → Step x Any n (server_acts_away n key v)
+  server_step key v = aside_step x Any n (server_acts_away n key v) (server_aside n key v)
+
   move_path : (m : Move) → Path x Any n (moved x n m)
   move_path (Asks key choice whole front rest) = asks_path key choice whole front rest (is_id_held n key) refl
   move_path (Arrives number free service) = arrived_path number free service (slice_get n.posts number) refl
   move_path (TicksTicket key) = ticked_path key (n.tickets key) refl
   move_path (TicksEntry key) = Then n (moved x n (TicksEntry key)) Here (Step.TicksEntry key)
+  move_path (Strays key free service a) = strayed_path (is_from_client a)
+    where
+      to_client : (o : Option ClientTransaction) → Path x Any n (strayed_to_client x n key a o)
+      to_client None = Here
+      to_client (Some t) = Then n (strayed_to_client x n key a (Some t)) Here
+          (client_step key t (client.client_on_apdu (client_context x key (client_now n key)) x.readable t a))
+
+      strayed_path : (up : Bool)
+          → Path x Any n (if up then strayed_to_server x n key free service a else strayed_to_client x n key a (n.far.tickets key))
+      strayed_path true = Then n (strayed_to_server x n key free service a) Here
+          (server_step key (server.server_on_apdu (server_context x key (server_now n key)) service (n.far.entries key) (is_room n key free) a))
+      strayed_path false = to_client (n.far.tickets key)
+  move_path (AsksAway key choice whole front rest) = asked_path (is_id_held_away n key)
+    where
+      asked_path : (b : Bool) → Path x Any n (if b then n else asked_away_at x n key (ask_of (client_now n key) choice whole front rest))
+      asked_path true = Here
+      asked_path false = Then n (asked_away_at x n key (ask_of (client_now n key) choice whole front rest)) Here
+          (aside_step x Any n (asked_away_at x n key (ask_of (client_now n key) choice whole front rest))
+          (asked_aside x n key (ask_of (client_now n key) choice whole front rest)))
+  move_path (TicksTicketAway key) = ticked (n.far.tickets key)
+    where
+      ticked : (o : Option ClientTransaction) → Path x Any n (ticket_ticked_away x n key o)
+      ticked None = Here
+      ticked (Some t) = Then n (ticket_ticked_away x n key (Some t)) Here (client_step key t (client.client_ticks (client_context x key (client_now n key)) t))
+  move_path (TicksEntryAway key) = Then n (moved x n (TicksEntryAway key)) Here
+      (server_step key (server.server_ticks (server_context x key (server_now n key)) (n.far.entries key)))
   move_path (Passes by clients servers) = Then n (moved x n (Passes by clients servers)) Here (Step.Passes by clients servers)
   move_path (Changes node change) = Then n (moved x n (Changes node change)) Here (Step.Changes node change)
   move_path (RestartsClient node exact) = Then n (moved x n (RestartsClient node exact)) Here (Step.RestartsClient node exact)

@@ -19,7 +19,7 @@ use Rattle.bac_transaction.specs.Sends.{Pairwise}
 use Rattle.bac_transaction.specs.Meanings.{MeansReply}
 use Rattle.bac_transaction.specs.Meanings.Ending.{Answered, Rejected, Aborted, TimedOut, Expired}
 use Rattle.bac_world.specs.Once.{Fact, Has, Stores, IsUnperformed, IsOnce}
-use Rattle.bac_world.specs.Once.Fact.{Asked, Performed, Ended, Changed, Restarted}
+use Rattle.bac_world.specs.Once.Fact.{Asked, Performed, Ended, Changed, Restarted, Served, AskedAway, EndedAway}
 use Rattle.bac_world.proofs.Logs.{FactMeans, performed_as}
 use Rattle.bac_liveness.specs.WorldRoundTrip.{IsAnswered}
 
@@ -37,6 +37,12 @@ not_performed n r p (Changed i c ∷ log) u (inl e) = absurd cc
 not_performed n r p (Changed i c ∷ log) u (inr h) = not_performed n r p log u h
 not_performed n r p (Restarted i o ∷ log) u (inl e) = absurd cc
 not_performed n r p (Restarted i o ∷ log) u (inr h) = not_performed n r p log u h
+not_performed n r p (Served z i d b q v ∷ log) u (inl e) = absurd cc
+not_performed n r p (Served z i d b q v ∷ log) u (inr h) = not_performed n r p log u h
+not_performed n r p (AskedAway m c z q ∷ log) u (inl e) = absurd cc
+not_performed n r p (AskedAway m c z q ∷ log) u (inr h) = not_performed n r p log u h
+not_performed n r p (EndedAway m how ∷ log) u (inl e) = absurd cc
+not_performed n r p (EndedAway m how ∷ log) u (inr h) = not_performed n r p log u h
 
 -- an ask is performed with one reply
 performed_once : (opening stores : Stores) (n : ℕ) (q r : Request) (a b : plain.Reply) (log : List Fact) → IsOnce opening log stores
@@ -54,6 +60,15 @@ performed_once opening stores n q r a b (Changed i c ∷ log) once (inr h) (inr 
 performed_once opening stores n q r a b (Restarted i o ∷ log) once (inl e) k = absurd cc
 performed_once opening stores n q r a b (Restarted i o ∷ log) once (inr h) (inl e) = absurd cc
 performed_once opening stores n q r a b (Restarted i o ∷ log) once (inr h) (inr k) = performed_once opening once.0 n q r a b log once.2 h k
+performed_once opening stores n q r a b (Served z i d t y v ∷ log) once (inl e) k = absurd cc
+performed_once opening stores n q r a b (Served z i d t y v ∷ log) once (inr h) (inl e) = absurd cc
+performed_once opening stores n q r a b (Served z i d t y v ∷ log) once (inr h) (inr k) = performed_once opening once.0 n q r a b log once.2 h k
+performed_once opening stores n q r a b (AskedAway m c z y ∷ log) once (inl e) k = absurd cc
+performed_once opening stores n q r a b (AskedAway m c z y ∷ log) once (inr h) (inl e) = absurd cc
+performed_once opening stores n q r a b (AskedAway m c z y ∷ log) once (inr h) (inr k) = performed_once opening once.0 n q r a b log once.2 h k
+performed_once opening stores n q r a b (EndedAway m how ∷ log) once (inl e) k = absurd cc
+performed_once opening stores n q r a b (EndedAway m how ∷ log) once (inr h) (inl e) = absurd cc
+performed_once opening stores n q r a b (EndedAway m how ∷ log) once (inr h) (inr k) = performed_once opening once.0 n q r a b log once.2 h k
 performed_once opening stores n q r a b (Performed m y v ∷ log) once (inl e) (inl f) = let one : v ≡ a = cc in let two : v ≡ b = cc in sym one ∙ two
 performed_once opening stores n q r a b (Performed m y v ∷ log) once (inl e) (inr k) =
     let same : m ≡ n = cc in absurd (not_performed m r b log once.1.first (subst (λ (i : ℕ). Has (Performed i r b) log) (sym same) k))
@@ -73,6 +88,12 @@ performed_by_store opening stores n r p (Changed i c ∷ log) once (inl e) = abs
 performed_by_store opening stores n r p (Changed i c ∷ log) once (inr h) = performed_by_store opening once.0 n r p log once.2 h
 performed_by_store opening stores n r p (Restarted i o ∷ log) once (inl e) = absurd cc
 performed_by_store opening stores n r p (Restarted i o ∷ log) once (inr h) = performed_by_store opening once.0 n r p log once.2 h
+performed_by_store opening stores n r p (Served z i d b q v ∷ log) once (inl e) = absurd cc
+performed_by_store opening stores n r p (Served z i d b q v ∷ log) once (inr h) = performed_by_store opening once.0 n r p log once.2 h
+performed_by_store opening stores n r p (AskedAway m c z q ∷ log) once (inl e) = absurd cc
+performed_by_store opening stores n r p (AskedAway m c z q ∷ log) once (inr h) = performed_by_store opening once.0 n r p log once.2 h
+performed_by_store opening stores n r p (EndedAway m how ∷ log) once (inl e) = absurd cc
+performed_by_store opening stores n r p (EndedAway m how ∷ log) once (inr h) = performed_by_store opening once.0 n r p log once.2 h
 performed_by_store opening stores n r p (Performed m q v ∷ log) once (inl e) =
     let request : q ≡ r = cc in
     let reply : v ≡ p = cc in
@@ -96,6 +117,15 @@ answered_with opening stores n p (Changed i c ∷ log) once (inr h) =
     let again = answered_with opening once.0 n p log once.2 h in (again.0, inr again.1)
 answered_with opening stores n p (Restarted i o ∷ log) once (inl e) = absurd cc
 answered_with opening stores n p (Restarted i o ∷ log) once (inr h) =
+    let again = answered_with opening once.0 n p log once.2 h in (again.0, inr again.1)
+answered_with opening stores n p (Served z i d b q v ∷ log) once (inl e) = absurd cc
+answered_with opening stores n p (Served z i d b q v ∷ log) once (inr h) =
+    let again = answered_with opening once.0 n p log once.2 h in (again.0, inr again.1)
+answered_with opening stores n p (AskedAway m c z q ∷ log) once (inl e) = absurd cc
+answered_with opening stores n p (AskedAway m c z q ∷ log) once (inr h) =
+    let again = answered_with opening once.0 n p log once.2 h in (again.0, inr again.1)
+answered_with opening stores n p (EndedAway m how ∷ log) once (inl e) = absurd cc
+answered_with opening stores n p (EndedAway m how ∷ log) once (inr h) =
     let again = answered_with opening once.0 n p log once.2 h in (again.0, inr again.1)
 answered_with opening stores n p (Ended m (Answered v) ∷ log) once (inl e) =
     let same : m ≡ n = cc in
@@ -122,6 +152,9 @@ answered_as n p (f ∷ log) (v ∷ values) h (inl e) = go v (subst (λ (g : octe
     go (Performed m r y) h = absurd h
     go (Changed i c) h = absurd h
     go (Restarted i o) h = absurd h
+    go (Served z i d b r y) h = absurd h
+    go (AskedAway m d z r) h = absurd h
+    go (EndedAway m y) h = absurd h
     go (Ended m (Answered y)) h = (y, inl (ap (λ (k : ℕ). Ended k (Answered y)) h.0))
     go (Ended m (Rejected a)) h = absurd h.1.1
     go (Ended m (Aborted a)) h = absurd h.1.1

@@ -31,7 +31,8 @@ use Rattle.bac_liveness.specs.Runs.{IsOnItsWay, StaysSince}
 use Rattle.bac_liveness.specs.RoundTrip.{FitsInOne, request_to, answer_to}
 use Rattle.bac_liveness.specs.Repeats.{IsAnswered, PATIENCE}
 use Rattle.bac_liveness.proofs.Paths.{some_is, ask_of, Comes, Step, Path, grows_ended, grows_performed}
-use Rattle.bac_liveness.proofs.Paths.Step.{Asks, Serves, Hears, TicksTicket, TicksEntry, Passes, Changes, RestartsClient, RestartsServer}
+use Rattle.bac_liveness.proofs.Paths.Step.{Asks, Serves, Hears, TicksTicket, TicksEntry, Passes, Changes, RestartsClient, RestartsServer, Strange}
+use Rattle.bac_protocol.specs.World.{Strangers}
 use Rattle.bac_liveness.proofs.Paths.Path.{Here, Then}
 use Rattle.bac_liveness.proofs.Clocks.{IsBegunAfter, AskedIn, SoonIn, alive_soon, asks_no_more, asked_step, soon_before, begun_passes}
 use Rattle.bac_liveness.proofs.Kept.{held_in_time}
@@ -633,6 +634,17 @@ module _ (x : Rules) (key : Key) (ask : Ask) (number made : ℕ) where
       g : Grows n.log log
       g = grows_more (Changed node change) n.log
 
+  -- a step with a stranger
+  strange_waits : (n : Net) (asks : ℕ) (far : Strangers) (log : List Fact) → Grows n.log log → Waits n → Waits (record n { asks = asks; far = far; log = log })
+  strange_waits n asks far log g h = record {
+    clock = h.clock;
+    entry = entry_grows n.pace n.now (n.server_clocks key.server) (n.entries key) n.log log g h.entry;
+    posts = λ i q at is young. fine_grows n.log log g q.copy.apdu (h.posts i q at is young);
+    ticket = ticket_grows (n.restarted key.client) (client_now n key) (n.tickets key) n.log log g h.ticket;
+    number_is = h.number_is;
+    made_is = h.made_is;
+  }
+
   -- its client's restart loses the ticket, and its server's the entry
   client_lost : (n : Net) (node exact : ℕ) → Waits n → Waits (client_restarted n node exact)
   client_lost n node exact h = record {
@@ -704,6 +716,7 @@ module _ (x : Rules) (key : Key) (ask : Ask) (number made : ℕ) where
       (ticks_entry n h.clock soon h.entry))
   waits_step whole n _ (Passes by clients servers) h soon = passes_waits n by clients servers h
   waits_step whole n _ (Changes node change) h soon = changes_waits n node change h
+  waits_step whole n _ (Strange asks far log g) h soon = strange_waits n asks far log g h
   waits_step whole n _ (RestartsClient node exact) h soon = client_lost n node exact h
   waits_step whole n _ (RestartsServer node exact store) h soon = server_lost n node exact store h
 

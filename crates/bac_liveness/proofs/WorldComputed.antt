@@ -1,5 +1,5 @@
 -- Runs that are computed.
-use Rattle.std.proofs.Common.{◌≡◌, ℕ, zero, suc, List, [], ◌∷◌, Some, None, slice_get, refl, sym, ap, subst, inr, ◌≢◌, IsTrue, true, not, nat_lt, arith}
+use Rattle.std.proofs.Common.{◌≡◌, ℕ, zero, suc, List, [], ◌∷◌, Some, None, slice_get, refl, sym, ap, subst, inl, inr, ◌≢◌, IsTrue, true, not, nat_lt, arith}
 use Rattle.std.proofs.lemmas.Bool.Decides.{nat_tests}
 use Rattle.bac_apdu.specs.Apdu.{Apdu}
 use Rattle.bac_apdu.specs.Spelling.{SpellsApdu, apdu_fits, apdu_spelling}
@@ -16,6 +16,7 @@ use Rattle.bac_transaction.specs.Keys.{PeerKey}
 use Rattle.bac_transaction.specs.Meanings.Ending.{Answered, Expired}
 use Rattle.bac_transaction.specs.Ends.{requester_tick, responder_tick, context_of, server_goes, requester_on_apdu}
 use Rattle.bac_transaction.specs.Services.{service_of, outcome_by}
+use Rattle.bac_world.proofs.Bridge.{each_copied}
 use Rattle.bac_world.specs.Node.{Node, Outcome, IsServerTurn}
 use Rattle.bac_world.specs.Once.{Fact}
 use Rattle.bac_world.specs.Once.Fact.{Performed, Ended}
@@ -64,7 +65,7 @@ expires = record {
     notes = refl;
     sent = [];
     copies = refl;
-    copied = tt;
+    copied = refl;
     between = Ended 0 Expired ∷ ASKED;
     ended = (0, refl, refl);
     logged = refl;
@@ -128,7 +129,7 @@ expires_slowly = record {
     notes = refl;
     sent = [];
     copies = refl;
-    copied = tt;
+    copied = refl;
     between = Ended 0 Expired ∷ ASKED;
     ended = (0, refl, refl);
     logged = refl;
@@ -247,7 +248,7 @@ sends_again = record {
     notes = refl;
     sent = SECOND_COPY ∷ [];
     copies = refl;
-    copied = (copied LATER.nodes 0 1 ASK refl refl refl ask_means, tt);
+    copied = each_copied LATER.nodes 3000 0 (datagram (link 1) ASK ∷ []) (SECOND_COPY ∷ []) (copied LATER.nodes 0 1 ASK refl refl refl ask_means, tt);
     between = ASKED;
     ended = refl;
     logged = refl;
@@ -328,10 +329,10 @@ serves = record {
     notes = refl;
     sent = ANSWER_COPY ∷ [];
     copies = refl;
-    copied = (copied AGAIN.nodes 1 0 ANSWER refl refl refl answer_means, tt);
+    copied = each_copied AGAIN.nodes 3000 1 SERVED_OUTCOME.sends (ANSWER_COPY ∷ []) (copied AGAIN.nodes 1 0 ANSWER refl refl refl answer_means, tt);
     between = ASKED;
     ended = refl;
-    logged = record { client = 0; number = 0; link = refl; noted = refl; log = refl };
+    logged = inl (record { client = 0; number = 0; link = refl; noted = refl; log = refl });
   };
 }
 
@@ -360,7 +361,7 @@ hears = record {
     notes = refl;
     sent = [];
     copies = refl;
-    copied = tt;
+    copied = refl;
     between = LOG;
     ended = (0, refl, refl);
     logged = refl;

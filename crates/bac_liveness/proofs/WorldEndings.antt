@@ -32,7 +32,7 @@ use Rattle.bac_transaction.specs.Ends.TransactionSlot.{Open, Closed}
 use Rattle.bac_transaction.proofs.KeyedSlots.{changed, changed_value, value_changed}
 use Rattle.bac_world.specs.Node.{Node, Outcome, NodeTick}
 use Rattle.bac_world.specs.Once.{Fact}
-use Rattle.bac_world.specs.Once.Fact.{Asked, Performed, Ended, Changed, Restarted}
+use Rattle.bac_world.specs.Once.Fact.{Asked, Performed, Ended, Changed, Restarted, Served, AskedAway, EndedAway}
 use Rattle.bac_world.specs.World.{World, Copy, Event, WorldStep, WorldRun, IsFresh, IsBounded, IsAsked, Ticks, RunsOn, told, link_at, peer_at}
 use Rattle.bac_world.specs.World.Event.{Deliver, Tick}
 use Rattle.bac_world.proofs.Machines.{orderly}
@@ -65,8 +65,10 @@ run_join overtake (e ∷ es) fs u v w h k = (h.0, h.1, run_join overtake es fs h
 pub on_then : (i : ℕ) (es fs : List Event) → RunsOn i es → RunsOn i fs → RunsOn i (es ++ fs)
 on_then i [] fs h k = k
 on_then i (Event.Ask c s limits r ∷ es) fs h k = on_then i es fs h k
+on_then i (Event.AskAway c peer limits r ∷ es) fs h k = on_then i es fs h k
 on_then i (Event.Deliver number ∷ es) fs h k = on_then i es fs h k
 on_then i (Event.Noise node from octets ∷ es) fs h k = on_then i es fs h k
+on_then i (Event.Stray node from octets ∷ es) fs h k = on_then i es fs h k
 on_then i (Event.Tick node ∷ es) fs h k = on_then i es fs h k
 on_then i (Event.Advance by own ∷ es) fs h k = on_then i es fs h k
 on_then i (Event.Change node change ∷ es) fs h k = on_then i es fs h k
@@ -86,6 +88,9 @@ endings_alike n (f ∷ log) (v ∷ values) h = go f v h.0 (endings_alike n log v
     go (octets.Fact.Performed m q p) (Performed k r v) h again = again
     go (octets.Fact.Changed i o) (Changed j c) h again = again
     go (octets.Fact.Restarted i o) (Restarted j s) h again = again
+    go (octets.Fact.Served q s i b r p) (Served y j d b' r' p') h again = again
+    go (octets.Fact.AskedAway m c q r) (AskedAway k d y r') h again = again
+    go (octets.Fact.EndedAway m how) (EndedAway k v) h again = again
     go (octets.Fact.Ended m how) (Ended k v) h again =
         ap (λ (i : ℕ). if nat_eq i n then suc (endings_of n values) else endings_of n values) h.0
         ∙ ap (λ (i : ℕ). if nat_eq m n then suc i else i) again
@@ -102,6 +107,9 @@ some_ended n (f ∷ log) = go f (some_ended n log)
     go (octets.Fact.Performed m q p) (inl none) = inl none
     go (octets.Fact.Changed node change) (inl none) = inl none
     go (octets.Fact.Restarted node store) (inl none) = inl none
+    go (octets.Fact.Served q s i b r p) (inl none) = inl none
+    go (octets.Fact.AskedAway m c q r) (inl none) = inl none
+    go (octets.Fact.EndedAway m how) (inl none) = inl none
     go (octets.Fact.Ended m how) (inl none) = by (nat_eq m n) refl
       where
         by : (b : Bool) → nat_eq m n ≡ b → (net.endings_of n (octets.Fact.Ended m how ∷ log) ≡ 0) ⊎ HasEnded n (octets.Fact.Ended m how ∷ log)
@@ -193,8 +201,10 @@ module _ (links : ℕ → Option Octets) (apart : (i j : ℕ) (l : Octets) → l
 
   gives_any : (w : World) (n : Net) → (e : Event) → Gives links apart W x bound readable Any w n e
   gives_any w n (Event.Ask c s limits r) = tt
+  gives_any w n (Event.AskAway c peer limits r) = tt
   gives_any w n (Event.Deliver number) = λ w' p c t up. tt
   gives_any w n (Event.Noise node from octets) = tt
+  gives_any w n (Event.Stray node from octets) = tt
   gives_any w n (Event.Tick node) = tt
   gives_any w n (Event.Advance by own) = tt
   gives_any w n (Event.Change node change) = tt

@@ -2,7 +2,7 @@
 use Rattle.std.specs.Prelude.{◌≡◌, ℕ, suc, ◌<◌, ◌≤◌, true, List, [], ◌∷◌, Some, slice_get, if◌then◌else◌, nat_eq}
 use Rattle.bac_apdu.specs.Apdu.{Apdu}
 use Rattle.bac_protocol.specs.Log.{Fact, StoreModel}
-use Rattle.bac_protocol.specs.Log.Fact.{Asked, Performed, Ended, Changed, Restarted}
+use Rattle.bac_protocol.specs.Log.Fact.{Asked, Performed, Ended, Changed, Restarted, Served, AskedAway, EndedAway}
 use Rattle.bac_protocol.specs.Transaction.{Key, Rules}
 use Rattle.bac_protocol.specs.World.{Net, World, Post, Event, is_deliverable, happens}
 
@@ -19,6 +19,9 @@ endings_of n (Performed m r p ∷ log) = endings_of n log
 endings_of n (Ended m how ∷ log) = if nat_eq m n then suc (endings_of n log) else endings_of n log
 endings_of n (Changed s c ∷ log) = endings_of n log
 endings_of n (Restarted s o ∷ log) = endings_of n log
+endings_of n (Served q s i b r p ∷ log) = endings_of n log
+endings_of n (AskedAway m c q r ∷ log) = endings_of n log
+endings_of n (EndedAway m how ∷ log) = endings_of n log
 
 -- the copy of that number carries that APDU of the transaction, and is deliverable
 pub record IsOnItsWay (x : Rules) (n : Net) (key : Key) (a : Apdu) (number : ℕ) : Type 0 where

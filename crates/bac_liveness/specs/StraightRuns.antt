@@ -11,7 +11,7 @@ use Rattle.bac_transaction.specs.Ends.{Client, TransactionSlot}
 use Rattle.bac_transaction.specs.Ends.TransactionSlot.{Open, Closed}
 use Rattle.bac_world.specs.Node.{Node}
 use Rattle.bac_world.specs.Once.{Fact}
-use Rattle.bac_world.specs.Once.Fact.{Asked, Performed, Ended, Changed, Restarted}
+use Rattle.bac_world.specs.Once.Fact.{Asked, Performed, Ended, Changed, Restarted, Served, AskedAway, EndedAway}
 use Rattle.bac_world.specs.World.{World, Copy, Event, WorldStep, WorldRun, IsAsked, peer_at}
 use Rattle.bac_world.specs.World.Event.{Ask, Deliver}
 
@@ -41,6 +41,9 @@ ending_in n (Performed m r p ∷ log) = ending_in n log
 ending_in n (Ended m how ∷ log) = if nat_eq m n then Some how else ending_in n log
 ending_in n (Changed i c ∷ log) = ending_in n log
 ending_in n (Restarted i o ∷ log) = ending_in n log
+ending_in n (Served q i d b r p ∷ log) = ending_in n log
+ending_in n (AskedAway m c q r ∷ log) = ending_in n log
+ending_in n (EndedAway m how ∷ log) = ending_in n log
 
 -- so many copies are delivered, from that number on, each while the ticket is open
 abbrev pub DeliverEach : (overtake client : ℕ) → PeerKey → (count number : ℕ) → (old new : World) → Type 0

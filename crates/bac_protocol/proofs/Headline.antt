@@ -1,22 +1,31 @@
 -- After every run the log is right with the stores.
-use Rattle.std.proofs.Common.{◌≡◌, ℕ, ◌-◌, ◌<◌, ◌≤◌, Bool, true, false, ◌&&◌, List, [], ◌∷◌, ◌++◌, Option, Some, None, slice_get, if◌then◌else◌}
+use Rattle.std.proofs.Common.{◌≡◌, ℕ, ◌+◌, ◌-◌, ◌<◌, ◌≤◌, Bool, true, false, ◌&&◌, List, [], ◌∷◌, ◌++◌, Option, Some, None, slice_get, if◌then◌else◌}
 use Rattle.std.proofs.Common.{nat_le, nat_eq, ◌∙◌, refl, sym, ap, subst, inl, inr, arith}
 use Rattle.std.proofs.lemmas.Bool.Decides.{nat_tests}
-use Rattle.bac_protocol.specs.Pace.{Pace, IsTimely}
+use Rattle.bac_protocol.specs.Pace.{Pace, IsTimely, clock_at}
 use Rattle.bac_protocol.specs.Service.{Octets, Request, Ending}
 use Rattle.bac_protocol.specs.Wire.{is_from_client}
 use Rattle.bac_protocol.specs.Client as client
 use Rattle.bac_protocol.specs.Client.{Ask, request_of, ClientTransaction}
 use Rattle.bac_protocol.specs.Server as server
 use Rattle.bac_protocol.specs.Server.{ServerTransaction, Effect}
-use Rattle.bac_protocol.specs.Log.{Fact, Has, asks_in, StoreModel, AreSame, MayEnter, IsOnce, HasNoRestart, IsOnceInOneLife, HasNoChange, IsOnceByRequests, IsOrderly}
-use Rattle.bac_protocol.specs.Log.Fact.{Asked, Performed, Ended, Changed, Restarted}
+use Rattle.bac_protocol.specs.Log.{Fact, Has, asks_in, StoreModel, AreSame, MayEnter, IsOnce, HasNoRestart, IsOnceInOneLife, HasNoChange, IsOnceByRequests, IsOrderly, HasNoStranger, IsOnceAmongNodes}
+use Rattle.bac_protocol.specs.Log.Fact.{Asked, Performed, Ended, Changed, Restarted, Served, AskedAway, EndedAway}
 use Rattle.bac_protocol.specs.Transaction.{Key, Rules, Copy, ended, client_context, server_context}
 use Rattle.bac_protocol.specs.World.{Net, World, Post, Event, later, client_acts, server_acts, asked_at, is_id_held, is_room, service_of, reacts}
 use Rattle.bac_protocol.specs.World.{serves, ask_made, takes_at_client, takes_at_server, arrives, delivered, ticks_ticket, ticks_as_client}
 use Rattle.bac_protocol.specs.World.{ticks_as_server, stored, happens, run, start, client_now, server_now}
-use Rattle.bac_protocol.specs.World.Event.{MakeAsk, Deliver, Tick, Noise, Advance, Change, RestartClient, RestartServer}
-use Rattle.bac_protocol.specs.Claims.{IsBounded}
+use Rattle.bac_protocol.specs.World.Event.{MakeAsk, Deliver, Tick, Noise, Advance, Change, RestartClient, RestartServer, Stray, AskAway, TickAway}
+use Rattle.bac_apdu.specs.Apdu.{Apdu}
+use Rattle.bac_protocol.specs.Client.{is_idle}
+use Rattle.bac_protocol.specs.Client.Reaction.{Stays}
+use Rattle.bac_protocol.specs.Transaction.{ended_away}
+use Rattle.bac_protocol.specs.World.{Strangers, set_at, server_acts_away, begin_of, reacts_away, serves_away, is_id_held_away}
+use Rattle.bac_protocol.specs.World.{strays_to_server, strays_to_client, asked_away, ticks_ticket_away, ticks_as_client_away, ticks_as_server_away}
+use Rattle.bac_protocol.proofs.Nets.{log_away, net_away, net_far}
+use Rattle.bac_protocol.proofs.StrangerTables.{AwayIn, Away, away_more, away_ended, away_performed, right_after, away_after, right_asked, away_asked, away_gets}
+use Rattle.bac_protocol.proofs.StrangerTables.{away_ticks, away_later, away_server_restarted, away_client_restarted, away_starts, served_apart}
+use Rattle.bac_protocol.specs.Claims.{IsBounded, AreServedApart}
 use Rattle.bac_protocol.proofs.Alone.{one}
 use Rattle.bac_protocol.proofs.ClientKeeps.{client_gets_kept, client_ticks_kept}
 use Rattle.bac_protocol.proofs.ServerKeeps.{server_gets_kept, server_ticks_kept}
@@ -42,6 +51,12 @@ has_below n c s r (Changed a b ∷ log) o (inl e) = absurd cc
 has_below n c s r (Changed a b ∷ log) o (inr h) = has_below n c s r log o h
 has_below n c s r (Restarted a b ∷ log) o (inl e) = absurd cc
 has_below n c s r (Restarted a b ∷ log) o (inr h) = has_below n c s r log o h
+has_below n c s r (Served q a i b x p ∷ log) o (inl e) = absurd cc
+has_below n c s r (Served q a i b x p ∷ log) o (inr h) = has_below n c s r log o h
+has_below n c s r (AskedAway m a q x ∷ log) o (inl e) = absurd cc
+has_below n c s r (AskedAway m a q x ∷ log) o (inr h) = let lt = has_below n c s r log o.1 h in omega arith
+has_below n c s r (EndedAway m how ∷ log) o (inl e) = absurd cc
+has_below n c s r (EndedAway m how ∷ log) o (inr h) = has_below n c s r log o.2 h
 
 -- the two facts that a log has of one ask are one
 pub asked_once : (n c s d u : ℕ) (q r : Request) (log : List Fact) → IsOrderly log → Has (Asked n c s q) log → Has (Asked n d u r) log → q ≡ r
@@ -64,6 +79,15 @@ asked_once n c s d u q r (Changed a b ∷ log) o (inr h) (inr k) = asked_once n 
 asked_once n c s d u q r (Restarted a b ∷ log) o (inl e) k = absurd cc
 asked_once n c s d u q r (Restarted a b ∷ log) o (inr h) (inl f) = absurd cc
 asked_once n c s d u q r (Restarted a b ∷ log) o (inr h) (inr k) = asked_once n c s d u q r log o h k
+asked_once n c s d u q r (Served z a i b x p ∷ log) o (inl e) k = absurd cc
+asked_once n c s d u q r (Served z a i b x p ∷ log) o (inr h) (inl f) = absurd cc
+asked_once n c s d u q r (Served z a i b x p ∷ log) o (inr h) (inr k) = asked_once n c s d u q r log o h k
+asked_once n c s d u q r (AskedAway m a z x ∷ log) o (inl e) k = absurd cc
+asked_once n c s d u q r (AskedAway m a z x ∷ log) o (inr h) (inl f) = absurd cc
+asked_once n c s d u q r (AskedAway m a z x ∷ log) o (inr h) (inr k) = asked_once n c s d u q r log o.1 h k
+asked_once n c s d u q r (EndedAway m how ∷ log) o (inl e) k = absurd cc
+asked_once n c s d u q r (EndedAway m how ∷ log) o (inr h) (inl f) = absurd cc
+asked_once n c s d u q r (EndedAway m how ∷ log) o (inr h) (inr k) = asked_once n c s d u q r log o.2 h k
 
 pub net_log : (W : ℕ) (n : Net) → NetSound W n → IsLogOf n.asks n.log
 net_log W n s = let key : Key = record { client = 0; server = 0; invoke_id = 0 } in log_of W key (n.tickets key) (one n key) (s.each key)
@@ -78,6 +102,9 @@ by_requests S model opening [] stores none h = h
 by_requests S model opening (Asked n c s r ∷ log) stores none h = (h.0, h.1, by_requests S model opening log h.0 none h.2)
 by_requests S model opening (Performed n r p ∷ log) stores none h = (h.0, h.1, by_requests S model opening log h.0 none h.2)
 by_requests S model opening (Ended n how ∷ log) stores none h = (h.0, h.1, by_requests S model opening log h.0 none h.2)
+by_requests S model opening (Served q s i b r p ∷ log) stores none h = (h.0, h.1, by_requests S model opening log h.0 none h.2)
+by_requests S model opening (AskedAway n c q r ∷ log) stores none h = (h.0, h.1, by_requests S model opening log h.0 none h.2)
+by_requests S model opening (EndedAway n how ∷ log) stores none h = (h.0, h.1, by_requests S model opening log h.0 none h.2)
 by_requests S model opening (Changed s c ∷ log) stores none h = absurd none
 by_requests S model opening (Restarted s o ∷ log) stores none h = (h.0, (none.0, kept o none.0 h.1), by_requests S model opening log h.0 none.1 h.2)
   where
@@ -96,19 +123,41 @@ in_one_life S model opening [] stores none h = h
 in_one_life S model opening (Asked n c s r ∷ log) stores none h = (h.0, h.1, in_one_life S model opening log h.0 none h.2)
 in_one_life S model opening (Performed n r p ∷ log) stores none h = (h.0, h.1, in_one_life S model opening log h.0 none h.2)
 in_one_life S model opening (Ended n how ∷ log) stores none h = (h.0, h.1, in_one_life S model opening log h.0 none h.2)
+in_one_life S model opening (Served q s i b r p ∷ log) stores none h = (h.0, h.1, in_one_life S model opening log h.0 none h.2)
+in_one_life S model opening (AskedAway n c q r ∷ log) stores none h = (h.0, h.1, in_one_life S model opening log h.0 none h.2)
+in_one_life S model opening (EndedAway n how ∷ log) stores none h = (h.0, h.1, in_one_life S model opening log h.0 none h.2)
 in_one_life S model opening (Changed s c ∷ log) stores none h = (h.0, h.1, in_one_life S model opening log h.0 none h.2)
 in_one_life S model opening (Restarted s o ∷ log) stores none h = absurd none
+
+-- Where there are no strangers, the log is right without them.
+pub among_nodes : (S : Type 0) (model : StoreModel S) (opening : ℕ → S) (log : List Fact) (stores : ℕ → S) → HasNoStranger log → IsOnce S model opening log stores
+    → IsOnceAmongNodes S model opening log stores
+among_nodes S model opening [] stores none h = h
+among_nodes S model opening (Asked n c s r ∷ log) stores none h = (h.0, h.1, among_nodes S model opening log h.0 none h.2)
+among_nodes S model opening (Performed n r p ∷ log) stores none h = (h.0, h.1, among_nodes S model opening log h.0 none h.2)
+among_nodes S model opening (Ended n how ∷ log) stores none h = (h.0, h.1, among_nodes S model opening log h.0 none h.2)
+among_nodes S model opening (Changed s c ∷ log) stores none h = (h.0, h.1, among_nodes S model opening log h.0 none h.2)
+among_nodes S model opening (Restarted s o ∷ log) stores none h = (h.0, h.1, among_nodes S model opening log h.0 none h.2)
+among_nodes S model opening (Served q s i b r p ∷ log) stores none h = absurd none
+among_nodes S model opening (AskedAway n c q r ∷ log) stores none h = absurd none
+among_nodes S model opening (EndedAway n how ∷ log) stores none h = absurd none
 
 -- No event moves the log and the stores apart.
 module _ (S : Type 0) (model : StoreModel S) (opening : ℕ → S) (W : ℕ) (x : Rules) (bound : IsBounded W x) where
   pub record Kept (w : World S) : Type 0 where
     pub net : NetSound W w.net
     pub calm : Calm w.net
+    pub away : Away w.net
     pub once : IsOnce S model opening w.net.log w.stores
 
   reacts_kept : (w : World S) → Kept w → (key : Key) (t : ClientTransaction) (r : client.Reaction) → NetSound W (client_acts w.net key t r) → Calm (client_acts w.net key t r)
       → Kept (reacts S w key t r)
-  reacts_kept w s key t r sound calm = record { net = sound; calm = calm; once = go (client.ending_of r) ((net_log W (client_acts w.net key t r) sound).orderly) }
+  reacts_kept w s key t r sound calm = record {
+    net = sound;
+    calm = calm;
+    away = away_ended w.net.server_clocks w.net.serves_from w.net.far (w.net.numbers key) (client.ending_of r) w.net.log s.away;
+    once = go (client.ending_of r) ((net_log W (client_acts w.net key t r) sound).orderly);
+  }
     where
       go : (o : Option Ending) → IsOrderly (ended (w.net.numbers key) o w.net.log) → IsOnce S model opening (ended (w.net.numbers key) o w.net.log) w.stores
       go None h = s.once
@@ -131,10 +180,11 @@ module _ (S : Type 0) (model : StoreModel S) (opening : ℕ → S) (W : ℕ) (x 
     where
       go : (o : Option Effect) → IsServed (service_of S model w key) o → NetSound W (server_acts w.net key (record v { effect = o }))
           → Kept (serves S model w key (record v { effect = o }))
-      go None is sound = record { net = sound; calm = calm; once = s.once }
+      go None is sound = record { net = sound; calm = calm; away = s.away; once = s.once }
       go (Some e) is sound = record {
         net = sound;
         calm = calm;
+        away = away_performed w.net.server_clocks w.net.serves_from w.net.far (w.net.numbers key) (Some e) w.net.log s.away;
         once = effect_once w s key t at e is
             (net_log W (server_acts w.net key (record v { effect = Some e })) sound).orderly;
       }
@@ -144,7 +194,7 @@ module _ (S : Type 0) (model : StoreModel S) (opening : ℕ → S) (W : ℕ) (x 
       → Kept (if b then w else ask_made S x w key (record { first = client_now w.net key; choice = choice; whole = whole; pieces = front ∷ rest }))
   asks_kept w s key choice whole front rest true e = s
   asks_kept w s key choice whole front rest false e =
-      record { net = sound; calm = calm_asked x w.net s.calm key (id_free w.net key e).0 choice whole (front ∷ rest); once = (w.stores, ((net_log W (asked_at x w.net key ask) sound).orderly.0, λ node. refl), s.once) }
+      record { net = sound; calm = calm_asked x w.net s.calm key (id_free w.net key e).0 choice whole (front ∷ rest); away = away_more w.net.server_clocks w.net.serves_from w.net.far (Asked w.net.asks key.client key.server (request_of ask)) w.net.log tt s.away; once = (w.stores, ((net_log W (asked_at x w.net key ask) sound).orderly.0, λ node. refl), s.once) }
     where
       ask : Ask
       ask = record { first = client_now w.net key; choice = choice; whole = whole; pieces = front ∷ rest }
@@ -241,27 +291,137 @@ module _ (S : Type 0) (model : StoreModel S) (opening : ℕ → S) (W : ℕ) (x 
   servers_kept (key ∷ keys) w s = servers_kept keys (serves S model w key
       (server.server_ticks (server_context x key (server_now w.net key)) (w.net.entries key))) (entry_kept w s key (w.net.tickets key) refl)
 
+  -- Strangers.
+
+  reacts_away_kept : (w : World S) → Kept w → (key : Key) (t : ClientTransaction) → w.net.far.tickets key ≡ Some t → (r : client.Reaction)
+      → (is_idle t.phase ≡ true → r ≡ Stays) → Kept (reacts_away S w key t r)
+  reacts_away_kept w s key t at r silent = go (client.ending_of r)
+      (right_after w.net.server_clocks w.net.serves_from w.net.far w.net.log s.away key t at w.net.asks r silent (net_log W w.net s.net).orderly)
+      (away_after w.net.server_clocks w.net.serves_from w.net.far w.net.log s.away key t at (client_now w.net key) r silent)
+    where
+      far : Strangers
+      far = record (w.net.far) { tickets = set_at w.net.far.tickets key (Some (client.after (client_now w.net key) t r)) }
+
+      n : ℕ
+      n = w.net.far.numbers key
+
+      go : (o : Option Ending) → IsOrderly (ended_away (w.net.far.numbers key) o w.net.log)
+          → AwayIn w.net.server_clocks w.net.serves_from (record (w.net.far) { tickets = set_at w.net.far.tickets key (Some (client.after (client_now w.net key) t r)) })
+          (ended_away (w.net.far.numbers key) o w.net.log)
+          → Kept (record {
+            net = record (w.net) {
+              far = record (w.net.far) { tickets = set_at w.net.far.tickets key (Some (client.after (client_now w.net key) t r)) };
+              log = ended_away (w.net.far.numbers key) o w.net.log;
+            };
+            stores = w.stores;
+          })
+      go None right away = record { net = net_far W w.net far s.net; calm = λ k. s.calm k; away = away; once = s.once }
+      go (Some how) right away = record {
+        net = net_away W w.net w.net.asks far (EndedAway n how) tt (log_away w.net.asks w.net.asks (EndedAway n how) w.net.log tt (omega arith)
+            (net_log W w.net s.net) (net_log W w.net s.net).counted right) s.net;
+        calm = λ k. s.calm k;
+        away = away;
+        once = (w.stores, (right.0, right.1, λ node. refl), s.once);
+      }
+
+  serves_away_kept : (w : World S) → Kept w → (key : Key) (v : server.Reaction) → IsServed (service_of S model w key) v.effect
+      → Away (server_acts_away w.net key v) → Kept (serves_away S model w key v)
+  serves_away_kept w s key v is away = go v.effect is away
+    where
+      far : Strangers
+      far = record (w.net.far) { entries = set_at w.net.far.entries key v.entry }
+
+      go : (o : Option Effect) → IsServed (service_of S model w key) o → Away (server_acts_away w.net key (record v { effect = o }))
+          → Kept (serves_away S model w key (record v { effect = o }))
+      go None is away = record { net = net_far W w.net far s.net; calm = λ k. s.calm k; away = away; once = s.once }
+      go (Some e) is away = record {
+        net = net_away W w.net w.net.asks far (Served key.client key.server key.invoke_id (begin_of v.entry) e.request e.reply) tt
+            (log_away w.net.asks w.net.asks (Served key.client key.server key.invoke_id (begin_of v.entry) e.request e.reply) w.net.log tt (omega arith)
+            (net_log W w.net s.net) (net_log W w.net s.net).counted (net_log W w.net s.net).orderly) s.net;
+        calm = λ k. s.calm k;
+        away = away;
+        once = (w.stores, (is, λ node. refl), s.once);
+      }
+
+  to_client_kept : (w : World S) → Kept w → (key : Key) (a : Apdu) (o : Option ClientTransaction) → w.net.far.tickets key ≡ o → Kept (strays_to_client S x w key a o)
+  to_client_kept w s key a None at = s
+  to_client_kept w s key a (Some t) at = reacts_away_kept w s key t at (client.client_on_apdu (client_context x key (client_now w.net key)) x.readable t a)
+      (ended_is_silent.gets (client_context x key (client_now w.net key)) x.readable t a)
+
+  strays_kept : (w : World S) → Kept w → (key : Key) (free : Bool) (a : Apdu) (up : Bool)
+      → Kept (if up then strays_to_server S model x w key free a else strays_to_client S x w key a (w.net.far.tickets key))
+  strays_kept w s key free a true =
+      let c = server_context x key (server_now w.net key) in
+      let service = service_of S model w key in
+      serves_away_kept w s key (server.server_on_apdu c service (w.net.far.entries key) (is_room w.net key free) a)
+      (gets_served c service (w.net.far.entries key) (is_room w.net key free) a)
+      (away_gets w.net s.away key c refl service (is_room w.net key free) (room_opens w.net key free) a)
+  strays_kept w s key free a false = to_client_kept w s key a (w.net.far.tickets key) refl
+
+  asks_away_kept : (w : World S) → Kept w → (key : Key) (ask : Ask) (b : Bool) → Kept (if b then w else asked_away S x w key ask)
+  asks_away_kept w s key ask true = s
+  asks_away_kept w s key ask false =
+      let log = net_log W w.net s.net in
+      let t = client.asked_ticket (client_context x key (client_now w.net key)) ask in
+      record {
+        net = net_away W w.net (w.net.asks + 1)
+            (record (w.net.far) { numbers = set_at w.net.far.numbers key w.net.asks; tickets = set_at w.net.far.tickets key (Some t) })
+            (AskedAway w.net.asks key.client key.server (request_of ask)) tt
+            (log_away w.net.asks (w.net.asks + 1) (AskedAway w.net.asks key.client key.server (request_of ask)) w.net.log tt (omega arith) log
+            (let e = log.counted in omega arith)
+            (right_asked w.net.server_clocks w.net.serves_from w.net.far w.net.log s.away w.net.asks log key t (request_of ask))) s.net;
+        calm = λ k. s.calm k;
+        away = away_asked w.net.server_clocks w.net.serves_from w.net.far w.net.log s.away w.net.asks log key t (request_of ask);
+        once = (w.stores, (log.counted, λ node. refl), s.once);
+      }
+
+  ticket_away_kept : (w : World S) → Kept w → (key : Key) (o : Option ClientTransaction) → w.net.far.tickets key ≡ o → Kept (ticks_ticket_away S x w key o)
+  ticket_away_kept w s key None at = s
+  ticket_away_kept w s key (Some t) at = reacts_away_kept w s key t at (client.client_ticks (client_context x key (client_now w.net key)) t)
+      (ended_is_silent.ticks (client_context x key (client_now w.net key)) t)
+
+  clients_away_kept : (keys : List Key) (w : World S) → Kept w → Kept (ticks_as_client_away S x keys w)
+  clients_away_kept [] w s = s
+  clients_away_kept (key ∷ keys) w s = clients_away_kept keys (ticks_ticket_away S x w key (w.net.far.tickets key))
+      (ticket_away_kept w s key (w.net.far.tickets key) refl)
+
+  servers_away_kept : (keys : List Key) (w : World S) → Kept w → Kept (ticks_as_server_away S model x keys w)
+  servers_away_kept [] w s = s
+  servers_away_kept (key ∷ keys) w s =
+      let c = server_context x key (server_now w.net key) in
+      let v = server.server_ticks c (w.net.far.entries key) in
+      servers_away_kept keys (serves_away S model w key v)
+      (serves_away_kept w s key v (quiet w key v (ticks_quiet c (w.net.far.entries key))) (away_ticks w.net s.away key c))
+
   pub event_kept : (w : World S) → Kept w → (e : Event) → Kept (happens S model x w e)
   event_kept w s (MakeAsk key choice whole front rest) = asks_kept w s key choice whole front rest (is_id_held w.net key) refl
   event_kept w s (Deliver number free) = delivered_kept w s number free (slice_get w.net.posts number) refl
   event_kept w s (Tick as_client as_server) = servers_kept as_server (ticks_as_client S x as_client w) (clients_kept as_client w s)
   event_kept w s Noise = s
-  event_kept w s (Advance by clients servers) = record { net = net_later W by clients servers w.net s.net; calm = calm_later w.net by clients servers s.calm; once = s.once }
+  event_kept w s (Advance by clients servers) = record { net = net_later W by clients servers w.net s.net; calm = calm_later w.net by clients servers s.calm; away = away_later w.net by clients servers s.calm s.away; once = s.once }
   event_kept w s (Change node change) = record {
     net = net_changed W w.net node change s.net;
     calm = calm_changed w.net node change s.calm;
+    away = away_more w.net.server_clocks w.net.serves_from w.net.far (Changed node change) w.net.log tt s.away;
     once = (w.stores, λ n. refl, s.once);
   }
   event_kept w s (RestartClient node exact) = record {
     net = net_client_restarted W w.net node exact s.net;
     calm = calm_client_restarted w.net node exact s.calm;
+    away = away_client_restarted w.net node exact s.away;
     once = s.once;
   }
   event_kept w s (RestartServer node exact store) = record {
     net = net_server_restarted W w.net node exact store s.net;
     calm = calm_server_restarted w.net node exact store s.calm;
+    away = away_server_restarted w.net node exact store s.away;
     once = (w.stores, λ n. refl, s.once);
   }
+  event_kept w s (Stray key free a) = strays_kept w s key free a (is_from_client a)
+  event_kept w s (AskAway key choice whole front rest) = asks_away_kept w s key
+      (record { first = client_now w.net key; choice = choice; whole = whole; pieces = front ∷ rest }) (is_id_held_away w.net key)
+  event_kept w s (TickAway as_client as_server) =
+      servers_away_kept as_server (ticks_as_client_away S x as_client w) (clients_away_kept as_client w s)
 
   pub run_kept : (events : List Event) (w : World S) → Kept w → Kept (run S model x events w)
   run_kept [] w s = s
@@ -269,8 +429,12 @@ module _ (S : Type 0) (model : StoreModel S) (opening : ℕ → S) (W : ℕ) (x 
 
   module _ (pace : Pace) (timely : IsTimely pace) (clocks : ℕ → ℕ) where
     pub start_kept : Kept (start S pace clocks opening)
-    start_kept = record { net = net_starts W pace clocks; calm = calm_start pace clocks timely; once = λ node. refl }
+    start_kept = record { net = net_starts W pace clocks; calm = calm_start pace clocks timely; away = away_starts (λ node. clock_at pace (clocks node)); once = λ node. refl }
 
     pub headline : (events : List Event)
         → IsOnce S model opening (run S model x events (start S pace clocks opening)).net.log (run S model x events (start S pace clocks opening)).stores
     headline events = (run_kept events (start S pace clocks opening) start_kept).once
+
+    pub apart_in_run : (events : List Event) → AreServedApart (run S model x events (start S pace clocks opening)).net
+    apart_in_run events =
+        served_apart (run S model x events (start S pace clocks opening)).net (run_kept events (start S pace clocks opening) start_kept).away

@@ -6,7 +6,7 @@ use Rattle.std.proofs.lemmas.Bool.Decides.{nat_tests}
 use Rattle.bac_apdu.specs.Apdu.{Apdu}
 use Rattle.bac_apdu.specs.Apdu.Apdu.{SimpleAck, ComplexAck, Error, Reject, Abort}
 use Rattle.bac_protocol.specs.Times.{DEADLINE, KEEP}
-use Rattle.bac_protocol.specs.Pace.{Pace, clock_at, goes_on, steps, IsShown}
+use Rattle.bac_protocol.specs.Pace.{Pace, clock_at, goes_on, steps}
 use Rattle.bac_protocol.specs.Claims.{Moments, moments_of, IsBegunSince, HasRestartedSince}
 use Rattle.bac_protocol.proofs.Paces.{shown_at, since_now, since_later, shows_on, within_most}
 use Rattle.bac_protocol.specs.Service.{Octets, Ending}
@@ -17,16 +17,16 @@ use Rattle.bac_protocol.specs.Server as server
 use Rattle.bac_protocol.specs.Server.{State, ServerTransaction, Effect}
 use Rattle.bac_protocol.specs.Server.State.{Done, SegmentedResponse, Dropped}
 use Rattle.bac_protocol.specs.Log.{Fact, asks_in, IsUnperformed, IsUnended, IsOrderly}
-use Rattle.bac_protocol.specs.Log.Fact.{Asked, Performed, Ended, Changed, Restarted}
+use Rattle.bac_protocol.specs.Log.Fact.{Asked, Performed, Ended, Changed, Restarted, Served, AskedAway, EndedAway}
 use Rattle.bac_protocol.specs.Transaction.{Key, Rules, ended, performed, client_context}
 use Rattle.bac_protocol.specs.World.{Net, set_at, client_acts, server_acts, asked_at, notes_change, is_room, net_start}
-use Rattle.bac_protocol.specs.World.{lost, client_restarted, server_restarted, client_now, server_now, passes, is_lost, is_in_time}
+use Rattle.bac_protocol.specs.World.{Strangers, lost, client_restarted, server_restarted, client_now, server_now, passes, is_lost, is_in_time}
 use Rattle.bac_protocol.proofs.Alone.{Transaction, client_does, server_does, asked_by, one}
 use Rattle.bac_protocol.proofs.Sound.{OfAsk, IsOfOther, IsBelow, Up, Down, IsKeptFor, IsUnbegun, StateFits, WasGiven, ServerFits, IsOpenIn, IsCounted, IsTimed, IsSoundAt, IsSound}
 use Rattle.bac_protocol.proofs.Sound.Up.{Reading}
 use Rattle.bac_protocol.proofs.Sound.Down.{Unsent, Sent}
 use Rattle.bac_protocol.proofs.ClientKeeps.{lost_more, state_read, state_performed}
-use Rattle.bac_protocol.proofs.Facts.{of_ask, below_has, says_goes, says_later, up_same, down_same, grows_more}
+use Rattle.bac_protocol.proofs.Facts.{below_more, of_ask, below_has, says_goes, says_later, up_same, down_same, grows_more}
 use Rattle.bac_protocol.proofs.Asks.{IsSpent, asked_sound}
 use Rattle.bac_protocol.proofs.Keys.{decide_key, set_same, set_other, copies_posted, copies_other}
 
@@ -38,6 +38,9 @@ unperformed_more n (Performed m r p) log ne h = (ne, h)
 unperformed_more n (Ended m how) log ne h = h
 unperformed_more n (Changed s c) log ne h = h
 unperformed_more n (Restarted s o) log ne h = h
+unperformed_more n (Served q s i b r p) log ne h = h
+unperformed_more n (AskedAway m c q r) log ne h = h
+unperformed_more n (EndedAway m how) log ne h = h
 
 unended_more : (n : ℕ) (f : Fact) (log : List Fact) → IsOfOther n f → IsUnended n log → IsUnended n (f ∷ log)
 unended_more n (Asked m c s r) log ne h = h
@@ -45,6 +48,9 @@ unended_more n (Performed m r p) log ne h = h
 unended_more n (Ended m how) log ne h = (ne, h)
 unended_more n (Changed s c) log ne h = h
 unended_more n (Restarted s o) log ne h = h
+unended_more n (Served q s i b r p) log ne h = h
+unended_more n (AskedAway m c q r) log ne h = h
+unended_more n (EndedAway m how) log ne h = h
 
 open_more : (phase : Phase) (n : ℕ) (f : Fact) (log : List Fact) → IsOfOther n f → IsOpenIn phase n log → IsOpenIn phase n (f ∷ log)
 open_more (Phase.SegmentedRequest out all_sent) n f log ne h = unended_more n f log ne h
@@ -454,7 +460,7 @@ with_ticket W key w None q s = s
 with_ticket W key w (Some t) q s = s
 
 -- where a ticket is left, there was one
-was_there : (o : Option ClientTransaction) (b : Bool) (x : ClientTransaction) → (if b then lost o else o) ≡ Some x → (t : ClientTransaction) × (o ≡ Some t)
+pub was_there : (o : Option ClientTransaction) (b : Bool) (x : ClientTransaction) → (if b then lost o else o) ≡ Some x → (t : ClientTransaction) × (o ≡ Some t)
 was_there None true x e = absurd cc
 was_there None false x e = absurd cc
 was_there (Some t) b x e = (t, refl)
@@ -491,6 +497,41 @@ net_changed W n node change s = record {
       (record { numbers = (tt, h.numbers); counted = h.counted; orderly = h.orderly }) (λ t at. tt) (s.each key);
   apart = s.apart;
 }
+
+-- Strangers.
+
+-- a fact of strangers is of no ask among nodes
+abbrev pub IsAway : Fact → Type 0
+IsAway (Served q s i b r p) = Unit {0}
+IsAway (AskedAway n c q r) = Unit {0}
+IsAway (EndedAway n how) = Unit {0}
+IsAway _ = ⊥
+
+away_of_none : (P : ℕ → Type 0) (f : Fact) → IsAway f → OfAsk P f
+away_of_none P (Served q s i b r p) h = tt
+away_of_none P (AskedAway n c q r) h = tt
+away_of_none P (EndedAway n how) h = tt
+away_of_none P _ h = absurd h
+
+pub log_away : (asks asks' : ℕ) (f : Fact) (log : List Fact) → IsAway f → asks ≤ asks' → IsLogOf asks log → asks' ≡ asks_in (f ∷ log) → IsOrderly (f ∷ log)
+    → IsLogOf asks' (f ∷ log)
+log_away asks asks' f log away le h counted orderly =
+    record { numbers = (away_of_none (λ m. m < asks') f away, below_more asks asks' log le h.numbers); counted = counted; orderly = orderly }
+
+pub net_log_of : (W : ℕ) (n : Net) → NetSound W n → IsLogOf n.asks n.log
+net_log_of W n s = let key : Key = record { client = 0; server = 0; invoke_id = 0 } in log_of W key (n.tickets key) (one n key) (s.each key)
+
+-- it enters the log, and the tables of strangers change
+pub net_away : (W : ℕ) (n : Net) (asks' : ℕ) (far : Strangers) (f : Fact) → IsAway f → IsLogOf asks' (f ∷ n.log) → NetSound W n
+    → NetSound W (record n { asks = asks'; far = far; log = f ∷ n.log })
+net_away W n asks' far f away log s = record {
+  each = λ key. elsewhere W asks' key f (one n key) (n.tickets key) log (λ t at. away_of_none (λ m. m ≢ n.numbers key) f away) (s.each key);
+  apart = s.apart;
+}
+
+-- these tables alone change
+pub net_far : (W : ℕ) (n : Net) (far : Strangers) → NetSound W n → NetSound W (record n { far = far })
+net_far W n far s = record { each = s.each; apart = s.apart }
 
 -- Time.
 

@@ -1,6 +1,6 @@
 -- Where clocks neither gain nor lose, begin together and count milliseconds, all nodes have one clock.
-use Rattle.std.proofs.Common.{◌≡◌, ℕ, zero, ◌+◌, ◌-◌, ◌*◌, ◌/◌, ◌≤◌, min, max, Bool, true, false, List, [], ◌∷◌, Option, Some, None, slice_get, if◌then◌else◌, nat_eq, refl, ap, ◌∙◌, arith}
-use Rattle.std.proofs.Math.Nat.{mul-zero, min-le_right, le-min, le-max_right}
+use Rattle.std.proofs.Common.{◌≡◌, ℕ, ◌+◌, ◌/◌, Bool, true, false, List, [], ◌∷◌, Option, Some, None, slice_get, if◌then◌else◌, nat_eq, refl, ap, ◌∙◌, arith}
+use Rattle.std.proofs.Math.Nat.{mul-zero}
 use Rattle.bac_apdu.specs.Apdu.{Apdu}
 use Rattle.bac_protocol.specs.Pace.{Pace, Clock, slack, steps, goes_on, clock_at, one_clock}
 use Rattle.bac_protocol.specs.Drift.{KeepsTime, AllKeepTime}
@@ -8,11 +8,12 @@ use Rattle.bac_protocol.specs.Wire.{is_from_client}
 use Rattle.bac_protocol.specs.Client.{Ask, ClientTransaction}
 use Rattle.bac_protocol.specs.Log.{StoreModel}
 use Rattle.bac_protocol.specs.Transaction.{Key, Rules, server_context}
-use Rattle.bac_protocol.specs.Server as server
 use Rattle.bac_protocol.specs.Server.{server_ticks}
 use Rattle.bac_protocol.specs.World.{Net, World, Post, Event, is_deliverable, is_id_held, ask_made, arrives, takes_at_client, takes_at_server}
 use Rattle.bac_protocol.specs.World.{delivered, ticks_ticket, ticks_as_client, ticks_as_server, serves, happens, run, start, client_now, server_now}
-use Rattle.bac_protocol.specs.World.Event.{MakeAsk, Deliver, Tick, Noise, Advance, Change, RestartClient, RestartServer}
+use Rattle.bac_protocol.specs.World.Event.{MakeAsk, Deliver, Tick, Noise, Advance, Change, RestartClient, RestartServer, Stray, AskAway, TickAway}
+use Rattle.bac_protocol.specs.World.{serves_away, is_id_held_away, strays_to_server, strays_to_client, asked_away, ticks_ticket_away, ticks_as_client_away}
+use Rattle.bac_protocol.specs.World.{ticks_as_server_away}
 use Rattle.bac_protocol.proofs.Paces.{steps_low, steps_high}
 
 pub record IsTrue (now : ℕ) (c : Clock) : Type 0 where
@@ -108,6 +109,35 @@ module _ (S : Type 0) (model : StoreModel S) (x : Rules) where
     servers = λ m. either (nat_eq m node) w.net.now (clock_at w.net.pace exact) (w.net.server_clocks m)
         (anew w.net.pace h.pace w.net.now exact t) (h.servers m);
   }
+  happened w h (Stray key free a) t = strayed (is_from_client a)
+    where
+      to_client : (o : Option ClientTransaction) → Is (strays_to_client S x w key a o).net
+      to_client None = h
+      to_client (Some u) = record { pace = h.pace; clients = h.clients; servers = h.servers }
+
+      strayed : (up : Bool) → Is (if up then strays_to_server S model x w key free a else strays_to_client S x w key a (w.net.far.tickets key)).net
+      strayed true = record { pace = h.pace; clients = h.clients; servers = h.servers }
+      strayed false = to_client (w.net.far.tickets key)
+  happened w h (AskAway key choice whole front rest) t = go (is_id_held_away w.net key)
+    where
+      go : (held : Bool) → Is (if held then w else asked_away S x w key
+          (record { first = client_now w.net key; choice = choice; whole = whole; pieces = front ∷ rest })).net
+      go true = h
+      go false = record { pace = h.pace; clients = h.clients; servers = h.servers }
+  happened w h (TickAway as_client as_server) t = servers as_server (ticks_as_client_away S x as_client w) (clients as_client w h)
+    where
+      ticket : (w : World S) → Is w.net → (key : Key) (o : Option ClientTransaction) → Is (ticks_ticket_away S x w key o).net
+      ticket w h key None = h
+      ticket w h key (Some u) = record { pace = h.pace; clients = h.clients; servers = h.servers }
+
+      clients : (keys : List Key) (w : World S) → Is w.net → Is (ticks_as_client_away S x keys w).net
+      clients [] w h = h
+      clients (key ∷ keys) w h = clients keys (ticks_ticket_away S x w key (w.net.far.tickets key)) (ticket w h key (w.net.far.tickets key))
+
+      servers : (keys : List Key) (w : World S) → Is w.net → Is (ticks_as_server_away S model x keys w).net
+      servers [] w h = h
+      servers (key ∷ keys) w h = servers keys (serves_away S model w key (server_ticks (server_context x key (server_now w.net key)) (w.net.far.entries key)))
+          (record { pace = h.pace; clients = h.clients; servers = h.servers })
 
   ran : (events : List Event) (w : World S) → AllKeepTime S model x events w → Is w.net → Is (run S model x events w).net
   ran [] w t h = h

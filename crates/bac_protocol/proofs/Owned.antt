@@ -16,8 +16,10 @@ use Rattle.bac_protocol.specs.Transaction.{Key, Rules, client_context, server_co
 use Rattle.bac_protocol.specs.World.{Net, World, Post, Event, post_of, set_at, later, client_acts, server_acts, is_id_held, is_room, lost, ask_made}
 use Rattle.bac_protocol.specs.World.{takes_at_client, takes_at_server, arrives, delivered, ticks_ticket, ticks_as_client, ticks_as_server, serves}
 use Rattle.bac_protocol.specs.World.{service_of, happens, run, start}
-use Rattle.bac_protocol.specs.World.Event.{MakeAsk, Deliver, Tick, Noise, Advance, Change, RestartClient, RestartServer}
+use Rattle.bac_protocol.specs.World.Event.{MakeAsk, Deliver, Tick, Noise, Advance, Change, RestartClient, RestartServer, Stray, AskAway, TickAway}
 use Rattle.bac_protocol.specs.Own.{EntryHas, PhaseHas, TicketHas, IsLesser, IsSentByClient, IsSentByServer, IsOwnPost, AreOwn}
+use Rattle.bac_protocol.specs.World.{serves_away, is_id_held_away, strays_to_server, strays_to_client, asked_away, ticks_ticket_away, ticks_as_client_away}
+use Rattle.bac_protocol.specs.World.{ticks_as_server_away}
 use Rattle.bac_protocol.proofs.Keys.{decide_key, set_same, set_other}
 use Rattle.bac_protocol.proofs.Own.{ClientSends, BeginsAnswer, Own, own_sends, own_after, gets_own, ticks_own, asks_own}
 use Rattle.bac_protocol.proofs.Own.{ServerSends, BeginsRequest, IsOwnAs, server_gets_own, server_ticks_own}
@@ -218,6 +220,36 @@ module _ (x : Rules) where
         go : (key : Key) (b : Bool) → EntryHas (IsSentByServer x key) (IsLesser x key) (if b then None else w.net.entries key)
         go key true = tt
         go key false = h.entries key
+    event_owned w h (Stray key free a) = strayed (is_from_client a)
+      where
+        to_client : (o : Option ClientTransaction) → Owned (strays_to_client S x w key a o).net
+        to_client None = h
+        to_client (Some t) = record { posts = h.posts; entries = h.entries; tickets = h.tickets }
+
+        strayed : (up : Bool) → Owned (if up then strays_to_server S model x w key free a else strays_to_client S x w key a (w.net.far.tickets key)).net
+        strayed true = record { posts = h.posts; entries = h.entries; tickets = h.tickets }
+        strayed false = to_client (w.net.far.tickets key)
+    event_owned w h (AskAway key choice whole front rest) = go (is_id_held_away w.net key)
+      where
+        go : (held : Bool) → Owned (if held then w else asked_away S x w key
+            (record { first = client_now w.net key; choice = choice; whole = whole; pieces = front ∷ rest })).net
+        go true = h
+        go false = record { posts = h.posts; entries = h.entries; tickets = h.tickets }
+    event_owned w h (TickAway as_client as_server) = servers as_server (ticks_as_client_away S x as_client w) (clients as_client w h)
+      where
+        ticket : (w : World S) → Owned w.net → (key : Key) (o : Option ClientTransaction) → Owned (ticks_ticket_away S x w key o).net
+        ticket w h key None = h
+        ticket w h key (Some t) = record { posts = h.posts; entries = h.entries; tickets = h.tickets }
+
+        clients : (keys : List Key) (w : World S) → Owned w.net → Owned (ticks_as_client_away S x keys w).net
+        clients [] w h = h
+        clients (key ∷ keys) w h = clients keys (ticks_ticket_away S x w key (w.net.far.tickets key)) (ticket w h key (w.net.far.tickets key))
+
+        servers : (keys : List Key) (w : World S) → Owned w.net → Owned (ticks_as_server_away S model x keys w).net
+        servers [] w h = h
+        servers (key ∷ keys) w h =
+            servers keys (serves_away S model w key (server.server_ticks (server_context x key (server_now w.net key)) (w.net.far.entries key)))
+            (record { posts = h.posts; entries = h.entries; tickets = h.tickets })
 
     run_owned : (events : List Event) (w : World S) → Owned w.net → Owned (run S model x events w).net
     run_owned [] w h = h

@@ -13,20 +13,23 @@ use Rattle.bac_protocol.specs.Client.Phase.{AwaitConfirmation, SegmentedConf, Id
 use Rattle.bac_protocol.specs.Server.{State, ServerTransaction}
 use Rattle.bac_protocol.specs.Server.State.{Done, SegmentedResponse, Dropped}
 use Rattle.bac_protocol.specs.Log.{Fact, Has, asks_in, IsUnperformed, IsUnended, IsOrderly}
-use Rattle.bac_protocol.specs.Log.Fact.{Asked, Performed, Ended, Changed, Restarted}
+use Rattle.bac_protocol.specs.Log.Fact.{Asked, Performed, Ended, Changed, Restarted, Served, AskedAway, EndedAway}
 use Rattle.bac_protocol.specs.Transaction.{Key, Copy}
 use Rattle.bac_protocol.proofs.Alone.{Transaction}
 use Rattle.bac_protocol.specs.Claims.{Moments, client_until, server_until, IsBegunSince, HasRestartedSince, EachCopy, IsPieceOf, WasPerformed, IsPiece, IsAck}
 
 -- The log.
 
--- what is said of the ask of a fact; a change and a restart are of no ask
+-- what is said of the ask of a fact, among nodes; a change and a restart are of no ask
 abbrev pub OfAsk : (ℕ → Type 0) → Fact → Type 0
 OfAsk P (Asked n c s r) = P n
 OfAsk P (Performed n r p) = P n
 OfAsk P (Ended n how) = P n
 OfAsk P (Changed s c) = Unit {0}
 OfAsk P (Restarted s o) = Unit {0}
+OfAsk P (Served q s i b r p) = Unit {0}
+OfAsk P (AskedAway n c q r) = Unit {0}
+OfAsk P (EndedAway n how) = Unit {0}
 
 -- a fact is not of ask n
 abbrev pub IsOfOther : ℕ → Fact → Type 0

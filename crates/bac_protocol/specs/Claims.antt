@@ -1,5 +1,5 @@
 -- What is said of each moment of a run beside the log: whose copies may arrive, and that no number among them is misread.
-use Rattle.std.specs.Prelude.{◌≡◌, ℕ, ◌+◌, ◌-◌, ◌*◌, ◌%◌, ◌<◌, ◌≤◌, ◌⊎◌, true, false, List, [], length, take, Option, Some, None, slice_get}
+use Rattle.std.specs.Prelude.{◌≡◌, ℕ, ◌+◌, ◌-◌, ◌*◌, ◌%◌, ◌<◌, ◌≤◌, ◌≢◌, ◌⊎◌, Bool, true, false, List, [], ◌∷◌, length, take, Option, Some, None, slice_get}
 use Rattle.std.specs.Prelude.{if◌then◌else◌, nat_lt}
 use Rattle.bac_apdu.specs.Apdu.{Apdu, Segment}
 use Rattle.bac_apdu.specs.Apdu.Apdu.{ConfirmedRequest, UnconfirmedRequest, SimpleAck, ComplexAck, SegmentAck, Error}
@@ -7,18 +7,19 @@ use Rattle.bac_segment.specs.Limits.{N_RETRY}
 use Rattle.bac_segment.specs.Numbers.{ahead}
 use Rattle.bac_segment.specs.Pieces.{join, piece_at}
 use Rattle.bac_segment.specs.Window.{Outgoing, in_window, Incoming}
-use Rattle.bac_protocol.specs.Times.{DEADLINE, KEEP, REST}
+use Rattle.bac_protocol.specs.Times.{KEEP}
 use Rattle.bac_protocol.specs.Pace.{Pace, Clock, most, Since}
-use Rattle.bac_protocol.specs.Service.{Octets, Reply as reply}
+use Rattle.bac_protocol.specs.Service.{Octets, Request, Reply as reply}
 use Rattle.bac_protocol.specs.Wire.{is_from_client}
 use Rattle.bac_protocol.specs.Client.{Ask, request_of, Phase, ClientTransaction}
 use Rattle.bac_protocol.specs.Client.Phase.{AwaitConfirmation, SegmentedConf, Idle}
 use Rattle.bac_protocol.specs.Server.{State, ServerTransaction, is_live}
 use Rattle.bac_protocol.specs.Server.State.{Done, SegmentedResponse, Dropped}
-use Rattle.bac_protocol.specs.Log.{Fact, Has}
-use Rattle.bac_protocol.specs.Log.Fact.{Asked, Performed}
+use Rattle.bac_protocol.specs.Log.{Fact, Has, StoreModel}
+use Rattle.bac_protocol.specs.Log.Fact.{Asked, Performed, Restarted, Served}
 use Rattle.bac_protocol.specs.Transaction.{Key, Rules, Copy}
-use Rattle.bac_protocol.specs.World.{Net, Post, later, is_deliverable, copies_of}
+use Rattle.bac_protocol.specs.World.{Net, Post, World, later, is_deliverable, copies_of, happens}
+use Rattle.bac_protocol.specs.World.Event.{Stray}
 
 -- the windows of all nodes are at most W, and few enough later copies may overtake one
 pub record IsBounded (W : ℕ) (x : Rules) : Type 0 where
@@ -338,3 +339,33 @@ LaterPassesFindReply x n =
     (key : Key) (t : ClientTransaction) → n.tickets key ≡ Some t → t.ask.whole ≡ false → IsPastFirstPass t.phase t.repeats
     → EachCopy (λ k c. MayArrive x n k c → IsSegmentOfRequest c.apdu
     → HasRestartedSince (moments_of n key) ⊎ IsLiveWithReply (moments_of n key) (n.entries key)) (copies_of key n.posts)
+
+-- Strangers.
+
+-- the log has that fact since that server restarted last
+abbrev pub HasSinceRestart : (server : ℕ) → Fact → List Fact → Type 0
+HasSinceRestart server f [] = ⊥
+HasSinceRestart server f (Restarted s o ∷ log) = (s ≢ server) × HasSinceRestart server f log
+HasSinceRestart server f (g ∷ log) = (g ≡ f) ⊎ HasSinceRestart server f log
+
+-- the requests of one stranger with one invoke ID that one server performed since it restarted last are of entries that began more than KEEP apart, by its
+-- clock
+abbrev pub AreSpaced : List Fact → Type 0
+AreSpaced [] = Unit {0}
+AreSpaced (Served q s i b r p ∷ log) = ((a : ℕ) (r' : Request) (p' : reply) → HasSinceRestart s (Served q s i a r' p') log → a + KEEP < b) × AreSpaced log
+AreSpaced (f ∷ log) = AreSpaced log
+
+-- what was performed for strangers; and a server begins no entry for them while it waits after a restart
+pub record AreServedApart (n : Net) : Type 0 where
+  pub spaced : AreSpaced n.log
+  pub waited : (q s i b : ℕ) (r : Request) (p : reply) → HasSinceRestart s (Served q s i b r p) n.log → n.serves_from s ≤ b
+
+-- all but the tables for strangers and the log is as it was: the asks of nodes, their entries, their copies and time
+abbrev pub LeavesNodes : (old new : Net) → Type 0
+LeavesNodes old new = new ≡ record old { far = new.far; log = new.log }
+
+-- a stranger's APDU changes nothing of that, and no store but that of the node at which it is heard
+pub record StraysLeaveNodes (S : Type 0) (model : StoreModel S) (x : Rules) : Type 0 where
+  pub nodes : (w : World S) (key : Key) (free : Bool) (a : Apdu) → LeavesNodes w.net (happens S model x w (Stray key free a)).net
+  pub stores : (w : World S) (key : Key) (free : Bool) (a : Apdu) (node : ℕ) → (node ≡ key.server → ⊥)
+      → (happens S model x w (Stray key free a)).stores node ≡ w.stores node

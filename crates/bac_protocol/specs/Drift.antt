@@ -1,6 +1,6 @@
 -- Where clocks go apart: at the bound on the life of a copy all is right; one part beyond it a request is performed twice, or an ask ends with another's answer.
 -- No time of the machines is changed here, nor any world: each run is one of the definitions, for clocks of that pace.
-use Rattle.std.specs.Prelude.{◌≡◌, ◌≢◌, ℕ, ◌+◌, ◌<◌, ◌≤◌, true, List, [], ◌∷◌, ◌++◌, if◌then◌else◌, nat_eq}
+use Rattle.std.specs.Prelude.{◌≡◌, ℕ, ◌+◌, ◌≤◌, true, List, [], ◌∷◌, ◌++◌}
 use Rattle.bac_protocol.specs.Times.{DEADLINE, KEEP, REST}
 use Rattle.bac_protocol.specs.Pace.{Pace, most, least, IsTimely, one_clock}
 use Rattle.bac_protocol.specs.Service.Ending.{Expired}

@@ -1,16 +1,19 @@
 -- Single moves of a net, for whoever joins it with nodes: the stores are left out, and a delivery says what its server's service makes of requests,
 -- so a service may answer otherwise each time. Each ticket and each entry ticks on its own.
-use Rattle.std.specs.Prelude.{◌≡◌, ℕ, ◌+◌, Bool, true, false, ◌∷◌, Option, Some, None, List, slice_get, if◌then◌else◌}
+use Rattle.std.specs.Prelude.{◌≡◌, ℕ, Bool, true, false, ◌∷◌, Option, Some, None, List, slice_get, if◌then◌else◌}
 use Rattle.bac_protocol.specs.Service.{Octets}
 use Rattle.bac_protocol.specs.Wire.{is_from_client}
 use Rattle.bac_protocol.specs.Client.{ClientTransaction, request_of, client_on_apdu, client_ticks}
 use Rattle.bac_protocol.specs.Server.{Service, is_none_live, server_on_apdu, server_ticks}
-use Rattle.bac_protocol.specs.Log.{Has, asks_in, IsOrderly}
+use Rattle.bac_protocol.specs.Log.{Has, asks_in, IsOrderly, WasAskedAway}
 use Rattle.bac_protocol.specs.Log.Fact.{Asked}
 use Rattle.bac_protocol.specs.Transaction.{Key, Rules, client_context, server_context}
+use Rattle.bac_protocol.specs.World.{asked_away_at, client_acts_away, server_acts_away, is_id_held_away}
+use Rattle.bac_apdu.specs.Apdu.{Apdu}
 use Rattle.bac_protocol.specs.World.{Net, Post, set_at, asked_at, client_acts, server_acts, notes_change, is_deliverable}
 use Rattle.bac_protocol.specs.World.{is_id_held, is_room, client_restarted, server_restarted, client_now, server_now, passes}
 use Rattle.bac_protocol.specs.Own.{IsOwnEntry}
+use Rattle.bac_protocol.specs.Claims.{AreServedApart}
 
 -- an ask; a copy arrives, at a server with that service; one ticket's tick; one entry's tick; time passes; a node changes its own store; a node's client
 -- or server restarts
@@ -23,6 +26,10 @@ pub data Move : Type 0 where
   Changes : (node : ℕ) (change : Octets) → Move
   RestartsClient : (node exact : ℕ) → Move
   RestartsServer : (node exact : ℕ) (store : Option Octets) → Move
+  Strays : (key : Key) (free : Bool) (service : Service) (apdu : Apdu) → Move  -- the same of transactions with strangers
+  AsksAway : (key : Key) (choice : ℕ) (whole : Bool) (front : Octets) (rest : List Octets) → Move
+  TicksTicketAway : (key : Key) → Move
+  TicksEntryAway : (key : Key) → Move
 
 -- a copy reaches its client (clause 5.4.4); without a ticket it is dropped
 abbrev pub taken_by_client : Rules → Net → Post → Option ClientTransaction → Net
@@ -47,6 +54,19 @@ abbrev pub ticket_ticked : Rules → Net → Key → Option ClientTransaction �
 ticket_ticked x n key None = n
 ticket_ticked x n key (Some t) = client_acts n key t (client_ticks (client_context x key (client_now n key)) t)
 
+-- a stranger's APDU reaches a node's client, or its server
+abbrev pub strayed_to_client : Rules → Net → Key → Apdu → Option ClientTransaction → Net
+strayed_to_client x n key a None = n
+strayed_to_client x n key a (Some t) = client_acts_away n key t (client_on_apdu (client_context x key (client_now n key)) x.readable t a)
+
+abbrev pub strayed_to_server : Rules → Net → Key → (free : Bool) → Service → Apdu → Net
+strayed_to_server x n key free service a =
+    server_acts_away n key (server_on_apdu (server_context x key (server_now n key)) service (n.far.entries key) (is_room n key free) a)
+
+abbrev pub ticket_ticked_away : Rules → Net → Key → Option ClientTransaction → Net
+ticket_ticked_away x n key None = n
+ticket_ticked_away x n key (Some t) = client_acts_away n key t (client_ticks (client_context x key (client_now n key)) t)
+
 -- the net after a move
 abbrev pub moved : Rules → Net → Move → Net
 moved x n (Asks key choice whole front rest) =
@@ -59,6 +79,13 @@ moved x n (Passes by clients servers) = passes n by clients servers
 moved x n (Changes node change) = notes_change n node change
 moved x n (RestartsClient node exact) = client_restarted n node exact
 moved x n (RestartsServer node exact store) = server_restarted n node exact store
+moved x n (Strays key free service a) =
+    if is_from_client a then strayed_to_server x n key free service a else strayed_to_client x n key a (n.far.tickets key)
+moved x n (AsksAway key choice whole front rest) =
+    if is_id_held_away n key then n
+    else asked_away_at x n key (record { first = client_now n key; choice = choice; whole = whole; pieces = front ∷ rest })
+moved x n (TicksTicketAway key) = ticket_ticked_away x n key (n.far.tickets key)
+moved x n (TicksEntryAway key) = server_acts_away n key (server_ticks (server_context x key (server_now n key)) (n.far.entries key))
 
 -- a net to which moves lead
 pub data IsReached (x : Rules) (from : Net) : Net → Type 0 where
@@ -79,6 +106,11 @@ pub record IsInOrder (n : Net) : Type 0 where
   pub own : (key : Key) → IsOwnEntry key.invoke_id (n.entries key)
   -- no entry is live for an invoke ID that is free, where the client does not wait after a restart
   pub dead : (key : Key) → is_id_held n key ≡ false → is_none_live (server_now n key) (n.entries key) ≡ true
+  -- an ask of a stranger was made under the number that its ticket has, and no two have one number
+  pub away : (key : Key) (t : ClientTransaction) → n.far.tickets key ≡ Some t → WasAskedAway (n.far.numbers key) n.log
+  pub apart : (a b : Key) (s t : ClientTransaction) → n.far.tickets a ≡ Some s → n.far.tickets b ≡ Some t → n.far.numbers a ≡ n.far.numbers b → a ≡ b
+  -- what strangers had performed is of entries apart
+  pub served_apart : AreServedApart n
 
 -- What stands in a table by key after one place was set.
 pub record SetsOnePlace (A : Type 0) : Type 0 where

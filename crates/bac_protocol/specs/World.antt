@@ -12,8 +12,8 @@ use Rattle.bac_protocol.specs.Client.Phase.{Idle}
 use Rattle.bac_protocol.specs.Server.{ServerTransaction, Effect, Service, server_on_apdu, server_ticks}
 use Rattle.bac_protocol.specs.Server as server
 use Rattle.bac_protocol.specs.Log.{Fact, StoreModel, restarted}
-use Rattle.bac_protocol.specs.Log.Fact.{Asked, Changed, Restarted}
-use Rattle.bac_protocol.specs.Transaction.{Key, Rules, client_context, server_context, Copy, ended, performed}
+use Rattle.bac_protocol.specs.Log.Fact.{Asked, Changed, Restarted, AskedAway}
+use Rattle.bac_protocol.specs.Transaction.{Key, Rules, client_context, server_context, Copy, ended, performed, ended_away, served}
 
 -- whether two keys are of one transaction: of one client, one server and one invoke ID (clause 5.4)
 abbrev pub same_key : Key → Key → Bool
@@ -23,6 +23,13 @@ same_key a b = nat_eq a.client b.client && (nat_eq a.server b.server && nat_eq a
 pub record Post : Type 0 where
   pub key : Key
   pub copy : Copy
+
+-- Strangers: ends that are no nodes. A stranger may send any APDU to a node at any moment; what a node sends it is not followed. A transaction of a
+-- node and a stranger has a key as well, in tables of its own: there the stranger has a number of its own, in place of a node's.
+pub record Strangers : Type 0 where
+  pub numbers : Key → ℕ  -- the number of each one's newest ask
+  pub tickets : Key → Option ClientTransaction  -- of asks that nodes made to strangers
+  pub entries : Key → Option ServerTransaction  -- of requests of strangers to nodes
 
 -- all but the stores
 pub record Net : Type 0 where
@@ -41,6 +48,7 @@ pub record Net : Type 0 where
   pub asks_from : ℕ → ℕ  -- the first moment at which each node asks; 0 where its client never restarted
   pub restarted : ℕ → ℕ  -- one more than the real moment at which each node's client restarted last; 0 where it never did
   pub serves_from : ℕ → ℕ  -- the first moment at which each node begins entries; 0 where its server never restarted
+  pub far : Strangers
 
 -- what a transaction's client is told of time, and what its server is
 abbrev pub client_now : Net → Key → ℕ
@@ -122,6 +130,39 @@ asked_at x n key ask =
       log = Asked n.asks key.client key.server (request_of ask) ∷ n.log;
     }
 
+-- a node's client acts in a transaction with a stranger; what it sends is not followed
+abbrev pub client_acts_away : Net → Key → ClientTransaction → client.Reaction → Net
+client_acts_away n key t r =
+    record n {
+      far = record n.far { tickets = set_at n.far.tickets key (Some (after (client_now n key) t r)) };
+      log = ended_away (n.far.numbers key) (ending_of r) n.log;
+    }
+
+-- the moment at which an entry began; 0 where there is none
+abbrev pub begin_of : Option ServerTransaction → ℕ
+begin_of None = 0
+begin_of (Some e) = e.begin
+
+-- a node's server acts in a transaction with a stranger; what it performs enters the log
+abbrev pub server_acts_away : Net → Key → server.Reaction → Net
+server_acts_away n key v =
+    record n {
+      far = record n.far { entries = set_at n.far.entries key v.entry };
+      log = served key (begin_of v.entry) v.effect n.log;
+    }
+
+-- an accepted ask of a stranger
+abbrev pub asked_away_at : Rules → Net → Key → Ask → Net
+asked_away_at x n key ask =
+    record n {
+      asks = n.asks + 1;
+      far = record n.far {
+        numbers = set_at n.far.numbers key n.asks;
+        tickets = set_at n.far.tickets key (Some (asked_ticket (client_context x key (client_now n key)) ask));
+      };
+      log = AskedAway n.asks key.client key.server (request_of ask) ∷ n.log;
+    }
+
 -- a change at a node itself enters the log; no ticket, entry or copy sees it
 abbrev pub notes_change : Net → (node : ℕ) → (change : Octets) → Net
 notes_change n node change = record n { log = Changed node change ∷ n.log }
@@ -147,6 +188,13 @@ reacts S w key t r = record { net = client_acts w.net key t r; stores = w.stores
 abbrev pub serves : (S : Type 0) → StoreModel S → World S → Key → server.Reaction → World S
 serves S model w key v = record { net = server_acts w.net key v; stores = stored S model key.server v.effect w.stores }
 
+-- the same in transactions with strangers
+abbrev pub reacts_away : (S : Type 0) → World S → Key → ClientTransaction → client.Reaction → World S
+reacts_away S w key t r = record { net = client_acts_away w.net key t r; stores = w.stores }
+
+abbrev pub serves_away : (S : Type 0) → StoreModel S → World S → Key → server.Reaction → World S
+serves_away S model w key v = record { net = server_acts_away w.net key v; stores = stored S model key.server v.effect w.stores }
+
 -- Events.
 
 -- what can happen: an ask in one APDU or in these pieces, a delivery of the copy of that number, a tick of a node, noise, time that passes, a
@@ -160,6 +208,9 @@ pub data Event : Type 0 where
   Change : (node : ℕ) (change : Octets) → Event
   RestartClient : (node exact : ℕ) → Event  -- its tickets are lost
   RestartServer : (node exact : ℕ) (store : Option Octets) → Event  -- its entries are lost; its store is as it was, or that one
+  Stray : (key : Key) (free : Bool) (apdu : Apdu) → Event  -- any APDU of a stranger reaches a node, in that transaction
+  AskAway : (key : Key) (choice : ℕ) (whole : Bool) (front : Octets) (rest : List Octets) → Event  -- a node asks a stranger
+  TickAway : (as_client as_server : List Key) → Event  -- a tick of a node, as to strangers
 
 -- whether an invoke ID is held for that server
 abbrev pub is_key_held : ℕ → Option ClientTransaction → Bool
@@ -184,6 +235,10 @@ is_lost n key = nat_lt (n.made key) (n.restarted key.client)
 abbrev pub is_id_held : Net → Key → Bool
 is_id_held n key = waits_to_ask n key || (not (is_lost n key) && is_key_held (client_now n key) (n.tickets key))
 
+-- the same of an ask of a stranger
+abbrev pub is_id_held_away : Net → Key → Bool
+is_id_held_away n key = waits_to_ask n key || is_key_held (client_now n key) (n.far.tickets key)
+
 -- whether its server may begin an entry: a slot is free, and it does not wait
 abbrev pub is_room : Net → Key → (free : Bool) → Bool
 is_room n key free = free && not (waits_to_serve n key)
@@ -201,6 +256,7 @@ client_restarted n node exact =
       client_clocks = λ m. if nat_eq m node then clock_at n.pace exact else n.client_clocks m;
       restarted = λ m. if nat_eq m node then n.now + 1 else n.restarted m;
       asks_from = λ m. if nat_eq m node then (clock_at n.pace exact).shows + REST + 1 else n.asks_from m;
+      far = record n.far { tickets = λ key. if nat_eq key.client node then None else n.far.tickets key };
     }
 
 -- a node's server restarts, with a new clock: its entries are lost, and it begins entries again once more than KEEP has passed
@@ -211,6 +267,7 @@ server_restarted n node exact store =
       server_clocks = λ m. if nat_eq m node then clock_at n.pace exact else n.server_clocks m;
       serves_from = λ m. if nat_eq m node then (clock_at n.pace exact).shows + KEEP + 1 else n.serves_from m;
       log = Restarted node store ∷ n.log;
+      far = record n.far { entries = λ key. if nat_eq key.server node then None else n.far.entries key };
     }
 
 -- what the transaction's server makes of a request, by its store as it is
@@ -256,6 +313,37 @@ ticks_as_server S model x (key ∷ keys) w = ticks_as_server S model x keys
 abbrev pub ask_made : (S : Type 0) → Rules → World S → Key → Ask → World S
 ask_made S x w key ask = record { net = asked_at x w.net key ask; stores = w.stores }
 
+-- any APDU of a stranger reaches a node's server, or its client
+abbrev pub strays_to_server : (S : Type 0) → StoreModel S → Rules → World S → Key → (free : Bool) → Apdu → World S
+strays_to_server S model x w key free a = serves_away S model w key
+    (server_on_apdu (server_context x key (server_now w.net key)) (service_of S model w key) (w.net.far.entries key) (is_room w.net key free) a)
+
+abbrev pub strays_to_client : (S : Type 0) → Rules → World S → Key → Apdu → Option ClientTransaction → World S
+strays_to_client S x w key a None = w
+strays_to_client S x w key a (Some t) = reacts_away S w key t (client_on_apdu (client_context x key (client_now w.net key)) x.readable t a)
+
+abbrev pub strays : (S : Type 0) → StoreModel S → Rules → World S → Key → (free : Bool) → Apdu → World S
+strays S model x w key free a =
+    if is_from_client a then strays_to_server S model x w key free a else strays_to_client S x w key a (w.net.far.tickets key)
+
+-- an accepted ask of a stranger; no store changes
+abbrev pub asked_away : (S : Type 0) → Rules → World S → Key → Ask → World S
+asked_away S x w key ask = record { net = asked_away_at x w.net key ask; stores = w.stores }
+
+-- ticks of these tickets and entries
+abbrev pub ticks_ticket_away : (S : Type 0) → Rules → World S → Key → Option ClientTransaction → World S
+ticks_ticket_away S x w key None = w
+ticks_ticket_away S x w key (Some t) = reacts_away S w key t (client_ticks (client_context x key (client_now w.net key)) t)
+
+abbrev pub ticks_as_client_away : (S : Type 0) → Rules → List Key → World S → World S
+ticks_as_client_away S x [] w = w
+ticks_as_client_away S x (key ∷ keys) w = ticks_as_client_away S x keys (ticks_ticket_away S x w key (w.net.far.tickets key))
+
+abbrev pub ticks_as_server_away : (S : Type 0) → StoreModel S → Rules → List Key → World S → World S
+ticks_as_server_away S model x [] w = w
+ticks_as_server_away S model x (key ∷ keys) w = ticks_as_server_away S model x keys
+    (serves_away S model w key (server_ticks (server_context x key (server_now w.net key)) (w.net.far.entries key)))
+
 -- whether a ticket's client, whose clock shows so much, is in time to send for it
 abbrev pub is_in_time : (shows : ℕ) → Option ClientTransaction → Bool
 is_in_time shows None = false
@@ -285,6 +373,11 @@ happens S model x w (Change node change) = record { net = notes_change w.net nod
 happens S model x w (RestartClient node exact) = record { net = client_restarted w.net node exact; stores = w.stores }
 happens S model x w (RestartServer node exact store) =
     record { net = server_restarted w.net node exact store; stores = restarted_at S model node store w.stores }
+happens S model x w (Stray key free a) = strays S model x w key free a
+happens S model x w (AskAway key choice whole front rest) =
+    if is_id_held_away w.net key then w
+    else asked_away S x w key (record { first = client_now w.net key; choice = choice; whole = whole; pieces = front ∷ rest })
+happens S model x w (TickAway as_client as_server) = ticks_as_server_away S model x as_server (ticks_as_client_away S x as_client w)
 
 -- the world after these events, in their order
 abbrev pub run : (S : Type 0) → StoreModel S → Rules → List Event → World S → World S
@@ -304,6 +397,14 @@ MakeNoRestart [] = Unit {0}
 MakeNoRestart (RestartClient node exact ∷ es) = ⊥
 MakeNoRestart (RestartServer node exact store ∷ es) = ⊥
 MakeNoRestart (e ∷ es) = MakeNoRestart es
+
+-- in these events there are no strangers
+abbrev pub MakeNoStray : List Event → Type 0
+MakeNoStray [] = Unit {0}
+MakeNoStray (Stray key free a ∷ es) = ⊥
+MakeNoStray (AskAway key choice whole front rest ∷ es) = ⊥
+MakeNoStray (TickAway as_client as_server ∷ es) = ⊥
+MakeNoStray (e ∷ es) = MakeNoStray es
 
 -- each node asks and begins entries at any moment
 pub record NeverRestarted (n : Net) : Type 0 where
@@ -335,6 +436,7 @@ net_start pace clocks =
       log = [];
       asks_from = λ node. 0;
       serves_from = λ node. 0;
+      far = record { numbers = λ key. 0; tickets = λ key. None; entries = λ key. None };
     }
 
 -- the world before its first event, with these opening stores, and clocks of that pace that begin so

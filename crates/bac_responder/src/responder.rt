@@ -1,13 +1,16 @@
 //! The server's end: the calls that bac_node makes. Their contracts are what crates above rest on.
 ghost use Rattle.std.specs.Prelude.{◌≡◌, ◌≢◌, ℕ, ◌<◌, ◌≤◌, ◌↔◌, [], None, count_by, max, IfOk, IsTrue};
+ghost use Rattle.std.specs.Option.{option_map};
 ghost use Rattle.bac_apdu.specs.Views.{apdu_view};
 ghost use Rattle.bac_npdu.specs.Views.{peer_view};
+ghost use Rattle.bac_slots.specs.Slots.{value_at};
 ghost use Rattle.bac_protocol.specs.Context.{Settings as Set};
 ghost use Rattle.bac_protocol.specs.declared.times.TheConstants.{KEEP as KEPT_FOR};
 ghost use Rattle.bac_transaction.specs.Ends.{first_after, is_slot_live, responder_on_apdu, responder_tick};
 ghost use Rattle.bac_transaction.specs.Tables.{IsOrderlyServer};
 ghost use Rattle.bac_transaction.specs.Sends.{Pairwise, IsSent};
-ghost use Rattle.bac_transaction.specs.Views.{settings_view};
+ghost use Rattle.bac_transaction.specs.Keys.{same_key};
+ghost use Rattle.bac_transaction.specs.Views.{peer_key_view, settings_view};
 ghost use Rattle.bac_transaction.specs.Services.{service_of};
 ghost use Rattle.bac_responder.specs.Timers.{LAST_MOMENT};
 ghost use Rattle.bac_responder.specs.Short.{AreRequestsShort};
@@ -90,6 +93,16 @@ impl<S: SlotTable<PeerKey, ServerTransaction> + Drop> Responder<S> {
         ensures { result ≡ self.now.capacity }
     {
         self.aged.table.room()
+    }
+
+    /// The moment at which the entry of a key began, in milliseconds, whether it is live or not; None where it has none.
+    pub fn begin_of(&self, key: &PeerKey) -> Option<u64>
+        ensures { result ≡ option_map (λ e. e.begin) (value_at same_key (peer_key_view key.now) self.now.slots) }
+    {
+        match self.aged.table.get(key) {
+            Some(entry) => Some(entry.begin()),
+            None => None,
+        }
     }
 
     /// A law of each server's end: no entry, live or not, keeps more than 65,535 octets of a request, or more than 65,535 segments. It goes over the table,

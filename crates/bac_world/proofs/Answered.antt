@@ -16,7 +16,7 @@ use Rattle.bac_protocol.specs.Service.{Octets}
 use Rattle.bac_protocol.specs.Service as machine
 use Rattle.bac_protocol.specs.Short.{IsShort}
 use Rattle.bac_protocol.specs.Server as server
-use Rattle.bac_protocol.specs.Server.{performs_so, begins}
+use Rattle.bac_protocol.specs.Server.{performs_so, begins, ServerTransaction}
 use Rattle.bac_transaction.specs.Keys.{PeerKey}
 use Rattle.bac_transaction.specs.Sends.{Datagram, IsSent, to_peer}
 use Rattle.bac_transaction.specs.Meanings.Ending.{Answered}
@@ -28,7 +28,7 @@ use Rattle.bac_world.specs.Node.{Node, Outcome, IsServerTurn, NodeAsks}
 use Rattle.bac_world.specs.Once.{Fact}
 use Rattle.bac_world.specs.World.{World, Copy, Note, Hears, IsAsked, IsDelivered, IsFreshNode, IsCopied, link_at, peer_at}
 use Rattle.bac_world.specs.Examples.{REQUEST, REPLY, STORE, ASKED}
-use Rattle.bac_world.specs.AnsweredRun.{TIME, LIMITS, SETTINGS, link, node, OPENING, LOG, AnsweredRun}
+use Rattle.bac_world.specs.AnsweredRun.{TIME, LIMITS, SETTINGS, link, node, OPENING, LOG, AnsweredRun, StrangerRun}
 
 abbrev pub SERVICE_DATA : Octets
 SERVICE_DATA = 12 ∷ 0 ∷ 0 ∷ 0 ∷ 5 ∷ 25 ∷ 85 ∷ []
@@ -95,7 +95,7 @@ copy from to a =
     record { moment = 0; from = from; to = to; key = record { client = 0; server = 1; invoke_id = 0 }; octets = (datagram (link to) a).octets }
 
 abbrev pub NOTES : List Note
-NOTES = record { key = record { client = 0; server = 1; invoke_id = 0 }; ticket = 0 } ∷ []
+NOTES = record { key = record { client = 0; server = 1; invoke_id = 0 }; ticket = 0; away = None } ∷ []
 
 abbrev pub SECOND : World
 SECOND = record { nodes = ASKED_NODE ∷ node 1 ∷ []; time = TIME; copies = copy 0 1 ASK ∷ []; log = ASKED; notes = NOTES }
@@ -234,10 +234,10 @@ served = record {
     notes = refl;
     sent = copy 1 0 ANSWER ∷ [];
     copies = refl;
-    copied = (answer_copied, tt);
+    copied = inl (record { copy = copy 1 0 ANSWER; rest = []; is = refl; copied = answer_copied; others = refl });
     between = ASKED;
     ended = refl;
-    logged = record { client = 0; number = 0; link = refl; noted = refl; log = refl };
+    logged = inl (record { client = 0; number = 0; link = refl; noted = refl; log = refl });
   };
 }
 
@@ -274,7 +274,7 @@ heard = record {
     notes = refl;
     sent = [];
     copies = refl;
-    copied = tt;
+    copied = refl;
     between = LOG;
     ended = (0, refl, refl);
     logged = refl;
@@ -323,4 +323,74 @@ answered_run = record {
   last = LAST;
   run = (SECOND, inl asked, (THIRD, request_delivered, (LAST, answer_delivered, refl)));
   log = refl;
+}
+
+-- A stranger's request is heard.
+
+no_node : (j : ℕ) → link_at OPENING.nodes j ≡ Some (link 2) → ⊥
+no_node zero e = let is : link 0 ≡ link 2 = cc in cc
+no_node (suc zero) e = let is : link 1 ≡ link 2 = cc in cc
+no_node (suc (suc j)) e = absurd cc
+
+not_own : link 2 ≢ link 1
+not_own e = cc
+
+abbrev STRANGER_NODE : Node
+STRANGER_NODE = record (node 1) { servers = (server_goes 0 (record { slots = []; capacity = 1; serves_from = 0 }) (key 2) (done_by REPLIES)).end }
+
+abbrev STRANGER_ENTRY : ServerTransaction
+STRANGER_ENTRY = record (begins CONTEXT 12 LIMITS (Some SERVICE_DATA)) { state = server.State.Done ANSWER }
+
+abbrev STRANGER_SERVED : Outcome
+STRANGER_SERVED = record
+    { sends = datagram (link 2) ANSWER ∷ []; performed = Some (record { key = key 2; request = REQUEST; reply = REPLY }); ended = []; dropped = None }
+
+abbrev StrangerTurn : machine.Outcome → Type 0
+StrangerTurn o = IsServerTurn (server_goes 0 (record { slots = []; capacity = 1; serves_from = 0 }) (key 2) (done_by o)) 0 (node 1) STRANGER_NODE STRANGER_SERVED
+
+stranger_turn : StrangerTurn REPLIES
+stranger_turn = record {
+  node = refl;
+  sends = (sent (link 2) ANSWER answer_fits answer_short, tt);
+  ended = refl;
+  performed = record { key = refl; what = record { request = spelled; reply = refl; means = (refl, refl) } };
+  dropped = refl;
+}
+
+abbrev STRANGER_WORLD : World
+STRANGER_WORLD = record { nodes = node 0 ∷ STRANGER_NODE ∷ []; time = TIME; copies = []; log = Fact.Served (peer_at (link 2)) 1 0 0 REQUEST REPLY ∷ []; notes = [] }
+
+stranger_served : Hears OPENING 1 (link 2) (datagram (link 1) ASK).octets STRANGER_WORLD
+stranger_served = record {
+  before = node 1;
+  at = refl;
+  after = STRANGER_NODE;
+  outcome = STRANGER_SERVED;
+  on = inr (record {
+    peer = peer_at (link 2);
+    apdu = ASK;
+    foreign = not_own;
+    means = means (link 2) (link 1) ASK ask_fits ask_short;
+    heard = subst StrangerTurn (sym says) stranger_turn;
+  });
+  acts = record {
+    nodes = record { here = refl; others = others_second STRANGER_NODE (node 1) (node 0) };
+    time = refl;
+    notes = refl;
+    sent = [];
+    copies = refl;
+    copied = inr (no_node, refl);
+    between = [];
+    ended = refl;
+    logged = inr (record { stranger = no_node; entry = STRANGER_ENTRY; kept = refl; log = refl });
+  };
+}
+
+pub stranger_run : StrangerRun
+stranger_run = record {
+  octets = (datagram (link 1) ASK).octets;
+  last = STRANGER_WORLD;
+  run = (STRANGER_WORLD, inl (record { stranger = no_node; hears = stranger_served }), refl);
+  log = refl;
+  copies = refl;
 }

@@ -1,6 +1,6 @@
 -- An accepted ask.
-use Rattle.std.proofs.Common.{not, ◌≡◌, ℕ, zero, suc, ◌+◌, ◌<◌, ◌⊎◌, Bool, true, false, ◌&&◌, ◌||◌, List, [], ◌∷◌, ◌++◌, map, length, Option, Some, None}
-use Rattle.std.proofs.Common.{slice_get, if◌then◌else◌, nat_eq, nat_le, nat_lt, refl, sym, ap, subst, inl, inr, ◌∙◌, arith}
+use Rattle.std.proofs.Common.{not, ◌≡◌, ℕ, ◌+◌, ◌<◌, ◌⊎◌, Bool, true, false, ◌&&◌, ◌||◌, List, [], ◌∷◌, ◌++◌, map, length, Option, Some, None}
+use Rattle.std.proofs.Common.{slice_get, if◌then◌else◌, nat_eq, nat_lt, refl, sym, ap, subst, inl, inr, ◌∙◌, arith}
 use Rattle.std.proofs.lemmas.Bool.Decides.{nat_tests}
 use Rattle.bac_apdu.specs.Apdu.{Apdu, Limits}
 use Rattle.bac_service.specs.Values.{Request, choice_of}
@@ -11,7 +11,6 @@ use Rattle.bac_protocol.specs.Context.{Settings, Context}
 use Rattle.bac_protocol.specs.Sizes.{Way, RequestFault, request_way_of}
 use Rattle.bac_protocol.specs.Sizes.Way.{InOne, InSegments}
 use Rattle.bac_protocol.specs.Service.{Octets}
-use Rattle.bac_protocol.specs.declared.times.TheConstants.{REST}
 use Rattle.bac_protocol.specs.Client as machine
 use Rattle.bac_protocol.specs.Client.{Ask, ClientTransaction, asked_ticket, asks, sends_of}
 use Rattle.bac_protocol.specs.Transaction.{Key, Rules, client_context}
@@ -39,10 +38,10 @@ use Rattle.bac_protocol.specs.World.{client_now, server_now, is_lost, is_key_hel
 use Rattle.bac_world.specs.World.{told}
 use Rattle.bac_world.proofs.Bridge.{here_at, there_at}
 use Rattle.bac_protocol.specs.Pace.{Clock}
-use Rattle.bac_world.proofs.Machines.{Sound, counted, asked}
+use Rattle.bac_world.proofs.Machines.{Sound, counted, asked, away_below}
 use Rattle.bac_world.proofs.Pairs.{pairwise_join, append_none}
 use Rattle.bac_world.proofs.Logs.{FactMeans, asks_counted}
-use Rattle.bac_world.proofs.Bridge.{NodeFits, ClientsFit, IsKnown, IsCopyOf, IsGone, TicketFits, key_of, slot_key, copies_of}
+use Rattle.bac_world.proofs.Bridge.{NodeFits, ClientsFit, IsKnown, IsCopyOf, IsGone, TicketFits, key_of, slot_key, copies_of, IsStranger, AwayNoted, out_key, away_more}
 use Rattle.bac_world.proofs.Steps.{Over, Fits, Goes, linked_with, stores_same, decide_number}
 
 -- What an accepted ask is.
@@ -127,7 +126,7 @@ gone_unheld gone now t unheld = record { over = ended_is_silent.unheld now t unh
     both false = unheld
 
 -- a slot that is not held may go
-fits_kept : (gone : Bool) (now : ℕ) (notes : List Note) (i number : ℕ) (o : Option Client) (t : Option ClientTransaction) → TicketFits gone now notes i number o t
+pub fits_kept : (gone : Bool) (now : ℕ) (notes : List Note) (i number : ℕ) (o : Option Client) (t : Option ClientTransaction) → TicketFits gone now notes i number o t
     → TicketFits gone now notes i number (keep (holds now) o) t
 fits_kept gone now notes i number None t h = h
 fits_kept gone now notes i number (Some s) None h = absurd h
@@ -157,7 +156,7 @@ free_kept now None e = refl
 free_kept now (Some s) e = ap (λ b. if b then Some s else None) e
 
 -- another note is nothing to a slot of another client or of an earlier ticket
-fits_noted : (gone : Bool) (now : ℕ) (notes : List Note) (note : Note) (i number : ℕ) (o : Option Client) (t : Option ClientTransaction)
+pub fits_noted : (gone : Bool) (now : ℕ) (notes : List Note) (note : Note) (i number : ℕ) (o : Option Client) (t : Option ClientTransaction)
     → ((s : Client) → o ≡ Some s → (nat_eq note.key.client i && nat_eq note.ticket s.number) ≡ false)
     → TicketFits gone now notes i number o t → TicketFits gone now (note ∷ notes) i number o t
 fits_noted gone now notes note i number None t other h = h
@@ -167,18 +166,18 @@ fits_noted gone now notes note i number (Some s) (Some t) other h = record {
   noted = λ still_open. ap (λ b. if b then Some (length notes) else ask_of i s.number notes) (other s refl) ∙ h.noted still_open;
 }
 
-differ : (a b : ℕ) → (a ≡ b → ⊥) → nat_eq a b ≡ false
+pub differ : (a b : ℕ) → (a ≡ b → ⊥) → nat_eq a b ≡ false
 differ a b ne = go (nat_eq a b) refl
   where
     go : (y : Bool) → nat_eq a b ≡ y → y ≡ false
     go true e = absurd (ne (grind (arith, nat_tests)))
     go false e = refl
 
-and_false : (a b : Bool) → b ≡ false → (a && b) ≡ false
+pub and_false : (a b : Bool) → b ≡ false → (a && b) ≡ false
 and_false true b e = e
 and_false false b e = refl
 
-equal_self : (a : ℕ) → nat_eq a a ≡ true
+pub equal_self : (a : ℕ) → nat_eq a a ≡ true
 equal_self a = grind (arith, nat_tests)
 
 module _ (links : ℕ → Option Octets) (apart : (i j : ℕ) (l : Octets) → links i ≡ Some l → links j ≡ Some l → i ≡ j) (W : ℕ) (x : Rules)
@@ -188,7 +187,7 @@ module _ (links : ℕ → Option Octets) (apart : (i j : ℕ) (l : Octets) → l
       (e : ClientEnd) (h : ClientsFit links apart (here_at n key.client) notes n key.client e)
       (free : is_held_there (here_at n key.client) (value_at same_key (slot_key l key.invoke_id) e.slots) ≡ false) where
     abbrev pub note : Note
-    note = record { key = key; ticket = e.asked }
+    note = record { key = key; ticket = e.asked; away = None }
 
     abbrev m : Net
     m = asked_at x n key ask
@@ -210,7 +209,7 @@ module _ (links : ℕ → Option Octets) (apart : (i j : ℕ) (l : Octets) → l
 
     earlier : (q : PeerKey) (z : Client) → value_at same_key q e.slots ≡ Some z → (nat_eq key.client key.client && nat_eq e.asked z.number) ≡ false
     earlier q z is =
-        let lt = (each_at Client (λ y v. IsKnown links apart y × (v.number < e.asked)) q z e.slots h.known is).1 in
+        let lt = (each_at Client (λ y v. (IsKnown links apart y ⊎ IsStranger links apart y) × (v.number < e.asked)) q z e.slots h.known is).1 in
         and_false (nat_eq key.client key.client) (nat_eq e.asked z.number) (differ e.asked z.number (λ same. omega arith))
 
     own : ask_of key.client e.asked (note ∷ notes) ≡ Some (m.numbers key)
@@ -255,15 +254,29 @@ module _ (links : ℕ → Option Octets) (apart : (i j : ℕ) (l : Octets) → l
         (subst (λ (o : Option ClientTransaction). TicketFits (is_lost n k) (here_at n key.client) (note ∷ notes) key.client (n.numbers k) (keep (holds (here_at n key.client)) (value_at same_key q e.slots)) o)
         (sym (set_other n.tickets key (Some made) k ne)) after)))
 
+    strangers : (q : PeerKey) → IsStranger links apart q
+        → TicketFits false (here_at n key.client) (note ∷ notes) key.client (n.far.numbers (out_key key.client q)) (value_at same_key q ended.slots)
+        (n.far.tickets (out_key key.client q))
+    strangers q g =
+        let other : p ≡ q → ⊥ = λ is. g.none key.server (at ∙ ap (λ (y : PeerKey). Some y.peer.link) is) in
+        let k : Key = out_key key.client q in
+        let look : value_at same_key q ended.slots ≡ keep (holds (here_at n key.client)) (value_at same_key q e.slots) =
+        put_other Client p q (here_at n key.client) client (passing Client (holds (here_at n key.client)) e.slots) other ∙ passing_value Client (holds (here_at n key.client)) q e.slots h.distinct in
+        let before : TicketFits false (here_at n key.client) (note ∷ notes) key.client (n.far.numbers k) (value_at same_key q e.slots) (n.far.tickets k) =
+        fits_noted false (here_at n key.client) notes note key.client (n.far.numbers k) (value_at same_key q e.slots) (n.far.tickets k) (earlier q) (h.strangers q g) in
+        subst (λ (o : Option Client). TicketFits false (here_at n key.client) (note ∷ notes) key.client (n.far.numbers k) o (n.far.tickets k)) (sym look)
+        (fits_kept false (here_at n key.client) (note ∷ notes) key.client (n.far.numbers k) (value_at same_key q e.slots) (n.far.tickets k) before)
+
     pub ask_fits : ClientsFit links apart (here_at n key.client) (note ∷ notes) (asked_at x n key ask) key.client ended
     ask_fits = record {
       distinct = put_distinct Client p (here_at n key.client) client (passing Client (holds (here_at n key.client)) e.slots) (passing_distinct Client (holds (here_at n key.client)) e.slots h.distinct) gone;
-      known = each_put Client (λ y v. IsKnown links apart y × (v.number < e.asked + 1)) p (here_at n key.client) client (passing Client (holds (here_at n key.client)) e.slots)
-          (record { node = key.server; link = l; at = at; peer = refl }, omega arith)
-          (each_passing Client (λ y v. IsKnown links apart y × (v.number < e.asked + 1)) (holds (here_at n key.client)) e.slots
-          (each_so Client (λ y v. IsKnown links apart y × (v.number < e.asked)) (λ y v. IsKnown links apart y × (v.number < e.asked + 1))
+      known = each_put Client (λ y v. (IsKnown links apart y ⊎ IsStranger links apart y) × (v.number < e.asked + 1)) p (here_at n key.client) client (passing Client (holds (here_at n key.client)) e.slots)
+          (inl (record { node = key.server; link = l; at = at; peer = refl }), omega arith)
+          (each_passing Client (λ y v. (IsKnown links apart y ⊎ IsStranger links apart y) × (v.number < e.asked + 1)) (holds (here_at n key.client)) e.slots
+          (each_so Client (λ y v. (IsKnown links apart y ⊎ IsStranger links apart y) × (v.number < e.asked)) (λ y v. (IsKnown links apart y ⊎ IsStranger links apart y) × (v.number < e.asked + 1))
           (λ y v k. (k.0, let lt = k.1 in omega arith)) e.slots h.known));
       found = λ s l' id at'. found s l' id at' (decide_key key (key_of key.client s id));
+      strangers = strangers;
     }
 
     pub others_noted : (j : ℕ) (a : Node) → (j ≡ key.client → ⊥) → NodeFits links apart x (here_at n j) (there_at n j) notes n j a
@@ -289,8 +302,10 @@ module _ (links : ℕ → Option Octets) (apart : (i j : ℕ) (l : Octets) → l
             (sym (set_other n.numbers key n.asks k away))
             (subst (λ (o : Option ClientTransaction). TicketFits (is_lost n k) (here_at n j) (note ∷ notes) j (n.numbers k) (value_at same_key q a.clients.slots) o)
             (sym (set_other n.tickets key (Some made) k away)) before));
+        strangers = λ q g. fits_noted false (here_at n j) notes note j (n.far.numbers (out_key j q)) (value_at same_key q a.clients.slots) (n.far.tickets (out_key j q))
+            (λ z is. ap (λ b. b && nat_eq e.asked z.number) (differ key.client j (λ same. ne (sym same)))) (f.clients.strangers q g);
       };
-      servers = record { distinct = f.servers.distinct; known = f.servers.known; found = f.servers.found };
+      servers = record { distinct = f.servers.distinct; known = f.servers.known; found = f.servers.found; strangers = f.servers.strangers };
     }
 
   -- What it makes of the world.
@@ -324,13 +339,13 @@ module _ (links : ℕ → Option Octets) (apart : (i j : ℕ) (l : Octets) → l
     sound = asked W x bound n h.sound key free (choice_of r) parts.whole parts.front parts.rest
 
     abbrev note' : Note
-    note' = record { key = key; ticket = a.clients.asked }
+    note' = record { key = key; ticket = a.clients.asked; away = None }
 
     abbrev ended' : ClientEnd
     ended' = ended n w.notes h.asks key step.link server_at ask a.clients fits.clients parts.free
 
     notes_is : w'.notes ≡ note' ∷ w.notes
-    notes_is = step.notes ∙ ap (λ (y : Accepted). record { key = key_of i s y.invoke_id; ticket = y.ticket } ∷ w.notes) parts.is
+    notes_is = step.notes ∙ ap (λ (y : Accepted). record { key = key_of i s y.invoke_id; ticket = y.ticket; away = None } ∷ w.notes) parts.is
 
     node_is : step.after ≡ record a { latest = told w i; clients = ended' }
     node_is = step.asks.node ∙ ap (λ (y : Accepted). record a { latest = told w i; clients = y.end }) parts.is
@@ -342,7 +357,7 @@ module _ (links : ℕ → Option Octets) (apart : (i j : ℕ) (l : Octets) → l
       asks = fits.asks;
       serves = fits.serves;
       clients = ask_fits n w.notes h.asks key step.link server_at ask a.clients fits.clients parts.free;
-      servers = record { distinct = fits.servers.distinct; known = fits.servers.known; found = fits.servers.found };
+      servers = record { distinct = fits.servers.distinct; known = fits.servers.known; found = fits.servers.found; strangers = fits.servers.strangers };
     }
 
     nodes : (j : ℕ) (b : Node) → slice_get w'.nodes j ≡ Some b → ((j ≡ i) ⊎ (j ≡ i → ⊥)) → NodeFits links apart x (here_at n j) (there_at n j) (note' ∷ w.notes) after j b
@@ -386,6 +401,8 @@ module _ (links : ℕ → Option Octets) (apart : (i j : ℕ) (l : Octets) → l
       linked = linked_with links w.nodes w'.nodes i a step.after step.nodes step.at (ap (λ (d : Node). d.link) node_is) h.linked;
       nodes = λ j b at. subst (λ (l : List Note). NodeFits links apart x (here_at n j) (there_at n j) l after j b) (sym notes_is) (nodes j b at (decide_number j i));
       noted = λ k t at. ap (newest k) notes_is ∙ noted k t at (decide_key key k);
+      away = subst (λ (l : List Note). AwayNoted l after) (sym notes_is) (λ k t is.
+          away_more (n.far.numbers k) note' w.notes (subst (λ (y : ℕ). n.far.numbers k < y) h.asks (away_below W x bound n h.sound k t is)) ∙ h.away k t is);
       posts = subst (λ (l : List Copy). Pairwise (IsCopyOf links apart) after.posts l) (sym step.copies)
           (pairwise_join (IsCopyOf links apart) n.posts (map (post_of key n.now) sends) w.copies step.sent h.posts copies);
       log = subst (λ (lg : List Fact). Pairwise FactMeans after.log lg) (sym step.log)

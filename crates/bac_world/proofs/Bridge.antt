@@ -1,6 +1,9 @@
 -- What a world on datagrams and bac_protocol's net have in common.
-use Rattle.std.proofs.Common.{◌≡◌, ℕ, zero, suc, ◌<◌, ◌&&◌, not, Bool, true, false, List, [], ◌∷◌, map, length, Option, Some, None, slice_get}
-use Rattle.std.proofs.Common.{if◌then◌else◌, refl, sym, ap, subst, ◌∙◌, ◌≤◌}
+use Rattle.std.proofs.Common.{◌≡◌, ℕ, zero, suc, ◌<◌, ◌++◌, ◌⊎◌, inl, inr, Bool, true, false, List, [], ◌∷◌, map, length, Option, Some, None, slice_get}
+use Rattle.std.proofs.Common.{if◌then◌else◌, refl, sym, ap, subst, ◌∙◌, ◌≤◌, ◌&&◌, not, nat_eq, arith}
+use Rattle.std.specs.Prelude.{is_some}
+use Rattle.std.proofs.lemmas.Bool.Decides.{nat_tests}
+use Rattle.bac_world.specs.World.{is_away}
 use Rattle.bac_apdu.specs.Apdu.{Apdu}
 use Rattle.bac_apdu.specs.Spelling.{SpellsApdu, is_confirmed_request}
 use Rattle.bac_apdu.proofs.Apdus.{apdu_one}
@@ -24,6 +27,8 @@ use Rattle.bac_transaction.specs.Ends.{Client, ClientEnd, ServerEnd, kept}
 use Rattle.bac_world.specs.Node.{Node}
 use Rattle.bac_world.specs.World.{World, Copy, Note, link_at, newest, ask_of, peer_at, transaction_of, IsCopied, count_of, later}
 use Rattle.bac_transaction.proofs.KeyedSlots.{EachSlot}
+use Rattle.bac_world.proofs.Numbers.{number}
+use Rattle.bac_world.specs.World.{AreCopied}
 use Rattle.bac_world.proofs.Machines.{Sound}
 use Rattle.bac_world.proofs.Logs.{FactMeans}
 
@@ -67,6 +72,51 @@ TicketFits gone now notes client number (Some s) (Some t) = SlotFits notes clien
 abbrev pub EntryFits : (now : ℕ) → (a b : Option ServerTransaction) → Type 0
 EntryFits now a b = live_entry now a ≡ live_entry now b
 
+-- the key of a stranger's transaction at that node
+abbrev pub stranger_key : (node : ℕ) → PeerKey → Key
+stranger_key i p = key_of (number p.peer) i p.invoke_id
+
+-- and of a node's ask of one
+abbrev pub out_key : (node : ℕ) → PeerKey → Key
+out_key i p = key_of i (number p.peer) p.invoke_id
+
+-- the asks of strangers are noted as such
+abbrev pub AwayNoted : List Note → Net → Type 0
+AwayNoted notes n = (key : Key) (t : ClientTransaction) → n.far.tickets key ≡ Some t → is_away (n.far.numbers key) notes ≡ true
+
+-- an ask with a number below is what it was
+pub away_more : (number : ℕ) (note : Note) (notes : List Note) → number < length notes → is_away number (note ∷ notes) ≡ is_away number notes
+away_more number note notes lt = go (nat_eq number (length notes)) refl
+  where
+    go : (b : Bool) → nat_eq number (length notes) ≡ b → (if b then is_some note.away else is_away number notes) ≡ is_away number notes
+    go true e = absurd (let is : number ≡ length notes = grind (arith, nat_tests) in omega arith)
+    go false e = refl
+
+newest_below : (key : Key) (notes : List Note) (number : ℕ) → newest key notes ≡ Some number → number < length notes
+newest_below key [] number e = absurd cc
+newest_below key (n ∷ notes) number e = go (not (is_some n.away) && machine.same_key n.key key) (newest_below key notes number) e
+  where
+    go : (b : Bool) → (newest key notes ≡ Some number → number < length notes) → (if b then Some (length notes) else newest key notes) ≡ Some number
+        → number < length (n ∷ notes)
+    go true again e = let is : length notes ≡ number = cc in omega arith
+    go false again e = let lt = again e in omega arith
+
+-- the newest ask of a transaction of nodes is none of a stranger
+pub newest_near : (key : Key) (notes : List Note) (number : ℕ) → newest key notes ≡ Some number → is_away number notes ≡ false
+newest_near key [] number e = absurd cc
+newest_near key (n ∷ notes) number e = go (newest_near key notes number) (is_some n.away) refl (machine.same_key n.key key) e
+  where
+    at_first : (b : Bool) → b ≡ false → is_some n.away ≡ b → number ≡ length notes → (if nat_eq number (length notes) then is_some n.away else is_away number notes) ≡ false
+    at_first b is same here =
+        let t : nat_eq number (length notes) ≡ true = grind (arith, nat_tests) in
+        ap (λ c. if c then is_some n.away else is_away number notes) t ∙ same ∙ is
+
+    go : (newest key notes ≡ Some number → is_away number notes ≡ false) → (a : Bool) → is_some n.away ≡ a → (b : Bool) → (if not a && b then Some (length notes) else newest key notes) ≡ Some number
+        → is_away number (n ∷ notes) ≡ false
+    go again false is true e = at_first false refl is (let same : length notes ≡ number = cc in sym same)
+    go again false is false e = away_more number n notes (newest_below key notes number e) ∙ again e
+    go again true is b e = away_more number n notes (newest_below key notes number e) ∙ again e
+
 abbrev pub IsBetween : (up : Bool) → Key → (from to : ℕ) → Type 0
 IsBetween true key from to = (from ≡ key.client) × (to ≡ key.server)
 IsBetween false key from to = (from ≡ key.server) × (to ≡ key.client)
@@ -79,17 +129,23 @@ module _ (links : ℕ → Option Octets) (apart : (i j : ℕ) (l : Octets) → l
     pub at : links node ≡ Some link
     pub peer : p.peer ≡ peer_at link
 
+  -- or of a stranger
+  pub record IsStranger (p : PeerKey) : Type 0 where
+    pub none : (k : ℕ) → links k ≡ Some p.peer.link → ⊥
+
   pub record ClientsFit (now : ℕ) (notes : List Note) (n : Net) (i : ℕ) (e : ClientEnd) : Type 0 where
     pub distinct : IsDistinct same_key e.slots
-    pub known : EachSlot Client (λ p s. IsKnown p × (s.number < e.asked)) e.slots
+    pub known : EachSlot Client (λ p s. (IsKnown p ⊎ IsStranger p) × (s.number < e.asked)) e.slots
     pub found : (s : ℕ) (l : Octets) (id : ℕ) → links s ≡ Some l
         → TicketFits (is_lost n (key_of i s id)) now notes i (n.numbers (key_of i s id)) (value_at same_key (slot_key l id) e.slots) (n.tickets (key_of i s id))
+    pub strangers : (p : PeerKey) → IsStranger p → TicketFits false now notes i (n.far.numbers (out_key i p)) (value_at same_key p e.slots) (n.far.tickets (out_key i p))
 
   pub record ServersFit (now : ℕ) (n : Net) (i : ℕ) (e : ServerEnd) : Type 0 where
     pub distinct : IsDistinct same_key e.slots
-    pub known : EachSlot ServerTransaction (λ p d. IsKnown p) e.slots
+    pub known : EachSlot ServerTransaction (λ p d. IsKnown p ⊎ IsStranger p) e.slots
     pub found : (c : ℕ) (l : Octets) (id : ℕ) → links c ≡ Some l
         → EntryFits now (value_at same_key (slot_key l id) e.slots) (n.entries (key_of c i id))
+    pub strangers : (p : PeerKey) → IsStranger p → EntryFits now (value_at same_key p e.slots) (n.far.entries (stranger_key i p))
 
   pub record NodeFits (x : Rules) (here there : ℕ) (notes : List Note) (n : Net) (i : ℕ) (a : Node) : Type 0 where
     pub settings : a.settings ≡ x.settings i
@@ -121,6 +177,7 @@ module _ (links : ℕ → Option Octets) (apart : (i j : ℕ) (l : Octets) → l
     pub linked : (i : ℕ) → link_at w.nodes i ≡ links i
     pub nodes : (i : ℕ) (a : Node) → slice_get w.nodes i ≡ Some a → NodeFits x (here_at n i) (there_at n i) w.notes n i a
     pub noted : (key : Key) (t : ClientTransaction) → n.tickets key ≡ Some t → newest key w.notes ≡ Some (n.numbers key)
+    pub away : AwayNoted w.notes n
     pub posts : Pairwise IsCopyOf n.posts w.copies
     pub log : Pairwise FactMeans n.log w.log
     pub sound : Sound x n
@@ -196,3 +253,57 @@ module _ (links : ℕ → Option Octets) (apart : (i j : ℕ) (l : Octets) → l
     copies_of (a ∷ sends) [] cs own s k = absurd s
     copies_of (a ∷ sends) (d ∷ ds) [] own s k = absurd k
     copies_of (a ∷ sends) (d ∷ ds) (c ∷ cs) own s k = (copy_of a d c own.0.0 own.0.1 s.0 k.0, copies_of sends ds cs own.1 s.1 k.1)
+
+  -- Which datagrams become copies.
+
+  module _ (nodes : List Node) (linked : (k : ℕ) → link_at nodes k ≡ links k) (now i : ℕ) where
+    -- all that goes to a node
+    pub copied_to : (j : ℕ) (peer : PeerView) → links j ≡ Some peer.link → (sends : List Apdu) (ds : List Datagram) (cs : List Copy)
+        → Pairwise IsSent (to_all peer sends) ds → AreCopied nodes now i ds cs → Pairwise (IsCopied nodes now i) ds cs
+    copied_to j peer at [] [] cs s k = subst (λ (l : List Copy). Pairwise (IsCopied nodes now i) [] l) (sym k) tt
+    copied_to j peer at [] (d ∷ ds) cs s k = absurd s
+    copied_to j peer at (a ∷ sends) [] cs s k = absurd s
+    copied_to j peer at (a ∷ sends) (d ∷ ds) cs s (inl k) =
+        subst (λ (l : List Copy). Pairwise (IsCopied nodes now i) (d ∷ ds) l) (sym k.is) (k.copied, copied_to j peer at sends ds k.rest s.1 k.others)
+    copied_to j peer at (a ∷ sends) (d ∷ ds) cs s (inr k) = absurd (k.0 j (linked j ∙ at ∙ ap Some (sym s.0.link)))
+
+    -- nothing that goes to a stranger
+    pub copied_none : (p : PeerKey) → IsStranger p → (sends : List Apdu) (ds : List Datagram) (cs : List Copy)
+        → Pairwise IsSent (to_all p.peer sends) ds → AreCopied nodes now i ds cs → cs ≡ []
+    copied_none p g [] [] cs s k = k
+    copied_none p g [] (d ∷ ds) cs s k = absurd s
+    copied_none p g (a ∷ sends) [] cs s k = absurd s
+    copied_none p g (a ∷ sends) (d ∷ ds) cs s (inl k) =
+        absurd (g.none k.copy.to (sym (linked k.copy.to) ∙ k.copied.to ∙ ap Some s.0.link))
+    copied_none p g (a ∷ sends) (d ∷ ds) cs s (inr k) = copied_none p g sends ds cs s.1 k.1
+
+-- where each becomes a copy
+pub each_copied : (nodes : List Node) (now i : ℕ) (ds : List Datagram) (cs : List Copy) → Pairwise (IsCopied nodes now i) ds cs → AreCopied nodes now i ds cs
+each_copied nodes now i [] [] k = refl
+each_copied nodes now i [] (c ∷ cs) k = absurd k
+each_copied nodes now i (d ∷ ds) [] k = absurd k
+each_copied nodes now i (d ∷ ds) (c ∷ cs) k = inl (record { copy = c; rest = cs; is = refl; copied = k.0; others = each_copied nodes now i ds cs k.1 })
+
+-- datagrams of two lists become copies one list after the other
+pub record AreParted (nodes : List Node) (now i : ℕ) (ds es : List Datagram) (cs : List Copy) : Type 0 where
+  pub front : List Copy
+  pub rest : List Copy
+  pub is : cs ≡ front ++ rest
+  pub first : AreCopied nodes now i ds front
+  pub second : AreCopied nodes now i es rest
+
+pub copied_split : (nodes : List Node) (now i : ℕ) (ds es : List Datagram) (cs : List Copy) → AreCopied nodes now i (ds ++ es) cs
+    → AreParted nodes now i ds es cs
+copied_split nodes now i [] es cs k = record { front = []; rest = cs; is = refl; first = refl; second = k }
+copied_split nodes now i (d ∷ ds) es cs (inl k) =
+    let again = copied_split nodes now i ds es k.rest k.others in
+    record {
+      front = k.copy ∷ again.front;
+      rest = again.rest;
+      is = k.is ∙ ap (λ (l : List Copy). k.copy ∷ l) again.is;
+      first = inl (record { copy = k.copy; rest = again.front; is = refl; copied = k.copied; others = again.first });
+      second = again.second;
+    }
+copied_split nodes now i (d ∷ ds) es cs (inr k) =
+    let again = copied_split nodes now i ds es cs k.1 in
+    record { front = again.front; rest = again.rest; is = again.is; first = inr (k.0, again.first); second = again.second }

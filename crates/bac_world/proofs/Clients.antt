@@ -1,5 +1,5 @@
 -- A copy reaches its client.
-use Rattle.std.proofs.Common.{◌≡◌, ℕ, ◌-◌, ◌≤◌, ◌<◌, true, false, List, [], ◌++◌, Option, Some, None, slice_get}
+use Rattle.std.proofs.Common.{◌≡◌, ℕ, ◌-◌, ◌≤◌, ◌<◌, ◌⊎◌, true, false, List, [], ◌++◌, Option, Some, None, slice_get}
 use Rattle.std.proofs.Common.{refl, sym, ap, subst, ◌∙◌}
 use Rattle.bac_apdu.specs.Apdu.{Apdu}
 use Rattle.bac_service.specs.Services.{reads_reply}
@@ -10,7 +10,7 @@ use Rattle.bac_protocol.specs.Wire.{is_from_client}
 use Rattle.bac_protocol.specs.Own.{invoke_id_of}
 use Rattle.bac_protocol.specs.Client as client
 use Rattle.bac_protocol.specs.Client.{ClientTransaction, is_idle, client_on_apdu}
-use Rattle.bac_protocol.specs.Server.{live_entry}
+use Rattle.bac_protocol.specs.Server.{ServerTransaction, live_entry}
 use Rattle.bac_protocol.specs.Transaction.{Key, Rules, client_context}
 use Rattle.bac_protocol.specs.World.{Net, Post, client_acts}
 use Rattle.bac_protocol.specs.Straight.{is_ended}
@@ -28,7 +28,7 @@ use Rattle.bac_transaction.specs.Ends.{Client, ClientEnd, ClientTurn, Transactio
 use Rattle.bac_transaction.specs.Ends.TransactionSlot.{Open, Closed}
 use Rattle.bac_world.specs.Node.{Node, Outcome, IsClientTurn}
 use Rattle.bac_world.specs.Once.{Fact, IsOnce}
-use Rattle.bac_world.specs.World.{World, Copy, stores_of, Acts, AreLogged, AreEnded, IsCopied}
+use Rattle.bac_world.specs.World.{World, Copy, stores_of, Acts, AreLogged, AreEnded, AreCopied, peer_at}
 use Rattle.bac_transaction.proofs.KeyedSlots.{EachSlot, with_same, with_other, with_distinct, each_with, each_at}
 use Rattle.bac_protocol.specs.World.{client_now, server_now, is_lost, is_key_held}
 use Rattle.bac_world.specs.World.{told}
@@ -38,7 +38,7 @@ use Rattle.bac_world.proofs.Leads.Leads.{Here, Hears}
 use Rattle.bac_world.proofs.Machines.{gets_at_client, may_arrive}
 use Rattle.bac_world.proofs.Pairs.{pairwise_none, append_none}
 use Rattle.bac_world.proofs.Logs.{FactMeans}
-use Rattle.bac_world.proofs.Bridge.{IsKnown, IsCopyOf, TicketFits, key_of, slot_key}
+use Rattle.bac_world.proofs.Bridge.{IsKnown, IsStranger, IsCopyOf, TicketFits, key_of, slot_key, stranger_key, copied_to}
 use Rattle.bac_world.proofs.Steps.{Over, Fits, Goes, acts_over, once_same, stores_same}
 use Rattle.bac_world.proofs.Hearing.{Reached, reached_none, reacts, ticket_at, closed_idle}
 
@@ -55,11 +55,11 @@ module _ (links : ℕ → Option Octets) (apart : (i j : ℕ) (l : Octets) → l
   pub arrived : (w w' : World) (n : Net) → Over links apart W x w n → (i : ℕ) (a b : Node) (o : Outcome) → slice_get w.nodes i ≡ Some a
       → (acts : Acts w i b o w') → o.performed ≡ None
       → (e : ClientEnd) → b ≡ record a { latest = told w i; clients = e } → e.asks_from ≡ a.clients.asks_from
-      → IsDistinct same_key e.slots → EachSlot Client (λ p s. IsKnown links apart p × (s.number < e.asked)) e.slots
+      → IsDistinct same_key e.slots → EachSlot Client (λ p s. (IsKnown links apart p ⊎ IsStranger links apart p) × (s.number < e.asked)) e.slots
       → (m : Net) → Reached links apart W x w i n (λ p. value_at same_key p e.slots) (w.copies ++ acts.sent) acts.between m
       → Goes links apart W x w w' m
   arrived w w' n h i a b o at acts quiet e b_is from distinct known m r = record {
-    bridge = acts_over links apart W x w w' n m h i a b o at acts r.alike r.asks r.noted (ap (λ (d : Node). d.link) b_is)
+    bridge = acts_over links apart W x w w' n m h i a b o at acts r.alike r.asks r.noted r.away (ap (λ (d : Node). d.link) b_is)
         (subst (λ (d : Node). Fits links apart W x w n m i d) (sym b_is) made)
         r.others r.posts (subst (λ (lg : List Fact). Pairwise FactMeans m.log lg) (sym log_is) r.log) r.sound;
     once = λ opening once. subst (λ (lg : List Fact). IsOnce opening lg (stores_of w'.nodes)) (sym log_is)
@@ -76,16 +76,17 @@ module _ (links : ℕ → Option Octets) (apart : (i j : ℕ) (l : Octets) → l
         link = fits.link;
         asks = from ∙ fits.asks ∙ sym (ap (λ (f : ℕ → ℕ). f i) r.asks_from);
         serves = fits.serves ∙ sym (ap (λ (f : ℕ → ℕ). f i) r.serves_from);
-        clients = record { distinct = distinct; known = known; found = r.found };
+        clients = record { distinct = distinct; known = known; found = r.found; strangers = r.strangers };
         servers = record {
           distinct = fits.servers.distinct;
           known = fits.servers.known;
           found = λ c l id at'. fits.servers.found c l id at' ∙ ap (λ f. live_entry (there_at n i) (f (key_of c i id))) (sym r.entries);
+          strangers = λ p g. fits.servers.strangers p g ∙ ap (λ (f : Key → Option ServerTransaction). live_entry (there_at n i) (f (stranger_key i p))) (sym r.far_entries);
         };
       }
 
       log_is : w'.log ≡ acts.between
-      log_is = subst (λ d. AreLogged w.nodes w.notes i d acts.between w'.log) quiet acts.logged
+      log_is = subst (λ d. AreLogged w.nodes w.notes i b d acts.between w'.log) quiet acts.logged
 
   -- a step in which nothing goes out and nothing ends
   pub quiet : (w w' : World) (n : Net) → Over links apart W x w n → (i : ℕ) (a b : Node) (o : Outcome) → slice_get w.nodes i ≡ Some a
@@ -102,8 +103,7 @@ module _ (links : ℕ → Option Octets) (apart : (i j : ℕ) (l : Octets) → l
       look p = value_at same_key p a.clients.slots
 
       sent_is : acts.sent ≡ []
-      sent_is = pairwise_none (IsCopied w.nodes w.time.now i) acts.sent
-          (subst (λ (ds : List Datagram). Pairwise (IsCopied w.nodes w.time.now i) ds acts.sent) sends acts.copied)
+      sent_is = subst (λ (ds : List Datagram). AreCopied w.nodes w.time.now i ds acts.sent) sends acts.copied
 
       copies_is : w.copies ++ acts.sent ≡ w.copies
       copies_is = ap (λ (l : List Copy). w.copies ++ l) sent_is ∙ append_none w.copies
@@ -194,11 +194,12 @@ module _ (links : ℕ → Option Octets) (apart : (i j : ℕ) (l : Octets) → l
           (with_same Client q (client_after (here_at n key.client) k t r) (record { number = k; held = Open t }) a.clients.slots found)
           (λ y ne. with_other Client q y (client_after (here_at n key.client) k t r) a.clients.slots ne)
           o.sends acts'.sent turn.sends
-          (subst (λ (tm : ℕ). Pairwise (IsCopied w.nodes tm key.client) o.sends acts'.sent) (sym h.now) acts'.copied)
+          (copied_to links apart w.nodes h.linked n.now key.client key.server (peer_at l) server_at (client.sends_of r) o.sends acts'.sent turn.sends
+          (subst (λ (tm : ℕ). AreCopied w.nodes tm key.client o.sends acts'.sent) (sym h.now) acts'.copied))
           o.ended acts'.between turn.ended acts'.ended))
         where
           Known : PeerKey → Client → Type 0
-          Known y z = IsKnown links apart y × (z.number < a.clients.asked)
+          Known y z = (IsKnown links apart y ⊎ IsStranger links apart y) × (z.number < a.clients.asked)
 
           open_is : n.tickets key ≡ Some t
           open_is = (ticket_at (is_lost n key) (here_at n key.client) w.notes key.client (n.numbers key) k t (n.tickets key)

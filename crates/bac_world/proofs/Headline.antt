@@ -1,5 +1,5 @@
 -- After every run of a fresh world the log of values is right with the stores.
-use Rattle.std.proofs.Common.{◌≡◌, ℕ, ◌+◌, ◌-◌, ◌≤◌, ◌<◌, Bool, true, false, ◌&&◌, List, [], ◌∷◌, length, Option, Some, None, slice_get}
+use Rattle.std.proofs.Common.{◌⊎◌, ◌≡◌, ℕ, ◌+◌, ◌-◌, ◌≤◌, ◌<◌, Bool, true, false, ◌&&◌, List, [], ◌∷◌, length, Option, Some, None, slice_get}
 use Rattle.std.proofs.Common.{nat_le, nat_eq, if◌then◌else◌, refl, sym, ap, subst, inl, inr, ◌∙◌, arith}
 use Rattle.std.proofs.lemmas.Bool.Decides.{nat_tests}
 use Rattle.std.specs.Option.{option_map}
@@ -27,23 +27,29 @@ use Rattle.bac_transaction.specs.Ends.{Client}
 use Rattle.bac_transaction.specs.Services.{service_of}
 use Rattle.bac_world.specs.Node.{Node, Outcome, IsDropped, IsHeard, IsHeardBy, NodeOn, with_change}
 use Rattle.bac_world.specs.Once.{Fact, Stores, IsOnce, MayChange, with_changed}
-use Rattle.bac_world.specs.World.{World, Time, passes, Event, Copy, Note, link_at, stores_of, newest, later, peer_at, Acts, DeliversIf, Delivers, HearsNoise}
+use Rattle.bac_world.specs.World.{World, Time, passes, Event, Copy, Note, link_at, stores_of, newest, later, peer_at, Acts, DeliversIf, Delivers, HearsNoise, HearsStranger}
 use Rattle.bac_world.specs.World.{IsChanged, WorldStep, WorldRun, IsFresh, IsBounded}
-use Rattle.bac_world.specs.World.Event.{Ask, Deliver, Noise, Tick, Advance, Change, Restart}
+use Rattle.bac_world.specs.World.Event.{Ask, AskAway, Deliver, Noise, Stray, Tick, Advance, Change, Restart}
 use Rattle.bac_transaction.proofs.KeyedSlots.{EachSlot}
 use Rattle.bac_protocol.specs.World.{client_now, server_now, is_lost, is_key_held}
 use Rattle.bac_world.specs.World.{told}
 use Rattle.bac_world.proofs.Bridge.{here_at, there_at}
 use Rattle.bac_protocol.specs.Pace.{Pace, IsTimely, clock_at, goes_on}
 use Rattle.std.proofs.Common.{not}
-use Rattle.bac_world.proofs.Machines.{passed, changes, starts, client_later, server_later}
+use Rattle.bac_world.proofs.Machines.{passed, changes, starts, client_later, server_later, served_apart_of}
 use Rattle.bac_world.proofs.Pairs.{IsPaired, pairwise_get}
 use Rattle.bac_world.proofs.Logs.{FactMeans}
-use Rattle.bac_world.proofs.Bridge.{IsKnown, NodeFits, IsCopyOf, IsBetween, IsGone, TicketFits, EntryFits, key_of, slot_key, framed_means, later_alike}
+use Rattle.bac_world.proofs.Bridge.{IsKnown, IsStranger, NodeFits, IsCopyOf, IsBetween, IsGone, TicketFits, EntryFits, AwayNoted, key_of, slot_key, stranger_key, out_key}
+use Rattle.bac_world.proofs.Bridge.{framed_means, later_alike}
 use Rattle.bac_world.proofs.Steps.{Over, Next, each_with, linked_with}
 use Rattle.bac_world.proofs.Serving.{serves}
+use Rattle.bac_world.proofs.StrangersHeard.{hears_stranger}
 use Rattle.bac_world.proofs.Clients.{hears, quiet}
 use Rattle.bac_world.proofs.Asking.{asks_over}
+use Rattle.bac_world.specs.Claims.{AreServedApart}
+use Rattle.bac_world.proofs.StrangersApart.{spaced, served_as}
+use Rattle.bac_world.proofs.Numbers.{number}
+use Rattle.bac_world.proofs.StrangersAsked.{asks_away_over}
 use Rattle.bac_world.proofs.Ticking.{tick_over}
 use Rattle.bac_world.proofs.Restarting.{restarted_next}
 
@@ -118,7 +124,17 @@ module _ (links : ℕ → Option Octets) (apart : (i j : ℕ) (l : Octets) → l
     where
       on : NodeOn (told w i) from octets d.hears.before d.hears.after d.hears.outcome → Next links apart W x w w'
       on (inl z) = dropped w w' n h i d.hears.before d.hears.after d.hears.outcome d.hears.at d.hears.acts from octets z
-      on (inr z) = absurd (d.noise z.peer z.apdu z.means)
+      on (inr z) = absurd (d.meaningless z.peer z.apdu z.means)
+
+  stray : (w w' : World) (n : Net) → Over links apart W x w n → (i : ℕ) (from octets : Octets) → HearsStranger w i from octets w' → Next links apart W x w w'
+  stray w w' n h i from octets d = on d.hears.on
+    where
+      on : NodeOn (told w i) from octets d.hears.before d.hears.after d.hears.outcome → Next links apart W x w w'
+      on (inl z) = dropped w w' n h i d.hears.before d.hears.after d.hears.outcome d.hears.at d.hears.acts from octets z
+      on (inr z) =
+          let next = hears_stranger links apart W x bound readable w w' n h i from d.stranger d.hears.before d.hears.after d.hears.outcome d.hears.at
+          d.hears.acts octets z in
+          (next.0, next.1)
 
   -- Time.
 
@@ -159,6 +175,9 @@ module _ (links : ℕ → Option Octets) (apart : (i j : ℕ) (l : Octets) → l
         found = λ s l id at'. ticket_later (is_lost n (key_of i s id)) (here_at n i) (goes_on n.pace by (own i) (n.client_clocks i)).shows
             (client_later W x bound n h.sound (key_of i s id) by (own i)) w.notes i (n.numbers (key_of i s id))
             (value_at same_key (slot_key l id) a.clients.slots) (n.tickets (key_of i s id)) (f.clients.found s l id at');
+        strangers = λ p g. ticket_later false (here_at n i) (goes_on n.pace by (own i) (n.client_clocks i)).shows
+            (client_later W x bound n h.sound (out_key i p) by (own i)) w.notes i (n.far.numbers (out_key i p))
+            (value_at same_key p a.clients.slots) (n.far.tickets (out_key i p)) (f.clients.strangers p g);
       };
       servers = record {
         distinct = f.servers.distinct;
@@ -166,9 +185,13 @@ module _ (links : ℕ → Option Octets) (apart : (i j : ℕ) (l : Octets) → l
         found = λ c l id at'. entry_later (there_at n i) (goes_on n.pace by (own i) (n.server_clocks i)).shows
             (server_later W x bound n h.sound (key_of c i id) by (own i)) (value_at same_key (slot_key l id) a.servers.slots) (n.entries (key_of c i id))
             (f.servers.found c l id at');
+        strangers = λ p g. entry_later (there_at n i) (goes_on n.pace by (own i) (n.server_clocks i)).shows
+            (server_later W x bound n h.sound (stranger_key i p) by (own i)) (value_at same_key p a.servers.slots) (n.far.entries (stranger_key i p))
+            (f.servers.strangers p g);
       };
     };
     noted = h.noted;
+    away = h.away;
     posts = h.posts;
     log = h.log;
     sound = passed W x bound n by own own h.sound;
@@ -187,8 +210,8 @@ module _ (links : ℕ → Option Octets) (apart : (i j : ℕ) (l : Octets) → l
     link = f.link;
     asks = f.asks;
     serves = f.serves;
-    clients = record { distinct = f.clients.distinct; known = f.clients.known; found = f.clients.found };
-    servers = record { distinct = f.servers.distinct; known = f.servers.known; found = f.servers.found };
+    clients = record { distinct = f.clients.distinct; known = f.clients.known; found = f.clients.found; strangers = f.clients.strangers };
+    servers = record { distinct = f.servers.distinct; known = f.servers.known; found = f.servers.found; strangers = f.servers.strangers };
   }
 
   module _ (w w' : World) (n : Net) (h : Over links apart W x w n) (i : ℕ) (c : at_node.Change) (s : IsChanged w i c w') where
@@ -206,6 +229,7 @@ module _ (links : ℕ → Option Octets) (apart : (i j : ℕ) (l : Octets) → l
           (other_store (here_at n i) (there_at n i) w.notes n i [] i s.before (changed c s.before.store) (h.nodes i s.before s.at))
           (λ k b there. other_store (here_at n k) (there_at n k) w.notes n i [] k b b.store (h.nodes k b there)) j a at);
       noted = λ key t is. ap (newest key) s.notes ∙ h.noted key t is;
+      away = subst (λ (l : List Note). AwayNoted l n) (sym s.notes) h.away;
       posts = subst (λ (l : List Copy). Pairwise (IsCopyOf links apart) n.posts l) (sym s.copies) h.posts;
       log = subst (λ (l : List Fact). Pairwise FactMeans (notes_change n i []).log l) (sym s.log) (refl, h.log);
       sound = changes W x bound n i [] h.sound;
@@ -246,10 +270,14 @@ module _ (links : ℕ → Option Octets) (apart : (i j : ℕ) (l : Octets) → l
   step_over : (w w' : World) (n : Net) → Over links apart W x w n → (e : Event) → WorldStep x.overtake w e w' → Next links apart W x w w'
   step_over w w' n h (Ask client server limits r) (inl s) = asks_over links apart W x bound w w' n h client server limits r s
   step_over w w' n h (Ask client server limits r) (inr s) = same_over w w' n h s.same
+  step_over w w' n h (AskAway client peer limits r) (inl s) = let next = asks_away_over links apart W x bound w w' n h client peer limits r s in (next.0, next.1)
+  step_over w w' n h (AskAway client peer limits r) (inr s) = same_over w w' n h s.same
   step_over w w' n h (Deliver number) s = delivered w w' n h number s.copy s.there (nat_le (w.time.now - s.copy.moment) w.time.pace.life)
       (nat_le (later s.copy.key number w.copies) x.overtake) refl refl s.goes
   step_over w w' n h (Noise node from octets) (inl s) = noise w w' n h node from octets s
   step_over w w' n h (Noise node from octets) (inr s) = same_over w w' n h s.same
+  step_over w w' n h (Stray node from octets) (inl s) = stray w w' n h node from octets s
+  step_over w w' n h (Stray node from octets) (inr s) = same_over w w' n h s.same
   step_over w w' n h (Tick node) s = tick_over links apart W x bound w w' n h node s
   step_over w w' n h (Advance by own) s = subst (λ (u : World). Next links apart W x w u) (sym s) (advanced w n h by own)
   step_over w w' n h (Change node change) s = changed_next w w' n h node change s
@@ -295,17 +323,21 @@ fresh_over W overtake w h timely b = record {
     serves = f.serves_from;
     clients = record {
       distinct = subst (IsDistinct same_key) (sym f.slots) tt;
-      known = subst (EachSlot Client (λ p s. IsKnown (link_at w.nodes) h.apart p × (s.number < a.clients.asked))) (sym f.slots) tt;
+      known = subst (EachSlot Client (λ p s. (IsKnown (link_at w.nodes) h.apart p ⊎ IsStranger (link_at w.nodes) h.apart p) × (s.number < a.clients.asked))) (sym f.slots) tt;
       found = λ s l id at'. subst (λ slots. TicketFits false (clock_at w.time.pace (w.time.clocks i).exact).shows w.notes i 0 (value_at same_key (slot_key l id) slots) None) (sym f.slots)
+          (record { over = refl; free = refl });
+      strangers = λ p g. subst (λ slots. TicketFits false (clock_at w.time.pace (w.time.clocks i).exact).shows w.notes i 0 (value_at same_key p slots) None) (sym f.slots)
           (record { over = refl; free = refl });
     };
     servers = record {
       distinct = subst (IsDistinct same_key) (sym f.entries) tt;
-      known = subst (EachSlot ServerTransaction (λ p d. IsKnown (link_at w.nodes) h.apart p)) (sym f.entries) tt;
+      known = subst (EachSlot ServerTransaction (λ p d. IsKnown (link_at w.nodes) h.apart p ⊎ IsStranger (link_at w.nodes) h.apart p)) (sym f.entries) tt;
       found = λ c l id at'. subst (λ slots. EntryFits (clock_at w.time.pace (w.time.clocks i).exact).shows (value_at same_key (slot_key l id) slots) None) (sym f.entries) refl;
+      strangers = λ p g. subst (λ slots. EntryFits (clock_at w.time.pace (w.time.clocks i).exact).shows (value_at same_key p slots) None) (sym f.entries) refl;
     };
   };
   noted = λ key t at. absurd cc;
+  away = λ key t at. absurd cc;
   posts = subst (λ (l : List Copy). Pairwise (IsCopyOf (link_at w.nodes) h.apart) [] l) (sym h.copies) tt;
   log = subst (λ (l : List Fact). Pairwise FactMeans [] l) (sym h.log) tt;
   sound = starts W (rules_of overtake w) (rules_bounded W overtake w b) w.time.pace timely (λ i. (w.time.clocks i).exact);
@@ -318,3 +350,24 @@ headline W overtake w w' h timely b events run =
     (fresh_over W overtake w h timely b)
     (subst (λ (l : List Fact). IsOnce (stores_of w.nodes) l (stores_of w.nodes)) (sym h.log) (λ node. refl))
     run).2
+
+pub apart_in_run : (W overtake : ℕ) (w w' : World) → IsFresh w → IsTimely w.time.pace → IsBounded W overtake w → (events : List Event)
+    → WorldRun overtake w events w' → AreServedApart w'
+apart_in_run W overtake w w' h timely b events run = record {
+  spaced = spaced r.0.log w'.log r.1.log known.spaced;
+  waited = λ i node at q d begin request reply has.
+      let served = served_as i q i d begin request reply r.0.log w'.log r.1.log has in
+      let le = known.waited (number q) i d begin served.request served.reply served.has in
+      subst (λ (from : ℕ). from ≤ begin) (sym (r.1.nodes i node at).serves) le;
+}
+  where
+    bounded : claims.IsBounded W (rules_of overtake w)
+    bounded = rules_bounded W overtake w b
+
+    r : (m : Net) × Over (link_at w.nodes) h.apart W (rules_of overtake w) w' m × IsOnce (stores_of w.nodes) w'.log (stores_of w'.nodes)
+    r = run_over (link_at w.nodes) h.apart W (rules_of overtake w) bounded refl (stores_of w.nodes) events w w'
+        (net_start w.time.pace (λ i. (w.time.clocks i).exact)) (fresh_over W overtake w h timely b)
+        (subst (λ (l : List Fact). IsOnce (stores_of w.nodes) l (stores_of w.nodes)) (sym h.log) (λ node. refl)) run
+
+    known : claims.AreServedApart r.0
+    known = served_apart_of W (rules_of overtake w) bounded r.0 r.1.sound

@@ -22,8 +22,7 @@ use Rattle.bac_transaction.specs.Ends.TransactionSlot.{Open, Closed}
 use Rattle.bac_world.specs.Node.{Node}
 use Rattle.bac_world.specs.Once.{Fact, Stores, IsOnce, MayEnd}
 use Rattle.bac_world.specs.World.{World, Note, Copy, link_at, AreEnded, ask_of, newest, peer_at, IsCopied}
-use Rattle.bac_protocol.specs.World.{client_now, server_now, is_lost, is_key_held}
-use Rattle.bac_world.specs.World.{told}
+use Rattle.bac_protocol.specs.World.{client_now, is_lost}
 use Rattle.bac_world.proofs.Bridge.{here_at, there_at}
 use Rattle.bac_protocol.specs.Pace.{Clock}
 use Rattle.bac_world.proofs.Steps.{IsAlike}
@@ -31,9 +30,26 @@ use Rattle.bac_world.proofs.Leads.{Leads}
 use Rattle.bac_world.proofs.Leads.Leads.{Here}
 use Rattle.bac_world.proofs.Machines.{Sound, orderly, asked_of}
 use Rattle.bac_world.proofs.Pairs.{pairwise_join}
-use Rattle.bac_world.proofs.Logs.{FactMeans, may_end, unended}
-use Rattle.bac_world.proofs.Bridge.{NodeFits, IsCopyOf, TicketFits, key_of, slot_key, copies_of}
+use Rattle.bac_world.proofs.Logs.{FactMeans, may_end, unended, unended_away, asked_away_as}
+use Rattle.bac_world.proofs.Bridge.{NodeFits, IsStranger, IsCopyOf, TicketFits, AwayNoted, key_of, slot_key, out_key, copies_of, newest_near}
+use Rattle.bac_world.proofs.Numbers.{number_one}
+use Rattle.bac_protocol.specs.World.{client_acts_away}
+use Rattle.bac_protocol.specs.Transaction.{ended_away}
+use Rattle.bac_protocol.specs.Client.{Ask}
+use Rattle.bac_world.specs.World.{is_away, ending_fact}
 use Rattle.bac_world.proofs.Steps.{Over}
+
+-- two keys of asks of strangers are one where the slots' keys are
+pub out_one : (i : ℕ) (p q : PeerKey) → out_key i p ≡ out_key i q → p ≡ q
+out_one i p q is =
+    let peer : p.peer ≡ q.peer = number_one p.peer q.peer (ap (λ (k : Key). k.server) is) in
+    λ j. record { peer = peer j; invoke_id = (is j).invoke_id }
+
+pub ask_after : (now : ℕ) (t : ClientTransaction) (r : client.Reaction) → (client.after now t r).ask ≡ t.ask
+ask_after now t client.Reaction.Stays = refl
+ask_after now t (client.Reaction.GoesOn phase sends) = refl
+ask_after now t (client.Reaction.Repeats phase sends) = refl
+ask_after now t (client.Reaction.Ends sends how) = refl
 
 -- A slot and its ticket.
 
@@ -70,11 +86,15 @@ module _ (links : ℕ → Option Octets) (apart : (i j : ℕ) (l : Octets) → l
     pub alike : IsAlike m n
     pub asks : m.asks ≡ n.asks
     pub entries : m.entries ≡ n.entries
+    pub far_entries : m.far.entries ≡ n.far.entries
+    pub away : AwayNoted w.notes m
     pub asks_from : m.asks_from ≡ n.asks_from
     pub serves_from : m.serves_from ≡ n.serves_from
     pub noted : (key : Key) (t : ClientTransaction) → m.tickets key ≡ Some t → newest key w.notes ≡ Some (m.numbers key)
     pub found : (s : ℕ) (l : Octets) (id : ℕ) → links s ≡ Some l
         → TicketFits (is_lost m (key_of i s id)) (here_at n i) w.notes i (m.numbers (key_of i s id)) (look (slot_key l id)) (m.tickets (key_of i s id))
+    pub strangers : (p : PeerKey) → IsStranger links apart p
+        → TicketFits false (here_at n i) w.notes i (m.far.numbers (out_key i p)) (look p) (m.far.tickets (out_key i p))
     pub others : (j : ℕ) (a : Node) → (j ≡ i → ⊥) → NodeFits links apart x (here_at n j) (there_at n j) w.notes n j a → NodeFits links apart x (here_at n j) (there_at n j) w.notes m j a
     pub posts : Pairwise (IsCopyOf links apart) m.posts all
     pub log : Pairwise FactMeans m.log facts
@@ -88,6 +108,9 @@ module _ (links : ℕ → Option Octets) (apart : (i j : ℕ) (l : Octets) → l
     alike = record { now = refl; pace = refl; here = refl; there = refl };
     asks = refl;
     entries = refl;
+    far_entries = refl;
+    away = h.away;
+    strangers = fits.clients.strangers;
     asks_from = refl;
     serves_from = refl;
     noted = h.noted;
@@ -107,6 +130,10 @@ module _ (links : ℕ → Option Octets) (apart : (i j : ℕ) (l : Octets) → l
     alike = h.alike;
     asks = h.asks;
     entries = h.entries;
+    far_entries = h.far_entries;
+    away = h.away;
+    strangers = λ p g. subst (λ (o : Option Client). TicketFits false (here_at n i) w.notes i (m.far.numbers (out_key i p)) o (m.far.tickets (out_key i p)))
+        (same p) (h.strangers p g);
     asks_from = h.asks_from;
     serves_from = h.serves_from;
     noted = h.noted;
@@ -172,6 +199,11 @@ module _ (links : ℕ → Option Octets) (apart : (i j : ℕ) (l : Octets) → l
         (subst (λ (o : Option ClientTransaction). TicketFits (is_lost m (key_of key.client s id)) (here_at n key.client) w.notes key.client (m.numbers (key_of key.client s id)) (look (slot_key l' id)) o)
         (sym (set_other m.tickets key made (key_of key.client s id) ne)) (h.found s l' id at))
 
+    strangers : (y : PeerKey) → IsStranger links apart y → TicketFits false (here_at n key.client) w.notes key.client (m.far.numbers (out_key key.client y)) (look' y)
+        (m.far.tickets (out_key key.client y))
+    strangers y g = subst (λ (o : Option Client). TicketFits false (here_at n key.client) w.notes key.client (m.far.numbers (out_key key.client y)) o
+        (m.far.tickets (out_key key.client y))) (sym (away y (λ e. g.none key.server (to_at ∙ ap (λ (z : PeerKey). Some z.peer.link) e)))) (h.strangers y g)
+
     others : (j : ℕ) (a : Node) → (j ≡ key.client → ⊥) → NodeFits links apart x (here_at n j) (there_at n j) w.notes m j a
         → NodeFits links apart x (here_at n j) (there_at n j) w.notes (client_acts m key t r) j a
     others j a ne f = record {
@@ -185,8 +217,9 @@ module _ (links : ℕ → Option Octets) (apart : (i j : ℕ) (l : Octets) → l
         found = λ s l' id at.
             subst (λ (o : Option ClientTransaction). TicketFits (is_lost m (key_of j s id)) (here_at n j) w.notes j (m.numbers (key_of j s id)) (value_at same_key (slot_key l' id) a.clients.slots) o)
             (sym (set_other m.tickets key made (key_of j s id) (λ e. ne (sym (ap (λ (k : Key). k.client) e))))) (f.clients.found s l' id at);
+        strangers = f.clients.strangers;
       };
-      servers = record { distinct = f.servers.distinct; known = f.servers.known; found = f.servers.found };
+      servers = record { distinct = f.servers.distinct; known = f.servers.known; found = f.servers.found; strangers = f.servers.strangers };
     }
 
     -- its ending, if any, enters the log
@@ -207,7 +240,8 @@ module _ (links : ℕ → Option Octets) (apart : (i j : ℕ) (l : Octets) → l
         let mine : ask_of key.client f.ticket w.notes ≡ Some (m.numbers key) =
         ap (λ (k : ℕ). ask_of key.client k w.notes) finished.0.ticket ∙ is.1 in
         let num : logged.0 ≡ m.numbers key = let e : Some logged.0 ≡ Some (m.numbers key) = sym logged.1 ∙ mine in cc in
-        let log_is : log' ≡ Fact.Ended (m.numbers key) f.how ∷ log = logged.2 ∙ ap (λ (k : ℕ). Fact.Ended k f.how ∷ log) num in
+        let log_is : log' ≡ Fact.Ended (m.numbers key) f.how ∷ log = logged.2 ∙ ap (λ (k : ℕ). ending_fact (is_away k w.notes) k f.how ∷ log) num
+        ∙ ap (λ (z : Bool). ending_fact z (m.numbers key) f.how ∷ log) (newest_near key w.notes (m.numbers key) (h.noted key t is.0)) in
         let may : MayEnd (m.numbers key) f.how log =
         may_end (m.numbers key) key.client key.server (request_of t.ask) m.log log h.log right.2 (asked_of W x bound m h.sound key t is.0)
         how f.how finished.0.how right.0 in
@@ -229,6 +263,9 @@ module _ (links : ℕ → Option Octets) (apart : (i j : ℕ) (l : Octets) → l
           alike = record { now = h.alike.now; pace = h.alike.pace; here = h.alike.here; there = h.alike.there };
           asks = h.asks;
           entries = h.entries;
+          far_entries = h.far_entries;
+          away = h.away;
+          strangers = λ y g. strangers y g;
           asks_from = h.asks_from;
           serves_from = h.serves_from;
           noted = λ k u at. noted k u at (decide_key key k);
@@ -242,4 +279,126 @@ module _ (links : ℕ → Option Octets) (apart : (i j : ℕ) (l : Octets) → l
           once = end.once;
           sound = sound;
           leads = (goes is.0).1;
+        }
+
+  -- One open ticket of an ask of a stranger goes on.
+
+  module _ (bound : IsBounded W x) (w : World) (n : Net) (i : ℕ) (p : PeerKey) (g : IsStranger links apart p)
+      (look look' : PeerKey → Option Client) (copies : List Copy) (log : List Fact) (m : Net) (h : Reached w i n look copies log m)
+      (number : ℕ) (t : ClientTransaction) (there : look p ≡ Some (record { number = number; held = Open t })) (r : client.Reaction)
+      (goes : m.far.tickets (out_key i p) ≡ Some t → Sound x (client_acts_away m (out_key i p) t r) × Leads x n (client_acts_away m (out_key i p) t r))
+      (here : look' p ≡ Some (client_after (here_at n i) number t r))
+      (others_look : (q : PeerKey) → (p ≡ q → ⊥) → look' q ≡ look q) where
+    abbrev fkey : Key
+    fkey = out_key i p
+
+    abbrev fmade : Option ClientTransaction
+    fmade = Some (client.after (client_now m (out_key i p)) t r)
+
+    far_is : (m.far.tickets (out_key i p) ≡ Some t) × (ask_of i number w.notes ≡ Some (m.far.numbers (out_key i p)))
+    far_is = ticket_at false (here_at n i) w.notes i (m.far.numbers (out_key i p)) number t (m.far.tickets (out_key i p))
+        (subst (λ (o : Option Client). TicketFits false (here_at n i) w.notes i (m.far.numbers (out_key i p)) o (m.far.tickets (out_key i p))) there
+        (h.strangers p g))
+
+    far_sound : Sound x (client_acts_away m (out_key i p) t r)
+    far_sound = (goes far_is.0).0
+
+    far_fit : TicketFits false (here_at n i) w.notes i (m.far.numbers (out_key i p)) (look' p) (set_at m.far.tickets (out_key i p) (Some (client.after (client_now m (out_key i p)) t r)) (out_key i p))
+    far_fit = subst (λ (o : Option Client). TicketFits false (here_at n i) w.notes i (m.far.numbers (out_key i p)) o (set_at m.far.tickets fkey fmade fkey)) (sym here)
+        (subst (λ (o : Option ClientTransaction). TicketFits false (here_at n i) w.notes i (m.far.numbers (out_key i p)) (Some (client_after (here_at n i) number t r)) o)
+        (sym (set_same m.far.tickets fkey fmade))
+        (record { held = ap (λ (tm : ℕ). kept (client.after tm t r)) (sym (ap (λ (f : ℕ → Clock). (f i).shows) h.alike.here)); noted = λ f. far_is.1 }))
+
+    far_strangers : (q : PeerKey) → IsStranger links apart q → ((out_key i p ≡ out_key i q) ⊎ (out_key i p ≡ out_key i q → ⊥))
+        → TicketFits false (here_at n i) w.notes i (m.far.numbers (out_key i q)) (look' q) (set_at m.far.tickets (out_key i p) (Some (client.after (client_now m (out_key i p)) t r)) (out_key i q))
+    far_strangers q f (inl e) = subst (λ (y : PeerKey). TicketFits false (here_at n i) w.notes i (m.far.numbers (out_key i y)) (look' y)
+        (set_at m.far.tickets (out_key i p) (Some (client.after (client_now m (out_key i p)) t r)) (out_key i y))) (out_one i p q e) far_fit
+    far_strangers q f (inr ne) =
+        subst (λ (o : Option Client). TicketFits false (here_at n i) w.notes i (m.far.numbers (out_key i q)) o
+        (set_at m.far.tickets fkey fmade (out_key i q))) (sym (others_look q (λ e. ne (ap (out_key i) e))))
+        (subst (λ (o : Option ClientTransaction). TicketFits false (here_at n i) w.notes i (m.far.numbers (out_key i q)) (look q) o)
+        (sym (set_other m.far.tickets fkey fmade (out_key i q) ne)) (h.strangers q f))
+
+    far_found : (s : ℕ) (l : Octets) (id : ℕ) → links s ≡ Some l
+        → TicketFits (is_lost m (key_of i s id)) (here_at n i) w.notes i (m.numbers (key_of i s id)) (look' (slot_key l id)) (m.tickets (key_of i s id))
+    far_found s l id at = subst (λ (o : Option Client). TicketFits (is_lost m (key_of i s id)) (here_at n i) w.notes i (m.numbers (key_of i s id)) o (m.tickets (key_of i s id)))
+        (sym (others_look (slot_key l id) (λ e. g.none s (at ∙ ap (λ (z : PeerKey). Some z.peer.link) (sym e))))) (h.found s l id at)
+
+    far_away : (k : Key) (u : ClientTransaction) → ((out_key i p ≡ k) ⊎ (out_key i p ≡ k → ⊥)) → set_at m.far.tickets (out_key i p) (Some (client.after (client_now m (out_key i p)) t r)) k ≡ Some u
+        → is_away (m.far.numbers k) w.notes ≡ true
+    far_away k u (inl e) at = subst (λ (y : Key). is_away (m.far.numbers y) w.notes ≡ true) e (h.away fkey t far_is.0)
+    far_away k u (inr ne) at = h.away k u (sym (set_other m.far.tickets fkey fmade k ne) ∙ at)
+
+    far_others : (j : ℕ) (a : Node) → (j ≡ i → ⊥) → NodeFits links apart x (here_at n j) (there_at n j) w.notes m j a
+        → NodeFits links apart x (here_at n j) (there_at n j) w.notes (client_acts_away m (out_key i p) t r) j a
+    far_others j a ne f = record {
+      settings = f.settings;
+      link = f.link;
+      asks = f.asks;
+      serves = f.serves;
+      clients = record {
+        distinct = f.clients.distinct;
+        known = f.clients.known;
+        found = f.clients.found;
+        strangers = λ q k.
+            subst (λ (o : Option ClientTransaction). TicketFits false (here_at n j) w.notes j (m.far.numbers (out_key j q)) (value_at same_key q a.clients.slots) o)
+            (sym (set_other m.far.tickets fkey fmade (out_key j q) (λ e. ne (sym (ap (λ (y : Key). y.client) e))))) (f.clients.strangers q k);
+      };
+      servers = record { distinct = f.servers.distinct; known = f.servers.known; found = f.servers.found; strangers = f.servers.strangers };
+    }
+
+    record FarEnds (facts : List octets.Fact) (log' : List Fact) : Type 0 where
+      means : Pairwise FactMeans facts log'
+      once : (opening stores : Stores) → IsOnce opening w.log stores → IsOnce opening log' stores
+
+    far_ends : (o : Option machine.Ending) (fs : List EndedView) (log' : List Fact) → Pairwise IsEndedView (ended_with number t.ask.choice o) fs
+        → AreEnded w.notes i fs log log' → IsOrderly (ended_away (m.far.numbers (out_key i p)) o m.log) → FarEnds (ended_away (m.far.numbers (out_key i p)) o m.log) log'
+    far_ends None [] log' finished logged right = record {
+      means = subst (λ (lg : List Fact). Pairwise FactMeans m.log lg) (sym logged) h.log;
+      once = λ opening stores once. subst (λ (lg : List Fact). IsOnce opening lg stores) (sym logged) (h.once opening stores once);
+    }
+    far_ends None (f ∷ fs) log' finished logged right = absurd finished
+    far_ends (Some how) [] log' finished logged right = absurd finished
+    far_ends (Some how) (f ∷ k ∷ fs) log' finished logged right = absurd finished.1
+    far_ends (Some how) (f ∷ []) log' finished logged right =
+        let mine : ask_of i f.ticket w.notes ≡ Some (m.far.numbers fkey) =
+        ap (λ (k : ℕ). ask_of i k w.notes) finished.0.ticket ∙ far_is.1 in
+        let num : logged.0 ≡ m.far.numbers fkey = let e : Some logged.0 ≡ Some (m.far.numbers fkey) = sym logged.1 ∙ mine in cc in
+        let log_is : log' ≡ Fact.EndedAway (m.far.numbers fkey) f.how ∷ log = logged.2 ∙ ap (λ (k : ℕ). ending_fact (is_away k w.notes) k f.how ∷ log) num
+        ∙ ap (λ (z : Bool). ending_fact z (m.far.numbers fkey) f.how ∷ log) (h.away fkey t far_is.0) in
+        record {
+          means = subst (λ (lg : List Fact). Pairwise FactMeans (octets.Fact.EndedAway (m.far.numbers fkey) how ∷ m.log) lg) (sym log_is) (refl, h.log);
+          once = λ opening stores once. subst (λ (lg : List Fact). IsOnce opening lg stores) (sym log_is) (
+            stores,
+            (
+              asked_away_as (m.far.numbers fkey) right.0.0 right.0.1 right.0.2 m.log log h.log right.0.3,
+              unended_away (m.far.numbers fkey) m.log log h.log right.1,
+              λ node. refl,
+            ),
+            h.once opening stores once,
+          );
+        }
+
+    pub reacts_stranger : (fs : List EndedView) (log' : List Fact) → Pairwise IsEndedView (ended_with number t.ask.choice (client.ending_of r)) fs
+        → AreEnded w.notes i fs log log'
+        → Reached w i n look' copies log' (client_acts_away m (out_key i p) t r)
+    reacts_stranger fs log' finished logged =
+        let end = far_ends (client.ending_of r) fs log' finished logged (orderly W x bound (client_acts_away m fkey t r) far_sound) in
+        record {
+          alike = record { now = h.alike.now; pace = h.alike.pace; here = h.alike.here; there = h.alike.there };
+          asks = h.asks;
+          entries = h.entries;
+          far_entries = h.far_entries;
+          asks_from = h.asks_from;
+          serves_from = h.serves_from;
+          noted = h.noted;
+          away = λ k u at. far_away k u (decide_key fkey k) at;
+          found = far_found;
+          strangers = λ q f. far_strangers q f (decide_key fkey (out_key i q));
+          others = λ j a ne f. far_others j a ne (h.others j a ne f);
+          posts = h.posts;
+          log = end.means;
+          once = end.once;
+          sound = far_sound;
+          leads = (goes far_is.0).1;
         }

@@ -5,7 +5,8 @@ use Rattle.bac_protocol.specs.Client as client
 use Rattle.bac_protocol.specs.Client.{ClientTransaction}
 use Rattle.bac_protocol.specs.Server as server
 use Rattle.bac_protocol.specs.Transaction.{Rules, Key, client_context, server_context}
-use Rattle.bac_protocol.specs.World.{Net, Post, client_now, server_now, client_acts, server_acts, is_deliverable}
+use Rattle.bac_protocol.specs.World.{Net, Post, client_now, server_now, client_acts, server_acts, server_acts_away, client_acts_away, is_deliverable}
+use Rattle.bac_apdu.specs.Apdu.{Apdu}
 
 pub data Leads (x : Rules) (from : Net) : Net → Type 0 where
   Here : Leads x from from
@@ -16,3 +17,9 @@ pub data Leads (x : Rules) (from : Net) : Net → Type 0 where
       → Leads x from (client_acts n key t (client.client_ticks (client_context x key (client_now n key)) t))
   TicksEntry : (n : Net) (key : Key) → Leads x from n
       → Leads x from (server_acts n key (server.server_ticks (server_context x key (server_now n key)) (n.entries key)))
+  TicksEntryAway : (n : Net) (key : Key) → Leads x from n
+      → Leads x from (server_acts_away n key (server.server_ticks (server_context x key (server_now n key)) (n.far.entries key)))
+  StraysToClient : (n : Net) (key : Key) (t : ClientTransaction) (a : Apdu) → Leads x from n → is_from_client a ≡ false → n.far.tickets key ≡ Some t
+      → Leads x from (client_acts_away n key t (client.client_on_apdu (client_context x key (client_now n key)) x.readable t a))
+  TicksTicketAway : (n : Net) (key : Key) (t : ClientTransaction) → Leads x from n → n.far.tickets key ≡ Some t
+      → Leads x from (client_acts_away n key t (client.client_ticks (client_context x key (client_now n key)) t))

@@ -16,7 +16,7 @@ use Rattle.bac_world.specs.Node.{Node, Outcome, IsHeardBy, NodeOn, NodeTick, Nod
 use Rattle.bac_world.specs.Once.{HasNoRestart}
 use Rattle.bac_world.specs.World.{World, Event, Copy, IsWithNode, Hears, DeliversIf, is_deliverable, peer_at}
 use Rattle.bac_world.specs.World.{WorldStep, WorldRun, RunsOn, MakeNoRestart, MakeRequestsAlone, NeverRestarted, IsFresh}
-use Rattle.bac_world.specs.World.Event.{Ask, Deliver, Noise, Tick, Advance, Change, Restart}
+use Rattle.bac_world.specs.World.Event.{Ask, AskAway, Deliver, Noise, Stray, Tick, Advance, Change, Restart}
 use Rattle.bac_world.specs.World.{told}
 use Rattle.bac_world.proofs.Steps.{decide_number}
 use Rattle.bac_world.proofs.Asking.{accepted_is}
@@ -56,10 +56,10 @@ tick_stays : (now : ℕ) (a b : Node) (o : Outcome) → NodeTick now a b o → S
 tick_stays now a b o t =
     record { asks = ap (λ (n : Node). n.clients.asks_from) t.node; serves = ap (λ (n : Node). n.servers.serves_from) t.node }
 
-asks_stay : (now : ℕ) (l : Octets) (limits : Limits) (r : Request) (a b : Node) (accepted : Accepted) (ds : List Datagram)
-    → NodeAsks now (peer_at l) limits r a b accepted ds → Stays a b
-asks_stay now l limits r a b accepted ds k =
-    let parts = accepted_is a.settings now (peer_at l) (choice_of r) k.octets a.clients accepted limits k.accepted in
+asks_stay : (now : ℕ) (peer : PeerView) (limits : Limits) (r : Request) (a b : Node) (accepted : Accepted) (ds : List Datagram)
+    → NodeAsks now peer limits r a b accepted ds → Stays a b
+asks_stay now peer limits r a b accepted ds k =
+    let parts = accepted_is a.settings now peer (choice_of r) k.octets a.clients accepted limits k.accepted in
     record {
       asks = ap (λ (n : Node). n.clients.asks_from) k.node ∙ ap (λ (y : Accepted). y.end.asks_from) parts.is;
       serves = ap (λ (n : Node). n.servers.serves_from) k.node;
@@ -108,11 +108,16 @@ delivers_lived false w c w' same = λ i. subst (λ (u : World). LiveOn w.nodes u
 
 step_lived : (overtake : ℕ) (w w' : World) (e : Event) → WorldStep overtake w e w' → (i : ℕ) → RunsOn i (e ∷ []) → LiveOn w.nodes w'.nodes i
 step_lived overtake w w' (Ask client server limits r) (inl s) i on = with_lived w.nodes w'.nodes client s.before s.after s.at s.nodes
-    (asks_stay (told w client) s.link limits r s.before s.after s.accepted s.sends s.asks) i
+    (asks_stay (told w client) (peer_at s.link) limits r s.before s.after s.accepted s.sends s.asks) i
 step_lived overtake w w' (Ask client server limits r) (inr s) i on = subst (λ (u : World). LiveOn w.nodes u.nodes i) (sym s.same) (same_lived w.nodes i)
+step_lived overtake w w' (AskAway client peer limits r) (inl s) i on = with_lived w.nodes w'.nodes client s.before s.after s.at s.nodes
+    (asks_stay (told w client) peer limits r s.before s.after s.accepted s.sends s.asks) i
+step_lived overtake w w' (AskAway client peer limits r) (inr s) i on = subst (λ (u : World). LiveOn w.nodes u.nodes i) (sym s.same) (same_lived w.nodes i)
 step_lived overtake w w' (Deliver number) s i on = delivers_lived (is_deliverable overtake w.time.pace.life w.time.now number w.copies s.copy) w s.copy w' s.goes i
 step_lived overtake w w' (Noise node from octets) (inl s) i on = hears_lived w w' node from octets s.hears i
 step_lived overtake w w' (Noise node from octets) (inr s) i on = subst (λ (u : World). LiveOn w.nodes u.nodes i) (sym s.same) (same_lived w.nodes i)
+step_lived overtake w w' (Stray node from octets) (inl s) i on = hears_lived w w' node from octets s.hears i
+step_lived overtake w w' (Stray node from octets) (inr s) i on = subst (λ (u : World). LiveOn w.nodes u.nodes i) (sym s.same) (same_lived w.nodes i)
 step_lived overtake w w' (Tick node) s i on =
     with_lived w.nodes w'.nodes node s.before s.after s.at s.acts.nodes (tick_stays (told w node) s.before s.after s.outcome s.tick) i
 step_lived overtake w w' (Advance by own) s i on = subst (λ (u : World). LiveOn w.nodes u.nodes i) (sym s) (same_lived w.nodes i)
@@ -124,8 +129,10 @@ step_lived overtake w w' (Restart node exact store) s i on = other_lived w.nodes
 
 first_on : (i : ℕ) (e : Event) (es : List Event) → RunsOn i (e ∷ es) → RunsOn i (e ∷ []) × RunsOn i es
 first_on i (Ask client server limits r) es h = (tt, h)
+first_on i (AskAway client peer limits r) es h = (tt, h)
 first_on i (Deliver number) es h = (tt, h)
 first_on i (Noise node from octets) es h = (tt, h)
+first_on i (Stray node from octets) es h = (tt, h)
 first_on i (Tick node) es h = (tt, h)
 first_on i (Advance by own) es h = (tt, h)
 first_on i (Change node c) es h = (tt, h)
@@ -145,8 +152,10 @@ run_lived overtake (e ∷ es) w w' run i on b at =
 each_on : (i : ℕ) (es : List Event) → MakeNoRestart es → RunsOn i es
 each_on i [] h = tt
 each_on i (Ask client server limits r ∷ es) h = each_on i es h
+each_on i (AskAway client peer limits r ∷ es) h = each_on i es h
 each_on i (Deliver number ∷ es) h = each_on i es h
 each_on i (Noise node from octets ∷ es) h = each_on i es h
+each_on i (Stray node from octets ∷ es) h = each_on i es h
 each_on i (Tick node ∷ es) h = each_on i es h
 each_on i (Advance by own ∷ es) h = each_on i es h
 each_on i (Change node c ∷ es) h = each_on i es h
@@ -155,17 +164,28 @@ each_on i (Restart node exact store ∷ es) h = absurd h
 -- The log of a run without restarts.
 
 quiet_step : (overtake : ℕ) (w w' : World) (e : Event) → MakeRequestsAlone (e ∷ []) → WorldStep overtake w e w' → HasNoRestart w.log → HasNoRestart w'.log
-quiet_step = after_step HasNoRestart (λ n c s r log p. p) (λ n r q log p. p) (λ n how log p. p)
+quiet_step = after_step HasNoRestart (record {
+  asked = λ n c s r log p. p;
+  performed = λ n r q log p. p;
+  ended = λ n how log p. p;
+  served = λ q i d b r y log p. p;
+  asked_away = λ n c q r log p. p;
+  ended_away = λ n how log p. p;
+})
 
 quiet_run : (overtake : ℕ) (events : List Event) (w w' : World) → WorldRun overtake w events w' → MakeNoRestart events → HasNoRestart w.log
     → HasNoRestart w'.log
 quiet_run overtake [] w w' run calm none = subst (λ (u : World). HasNoRestart u.log) (sym run) none
 quiet_run overtake (Ask client server limits r ∷ es) w w' run calm none = quiet_run overtake es run.0 w' run.2 calm
     (quiet_step overtake w run.0 (Ask client server limits r) tt run.1 none)
+quiet_run overtake (AskAway client peer limits r ∷ es) w w' run calm none = quiet_run overtake es run.0 w' run.2 calm
+    (quiet_step overtake w run.0 (AskAway client peer limits r) tt run.1 none)
 quiet_run overtake (Deliver number ∷ es) w w' run calm none = quiet_run overtake es run.0 w' run.2 calm
     (quiet_step overtake w run.0 (Deliver number) tt run.1 none)
 quiet_run overtake (Noise node from octets ∷ es) w w' run calm none = quiet_run overtake es run.0 w' run.2 calm
     (quiet_step overtake w run.0 (Noise node from octets) tt run.1 none)
+quiet_run overtake (Stray node from octets ∷ es) w w' run calm none = quiet_run overtake es run.0 w' run.2 calm
+    (quiet_step overtake w run.0 (Stray node from octets) tt run.1 none)
 quiet_run overtake (Tick node ∷ es) w w' run calm none = quiet_run overtake es run.0 w' run.2 calm
     (quiet_step overtake w run.0 (Tick node) tt run.1 none)
 quiet_run overtake (Advance by own ∷ es) w w' run calm none = quiet_run overtake es run.0 w' run.2 calm

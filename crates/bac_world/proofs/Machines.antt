@@ -1,5 +1,5 @@
 -- Nets of machines that moves lead to: what is known of them, and each move by itself.
-use Rattle.std.proofs.Common.{◌≡◌, ℕ, ◌+◌, ◌-◌, ◌≤◌, ◌<◌, Bool, true, false, ◌&&◌, List, ◌∷◌, Option, Some, None, slice_get, nat_le, refl, ap, subst, ◌∙◌, arith}
+use Rattle.std.proofs.Common.{◌≡◌, ℕ, ◌-◌, ◌≤◌, ◌<◌, Bool, true, false, ◌&&◌, List, ◌∷◌, Option, Some, None, slice_get, nat_le, refl, ap, subst, ◌∙◌, arith}
 use Rattle.std.proofs.Common.{if◌then◌else◌}
 use Rattle.std.proofs.lemmas.Bool.Decides.{nat_tests}
 use Rattle.bac_protocol.specs.Pace.{Pace, IsTimely, IsShown, goes_on}
@@ -11,17 +11,20 @@ use Rattle.bac_protocol.specs.Client as client
 use Rattle.bac_protocol.specs.Client.{ClientTransaction, request_of}
 use Rattle.bac_protocol.specs.Server as server
 use Rattle.bac_protocol.specs.Server.{Service}
-use Rattle.bac_protocol.specs.Log.{Has, asks_in, IsOrderly}
+use Rattle.bac_protocol.specs.Log.{Has, asks_in, IsOrderly, WasAskedAway}
+use Rattle.bac_protocol.specs.Service.{Outcome}
 use Rattle.bac_protocol.specs.Log.Fact.{Asked}
 use Rattle.bac_protocol.specs.Transaction.{Key, Rules, client_context, server_context}
 use Rattle.bac_protocol.specs.World.{Net, Post, later, client_acts, server_acts, asked_at, notes_change, is_id_held, is_room, is_deliverable, net_start}
-use Rattle.bac_protocol.specs.World.{client_restarted, server_restarted}
-use Rattle.bac_protocol.specs.Claims.{IsBounded}
+use Rattle.bac_protocol.specs.World.{client_restarted, server_restarted, server_acts_away, client_acts_away, asked_away_at, is_id_held_away}
+use Rattle.bac_apdu.specs.Apdu.{Apdu}
+use Rattle.bac_protocol.specs.Claims.{IsBounded, AreServedApart}
 use Rattle.bac_protocol.specs.Own.{IsOwnEntry}
-use Rattle.bac_protocol.specs.Moves.{arrived, taken_by_client, taken_by_server, ticket_ticked, IsReached, IsInOrder}
-use Rattle.bac_protocol.specs.Moves.Move.{Asks, Arrives, TicksTicket, TicksEntry, Passes, Changes, RestartsClient, RestartsServer}
+use Rattle.bac_protocol.specs.Moves.{arrived, taken_by_client, taken_by_server, strayed_to_client, strayed_to_server, ticket_ticked, ticket_ticked_away, IsReached, IsInOrder}
+use Rattle.bac_protocol.specs.Moves.Move.{Asks, Arrives, TicksTicket, TicksEntry, Passes, Changes, RestartsClient, RestartsServer, Strays, AsksAway, TicksTicketAway, TicksEntryAway}
 use Rattle.bac_protocol.specs.Moves.IsReached.{Still, Moved}
 use Rattle.bac_protocol.proofs.Nets.{sound_at}
+use Rattle.bac_protocol.proofs.StrangerTables.{was_below}
 use Rattle.bac_protocol.proofs.SingleMoves.{in_order, reached_net, reached_calm}
 
 -- moves under these rules lead to the net
@@ -101,6 +104,50 @@ module _ (W : ℕ) (x : Rules) (bound : IsBounded W x) where
   gets_at_server n s number p at young few up service free room =
       subst (λ (b : Bool). Sound x (server_acts n p.key (server.server_on_apdu (server_context x p.key (server_now n p.key)) service (n.entries p.key) b p.copy.apdu)))
       room (by_room n s number p at young few up service free)
+
+  pub away_of : (n : Net) → Sound x n → (key : Key) (t : ClientTransaction) → n.far.tickets key ≡ Some t → WasAskedAway (n.far.numbers key) n.log
+  away_of n s key t is = (known n s).away key t is
+
+  -- no two asks of strangers have one number
+  pub away_apart : (n : Net) → Sound x n → (a b : Key) (t u : ClientTransaction) → n.far.tickets a ≡ Some t → n.far.tickets b ≡ Some u
+      → n.far.numbers a ≡ n.far.numbers b → a ≡ b
+  away_apart n s = (known n s).apart
+
+  pub away_below : (n : Net) → Sound x n → (key : Key) (t : ClientTransaction) → n.far.tickets key ≡ Some t → n.far.numbers key < n.asks
+  away_below n s key t is = let lt = was_below (n.far.numbers key) n.log (orderly n s) (away_of n s key t is) in let e = counted n s in omega arith
+
+  pub strays_at_client : (n : Net) → Sound x n → (key : Key) (t : ClientTransaction) → n.far.tickets key ≡ Some t → (a : Apdu) → is_from_client a ≡ false
+      → Sound x (client_acts_away n key t (client.client_on_apdu (client_context x key (client_now n key)) x.readable t a))
+  strays_at_client n s key t is a down = subst (λ (m : Net). Sound x m) (ap (strayed_to_client x n key a) is)
+      (subst (λ (b : Bool). Sound x (if b then strayed_to_server x n key false (λ choice octets. Outcome.Rejects 0) a else strayed_to_client x n key a (n.far.tickets key)))
+      down (s.0, s.1, s.2, Moved n (Strays key false (λ choice octets. Outcome.Rejects 0) a) s.3))
+
+  pub ticks_at_client_away : (n : Net) → Sound x n → (key : Key) (t : ClientTransaction) → n.far.tickets key ≡ Some t
+      → Sound x (client_acts_away n key t (client.client_ticks (client_context x key (client_now n key)) t))
+  ticks_at_client_away n s key t is = subst (λ (m : Net). Sound x m) (ap (ticket_ticked_away x n key) is) (s.0, s.1, s.2, Moved n (TicksTicketAway key) s.3)
+
+  pub asked_away : (n : Net) → Sound x n → (key : Key) → is_id_held_away n key ≡ false → (choice : ℕ) (whole : Bool) (front : Octets)
+      (rest : List Octets) → Sound x (asked_away_at x n key (record { first = client_now n key; choice = choice; whole = whole; pieces = front ∷ rest }))
+  asked_away n s key free choice whole front rest = subst (λ (m : Net). Sound x m)
+      (ap (λ b. if b then n else asked_away_at x n key (record { first = client_now n key; choice = choice; whole = whole; pieces = front ∷ rest })) free)
+      (s.0, s.1, s.2, Moved n (AsksAway key choice whole front rest) s.3)
+
+  -- a stranger's APDU comes to a server
+  pub strays_at_server : (n : Net) → Sound x n → (key : Key) (free : Bool) → is_room n key free ≡ free → (service : Service) (a : Apdu)
+      → is_from_client a ≡ true
+      → Sound x (server_acts_away n key (server.server_on_apdu (server_context x key (server_now n key)) service (n.far.entries key) free a))
+  strays_at_server n s key free room service a up =
+      subst (λ (b : Bool). Sound x (server_acts_away n key (server.server_on_apdu (server_context x key (server_now n key)) service (n.far.entries key) b a))) room
+      (subst (λ (b : Bool). Sound x (if b then strayed_to_server x n key free service a else strayed_to_client x n key a (n.far.tickets key))) up
+      (s.0, s.1, s.2, Moved n (Strays key free service a) s.3))
+
+  pub ticks_at_server_away : (n : Net) → Sound x n → (key : Key)
+      → Sound x (server_acts_away n key (server.server_ticks (server_context x key (server_now n key)) (n.far.entries key)))
+  ticks_at_server_away n s key = (s.0, s.1, s.2, Moved n (TicksEntryAway key) s.3)
+
+  -- what strangers had performed is apart
+  pub served_apart_of : (n : Net) → Sound x n → AreServedApart n
+  served_apart_of n s = (known n s).served_apart
 
   pub gets_at_client : (n : Net) → Sound x n → (number : ℕ) (p : Post) → slice_get n.posts number ≡ Some p → n.now - p.copy.moment ≤ n.pace.life
       → later p.key number n.posts ≤ x.overtake → is_from_client p.copy.apdu ≡ false → (service : Service) → (t : ClientTransaction) → n.tickets p.key ≡ Some t

@@ -1,6 +1,6 @@
 -- A node restarts.
 use Rattle.std.proofs.Common.{◌≡◌, ℕ, ◌+◌, ◌≤◌, ◌⊎◌, Bool, true, false, ◌&&◌, List, length, Option, Some, None, slice_get}
-use Rattle.std.proofs.Common.{nat_le, nat_eq, if◌then◌else◌, refl, sym, ap, subst, inl, inr, ◌∙◌, arith}
+use Rattle.std.proofs.Common.{nat_eq, if◌then◌else◌, refl, sym, ap, subst, inl, inr, ◌∙◌, arith}
 use Rattle.std.proofs.lemmas.Bool.Decides.{nat_tests}
 use Rattle.std.specs.Option.{option_map}
 use Rattle.bac_store.specs.Stores.{Store}
@@ -19,15 +19,14 @@ use Rattle.bac_transaction.specs.Sends.{Pairwise}
 use Rattle.bac_world.specs.Node.{Node, restarted, store_after_restart}
 use Rattle.bac_world.specs.Once.{Fact, IsOnce, with_restarted}
 use Rattle.bac_world.specs.World.{World, Time, Copy, Note, stores_of, newest, IsRestarted}
-use Rattle.bac_protocol.specs.World.{client_now, server_now, is_lost, is_key_held}
-use Rattle.bac_world.specs.World.{told}
 use Rattle.bac_world.proofs.Bridge.{here_at, there_at}
-use Rattle.bac_protocol.specs.Pace.{Pace, Clock, clock_at}
+use Rattle.bac_protocol.specs.Pace.{Pace, clock_at}
 use Rattle.std.proofs.Common.{nat_lt, not}
 use Rattle.bac_transaction.specs.Ends.{Client}
 use Rattle.bac_world.proofs.Machines.{restarts, asked_before}
 use Rattle.bac_world.proofs.Logs.{FactMeans}
-use Rattle.bac_world.proofs.Bridge.{NodeFits, IsCopyOf, IsGone, TicketFits, EntryFits, key_of, slot_key}
+use Rattle.bac_world.proofs.Bridge.{NodeFits, IsCopyOf, IsGone, TicketFits, EntryFits, AwayNoted, key_of, slot_key, stranger_key, out_key}
+use Rattle.bac_world.specs.World.{is_away}
 use Rattle.bac_world.proofs.Steps.{Over, Next, decide_number, linked_with}
 
 self : (i : ℕ) → nat_eq i i ≡ true
@@ -79,6 +78,9 @@ module _ (links : ℕ → Option Octets) (apart : (i j : ℕ) (l : Octets) → l
   no_ticket k = subst (λ (b : Bool). TicketIn b i None k)
       (sym (self i)) (gone_lost (n.made k) n.now (clock_at n.pace exact).shows (n.tickets k) (λ t is. asked_before W x bound n h.sound k t is))
 
+  no_far : (k : Key) → IsGone false (here_at m i) (if nat_eq i i then None else n.far.tickets k)
+  no_far k = subst (λ (b : Bool). IsGone false (here_at m i) (if b then None else n.far.tickets k)) (sym (self i)) (record { over = refl; free = refl })
+
   made_fits : NodeFits links apart x (here_at m i) (there_at m i) w.notes m i made
   made_fits = record {
     settings = f.settings;
@@ -87,11 +89,12 @@ module _ (links : ℕ → Option Octets) (apart : (i j : ℕ) (l : Octets) → l
         ∙ sym (ap (λ (b : Bool). if b then (clock_at n.pace exact).shows + REST + 1 else n.asks_from i) (self i));
     serves = ap (λ (p : Pace). (clock_at p exact).shows + KEEP + 1) (sym h.pace)
         ∙ sym (ap (λ (b : Bool). if b then (clock_at n.pace exact).shows + KEEP + 1 else n.serves_from i) (self i));
-    clients = record { distinct = tt; known = tt; found = λ p l id at. no_ticket (key_of i p id) };
+    clients = record { distinct = tt; known = tt; found = λ p l id at. no_ticket (key_of i p id); strangers = λ p g. no_far (out_key i p) };
     servers = record {
       distinct = tt;
       known = tt;
       found = λ c l id at. ap (λ (b : Bool). live_entry (there_at m i) (if b then None else n.entries (key_of c i id))) (sym (self i));
+      strangers = λ p g. ap (λ (b : Bool). live_entry (there_at m i) (if b then None else n.far.entries (stranger_key i p))) (sym (self i));
     };
   }
 
@@ -107,12 +110,17 @@ module _ (links : ℕ → Option Octets) (apart : (i j : ℕ) (l : Octets) → l
       known = g.clients.known;
       found = λ p l id at. subst (λ (b : Bool). TicketIn b j (value_at same_key (slot_key l id) a.clients.slots) (key_of j p id))
           (sym (away j i ne)) (g.clients.found p l id at);
+      strangers = λ p y. subst (λ (b : Bool). TicketFits false (if b then clock_at n.pace exact else n.client_clocks j).shows w.notes j (n.far.numbers (out_key j p))
+          (value_at same_key p a.clients.slots) (if b then None else n.far.tickets (out_key j p)))
+          (sym (away j i ne)) (g.clients.strangers p y);
     };
     servers = record {
       distinct = g.servers.distinct;
       known = g.servers.known;
       found = λ c l id at. subst (λ (b : Bool). EntryFits (if b then clock_at n.pace exact else n.server_clocks j).shows
           (value_at same_key (slot_key l id) a.servers.slots) (if b then None else n.entries (key_of c j id))) (sym (away j i ne)) (g.servers.found c l id at);
+      strangers = λ p y. subst (λ (b : Bool). EntryFits (if b then clock_at n.pace exact else n.server_clocks j).shows
+          (value_at same_key p a.servers.slots) (if b then None else n.far.entries (stranger_key j p))) (sym (away j i ne)) (g.servers.strangers p y);
     };
   }
 
@@ -133,6 +141,10 @@ module _ (links : ℕ → Option Octets) (apart : (i j : ℕ) (l : Octets) → l
       go None e is = absurd cc
       go (Some u) e is = h.noted key u e
 
+  far_noted : (key : Key) (t : ClientTransaction) (b : Bool) → (if b then None else n.far.tickets key) ≡ Some t → is_away (n.far.numbers key) w.notes ≡ true
+  far_noted key t false is = h.away key t is
+  far_noted key t true is = absurd cc
+
   pub restarted_over : Over links apart W x w' (restarted_net n i exact)
   restarted_over = record {
     now = h.now ∙ sym (ap (λ (t : Time). t.now) s.time);
@@ -143,6 +155,7 @@ module _ (links : ℕ → Option Octets) (apart : (i j : ℕ) (l : Octets) → l
     linked = linked_with links w.nodes w'.nodes i s.before made s.nodes s.at refl h.linked;
     nodes = λ j a at. subst (λ (l : List Note). NodeFits links apart x (here_at m j) (there_at m j) l m j a) (sym s.notes) (fits j a at (decide_number j i));
     noted = λ key t is. ap (newest key) s.notes ∙ noted key t (nat_eq key.client i) is;
+    away = subst (λ (l : List Note). AwayNoted l m) (sym s.notes) (λ key t is. far_noted key t (nat_eq key.client i) is);
     posts = subst (λ (l : List Copy). Pairwise (IsCopyOf links apart) n.posts l) (sym s.copies) h.posts;
     log = subst (λ (l : List Fact). Pairwise FactMeans m.log l) (sym s.log) (refl, h.log);
     sound = restarts W x bound n i exact h.sound;

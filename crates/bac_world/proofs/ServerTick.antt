@@ -21,17 +21,20 @@ use Rattle.bac_transaction.specs.Ends.{ServerSlot, context_of, server_tick_sends
 use Rattle.bac_world.specs.Node.{Node}
 use Rattle.bac_world.specs.World.{World, Copy, link_at, peer_at, IsCopied}
 use Rattle.bac_transaction.proofs.KeyedSlots.{EachSlot, slot}
-use Rattle.bac_protocol.specs.World.{client_now, server_now, is_lost, is_key_held}
-use Rattle.bac_world.specs.World.{told}
+use Rattle.bac_protocol.specs.World.{server_now}
 use Rattle.bac_world.proofs.Bridge.{here_at, there_at}
 use Rattle.bac_protocol.specs.Pace.{Clock}
 use Rattle.bac_world.proofs.Steps.{IsAlike}
 use Rattle.bac_world.proofs.Changes.{look, Change, look_first, look_next, look_here, look_same, change_rest}
 use Rattle.bac_world.proofs.Leads.{Leads}
-use Rattle.bac_world.proofs.Leads.Leads.{TicksEntry}
-use Rattle.bac_world.proofs.Machines.{Sound, own_of, ticks_at_server}
+use Rattle.bac_world.proofs.Leads.Leads.{TicksEntry, TicksEntryAway}
+use Rattle.bac_world.proofs.Machines.{Sound, own_of, ticks_at_server, ticks_at_server_away}
 use Rattle.bac_world.proofs.Pairs.{pairwise_join, pairwise_split, pairwise_none, append_none}
-use Rattle.bac_world.proofs.Bridge.{NodeFits, IsKnown, IsCopyOf, EntryFits, key_of, slot_key, copies_of}
+use Rattle.bac_world.proofs.Bridge.{NodeFits, IsKnown, IsStranger, IsCopyOf, EntryFits, key_of, slot_key, stranger_key, copies_of, copied_to, copied_none, copied_split}
+use Rattle.bac_world.specs.World.{AreCopied}
+use Rattle.bac_protocol.specs.World.{server_acts_away, begin_of}
+use Rattle.bac_protocol.specs.Transaction.{served}
+use Rattle.bac_world.proofs.StrangersHeard.{stranger_one, others_fit_away}
 use Rattle.bac_world.proofs.Serving.{others_fit, one_client, each_of_server}
 
 abbrev pub entry_tick : Settings → ℕ → PeerKey → ServerTransaction → ServerTransaction
@@ -51,10 +54,13 @@ module _ (links : ℕ → Option Octets) (apart : (i j : ℕ) (l : Octets) → l
     pub asks : m.asks ≡ k.asks
     pub numbers : m.numbers ≡ k.numbers
     pub tickets : m.tickets ≡ k.tickets
+    pub far_tickets : m.far.tickets ≡ k.far.tickets
+    pub far_numbers : m.far.numbers ≡ k.far.numbers
     pub log : m.log ≡ k.log
     pub asks_from : m.asks_from ≡ k.asks_from
     pub serves_from : m.serves_from ≡ k.serves_from
     pub entries : (c : ℕ) (l : Octets) (id : ℕ) → links c ≡ Some l → EntryFits (there_at n i) (found (slot_key l id)) (m.entries (key_of c i id))
+    pub strangers : (p : PeerKey) → IsStranger links apart p → EntryFits (there_at n i) (found p) (m.far.entries (stranger_key i p))
     pub others : (j : ℕ) (a : Node) → (j ≡ i → ⊥) → NodeFits links apart x (here_at n j) (there_at n j) w.notes k j a → NodeFits links apart x (here_at n j) (there_at n j) w.notes m j a
     pub posts : Pairwise (IsCopyOf links apart) m.posts every
     pub sound : Sound x m
@@ -68,17 +74,17 @@ module _ (links : ℕ → Option Octets) (apart : (i j : ℕ) (l : Octets) → l
     tick = entry_tick (x.settings i) (there_at n i)
 
     abbrev Folds : List ServerSlot → Type 0
-    Folds os = IsDistinct same_key os → EachSlot ServerTransaction (λ p v. IsKnown links apart p) os → Change ServerTransaction tick all os
+    Folds os = IsDistinct same_key os → EachSlot ServerTransaction (λ p v. IsKnown links apart p ⊎ IsStranger links apart p) os → Change ServerTransaction tick all os
         → (copies : List Copy) (m : Net) → Served (look ServerTransaction tick all os) copies m
         → (ds : List Datagram) (cs : List Copy)
-        → Pairwise IsSent (from_each (server_tick_sends (x.settings i) (there_at n i)) os) ds → Pairwise (IsCopied w.nodes n.now i) ds cs
+        → Pairwise IsSent (from_each (server_tick_sends (x.settings i) (there_at n i)) os) ds → AreCopied w.nodes n.now i ds cs
         → (m' : Net) × Served (λ q. value_at same_key q all) (copies ++ cs) m'
 
     no_entries : Folds []
     no_entries distinct known change copies m r ds cs sent copied =
         let ds_is : ds ≡ [] = pairwise_none IsSent ds sent in
         let cs_is : cs ≡ [] =
-        pairwise_none (IsCopied w.nodes n.now i) cs (subst (λ (d : List Datagram). Pairwise (IsCopied w.nodes n.now i) d cs) ds_is copied) in
+        subst (λ (d : List Datagram). AreCopied w.nodes n.now i d cs) ds_is copied in
         (m, subst (λ (l : List Copy). Served (λ q. value_at same_key q all) l m) (sym (append_none copies) ∙ ap (λ (l : List Copy). copies ++ l) (sym cs_is)) r)
 
     -- The net's entry goes on like the slot's.
@@ -138,10 +144,14 @@ module _ (links : ℕ → Option Octets) (apart : (i j : ℕ) (l : Octets) → l
           asks = r.asks;
           numbers = r.numbers;
           tickets = r.tickets;
+          far_tickets = r.far_tickets;
+          far_numbers = r.far_numbers;
           log = ap (λ e. performed (m.numbers key) e m.log) (ticks_quiet (server_context x key (server_now m key)) (m.entries key)) ∙ r.log;
           asks_from = r.asks_from;
           serves_from = r.serves_from;
           entries = λ c l' id' at'. entries c l' id' at' (decide_key key (key_of c i id'));
+          strangers = λ q g. ap (live_entry (there_at n i)) (look_next ServerTransaction tick all p begin d os q
+              (λ is. g.none node (at ∙ ap (λ (y : PeerKey). Some y.peer.link) is))) ∙ r.strangers q g;
           others = λ j a ne f. others_fit links apart W x (here_at n j) (there_at n j) w.notes m key does j a ne (r.others j a ne f);
           posts = pairwise_join (IsCopyOf links apart) m.posts _ copies cs r.posts
               (copies_of links apart w.nodes linked m.now false key i node li l (record { between = (refl, refl); from = from; to = at })
@@ -156,9 +166,10 @@ module _ (links : ℕ → Option Octets) (apart : (i j : ℕ) (l : Octets) → l
       one_live : Folds os → is_live (there_at n i) d ≡ true → Folds (slot ServerTransaction (slot_key l id) begin d ∷ os)
       one_live again live distinct known change copies m r ds cs sent copied =
           let y = pairwise_split IsSent (to_all (peer_at l) did.sends) (from_each (server_tick_sends (x.settings i) (there_at n i)) os) ds sent in
-          let e = pairwise_split (IsCopied w.nodes n.now i) y.front y.rest cs
-          (subst (λ (z : List Datagram). Pairwise (IsCopied w.nodes n.now i) z cs) y.is copied) in
-          let next = goes_on copies m r distinct.0 change live y.front e.front y.first e.first in
+          let e = copied_split w.nodes n.now i y.front y.rest cs
+          (subst (λ (z : List Datagram). AreCopied w.nodes n.now i z cs) y.is copied) in
+          let next = goes_on copies m r distinct.0 change live y.front e.front y.first
+          (copied_to links apart w.nodes linked n.now i node (peer_at l) at did.sends y.front e.front y.first e.first) in
           let rest = again distinct.1 known.1 (change_rest ServerTransaction tick all p begin d os distinct.0 change) (copies ++ e.front)
           (server_acts m key (does copies m r distinct.0 change live)) next y.rest e.rest y.second e.second in (
             rest.0,
@@ -184,12 +195,17 @@ module _ (links : ℕ → Option Octets) (apart : (i j : ℕ) (l : Octets) → l
             asks = r.asks;
             numbers = r.numbers;
             tickets = r.tickets;
+            far_tickets = r.far_tickets;
+            far_numbers = r.far_numbers;
             log = r.log;
             asks_from = r.asks_from;
             serves_from = r.serves_from;
             entries = λ c l' id' at'. ap (live_entry (there_at n i))
                 (sym (look_same ServerTransaction tick all p begin d os distinct.0 change (ap (λ (v : server.Reaction). entry_or d v.entry) still) (slot_key l' id')))
                 ∙ r.entries c l' id' at';
+            strangers = λ q g. ap (live_entry (there_at n i))
+                (sym (look_same ServerTransaction tick all p begin d os distinct.0 change (ap (λ (v : server.Reaction). entry_or d v.entry) still) q))
+                ∙ r.strangers q g;
             others = r.others;
             posts = r.posts;
             sound = r.sound;
@@ -200,8 +216,129 @@ module _ (links : ℕ → Option Octets) (apart : (i j : ℕ) (l : Octets) → l
       one_entry again true live = one_live again live
       one_entry again false dead = one_dead again dead
 
+    -- The same of a stranger's entry; what it sends is not followed.
+    module _ (p : PeerKey) (g : IsStranger links apart p) (begin : ℕ) (d : ServerTransaction) (os : List ServerSlot) where
+      abbrev far_key : Key
+      far_key = stranger_key i p
+
+      abbrev far_context : Context
+      far_context = context_of (x.settings i) (there_at n i) p
+
+      abbrev stranger_did : server.Reaction
+      stranger_did = server_ticks far_context (Some d)
+
+      module _ (copies : List Copy) (m : Net) (r : Served (look ServerTransaction tick all (slot ServerTransaction p begin d ∷ os)) copies m)
+          (away : IsApart same_key p os) (change : Change ServerTransaction tick all (slot ServerTransaction p begin d ∷ os)) (live : is_live (there_at n i) d ≡ true) where
+        abbrev stranger_does : server.Reaction
+        stranger_does = server_ticks (server_context x far_key (server_now m far_key)) (m.far.entries far_key)
+
+        stranger_fit : live_entry (there_at n i) (Some d) ≡ live_entry (there_at n i) (m.far.entries far_key)
+        stranger_fit = ap (live_entry (there_at n i)) (sym (look_first ServerTransaction tick all p begin d os)) ∙ r.strangers p g
+
+        stranger_same : IsSameReaction (there_at n i) stranger_did stranger_does
+        stranger_same =
+            let e : Option ServerTransaction = m.far.entries far_key in
+            let ticks : Option ServerTransaction → server.Reaction = server_ticks far_context in
+            subst (λ (now : ℕ). IsSameReaction (there_at n i) stranger_did (server_ticks (server_context x far_key now) e)) (sym (ap (λ (f : ℕ → Clock). (f i).shows) r.alike.there))
+            (same_then (there_at n i) stranger_did (ticks (live_entry (there_at n i) (Some d))) (ticks e) (dead_is_none.ticks far_context (Some d))
+            (same_then (there_at n i) (ticks (live_entry (there_at n i) (Some d))) (ticks (live_entry (there_at n i) e)) (ticks e)
+            (same_of (there_at n i) (ticks (live_entry (there_at n i) (Some d))) (ticks (live_entry (there_at n i) e)) (ap ticks stranger_fit))
+            (same_back (there_at n i) (ticks e) (ticks (live_entry (there_at n i) e)) (dead_is_none.ticks far_context e))))
+
+        stranger_made : look ServerTransaction tick all os p ≡ stranger_did.entry
+        stranger_made = look_here ServerTransaction tick all p begin d os away change ∙ stays_some d stranger_did.entry (live_stays_law.ticks far_context d live)
+
+        stranger_entries : (q : PeerKey) → IsStranger links apart q → ((far_key ≡ stranger_key i q) ⊎ (far_key ≡ stranger_key i q → ⊥))
+            → EntryFits (there_at n i) (look ServerTransaction tick all os q) (set_at m.far.entries far_key stranger_does.entry (stranger_key i q))
+        stranger_entries q f (inl is) =
+            ap (λ (y : PeerKey). live_entry (there_at n i) (look ServerTransaction tick all os y)) (sym (stranger_one i p q is))
+            ∙ ap (live_entry (there_at n i)) stranger_made ∙ stranger_same.entry
+            ∙ ap (live_entry (there_at n i)) (sym (set_same m.far.entries far_key stranger_does.entry) ∙ ap (set_at m.far.entries far_key stranger_does.entry) is)
+        stranger_entries q f (inr ne) =
+            ap (live_entry (there_at n i)) (look_next ServerTransaction tick all p begin d os q (λ is. ne (ap (stranger_key i) is)))
+            ∙ r.strangers q f
+            ∙ ap (live_entry (there_at n i)) (sym (set_other m.far.entries far_key stranger_does.entry (stranger_key i q) ne))
+
+        stranger_goes_on : Served (look ServerTransaction tick all os) copies (server_acts_away m far_key stranger_does)
+        stranger_goes_on = record {
+          alike = record { now = r.alike.now; pace = r.alike.pace; here = r.alike.here; there = r.alike.there };
+          made = r.made;
+          restarted = r.restarted;
+          asks = r.asks;
+          numbers = r.numbers;
+          tickets = r.tickets;
+          far_tickets = r.far_tickets;
+          far_numbers = r.far_numbers;
+          log = ap (λ e. served far_key (begin_of stranger_does.entry) e m.log) (ticks_quiet (server_context x far_key (server_now m far_key)) (m.far.entries far_key)) ∙ r.log;
+          asks_from = r.asks_from;
+          serves_from = r.serves_from;
+          entries = λ c l' id' at'. ap (live_entry (there_at n i)) (look_next ServerTransaction tick all p begin d os (slot_key l' id')
+              (λ is. g.none c (at' ∙ ap (λ (y : PeerKey). Some y.peer.link) (sym is)))) ∙ r.entries c l' id' at';
+          strangers = λ q f. stranger_entries q f (decide_key far_key (stranger_key i q));
+          others = λ j a ne f. others_fit_away links apart W x (here_at n j) (there_at n j) w.notes m far_key stranger_does j a ne (r.others j a ne f);
+          posts = r.posts;
+          sound = ticks_at_server_away W x bound m r.sound far_key;
+          leads = TicksEntryAway m far_key r.leads;
+        }
+
+      stranger_live : Folds os → is_live (there_at n i) d ≡ true → Folds (slot ServerTransaction p begin d ∷ os)
+      stranger_live again live distinct known change copies m r ds cs sent copied =
+          let y = pairwise_split IsSent (to_all p.peer stranger_did.sends) (from_each (server_tick_sends (x.settings i) (there_at n i)) os) ds sent in
+          let e = copied_split w.nodes n.now i y.front y.rest cs (subst (λ (z : List Datagram). AreCopied w.nodes n.now i z cs) y.is copied) in
+          let none : e.front ≡ [] = copied_none links apart w.nodes linked n.now i p g stranger_did.sends y.front e.front y.first e.first in
+          let next = stranger_goes_on copies m r distinct.0 change live in
+          let rest = again distinct.1 known.1 (change_rest ServerTransaction tick all p begin d os distinct.0 change) copies
+          (server_acts_away m far_key (stranger_does copies m r distinct.0 change live)) next y.rest e.rest y.second e.second in (
+            rest.0,
+            subst (λ (z : List Copy). Served (λ q. value_at same_key q all) (copies ++ z) rest.0)
+                (sym (e.is ∙ ap (λ (z : List Copy). z ++ e.rest) none)) rest.1,
+          )
+
+      stranger_dead : Folds os → is_live (there_at n i) d ≡ false → Folds (slot ServerTransaction p begin d ∷ os)
+      stranger_dead again dead distinct known change copies m r ds cs sent copied =
+          again distinct.1 known.1 (change_rest ServerTransaction tick all p begin d os distinct.0 change) copies m alike ds cs
+          (subst (λ (z : List Send). Pairwise IsSent z ds)
+          (ap (λ (v : server.Reaction). to_all p.peer v.sends ++ from_each (server_tick_sends (x.settings i) (there_at n i)) os) still) sent) copied
+        where
+          still : server_ticks far_context (Some d) ≡ server.rests (Some d) []
+          still = ap (λ b. if b then server.live_ticks far_context d d.state else server.rests (Some d) []) dead
+
+          alike : Served (look ServerTransaction tick all os) copies m
+          alike = record {
+            alike = record { now = r.alike.now; pace = r.alike.pace; here = r.alike.here; there = r.alike.there };
+            made = r.made;
+            restarted = r.restarted;
+            asks = r.asks;
+            numbers = r.numbers;
+            tickets = r.tickets;
+            far_tickets = r.far_tickets;
+            far_numbers = r.far_numbers;
+            log = r.log;
+            asks_from = r.asks_from;
+            serves_from = r.serves_from;
+            entries = λ c l' id' at'. ap (live_entry (there_at n i))
+                (sym (look_same ServerTransaction tick all p begin d os distinct.0 change (ap (λ (v : server.Reaction). entry_or d v.entry) still) (slot_key l' id')))
+                ∙ r.entries c l' id' at';
+            strangers = λ q f. ap (live_entry (there_at n i))
+                (sym (look_same ServerTransaction tick all p begin d os distinct.0 change (ap (λ (v : server.Reaction). entry_or d v.entry) still) q))
+                ∙ r.strangers q f;
+            others = r.others;
+            posts = r.posts;
+            sound = r.sound;
+            leads = r.leads;
+          }
+
+      stranger_entry : Folds os → (b : Bool) → is_live (there_at n i) d ≡ b → Folds (slot ServerTransaction p begin d ∷ os)
+      stranger_entry again true live = stranger_live again live
+      stranger_entry again false dead = stranger_dead again dead
+
+    by_peer : (s : ServerSlot) (os : List ServerSlot) → Folds os → IsKnown links apart s.key ⊎ IsStranger links apart s.key
+        → Folds (slot ServerTransaction s.key s.begin s.value ∷ os)
+    by_peer s os again (inl k) =
+        subst (λ (p : PeerKey). Folds (slot ServerTransaction p s.begin s.value ∷ os)) (λ j. record { peer = sym k.peer j; invoke_id = s.key.invoke_id })
+        (one_entry k.node k.link s.key.invoke_id k.at s.begin s.value os again (is_live (there_at n i) s.value) refl)
+    by_peer s os again (inr g) = stranger_entry s.key g s.begin s.value os again (is_live (there_at n i) s.value) refl
+
     pub serves : (os : List ServerSlot) → Folds os
     serves [] = no_entries
-    serves (s ∷ os) = λ distinct known.
-        subst (λ (p : PeerKey). Folds (slot ServerTransaction p s.begin s.value ∷ os)) (λ j. record { peer = sym known.0.peer j; invoke_id = s.key.invoke_id })
-        (one_entry known.0.node known.0.link s.key.invoke_id known.0.at s.begin s.value os (serves os) (is_live (there_at n i) s.value) refl) distinct known
+    serves (s ∷ os) = λ distinct known. by_peer s os (serves os) known.0 distinct known

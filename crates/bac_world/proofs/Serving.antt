@@ -33,7 +33,7 @@ use Rattle.bac_transaction.specs.Ends.{ServerEnd, ServerTurn, act_at, is_free, i
 use Rattle.bac_world.specs.Services.{Performed, ArePerformed, store_after}
 use Rattle.bac_world.specs.Node.{Node, Outcome, IsServerTurn}
 use Rattle.bac_world.specs.Once.{Fact, Has, Stores, IsOnce, MayPerform}
-use Rattle.bac_world.specs.World.{World, Note, Copy, stores_of, IsWithNode, Acts, AreLogged, AreEnded, newest, peer_at, IsCopied}
+use Rattle.bac_world.specs.World.{World, Note, Copy, stores_of, IsWithNode, Acts, AreLogged, IsLogged, AreEnded, newest, peer_at, AreCopied}
 use Rattle.bac_protocol.specs.World.{client_now, server_now, is_lost, is_key_held}
 use Rattle.bac_world.specs.World.{told}
 use Rattle.bac_world.proofs.Bridge.{here_at, there_at}
@@ -41,7 +41,7 @@ use Rattle.bac_protocol.specs.Pace.{Clock}
 use Rattle.bac_world.proofs.Machines.{Sound, orderly, asked_of, own_of, gets_at_server, ticket_of}
 use Rattle.bac_world.proofs.Pairs.{pairwise_join}
 use Rattle.bac_world.proofs.Logs.{FactMeans, WasAskedAs, asked_as, unperformed}
-use Rattle.bac_world.proofs.Bridge.{NodeFits, ServersFit, IsKnown, IsCopyOf, IsWay, EntryFits, key_of, slot_key, copies_of}
+use Rattle.bac_world.proofs.Bridge.{NodeFits, ServersFit, IsKnown, IsStranger, IsCopyOf, IsWay, EntryFits, key_of, slot_key, stranger_key, copies_of, copied_to}
 use Rattle.bac_world.proofs.Steps.{Over, Fits, Goes, acts_over, once_same, stores_same}
 use Rattle.bac_transaction.proofs.Entries.{entry_here, entry_there, entry_distinct, entry_each}
 use Rattle.bac_world.proofs.Table.{none_left}
@@ -102,12 +102,17 @@ module _ (links : ℕ → Option Octets) (apart : (i j : ℕ) (l : Octets) → l
         entry_there now p e.slots h.distinct v.entry (slot_key m id) (λ is. ne (one_client key l at c m id at' is))
         ∙ h.found c m id at' ∙ ap (live_entry now) (sym (set_other n.entries key u.entry (key_of c key.server id) ne))
 
+    strangers : (q : PeerKey) → IsStranger links apart q
+        → EntryFits now (value_at same_key q (put_entry now p v.entry e.slots)) (n.far.entries (stranger_key key.server q))
+    strangers q g = entry_there now p e.slots h.distinct v.entry q (λ is. g.none key.client (at ∙ ap (λ (y : PeerKey). Some y.peer.link) is)) ∙ h.strangers q g
+
     pub end_fits : ServersFit links apart now (server_acts n key u) key.server (record e { slots = put_entry now (slot_key l key.invoke_id) v.entry e.slots })
     end_fits = record {
       distinct = entry_distinct now p e.slots h.distinct v.entry;
-      known = entry_each now p e.slots h.distinct (λ q d. IsKnown links apart q) v.entry
-          (λ d. record { node = key.client; link = l; at = at; peer = refl }) h.known;
+      known = entry_each now p e.slots h.distinct (λ q d. IsKnown links apart q ⊎ IsStranger links apart q) v.entry
+          (λ d. inl (record { node = key.client; link = l; at = at; peer = refl })) h.known;
       found = λ c m id at'. found c m id at' (decide_key key (key_of c key.server id));
+      strangers = strangers;
     }
 
   -- other nodes see nothing of it
@@ -118,27 +123,28 @@ module _ (links : ℕ → Option Octets) (apart : (i j : ℕ) (l : Octets) → l
     link = h.link;
     asks = h.asks;
     serves = h.serves;
-    clients = record { distinct = h.clients.distinct; known = h.clients.known; found = h.clients.found };
+    clients = record { distinct = h.clients.distinct; known = h.clients.known; found = h.clients.found; strangers = h.clients.strangers };
     servers = record {
       distinct = h.servers.distinct;
       known = h.servers.known;
       found = λ c l id at. h.servers.found c l id at
           ∙ ap (live_entry there) (sym (set_other n.entries key u.entry (key_of c j id) (λ is. ne (sym (ap (λ (k : Key). k.server) is)))));
+      strangers = h.servers.strangers;
     };
   }
 
   -- What was performed enters the log as values.
 
-  record Logged (w w' : World) (log : List octets.Fact) : Type 0 where
-    log_means : Pairwise FactMeans log w'.log
-    once : (opening : Stores) → IsOnce opening w.log (stores_of w.nodes) → IsOnce opening w'.log (stores_of w'.nodes)
+  pub record Logged (w w' : World) (log : List octets.Fact) : Type 0 where
+    pub log_means : Pairwise FactMeans log w'.log
+    pub once : (opening : Stores) → IsOnce opening w.log (stores_of w.nodes) → IsOnce opening w'.log (stores_of w'.nodes)
 
   module _ (bound : IsBounded W x) (w w' : World) (n : Net) (h : Over links apart W x w n) (key : Key) (l : Octets) (at : links key.client ≡ Some l)
       (t : ClientTransaction) (is : n.tickets key ≡ Some t) (a b : Node) (node : slice_get w.nodes key.server ≡ Some a)
       (nodes : IsWithNode w.nodes key.server b w'.nodes) where
     -- a request was performed
     module _ (e : Effect) (d : Performed) (done : ArePerformed a.store (act_at (slot_key l key.invoke_id) (Some e)) (Some d))
-        (store : b.store ≡ change.after a.store d.request) (logged : AreLogged w.nodes w.notes key.server (Some d) w.log w'.log)
+        (store : b.store ≡ change.after a.store d.request) (logged : IsLogged w.nodes w.notes key.server d w.log w'.log)
         (right : IsOrderly (performed (n.numbers key) (Some e) n.log)) where
       client_is : logged.client ≡ key.client
       client_is = apart logged.client key.client l (sym (h.linked logged.client) ∙ logged.link ∙ ap (λ q. Some q.peer.link) done.key) at
@@ -196,7 +202,7 @@ module _ (links : ℕ → Option Octets) (apart : (i j : ℕ) (l : Octets) → l
       }
 
     logs : (e : Option Effect) (d : Option Performed) → ArePerformed a.store (act_at (slot_key l key.invoke_id) e) d → b.store ≡ store_after a.store d
-        → AreLogged w.nodes w.notes key.server d w.log w'.log → IsOrderly (performed (n.numbers key) e n.log)
+        → AreLogged w.nodes w.notes key.server b d w.log w'.log → IsOrderly (performed (n.numbers key) e n.log)
         → Logged w w' (performed (n.numbers key) e n.log)
     logs None None done store logged right = record {
       log_means = subst (λ (lg : List Fact). Pairwise FactMeans n.log lg) (sym logged) h.log;
@@ -205,7 +211,9 @@ module _ (links : ℕ → Option Octets) (apart : (i j : ℕ) (l : Octets) → l
     }
     logs None (Some d) done store logged right = absurd done
     logs (Some e) None done store logged right = absurd done
-    logs (Some e) (Some d) done store logged right = performs_one e d done store logged right
+    logs (Some e) (Some d) done store (inl logged) right = performs_one e d done store logged right
+    logs (Some e) (Some d) done store (inr stranger) right =
+        absurd (stranger.stranger key.client (h.linked key.client ∙ at ∙ ap (λ (q : PeerKey). Some q.peer.link) (sym done.key)))
 
   -- An APDU of a client was heard.
 
@@ -305,7 +313,7 @@ module _ (links : ℕ → Option Octets) (apart : (i j : ℕ) (l : Octets) → l
           link = fits.link;
           asks = fits.asks;
           serves = fits.serves;
-          clients = record { distinct = fits.clients.distinct; known = fits.clients.known; found = fits.clients.found };
+          clients = record { distinct = fits.clients.distinct; known = fits.clients.known; found = fits.clients.found; strangers = fits.clients.strangers };
           servers = end_fits (there_at n key.server) n key l client_at v u same.entry a.servers fits.servers
               (none_left context service (value_at same_key q a.servers.slots) free apdu);
         }
@@ -323,7 +331,8 @@ module _ (links : ℕ → Option Octets) (apart : (i j : ℕ) (l : Octets) → l
         copies : Pairwise (IsCopyOf links apart) (map (post_of key n.now) u.sends) acts'.sent
         copies = copies_of links apart w.nodes h.linked n.now false key key.server key.client a.link l way u.sends o.sends acts'.sent own
             (subst (λ (l' : List Apdu). Pairwise IsSent (to_all (peer_at l) l') o.sends) same.sends turn'.sends)
-            (subst (λ (t : ℕ). Pairwise (IsCopied w.nodes t key.server) o.sends acts'.sent) (sym h.now) acts'.copied)
+            (copied_to links apart w.nodes h.linked n.now key.server key.client (peer_at l) client_at v.sends o.sends acts'.sent turn'.sends
+            (subst (λ (t : ℕ). AreCopied w.nodes t key.server o.sends acts'.sent) (sym h.now) acts'.copied))
 
         done : ArePerformed a.store (act_at q u.effect) o.performed
         done = subst (λ (e : Option Effect). ArePerformed a.store (act_at q e) o.performed) same.effect turn'.performed
@@ -334,11 +343,11 @@ module _ (links : ℕ → Option Octets) (apart : (i j : ℕ) (l : Octets) → l
         logged : Logged w w' (performed (n.numbers key) u.effect n.log)
         logged = logs bound w w' n h key l client_at ticket.0 ticket.1 a b node' acts'.nodes u.effect o.performed done
             (ap (λ (d : Node). d.store) turn'.node)
-            (subst (λ (lg : List Fact). AreLogged w.nodes w.notes key.server o.performed lg w'.log) between_is acts'.logged)
+            (subst (λ (lg : List Fact). AreLogged w.nodes w.notes key.server b o.performed lg w'.log) between_is acts'.logged)
             (orderly W x bound m sound)
 
         over : Over links apart W x w' m
-        over = acts_over links apart W x w w' n m h key.server a b o node' acts' (record { now = refl; pace = refl; here = refl; there = refl }) refl h.noted (ap (λ (d : Node). d.link) turn'.node)
+        over = acts_over links apart W x w w' n m h key.server a b o node' acts' (record { now = refl; pace = refl; here = refl; there = refl }) refl h.noted h.away (ap (λ (d : Node). d.link) turn'.node)
             (subst (λ (d : Node). Fits links apart W x w n m key.server d) (sym turn'.node) made_fits)
             (λ j d ne f. others_fit (here_at n j) (there_at n j) w.notes n key u j d ne f)
             (pairwise_join (IsCopyOf links apart) n.posts (map (post_of key n.now) u.sends) w.copies acts'.sent h.posts copies)

@@ -10,11 +10,11 @@ use Rattle.bac_protocol.specs.World.{Net}
 use Rattle.bac_transaction.specs.Sends.{Pairwise}
 use Rattle.bac_world.specs.Node.{Node, Outcome}
 use Rattle.bac_world.specs.Once.{Fact, Stores, AreSame, MayEnter, IsOnce}
-use Rattle.bac_world.specs.Once.Fact.{Asked, Performed, Ended, Changed, Restarted}
+use Rattle.bac_world.specs.Once.Fact.{Asked, Performed, Ended, Changed, Restarted, Served, AskedAway, EndedAway}
 use Rattle.bac_world.specs.World.{World, Time, Note, Copy, link_at, stores_of, IsWithNode, Acts, newest}
 use Rattle.bac_world.proofs.Machines.{Sound}
 use Rattle.bac_world.proofs.Logs.{FactMeans}
-use Rattle.bac_world.proofs.Bridge.{Bridge, NodeFits, IsCopyOf, here_at, there_at}
+use Rattle.bac_world.proofs.Bridge.{Bridge, NodeFits, IsCopyOf, AwayNoted, here_at, there_at}
 use Rattle.bac_protocol.specs.Pace.{Clock}
 
 pub decide_number : (i j : ℕ) → (i ≡ j) ⊎ (i ≡ j → ⊥)
@@ -71,9 +71,13 @@ enter_same (Performed n r p) log old new new' same h = record {
   stores = λ node. same node ∙ h.stores node;
 }
 enter_same (Ended n how) log old new new' same h = (h.0, h.1, λ node. same node ∙ h.2 node)
+enter_same (AskedAway n c q r) log old new new' same h = (h.0, λ node. same node ∙ h.1 node)
+enter_same (EndedAway n how) log old new new' same h = (h.0, h.1, λ node. same node ∙ h.2 node)
 enter_same (Changed i c) log old new new' same h =
     record { store = h.store; at = h.at; permitted = h.permitted; stores = λ node. same node ∙ h.stores node }
 enter_same (Restarted i o) log old new new' same h = λ node. same node ∙ h node
+enter_same (Served q i d b r p) log old new new' same h =
+    record { store = h.store; at = h.at; reply = h.reply; stores = λ node. same node ∙ h.stores node }
 
 pub once_same : (opening : Stores) (log : List Fact) (stores stores' : Stores) → AreSame stores stores' → IsOnce opening log stores → IsOnce opening log stores'
 once_same opening [] stores stores' same h = λ node. same node ∙ h node
@@ -105,6 +109,7 @@ module _ (links : ℕ → Option Octets) (apart : (i j : ℕ) (l : Octets) → l
 
   pub acts_over : (w w' : World) (n m : Net) → Over w n → (i : ℕ) (a b : Node) (o : Outcome) → slice_get w.nodes i ≡ Some a → (acts : Acts w i b o w')
       → IsAlike m n → m.asks ≡ n.asks → ((key : Key) (t : ClientTransaction) → m.tickets key ≡ Some t → newest key w.notes ≡ Some (m.numbers key))
+      → AwayNoted w.notes m
       → b.link ≡ a.link
       → Fits w n m i b
       → ((j : ℕ) (c : Node) → (j ≡ i → ⊥) → Fits w n n j c → Fits w n m j c)
@@ -112,7 +117,7 @@ module _ (links : ℕ → Option Octets) (apart : (i j : ℕ) (l : Octets) → l
       → Pairwise FactMeans m.log w'.log
       → Sound x m
       → Over w' m
-  acts_over w w' n m h i a b o at acts alike asks noted link here others posts log sound = record {
+  acts_over w w' n m h i a b o at acts alike asks noted away link here others posts log sound = record {
     now = alike.now ∙ h.now ∙ sym (ap (λ (t : Time). t.now) acts.time);
     pace = alike.pace ∙ h.pace ∙ sym (ap (λ (t : Time). t.pace) acts.time);
     here = λ j. ap (λ (f : ℕ → Clock). f j) alike.here ∙ h.here j ∙ sym (ap (λ (t : Time). t.clocks j) acts.time);
@@ -124,6 +129,7 @@ module _ (links : ℕ → Option Octets) (apart : (i j : ℕ) (l : Octets) → l
         (subst (λ (t : ℕ). NodeFits links apart x (here_at n j) t w'.notes m j c) (sym (ap (λ (f : ℕ → Clock). (f j).shows) alike.there))
         (subst (λ (l : List Note). NodeFits links apart x (here_at n j) (there_at n j) l m j c) (sym acts.notes) (fits j c at' (decide_number j i))));
     noted = λ key t is. ap (newest key) acts.notes ∙ noted key t is;
+    away = subst (λ (l : List Note). AwayNoted l m) (sym acts.notes) away;
     posts = subst (λ (l : List Copy). Pairwise (IsCopyOf links apart) m.posts l) (sym acts.copies) posts;
     log = log;
     sound = sound;

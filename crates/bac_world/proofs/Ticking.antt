@@ -1,5 +1,5 @@
 -- A node's tick.
-use Rattle.std.proofs.Common.{◌≡◌, ℕ, ◌<◌, List, ◌++◌, Option, Some, refl, sym, ap, subst, ◌∙◌, append_assoc}
+use Rattle.std.proofs.Common.{false, ◌≡◌, ℕ, ◌<◌, ◌⊎◌, List, ◌++◌, Option, Some, refl, sym, ap, subst, ◌∙◌, append_assoc}
 use Rattle.bac_protocol.specs.Context.{Settings, Context}
 use Rattle.bac_protocol.specs.Service.{Octets}
 use Rattle.bac_protocol.specs.Client.{ClientTransaction}
@@ -16,9 +16,8 @@ use Rattle.bac_transaction.specs.Ends.{requester_tick, responder_tick}
 use Rattle.bac_transaction.specs.Ends.TransactionSlot.{Open, Closed}
 use Rattle.bac_world.specs.Node.{Node, Outcome, NodeTick}
 use Rattle.bac_world.specs.Once.{Fact, IsOnce}
-use Rattle.bac_world.specs.World.{World, Copy, stores_of, AreLogged, IsCopied, Ticks}
+use Rattle.bac_world.specs.World.{World, Copy, stores_of, AreLogged, Ticks}
 use Rattle.bac_transaction.proofs.KeyedSlots.{changed, distinct_changed, distinct_in_order, each_changed, each_in_order, each_so}
-use Rattle.bac_protocol.specs.World.{client_now, server_now, is_lost, is_key_held}
 use Rattle.bac_world.specs.World.{told}
 use Rattle.bac_world.proofs.Bridge.{here_at, there_at}
 use Rattle.bac_protocol.specs.Pace.{Clock}
@@ -26,7 +25,9 @@ use Rattle.std.proofs.Common.{nat_lt}
 use Rattle.bac_world.proofs.Changes.{look, look_all, change_all}
 use Rattle.bac_world.proofs.Pairs.{IsSplit, pairwise_split}
 use Rattle.bac_world.proofs.Logs.{FactMeans}
-use Rattle.bac_world.proofs.Bridge.{IsKnown, IsCopyOf, TicketFits, key_of, slot_key}
+use Rattle.bac_world.proofs.Bridge.{IsKnown, IsStranger, IsCopyOf, TicketFits, key_of, slot_key, stranger_key, out_key, AreParted, copied_split}
+use Rattle.bac_world.specs.World.{is_away}
+use Rattle.bac_world.specs.World.{AreCopied}
 use Rattle.bac_world.proofs.Steps.{Over, Fits, Next, acts_over, once_same, stores_same}
 use Rattle.bac_world.proofs.Leads.{Leads}
 use Rattle.bac_world.proofs.Hearing.{Reached, reached_none, reached_alike}
@@ -103,17 +104,18 @@ module _ (links : ℕ → Option Octets) (apart : (i j : ℕ) (l : Octets) → l
       (by_both (λ y t u. Pairwise IsSent (from_each (client_tick_sends y t) (in_order peer_key_cmp clients)
       ++ from_each (server_tick_sends y u) (in_order peer_key_cmp entries)) o.sends) tick'.sends)
 
-  cs : IsSplit (IsCopied w.nodes n.now i) ds.front ds.rest step.acts.sent
-  cs = pairwise_split (IsCopied w.nodes n.now i) ds.front ds.rest step.acts.sent
-      (subst (λ (z : List Datagram). Pairwise (IsCopied w.nodes n.now i) z step.acts.sent) ds.is
-      (subst (λ (t : ℕ). Pairwise (IsCopied w.nodes t i) o.sends step.acts.sent) (sym h.now) step.acts.copied))
+  cs : AreParted w.nodes n.now i ds.front ds.rest step.acts.sent
+  cs = copied_split w.nodes n.now i ds.front ds.rest step.acts.sent
+      (subst (λ (z : List Datagram). AreCopied w.nodes n.now i z step.acts.sent) ds.is
+      (subst (λ (t : ℕ). AreCopied w.nodes t i o.sends step.acts.sent) (sym h.now) step.acts.copied))
 
   -- first the client's slots
   r : (m : Net) × Reached links apart W x w i n (λ q. value_at same_key q (changed Client f clients)) (w.copies ++ cs.front) step.acts.between m
   r = folds links apart W x bound w n h i a.link fits.link (changed Client f clients) (in_order peer_key_cmp clients)
       (distinct_in_order Client clients fits.clients.distinct)
-      (each_in_order Client (λ p v. IsKnown links apart p) clients
-      (each_so Client (λ p v. IsKnown links apart p × (v.number < a.clients.asked)) (λ p v. IsKnown links apart p) (λ p v y. y.0) clients fits.clients.known))
+      (each_in_order Client (λ p v. IsKnown links apart p ⊎ IsStranger links apart p) clients
+      (each_so Client (λ p v. (IsKnown links apart p ⊎ IsStranger links apart p) × (v.number < a.clients.asked)) (λ p v. IsKnown links apart p ⊎ IsStranger links apart p)
+      (λ p v y. y.0) clients fits.clients.known))
       (change_all Client f clients fits.clients.distinct) w.copies w.log n
       (reached_alike links apart W x w i n (λ q. value_at same_key q clients) (look Client f (changed Client f clients) (in_order peer_key_cmp clients))
       w.copies w.log n (λ q. sym (look_all Client f clients fits.clients.distinct q)) (reached_none links apart W x w n h i a fits))
@@ -130,11 +132,15 @@ module _ (links : ℕ → Option Octets) (apart : (i j : ℕ) (l : Octets) → l
     asks = refl;
     numbers = refl;
     tickets = refl;
+    far_tickets = refl;
+    far_numbers = refl;
     log = refl;
     asks_from = refl;
     serves_from = refl;
     entries = λ c' l id at. ap (live_entry (there_at n i)) (look_all ServerTransaction g entries fits.servers.distinct (slot_key l id)) ∙ fits.servers.found c' l id at
         ∙ ap (λ (e : Key → Option ServerTransaction). live_entry (there_at n i) (e (key_of c' i id))) (sym r.1.entries);
+    strangers = λ p y. ap (live_entry (there_at n i)) (look_all ServerTransaction g entries fits.servers.distinct p) ∙ fits.servers.strangers p y
+        ∙ ap (λ (e : Key → Option ServerTransaction). live_entry (there_at n i) (e (stranger_key i p))) (sym r.1.far_entries);
     others = λ j d ne y. y;
     posts = r.1.posts;
     sound = r.1.sound;
@@ -145,19 +151,23 @@ module _ (links : ℕ → Option Octets) (apart : (i j : ℕ) (l : Octets) → l
   s : (m : Net) × Served links apart W x bound w n r.0 h.linked i a.link fits.link (λ q. value_at same_key q (changed ServerTransaction g entries))
       ((w.copies ++ cs.front) ++ cs.rest) m
   s = serves links apart W x bound w n r.0 h.linked i a.link fits.link (changed ServerTransaction g entries) (in_order peer_key_cmp entries)
-      (distinct_in_order ServerTransaction entries fits.servers.distinct) (each_in_order ServerTransaction (λ p v. IsKnown links apart p) entries fits.servers.known)
+      (distinct_in_order ServerTransaction entries fits.servers.distinct) (each_in_order ServerTransaction (λ p v. IsKnown links apart p ⊎ IsStranger links apart p) entries fits.servers.known)
       (change_all ServerTransaction g entries fits.servers.distinct) (w.copies ++ cs.front) r.0 start ds.rest cs.rest ds.second cs.second
 
   all_copies : (w.copies ++ cs.front) ++ cs.rest ≡ w.copies ++ step.acts.sent
   all_copies = append_assoc w.copies cs.front cs.rest ∙ ap (λ (l : List Copy). w.copies ++ l) (sym cs.is)
 
   log_is : w'.log ≡ step.acts.between
-  log_is = subst (λ d. AreLogged w.nodes w.notes i d step.acts.between w'.log) tick'.performed step.acts.logged
+  log_is = subst (λ d. AreLogged w.nodes w.notes i step.after d step.acts.between w'.log) tick'.performed step.acts.logged
 
   abbrev TicketFound : (Key → ℕ) → (ℕ → ℕ) → (Key → ℕ) → (Key → Option ClientTransaction) → (s' : ℕ) → Octets → ℕ → Type 0
   TicketFound made restarted numbers tickets s' l id =
       TicketFits (nat_lt (made (key_of i s' id)) (restarted i)) (here_at n i) w.notes i (numbers (key_of i s' id))
       (value_at same_key (slot_key l id) (changed Client f clients)) (tickets (key_of i s' id))
+
+  abbrev StrangerFound : (Key → ℕ) → (Key → Option ClientTransaction) → PeerKey → Type 0
+  StrangerFound numbers tickets p =
+      TicketFits false (here_at n i) w.notes i (numbers (out_key i p)) (value_at same_key p (changed Client f clients)) (tickets (out_key i p))
 
   made : Fits links apart W x w n s.0 i (record (step.before) {
     latest = told w i;
@@ -171,7 +181,7 @@ module _ (links : ℕ → Option Octets) (apart : (i j : ℕ) (l : Octets) → l
     serves = fits.serves ∙ sym (ap (λ (f : ℕ → ℕ). f i) (s.1.serves_from ∙ r.1.serves_from));
     clients = record {
       distinct = distinct_changed Client f clients fits.clients.distinct;
-      known = each_changed Client f (λ p v. IsKnown links apart p × (v.number < a.clients.asked))
+      known = each_changed Client f (λ p v. (IsKnown links apart p ⊎ IsStranger links apart p) × (v.number < a.clients.asked))
           (λ p v y. (
             y.0,
             subst (λ (z : ℕ). z < a.clients.asked) (sym (number_kept (record { settings = c; invoke_id = p.invoke_id; now = here_at n i })
@@ -181,11 +191,14 @@ module _ (links : ℕ → Option Octets) (apart : (i j : ℕ) (l : Octets) → l
           (subst (λ (y : ℕ → ℕ). TicketFound r.0.made y s.0.numbers s.0.tickets s' l id) (sym s.1.restarted)
           (subst (λ (y : Key → ℕ). TicketFound r.0.made r.0.restarted y s.0.tickets s' l id) (sym s.1.numbers)
           (subst (λ (y : Key → Option ClientTransaction). TicketFound r.0.made r.0.restarted r.0.numbers y s' l id) (sym s.1.tickets) (r.1.found s' l id at))));
+      strangers = λ p y. subst (λ (z : Key → ℕ). StrangerFound z s.0.far.tickets p) (sym s.1.far_numbers)
+          (subst (λ (z : Key → Option ClientTransaction). StrangerFound r.0.far.numbers z p) (sym s.1.far_tickets) (r.1.strangers p y));
     };
     servers = record {
       distinct = distinct_changed ServerTransaction g entries fits.servers.distinct;
-      known = each_changed ServerTransaction g (λ p v. IsKnown links apart p) (λ p v y. y) entries fits.servers.known;
+      known = each_changed ServerTransaction g (λ p v. IsKnown links apart p ⊎ IsStranger links apart p) (λ p v y. y) entries fits.servers.known;
       found = λ c' l id at. s.1.entries c' l id at;
+      strangers = s.1.strangers;
     };
   }
 
@@ -195,6 +208,7 @@ module _ (links : ℕ → Option Octets) (apart : (i j : ℕ) (l : Octets) → l
     record {
       bridge = acts_over links apart W x w w' n s.0 h i a b o step.at step.acts (s.1.alike) (s.1.asks ∙ r.1.asks)
           (λ key t is. r.1.noted key t (ap (λ y. y key) (sym s.1.tickets) ∙ is) ∙ ap Some (ap (λ y. y key) (sym s.1.numbers)))
+          (λ key t is. ap (λ y. is_away (y key) w.notes) s.1.far_numbers ∙ r.1.away key t (ap (λ y. y key) (sym s.1.far_tickets) ∙ is))
           (ap (λ (d : Node). d.link) node_is)
           (subst (λ (d : Node). Fits links apart W x w n s.0 i d) (sym node_is) made)
           (λ j d ne y. s.1.others j d ne (r.1.others j d ne y))

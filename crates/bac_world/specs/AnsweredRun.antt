@@ -7,9 +7,9 @@ use Rattle.bac_transaction.specs.Meanings.Ending.{Answered}
 use Rattle.bac_protocol.specs.Pace.{one_clock, clock_at}
 use Rattle.bac_world.specs.Node.{Node}
 use Rattle.bac_world.specs.Once.{Fact}
-use Rattle.bac_world.specs.Once.Fact.{Performed, Ended}
-use Rattle.bac_world.specs.World.{World, Time, Event, WorldRun, IsFresh, IsBounded}
-use Rattle.bac_world.specs.World.Event.{Ask, Deliver}
+use Rattle.bac_world.specs.Once.Fact.{Performed, Ended, Served}
+use Rattle.bac_world.specs.World.{World, Time, Event, WorldRun, IsFresh, IsBounded, peer_at}
+use Rattle.bac_world.specs.World.Event.{Ask, Deliver, Stray}
 use Rattle.bac_world.specs.Examples.{REQUEST, REPLY, STORE, ASKED}
 
 abbrev pub LIMITS : Limits
@@ -53,3 +53,11 @@ pub record AnsweredRun : Type 0 where
   pub last : World
   pub run : WorldRun 253 OPENING EVENTS last
   pub log : last.log ≡ LOG
+
+-- a datagram of a stranger, at link 2, is heard by node 1, which performs its request: the log tells it, and no copy is made
+pub record StrangerRun : Type 0 where
+  pub octets : Octets
+  pub last : World
+  pub run : WorldRun 253 OPENING (Stray 1 (link 2) octets ∷ []) last
+  pub log : last.log ≡ Served (peer_at (link 2)) 1 0 0 REQUEST REPLY ∷ []
+  pub copies : last.copies ≡ []

@@ -1,6 +1,6 @@
 -- Nodes, with one list of the copies of their datagrams and one log.
 use Rattle.std.specs.Prelude.{◌≡◌, ◌≢◌, ◌⊎◌, ℕ, zero, suc, ◌+◌, ◌-◌, ◌*◌, ◌≤◌, Bool, true, false, ◌&&◌, List, [], ◌∷◌, ◌++◌, length, Option, Some, None}
-use Rattle.std.specs.Prelude.{slice_get, if◌then◌else◌, nat_eq, nat_le}
+use Rattle.std.specs.Prelude.{slice_get, if◌then◌else◌, nat_eq, nat_le, not, is_some}
 use Rattle.std.specs.Option.{option_map}
 use Rattle.bac_apdu.specs.Apdu.{Apdu, Limits}
 use Rattle.bac_apdu.specs.Spelling.{SpellsApdu}
@@ -16,14 +16,17 @@ use Rattle.bac_protocol.specs.Wire.{is_from_client}
 use Rattle.bac_protocol.specs.Own.{invoke_id_of}
 use Rattle.bac_protocol.specs.Transaction.{Key}
 use Rattle.bac_protocol.specs.World.{same_key}
+use Rattle.bac_protocol.specs.Server.{ServerTransaction}
+use Rattle.bac_slots.specs.Slots.{value_at}
+use Rattle.bac_transaction.specs.Keys.{same_key as same_peer_key}
 use Rattle.bac_transaction.specs.Sends.{Datagram, Pairwise}
-use Rattle.bac_transaction.specs.Meanings.{EndedView}
+use Rattle.bac_transaction.specs.Meanings.{EndedView, Ending}
 use Rattle.bac_transaction.specs.Ends.{Accepted}
 use Rattle.bac_world.specs.Services as service
 use Rattle.bac_world.specs.Node.{Node, Outcome, Refusal, NodeOn, NodeTick, NodeAsks, NodeRefuses, with_change, restarted, store_after_restart}
 use Rattle.bac_world.specs.Laws.{IsMeaningless}
 use Rattle.bac_world.specs.Once.{Fact, Stores}
-use Rattle.bac_world.specs.Once.Fact.{Asked, Performed, Ended, Changed, Restarted}
+use Rattle.bac_world.specs.Once.Fact.{Asked, Performed, Ended, Changed, Restarted, Served, AskedAway, EndedAway}
 
 -- a datagram that was sent: at that moment, from that node to that one, in that transaction
 pub record Copy : Type 0 where
@@ -37,6 +40,7 @@ pub record Copy : Type 0 where
 pub record Note : Type 0 where
   pub key : Key
   pub ticket : ℕ
+  pub away : Option PeerView  -- the stranger that was asked, if it was one; the key then has no server
 
 -- real time, in parts of a millisecond, the clock of each node, and the pace that all keep
 pub record Time : Type 0 where
@@ -85,12 +89,17 @@ pub record IsWithNode (old : List Node) (i : ℕ) (node : Node) (new : List Node
 -- the newest ask of a transaction
 abbrev pub newest : Key → List Note → Option ℕ
 newest key [] = None
-newest key (n ∷ notes) = if same_key n.key key then Some (length notes) else newest key notes
+newest key (n ∷ notes) = if not (is_some n.away) && same_key n.key key then Some (length notes) else newest key notes
 
 -- the newest ask with that ticket of a node: a node that restarts numbers its tickets anew
 abbrev pub ask_of : (client ticket : ℕ) → List Note → Option ℕ
 ask_of client ticket [] = None
 ask_of client ticket (n ∷ notes) = if nat_eq n.key.client client && nat_eq n.ticket ticket then Some (length notes) else ask_of client ticket notes
+
+-- whether the ask of that number was of a stranger
+abbrev pub is_away : (number : ℕ) → List Note → Bool
+is_away number [] = false
+is_away number (n ∷ notes) = if nat_eq number (length notes) then is_some n.away else is_away number notes
 
 -- Copies.
 
@@ -118,6 +127,24 @@ pub record IsCopied (nodes : List Node) (now sender : ℕ) (d : Datagram) (c : C
   pub octets : c.octets ≡ d.octets
   pub transaction : IsOfTransaction nodes c
 
+-- no node has that link
+abbrev pub IsOfNone : List Node → Octets → Type 0
+IsOfNone nodes link = (j : ℕ) → link_at nodes j ≡ Some link → ⊥
+
+-- the datagram becomes the first of these copies, and the others go with the rest
+pub record IsFirst (P : Copy → Type 0) (Rest : List Copy → Type 0) (cs : List Copy) : Type 0 where
+  pub copy : Copy
+  pub rest : List Copy
+  pub is : cs ≡ copy ∷ rest
+  pub copied : P copy
+  pub others : Rest rest
+
+-- datagrams for nodes become these copies; what goes to strangers is not followed
+abbrev pub AreCopied : List Node → (now sender : ℕ) → List Datagram → List Copy → Type 0
+AreCopied nodes now sender [] cs = cs ≡ []
+AreCopied nodes now sender (d ∷ ds) cs =
+    IsFirst (IsCopied nodes now sender d) (AreCopied nodes now sender ds) cs ⊎ (IsOfNone nodes d.to × AreCopied nodes now sender ds cs)
+
 -- how many of these are the transaction's
 abbrev pub count_of : Key → List Copy → ℕ
 count_of key [] = 0
@@ -135,10 +162,15 @@ is_deliverable overtake life now number copies c = nat_le (now - c.moment) life 
 
 -- What a node's call does to the world.
 
+-- the ending of the ask of that number
+abbrev pub ending_fact : (away : Bool) → (number : ℕ) → Ending → Fact
+ending_fact true number how = EndedAway number how
+ending_fact false number how = Ended number how
+
 -- each ending enters the log, with the number noted for its ticket
 abbrev pub AreEnded : List Note → (node : ℕ) → List EndedView → (old new : List Fact) → Type 0
 AreEnded notes node [] old new = new ≡ old
-AreEnded notes node (f ∷ fs) old new = (n : ℕ) × (ask_of node f.ticket notes ≡ Some n) × AreEnded notes node fs (Ended n f.how ∷ old) new
+AreEnded notes node (f ∷ fs) old new = (n : ℕ) × (ask_of node f.ticket notes ≡ Some n) × AreEnded notes node fs (ending_fact (is_away n notes) n f.how ∷ old) new
 
 -- what was performed enters it, with the number of the newest ask of its client, this node and its invoke ID
 pub record IsLogged (nodes : List Node) (notes : List Note) (node : ℕ) (p : service.Performed) (old new : List Fact) : Type 0 where
@@ -148,9 +180,16 @@ pub record IsLogged (nodes : List Node) (notes : List Note) (node : ℕ) (p : se
   pub noted : newest (record { client = client; server = node; invoke_id = p.key.invoke_id }) notes ≡ Some number
   pub log : new ≡ Performed number p.request p.reply ∷ old
 
-abbrev pub AreLogged : List Node → List Note → (node : ℕ) → Option service.Performed → (old new : List Fact) → Type 0
-AreLogged nodes notes node None old new = new ≡ old
-AreLogged nodes notes node (Some p) old new = IsLogged nodes notes node p old new
+-- what was performed for a stranger enters it as such
+pub record IsServedTo (nodes : List Node) (node : ℕ) (after : Node) (p : service.Performed) (old new : List Fact) : Type 0 where
+  pub stranger : IsOfNone nodes p.key.peer.link
+  pub entry : ServerTransaction
+  pub kept : value_at same_peer_key p.key after.servers.slots ≡ Some entry
+  pub log : new ≡ Served p.key.peer node p.key.invoke_id entry.begin p.request p.reply ∷ old
+
+abbrev pub AreLogged : List Node → List Note → (node : ℕ) → (after : Node) → Option service.Performed → (old new : List Fact) → Type 0
+AreLogged nodes notes node after None old new = new ≡ old
+AreLogged nodes notes node after (Some p) old new = IsLogged nodes notes node p old new ⊎ IsServedTo nodes node after p old new
 
 -- the node is another one, what it sends becomes copies, its endings and what it performed enter the log, and nothing else changes
 pub record Acts (old : World) (i : ℕ) (node : Node) (o : Outcome) (new : World) : Type 0 where
@@ -159,10 +198,10 @@ pub record Acts (old : World) (i : ℕ) (node : Node) (o : Outcome) (new : World
   pub notes : new.notes ≡ old.notes
   pub sent : List Copy
   pub copies : new.copies ≡ old.copies ++ sent
-  pub copied : Pairwise (IsCopied old.nodes old.time.now i) o.sends sent
+  pub copied : AreCopied old.nodes old.time.now i o.sends sent
   pub between : List Fact
   pub ended : AreEnded old.notes i o.ended old.log between
-  pub logged : AreLogged old.nodes old.notes i o.performed between new.log
+  pub logged : AreLogged old.nodes old.notes i node o.performed between new.log
 
 -- a node hears a datagram
 pub record Hears (old : World) (i : ℕ) (from octets : Octets) (new : World) : Type 0 where
@@ -179,6 +218,8 @@ pub data Event : Type 0 where
   Ask : (client server : ℕ) (limits : Limits) (request : Request) → Event
   Deliver : (number : ℕ) → Event
   Noise : (node : ℕ) (from octets : Octets) → Event
+  Stray : (node : ℕ) (from octets : Octets) → Event
+  AskAway : (client : ℕ) (peer : PeerView) (limits : Limits) (request : Request) → Event
   Tick : (node : ℕ) → Event
   Advance : (by : ℕ) (own : ℕ → ℕ) → Event
   Change : (node : ℕ) (change : at_node.Change) → Event
@@ -200,7 +241,7 @@ pub record IsAsked (old : World) (client server : ℕ) (limits : Limits) (r : Re
   pub copies : new.copies ≡ old.copies ++ sent
   pub copied : Pairwise (IsCopied old.nodes old.time.now client) sends sent
   pub notes : new.notes
-      ≡ record { key = record { client = client; server = server; invoke_id = accepted.invoke_id }; ticket = accepted.ticket } ∷ old.notes
+      ≡ record { key = record { client = client; server = server; invoke_id = accepted.invoke_id }; ticket = accepted.ticket; away = None } ∷ old.notes
   pub log : new.log ≡ Asked (length old.notes) client server r ∷ old.log
 
 -- a refused one changes nothing
@@ -211,6 +252,29 @@ pub record IsRefused (old : World) (client server : ℕ) (limits : Limits) (r : 
   pub peer : link_at old.nodes server ≡ Some link
   pub refusal : Refusal
   pub why : NodeRefuses (told old client) (peer_at link) limits r node refusal
+  pub same : new ≡ old
+
+-- an accepted ask of a stranger: what is sent to it is not followed
+pub record IsAskedAway (old : World) (client : ℕ) (peer : PeerView) (limits : Limits) (r : Request) (new : World) : Type 0 where
+  pub before : Node
+  pub at : slice_get old.nodes client ≡ Some before
+  pub stranger : IsOfNone old.nodes peer.link
+  pub after : Node
+  pub accepted : Accepted
+  pub sends : List Datagram
+  pub asks : NodeAsks (told old client) peer limits r before after accepted sends
+  pub nodes : IsWithNode old.nodes client after new.nodes
+  pub time : new.time ≡ old.time
+  pub copies : new.copies ≡ old.copies
+  pub notes : new.notes
+      ≡ record { key = record { client = client; server = 0; invoke_id = accepted.invoke_id }; ticket = accepted.ticket; away = Some peer } ∷ old.notes
+  pub log : new.log ≡ AskedAway (length old.notes) client peer r ∷ old.log
+
+-- a refused one, or one of a peer at a node's link, changes nothing
+pub record IsRefusedAway (old : World) (client : ℕ) (peer : PeerView) (limits : Limits) (r : Request) (new : World) : Type 0 where
+  pub node : Node
+  pub at : slice_get old.nodes client ≡ Some node
+  pub why : ((refusal : Refusal) × NodeRefuses (told old client) peer limits r node refusal) ⊎ (IsOfNone old.nodes peer.link → ⊥)
   pub same : new ≡ old
 
 -- a copy is delivered to its node, where it is deliverable; otherwise it is lost
@@ -228,16 +292,25 @@ pub record IsDelivered (overtake : ℕ) (old : World) (number : ℕ) (new : Worl
   pub there : slice_get old.copies number ≡ Some copy
   pub goes : DeliversIf (is_deliverable overtake old.time.pace.life old.time.now number old.copies copy) old copy new
 
--- noise, octets that mean no APDU of a peer, is heard, whatever link it comes from
+-- octets from outside: those of a stranger, from a link of no node, whatever they are; and noise, which means no APDU of a peer, from any link
+abbrev pub IsOutside : List Node → (from octets : Octets) → Type 0
+IsOutside nodes from octets = IsOfNone nodes from ⊎ IsMeaningless from octets
+
+-- noise is heard
 pub record HearsNoise (old : World) (i : ℕ) (from octets : Octets) (new : World) : Type 0 where
-  pub noise : IsMeaningless from octets
+  pub meaningless : IsMeaningless from octets
   pub hears : Hears old i from octets new
 
--- other octets are lost: only nodes send what means something
-pub record LosesOctets (old : World) (i : ℕ) (from octets : Octets) (new : World) : Type 0 where
+-- octets of a stranger, from a link of no node, are heard, whatever they are
+pub record HearsStranger (old : World) (i : ℕ) (from octets : Octets) (new : World) : Type 0 where
+  pub stranger : IsOfNone old.nodes from
+  pub hears : Hears old i from octets new
+
+-- other octets are lost
+pub record LosesOctets (IsFit : Type 0) (old : World) (i : ℕ) (new : World) : Type 0 where
   pub node : Node
   pub at : slice_get old.nodes i ≡ Some node
-  pub no_noise : IsMeaningless from octets → ⊥
+  pub unfit : IsFit → ⊥
   pub same : new ≡ old
 
 pub record Ticks (old : World) (i : ℕ) (new : World) : Type 0 where
@@ -272,8 +345,10 @@ pub record IsRestarted (old : World) (i exact : ℕ) (store : Option Store) (new
 
 abbrev pub WorldStep : (overtake : ℕ) → World → Event → World → Type 0
 WorldStep overtake old (Ask client server limits r) new = IsAsked old client server limits r new ⊎ IsRefused old client server limits r new
+WorldStep overtake old (AskAway client peer limits r) new = IsAskedAway old client peer limits r new ⊎ IsRefusedAway old client peer limits r new
 WorldStep overtake old (Deliver number) new = IsDelivered overtake old number new
-WorldStep overtake old (Noise node from octets) new = HearsNoise old node from octets new ⊎ LosesOctets old node from octets new
+WorldStep overtake old (Noise node from octets) new = HearsNoise old node from octets new ⊎ LosesOctets (IsMeaningless from octets) old node new
+WorldStep overtake old (Stray node from octets) new = HearsStranger old node from octets new ⊎ LosesOctets (IsOfNone old.nodes from) old node new
 WorldStep overtake old (Tick node) new = Ticks old node new
 WorldStep overtake old (Advance by own) new = new ≡ record old { time = passes old.time by own }
 WorldStep overtake old (Change node change) new = IsChanged old node change new
@@ -295,12 +370,19 @@ MakeNoRestart [] = Unit {0}
 MakeNoRestart (Restart i exact store ∷ es) = ⊥
 MakeNoRestart (e ∷ es) = MakeNoRestart es
 
--- these events are asks, deliveries, noise, ticks and steps of the clock: no node changes its own store, and none restarts
+-- these events are asks, deliveries, noise, ticks and steps of the clock: no node changes its own store, and none restarts; strangers may do what they like
 abbrev pub MakeRequestsAlone : List Event → Type 0
 MakeRequestsAlone [] = Unit {0}
 MakeRequestsAlone (Change i change ∷ es) = ⊥
 MakeRequestsAlone (Restart i exact store ∷ es) = ⊥
 MakeRequestsAlone (e ∷ es) = MakeRequestsAlone es
+
+-- in these events there are no strangers: none is asked, and none sends anything
+abbrev pub MakeNoStray : List Event → Type 0
+MakeNoStray [] = Unit {0}
+MakeNoStray (AskAway client peer limits r ∷ es) = ⊥
+MakeNoStray (Stray node from octets ∷ es) = ⊥
+MakeNoStray (e ∷ es) = MakeNoStray es
 
 -- no node waits, nor ever did
 abbrev pub NeverRestarted : List Node → Type 0

@@ -8,18 +8,33 @@ pub mod node;
 
 ghost use Rattle.std.specs.Prelude.{ℕ, List, [], ◌∷◌};
 ghost use Rattle.bac_protocol.specs.Pace.{IsTimely};
-ghost use Rattle.bac_world.specs.Claims.{AreChangesPermitted, AreEndedOnce, ArePerformedOnce, AreReplayed};
-ghost use Rattle.bac_world.specs.Once.{Fact, HasNoChange, HasNoRestart, HasRequestsAlone, IsOnce, IsOnceByRequests};
+ghost use Rattle.bac_world.specs.Claims.{AreChangesPermitted, AreEndedOnce, ArePerformedOnce, AreReplayed, AreServedApart};
+ghost use Rattle.bac_world.specs.Once.{Fact, HasNoChange, HasNoRestart, HasNoStranger, HasRequestsAlone, IsOnce, IsOnceAmongNodes, IsOnceByRequests};
 ghost use Rattle.bac_world.specs.Once.{IsOnceByRequestsAlone, IsOnceInOneLife, Stores};
-ghost use Rattle.bac_world.specs.World.{World, Event, WorldRun, WorldStep, IsFresh, IsBounded, MakeNoRestart, MakeRequestsAlone, NeverRestarted};
-ghost use Rattle.bac_world.specs.World.{stores_of};
+ghost use Rattle.bac_world.specs.World.{World, Event, WorldRun, WorldStep, IsFresh, IsBounded, MakeNoRestart, MakeNoStray, MakeRequestsAlone};
+ghost use Rattle.bac_world.specs.World.{NeverRestarted, stores_of};
 
 /// After every run of a fresh world each accepted ask takes effect at most once, and exactly once where a service answer reached its client; the
-/// request performed and the answer are its own, whole; and each server's store is that of its last start, after the performed requests and the changes
-/// made at that node since, in the log's order: at a restart it stays, or is the one that the log tells.
+/// request performed and the answer are its own, whole; and each server's store is that of its last start, after the performed requests, those of
+/// strangers too, and the changes made at that node since, in the log's order: at a restart it stays, or is the one that the log tells.
 pub fn at_most_once()
     ensures { (W overtake : ℕ) (w w' : World) → IsFresh w → IsTimely w.time.pace → IsBounded W overtake w → (events : List Event) → WorldRun overtake w events w'
         → IsOnce (stores_of w.nodes) w'.log (stores_of w'.nodes) }
+{}
+
+/// Whatever strangers send: what a node performs for one of them under one invoke ID, between two of its restarts, is performed in entries that began more than
+/// 65,000 ms apart, by the node's clock. A node that restarts begins no entry for them until its new clock has gone on by more than 65,000 ms.
+pub fn strangers_are_served_apart()
+    ensures { (W overtake : ℕ) (w w' : World) → IsFresh w → IsTimely w.time.pace → IsBounded W overtake w → (events : List Event) → WorldRun overtake w events w'
+        → AreServedApart w' }
+{}
+
+/// Where the log has nothing of strangers, it is right without them: what is said of nodes alone. Where no event is one of a stranger, the log has nothing of
+/// them.
+#[tactic(auto, using(crate::proofs::Claims::among_nodes, crate::proofs::WithoutStrangers::no_stranger_in_run))]
+pub fn without_strangers()
+    ensures log { (opening : Stores) (log : List Fact) (stores : Stores) → HasNoStranger log → IsOnce opening log stores → IsOnceAmongNodes opening log stores }
+    ensures run { (overtake : ℕ) (events : List Event) (w w' : World) → IsFresh w → MakeNoStray events → WorldRun overtake w events w' → HasNoStranger w'.log }
 {}
 
 /// Where the log has no restart, each server's store is its opening store after the performed requests and the changes made at that node, in the log's

@@ -10,7 +10,7 @@ use Rattle.bac_protocol.specs.Log as machine_log
 use Rattle.bac_transaction.specs.Sends.{Pairwise}
 use Rattle.bac_transaction.specs.Meanings.Ending.{Answered}
 use Rattle.bac_world.specs.Once.{Fact, Has, Stores, IsOnce}
-use Rattle.bac_world.specs.Once.Fact.{Asked, Performed, Ended, Changed, Restarted}
+use Rattle.bac_world.specs.Once.Fact.{Asked, Performed, Ended, Changed, Restarted, Served, AskedAway, EndedAway}
 use Rattle.bac_world.proofs.Logs.{FactMeans}
 use Rattle.bac_liveness.proofs.Values.{not_performed}
 
@@ -84,11 +84,20 @@ module _ (opening stores : Stores) (n c s choice : ℕ) (octets : Octets) (r : R
   facts_are (Performed i d e) y z hx hy hz once = absurd hx
   facts_are (Changed i d) y z hx hy hz once = absurd hx
   facts_are (Restarted i d) y z hx hy hz once = absurd hx
+  facts_are (Served q i d b x v) y z hx hy hz once = absurd hx
+  facts_are (AskedAway i d q f) y z hx hy hz once = absurd hx
+  facts_are (EndedAway i d) y z hx hy hz once = absurd hx
   facts_are (Ended i how) (Asked j d e f) z hx hy hz once = absurd hy
   facts_are (Ended i how) (Ended j d) z hx hy hz once = absurd hy
   facts_are (Ended i how) (Changed j d) z hx hy hz once = absurd hy
   facts_are (Ended i how) (Restarted j d) z hx hy hz once = absurd hy
+  facts_are (Ended i how) (Served q k d b x v) z hx hy hz once = absurd hy
+  facts_are (Ended i how) (AskedAway j d q f) z hx hy hz once = absurd hy
+  facts_are (Ended i how) (EndedAway j d) z hx hy hz once = absurd hy
   facts_are (Ended i how) (Performed j q v) (Performed k d e) hx hy hz once = absurd hz
   facts_are (Ended i how) (Performed j q v) (Ended k d) hx hy hz once = absurd hz
   facts_are (Ended i how) (Performed j q v) (Changed k d) hx hy hz once = absurd hz
   facts_are (Ended i how) (Performed j q v) (Restarted k d) hx hy hz once = absurd hz
+  facts_are (Ended i how) (Performed j q v) (Served y k d b x w) hx hy hz once = absurd hz
+  facts_are (Ended i how) (Performed j q v) (AskedAway k d y f) hx hy hz once = absurd hz
+  facts_are (Ended i how) (Performed j q v) (EndedAway k d) hx hy hz once = absurd hz

@@ -261,7 +261,7 @@ second_performed = record {
   sends_are = refl;
   goods = (last_ack_good, (answer_good, tt));
   ended = refl;
-  logged = record { client = 0; number = 0; link = refl; noted = refl; log = refl };
+  logged = inl (record { client = 0; number = 0; link = refl; noted = refl; log = refl });
 }
 
 second_acked : IsDelivery 1 0 (nodes SENT DONE) (nodes WAITS DONE) ALL PERFORMED PERFORMED 3 (ACK 1) []

@@ -1,5 +1,5 @@
 -- Two nodes, and what is needed for a copy to be delivered between them.
-use Rattle.std.proofs.Common.{◌≡◌, ◌≢◌, ◌≤◌, ℕ, zero, suc, true, List, [], ◌∷◌, ◌++◌, map, length, Some, slice_get, IsTrue, refl, sym, subst, inr}
+use Rattle.std.proofs.Common.{◌≡◌, ◌≢◌, ◌≤◌, ℕ, zero, suc, true, List, [], ◌∷◌, ◌++◌, map, length, Some, None, slice_get, IsTrue, refl, sym, subst, inr}
 use Rattle.bac_apdu.specs.Apdu.{Apdu}
 use Rattle.bac_apdu.specs.Spelling.{SpellsApdu, apdu_fits, apdu_spelling, is_confirmed_request}
 use Rattle.bac_npdu.specs.Datagram.{Means, IsFrameTo, frame}
@@ -13,13 +13,14 @@ use Rattle.bac_world.specs.Node.{Node, Outcome, IsHeardBy}
 use Rattle.bac_world.specs.Once.{Fact}
 use Rattle.bac_world.specs.World.{World, Copy, Note, AreEnded, AreLogged, IsCopied, IsDelivered, IsWithNode, is_deliverable, link_at, peer_at, transaction_of}
 use Rattle.bac_world.specs.World.{DeliversIf}
+use Rattle.bac_world.proofs.Bridge.{each_copied}
 use Rattle.bac_world.specs.AnsweredRun.{TIME, link}
 
 abbrev pub KEY : Key
 KEY = record { client = 0; server = 1; invoke_id = 0 }
 
 abbrev pub NOTES : List Note
-NOTES = record { key = KEY; ticket = 0 } ∷ []
+NOTES = record { key = KEY; ticket = 0; away = None } ∷ []
 
 abbrev pub datagram : (to : ℕ) → Apdu → Datagram
 datagram to a = record { to = link to; octets = frame (peer_at (link to)) (is_confirmed_request a) (apdu_spelling a) }
@@ -99,7 +100,7 @@ pub record IsDelivery (from to : ℕ) (old new : List Node) (copies : List Copy)
     pub sends_are : outcome.sends ≡ map (datagram from) sends
     pub goods : Each (IsGood to from) sends
     pub ended : AreEnded NOTES to outcome.ended log between
-    pub logged : AreLogged old NOTES to outcome.performed between log'
+    pub logged : AreLogged old NOTES to after outcome.performed between log'
 
 pub delivers : (from to : ℕ) (old new : List Node) (copies : List Copy) (log log' : List Fact) (number : ℕ) (a : Apdu) (sends : List Apdu)
     → IsDelivery from to old new copies log log' number a sends
@@ -122,8 +123,9 @@ delivers from to old new copies log log' number a sends d = record {
         notes = refl;
         sent = map (copy to from) sends;
         copies = refl;
-        copied = subst (λ (ds : List Datagram). Pairwise (IsCopied old 0 to) ds (map (copy to from) sends)) (sym d.sends_are)
-            (copied old to from d.to_at d.from_at sends d.goods);
+        copied = each_copied old 0 to d.outcome.sends (map (copy to from) sends)
+            (subst (λ (ds : List Datagram). Pairwise (IsCopied old 0 to) ds (map (copy to from) sends)) (sym d.sends_are)
+            (copied old to from d.to_at d.from_at sends d.goods));
         between = d.between;
         ended = d.ended;
         logged = d.logged;

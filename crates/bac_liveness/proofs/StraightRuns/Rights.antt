@@ -7,8 +7,8 @@ use Rattle.bac_store.specs.Stores.{Store}
 use Rattle.bac_store.specs.Replies.{reply_to}
 use Rattle.bac_store.specs.Changes.{after}
 use Rattle.bac_store.specs.AtNode.{changed}
-use Rattle.bac_world.specs.Once.{Fact, Has, Stores, IsOnce, MayPerform, asks_in}
-use Rattle.bac_world.specs.Once.Fact.{Asked, Performed, Ended, Changed, Restarted}
+use Rattle.bac_world.specs.Once.{Fact, Has, Stores, IsOnce, MayPerform, MayServe, asks_in}
+use Rattle.bac_world.specs.Once.Fact.{Asked, Performed, Ended, Changed, Restarted, Served, AskedAway, EndedAway}
 use Rattle.bac_world.specs.Node.{store_after_restart}
 
 module _ (opening : Stores) where
@@ -26,6 +26,12 @@ module _ (opening : Stores) where
   asked_below n c s r (Changed i d ∷ log) stores once (inr h) = asked_below n c s r log once.0 once.2 h
   asked_below n c s r (Restarted i d ∷ log) stores once (inl e) = absurd cc
   asked_below n c s r (Restarted i d ∷ log) stores once (inr h) = asked_below n c s r log once.0 once.2 h
+  asked_below n c s r (Served q i d b y p ∷ log) stores once (inl e) = absurd cc
+  asked_below n c s r (Served q i d b y p ∷ log) stores once (inr h) = asked_below n c s r log once.0 once.2 h
+  asked_below n c s r (AskedAway m a q y ∷ log) stores once (inl e) = absurd cc
+  asked_below n c s r (AskedAway m a q y ∷ log) stores once (inr h) = let again = asked_below n c s r log once.0 once.2 h in omega arith
+  asked_below n c s r (EndedAway m how ∷ log) stores once (inl e) = absurd cc
+  asked_below n c s r (EndedAway m how ∷ log) stores once (inr h) = asked_below n c s r log once.0 once.2 h
 
   -- so an ask has one server
   one_server : (n c s d u : ℕ) (q r : Request) (log : List Fact) (stores : Stores) → IsOnce opening log stores → Has (Asked n c s q) log
@@ -49,6 +55,15 @@ module _ (opening : Stores) where
   one_server n c s d u q r (Restarted i z ∷ log) stores once (inl e) k = absurd cc
   one_server n c s d u q r (Restarted i z ∷ log) stores once (inr h) (inl f) = absurd cc
   one_server n c s d u q r (Restarted i z ∷ log) stores once (inr h) (inr k) = one_server n c s d u q r log once.0 once.2 h k
+  one_server n c s d u q r (Served z i w b y p ∷ log) stores once (inl e) k = absurd cc
+  one_server n c s d u q r (Served z i w b y p ∷ log) stores once (inr h) (inl f) = absurd cc
+  one_server n c s d u q r (Served z i w b y p ∷ log) stores once (inr h) (inr k) = one_server n c s d u q r log once.0 once.2 h k
+  one_server n c s d u q r (AskedAway m a z y ∷ log) stores once (inl e) k = absurd cc
+  one_server n c s d u q r (AskedAway m a z y ∷ log) stores once (inr h) (inl f) = absurd cc
+  one_server n c s d u q r (AskedAway m a z y ∷ log) stores once (inr h) (inr k) = one_server n c s d u q r log once.0 once.2 h k
+  one_server n c s d u q r (EndedAway m how ∷ log) stores once (inl e) k = absurd cc
+  one_server n c s d u q r (EndedAway m how ∷ log) stores once (inr h) (inl f) = absurd cc
+  one_server n c s d u q r (EndedAway m how ∷ log) stores once (inr h) (inr k) = one_server n c s d u q r log once.0 once.2 h k
 
   one_performed : (n : ℕ) (r : Request) (p : Reply) (log : List Fact) (a b stores other : Stores) → IsOnce opening log a
       → MayPerform n r p log a stores → MayPerform n r p log b other → ((node : ℕ) → a node ≡ b node) → (node : ℕ) → stores node ≡ other node
@@ -58,6 +73,15 @@ module _ (opening : Stores) where
       let e : Some h.store ≡ Some k.store = sym h.at ∙ same h.server ∙ ap b server ∙ k.at in cc in
       h.stores node
       ∙ (λ i. if nat_eq node (server i) then Some (after (store i) r) else same node i)
+      ∙ sym (k.stores node)
+
+  -- the same of a stranger's
+  one_served : (i : ℕ) (r : Request) (p : Reply) (a b stores other : Stores) → MayServe i r p a stores → MayServe i r p b other
+      → ((node : ℕ) → a node ≡ b node) → (node : ℕ) → stores node ≡ other node
+  one_served i r p a b stores other h k same node =
+      let store : h.store ≡ k.store = let e : Some h.store ≡ Some k.store = sym h.at ∙ same i ∙ k.at in cc in
+      h.stores node
+      ∙ (λ d. if nat_eq node i then Some (after (store d) r) else same node d)
       ∙ sym (k.stores node)
 
   pub one_stores : (log : List Fact) (stores other : Stores) → IsOnce opening log stores → IsOnce opening log other → (node : ℕ) → stores node ≡ other node
@@ -72,6 +96,9 @@ module _ (opening : Stores) where
   one_stores (Restarted i o ∷ log) stores other h k node =
       let again = one_stores log h.0 k.0 h.2 k.2 in
       h.1 node ∙ (λ d. if nat_eq node i then option_map (λ (y : Store). store_after_restart y o) (again i d) else again node d) ∙ sym (k.1 node)
+  one_stores (Served q i d b r p ∷ log) stores other h k node = one_served i r p h.0 k.0 stores other h.1 k.1 (one_stores log h.0 k.0 h.2 k.2) node
+  one_stores (AskedAway n c q r ∷ log) stores other h k node = h.1.1 node ∙ one_stores log h.0 k.0 h.2 k.2 node ∙ sym (k.1.1 node)
+  one_stores (EndedAway n how ∷ log) stores other h k node = h.1.2 node ∙ one_stores log h.0 k.0 h.2 k.2 node ∙ sym (k.1.2 node)
 
   -- the reply of a request that was performed just after its ask
   pub reply_is : (n c s : ℕ) (r : Request) (p : Reply) (log : List Fact) (stores before : Stores) (store : Store)

@@ -30,7 +30,7 @@ use Rattle.bac_transaction.proofs.ServerTables.{has_space}
 use Rattle.bac_world.specs.Node.{Node, Outcome, NodeOn, NodeTick, NodeAsks, IsHeardBy, with_change}
 use Rattle.bac_world.specs.World.{World, Event, WorldStep, WorldRun, IsFresh, IsFreshNode, IsWithNode, DeliversIf, Hears, is_deliverable, Time, passes}
 use Rattle.bac_world.specs.World.{with_clock, told}
-use Rattle.bac_world.specs.World.Event.{Deliver, Noise, Tick, Advance, Change, Restart}
+use Rattle.bac_world.specs.World.Event.{Deliver, Noise, Stray, Tick, Advance, Change, Restart}
 use Rattle.bac_world.proofs.Steps.{decide_number}
 use Rattle.bac_world.proofs.Asking.{accepted_is}
 use Rattle.bac_liveness.specs.Room.{HasRoom, HaveRoom}
@@ -310,6 +310,9 @@ step_room : (overtake : ℕ) (w w' : World) (e : Event) → WorldStep overtake w
 step_room overtake w w' (Event.Ask client server limits r) (inl s) shown h = still_room w w' client s.after s.nodes s.time
     (asks_room (told w client) _ limits r s.before s.after s.accepted s.sends s.asks (h client s.before s.at)) h
 step_room overtake w w' (Event.Ask client server limits r) (inr s) shown h = same_room w w' s.same h
+step_room overtake w w' (Event.AskAway client peer limits r) (inl s) shown h = still_room w w' client s.after s.nodes s.time
+    (asks_room (told w client) _ limits r s.before s.after s.accepted s.sends s.asks (h client s.before s.at)) h
+step_room overtake w w' (Event.AskAway client peer limits r) (inr s) shown h = same_room w w' s.same h
 step_room overtake w w' (Deliver number) s shown h = go (is_deliverable overtake w.time.pace.life w.time.now number w.copies s.copy) s.goes
   where
     go : (b : Bool) → DeliversIf b w s.copy w' → HaveRoom w'
@@ -317,6 +320,8 @@ step_room overtake w w' (Deliver number) s shown h = go (is_deliverable overtake
     go false same = same_room w w' same h
 step_room overtake w w' (Noise node from octets) (inl s) shown h = hears_stays w w' node from octets s.hears h
 step_room overtake w w' (Noise node from octets) (inr s) shown h = same_room w w' s.same h
+step_room overtake w w' (Stray node from octets) (inl s) shown h = hears_stays w w' node from octets s.hears h
+step_room overtake w w' (Stray node from octets) (inr s) shown h = same_room w w' s.same h
 step_room overtake w w' (Tick node) s shown h = still_room w w' node s.after s.acts.nodes s.acts.time
     (tick_room (told w node) s.before s.after s.outcome s.tick (h node s.before s.at)) h
 step_room overtake w w' (Advance by own) s shown h = subst HaveRoom (sym s) (λ j n at. later_room (told w j)
@@ -332,6 +337,8 @@ still_shown t u same h = subst AreShown (sym same) h
 step_shown : (overtake : ℕ) (w w' : World) (e : Event) → WorldStep overtake w e w' → AreShown w.time → AreShown w'.time
 step_shown overtake w w' (Event.Ask client server limits r) (inl s) h = still_shown w.time w'.time s.time h
 step_shown overtake w w' (Event.Ask client server limits r) (inr s) h = still_shown w.time w'.time (ap (λ (y : World). y.time) s.same) h
+step_shown overtake w w' (Event.AskAway client peer limits r) (inl s) h = still_shown w.time w'.time s.time h
+step_shown overtake w w' (Event.AskAway client peer limits r) (inr s) h = still_shown w.time w'.time (ap (λ (y : World). y.time) s.same) h
 step_shown overtake w w' (Deliver number) s h = go (is_deliverable overtake w.time.pace.life w.time.now number w.copies s.copy) s.goes
   where
     go : (b : Bool) → DeliversIf b w s.copy w' → AreShown w'.time
@@ -339,6 +346,8 @@ step_shown overtake w w' (Deliver number) s h = go (is_deliverable overtake w.ti
     go false same = still_shown w.time w'.time (ap (λ (y : World). y.time) same) h
 step_shown overtake w w' (Noise node from octets) (inl s) h = still_shown w.time w'.time s.hears.acts.time h
 step_shown overtake w w' (Noise node from octets) (inr s) h = still_shown w.time w'.time (ap (λ (y : World). y.time) s.same) h
+step_shown overtake w w' (Stray node from octets) (inl s) h = still_shown w.time w'.time s.hears.acts.time h
+step_shown overtake w w' (Stray node from octets) (inr s) h = still_shown w.time w'.time (ap (λ (y : World). y.time) s.same) h
 step_shown overtake w w' (Tick node) s h = still_shown w.time w'.time s.acts.time h
 step_shown overtake w w' (Advance by own) s h = still_shown (passes w.time by own) w'.time (ap (λ (y : World). y.time) s) (λ i. refl)
 step_shown overtake w w' (Change node change) s h = still_shown w.time w'.time s.time h

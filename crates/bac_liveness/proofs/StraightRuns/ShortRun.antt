@@ -163,7 +163,7 @@ request_performed = record {
   sends_are = refl;
   goods = (answer_good, tt);
   ended = refl;
-  logged = record { client = 0; number = 0; link = refl; noted = refl; log = refl };
+  logged = inl (record { client = 0; number = 0; link = refl; noted = refl; log = refl });
 }
 
 answer_taken : IsDelivery 1 0 (nodes ACCEPTED.end DONE) (nodes CLOSED DONE) BOTH PERFORMED ENDED 1 ANSWER []

@@ -21,7 +21,7 @@ invariant-loop-datagram l =
           → BecomeCopies nodes l.now l.sender l.yielded (map copy_view l.fn.copies.items) (map copy_view l.copies.items);
       kept : (notes : List Note) → IsKept l.fn.rows l.fn.copies.items notes → IsKept l.rows l.copies.items notes;
       nodes : length l.rows ≡ length l.fn.rows;
-      many : length l.copies.items ≡ length l.fn.copies.items + length l.yielded;
+      many : length l.copies.items ≤ length l.fn.copies.items + length l.yielded;
       room : l.copies.cap ≡ l.fn.copies.cap;
       rooms : map room_of l.rows ≡ map room_of l.fn.rows;
     }

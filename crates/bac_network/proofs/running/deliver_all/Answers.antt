@@ -1,10 +1,9 @@
 -- As many copies were delivered as it tells.
 use Rattle.std.proofs.Common.{refl}
-use Rattle.bac_network.specs.Histories.{as_world}
 use Rattle.bac_network.specs.Going.{IsStuck}
 use Rattle.bac_network.proofs.StraightGoing.{told_why}
 use Rattle.bac_network.proofs.running.deliver_all.Goals as goal
 
 pub returns-in_err-deliveries : goal.returns-in_err-deliveries
-returns-in_err-deliveries c = told_why _ (λ f. IsStuck f c.args.ask c.args.since c.args.first c.args.moment (as_world c.deliver_each.new)) _
+returns-in_err-deliveries c = told_why _ (λ f. IsStuck f c.args.ask c.args.since c.args.first c.args.world.now c.deliver_each.new.world) _
     c.from_residual.result c.from_residual.ensures.1 c.in_err-deliveries.ensures

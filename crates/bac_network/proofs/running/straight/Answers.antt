@@ -9,7 +9,7 @@ use Rattle.bac_network.proofs.running.straight.Goals as goal
 
 pub returns-clause-run : goal.returns-clause-run
 returns-clause-run c =
-    let w = c.args.moment in
+    let w = c.args.world.now in
     let new = (as_world c.ask_and_deliver-run.new.world) in
     let r = owned_request_view c.args.request in
     let limits = limits_view c.in-Some.limits in
@@ -21,7 +21,7 @@ returns-clause-run c =
 
 pub returns-clause-goes : goal.returns-clause-goes
 returns-clause-goes c =
-    let w = c.args.moment in
+    let w = c.args.world.now in
     let new = (as_world c.ask_and_deliver-run.new.world) in
     let r = owned_request_view c.args.request in
     let limits = limits_view c.in-Some.limits in
@@ -33,7 +33,7 @@ returns-clause-goes c =
 
 pub returns-clause-stopped : goal.returns-clause-stopped
 returns-clause-stopped c =
-    let w = c.args.moment in
+    let w = c.args.world.now in
     let new = (as_world c.ask_and_deliver-run.new.world) in
     let r = owned_request_view c.args.request in
     let limits = limits_view c.in-Some.limits in
@@ -44,7 +44,7 @@ returns-clause-stopped c =
 
 pub returns-clause-answered : goal.returns-clause-answered
 returns-clause-answered c = λ a b can.
-    let w = c.args.moment in
+    let w = c.args.world.now in
     let new = (as_world c.ask_and_deliver-run.new.world) in
     let r = owned_request_view c.args.request in
     let limits = limits_view c.in-Some.limits in
@@ -60,7 +60,7 @@ returns-in_default-clause-stopped c = inl (record { fault_is = refl; lacks = c.i
 
 pub returns-clause-requests_alone : goal.returns-clause-requests_alone
 returns-clause-requests_alone c = λ before.
-    let w = c.args.moment in
+    let w = c.args.world.now in
     let new = (as_world c.ask_and_deliver-run.new.world) in
     let r = owned_request_view c.args.request in
     let limits = limits_view c.in-Some.limits in
