@@ -1,5 +1,5 @@
 -- Reports on captures whose first octets were read separately.
-use Rattle.std.proofs.Common.{◌≡◌, ℕ, Bool, List, ◌++◌, take, drop, Result, Ok, Err, Option, Some, None, IfOk, ap, sym, subst, ◌∙◌, arith, length-take, take-append-drop}
+use Rattle.std.proofs.Common.{◌≡◌, ℕ, Bool, List, ◌++◌, take, drop, Option, Some, None, ap, subst, ◌∙◌, arith, length-take, take-append-drop}
 use Rattle.std.specs.Fmt.{option_append}
 use Rattle.std.specs.Io.KnownBytes.{Appends}
 use Rattle.std.proofs.KnownBytes.{Appends-trans}
@@ -12,7 +12,7 @@ use Rattle.bac_capture.specs.Reports.{IsFileWalked}
 use Rattle.bac_capture.specs.Runs.{RUN_LIMIT, IsRun}
 use Rattle.bac_capture.specs.Walks.{Prints}
 use Rattle.bac_capture.proofs.Runs.{take_all}
-use Rattle.bac_text.specs.Statuses.{IfEnded, IsStop}
+use Rattle.bac_text.specs.Statuses.{IfEnded}
 use Rattle.bac_text.specs.declared.status.Status.{Status}
 use Rattle.bac_text.specs.declared.status.Status.TheVariants as status
 
@@ -23,14 +23,6 @@ if_ended status.Faulty Promise p = p
 if_ended status.CommandLine Promise p = tt
 if_ended status.Output Promise p = tt
 if_ended status.Memory Promise p = tt
-
--- a command that stopped promises nothing
-pub if_stopped : (s : Status) (Promise : Type 0) → IsStop s → IfEnded s Promise
-if_stopped status.Done Promise h = absurd h
-if_stopped status.Faulty Promise h = absurd h
-if_stopped status.CommandLine Promise h = tt
-if_stopped status.Output Promise h = tt
-if_stopped status.Memory Promise h = tt
 
 module _ (S : Type 0) (Visits : Prints FrameView S) (Breaks : Prints FileFault S) (heading : S → List ℕ) (Ends : Ending S) (Others : Other) (state : S) where
   -- the heading was printed, then the frames, and then the end
@@ -46,10 +38,6 @@ module _ (S : Type 0) (Visits : Prints FrameView S) (Breaks : Prints FileFault S
     ends = end.ends;
     printed = Appends-trans a b d _ _ (subst (Appends a b) is headed) (Appends-trans b c d _ _ walked.printed end.printed);
   }
-
-  pub stop_reported : (input a b : Option (List ℕ)) (s : Status) → IsStop s → IsReportOf S Visits Breaks heading Ends Others state input a b s
-  stop_reported None a b s h = tt
-  stop_reported (Some octets) a b s h = if_stopped s _ h
 
   front_reported : (input left a b : Option (List ℕ)) (front shown : List ℕ) (w : Bool) (s : Status) → IsRun input left 4 front w → shown ≡ front
       → IfEnded s (IsReportIn S Visits Breaks heading Ends Others state (signature_of shown) (option_append (Some shown) left) a b s)

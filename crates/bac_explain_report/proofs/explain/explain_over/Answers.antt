@@ -1,5 +1,5 @@
 -- The report begins without a transaction, or ends at once if its table cannot be allocated.
-use Rattle.std.proofs.Common.{subst, Option, List, ℕ}
+use Rattle.std.proofs.Common.{subst}
 use Rattle.bac_capture.specs.FileReports.{IsReportOf, no_heading, no_report}
 use Rattle.bac_explain_report.specs.Accounts.{Account}
 use Rattle.bac_explain_report.specs.Explained.{BreaksFile, EndsFile, SeesFrame}
