@@ -9,7 +9,7 @@ use Rattle.bac_driver.specs.declared.wait_limit.WaitLimit.{WaitLimit}
 use Rattle.bac_driver.specs.declared.question.AskEnd.{AskEnd}
 use Rattle.bac_command_line.specs.AskedLines.{Numbered, line_view}
 use Rattle.bac_command_line.specs.InFlight.{Aloft, BeginsAsk, BeginsMore, EndsFirst, GoesOn, TakesFirst, TakesTurn, PrintsEach, PrintsLine, Waits}
-use Rattle.bac_command_line.specs.InFlight.{all_noted, aloft, first_patience, has_ticket, noted, noted_at}
+use Rattle.bac_command_line.specs.InFlight.{all_noted, aloft, ended_in, first_patience, has_ticket, noted, noted_at}
 use Rattle.bac_command_line.specs.declared.asking.Asking.{Asking}
 use Rattle.bac_command_line.specs.declared.flights.Flight.{Flight}
 use Rattle.bac_command_line.specs.declared.question_lines.LineQuestion.{LineQuestion}
@@ -29,8 +29,8 @@ length_all_noted (f ∷ finishes) fs =
 pub length_turned : (p : WaitLimit) (old new : Aloft) → TakesTurn p old new → length new.flights ≡ length old.flights
 length_turned p old new takes =
     ap length takes.noted
-    ∙ (length_all_noted takes.turn.tick_ended.items (all_noted takes.turn.ended.items old.flights)
-    ∙ length_all_noted takes.turn.ended.items old.flights)
+    ∙ (length_all_noted (ended_in takes.turn.ticked) (all_noted (ended_in takes.turn.heard) old.flights)
+    ∙ length_all_noted (ended_in takes.turn.heard) old.flights)
 
 pub length_taken : (end : AskEnd) (old new : List Flight) → TakesFirst end old new → length new + 1 ≡ length old
 length_taken end old new takes = let e : length old ≡ suc (length new) = ap length takes.is in omega (arith, e)

@@ -2,6 +2,7 @@
 use Rattle.std.specs.Prelude.{◌≡◌, ◌⊎◌, ℕ, ◌==◌, ◌<◌, ◌≤◌, ◌++◌, max, Bool, true, false, ◌&&◌, List, [], ◌∷◌, length, Option, Some, None, position, slice_set}
 use Rattle.std.specs.Io.KnownBytes.{Appends}
 use Rattle.bac_driver.specs.Moments.{with_moment}
+use Rattle.bac_node.specs.declared.outcome.Outcome.{Outcome}
 use Rattle.bac_requester.specs.declared.reaction.Ended.{Ended}
 use Rattle.bac_driver.specs.Asking as run
 use Rattle.bac_driver.specs.Asking.{Question}
@@ -75,6 +76,11 @@ abbrev pub all_noted : List Ended → List Flight → List Flight
 all_noted [] fs = fs
 all_noted (f ∷ more) fs = all_noted more (noted f fs)
 
+-- the tickets that a step of a turn ended
+abbrev pub ended_in : Option Outcome → List Ended
+ended_in None = []
+ended_in (Some o) = o.ended.items
+
 abbrev pub first_patience : List Flight → Option WaitLimit
 first_patience [] = None
 first_patience (f ∷ fs) = patience_of f
@@ -113,7 +119,7 @@ pub record BeginsMore (asking : Asking) (window : ℕ) (waiting : List Numbered)
 pub record TakesTurn (p : WaitLimit) (old new : Aloft) : Type 0 where
   pub turn : Turn
   pub takes : TakesEarlyTurn p old.at (turn_view turn) new.at
-  pub noted : new.flights ≡ all_noted turn.tick_ended.items (all_noted turn.ended.items old.flights)
+  pub noted : new.flights ≡ all_noted (ended_in turn.ticked) (all_noted (ended_in turn.heard) old.flights)
 
 -- or no time was left for one
 abbrev pub GoesOn : WaitLimit → (went : Bool) → (old new : Aloft) → Type 0

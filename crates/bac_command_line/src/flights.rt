@@ -2,9 +2,10 @@
 ghost use Rattle.std.specs.Prelude.{◌≡◌, ◌<◌, ◌+◌, ◌↔◌, ◌++◌, ◌∷◌, [], length, max, IfErr, IfOk, IsTrue};
 ghost use Rattle.std.specs.List.{position};
 ghost use Rattle.bac_text.specs.Statuses.{IsFailure};
-ghost use Rattle.bac_command_line.specs.InFlight.{TakesFirst, all_noted, end_of, first_patience, has_ticket, noted, patience_of};
+ghost use Rattle.bac_command_line.specs.InFlight.{TakesFirst, all_noted, end_of, ended_in, first_patience, has_ticket, noted, patience_of};
 
 use bac_driver::{AskEnd, Turn, WaitLimit};
+use bac_node::Outcome;
 use bac_requester::Ended;
 use bac_text::{Status, no_memory};
 use std::alloc::Global;
@@ -124,11 +125,20 @@ impl Flights {
         }
     }
 
+    /// Notes how tickets ended in a step of a turn.
+    fn note_step(&mut self, step: Option<Outcome>)
+        ensures { self.new.asks.items ≡ all_noted (ended_in step) self.old.asks.items }
+    {
+        if let Some(outcome) = step {
+            self.note_each(outcome.ended);
+        }
+    }
+
     /// Notes how tickets ended in a turn.
     pub(crate) fn note_turn(&mut self, turn: Turn)
-        ensures { self.new.asks.items ≡ all_noted turn.tick_ended.items (all_noted turn.ended.items self.old.asks.items) }
+        ensures { self.new.asks.items ≡ all_noted (ended_in turn.ticked) (all_noted (ended_in turn.heard) self.old.asks.items) }
     {
-        self.note_each(turn.ended);
-        self.note_each(turn.tick_ended);
+        self.note_step(turn.heard);
+        self.note_step(turn.ticked);
     }
 }

@@ -13,7 +13,9 @@ use crate::asking::Asking;
 use crate::bad_words::print_bad_words;
 use crate::rounds::{Asked, ask_by_client};
 use crate::serving::{Serving, print_listening, print_not_bound, serve_from};
-use bac_commands::{Style, bound_house, bound_server, clock_fault, link_fault, read_question};
+use bac_commands::{
+    AskCommand, Style, bound_house, bound_server, clock_fault, link_fault, read_question,
+};
 use bac_driver::{BoundNode, Clock, Link, Question};
 use bac_node::NewNodeFault;
 use bac_npdu::{LinkAddress, Peer};
@@ -139,18 +141,13 @@ pub(crate) fn ask_once<L: Link, C: Clock, O: Write, E: Write>(
         (timed bound_node.old (C.told clock.old)) (timed bound_node.new (C.told clock.new)) (O.contents out.old) (O.contents out.new)) }
     ensures failed { IfErr result IsFailure }
 {
-    let wait_limit = asking.wait_limit(clock.now());
-    match bac_commands::ask(
-        alloc,
-        bound_node,
-        clock,
-        asking.output_format,
-        asking.shows_progress,
+    let command = AskCommand {
         question,
-        &wait_limit,
-        out,
-        err,
-    ) {
+        wait_limit: asking.wait_limit(clock.now()),
+        output_format: asking.output_format,
+        shows_progress: asking.shows_progress,
+    };
+    match bac_commands::ask(alloc, bound_node, clock, &command, out, err) {
         Status::Done => Ok(true),
         Status::Faulty => Ok(false),
         Status::CommandLine => Err(Status::CommandLine),

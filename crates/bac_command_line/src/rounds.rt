@@ -15,7 +15,7 @@ use crate::online::{Machine, ask_once};
 use crate::question_lines::LineQuestion;
 use crate::window::ask_ahead;
 use bac_commands::{CommandError, bound_client, clock_fault, link_fault};
-use bac_driver::{BoundNode, Clock, Link, Question, WaitLimit};
+use bac_driver::{BoundNode, Clock, Link, Question, RunLimit, WaitLimit};
 use bac_text::{Status, no_memory};
 use std::alloc::Global;
 use std::io::Write;
@@ -79,11 +79,14 @@ fn rest<L: Link, C: Clock, E: Write>(
     ensures rested { IfOk result (λ _. Rests moment (timed bound_node.old (C.told clock.old)) (timed bound_node.new (C.told clock.new))) }
     ensures failed { IfErr result IsFailure }
 {
-    let wait_limit = WaitLimit {
-        wait: u64::MAX,
-        until: Some(moment),
+    let limit = RunLimit {
+        turns: u64::MAX,
+        wait_limit: WaitLimit {
+            wait: u64::MAX,
+            until: Some(moment),
+        },
     };
-    match bound_node.serve(clock, &wait_limit, u64::MAX) {
+    match bound_node.serve(clock, &limit) {
         Ok(_) => Ok(()),
         Err(fault) => Err(CommandError::from(fault).report(err)),
     }

@@ -6,8 +6,8 @@ ghost use Rattle.bac_text.specs.declared.status.Status.TheVariants as status;
 ghost use Rattle.bac_command_line.specs.Serving.{patience_of, restart_of, turns_of};
 
 use crate::address::{LOCAL_HOST, read_host};
-use bac_commands::link_fault;
-use bac_driver::{BoundNode, Clock, Link, NoObserver, WaitLimit};
+use bac_commands::{ServeCommand, link_fault};
+use bac_driver::{BoundNode, Clock, Link, NoObserver, RunLimit, WaitLimit};
 use bac_npdu::LinkAddress;
 use bac_text::Status;
 use clap::ArgMatches;
@@ -131,30 +131,18 @@ pub(crate) fn serve_from<L: Link, C: Clock, O: Write, E: Write>(
     ensures { ReportsServing result (patience_of serving.now start) (turns_of serving.now.turns) (timed bound_node.old (C.told clock.old))
         (timed bound_node.new (C.told clock.new)) (O.contents out.old) (O.contents out.new) }
 {
-    let wait_limit = serving.wait_limit(start);
-    let turns = serving.most_turns();
+    let limit = RunLimit {
+        turns: serving.most_turns(),
+        wait_limit: serving.wait_limit(start),
+    };
     if !serving.log {
-        return bac_commands::serve(
-            bound_node,
-            clock,
-            &wait_limit,
-            turns,
-            &mut NoObserver,
-            out,
-            err,
-        );
+        return bac_commands::serve(bound_node, clock, &limit, &mut NoObserver, out, err);
     }
-    let from = serving.serves_from(start);
-    let logged = bac_commands::serve_logged(
-        alloc,
-        bound_node,
-        clock,
-        &wait_limit,
-        turns,
-        from,
-        out,
-        err,
-    );
+    let command = ServeCommand {
+        limit,
+        serves_from: serving.serves_from(start),
+    };
+    let logged = bac_commands::serve_logged(alloc, bound_node, clock, &command, out, err);
     if !logged.whole {
         // if that fails too, nothing is printed
         let _ = err.writeln("log fault");

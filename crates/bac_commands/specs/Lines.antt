@@ -8,7 +8,7 @@ use Rattle.bac_npdu.specs.Peers.{PeerView}
 use Rattle.bac_transaction.specs.Ends.{ServerEnd, is_slot_live}
 use Rattle.bac_world.specs.Node.{Cause}
 use Rattle.bac_driver.specs.Seen.{Seen}
-use Rattle.bac_driver.specs.Turns.{Turn}
+use Rattle.bac_driver.specs.Turns.{Turn, dropped_of, performed_of, sends_of, skipped_in}
 use Rattle.bac_text.specs.Peers.{link_text, peer_text}
 use Rattle.bac_text.specs.Texts.{line_end}
 use Rattle.bac_commands.specs.Frames.{contents_of, npdu_in}
@@ -35,9 +35,9 @@ head_text at peer a = decimal at ++ (codes " " ++ (peer_text peer ++ (id_text a 
 -- what came, and what was done
 pub record IsHeardLine (away : List ℕ) (turn : Turn) (peer : PeerView) (a : Apdu) (text : List ℕ) : Type 0 where
   pub asking : List ℕ
-  pub are_asking : AreAskingWords turn.performed a asking
+  pub are_asking : AreAskingWords (performed_of turn.heard) a asking
   pub done : List ℕ
-  pub are_done : AreDoneWords away turn.performed turn.sends done
+  pub are_done : AreDoneWords away (performed_of turn.heard) (sends_of turn.heard) done
   pub is : text ≡ (((head_text turn.at peer a ++ asking) ++ codes ": ") ++ done) ++ line_end
 
 abbrev pub IsApduText : (away : List ℕ) → Turn → PeerView → Option Apdu → List ℕ → Type 0
@@ -60,7 +60,7 @@ IsCameText away turn from octets None text = IsNpduText away turn from (npdu_in 
 -- where one came
 abbrev pub IsReceivedText : (away : List ℕ) → Turn → (buffer : Octets) → Option (Octets × ℕ) → List ℕ → Type 0
 IsReceivedText away turn buffer None text = text ≡ []
-IsReceivedText away turn buffer (Some d) text = IsCameText away turn d.0 (take d.1 buffer) turn.dropped text
+IsReceivedText away turn buffer (Some d) text = IsCameText away turn d.0 (take d.1 buffer) (dropped_of turn.heard) text
 
 -- ---- what else a turn gave
 
@@ -70,9 +70,9 @@ count_line at front count name = if count == 0 then [] else decimal at ++ (codes
 
 abbrev pub rest_text : Turn → List ℕ
 rest_text turn =
-    (count_line turn.at (codes "timer: ") (length turn.tick_sends) (codes " sent again")
+    (count_line turn.at (codes "timer: ") (length (sends_of turn.ticked)) (codes " sent again")
     ++ count_line turn.at (codes "link: ") turn.lost (codes " not sent"))
-    ++ count_line turn.at (codes "no memory: ") turn.skipped (codes " not done")
+    ++ count_line turn.at (codes "no memory: ") (skipped_in turn) (codes " not done")
 
 -- ---- all of a turn, of a server that serves from a moment on
 

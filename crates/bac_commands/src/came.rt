@@ -62,10 +62,10 @@ fn came_words(alloc: Global, apdu: &Apdu<'_>) -> Result<Vec<u8>, NoMemory>
 /// An APDU that came, or the request that was performed for it.
 pub(crate) fn asking_words(
     alloc: Global,
-    effect: &Option<Act>,
+    effect: Option<&Act>,
     apdu: &Apdu<'_>,
 ) -> Result<Vec<u8>, NoMemory>
-    ensures { IfOk result (λ t. AreAskingWords (option_map performed_view effect.now) (apdu_view apdu.now) t.items) }
+    ensures { IfOk result (λ t. AreAskingWords (option_map (λ a. performed_view a.now) effect) (apdu_view apdu.now) t.items) }
 {
     match effect {
         Some(act) => request_words(alloc, act.effect.request.as_request()),

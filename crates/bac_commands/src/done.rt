@@ -93,10 +93,10 @@ fn sent_words(alloc: Global, away: &str, datagram: &Datagram) -> Result<Vec<u8>,
 pub(crate) fn done_words(
     alloc: Global,
     away: &str,
-    effect: &Option<Act>,
+    effect: Option<&Act>,
     sends: &[Datagram],
 ) -> Result<Vec<u8>, NoMemory>
-    ensures { IfOk result (λ t. AreDoneWords away.now (option_map performed_view effect.now) sends.now t.items) }
+    ensures { IfOk result (λ t. AreDoneWords away.now (option_map (λ a. performed_view a.now) effect) sends.now t.items) }
 {
     if let Some(act) = effect {
         return reply_words(alloc, act.effect.reply.as_reply());

@@ -22,7 +22,7 @@ pub use facts::{
     print_fault, print_nothing, print_performed, print_refused, print_sent,
 };
 pub use online::{
-    CommandError, OutputFormat, Style, TURNS, ask, bound_client, bound_house, bound_server,
-    clock_fault, link_fault, pair, print_ask_end, read_question, serve,
+    AskCommand, CommandError, OutputFormat, Style, TURNS, ask, bound_client, bound_house,
+    bound_server, clock_fault, link_fault, pair, print_ask_end, read_question, serve,
 };
-pub use serving::{Logged, serve_logged};
+pub use serving::{Logged, ServeCommand, serve_logged};

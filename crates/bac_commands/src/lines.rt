@@ -4,6 +4,7 @@ ghost use Rattle.bac_apdu.specs.Views.{apdu_view};
 ghost use Rattle.bac_npdu.specs.Views.{npdu_view, peer_view};
 ghost use Rattle.bac_node.specs.Views.{cause_view};
 ghost use Rattle.bac_driver.specs.Seen.{seen};
+ghost use Rattle.bac_driver.specs.Turns.{dropped_of};
 ghost use Rattle.bac_driver.specs.Views.{turn_view};
 ghost use Rattle.bac_commands.specs.Lines.{AreTurnLines, IsCameText, IsHeardLine, IsNpduText, IsReceivedText};
 ghost use Rattle.bac_commands.specs.Lines.{away_words, count_line, dropped_line, head_text, id_text, is_full, rest_text};
@@ -13,7 +14,7 @@ use crate::cause::cause_words;
 use crate::done::done_words;
 use crate::frames::{apdu_of, npdu_in};
 use bac_apdu::Apdu;
-use bac_driver::Turn;
+use bac_driver::{Turn, sends_of};
 use bac_node::{Cause, Node};
 use bac_npdu::{LinkAddress, Npdu, Peer};
 use bac_text::{link_text, peer_text};
@@ -75,10 +76,10 @@ fn heard_line(
 ) -> io::Result<Vec<u8>>
     ensures { IfOk result (λ t. IsHeardLine away.now (turn_view turn.now) (peer_view peer) (apdu_view apdu.now) t.items) }
 {
-    let Ok(asking) = asking_words(alloc, &turn.effect, apdu) else {
+    let Ok(asking) = asking_words(alloc, turn.effect(), apdu) else {
         return Err(io::Error::from(ErrorKind::OutOfMemory));
     };
-    let Ok(done) = done_words(alloc, away, &turn.effect, &turn.sends) else {
+    let Ok(done) = done_words(alloc, away, turn.effect(), sends_of(&turn.heard)) else {
         return Err(io::Error::from(ErrorKind::OutOfMemory));
     };
     let mut text = head_text(alloc, turn.at, peer, apdu)?;
@@ -131,9 +132,9 @@ fn came_text(
     from: LinkAddress,
     octets: &[u8],
 ) -> io::Result<Vec<u8>>
-    ensures { IfOk result (λ t. IsCameText away.now (turn_view turn.now) from octets.now (turn_view turn.now).dropped t.items) }
+    ensures { IfOk result (λ t. IsCameText away.now (turn_view turn.now) from octets.now (dropped_of (turn_view turn.now).heard) t.items) }
 {
-    if let Some(cause) = &turn.dropped {
+    if let Some(cause) = turn.dropped() {
         return Ok(dropped_line(alloc, turn.at, from, cause)?);
     }
     match npdu_in(octets) {
@@ -184,8 +185,8 @@ fn count_line(
 fn rest_text(alloc: Global, turn: &Turn) -> Result<Vec<u8>, AllocError>
     ensures { IfOk result (λ t. t.items ≡ rest_text (turn_view turn.now)) }
 {
-    let again = turn.tick_sends.len() as u64;
-    let skipped = u64::from(turn.skipped);
+    let again = sends_of(&turn.ticked).len() as u64;
+    let skipped = u64::from(turn.skipped());
     let lost = count_line(alloc, turn.at, "link: ", turn.lost, " not sent")?;
     let skipped = count_line(alloc, turn.at, "no memory: ", skipped, " not done")?;
     let mut text = count_line(alloc, turn.at, "timer: ", again, " sent again")?;

@@ -5,10 +5,19 @@ ghost use Rattle.bac_commands.specs.Reports.{ReportsServing, ServingIsWatched};
 ghost use Rattle.bac_commands.specs.Logs.{Prints};
 
 use crate::log::Log;
-use bac_driver::{BoundNode, Clock, Link, WaitLimit};
+use bac_driver::{BoundNode, Clock, Link, RunLimit};
 use bac_text::Status;
 use std::alloc::Global;
 use std::io::Write;
+
+/// For how long a node serves, and from which moment on it performs requests.
+#[derive(Clone, Copy, Debug, PartialEq, Eq)]
+pub struct ServeCommand {
+    /// How many turns it takes, and how long each waits.
+    pub limit: RunLimit,
+    /// The first moment at which it performs requests, in milliseconds: 0 where it did not restart.
+    pub serves_from: u64,
+}
 
 /// How serving ended, and whether its log is whole.
 #[derive(Clone, Copy, Debug, PartialEq, Eq)]
@@ -19,30 +28,28 @@ pub struct Logged {
 }
 
 /// Serves as `serve` of bac_commands does, and logs each turn on `err`: a line for the datagram that came, with what was done, and one for each thing else
-/// that the turn gave. The server serves from a moment on, in milliseconds: 0 where it did not restart.
+/// that the turn gave.
 ///
 /// Where a line cannot be written, or finds no memory, no further one is, and serving goes on.
 pub fn serve_logged<L: Link, C: Clock, O: Write, E: Write>(
     alloc: Global,
     bound_node: &mut BoundNode<L>,
     clock: &mut C,
-    wait_limit: &WaitLimit,
-    turns: u64,
-    serves_from: u64,
+    command: &ServeCommand,
     out: &mut O,
     err: &mut E,
 ) -> Logged
-    ensures printed { ReportsServing result.status wait_limit.now turns (timed bound_node.old (C.told clock.old)) (timed bound_node.new (C.told clock.new))
-        (O.contents out.old) (O.contents out.new) }
-    ensures logged { IsTrue result.whole → ServingIsWatched result.status (Prints serves_from) wait_limit.now turns
+    ensures printed { ReportsServing result.status command.now.limit.wait_limit command.now.limit.turns
+        (timed bound_node.old (C.told clock.old)) (timed bound_node.new (C.told clock.new)) (O.contents out.old) (O.contents out.new) }
+    ensures logged { IsTrue result.whole → ServingIsWatched result.status (Prints command.now.serves_from) command.now.limit.wait_limit command.now.limit.turns
         (timed bound_node.old (C.told clock.old)) (timed bound_node.new (C.told clock.new)) (E.contents err.old) (E.contents err.new) }
 {
     let mut log = Log {
         alloc,
-        serves_from,
+        serves_from: command.serves_from,
         whole: true,
     };
-    let status = crate::serve(bound_node, clock, wait_limit, turns, &mut log, out, err);
+    let status = crate::serve(bound_node, clock, &command.limit, &mut log, out, err);
     Logged {
         status,
         whole: log.whole,

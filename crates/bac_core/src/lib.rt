@@ -10,7 +10,7 @@ pub mod worlds;
 pub use bac_apdu::Limits;
 pub use bac_driver::{
     AskEnd, BoundNode, Clock, Link, LinkFault, MonotonicClock, NoObserver, Observer, Question,
-    Turn, TurnFault, UdpLink, WaitLimit, pair,
+    RunLimit, Turn, TurnFault, UdpLink, WaitLimit, pair, sends_of,
 };
 pub use bac_node::{Cause, Config, NewNodeFault, Node, NodeFault, Outcome};
 pub use bac_npdu::{Address, LinkAddress, Peer, Route};

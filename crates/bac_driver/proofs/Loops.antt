@@ -4,7 +4,7 @@ use Rattle.std.proofs.Common.{refl, ap, sym, ◌∙◌, subst, arith, add-one, i
 use Rattle.std.specs.Option.{option_map}
 use Rattle.std.specs.Prelude.{IfSome, MatchOption}
 use Rattle.bac_transaction.specs.Meanings.{Ending, EndedView}
-use Rattle.bac_driver.specs.Turns.{Turn}
+use Rattle.bac_driver.specs.Turns.{Turn, performed_of}
 use Rattle.bac_driver.specs.Moments.{with_moment}
 use Rattle.bac_protocol.specs.Service.{Octets}
 use Rattle.bac_world.specs.Node.{Node}
@@ -21,7 +21,7 @@ pub none_served : (p : WaitLimit) (old : Timed) → TakesTurns p 0 0 old old
 none_served p old = record { taken = []; all = refl; run = refl; counted = refl }
 
 pub one_more_served : (p : WaitLimit) (turns effects more : ℕ) (turn : Turn) (old middle new : Timed) → TakesTurns p turns effects old middle
-    → TakesEarlyTurn p middle turn new → more ≡ count_of turn.performed → TakesTurns p (turns + 1) (effects + more) old new
+    → TakesEarlyTurn p middle turn new → more ≡ count_of (performed_of turn.heard) → TakesTurns p (turns + 1) (effects + more) old new
 one_more_served p turns effects more turn old middle new before takes counted =
     record {
       taken = turn ∷ before.taken;
@@ -48,7 +48,7 @@ one_more_watched Sees p from between to turns effects more old middle new before
 pub once_watched : {S : Type 0} (Sees : Watcher S) (p : WaitLimit) (from to : S) (began effects : ℕ) (turn : Turn) (node : Node) (buffer : Octets)
     (old new : Timed) → node ≡ new.bound_node.node → buffer ≡ new.bound_node.buffer → IsBefore began p.until
     → TakesTurnFrom began p (timed old.bound_node (with_moment old.told began)) turn new → Sees (seen node buffer turn) from to
-    → effects ≡ count_of turn.performed → WatchesOnce Sees p from to effects old new
+    → effects ≡ count_of (performed_of turn.heard) → WatchesOnce Sees p from to effects old new
 once_watched Sees p from to began effects turn node buffer old new node_is buffer_is early takes told counted =
     record {
       s = seen node buffer turn;

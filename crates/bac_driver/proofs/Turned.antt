@@ -7,7 +7,7 @@ use Rattle.bac_world.specs.Node.{IsHeardBy, Node, NodeOn, Outcome}
 use Rattle.bac_transaction.specs.Sends.{Datagram}
 use Rattle.bac_driver.specs.Calls.{Calls, MOST}
 use Rattle.bac_driver.specs.BoundNodes.{BoundNode}
-use Rattle.bac_driver.specs.Turns.{Acts, IsCarried, NodeStep, Steps, Turn, call_of, counted, with_calls}
+use Rattle.bac_driver.specs.Turns.{Acts, Hears, IsCarried, Ticks, Turn, call_of, counted, sends_of, with_calls}
 use Rattle.bac_driver.proofs.Counts.{counted_both, with_more}
 
 -- a datagram that comes at a moment leaves the latest one of the node no later
@@ -39,23 +39,23 @@ carried a b x y lost g m old new sends more sum =
       most = let both = length-append a b in omega (arith, sends.most, more.most);
     }
 
--- the same of what both vectors hold that were lent to be sent
+-- the same of lists that are those
 pub carried_of : (a b all more : List Datagram) (lost : ℕ) (old new : BoundNode) → a ≡ all → b ≡ more → IsCarried (a ++ b) lost old new
     → IsCarried (all ++ more) lost old new
 carried_of a b all more lost old new is is_more sent =
     subst (λ (x : List Datagram). IsCarried (all ++ x) lost old new) is_more (subst (λ (x : List Datagram). IsCarried (x ++ b) lost old new) is sent)
 
--- both steps of a bound_node that was so before them, over the octets that it had in its buffer
-pub acted : (now : ℕ) (seen : Octets) (before old new : BoundNode) (turn : Turn) (first second : NodeStep) → before ≡ old → seen ≡ before.buffer
-    → turn.at ≡ now → new.buffer ≡ before.buffer → Steps now seen before.node new.node turn first second → IsCarried (first.sends ++ second.sends) turn.lost before new
-    → Acts now old turn new
-acted now seen before old new turn first second is seen_is at same steps sent =
+-- both steps of a bound node that was so before them, over the octets that it had in its buffer
+pub acted : (now : ℕ) (seen : Octets) (before old new : BoundNode) (middle : Node) (turn : Turn) → before ≡ old → seen ≡ before.buffer → turn.at ≡ now
+    → new.buffer ≡ before.buffer → Hears now seen turn.received before.node middle turn.heard → Ticks now middle new.node turn.ticked
+    → IsCarried (sends_of turn.heard ++ sends_of turn.ticked) turn.lost before new → Acts now old turn new
+acted now seen before old new middle turn is seen_is at same hears ticks sent =
     subst (λ (o : BoundNode). Acts now o turn new) is
     (record {
-      first = first;
-      second = second;
       at = at;
-      steps = subst (λ (b : Octets). Steps now b before.node new.node turn first second) seen_is steps;
+      middle = middle;
+      hears = subst (λ (b : Octets). Hears now b turn.received before.node middle turn.heard) seen_is hears;
+      ticks = ticks;
       carried = sent;
       buffer = same;
     })

@@ -14,7 +14,7 @@ use Rattle.bac_driver.specs.Moments.{with_moment}
 use Rattle.bac_requester.specs.TransactionViews.{ending_view}
 use Rattle.bac_requester.specs.declared.ending.Ending as how
 use Rattle.bac_driver.specs.BoundNodes.{BoundNode}
-use Rattle.bac_driver.specs.Turns.{IsCarried, Turn}
+use Rattle.bac_driver.specs.Turns.{IsCarried, Turn, ended_of}
 use Rattle.bac_driver.specs.Runs.{CannotReceive, GoesBack, Run, Timed}
 use Rattle.bac_driver.specs.Serving.{IsOver, TakesEarlyTurn}
 use Rattle.bac_driver.specs.declared.fault.TurnFault.{TurnFault}
@@ -66,7 +66,7 @@ ending_of ticket (f ∷ fs) = if f.ticket == ticket then Some f.how else ending_
 
 -- by the datagram of a turn, or by its tick
 abbrev pub ending_in : (ticket : ℕ) → Turn → Option Ending
-ending_in ticket turn = ending_of ticket (turn.ended ++ turn.tick_ended)
+ending_in ticket turn = ending_of ticket (ended_of turn.heard ++ ended_of turn.ticked)
 
 -- What follows is about the steps after an ask, each with what it returned, and the turn of the node which asked.
 

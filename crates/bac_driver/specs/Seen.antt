@@ -4,7 +4,7 @@ use Rattle.bac_protocol.specs.Service.{Octets}
 use Rattle.bac_world.specs.Node.{Node}
 use Rattle.bac_driver.specs.Runs.{Run, Timed}
 use Rattle.bac_driver.specs.Serving.{IsOver, StopsAfter, TakesEarlyTurn, count_of, performed_in}
-use Rattle.bac_driver.specs.Turns.{Turn}
+use Rattle.bac_driver.specs.Turns.{Turn, performed_of}
 use Rattle.bac_driver.specs.declared.wait_limit.WaitLimit.{WaitLimit}
 
 -- the node after a turn, the buffer, and what the turn returned
@@ -51,4 +51,4 @@ pub record WatchesOnce {S : Type 0} (Sees : Watcher S) (p : WaitLimit) (from to 
   pub s : Seen
   pub takes : TakesSeenTurn p old s new
   pub told : Sees s from to
-  pub counted : effects ≡ count_of s.turn.performed
+  pub counted : effects ≡ count_of (performed_of s.turn.heard)

@@ -3,7 +3,7 @@ use Rattle.std.specs.Prelude.{◌≡◌, ◌⊎◌, ◌<◌, ◌≤◌, ◌+◌,
 use Rattle.bac_driver.specs.Moments.{with_moment}
 use Rattle.bac_world.specs.Services.{Performed}
 use Rattle.bac_driver.specs.Runs.{CannotReceive, GoesBack, Run, TakesTurnFrom, Timed, timed}
-use Rattle.bac_driver.specs.Turns.{Turn}
+use Rattle.bac_driver.specs.Turns.{Turn, performed_of}
 use Rattle.bac_driver.specs.declared.fault.TurnFault.{TurnFault}
 use Rattle.bac_driver.specs.declared.fault.TurnFault.TheVariants as fault
 use Rattle.bac_driver.specs.declared.wait_limit.WaitLimit.{WaitLimit}
@@ -16,7 +16,7 @@ count_of (Some performed) = 1
 -- how many requests were performed in these turns
 abbrev pub performed_in : List Turn → ℕ
 performed_in [] = 0
-performed_in (turn ∷ turns) = performed_in turns + count_of turn.performed
+performed_in (turn ∷ turns) = performed_in turns + count_of (performed_of turn.heard)
 
 -- a moment is before another one, if there is one
 abbrev pub IsBefore : (now : ℕ) → (end : Option ℕ) → Type 0

@@ -1,5 +1,5 @@
 -- One turn of a node on a link: it takes the datagram that has come, does all that is due, and sends what both return.
-use Rattle.std.specs.Prelude.{◌≡◌, ◌⊎◌, ℕ, zero, suc, ◌+◌, ◌≤◌, ◌<◌, List, [], ◌++◌, map, length, take, Option, Some, None, Ok, IfSome}
+use Rattle.std.specs.Prelude.{◌≡◌, ℕ, zero, suc, ◌+◌, ◌≤◌, ◌<◌, List, [], ◌++◌, map, length, take, Option, Some, None, Ok, IfSome}
 use Rattle.std.specs.Option.{option_map}
 use Rattle.bac_protocol.specs.Service.{Octets}
 use Rattle.bac_transaction.specs.Sends.{Datagram}
@@ -15,70 +15,75 @@ use Rattle.bac_driver.specs.BoundNodes.{BoundNode}
 use Rattle.bac_driver.specs.Waits.{IsWait}
 use Rattle.bac_driver.specs.declared.wait_limit.WaitLimit.{WaitLimit}
 
--- what a turn returns: when the node acted; who sent the datagram that came, and how many octets it has; why it was dropped; what was sent for it, and by the
--- tick; failed sends, and steps that failed to allocate; what was performed; the tickets that the datagram ended, and those that the tick ended
+-- what a turn returns: when the node acted; who sent the datagram that came, and how many octets it has; what the node returned for it, and what the tick
+-- returned, where they did not fail to allocate; and how many sends failed
 pub record Turn : Type 0 where
   pub at : ℕ
   pub received : Option (Octets × ℕ)
-  pub dropped : Option Cause
-  pub sends : List Datagram
-  pub tick_sends : List Datagram
+  pub heard : Option Outcome
+  pub ticked : Option Outcome
   pub lost : ℕ
-  pub skipped : ℕ
-  pub performed : Option Performed
-  pub ended : List EndedView
-  pub tick_ended : List EndedView
+
+-- ---- what a step of the node returned
+
+abbrev pub sends_of : Option Outcome → List Datagram
+sends_of None = []
+sends_of (Some o) = o.sends
+
+abbrev pub performed_of : Option Outcome → Option Performed
+performed_of None = None
+performed_of (Some o) = o.performed
+
+abbrev pub ended_of : Option Outcome → List EndedView
+ended_of None = []
+ended_of (Some o) = o.ended
+
+abbrev pub dropped_of : Option Outcome → Option Cause
+dropped_of None = None
+dropped_of (Some o) = o.dropped
+
+-- how often it failed to allocate: once or not
+abbrev pub skipped_of : Option Outcome → ℕ
+skipped_of None = 1
+skipped_of (Some o) = 0
+
+-- it is done only where a datagram came
+abbrev pub unheard : Option (Octets × ℕ) → Option Outcome → ℕ
+unheard None heard = 0
+unheard (Some d) heard = skipped_of heard
+
+-- how many of both steps failed to allocate
+abbrev pub skipped_in : Turn → ℕ
+skipped_in turn = unheard turn.received turn.heard + skipped_of turn.ticked
 
 -- ---- the steps of the node
 
--- what one step of the node returned; how often it was skipped: once or not
-pub record NodeStep : Type 0 where
-  pub sends : List Datagram
-  pub performed : Option Performed
-  pub ended : List EndedView
-  pub dropped : Option Cause
-  pub skipped : ℕ
-
-abbrev pub no_step : (skipped : ℕ) → NodeStep
-no_step skipped = record { sends = []; performed = None; ended = []; dropped = None; skipped = skipped }
-
-abbrev pub step_of : Outcome → NodeStep
-step_of o = record { sends = o.sends; performed = o.performed; ended = o.ended; dropped = o.dropped; skipped = 0 }
-
--- the step was done
-pub record IsDone (goes_to : Node → Node → Outcome → Type 0) (old new : Node) (step : NodeStep) : Type 0 where
-  pub outcome : Outcome
-  pub goes : goes_to old new outcome
-  pub gives : step ≡ step_of outcome
-
--- allocation failed, and nothing has changed
-pub record IsSkipped (old new : Node) (step : NodeStep) : Type 0 where
-  pub same : new ≡ old
-  pub gives : step ≡ no_step 1
-
--- so it may be with a datagram that the node does not drop, and that is not for a transaction of the client which has ended
-pub record IsUnheard (from octets : Octets) (old new : Node) (step : NodeStep) : Type 0 where
+-- taking a datagram failed to allocate, and nothing has changed: so it may be with one that the node does not drop, and that is not for a transaction of the
+-- client which has ended
+pub record IsUnheard (from octets : Octets) (old new : Node) : Type 0 where
   pub kept : IsNotHeard old.link from octets → ⊥
   pub awaited : IsForNoneOpen from octets old.clients → ⊥
-  pub skipped : IsSkipped old new step
+  pub same : new ≡ old
 
 -- the node takes a datagram, or drops it
-abbrev pub HearsOne : (now : ℕ) → (from octets : Octets) → (old new : Node) → NodeStep → Type 0
-HearsOne now from octets old new step = IsDone (NodeOn now from octets) old new step ⊎ IsUnheard from octets old new step
+abbrev pub HearsOne : (now : ℕ) → (from octets : Octets) → (old new : Node) → (heard : Option Outcome) → Type 0
+HearsOne now from octets old new None = IsUnheard from octets old new
+HearsOne now from octets old new (Some o) = NodeOn now from octets old new o
 
 -- the one that came, if one did; its octets are the first of the buffer
-abbrev pub Hears : (now : ℕ) → (buffer : Octets) → Option (Octets × ℕ) → (old new : Node) → NodeStep → Type 0
-Hears now buffer None old new step = (new ≡ old) × (step ≡ no_step 0)
-Hears now buffer (Some d) old new step = HearsOne now d.0 (take d.1 buffer) old new step
+abbrev pub Hears : (now : ℕ) → (buffer : Octets) → (came : Option (Octets × ℕ)) → (old new : Node) → (heard : Option Outcome) → Type 0
+Hears now buffer None old new heard = (heard ≡ None) × (new ≡ old)
+Hears now buffer (Some d) old new heard = HearsOne now d.0 (take d.1 buffer) old new heard
 
--- so it may be with a tick where something is due
-pub record IsUnticked (now : ℕ) (old new : Node) (step : NodeStep) : Type 0 where
+-- a tick failed to allocate, and nothing has changed: so it may be where something is due
+pub record IsUnticked (now : ℕ) (old new : Node) : Type 0 where
   pub due : now < LAST_MOMENT → IsDueBy now old
-  pub skipped : IsSkipped old new step
+  pub same : new ≡ old
 
 -- all that is due is done
-abbrev pub Ticks : (now : ℕ) → (old new : Node) → NodeStep → Type 0
-Ticks now old new step = IsDone (NodeTick now) old new step ⊎ IsUnticked now old new step
+abbrev pub Ticks : (now : ℕ) → (old new : Node) → (ticked : Option Outcome) → Type 0
+Ticks now old new None = IsUnticked now old new
+Ticks now old new (Some o) = NodeTick now old new o
 
 -- ---- the calls of the link
 
@@ -95,27 +100,14 @@ counted failures (suc lost) = one_more (counted failures lost)
 
 -- ---- the turn
 
--- both steps, one after the other
-pub record Steps (now : ℕ) (buffer : Octets) (old new : Node) (turn : Turn) (first second : NodeStep) : Type 0 where
-  pub middle : Node
-  pub hears : Hears now buffer turn.received old middle first
-  pub ticks : Ticks now middle new second
-  pub performed : turn.performed ≡ first.performed
-  pub dropped : turn.dropped ≡ first.dropped
-  pub sends : turn.sends ≡ first.sends
-  pub tick_sends : turn.tick_sends ≡ second.sends
-  pub ended : turn.ended ≡ first.ended
-  pub tick_ended : turn.tick_ended ≡ second.ended
-  pub skipped : turn.skipped ≡ first.skipped + second.skipped
-
 -- all that is sent goes to the link, each datagram once, in order; failed sends are counted
 pub record IsCarried (sends : List Datagram) (lost : ℕ) (old new : BoundNode) : Type 0 where
   pub order : new.calls ≡ with_calls old.calls (map call_of sends)
   pub count : new.failures ≡ counted old.failures lost
   pub most : lost ≤ length sends
 
--- the link was called to receive once, at that moment, and waited until something was due, but no longer than the limit says; the datagram that came, if one did,
--- is in the buffer
+-- the link was called to receive once, at that moment, and waited until something was due, but no longer than the limit says; the datagram that came, if one
+-- did, is in the buffer
 pub record Receives (p : WaitLimit) (now : ℕ) (old : BoundNode) (came : Option (Octets × ℕ)) (new : BoundNode) : Type 0 where
   pub within : IfSome came (λ d. d.1 ≤ length new.buffer)
   pub wait : ℕ
@@ -126,11 +118,11 @@ pub record Receives (p : WaitLimit) (now : ℕ) (old : BoundNode) (came : Option
 
 -- the node took what had come and did all that was due, and what it sent went to the link
 pub record Acts (now : ℕ) (old : BoundNode) (turn : Turn) (new : BoundNode) : Type 0 where
-  pub first : NodeStep
-  pub second : NodeStep
   pub at : turn.at ≡ now
-  pub steps : Steps now old.buffer old.node new.node turn first second
-  pub carried : IsCarried (first.sends ++ second.sends) turn.lost old new
+  pub middle : Node
+  pub hears : Hears now old.buffer turn.received old.node middle turn.heard
+  pub ticks : Ticks now middle new.node turn.ticked
+  pub carried : IsCarried (sends_of turn.heard ++ sends_of turn.ticked) turn.lost old new
   pub buffer : new.buffer ≡ old.buffer
 
 -- both, one after the other, each at its moment

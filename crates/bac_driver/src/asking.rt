@@ -14,7 +14,7 @@ use crate::fault::TurnFault;
 use crate::observer::{NoObserver, Observer};
 use crate::question::{AskEnd, Question};
 use crate::turn::Turn;
-use crate::wait_limit::WaitLimit;
+use crate::wait_limit::{RunLimit, WaitLimit};
 use crate::{Clock, Link};
 use bac_requester::{AskFault, Ending};
 
@@ -34,8 +34,8 @@ impl<L: Link> BoundNode<L> {
         self.begin(clock.now(), question)
     }
 
-    /// Takes one turn as [`turn_by`](BoundNode::turn_by), where it begins before `wait_limit.until`, if there is one. Otherwise it returns None, and nothing has
-    /// changed.
+    /// Takes one turn as [`turn_by`](BoundNode::turn_by), where it begins before `wait_limit.until`, if there is one. Otherwise it returns None, and nothing
+    /// has changed.
     pub fn turn_before<C: Clock>(
         &mut self,
         clock: &mut C,
@@ -53,25 +53,25 @@ impl<L: Link> BoundNode<L> {
         Ok(Some(turn))
     }
 
-    /// Takes turns until the transaction of the ticket has ended, but no more than so many, and none that would begin at `wait_limit.until` or later. The
-    /// observer sees each.
+    /// Takes turns until the transaction of the ticket has ended, or the limit is reached. The observer sees each.
     fn wait<C: Clock, W, O: Observer<W>>(
         &mut self,
         clock: &mut C,
         ticket: u64,
-        wait_limit: &WaitLimit,
-        turns: u64,
+        limit: &RunLimit,
         observer: &mut O,
         out: &mut W,
     ) -> Result<Option<Ending>, TurnFault>
-        ensures waited { IfOk result (WaitsSo wait_limit.now turns ticket (timed self.old (C.told clock.old)) (timed self.new (C.told clock.new))) }
-        ensures observed { IfOk result (ObservedWait O.Sees wait_limit.now turns ticket
+        ensures waited { IfOk result (WaitsSo limit.now.wait_limit limit.now.turns ticket
+            (timed self.old (C.told clock.old)) (timed self.new (C.told clock.new))) }
+        ensures observed { IfOk result (ObservedWait O.Sees limit.now.wait_limit limit.now.turns ticket
             (observed (timed self.old (C.told clock.old)) (O.state observer.old out.old))
             (observed (timed self.new (C.told clock.new)) (O.state observer.new out.new))) }
-        ensures failed { IfErr result (λ e. WaitingFails e wait_limit.now turns ticket (timed self.old (C.told clock.old)) (timed self.new (C.told clock.new))) }
+        ensures failed { IfErr result (λ e. WaitingFails e limit.now.wait_limit limit.now.turns ticket
+            (timed self.old (C.told clock.old)) (timed self.new (C.told clock.new))) }
     {
-        for _ in 0..turns {
-            let Some(turn) = self.turn_before(clock, wait_limit)? else {
+        for _ in 0..limit.turns {
+            let Some(turn) = self.turn_before(clock, &limit.wait_limit)? else {
                 return Ok(None);
             };
             observer.on_turn(self.node(), self.buffer(), &turn, out);
@@ -82,8 +82,8 @@ impl<L: Link> BoundNode<L> {
         Ok(None)
     }
 
-    /// The node asks, and takes turns at the moments of a clock until the transaction has ended, but no more than so many, and none that would begin at
-    /// `wait_limit.until` or later. Each turn waits as long as `wait_limit` says. The observer sees each turn, in order, and no other.
+    /// The node asks, and takes turns at the moments of a clock until the transaction has ended, or the limit is reached. The observer sees each turn,
+    /// in order, and no other.
     ///
     /// `Link` where the link could not receive, `ClockBack` where the clock went back: the node keeps what the turns before have done, and the transaction
     /// stays open.
@@ -91,17 +91,16 @@ impl<L: Link> BoundNode<L> {
         &mut self,
         clock: &mut C,
         question: &Question,
-        wait_limit: &WaitLimit,
-        turns: u64,
+        limit: &RunLimit,
         observer: &mut O,
         out: &mut W,
     ) -> Result<AskEnd, TurnFault>
-        ensures ended { IfOk result (λ end. AskingEnds (question_view question.now) end wait_limit.now turns
+        ensures ended { IfOk result (λ end. AskingEnds (question_view question.now) end limit.now.wait_limit limit.now.turns
             (timed self.old (C.told clock.old)) (timed self.new (C.told clock.new))) }
-        ensures observed { IfOk result (λ end. ObservedAsk O.Sees (question_view question.now) end wait_limit.now turns
+        ensures observed { IfOk result (λ end. ObservedAsk O.Sees (question_view question.now) end limit.now.wait_limit limit.now.turns
             (observed (timed self.old (C.told clock.old)) (O.state observer.old out.old))
             (observed (timed self.new (C.told clock.new)) (O.state observer.new out.new))) }
-        ensures failed { IfErr result (λ e. AskingFails (question_view question.now) e wait_limit.now turns
+        ensures failed { IfErr result (λ e. AskingFails (question_view question.now) e limit.now.wait_limit limit.now.turns
             (timed self.old (C.told clock.old)) (timed self.new (C.told clock.new))) }
     {
         let ticket = match self.begin_by(clock, question) {
@@ -109,7 +108,7 @@ impl<L: Link> BoundNode<L> {
             Err(AskFault::ClockBack) => return Err(TurnFault::ClockBack),
             Err(fault) => return Ok(AskEnd::Refused(fault)),
         };
-        match self.wait(clock, ticket, wait_limit, turns, observer, out)? {
+        match self.wait(clock, ticket, limit, observer, out)? {
             Some(ending) => Ok(AskEnd::Ended(ending)),
             None => Ok(AskEnd::NoEnding),
         }
@@ -120,14 +119,13 @@ impl<L: Link> BoundNode<L> {
         &mut self,
         clock: &mut C,
         question: &Question,
-        wait_limit: &WaitLimit,
-        turns: u64,
+        limit: &RunLimit,
     ) -> Result<AskEnd, TurnFault>
-        ensures ended { IfOk result (λ end. AskingEnds (question_view question.now) end wait_limit.now turns
+        ensures ended { IfOk result (λ end. AskingEnds (question_view question.now) end limit.now.wait_limit limit.now.turns
             (timed self.old (C.told clock.old)) (timed self.new (C.told clock.new))) }
-        ensures failed { IfErr result (λ e. AskingFails (question_view question.now) e wait_limit.now turns
+        ensures failed { IfErr result (λ e. AskingFails (question_view question.now) e limit.now.wait_limit limit.now.turns
             (timed self.old (C.told clock.old)) (timed self.new (C.told clock.new))) }
     {
-        self.ask_observed(clock, question, wait_limit, turns, &mut NoObserver, &mut ())
+        self.ask_observed(clock, question, limit, &mut NoObserver, &mut ())
     }
 }

@@ -16,7 +16,7 @@ use crate::fault::TurnFault;
 use crate::question::Question;
 use crate::sending::send_all;
 use crate::step::{on_due, on_received};
-use crate::turn::{Received, Turn};
+use crate::turn::{Received, Turn, sends_of};
 use crate::wait_limit::{WaitLimit, wait_until};
 use crate::{Clock, Link};
 use bac_node::Node;
@@ -30,12 +30,11 @@ const BUFFER: usize = 2_048;
 
 /// A node on its link, with a buffer of 2,048 octets for what comes.
 ///
-/// To serve, call [`serve`](BoundNode::serve); to ask and wait for the answer, call [`ask`](BoundNode::ask). Both take turns. A program that does more at once calls
-/// [`begin`](BoundNode::begin) for each ask, and then [`turn_by`](BoundNode::turn_by) or [`turn_before`](BoundNode::turn_before) again and again: each turn waits until
-/// a datagram comes or something is due, so no call to [`Node::next_due`](bac_node::Node::next_due) is needed.
+/// To serve, call [`serve`](BoundNode::serve); to ask and wait for the answer, call [`ask`](BoundNode::ask). Both take turns. A program that does more at once
+/// calls [`begin`](BoundNode::begin) for each ask, and then [`turn_by`](BoundNode::turn_by) or [`turn_before`](BoundNode::turn_before) again and again: each
+/// turn waits until a datagram comes or something is due, so no call to [`Node::next_due`](bac_node::Node::next_due) is needed.
 #[derive(Drop)]
 pub struct BoundNode<L: Link> {
-    alloc: Global,
     node: Node,
     link: L,
     buffer: Vec<u8>,
@@ -61,12 +60,7 @@ impl<L: Link> BoundNode<L> {
     {
         let mut buffer = Vec::new(alloc);
         buffer.resize(BUFFER, 0)?;
-        Ok(BoundNode {
-            alloc,
-            node,
-            link,
-            buffer,
-        })
+        Ok(BoundNode { node, link, buffer })
     }
 
     /// Its node.
@@ -125,21 +119,16 @@ impl<L: Link> BoundNode<L> {
         ensures acted { Acts now self.old (turn_view result) self.new }
         ensures received { result.received ≡ received }
     {
-        let first = on_received(self.alloc, &mut self.node, now, received, &self.buffer);
-        let first_lost = send_all(&mut self.link, &first.sends);
-        let second = on_due(self.alloc, &mut self.node, now);
-        let second_lost = send_all(&mut self.link, &second.sends);
+        let heard = on_received(&mut self.node, now, received, &self.buffer);
+        let first_lost = send_all(&mut self.link, sends_of(&heard));
+        let ticked = on_due(&mut self.node, now);
+        let second_lost = send_all(&mut self.link, sends_of(&ticked));
         Turn {
             at: now,
             received,
-            dropped: first.dropped,
-            sends: first.sends,
-            tick_sends: second.sends,
+            heard,
+            ticked,
             lost: first_lost.saturating_add(second_lost),
-            skipped: first.skipped + second.skipped,
-            effect: first.effect,
-            ended: first.ended,
-            tick_ended: second.ended,
         }
     }
 
@@ -147,7 +136,7 @@ impl<L: Link> BoundNode<L> {
     /// simulations, where the moment stays the same during the turn; with a clock, call [`turn_by`](BoundNode::turn_by).
     ///
     /// The call to receive waits until something is due (`Node::next_due`), but no longer than 100 milliseconds. What each step sends goes to the link at once,
-    /// in order; a send that fails is lost, and changes nothing else. A step that fails to allocate is skipped.
+    /// in order; a send that fails is lost, and changes nothing else. A step that fails to allocate changes nothing.
     ///
     /// `ClockBack` exactly where the moment is before the node's latest one; then it receives nothing. `Link` where the link could not receive. After a fault
     /// the node is as before. It allocates nothing but what the node does.
@@ -164,8 +153,8 @@ impl<L: Link> BoundNode<L> {
         Ok(self.act(now, received))
     }
 
-    /// Takes one turn that begins at a moment, as `turn`; but the call to receive waits as long as `wait_limit` says, and after it the node acts at the moment of
-    /// the clock, or at the first one where the clock went back meanwhile.
+    /// Takes one turn that begins at a moment, as `turn`; but the call to receive waits as long as `wait_limit` says, and after it the node acts at the moment
+    /// of the clock, or at the first one where the clock went back meanwhile.
     pub(crate) fn turn_from<C: Clock>(
         &mut self,
         began: u64,
@@ -187,7 +176,7 @@ impl<L: Link> BoundNode<L> {
     }
 
     /// The node asks at a moment in milliseconds, and what it sends goes to the link, in order; a send that fails is lost. Returns the ticket: the answer is in
-    /// the `ended` or `tick_ended` of a later turn.
+    /// what a later turn heard or ticked, in `ended`.
     ///
     /// The faults are those of `Node::ask`. After a fault the bound node is as before.
     pub fn begin(&mut self, now: u64, question: &Question) -> Result<u64, AskFault>

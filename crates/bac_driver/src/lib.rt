@@ -27,6 +27,6 @@ pub use link::{Link, LinkFault};
 pub use observer::{NoObserver, Observer};
 pub use pairing::pair;
 pub use question::{AskEnd, Question};
-pub use turn::Turn;
+pub use turn::{Turn, sends_of};
 pub use udp::UdpLink;
-pub use wait_limit::WaitLimit;
+pub use wait_limit::{RunLimit, WaitLimit};

@@ -40,7 +40,13 @@ fn take_round<L: Link, C: Clock>(
         (paired first.old second.old (C.told clock.old)) (paired first.new second.new (C.told clock.new))) }
 {
     let turn = first.turn_by(clock, &WaitLimit::AT_ONCE)?;
-    second.turn_by(clock, &wait_limit_beside(first, &turn))?;
+    match second.turn_by(clock, &wait_limit_beside(first, &turn)) {
+        Ok(_) => {}
+        Err(fault) => {
+            drop(turn);
+            return Err(fault);
+        }
+    }
     Ok(turn)
 }
 

@@ -11,7 +11,7 @@ use crate::bound_node::BoundNode;
 use crate::fault::TurnFault;
 use crate::observer::{NoObserver, Observer};
 use crate::turn::Turn;
-use crate::wait_limit::WaitLimit;
+use crate::wait_limit::{RunLimit, WaitLimit};
 use crate::{Clock, Link};
 
 impl WaitLimit {
@@ -27,8 +27,8 @@ impl WaitLimit {
 }
 
 impl<L: Link> BoundNode<L> {
-    /// Takes one turn by a clock. It begins at one moment, and once the call to receive has returned, the node acts at the next; where the clock went back between
-    /// them, at the first. It is as [`turn`](BoundNode::turn), but waits as long as `wait_limit` says.
+    /// Takes one turn by a clock. It begins at one moment, and once the call to receive has returned, the node acts at the next; where the clock went back
+    /// between them, at the first. It is as [`turn`](BoundNode::turn), but waits as long as `wait_limit` says.
     ///
     /// `ClockBack` exactly where the first moment is before the node's latest one; then nothing is received.
     pub fn turn_by<C: Clock>(
@@ -64,33 +64,33 @@ impl<L: Link> BoundNode<L> {
         }
         let turn = self.turn_from(began, clock, wait_limit)?;
         observer.on_turn(self.node(), self.buffer(), &turn, out);
-        match turn.effect {
+        match turn.effect() {
             Some(_) => Ok(Some(1)),
             None => Ok(Some(0)),
         }
     }
 
-    /// Takes so many turns at the moments of a clock, but none that would begin at `wait_limit.until` or later. Each waits as long as `wait_limit` says. The
-    /// observer sees each turn, in order, and no other. Returns how many requests the node performed.
+    /// Takes turns at the moments of a clock until the limit is reached. The observer sees each turn, in order, and no other. Returns how many
+    /// requests the node performed.
     ///
     /// `Link` where the link could not receive, `ClockBack` where the clock went back: the node keeps what the turns before have done.
     pub fn serve_observed<C: Clock, W, O: Observer<W>>(
         &mut self,
         clock: &mut C,
-        wait_limit: &WaitLimit,
-        turns: u64,
+        limit: &RunLimit,
         observer: &mut O,
         out: &mut W,
     ) -> Result<u64, TurnFault>
-        ensures served { IfOk result (λ effects. Serves wait_limit.now turns effects (timed self.old (C.told clock.old))
+        ensures served { IfOk result (λ effects. Serves limit.now.wait_limit limit.now.turns effects (timed self.old (C.told clock.old))
             (timed self.new (C.told clock.new))) }
-        ensures watched { IfOk result (λ effects. Watches O.Sees wait_limit.now (O.state observer.old out.old) (O.state observer.new out.new) turns effects
+        ensures watched { IfOk result (λ effects. Watches O.Sees limit.now.wait_limit (O.state observer.old out.old) (O.state observer.new out.new)
+            limit.now.turns effects (timed self.old (C.told clock.old)) (timed self.new (C.told clock.new))) }
+        ensures failed { IfErr result (λ e. ServingFails e limit.now.wait_limit limit.now.turns
             (timed self.old (C.told clock.old)) (timed self.new (C.told clock.new))) }
-        ensures failed { IfErr result (λ e. ServingFails e wait_limit.now turns (timed self.old (C.told clock.old)) (timed self.new (C.told clock.new))) }
     {
         let mut effects = 0;
-        for _ in 0..turns {
-            let once = self.serve_once(clock, wait_limit, observer, out)?;
+        for _ in 0..limit.turns {
+            let once = self.serve_once(clock, &limit.wait_limit, observer, out)?;
             let Some(more) = once else {
                 return Ok(effects);
             };
@@ -100,16 +100,12 @@ impl<L: Link> BoundNode<L> {
     }
 
     /// The same without an observer.
-    pub fn serve<C: Clock>(
-        &mut self,
-        clock: &mut C,
-        wait_limit: &WaitLimit,
-        turns: u64,
-    ) -> Result<u64, TurnFault>
-        ensures served { IfOk result (λ effects. Serves wait_limit.now turns effects (timed self.old (C.told clock.old))
+    pub fn serve<C: Clock>(&mut self, clock: &mut C, limit: &RunLimit) -> Result<u64, TurnFault>
+        ensures served { IfOk result (λ effects. Serves limit.now.wait_limit limit.now.turns effects (timed self.old (C.told clock.old))
             (timed self.new (C.told clock.new))) }
-        ensures failed { IfErr result (λ e. ServingFails e wait_limit.now turns (timed self.old (C.told clock.old)) (timed self.new (C.told clock.new))) }
+        ensures failed { IfErr result (λ e. ServingFails e limit.now.wait_limit limit.now.turns
+            (timed self.old (C.told clock.old)) (timed self.new (C.told clock.new))) }
     {
-        self.serve_observed(clock, wait_limit, turns, &mut NoObserver, &mut ())
+        self.serve_observed(clock, limit, &mut NoObserver, &mut ())
     }
 }

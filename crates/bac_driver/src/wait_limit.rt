@@ -1,4 +1,4 @@
-//! How long a turn may wait for a datagram. Programs make one for each kind of run; the fields are the interface.
+//! How long a turn may wait for a datagram, and how many turns a run takes. Programs make one for each kind of run; the fields are the interface.
 ghost use Rattle.std.specs.Prelude.{◌≡◌};
 ghost use Rattle.bac_driver.specs.Waits.{UNTIL_DUE, wait_until};
 
@@ -33,6 +33,15 @@ impl WaitLimit {
             until: None,
         }
     }
+}
+
+/// How long a run of turns goes on: at most so many turns, and none that begins at `wait_limit.until` or later.
+#[derive(Clone, Copy, Debug, PartialEq, Eq)]
+pub struct RunLimit {
+    /// How many turns are taken at most.
+    pub turns: u64,
+    /// How long each of them waits, and from which moment on none begins.
+    pub wait_limit: WaitLimit,
 }
 
 /// At most so many milliseconds, and not past that moment.

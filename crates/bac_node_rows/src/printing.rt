@@ -2,8 +2,8 @@
 use crate::medium::End;
 use bac_commands::{print_ended, print_ending_line};
 use bac_driver::{AskEnd, Turn, TurnFault};
+use bac_node::Outcome;
 use bac_npdu::LinkAddress;
-use bac_requester::Ended;
 use bac_service::{AnyReply, OwnedReply, OwnedRequest, write_reply, write_request};
 use std::alloc::Global;
 use std::io::Write;
@@ -48,22 +48,30 @@ pub(crate) fn print_performed(
     writeln!(out, "performed {number} {request} {reply}").ok()
 }
 
-fn print_all_ended(alloc: Global, word: &str, all: &[Ended], out: &mut Vec<u8>) -> Option<()> {
-    for ended in all {
-        out.write_all(word.as_bytes()).ok()?;
-        print_ended(alloc, ended.ticket, &ended.ending, out).ok()?;
+/// Prints which tickets ended in a step of a turn.
+fn print_all_ended(
+    alloc: Global,
+    word: &str,
+    step: &Option<Outcome>,
+    out: &mut Vec<u8>,
+) -> Option<()> {
+    if let Some(outcome) = step {
+        for ended in &outcome.ended {
+            out.write_all(word.as_bytes()).ok()?;
+            print_ended(alloc, ended.ticket, &ended.ending, out).ok()?;
+        }
     }
     Some(())
 }
 
 /// Prints what a turn performed, and which tickets ended by the datagram and by the tick.
 pub(crate) fn print_done(alloc: Global, turn: &Turn, out: &mut Vec<u8>) -> Option<()> {
-    if let Some(act) = &turn.effect {
+    if let Some(act) = turn.effect() {
         let number = u64::from(act.key.invoke_id);
         print_performed(alloc, number, &act.effect.request, &act.effect.reply, out)?;
     }
-    print_all_ended(alloc, "", &turn.ended, out)?;
-    print_all_ended(alloc, "due: ", &turn.tick_ended, out)
+    print_all_ended(alloc, "", &turn.heard, out)?;
+    print_all_ended(alloc, "due: ", &turn.ticked, out)
 }
 
 fn print_received(received: Option<(LinkAddress, usize)>, out: &mut Vec<u8>) -> Option<()> {
@@ -81,7 +89,9 @@ pub(crate) fn print_turn(alloc: Global, turn: &Turn, out: &mut Vec<u8>) -> Optio
     writeln!(
         out,
         "at {} lost {} skipped {}",
-        turn.at, turn.lost, turn.skipped
+        turn.at,
+        turn.lost,
+        turn.skipped()
     )
     .ok()?;
     print_received(turn.received, out)?;

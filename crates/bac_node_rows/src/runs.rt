@@ -3,17 +3,19 @@ use crate::printing::{print_done, print_end, print_fault};
 use crate::side::{MemoryNode, Side, question};
 use crate::turns::{moment_of, wait_limit_of};
 use crate::words::{first, number};
-use bac_driver::{WaitLimit, pair};
+use bac_driver::{RunLimit, WaitLimit, pair};
 use std::alloc::Global;
 use std::io::Write;
 
 /// `serve TURNS WAIT UNTIL`: the server serves.
 pub(crate) fn serve(side: &mut Side<'_>, words: &str, out: &mut Vec<u8>) -> Option<()> {
     let (turns, words) = first(words);
-    let turns = number(turns)?;
-    let wait_limit = wait_limit_of(words);
+    let limit = RunLimit {
+        turns: number(turns)?,
+        wait_limit: wait_limit_of(words),
+    };
     let mut clock = side.clock();
-    match side.server.serve(&mut clock, &wait_limit, turns) {
+    match side.server.serve(&mut clock, &limit) {
         Ok(effects) => writeln!(out, "served {effects}").ok(),
         Err(fault) => print_fault(fault, out),
     }
@@ -22,12 +24,13 @@ pub(crate) fn serve(side: &mut Side<'_>, words: &str, out: &mut Vec<u8>) -> Opti
 /// `ask TURNS REQUEST`: the client asks alone, and waits until something is due.
 pub(crate) fn ask(side: &mut Side<'_>, words: &str, out: &mut Vec<u8>) -> Option<()> {
     let (turns, words) = first(words);
-    let turns = number(turns)?;
+    let limit = RunLimit {
+        turns: number(turns)?,
+        wait_limit: WaitLimit::until_due(),
+    };
     let question = question(side.alloc, words)?;
     let mut clock = side.clock();
-    let end = side
-        .client
-        .ask(&mut clock, &question, &WaitLimit::until_due(), turns);
+    let end = side.client.ask(&mut clock, &question, &limit);
     print_end(side.alloc, end, out)
 }
 

@@ -2,7 +2,7 @@
 use crate::side::house_node;
 use crate::turns::receive;
 use crate::words::octets_of;
-use bac_driver::{BoundNode, Link, MonotonicClock, UdpLink, WaitLimit};
+use bac_driver::{BoundNode, Link, MonotonicClock, RunLimit, UdpLink, WaitLimit};
 use std::alloc::Global;
 use std::io::Write;
 use std::net::Net;
@@ -30,7 +30,11 @@ fn serve<R: Clock>(rt: &R, node: &mut BoundNode<UdpLink>, out: &mut Vec<u8>) -> 
     let Ok(mut clock) = MonotonicClock::new(rt) else {
         return None;
     };
-    match node.serve(&mut clock, &WaitLimit::until_due(), 1) {
+    let limit = RunLimit {
+        turns: 1,
+        wait_limit: WaitLimit::until_due(),
+    };
+    match node.serve(&mut clock, &limit) {
         Ok(served) => writeln!(out, "served {served}").ok(),
         Err(_) => None,
     }

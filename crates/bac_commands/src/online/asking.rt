@@ -8,7 +8,7 @@ use super::ask_end::print_ask_end;
 use super::command_error::CommandError;
 use super::output_format::OutputFormat;
 use super::progress::Progress;
-use bac_driver::{BoundNode, Clock, Link, Question, WaitLimit};
+use bac_driver::{BoundNode, Clock, Link, Question, RunLimit, WaitLimit};
 use bac_text::Status;
 use std::alloc::Global;
 use std::io::Write;
@@ -16,32 +16,47 @@ use std::io::Write;
 /// The most turns that a node takes for an ask.
 pub const TURNS: u64 = 100_000;
 
-/// Whether the ask succeeded.
+/// What a node asks, how long it waits for the answer, and how the end of the ask is printed.
+#[derive(Drop)]
+pub struct AskCommand<'a> {
+    /// Whom it asks, and for what.
+    pub question: &'a Question,
+    /// How long each turn waits, and from which moment on none begins.
+    pub wait_limit: WaitLimit,
+    /// How the end of the ask is printed, and which ends are a success.
+    pub output_format: OutputFormat,
+    /// Whether progress is shown on standard error.
+    pub shows_progress: bool,
+}
+
+/// Asks, and prints how that ended. Answers whether the ask succeeded.
 fn ask_and_print<L: Link, C: Clock, O: Write, E: Write>(
     alloc: Global,
     bound_node: &mut BoundNode<L>,
     clock: &mut C,
-    output_format: OutputFormat,
-    shows_progress: bool,
-    question: &Question,
-    wait_limit: &WaitLimit,
+    command: &AskCommand<'_>,
     out: &mut O,
     err: &mut E,
 ) -> Result<bool, CommandError>
-    ensures { IfOk result (λ succeeded. Asked output_format succeeded (question_view question.now) wait_limit.now
+    ensures { IfOk result (λ succeeded. Asked command.now.output_format succeeded (question_view command.now.question.now) command.now.wait_limit
         (timed bound_node.old (C.told clock.old)) (timed bound_node.new (C.told clock.new)) (O.contents out.old) (O.contents out.new)) }
 {
-    let mut progress = Progress::new(shows_progress);
-    let ended = bound_node.ask_observed(clock, question, wait_limit, TURNS, &mut progress, err);
+    let limit = RunLimit {
+        turns: TURNS,
+        wait_limit: command.wait_limit,
+    };
+    let mut progress = Progress::new(command.shows_progress);
+    let ended = bound_node.ask_observed(clock, command.question, &limit, &mut progress, err);
     progress.end(err);
     let end = ended?;
-    let succeeded = print_ask_end(alloc, output_format, &question.request, &end, out, err)?;
+    let request = &command.question.request;
+    let succeeded = print_ask_end(alloc, command.output_format, request, &end, out, err)?;
     Ok(succeeded)
 }
 
-/// A node asks, and takes at most 100,000 turns on its link, each with that wait_limit, until the ask has ended; how it did is printed in that format, as
-/// [`print_ask_end`](crate::print_ask_end) does. Ends with `Faulty` where the ask did not succeed. Where progress is shown, one line of `err`, a terminal, has how many octets
-/// its turns have sent and received, from the first quarter of a second on, until it has ended.
+/// A node asks, and takes at most 100,000 turns on its link until the ask has ended; how it did is printed as [`print_ask_end`](crate::print_ask_end) does.
+/// Ends with `Faulty` where the ask did not succeed. Where progress is shown, one line of `err`, a terminal, has how many octets its turns have sent and
+/// received, from the first quarter of a second on, until it has ended.
 ///
 /// `link fault` on `err` where the link can't receive, `clock fault` where the clock goes back, both with status `Output`; `no memory` where memory is
 /// refused.
@@ -49,27 +64,14 @@ pub fn ask<L: Link, C: Clock, O: Write, E: Write>(
     alloc: Global,
     bound_node: &mut BoundNode<L>,
     clock: &mut C,
-    output_format: OutputFormat,
-    shows_progress: bool,
-    question: &Question,
-    wait_limit: &WaitLimit,
+    command: &AskCommand<'_>,
     out: &mut O,
     err: &mut E,
 ) -> Status
-    ensures { ReportsAsking result output_format (question_view question.now) wait_limit.now
+    ensures { ReportsAsking result command.now.output_format (question_view command.now.question.now) command.now.wait_limit
         (timed bound_node.old (C.told clock.old)) (timed bound_node.new (C.told clock.new)) (O.contents out.old) (O.contents out.new) }
 {
-    match ask_and_print(
-        alloc,
-        bound_node,
-        clock,
-        output_format,
-        shows_progress,
-        question,
-        wait_limit,
-        out,
-        err,
-    ) {
+    match ask_and_print(alloc, bound_node, clock, command, out, err) {
         Ok(true) => Status::Done,
         Ok(false) => Status::Faulty,
         Err(command_error) => command_error.report(err),

@@ -1,7 +1,7 @@
 //! The progress of an ask, on a terminal.
 ghost use Rattle.std.specs.Prelude.{⊤};
 
-use bac_driver::{Observer, Turn};
+use bac_driver::{Observer, Turn, sends_of};
 use bac_node::Node;
 use bac_transaction::Datagram;
 use std::io::Write;
@@ -44,8 +44,8 @@ impl Progress {
     fn count(&mut self, turn: &Turn) {
         self.sent = self
             .sent
-            .saturating_add(octets_of(&turn.sends))
-            .saturating_add(octets_of(&turn.tick_sends));
+            .saturating_add(octets_of(sends_of(&turn.heard)))
+            .saturating_add(octets_of(sends_of(&turn.ticked)));
         if let Some((_, len)) = turn.received {
             self.received = self.received.saturating_add(len);
         }

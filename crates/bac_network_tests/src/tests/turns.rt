@@ -2,7 +2,7 @@
 use super::limits::house_node;
 use super::*;
 use crate::noted_call::NotedCall;
-use bac_driver::{BoundNode, Link, WaitLimit};
+use bac_driver::{BoundNode, Link, RunLimit, WaitLimit};
 use std::process::Abort;
 
 mod listed_clock;
@@ -54,7 +54,11 @@ fn bound_node<R: Abort>(rt: &R, alloc: Global) -> Result<BoundNode<TellingLink<'
 /// A node takes two turns; whether its link's calls are those of the request and its answer.
 fn serves<R: Abort>(rt: &R, bound_node: &mut BoundNode<TellingLink<'_, R>>) -> bool {
     let mut clock = ListedClock::new(rt, MOMENTS);
-    let served = bound_node.serve(&mut clock, &WaitLimit::BRIEF, 2);
+    let limit = RunLimit {
+        turns: 2,
+        wait_limit: WaitLimit::BRIEF,
+    };
+    let served = bound_node.serve(&mut clock, &limit);
     matches!(served, Ok(1)) && clock.told() == 4 && are_told(bound_node.link().noted())
 }
 

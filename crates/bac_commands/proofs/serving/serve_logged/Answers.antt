@@ -6,10 +6,10 @@ use Rattle.bac_commands.proofs.serving.serve_logged.Goals as goal
 
 pub returns-clause-logged : goal.returns-clause-logged
 returns-clause-logged g c whole =
-    let from : Log = record { serves_from = c.args.serves_from; whole = true; text = g.E.Write.contents c.args.err.now } in
+    let from : Log = record { serves_from = c.args.command.now.serves_from; whole = true; text = g.E.Write.contents c.args.err.now } in
     let to : Log = record {
       serves_from = c.serve-status.new.watch.serves_from;
       whole = c.serve-status.new.watch.whole;
       text = g.E.Write.contents c.serve-status.new.err;
     } in
-    logged c.serve-status.result c.args.wait_limit.now c.args.turns from to _ _ whole c.serve-status.ensures.watched
+    logged c.serve-status.result c.args.command.now.limit.wait_limit c.args.command.now.limit.turns from to _ _ whole c.serve-status.ensures.watched

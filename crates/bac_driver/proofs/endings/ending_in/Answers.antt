@@ -5,4 +5,4 @@ pub returns-in-Some : goal.returns-in-Some
 returns-in-Some c = ending_before c.args.ticket _ _ _ c.in-Some.ensures
 
 pub returns-in-None : goal.returns-in-None
-returns-in-None c = ending_after c.args.ticket _ _ _ c.in-None.ensures c.ending_among-in-None.ensures
+returns-in-None c = ending_after c.args.ticket _ _ _ c.in-None.ensures c.ending_of-in-None.ensures

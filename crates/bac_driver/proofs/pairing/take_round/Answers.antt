@@ -5,7 +5,7 @@ use Rattle.bac_driver.proofs.pairing.take_round.Goals as goal
 pub returns-clause-taken : goal.returns-clause-taken
 returns-clause-taken g c =
     record {
-      round = record { of_first = turn_view c.in_ok-turn.turn; of_second = turn_view c.in_ok-turn_by.field-0 };
+      round = record { of_first = turn_view c.in_ok-turn.turn; of_second = turn_view c.in-Ok.field-0 };
       is = refl;
       takes =
           record {
@@ -13,6 +13,6 @@ returns-clause-taken g c =
             first = c.in_ok-turn.ensures.taken;
             wait_limit = c.wait_limit_beside.result;
             beside = c.wait_limit_beside.ensures;
-            second = c.in_ok-turn_by.ensures.taken;
+            second = c.in-Ok.ensures.taken;
           };
     }

@@ -15,7 +15,7 @@ returns-in-Some-clause-observed g c =
       asked = observed (timed c.begin_by.new.self (g.C.Clock.told c.begin_by.new.clock)) (g.O.Observer.state c.args.observer.now c.args.out.now);
       begun = record { asks = c.in-Ok.ensures.begun; unseen = refl };
       rest_is =
-          subst (λ (o : Option Ending). ObservedWait g.O.Observer.Sees c.args.wait_limit.now c.args.turns c.in-Ok.ticket
+          subst (λ (o : Option Ending). ObservedWait g.O.Observer.Sees c.args.limit.now.wait_limit c.args.limit.now.turns c.in-Ok.ticket
           (observed (timed c.begin_by.new.self (g.C.Clock.told c.begin_by.new.clock)) (g.O.Observer.state c.args.observer.now c.args.out.now))
           (observed (timed c.wait.new.self (g.C.Clock.told c.wait.new.clock)) (g.O.Observer.state c.wait.new.observer c.wait.new.out)) o)
           c.in-Some.is c.in_ok-ending.ensures.observed;
@@ -28,7 +28,7 @@ returns-in-None-clause-observed g c =
       asked = observed (timed c.begin_by.new.self (g.C.Clock.told c.begin_by.new.clock)) (g.O.Observer.state c.args.observer.now c.args.out.now);
       begun = record { asks = c.in-Ok.ensures.begun; unseen = refl };
       rest_is =
-          subst (λ (o : Option Ending). ObservedWait g.O.Observer.Sees c.args.wait_limit.now c.args.turns c.in-Ok.ticket
+          subst (λ (o : Option Ending). ObservedWait g.O.Observer.Sees c.args.limit.now.wait_limit c.args.limit.now.turns c.in-Ok.ticket
           (observed (timed c.begin_by.new.self (g.C.Clock.told c.begin_by.new.clock)) (g.O.Observer.state c.args.observer.now c.args.out.now))
           (observed (timed c.wait.new.self (g.C.Clock.told c.wait.new.clock)) (g.O.Observer.state c.wait.new.observer c.wait.new.out)) o)
           c.in-None.is c.in_ok-ending.ensures.observed;

@@ -20,12 +20,12 @@ loop-preserved g c =
     let none : ending_in c.args.ticket (turn_view c.in-Some.turn) ≡ None =
     none_told ending_view c.ending_in.result _ c.in_default-ending_in.not-Some c.ending_in.ensures in
     record {
-      waited = one_more_waited (TakesEarlyTurn c.args.wait_limit.now) own_turn c.loop.counter c.args.ticket (turn_view c.in-Some.turn) _ _ _
+      waited = one_more_waited (TakesEarlyTurn c.args.limit.now.wait_limit) own_turn c.loop.counter c.args.ticket (turn_view c.in-Some.turn) _ _ _
           c.loop.invariant.waited taken none;
       seen =
-          one_more_waited (TakesObservedTurn g.O.Observer.Sees c.args.wait_limit.now) turn_of c.loop.counter c.args.ticket
+          one_more_waited (TakesObservedTurn g.O.Observer.Sees c.args.limit.now.wait_limit) turn_of c.loop.counter c.args.ticket
           (seen c.node.result.now c.buffer.result.now (turn_view c.in-Some.turn)) _ _ _ c.loop.invariant.seen
-          (seen_once g.O.Observer.Sees c.args.wait_limit.now _ _ (turn_view c.in-Some.turn) c.node.result.now c.buffer.result.now _ _ c.node.ensures
+          (seen_once g.O.Observer.Sees c.args.limit.now.wait_limit _ _ (turn_view c.in-Some.turn) c.node.result.now c.buffer.result.now _ _ c.node.ensures
           c.buffer.ensures.octets taken c.on_turn.ensures) none;
     }
 
@@ -35,15 +35,15 @@ over_of r is_over is_taken is over = subst (λ o. MatchOption o is_over is_taken
 
 pub returns-in_default-clause-observed : goal.returns-in_default-clause-observed
 returns-in_default-clause-observed g c =
-    inr (stops_waiting (TakesObservedTurn g.O.Observer.Sees c.args.wait_limit.now) turn_of c.loop.counter c.args.turns c.args.ticket
-    (IsOverUnseen c.args.wait_limit.now) _ _ _ (search rules) c.loop.invariant.seen
+    inr (stops_waiting (TakesObservedTurn g.O.Observer.Sees c.args.limit.now.wait_limit) turn_of c.loop.counter c.args.limit.now.turns c.args.ticket
+    (IsOverUnseen c.args.limit.now.wait_limit) _ _ _ (search rules) c.loop.invariant.seen
     (record { over = over_of _ _ _ c.in_default.is c.in_ok-turn.ensures.taken; unseen = refl }))
 
 pub returns-in-Some-ending_in-clause-observed : goal.returns-in-Some-ending_in-clause-observed
 returns-in-Some-ending_in-clause-observed g c =
     let taken = taken_of _ _ _ c.in-Some.turn c.in-Some.is c.in_ok-turn.ensures.taken in
-    ends_now (TakesObservedTurn g.O.Observer.Sees c.args.wait_limit.now) turn_of c.loop.counter c.args.turns c.args.ticket
+    ends_now (TakesObservedTurn g.O.Observer.Sees c.args.limit.now.wait_limit) turn_of c.loop.counter c.args.limit.now.turns c.args.ticket
     (ending_view c.in-Some-ending_in.ending) (seen c.node.result.now c.buffer.result.now (turn_view c.in-Some.turn)) _ _ _ (search rules) c.loop.invariant.seen
-    (seen_once g.O.Observer.Sees c.args.wait_limit.now _ _ (turn_view c.in-Some.turn) c.node.result.now c.buffer.result.now _ _ c.node.ensures
+    (seen_once g.O.Observer.Sees c.args.limit.now.wait_limit _ _ (turn_view c.in-Some.turn) c.node.result.now c.buffer.result.now _ _ c.node.ensures
     c.buffer.ensures.octets taken c.on_turn.ensures)
     (sym c.ending_in.ensures ∙ ap (option_map ending_view) c.in-Some-ending_in.is)

@@ -9,9 +9,9 @@ use Rattle.bac_driver.proofs.bound_node.BoundNode.wait.Given as goal
 abbrev pub invariant-loop : goal.invariant-loop
 invariant-loop g l =
     record {
-      waited : NeverEnds (TakesEarlyTurn l.wait_limit) own_turn l.counter l.ticket (timed l.initial.self (g.C.Clock.told l.initial.clock))
+      waited : NeverEnds (TakesEarlyTurn l.limit.wait_limit) own_turn l.counter l.ticket (timed l.initial.self (g.C.Clock.told l.initial.clock))
           (timed l.self (g.C.Clock.told l.clock));
-      seen : NeverEnds (TakesObservedTurn g.O.Observer.Sees l.wait_limit) turn_of l.counter l.ticket
+      seen : NeverEnds (TakesObservedTurn g.O.Observer.Sees l.limit.wait_limit) turn_of l.counter l.ticket
           (observed (timed l.initial.self (g.C.Clock.told l.initial.clock)) (g.O.Observer.state l.initial.observer l.initial.out))
           (observed (timed l.self (g.C.Clock.told l.clock)) (g.O.Observer.state l.observer l.out));
     }
