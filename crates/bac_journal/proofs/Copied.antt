@@ -70,12 +70,12 @@ module _ (links : ℕ → Option Octets) (apart : (i j : ℕ) (l : Octets) → l
   -- what node i sends to node j, at these links, in that transaction, which was asked
   module _ (up : Bool) (key : Key) (i j : ℕ) (li lj : Octets) (way : IsWay links apart up key i j li lj) (notes : List Note) (asked : WasAsked notes key) where
     can_one : (a : Apdu) (d : Datagram) → is_from_client a ≡ up → invoke_id_of a ≡ key.invoke_id → IsSent (to_peer (peer_at lj) a) d
-        → CanBeCopied w.nodes notes w.now i d
+        → CanBeCopied w.nodes notes w.time.now i d
     can_one a d dir id s = record {
       asked = λ c k.
-          let one = copies_of links apart w.nodes linked w.now up key i j li lj way (a ∷ []) (d ∷ []) (c ∷ []) ((dir, id), tt) (s, tt) (k, tt) in
+          let one = copies_of links apart w.nodes linked w.time.now up key i j li lj way (a ∷ []) (d ∷ []) (c ∷ []) ((dir, id), tt) (s, tt) (k, tt) in
           subst (WasAsked notes) (sym one.0.key) asked;
-      copy = record { moment = w.now; from = i; to = j; key = key; octets = d.octets };
+      copy = record { moment = w.time.now; from = i; to = j; key = key; octets = d.octets };
       is = record {
         moment = refl;
         from = refl;
@@ -93,7 +93,7 @@ module _ (links : ℕ → Option Octets) (apart : (i j : ℕ) (l : Octets) → l
     }
 
     pub can_all : (sends : List Apdu) (ds : List Datagram) → Each (λ a. (is_from_client a ≡ up) × (invoke_id_of a ≡ key.invoke_id)) sends
-        → Pairwise IsSent (to_all (peer_at lj) sends) ds → Every (CanBeCopied w.nodes notes w.now i) ds
+        → Pairwise IsSent (to_all (peer_at lj) sends) ds → Every (CanBeCopied w.nodes notes w.time.now i) ds
     can_all [] [] own s = tt
     can_all [] (d ∷ ds) own s = absurd s
     can_all (a ∷ sends) [] own s = absurd s

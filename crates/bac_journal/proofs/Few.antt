@@ -27,13 +27,15 @@ use Rattle.bac_protocol.specs.Server.Transfer.{Running, Stopped, Finished}
 use Rattle.bac_protocol.specs.Server.State.{Done, SegmentedResponse, Dropped}
 use Rattle.bac_protocol.specs.Sizes.Way.{InOne, InSegments, Refused}
 use Rattle.bac_protocol.specs.Transaction.{Key, Rules, server_context}
-use Rattle.bac_protocol.specs.World.{Net, Post, net_start, set_at, is_id_held, is_room, asked_at, is_deliverable}
+use Rattle.bac_protocol.specs.Pace.{Pace}
+use Rattle.bac_protocol.specs.World.{Net, Post, net_start, set_at, is_id_held, is_room, asked_at, is_deliverable, client_now, server_now}
 use Rattle.bac_protocol.specs.Claims.{IsBounded}
 use Rattle.bac_protocol.specs.Moves.{Move, taken_by_client, taken_by_server, arrived, ticket_ticked, moved, IsReached}
 use Rattle.bac_protocol.specs.Moves.Move.{Asks, Arrives, TicksTicket, TicksEntry, Passes, Changes, RestartsClient, RestartsServer}
 use Rattle.bac_protocol.specs.Moves.IsReached.{Still, Moved}
 use Rattle.bac_protocol.proofs.Keys.{set_same, set_other, decide_key}
 use Rattle.bac_protocol.proofs.Facts.{pieces_length}
+use Rattle.bac_world.proofs.Machines.{Sound}
 
 push_few : (acks : List Apdu) (a : Apdu) (n : ℕ) → length acks ≤ n → length (acks ++ a ∷ []) ≤ n + 1
 push_few [] a n h = omega arith
@@ -345,7 +347,7 @@ module _ (W : ℕ) (x : Rules) (bound : IsBounded W x) where
 
   served_small : (n : Net) → Small n → (p : Post) (free : Bool) (service : Service) → Small (taken_by_server x n p free service)
   served_small n s p free service =
-      let c = server_context x p.key n.now in
+      let c = server_context x p.key (server_now n p.key) in
       small_set n s p.key (server.server_on_apdu c service (n.entries p.key) (is_room n p.key free) p.copy.apdu).entry
       (server_gets_few c service W bound.some (bound.windows p.key.server) (n.entries p.key) (is_room n p.key free) p.copy.apdu (s p.key)).entry
 
@@ -355,7 +357,7 @@ module _ (W : ℕ) (x : Rules) (bound : IsBounded W x) where
 
   arrived_small : (n : Net) → Small n → (number : ℕ) (free : Bool) (service : Service) (o : Option Post) → Small (arrived x n number free service o)
   arrived_small n s number free service None = s
-  arrived_small n s number free service (Some p) = go (is_deliverable x n.now number n.posts p) (is_from_client p.copy.apdu)
+  arrived_small n s number free service (Some p) = go (is_deliverable x n number p) (is_from_client p.copy.apdu)
     where
       go : (a b : Bool) → Small (if a then (if b then taken_by_server x n p free service else taken_by_client x n p (n.tickets p.key)) else n)
       go true true = served_small n s p free service
@@ -369,24 +371,27 @@ module _ (W : ℕ) (x : Rules) (bound : IsBounded W x) where
   moved_small : (n : Net) → Small n → (m : Move) → Small (moved x n m)
   moved_small n s (Asks key choice whole front rest) = go (is_id_held n key)
     where
-      go : (b : Bool) → Small (if b then n else asked_at x n key (record { first = n.now; choice = choice; whole = whole; pieces = front ∷ rest }))
+      go : (b : Bool) → Small (if b then n else asked_at x n key (record { first = client_now n key; choice = choice; whole = whole; pieces = front ∷ rest }))
       go true = s
       go false = s
   moved_small n s (Arrives number free service) = arrived_small n s number free service (slice_get n.posts number)
   moved_small n s (TicksTicket key) = ticked_small n s key (n.tickets key)
   moved_small n s (TicksEntry key) =
-      let c = server_context x key n.now in
+      let c = server_context x key (server_now n key) in
       small_set n s key (server.server_ticks c (n.entries key)).entry
       (server_ticks_few c W bound.some (bound.windows key.server) (n.entries key) (s key)).entry
-  moved_small n s (Passes by) = s
+  moved_small n s (Passes by clients servers) = s
   moved_small n s (Changes node change) = s
-  moved_small n s (RestartsClient node) = s
-  moved_small n s (RestartsServer node store) = λ key. go key (nat_eq key.server node)
+  moved_small n s (RestartsClient node exact) = s
+  moved_small n s (RestartsServer node exact store) = λ key. go key (nat_eq key.server node)
     where
       go : (key : Key) (b : Bool) → EntryFew W (if b then None else n.entries key)
       go key true = tt
       go key false = s key
 
-  pub entries_few : (n : Net) → IsReached x net_start n → (key : Key) → EntryFew W (n.entries key)
-  entries_few _ Still = λ key. tt
-  entries_few _ (Moved n m h) = moved_small n (entries_few n h) m
+  reached_small : (pace : Pace) (clocks : ℕ → ℕ) (n : Net) → IsReached x (net_start pace clocks) n → Small n
+  reached_small pace clocks _ Still = λ key. tt
+  reached_small pace clocks _ (Moved n m h) = moved_small n (reached_small pace clocks n h) m
+
+  pub entries_few : (n : Net) → Sound x n → (key : Key) → EntryFew W (n.entries key)
+  entries_few n s = reached_small s.0 s.1 n s.3

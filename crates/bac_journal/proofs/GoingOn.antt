@@ -1,5 +1,5 @@
 -- What is known of each world that a run of a fresh one leads to.
-use Rattle.std.proofs.Common.{◌≡◌, ℕ, suc, ◌+◌, ◌≤◌, ◌⊎◌, Bool, true, false, List, [], ◌∷◌, Option, Some, None, slice_get, if◌then◌else◌}
+use Rattle.std.proofs.Common.{◌≡◌, ℕ, suc, ◌+◌, ◌<◌, ◌≤◌, ◌⊎◌, Bool, true, false, List, [], ◌∷◌, Option, Some, None, slice_get, if◌then◌else◌}
 use Rattle.std.proofs.Common.{nat_eq, nat_lt, refl, sym, ap, subst, inl, inr, ◌∙◌, arith}
 use Rattle.std.proofs.lemmas.Bool.Decides.{nat_tests}
 use Rattle.std.specs.Option.{option_map}
@@ -10,11 +10,13 @@ use Rattle.bac_service.specs.Services.{reads_reply}
 use Rattle.bac_store.specs.AtNode as at_node
 use Rattle.bac_store.specs.Stores.{Store}
 use Rattle.bac_protocol.specs.Context.{Settings}
+use Rattle.bac_protocol.specs.Pace.{Clock, IsShown, IsTimely, clock_at, goes_on}
 use Rattle.bac_protocol.specs.Service.{Octets, Readable}
 use Rattle.bac_protocol.specs.Wire.{is_from_client}
 use Rattle.bac_protocol.specs.Transaction.{Rules}
 use Rattle.bac_protocol.specs.World.{Net, Post, net_start}
 use Rattle.bac_protocol.specs.Claims.{IsBounded as IsBoundedNet}
+use Rattle.bac_protocol.proofs.Paces.{shown_at, shows_on}
 use Rattle.bac_slots.specs.Slots.{value_at}
 use Rattle.bac_transaction.specs.Keys.{PeerKey, same_key}
 use Rattle.bac_transaction.specs.Ends.{Client, ClientEnd, TransactionSlot, Accepted, requester_on_apdu_at, requester_on_apdu_in_slot, key_of}
@@ -22,7 +24,7 @@ use Rattle.bac_transaction.specs.Ends.TransactionSlot.{Open, Closed}
 use Rattle.bac_transaction.specs.Services.{service_of}
 use Rattle.bac_world.specs.Node.{Node, Outcome, IsHeardBy, NodeOn, NodeTick, NodeAsks, with_change}
 use Rattle.bac_world.specs.Once.{IsOnce}
-use Rattle.bac_world.specs.World.{World, Event, Copy, link_at, stores_of, peer_at, is_deliverable, IsWithNode, Acts, Hears, IsAsked, IsChanged, IsRestarted}
+use Rattle.bac_world.specs.World.{World, Time, Event, Copy, told, passes, with_clock, link_at, stores_of, peer_at, is_deliverable, IsWithNode, Acts, Hears, IsAsked, IsChanged, IsRestarted}
 use Rattle.bac_world.specs.World.{DeliversIf, WorldStep, WorldRun, IsFresh, IsBounded}
 use Rattle.bac_world.specs.World.Event.{Ask, Deliver, Noise, Tick, Advance, Change, Restart}
 use Rattle.bac_world.proofs.Pairs.{IsPaired, pairwise_get}
@@ -88,14 +90,22 @@ ask_counted now l limits r a b accepted ds k =
 
 -- Worlds whose nodes' moments and counts are right.
 
+-- a clock is made of what it is exactly
+record IsRightTime (t : Time) : Type 0 where
+  some : 0 < t.pace.grain
+  shown : (i : ℕ) → t.clocks i ≡ clock_at t.pace (t.clocks i).exact
+
 record Tidy (w : World) : Type 0 where
-  punctual : (i : ℕ) (a : Node) → slice_get w.nodes i ≡ Some a → a.latest ≤ w.now
+  right : IsRightTime w.time
+  punctual : (i : ℕ) (a : Node) → slice_get w.nodes i ≡ Some a → a.latest ≤ told w i
   counted : (i : ℕ) (a : Node) → slice_get w.nodes i ≡ Some a → a.clients.asked ≤ tickets_of i w.notes
 
--- one node went on, and more asks of it were noted
-tidy_with : (w w' : World) → Tidy w → (i : ℕ) (b : Node) → IsWithNode w.nodes i b w'.nodes → w'.now ≡ w.now
-    → b.latest ≡ w.now → b.clients.asked ≤ tickets_of i w'.notes → ((j : ℕ) → (j ≡ i → ⊥) → tickets_of j w'.notes ≡ tickets_of j w.notes) → Tidy w'
-tidy_with w w' t i b nodes now latest mine others = record {
+-- one node went on, and more asks of it were noted; the other nodes' clocks show the same
+tidy_with : (w w' : World) → Tidy w → (i : ℕ) (b : Node) → IsWithNode w.nodes i b w'.nodes → IsRightTime w'.time
+    → ((j : ℕ) → (j ≡ i → ⊥) → told w' j ≡ told w j) → b.latest ≡ told w' i → b.clients.asked ≤ tickets_of i w'.notes
+    → ((j : ℕ) → (j ≡ i → ⊥) → tickets_of j w'.notes ≡ tickets_of j w.notes) → Tidy w'
+tidy_with w w' t i b nodes right tells latest mine others = record {
+  right = right;
   punctual = λ j c at'. later j c at' (decide_number j i);
   counted = λ j c at'. counts j c at' (decide_number j i);
 }
@@ -105,12 +115,13 @@ tidy_with w w' t i b nodes now latest mine others = record {
         let there : slice_get w'.nodes i ≡ Some c = subst (λ (k : ℕ). slice_get w'.nodes k ≡ Some c) is at' in
         let e : Some b ≡ Some c = sym nodes.here ∙ there in cc
 
-    later : (j : ℕ) (c : Node) → slice_get w'.nodes j ≡ Some c → ((j ≡ i) ⊎ (j ≡ i → ⊥)) → c.latest ≤ w'.now
+    later : (j : ℕ) (c : Node) → slice_get w'.nodes j ≡ Some c → ((j ≡ i) ⊎ (j ≡ i → ⊥)) → c.latest ≤ told w' j
     later j c at' (inl is) =
-        let e : c.latest ≡ w.now = ap (λ (n : Node). n.latest) (sym (here j c at' is)) ∙ latest in
+        let e : c.latest ≡ told w' j = ap (λ (n : Node). n.latest) (sym (here j c at' is)) ∙ latest ∙ ap (told w') (sym is) in
         omega arith
     later j c at' (inr ne) =
-        let e : c.latest ≤ w.now = t.punctual j c (sym (nodes.others j ne) ∙ at') in
+        let e : c.latest ≤ told w j = t.punctual j c (sym (nodes.others j ne) ∙ at') in
+        let same : told w' j ≡ told w j = tells j ne in
         omega arith
 
     counts : (j : ℕ) (c : Node) → slice_get w'.nodes j ≡ Some c → ((j ≡ i) ⊎ (j ≡ i → ⊥)) → c.clients.asked ≤ tickets_of j w'.notes
@@ -118,8 +129,18 @@ tidy_with w w' t i b nodes now latest mine others = record {
         (subst (λ (n : Node). n.clients.asked ≤ tickets_of i w'.notes) (here j c at' is) mine)
     counts j c at' (inr ne) = subst (λ (k : ℕ). c.clients.asked ≤ k) (sym (others j ne)) (t.counted j c (sym (nodes.others j ne) ∙ at'))
 
-tidy_acts : (w w' : World) → Tidy w → (i : ℕ) (a b : Node) (o : Outcome) → slice_get w.nodes i ≡ Some a → Acts w i b o w' → IsCounted w.now 0 a b → Tidy w'
-tidy_acts w w' t i a b o at acts f = tidy_with w w' t i b acts.nodes acts.now f.latest
+-- where time stays
+tidy_still : (w w' : World) → Tidy w → (i : ℕ) (b : Node) → IsWithNode w.nodes i b w'.nodes → w'.time ≡ w.time → b.latest ≡ told w i
+    → b.clients.asked ≤ tickets_of i w'.notes → ((j : ℕ) → (j ≡ i → ⊥) → tickets_of j w'.notes ≡ tickets_of j w.notes) → Tidy w'
+tidy_still w w' t i b nodes time latest mine others = tidy_with w w' t i b nodes (subst IsRightTime (sym time) t.right) (λ j ne. tells j)
+    (latest ∙ sym (tells i)) mine others
+  where
+    tells : (j : ℕ) → told w' j ≡ told w j
+    tells j = ap (λ (y : Time). (y.clocks j).shows) time
+
+tidy_acts : (w w' : World) → Tidy w → (i : ℕ) (a b : Node) (o : Outcome) → slice_get w.nodes i ≡ Some a → Acts w i b o w'
+    → IsCounted (told w i) 0 a b → Tidy w'
+tidy_acts w w' t i a b o at acts f = tidy_still w w' t i b acts.nodes acts.time f.latest
     (subst (λ notes. b.clients.asked ≤ tickets_of i notes) (sym acts.notes) as_many) (λ j ne. ap (tickets_of j) acts.notes)
   where
     as_many : b.clients.asked ≤ tickets_of i w.notes
@@ -130,7 +151,7 @@ tidy_acts w w' t i a b o at acts f = tidy_with w w' t i b acts.nodes acts.now f.
 
 tidy_hears : (w w' : World) → Tidy w → (i : ℕ) (from octets : Octets) → Hears w i from octets w' → Tidy w'
 tidy_hears w w' t i from octets h =
-    tidy_acts w w' t i h.before h.after h.outcome h.at h.acts (on_counted w.now from octets h.before h.after h.outcome h.on)
+    tidy_acts w w' t i h.before h.after h.outcome h.at h.acts (on_counted (told w i) from octets h.before h.after h.outcome h.on)
 
 -- a ticket is among those with it
 pub counts_it : (ticket tickets : ℕ) → ticket + 1 ≤ with_ticket ticket tickets
@@ -140,20 +161,30 @@ counts_it ticket tickets = go (nat_lt ticket tickets) refl
     go true e = grind (arith, nat_tests)
     go false e = omega arith
 
+self : (i : ℕ) → nat_eq i i ≡ true
+self i = grind (arith, nat_tests)
+
+away : (i j : ℕ) → (i ≡ j → ⊥) → nat_eq i j ≡ false
+away i j ne = go (nat_eq i j) refl
+  where
+    go : (b : Bool) → nat_eq i j ≡ b → b ≡ false
+    go true e = absurd (ne (grind (arith, nat_tests)))
+    go false e = refl
+
 tidy_asked : (w w' : World) → Tidy w → (i s : ℕ) (limits : Limits) (r : Request) → IsAsked w i s limits r w' → Tidy w'
-tidy_asked w w' t i s limits r k = tidy_with w w' t i k.after k.nodes k.now f.latest
+tidy_asked w w' t i s limits r k = tidy_still w w' t i k.after k.nodes k.time f.latest
     (subst (λ notes. k.after.clients.asked ≤ tickets_of i notes) (sym k.notes)
     (subst (λ (b : Bool). k.after.clients.asked ≤ (if b then with_ticket k.accepted.ticket (tickets_of i w.notes) else tickets_of i w.notes))
     (sym (self i)) one_more))
     (λ j ne. ap (tickets_of j) k.notes
-    ∙ ap (λ b. if b then with_ticket k.accepted.ticket (tickets_of j w.notes) else tickets_of j w.notes) (away j ne))
+    ∙ ap (λ b. if b then with_ticket k.accepted.ticket (tickets_of j w.notes) else tickets_of j w.notes) (away i j (λ is. ne (sym is))))
   where
-    f : IsCounted w.now 1 k.before k.after
-    f = ask_counted w.now k.link limits r k.before k.after k.accepted k.sends k.asks
+    f : IsCounted (told w i) 1 k.before k.after
+    f = ask_counted (told w i) k.link limits r k.before k.after k.accepted k.sends k.asks
 
     ticket_is : k.accepted.ticket ≡ k.before.clients.asked
     ticket_is =
-        let parts = accepted_is k.before.settings w.now (peer_at k.link) (choice_of r) k.asks.octets k.before.clients k.accepted limits k.asks.accepted in
+        let parts = accepted_is k.before.settings (told w i) (peer_at k.link) (choice_of r) k.asks.octets k.before.clients k.accepted limits k.asks.accepted in
         ap (λ (y : Accepted). y.ticket) parts.is
 
     one_more : k.after.clients.asked ≤ with_ticket k.accepted.ticket (tickets_of i w.notes)
@@ -164,27 +195,55 @@ tidy_asked w w' t i s limits r k = tidy_with w w' t i k.after k.nodes k.now f.la
         let same = ticket_is in
         omega arith
 
-    self : (i : ℕ) → nat_eq i i ≡ true
-    self i = grind (arith, nat_tests)
-
-    away : (j : ℕ) → (j ≡ i → ⊥) → nat_eq i j ≡ false
-    away j ne = go (nat_eq i j) refl
-      where
-        go : (b : Bool) → nat_eq i j ≡ b → b ≡ false
-        go true e = absurd (ne (let is : i ≡ j = grind (arith, nat_tests) in sym is))
-        go false e = refl
-
 tidy_changed : (w w' : World) → Tidy w → (i : ℕ) (c : at_node.Change) → IsChanged w i c w' → Tidy w'
 tidy_changed w w' t i c k = record {
-  punctual = λ j a at. subst (λ (now : ℕ). a.latest ≤ now) (sym k.now) (each_with (λ m b. b.latest ≤ w.now) w.nodes w'.nodes i
+  right = subst IsRightTime (sym k.time) t.right;
+  punctual = λ j a at. subst (λ (y : Time). a.latest ≤ (y.clocks j).shows) (sym k.time) (each_with (λ m b. b.latest ≤ told w m) w.nodes w'.nodes i
       (with_change c k.before) k.nodes (t.punctual i k.before k.at) t.punctual j a at);
   counted = λ j a at. subst (λ notes. a.clients.asked ≤ tickets_of j notes) (sym k.notes)
       (each_with (λ m b. b.clients.asked ≤ tickets_of m w.notes) w.nodes w'.nodes i
       (with_change c k.before) k.nodes (t.counted i k.before k.at) t.counted j a at);
 }
 
-tidy_restarted : (w w' : World) → Tidy w → (i : ℕ) (store : Option Store) → IsRestarted w i store w' → Tidy w'
-tidy_restarted w w' t i store k = tidy_with w w' t i _ k.nodes k.now refl (omega arith) (λ j ne. ap (tickets_of j) k.notes)
+-- a node's new clock is right, and so are the others
+anew_right : (t : Time) → IsRightTime t → (i exact : ℕ) → IsRightTime (with_clock t i exact)
+anew_right t right i exact = record { some = right.some; shown = λ j. go (nat_eq j i) (t.clocks j) (right.shown j) }
+  where
+    go : (b : Bool) (c : Clock) → c ≡ clock_at t.pace c.exact
+        → (if b then clock_at t.pace exact else c) ≡ clock_at t.pace (if b then clock_at t.pace exact else c).exact
+    go true c e = refl
+    go false c e = e
+
+tidy_restarted : (w w' : World) → Tidy w → (i exact : ℕ) (store : Option Store) → IsRestarted w i exact store w' → Tidy w'
+tidy_restarted w w' t i exact store k = tidy_with w w' t i _ k.nodes (subst IsRightTime (sym k.time) (anew_right w.time t.right i exact)) others here
+    (omega arith) (λ j ne. ap (tickets_of j) k.notes)
+  where
+    new_clock : Bool → ℕ → ℕ
+    new_clock b j = (if b then clock_at w.time.pace exact else w.time.clocks j).shows
+
+    tells : (j : ℕ) → told w' j ≡ new_clock (nat_eq j i) j
+    tells j = ap (λ (y : Time). (y.clocks j).shows) k.time
+
+    others : (j : ℕ) → (j ≡ i → ⊥) → told w' j ≡ told w j
+    others j ne = tells j ∙ ap (λ b. new_clock b j) (away j i ne)
+
+    here : (clock_at w.time.pace exact).shows ≡ told w' i
+    here = sym (tells i ∙ ap (λ b. new_clock b i) (self i))
+
+-- clocks go on
+tidy_later : (w : World) → Tidy w → (by : ℕ) (own : ℕ → ℕ) → Tidy (record w { time = passes w.time by own })
+tidy_later w t by own = record {
+  right = record { some = t.right.some; shown = λ i. refl };
+  punctual = λ i a at.
+      let was : a.latest ≤ told w i = t.punctual i a at in
+      let on : told w i ≤ (goes_on w.time.pace by (own i) (w.time.clocks i)).shows = later i in
+      omega arith;
+  counted = t.counted;
+}
+  where
+    later : (i : ℕ) → told w i ≤ (goes_on w.time.pace by (own i) (w.time.clocks i)).shows
+    later i = shows_on w.time.pace t.right.some by (own i) (w.time.clocks i)
+        (subst (IsShown w.time.pace) (sym (t.right.shown i)) (shown_at w.time.pace t.right.some (w.time.clocks i).exact))
 
 tidy_delivered : (b : Bool) (w : World) (c : Copy) (w' : World) → Tidy w → DeliversIf b w c w' → Tidy w'
 tidy_delivered true w c w' t d = tidy_hears w w' t c.to d.link c.octets d.hears
@@ -193,24 +252,22 @@ tidy_delivered false w c w' t same = subst Tidy (sym same) t
 tidy_step : (overtake : ℕ) (w w' : World) (e : Event) → Tidy w → WorldStep overtake w e w' → Tidy w'
 tidy_step overtake w w' (Ask client server limits r) t (inl s) = tidy_asked w w' t client server limits r s
 tidy_step overtake w w' (Ask client server limits r) t (inr s) = subst Tidy (sym s.same) t
-tidy_step overtake w w' (Deliver number) t s = tidy_delivered (is_deliverable overtake w.now number w.copies s.copy) w s.copy w' t s.goes
+tidy_step overtake w w' (Deliver number) t s = tidy_delivered (is_deliverable overtake w.time.pace.life w.time.now number w.copies s.copy) w s.copy w' t s.goes
 tidy_step overtake w w' (Noise node from octets) t (inl s) = tidy_hears w w' t node from octets s.hears
 tidy_step overtake w w' (Noise node from octets) t (inr s) = subst Tidy (sym s.same) t
 tidy_step overtake w w' (Tick node) t s =
-    tidy_acts w w' t node s.before s.after s.outcome s.at s.acts (tick_counted w.now s.before s.after s.outcome s.tick)
-tidy_step overtake w w' (Advance by) t s = subst Tidy (sym s) (record {
-  punctual = λ i a at. let e : a.latest ≤ w.now = t.punctual i a at in omega arith;
-  counted = t.counted;
-})
+    tidy_acts w w' t node s.before s.after s.outcome s.at s.acts (tick_counted (told w node) s.before s.after s.outcome s.tick)
+tidy_step overtake w w' (Advance by own) t s = subst Tidy (sym s) (tidy_later w t by own)
 tidy_step overtake w w' (Change node change) t s = tidy_changed w w' t node change s
-tidy_step overtake w w' (Restart node store) t s = tidy_restarted w w' t node store s
+tidy_step overtake w w' (Restart node exact store) t s = tidy_restarted w w' t node exact store s
 
 tidy_run : (overtake : ℕ) (events : List Event) (w w' : World) → Tidy w → WorldRun overtake w events w' → Tidy w'
 tidy_run overtake [] w w' t run = subst Tidy (sym run) t
 tidy_run overtake (e ∷ es) w w' t run = tidy_run overtake es run.0 w' (tidy_step overtake w run.0 e t run.1) run.2
 
-tidy_fresh : (w : World) → IsFresh w → Tidy w
-tidy_fresh w f = record {
+tidy_fresh : (w : World) → IsFresh w → IsTimely w.time.pace → Tidy w
+tidy_fresh w f timely = record {
+  right = record { some = timely.some; shown = f.clocks };
   punctual = λ i a at. let e : a.latest ≡ 0 = (f.nodes i a at).latest in omega arith;
   counted = λ i a at. let e : a.clients.asked ≡ 0 = (f.nodes i a at).asked in omega arith;
 }
@@ -234,26 +291,28 @@ module _ (links : ℕ → Option Octets) (apart : (i j : ℕ) (l : Octets) → l
 
   by_way : (number : ℕ) (p : Post) (c : Copy) → slice_get n.posts number ≡ Some p → IsCopyOf links apart p c → (a b : Node) (o : Outcome)
       → slice_get w.nodes c.to ≡ Some a → (l : Octets) → links c.from ≡ Some l → (up : Bool) → IsBetween up p.key c.from c.to
-      → IsHeardBy up (peer_at l) p.copy.apdu w.now a b o → Enters links apart W x bound w n h c.to o
+      → IsHeardBy up (peer_at l) p.copy.apdu (told w c.to) a b o → Enters links apart W x bound w n h c.to o
   by_way number p c at k a b o node l link true between turn =
       subst (λ (i : ℕ). Enters links apart W x bound w n h i o) (sym between.1)
       (server_enters links apart W x bound w n h number p at a b o (subst (λ (i : ℕ). slice_get w.nodes i ≡ Some a) between.1 node) l
-      (subst (λ (i : ℕ). links i ≡ Some l) between.0 link) k.invoke (service_of a.store) turn)
+      (subst (λ (i : ℕ). links i ≡ Some l) between.0 link) k.invoke (service_of a.store)
+      (subst (λ (i : ℕ). IsHeardBy true (peer_at l) p.copy.apdu (told w i) a b o) between.1 turn))
   by_way number p c at k a b o node l link false between turn =
       subst (λ (i : ℕ). Enters links apart W x bound w n h i o) (sym between.1)
       (client_enters links apart W x bound w n h p a b o (subst (λ (i : ℕ). slice_get w.nodes i ≡ Some a) between.1 node) l
-      (subst (λ (i : ℕ). links i ≡ Some l) between.0 link) k.invoke turn)
+      (subst (λ (i : ℕ). links i ≡ Some l) between.0 link) k.invoke
+      (subst (λ (i : ℕ). IsHeardBy false (peer_at l) p.copy.apdu (told w i) a b o) between.1 turn))
 
   copy_enters : (number : ℕ) (c : Copy) → slice_get w.copies number ≡ Some c → (l : Octets) → link_at w.nodes c.from ≡ Some l → (a b : Node) (o : Outcome)
-      → slice_get w.nodes c.to ≡ Some a → NodeOn w.now l c.octets a b o → Enters links apart W x bound w n h c.to o
+      → slice_get w.nodes c.to ≡ Some a → NodeOn (told w c.to) l c.octets a b o → Enters links apart W x bound w n h c.to o
   copy_enters number c at l link a b o node (inl d) = nothing_enters links apart W x bound w n h c.to o
       (ap (λ (y : Outcome). y.sends) d.outcome) (ap (λ (y : Outcome). y.ended) d.outcome) (ap (λ (y : Outcome). y.performed) d.outcome)
   copy_enters number c at l link a b o node (inr d) =
       let p = copied number c at in
       let one = framed_means l p.goes.to_link p.other.copy.apdu d.apdu d.peer c.octets p.goes.frame p.goes.short d.means in
       by_way number p.other c p.there p.goes a b o node l (sym (h.linked c.from) ∙ link) (is_from_client p.other.copy.apdu) p.goes.between
-      (subst (λ (q : PeerView). IsHeardBy (is_from_client p.other.copy.apdu) q p.other.copy.apdu w.now a b o) one.0
-      (subst (λ (y : Apdu). IsHeardBy (is_from_client y) d.peer y w.now a b o) one.1 d.heard))
+      (subst (λ (q : PeerView). IsHeardBy (is_from_client p.other.copy.apdu) q p.other.copy.apdu (told w c.to) a b o) one.0
+      (subst (λ (y : Apdu). IsHeardBy (is_from_client y) d.peer y (told w c.to) a b o) one.1 d.heard))
 
   opens : Tidy w → (overtake : ℕ) → CanGoOn W overtake w
   opens t overtake = record {
@@ -267,11 +326,12 @@ module _ (links : ℕ → Option Octets) (apart : (i j : ℕ) (l : Octets) → l
     asks = ask_enters links apart W x bound w n h;
   }
 
-pub runs_can_go_on : (W overtake : ℕ) (w w' : World) → IsFresh w → IsBounded W overtake w → (events : List Event) → WorldRun overtake w events w'
-    → CanGoOn W overtake w'
-runs_can_go_on W overtake w w' f b events run =
+pub runs_can_go_on : (W overtake : ℕ) (w w' : World) → IsFresh w → IsTimely w.time.pace → IsBounded W overtake w → (events : List Event)
+    → WorldRun overtake w events w' → CanGoOn W overtake w'
+runs_can_go_on W overtake w w' f timely b events run =
     let x = rules_of overtake w in
     let bound = rules_bounded W overtake w b in
-    let reached = run_over (link_at w.nodes) f.apart W x bound refl (stores_of w.nodes) events w w' net_start (fresh_over W overtake w f b)
+    let reached = run_over (link_at w.nodes) f.apart W x bound refl (stores_of w.nodes) events w w' (net_start w.time.pace (λ i. (w.time.clocks i).exact))
+    (fresh_over W overtake w f timely b)
     (subst (λ l. IsOnce (stores_of w.nodes) l (stores_of w.nodes)) (sym f.log) (λ node. refl)) run in
-    opens (link_at w.nodes) f.apart W x bound w' reached.0 reached.1 (tidy_run overtake events w w' (tidy_fresh w f) run) overtake
+    opens (link_at w.nodes) f.apart W x bound w' reached.0 reached.1 (tidy_run overtake events w w' (tidy_fresh w f timely) run) overtake

@@ -12,7 +12,8 @@ use Rattle.bac_protocol.specs.Client.{ClientTransaction, client_on_apdu}
 use Rattle.bac_protocol.specs.Server as server
 use Rattle.bac_protocol.specs.Server.{ServerTransaction, Effect, Service, server_on_apdu}
 use Rattle.bac_protocol.specs.Transaction.{Key, Rules, server_context}
-use Rattle.bac_protocol.specs.World.{Net, Post}
+use Rattle.bac_protocol.specs.Pace.{Clock}
+use Rattle.bac_protocol.specs.World.{Net, Post, is_lost}
 use Rattle.bac_protocol.specs.Claims.{IsBounded}
 use Rattle.bac_protocol.specs.Steps.{IsSameReaction}
 use Rattle.bac_protocol.proofs.Dead.{gets_same, same_of, same_then, same_back}
@@ -26,10 +27,10 @@ use Rattle.bac_transaction.specs.Ends.{ServerTurn, responder_on_apdu, stays}
 use Rattle.bac_transaction.specs.Ends.TransactionSlot.{Open, Closed}
 use Rattle.bac_world.specs.Services.{Performed, ArePerformed}
 use Rattle.bac_world.specs.Node.{Node, Outcome, IsServerTurn, IsClientTurn}
-use Rattle.bac_world.specs.World.{World, newest, peer_at}
+use Rattle.bac_world.specs.World.{World, told, newest, peer_at}
 use Rattle.bac_world.proofs.Machines.{own_of, ticket_of}
 use Rattle.bac_world.proofs.Pairs.{pairwise_none}
-use Rattle.bac_world.proofs.Bridge.{IsWay, TicketFits, key_of, slot_key}
+use Rattle.bac_world.proofs.Bridge.{IsWay, TicketFits, here_at, there_at, key_of, slot_key}
 use Rattle.bac_world.proofs.Steps.{Over, Fits}
 use Rattle.bac_world.proofs.Serving.{each_of_server}
 use Rattle.bac_world.proofs.Hearing.{ticket_at}
@@ -47,7 +48,7 @@ module _ (links : ℕ → Option Octets) (apart : (i j : ℕ) (l : Octets) → l
   pub nothing_enters : (i : ℕ) (o : Outcome) → o.sends ≡ [] → o.ended ≡ [] → o.performed ≡ None → Enters i o
   nothing_enters i o sends ended performed = record {
     can = record {
-      sends = subst (Every (CanBeCopied w.nodes w.notes w.now i)) (sym sends) tt;
+      sends = subst (Every (CanBeCopied w.nodes w.notes w.time.now i)) (sym sends) tt;
       ended = subst (Every (IsNoted w i)) (sym ended) tt;
       performed = subst (AreOfClient w i) (sym performed) tt;
     };
@@ -60,7 +61,7 @@ module _ (links : ℕ → Option Octets) (apart : (i j : ℕ) (l : Octets) → l
   module _ (number : ℕ) (p : Post) (at : slice_get n.posts number ≡ Some p) (a b : Node) (o : Outcome)
       (node : slice_get w.nodes p.key.server ≡ Some a) (l : Octets)
       (client_at : links p.key.client ≡ Some l) (invoke : invoke_id_of p.copy.apdu ≡ p.key.invoke_id) (service : Service)
-      (turn : IsServerTurn (responder_on_apdu a.settings w.now service (peer_at l) p.copy.apdu a.servers) w.now a b o) where
+      (turn : IsServerTurn (responder_on_apdu a.settings (told w p.key.server) service (peer_at l) p.copy.apdu a.servers) (told w p.key.server) a b o) where
     abbrev key : Key
     key = p.key
 
@@ -74,13 +75,13 @@ module _ (links : ℕ → Option Octets) (apart : (i j : ℕ) (l : Octets) → l
     fits = h.nodes p.key.server a node
 
     abbrev context : Context
-    context = server_context x p.key n.now
+    context = server_context x p.key (there_at n p.key.server)
 
     abbrev free : Bool
-    free = is_free n.now a.servers
+    free = is_free (there_at n p.key.server) a.servers
 
     abbrev gets : Option ServerTransaction → server.Reaction
-    gets e = server_on_apdu (server_context x p.key n.now) service e (is_free n.now a.servers) p.copy.apdu
+    gets e = server_on_apdu (server_context x p.key (there_at n p.key.server)) service e (is_free (there_at n p.key.server) a.servers) p.copy.apdu
 
     abbrev v : server.Reaction
     v = gets (value_at same_key (slot_key l p.key.invoke_id) a.servers.slots)
@@ -92,40 +93,40 @@ module _ (links : ℕ → Option Octets) (apart : (i j : ℕ) (l : Octets) → l
     turns c now id = responder_on_apdu c now service (peer_at l) p.copy.apdu a.servers
 
     sends_is : Pairwise IsSent (to_all (peer_at l) v.sends) o.sends
-    sends_is = so (x.settings key.server) n.now key.invoke_id (sym fits.settings) h.now (sym invoke) turn.sends
+    sends_is = so (x.settings key.server) (there_at n p.key.server) key.invoke_id (sym fits.settings) (ap (λ (c : Clock). c.shows) (h.there p.key.server)) (sym invoke) turn.sends
       where
         sends_for : Settings → (now id : ℕ) → List Apdu
         sends_for c now id =
             (server_on_apdu (context_of c now (slot_key l id)) service (value_at same_key (slot_key l id) a.servers.slots) (is_free now a.servers) apdu).sends
 
-        so : (c : Settings) (now id : ℕ) → c ≡ a.settings → now ≡ w.now → id ≡ invoke_id_of apdu
-            → Pairwise IsSent (to_all (peer_at l) (sends_for a.settings w.now (invoke_id_of apdu))) o.sends
+        so : (c : Settings) (now id : ℕ) → c ≡ a.settings → now ≡ (told w p.key.server) → id ≡ invoke_id_of apdu
+            → Pairwise IsSent (to_all (peer_at l) (sends_for a.settings (told w p.key.server) (invoke_id_of apdu))) o.sends
             → Pairwise IsSent (to_all (peer_at l) (sends_for c now id)) o.sends
         so c now id e f g s = subst (λ (y : Settings). Pairwise IsSent (to_all (peer_at l) (sends_for y now id)) o.sends) (sym e)
             (subst (λ (y : ℕ). Pairwise IsSent (to_all (peer_at l) (sends_for a.settings y id)) o.sends) (sym f)
-            (subst (λ (y : ℕ). Pairwise IsSent (to_all (peer_at l) (sends_for a.settings w.now y)) o.sends) (sym g) s))
+            (subst (λ (y : ℕ). Pairwise IsSent (to_all (peer_at l) (sends_for a.settings (told w p.key.server) y)) o.sends) (sym g) s))
 
     done : (d : Performed) → o.performed ≡ Some d → d.key ≡ q
-    done d is = so (server_on_apdu (context_of a.settings w.now (slot_key l (invoke_id_of apdu))) service
-        (value_at same_key (slot_key l (invoke_id_of apdu)) a.servers.slots) (is_free w.now a.servers) apdu).effect
+    done d is = so (server_on_apdu (context_of a.settings (told w p.key.server) (slot_key l (invoke_id_of apdu))) service
+        (value_at same_key (slot_key l (invoke_id_of apdu)) a.servers.slots) (is_free (told w p.key.server) a.servers) apdu).effect
         (subst (λ (y : Option Performed). ArePerformed a.store (act_at (slot_key l (invoke_id_of apdu))
-        (server_on_apdu (context_of a.settings w.now (slot_key l (invoke_id_of apdu))) service
-        (value_at same_key (slot_key l (invoke_id_of apdu)) a.servers.slots) (is_free w.now a.servers) apdu).effect) y) is turn.performed)
+        (server_on_apdu (context_of a.settings (told w p.key.server) (slot_key l (invoke_id_of apdu))) service
+        (value_at same_key (slot_key l (invoke_id_of apdu)) a.servers.slots) (is_free (told w p.key.server) a.servers) apdu).effect) y) is turn.performed)
       where
         so : (e : Option Effect) → ArePerformed a.store (act_at (slot_key l (invoke_id_of apdu)) e) (Some d) → d.key ≡ q
         so None y = absurd y
         so (Some e) y = y.key ∙ ap (slot_key l) invoke
 
-    same : IsSameReaction n.now v u
+    same : IsSameReaction (there_at n p.key.server) v u
     same =
         let y : Option ServerTransaction = value_at same_key q a.servers.slots in
         let e : Option ServerTransaction = n.entries key in
         let f : server.Reaction = server_on_apdu context service y free apdu in
-        same_then n.now v (gets (server.live_entry n.now y)) u (gets_same context service y free apdu)
-        (same_then n.now (gets (server.live_entry n.now y)) (gets (server.live_entry n.now e)) u
-        (same_of n.now (gets (server.live_entry n.now y)) (gets (server.live_entry n.now e))
+        same_then (there_at n p.key.server) v (gets (server.live_entry (there_at n p.key.server) y)) u (gets_same context service y free apdu)
+        (same_then (there_at n p.key.server) (gets (server.live_entry (there_at n p.key.server) y)) (gets (server.live_entry (there_at n p.key.server) e)) u
+        (same_of (there_at n p.key.server) (gets (server.live_entry (there_at n p.key.server) y)) (gets (server.live_entry (there_at n p.key.server) e))
         (ap (λ (z : Option ServerTransaction). server_on_apdu context service z free apdu) (fits.servers.found key.client l key.invoke_id client_at)))
-        (same_back n.now u (gets (server.live_entry n.now e)) (gets_same context service e free apdu)))
+        (same_back (there_at n p.key.server) u (gets (server.live_entry (there_at n p.key.server) e)) (gets_same context service e free apdu)))
 
     sent : Pairwise IsSent (to_all (peer_at l) u.sends) o.sends
     sent = subst (λ (l' : List Apdu). Pairwise IsSent (to_all (peer_at l) l') o.sends) same.sends sends_is
@@ -173,7 +174,7 @@ module _ (links : ℕ → Option Octets) (apart : (i j : ℕ) (l : Octets) → l
   module _ (p : Post) (a b : Node) (o : Outcome) (node : slice_get w.nodes p.key.client ≡ Some a) (l : Octets)
       (server_at : links p.key.server ≡ Some l) (invoke : invoke_id_of p.copy.apdu ≡ p.key.invoke_id) where
     abbrev Turn : ClientTurn → Type 0
-    Turn t = IsClientTurn t w.now a b o
+    Turn t = IsClientTurn t (told w p.key.client) a b o
 
     still : Turn (stays a.clients) → Enters p.key.client o
     still t = nothing_enters p.key.client o (pairwise_none IsSent o.sends t.sends) (pairwise_none IsEndedView o.ended t.ended) t.performed
@@ -188,10 +189,10 @@ module _ (links : ℕ → Option Octets) (apart : (i j : ℕ) (l : Octets) → l
     goes k t found now c small turn =
         let context : Context = context_of c now (slot_key l p.key.invoke_id) in
         let r : client.Reaction = client_on_apdu context reads_reply t p.copy.apdu in
-        let fit : TicketFits (n.asks_from p.key.client) n.now w.notes p.key.client (n.numbers p.key) (Some (record { number = k; held = Open t })) (n.tickets p.key) =
-        subst (λ (y : Option Client). TicketFits (n.asks_from p.key.client) n.now w.notes p.key.client (n.numbers p.key) y (n.tickets p.key)) found
+        let fit : TicketFits (is_lost n p.key) (here_at n p.key.client) w.notes p.key.client (n.numbers p.key) (Some (record { number = k; held = Open t })) (n.tickets p.key) =
+        subst (λ (y : Option Client). TicketFits (is_lost n p.key) (here_at n p.key.client) w.notes p.key.client (n.numbers p.key) y (n.tickets p.key)) found
         (at_client.clients.found p.key.server l p.key.invoke_id server_at) in
-        let there = ticket_at (n.asks_from p.key.client) n.now w.notes p.key.client (n.numbers p.key) k t (n.tickets p.key) fit in
+        let there = ticket_at (is_lost n p.key) (here_at n p.key.client) w.notes p.key.client (n.numbers p.key) k t (n.tickets p.key) fit in
         let noted = there.1 in
         let ends = can_end links apart w h.linked p.key.client k (n.numbers p.key) noted t.ask.choice (client.ending_of r) o.ended turn.ended in
         let fewer : length (client.sends_of r) ≤ W + 1 = client_gets_few context reads_reply W bound.some small t p.copy.apdu in
@@ -211,16 +212,16 @@ module _ (links : ℕ → Option Octets) (apart : (i j : ℕ) (l : Octets) → l
         }
 
     held : (k : ℕ) (y : TransactionSlot) → value_at same_key (slot_key l p.key.invoke_id) a.clients.slots ≡ Some (record { number = k; held = y })
-        → Turn (requester_on_apdu_in_slot a.settings reads_reply w.now p.copy.apdu a.clients (slot_key l p.key.invoke_id) k y) → Enters p.key.client o
+        → Turn (requester_on_apdu_in_slot a.settings reads_reply (told w p.key.client) p.copy.apdu a.clients (slot_key l p.key.invoke_id) k y) → Enters p.key.client o
     held k (Closed first) is turn = still turn
-    held k (Open t) is turn = goes k t is w.now a.settings (subst (λ (c : Settings). c.window ≤ W) (sym at_client.settings) (bound.windows p.key.client)) turn
+    held k (Open t) is turn = goes k t is (told w p.key.client) a.settings (subst (λ (c : Settings). c.window ≤ W) (sym at_client.settings) (bound.windows p.key.client)) turn
 
     slot : (found : Option Client) → value_at same_key (slot_key l p.key.invoke_id) a.clients.slots ≡ found
-        → Turn (requester_on_apdu_at a.settings reads_reply w.now p.copy.apdu a.clients (slot_key l p.key.invoke_id) found) → Enters p.key.client o
+        → Turn (requester_on_apdu_at a.settings reads_reply (told w p.key.client) p.copy.apdu a.clients (slot_key l p.key.invoke_id) found) → Enters p.key.client o
     slot None is turn = still turn
     slot (Some v) is turn = held v.number v.held is turn
 
-    pub client_enters : Turn (requester_on_apdu a.settings reads_reply w.now (peer_at l) p.copy.apdu a.clients) → Enters p.key.client o
+    pub client_enters : Turn (requester_on_apdu a.settings reads_reply (told w p.key.client) (peer_at l) p.copy.apdu a.clients) → Enters p.key.client o
     client_enters turn = slot (value_at same_key (slot_key l p.key.invoke_id) a.clients.slots) refl
-        (subst (λ (id : ℕ). Turn (requester_on_apdu_at a.settings reads_reply w.now p.copy.apdu a.clients (slot_key l id)
+        (subst (λ (id : ℕ). Turn (requester_on_apdu_at a.settings reads_reply (told w p.key.client) p.copy.apdu a.clients (slot_key l id)
         (value_at same_key (slot_key l id) a.clients.slots))) invoke turn)

@@ -23,7 +23,7 @@ fn is_young_and_early(overtake: u8, now: u64, copy: &Copy, sent: usize) -> bool
 /// Whether a copy may arrive: at most 5,000 ms after its sending, and overtaken by no more than so many of its transaction.
 pub(crate) fn may_arrive(overtake: u8, now: u64, copies: &[Copy], rows: &[Row], copy: &Copy) -> bool
     ensures { (notes : List Note) (number : _) → IsKept rows.now copies.now notes → slice_get copies.now number ≡ Some copy.now
-        → result ≡ is_deliverable overtake now number (map copy_view copies.now) (copy_view copy.now) }
+        → result ≡ is_deliverable overtake LIFE now number (map copy_view copies.now) (copy_view copy.now) }
 {
     copy.transaction.fits();
     match known(rows, &copy.transaction) {
@@ -42,7 +42,7 @@ pub(crate) fn deliverable(
 ) -> Option<bool>
     ensures none { slice_get (map copy_view copies.now) number ≡ None → result ≡ None }
     ensures is { (notes : List Note) → IsKept rows.now copies.now notes → (c : world.Copy) → slice_get (map copy_view copies.now) number ≡ Some c
-        → result ≡ Some (is_deliverable overtake now number (map copy_view copies.now) c) }
+        → result ≡ Some (is_deliverable overtake LIFE now number (map copy_view copies.now) c) }
 {
     match copies.get(number) {
         Some(copy) => Some(may_arrive(overtake, now, copies, rows, copy)),

@@ -1,6 +1,7 @@
 //! What a simulated network keeps beside its nodes.
 ghost use Rattle.std.specs.Prelude.{◌≡◌, ◌↔◌, ◌+◌, ◌<◌, ◌≤◌, ◌≢◌, ℕ, IfOk, IfSome, IsNone, IsSome};
 ghost use Rattle.std.specs.Prelude.{IsTrue, OnOk, OnErr, List, [], ◌∷◌, None, Some, length, map, slice_get};
+ghost use Rattle.bac_protocol.specs.declared.times.TheConstants.{LIFE};
 ghost use Rattle.bac_world.specs.Node.{Node};
 ghost use Rattle.bac_world.specs.World as world;
 ghost use Rattle.bac_world.specs.World.{ask_of, is_deliverable, newest};
@@ -148,7 +149,7 @@ impl Journal {
     pub fn is_deliverable(&self, overtake: u8, number: usize) -> Option<bool>
         ensures none { slice_get self.now.copies number ≡ None → result ≡ None }
         ensures is { (c : world.Copy) → slice_get self.now.copies number ≡ Some c
-            → result ≡ Some (is_deliverable overtake self.now.moment number self.now.copies c) }
+            → result ≡ Some (is_deliverable overtake LIFE self.now.moment number self.now.copies c) }
     {
         deliverable(overtake, self.moment, &self.copies, &self.rows, number)
     }

@@ -21,6 +21,7 @@ use Rattle.bac_journal.specs.Growing.{BecomeCopies, CanBecome}
 use Rattle.bac_journal.specs.Journals.{JournalView, NoteRoom}
 use Rattle.bac_journal.specs.Views.{AreLinks}
 use Rattle.bac_network.specs.Asks.{CanAsk, CanBeNoted, IsNotedAsk, TellsFault}
+use Rattle.bac_network.specs.Clocks.{time_at}
 use Rattle.bac_network.specs.Goings.{Goes}
 use Rattle.bac_network.specs.Networks.{world_of}
 use Rattle.bac_network.specs.Steps.{HappensTelling, refusal_of}
@@ -91,7 +92,7 @@ module _ (n : Network) (client server : ℕ) (can : CanAsk client server n) (b :
         sends = x.sends.items;
         asks = k.asks;
         nodes = subst (λ l. IsWithNode n.nodes.items client g.after l) (sym same) g.nodes;
-        now = h.moment;
+        time = ap time_at h.moment;
         sent = h.sent.sent;
         copies = h.sent.copies;
         copied = h.sent.copied;

@@ -38,7 +38,11 @@ worlds_alike v w opening stores one other limit opened nodes log journal =
     λ i. record {
       overtake = limit i;
       opening = before i;
-      world = record { nodes = now i; now = journal.moment i; copies = journal.copies i; log = reverse (log i); notes = journal.notes i };
+      nodes = now i;
+      moment = journal.moment i;
+      copies = journal.copies i;
+      log = reverse (log i);
+      notes = journal.notes i;
     }
 
 -- The same world has the same parts.
@@ -46,20 +50,20 @@ worlds_alike v w opening stores one other limit opened nodes log journal =
 pub same_openings : (one other : WorldView) → one ≡ other → map (λ (s : Store). s) one.opening ≡ map (λ (s : Store). s) other.opening
 same_openings one other same = ap (λ (w : WorldView). map (λ (s : Store). s) w.opening) same
 
-pub same_nodes : (one other : WorldView) → one ≡ other → map (λ (a : Node). a) one.world.nodes ≡ map (λ (a : Node). a) other.world.nodes
-same_nodes one other same = ap (λ (w : WorldView). map (λ (a : Node). a) w.world.nodes) same
+pub same_nodes : (one other : WorldView) → one ≡ other → map (λ (a : Node). a) one.nodes ≡ map (λ (a : Node). a) other.nodes
+same_nodes one other same = ap (λ (w : WorldView). map (λ (a : Node). a) w.nodes) same
 
 pub same_facts : (v w : ℕ) (opening stores : List Store) (one other : Network) → view_of v opening one ≡ view_of w stores other
     → map fact_view one.log.items ≡ map fact_view other.log.items
 same_facts v w opening stores one other same =
-    sym (reverse-reverse (map fact_view one.log.items)) ∙ ap (λ (w : WorldView). reverse w.world.log) same ∙ reverse-reverse (map fact_view other.log.items)
+    sym (reverse-reverse (map fact_view one.log.items)) ∙ ap (λ (w : WorldView). reverse w.log) same ∙ reverse-reverse (map fact_view other.log.items)
 
 pub same_journals : (v w : ℕ) (opening stores : List Store) (one other : Network) → AreLinks one.nodes.items one.journal.links
     → AreLinks other.nodes.items other.journal.links → view_of v opening one ≡ view_of w stores other → AreSame one.journal other.journal
 same_journals v w opening stores one other a b same =
     record {
-      links = same_links one.nodes.items other.nodes.items one.journal.links other.journal.links (ap (λ (w : WorldView). w.world.nodes) same) a b;
-      moment = ap (λ (w : WorldView). w.world.now) same;
-      copies = ap (λ (w : WorldView). w.world.copies) same;
-      notes = ap (λ (w : WorldView). w.world.notes) same;
+      links = same_links one.nodes.items other.nodes.items one.journal.links other.journal.links (ap (λ (w : WorldView). w.nodes) same) a b;
+      moment = ap (λ (w : WorldView). w.moment) same;
+      copies = ap (λ (w : WorldView). w.copies) same;
+      notes = ap (λ (w : WorldView). w.notes) same;
     }

@@ -3,6 +3,7 @@ use Rattle.std.proofs.Common.{◌≡◌, ℕ, zero, suc, ◌+◌, ◌<◌, ◌�
 use Rattle.std.proofs.Common.{refl, sym, ap, subst, inl, inr, ◌∙◌, arith}
 use Rattle.std.proofs.lemmas.Option.{slice_get_within}
 use Rattle.std.specs.Option.{option_map}
+use Rattle.bac_protocol.specs.declared.times.TheConstants.{LIFE}
 use Rattle.bac_protocol.specs.Service.{Octets}
 use Rattle.bac_node.specs.Calls.{ticked}
 use Rattle.bac_world.specs.Laws.{IsMeaningless}
@@ -15,6 +16,7 @@ use Rattle.bac_world.proofs.Pairs.{append_none}
 use Rattle.bac_journal.specs.Entering.{CanEnter, CanGoOn}
 use Rattle.bac_journal.specs.Journals.{JournalView}
 use Rattle.bac_journal.specs.Views.{AreLinks}
+use Rattle.bac_network.specs.Clocks.{time_at}
 use Rattle.bac_network.specs.Entries.{CanBeEntered, IsEntered, performances}
 use Rattle.bac_network.specs.Goings.{Arrives, Goes, IsBetween, IsDue, IsHeardCopy}
 use Rattle.bac_network.specs.Networks.{world_of, world_with, AreAlike, IsReady}
@@ -28,10 +30,13 @@ use Rattle.bac_network.proofs.Entered.{acts_as, can_be_entered}
 pub world_alike : (m n : Network) → AreAlike m n → world_of n ≡ world_of m
 world_alike m n a =
     ap (λ nodes. world_with nodes.items n.journal (log_view n.log.items)) a.nodes
-    ∙ ap (λ t. record { nodes = m.nodes.items; now = t; copies = n.journal.copies; log = log_view n.log.items; notes = n.journal.notes }) a.moment
-    ∙ ap (λ copies. record { nodes = m.nodes.items; now = m.journal.moment; copies = copies; log = log_view n.log.items; notes = n.journal.notes }) a.copies
-    ∙ ap (λ log. record { nodes = m.nodes.items; now = m.journal.moment; copies = m.journal.copies; log = log_view log; notes = n.journal.notes }) a.log
-    ∙ ap (λ notes. record { nodes = m.nodes.items; now = m.journal.moment; copies = m.journal.copies; log = log_view m.log.items; notes = notes }) a.notes
+    ∙ ap (λ t. record { nodes = m.nodes.items; time = time_at t; copies = n.journal.copies; log = log_view n.log.items; notes = n.journal.notes }) a.moment
+    ∙ ap (λ copies. record { nodes = m.nodes.items; time = time_at m.journal.moment; copies = copies; log = log_view n.log.items; notes = n.journal.notes })
+    a.copies
+    ∙ ap (λ log. record { nodes = m.nodes.items; time = time_at m.journal.moment; copies = m.journal.copies; log = log_view log; notes = n.journal.notes })
+    a.log
+    ∙ ap (λ notes. record { nodes = m.nodes.items; time = time_at m.journal.moment; copies = m.journal.copies; log = log_view m.log.items; notes = notes })
+    a.notes
 
 pub ready_alike : (W overtake : ℕ) (m n : Network) → AreAlike m n → IsReady W overtake m → IsReady W overtake n
 ready_alike W overtake m n a r = record {
@@ -86,10 +91,10 @@ pub record CopyEnters (W : ℕ) (n : Network) (to : ℕ) (o : Outcome) : Type 0 
   pub facts : length o.ended + performances o.performed ≤ 2
 
 module _ (W overtake : ℕ) (n : Network) (r : IsReady W overtake n) (number : ℕ) (m : TakesMemory overtake (world_of n) (Deliver number)) where
-  young : (c : Copy) → slice_get n.journal.copies number ≡ Some c → is_deliverable overtake n.journal.moment number n.journal.copies c ≡ true
+  young : (c : Copy) → slice_get n.journal.copies number ≡ Some c → is_deliverable overtake LIFE n.journal.moment number n.journal.copies c ≡ true
   young c at =
       let same : m.0 ≡ c = let e : Some m.0 ≡ Some c = sym m.1 ∙ at in cc in
-      subst (λ (d : Copy). is_deliverable overtake n.journal.moment number n.journal.copies d ≡ true) same m.2
+      subst (λ (d : Copy). is_deliverable overtake LIFE n.journal.moment number n.journal.copies d ≡ true) same m.2
 
   entering : (to : ℕ) (o : Outcome) (new : List Node) → IsHeardCopy n.nodes.items n.journal.moment n.journal.copies number to o new
       → CopyEnters W n to o
@@ -149,11 +154,11 @@ delivered overtake old new number m a =
       copy = a.copy;
       there = a.there;
       goes = subst (λ (b : Bool). DeliversIf b old a.copy new)
-          (sym (subst (λ (d : Copy). is_deliverable overtake old.now number old.copies d ≡ true) same m.2)) a.delivers;
+          (sym (subst (λ (d : Copy). is_deliverable overtake old.time.pace.life old.time.now number old.copies d ≡ true) same m.2)) a.delivers;
     }
 
 pub lost : (overtake : ℕ) (old : World) (number : ℕ) (c : Copy) → slice_get old.copies number ≡ Some c
-    → is_deliverable overtake old.now number old.copies c ≡ false → IsDelivered overtake old number old
+    → is_deliverable overtake old.time.pace.life old.time.now number old.copies c ≡ false → IsDelivered overtake old number old
 lost overtake old number c at old_or_overtaken = record {
   copy = c;
   there = at;
@@ -233,7 +238,7 @@ noise_heard n n' node from octets o noise nodes are now is new fits went journal
         on = subst (NodeOn n.journal.moment from octets g.before g.after) d.outcome g.goes;
         acts = record {
           nodes = g.nodes;
-          now = ap (λ (j : JournalView). j.moment) journal;
+          time = ap (λ (j : JournalView). time_at j.moment) journal;
           notes = ap (λ (j : JournalView). j.notes) journal;
           sent = [];
           copies = ap (λ (j : JournalView). j.copies) journal ∙ sym (append_none n.journal.copies);

@@ -11,6 +11,7 @@ use Rattle.bac_journal.specs.Entering.{AreOfClient, CanEnter}
 use Rattle.bac_journal.specs.Journals.{JournalView}
 use Rattle.bac_journal.specs.Notes.{note_view, notes_view}
 use Rattle.bac_journal.specs.declared.noting.Note as code
+use Rattle.bac_network.specs.Clocks.{time_at}
 use Rattle.bac_network.specs.Entries.{AreNoted, CanBeEntered, HaveClient, IsEntered}
 use Rattle.bac_network.specs.Networks.{world_of, world_with, IsReady}
 use Rattle.bac_network.specs.Views.{fact_view, log_view}
@@ -73,7 +74,7 @@ pub acts_as : (nodes nodes' : List Node) (j j' : JournalView) (log log' : List o
     → IsEntered nodes i o j j' log log' → j'.moment ≡ j.moment → j'.notes ≡ j.notes → Acts (world_with nodes j log) i b o (world_with nodes' j' log')
 acts_as nodes nodes' j j' log log' i b o with_node h moment notes = record {
   nodes = with_node;
-  now = moment;
+  time = ap time_at moment;
   notes = notes;
   sent = h.sent.sent;
   copies = h.sent.copies;

@@ -17,7 +17,7 @@ since_grows since ask log new g h = record {
 
 -- a delivery makes it grow
 pub delivered_grows : (overtake number : ℕ) (u v : World) → IsDelivered overtake u number v → Grows u.log v.log
-delivered_grows overtake number u v d = go (is_deliverable overtake u.now number u.copies d.copy) d.goes
+delivered_grows overtake number u v d = go (is_deliverable overtake u.time.pace.life u.time.now number u.copies d.copy) d.goes
   where
     go : (b : Bool) → DeliversIf b u d.copy v → Grows u.log v.log
     go true y = acts_grow u v d.copy.to y.hears.after y.hears.outcome y.hears.acts

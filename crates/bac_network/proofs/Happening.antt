@@ -25,7 +25,8 @@ none_some : {A : Type 0} (o : Option A) (x : A) → o ≡ None → o ≡ Some x 
 none_some o x e at = let f : None ≡ Some x = sym e ∙ at in cc
 
 abbrev seen : ℕ → List Store → World → WorldView
-seen limit opening w = record { overtake = limit; opening = opening; world = w }
+seen limit opening w =
+    record { overtake = limit; opening = opening; nodes = w.nodes; moment = w.time.now; copies = w.copies; log = w.log; notes = w.notes }
 
 module _ (overtake : ℕ) (old new : World) where
   no_node : (e : Event) → WorldStep overtake old e new → NamesNoNode old e → ⊥
@@ -37,8 +38,8 @@ module _ (overtake : ℕ) (old new : World) where
   no_node (Noise node from octets) (inl h) n = none_some (slice_get old.nodes node) h.hears.before n h.hears.at
   no_node (Noise node from octets) (inr h) n = none_some (slice_get old.nodes node) h.node n h.at
   no_node (Tick node) h n = none_some (slice_get old.nodes node) h.before n h.at
-  no_node (Restart node store) h n = none_some (slice_get old.nodes node) h.before n h.at
-  no_node (Advance by) h n = n
+  no_node (Restart node exact store) h n = none_some (slice_get old.nodes node) h.before n h.at
+  no_node (Advance by own) h n = n
   no_node (Change node c) h n = none_some (slice_get old.nodes node) h.before n h.at
 
   no_copy : (e : Event) → WorldStep overtake old e new → NamesNoCopy old e → ⊥
@@ -46,8 +47,8 @@ module _ (overtake : ℕ) (old new : World) where
   no_copy (Deliver number) h n = none_some (slice_get old.copies number) h.copy n h.there
   no_copy (Noise node from octets) h n = n
   no_copy (Tick node) h n = n
-  no_copy (Restart node store) h n = n
-  no_copy (Advance by) h n = n
+  no_copy (Restart node exact store) h n = n
+  no_copy (Advance by own) h n = n
   no_copy (Change node c) h n = n
 
   node_or_copy : (e : Event) → NamesNoNode old e → NamesNoCopy old e → ⊥
@@ -55,8 +56,8 @@ module _ (overtake : ℕ) (old new : World) where
   node_or_copy (Deliver number) n c = n
   node_or_copy (Noise node from octets) n c = c
   node_or_copy (Tick node) n c = c
-  node_or_copy (Restart node store) n c = c
-  node_or_copy (Advance by) n c = n
+  node_or_copy (Restart node exact store) n c = c
+  node_or_copy (Advance by own) n c = n
   node_or_copy (Change node d) n c = c
 
   node_or_clock : (e : Event) → NamesNoNode old e → PassesClock old e → ⊥
@@ -64,8 +65,8 @@ module _ (overtake : ℕ) (old new : World) where
   node_or_clock (Deliver number) n c = n
   node_or_clock (Noise node from octets) n c = c
   node_or_clock (Tick node) n c = c
-  node_or_clock (Restart node store) n c = c
-  node_or_clock (Advance by) n c = n
+  node_or_clock (Restart node exact store) n c = c
+  node_or_clock (Advance by own) n c = n
   node_or_clock (Change node d) n c = c
 
   copy_or_clock : (e : Event) → NamesNoCopy old e → PassesClock old e → ⊥
@@ -73,8 +74,8 @@ module _ (overtake : ℕ) (old new : World) where
   copy_or_clock (Deliver number) n c = c
   copy_or_clock (Noise node from octets) n c = n
   copy_or_clock (Tick node) n c = n
-  copy_or_clock (Restart node store) n c = n
-  copy_or_clock (Advance by) n c = n
+  copy_or_clock (Restart node exact store) n c = n
+  copy_or_clock (Advance by own) n c = n
   copy_or_clock (Change node d) n c = n
 
   copy_or_memory : (e : Event) → NamesNoCopy old e → TakesMemory overtake old e → ⊥
@@ -82,8 +83,8 @@ module _ (overtake : ℕ) (old new : World) where
   copy_or_memory (Deliver number) n m = none_some (slice_get old.copies number) m.0 n m.1
   copy_or_memory (Noise node from octets) n m = n
   copy_or_memory (Tick node) n m = n
-  copy_or_memory (Restart node store) n m = n
-  copy_or_memory (Advance by) n m = n
+  copy_or_memory (Restart node exact store) n m = n
+  copy_or_memory (Advance by own) n m = n
   copy_or_memory (Change node d) n m = n
 
   clock_or_memory : (e : Event) → PassesClock old e → TakesMemory overtake old e → ⊥
@@ -91,8 +92,8 @@ module _ (overtake : ℕ) (old new : World) where
   clock_or_memory (Deliver number) n m = n
   clock_or_memory (Noise node from octets) n m = n
   clock_or_memory (Tick node) n m = n
-  clock_or_memory (Restart node store) n m = n
-  clock_or_memory (Advance by) n m = m
+  clock_or_memory (Restart node exact store) n m = n
+  clock_or_memory (Advance by own) n m = m
   clock_or_memory (Change node d) n m = n
 
   no_refusal : (e : Event) → WorldStep overtake old e new → (why : ChangeFault) → RefusesChange old e why → ⊥
@@ -104,8 +105,8 @@ module _ (overtake : ℕ) (old new : World) where
   no_refusal (Deliver number) h why r = r
   no_refusal (Noise node from octets) h why r = r
   no_refusal (Tick node) h why r = r
-  no_refusal (Restart node store) h why r = r
-  no_refusal (Advance by) h why r = r
+  no_refusal (Restart node exact store) h why r = r
+  no_refusal (Advance by own) h why r = r
 
   node_or_refusal : (e : Event) → NamesNoNode old e → (why : ChangeFault) → RefusesChange old e why → ⊥
   node_or_refusal (Change node c) n why r = none_some (slice_get old.nodes node) r.0 n r.1
@@ -113,8 +114,8 @@ module _ (overtake : ℕ) (old new : World) where
   node_or_refusal (Deliver number) n why r = r
   node_or_refusal (Noise node from octets) n why r = r
   node_or_refusal (Tick node) n why r = r
-  node_or_refusal (Restart node store) n why r = r
-  node_or_refusal (Advance by) n why r = r
+  node_or_refusal (Restart node exact store) n why r = r
+  node_or_refusal (Advance by own) n why r = r
 
   copy_or_refusal : (e : Event) → NamesNoCopy old e → (why : ChangeFault) → RefusesChange old e why → ⊥
   copy_or_refusal (Change node c) n why r = n
@@ -122,8 +123,8 @@ module _ (overtake : ℕ) (old new : World) where
   copy_or_refusal (Deliver number) n why r = r
   copy_or_refusal (Noise node from octets) n why r = r
   copy_or_refusal (Tick node) n why r = r
-  copy_or_refusal (Restart node store) n why r = r
-  copy_or_refusal (Advance by) n why r = r
+  copy_or_refusal (Restart node exact store) n why r = r
+  copy_or_refusal (Advance by own) n why r = r
 
   clock_or_refusal : (e : Event) → PassesClock old e → (why : ChangeFault) → RefusesChange old e why → ⊥
   clock_or_refusal (Change node c) n why r = n
@@ -131,8 +132,8 @@ module _ (overtake : ℕ) (old new : World) where
   clock_or_refusal (Deliver number) n why r = r
   clock_or_refusal (Noise node from octets) n why r = r
   clock_or_refusal (Tick node) n why r = r
-  clock_or_refusal (Restart node store) n why r = r
-  clock_or_refusal (Advance by) n why r = r
+  clock_or_refusal (Restart node exact store) n why r = r
+  clock_or_refusal (Advance by own) n why r = r
 
   memory_or_refusal : (e : Event) → TakesMemory overtake old e → (why : ChangeFault) → RefusesChange old e why → ⊥
   memory_or_refusal (Change node c) m why r = m why r
@@ -140,8 +141,8 @@ module _ (overtake : ℕ) (old new : World) where
   memory_or_refusal (Deliver number) m why r = r
   memory_or_refusal (Noise node from octets) m why r = r
   memory_or_refusal (Tick node) m why r = r
-  memory_or_refusal (Restart node store) m why r = r
-  memory_or_refusal (Advance by) m why r = r
+  memory_or_refusal (Restart node exact store) m why r = r
+  memory_or_refusal (Advance by own) m why r = r
 
   one_refusal : (e : Event) (why other : ChangeFault) → RefusesChange old e why → RefusesChange old e other → why ≡ other
   one_refusal (Change node c) why other r s =
@@ -153,8 +154,8 @@ module _ (overtake : ℕ) (old new : World) where
   one_refusal (Deliver number) why other r s = absurd r
   one_refusal (Noise node from octets) why other r s = absurd r
   one_refusal (Tick node) why other r s = absurd r
-  one_refusal (Restart node store) why other r s = absurd r
-  one_refusal (Advance by) why other r s = absurd r
+  one_refusal (Restart node exact store) why other r s = absurd r
+  one_refusal (Advance by own) why other r s = absurd r
 
   -- Each fault comes exactly where it says.
 
@@ -251,8 +252,8 @@ IsNoAsk (Ask client server limits r) = ⊥
 IsNoAsk (Deliver number) = Unit {0}
 IsNoAsk (Noise node from octets) = Unit {0}
 IsNoAsk (Tick node) = Unit {0}
-IsNoAsk (Restart node store) = Unit {0}
-IsNoAsk (Advance by) = Unit {0}
+IsNoAsk (Restart node exact store) = Unit {0}
+IsNoAsk (Advance by own) = Unit {0}
 IsNoAsk (Change node c) = Unit {0}
 
 tells_none : (old new : World) (e : Event) → IsNoAsk e → Tells None old e new
@@ -260,8 +261,8 @@ tells_none old new (Ask client server limits r) n = absurd n
 tells_none old new (Deliver number) n = tt
 tells_none old new (Noise node from octets) n = tt
 tells_none old new (Tick node) n = tt
-tells_none old new (Restart node store) n = tt
-tells_none old new (Advance by) n = tt
+tells_none old new (Restart node exact store) n = tt
+tells_none old new (Advance by own) n = tt
 tells_none old new (Change node c) n = tt
 
 pub told_nothing : {A : Type 0} (overtake : ℕ) (old new : World) (e : Event) → IsNoAsk e → (done : Result A WorldFault)
@@ -273,16 +274,16 @@ told_nothing overtake old new e n (Err f) r h is =
 
 -- What is known of a copy that may be delivered.
 
-abbrev pub IsKnown : (overtake now number : ℕ) → List Copy → Option Bool → Type 0
-IsKnown overtake now number copies None = slice_get copies number ≡ None
-IsKnown overtake now number copies (Some b) =
-    (c : Copy) × (slice_get copies number ≡ Some c) × (is_deliverable overtake now number copies c ≡ b)
+abbrev pub IsKnown : (overtake life now number : ℕ) → List Copy → Option Bool → Type 0
+IsKnown overtake life now number copies None = slice_get copies number ≡ None
+IsKnown overtake life now number copies (Some b) =
+    (c : Copy) × (slice_get copies number ≡ Some c) × (is_deliverable overtake life now number copies c ≡ b)
 
-pub known : (overtake now number : ℕ) (copies : List Copy) (answer : Option Bool) → (slice_get copies number ≡ None → answer ≡ None)
-    → ((c : Copy) → slice_get copies number ≡ Some c → answer ≡ Some (is_deliverable overtake now number copies c))
-    → IsKnown overtake now number copies answer
-known overtake now number copies answer none some = go (slice_get copies number) refl
+pub known : (overtake life now number : ℕ) (copies : List Copy) (answer : Option Bool) → (slice_get copies number ≡ None → answer ≡ None)
+    → ((c : Copy) → slice_get copies number ≡ Some c → answer ≡ Some (is_deliverable overtake life now number copies c))
+    → IsKnown overtake life now number copies answer
+known overtake life now number copies answer none some = go (slice_get copies number) refl
   where
-    go : (o : Option Copy) → slice_get copies number ≡ o → IsKnown overtake now number copies answer
-    go None e = subst (IsKnown overtake now number copies) (sym (none e)) e
-    go (Some c) e = subst (IsKnown overtake now number copies) (sym (some c e)) (c, e, refl)
+    go : (o : Option Copy) → slice_get copies number ≡ o → IsKnown overtake life now number copies answer
+    go None e = subst (IsKnown overtake life now number copies) (sym (none e)) e
+    go (Some c) e = subst (IsKnown overtake life now number copies) (sym (some c e)) (c, e, refl)

@@ -1,5 +1,6 @@
 -- What is known of a world from how it came to be.
 use Rattle.std.proofs.Common.{◌≡◌, ℕ, List, [], ◌∷◌, ◌++◌, Option, Result, Ok, Err, refl, sym, subst, ◌∙◌}
+use Rattle.bac_protocol.specs.Pace.{IsTimely}
 use Rattle.bac_protocol.specs.World.{net_start}
 use Rattle.bac_store.specs.Stores.{Store}
 use Rattle.bac_requester.specs.declared.ask_fault.AskFault.{AskFault}
@@ -12,7 +13,7 @@ use Rattle.bac_journal.specs.Views.{AreLinks}
 use Rattle.bac_journal.proofs.GoingOn.{runs_can_go_on}
 use Rattle.bac_network.specs.Histories.{WorldView, HasRun, IsKept, IsOnceNow, ArePerformedOnceNow, AreEndedOnceNow, AreReplayedNow}
 use Rattle.bac_network.specs.Histories.{AreChangesPermittedNow, HasRequestsAloneNow, IsOnceByRequestsAloneNow}
-use Rattle.bac_network.specs.Histories.{opening_stores, view_of}
+use Rattle.bac_network.specs.Histories.{as_world, opening_stores, view_of}
 use Rattle.bac_network.specs.Networks.{world_of, IsReady}
 use Rattle.bac_network.specs.Steps.{HappensTelling}
 use Rattle.bac_network.specs.declared.fault.WorldFault.{WorldFault}
@@ -25,11 +26,11 @@ pub run_more : (overtake : ℕ) (events : List Event) (e : Event) (w u v : World
 run_more overtake [] e w u v run step = (v, subst (λ (x : World). WorldStep overtake x e v) run step, refl)
 run_more overtake (d ∷ events) e w u v run step = (run.0, run.1, run_more overtake events e run.0 u v run.2 step)
 
-links_stay : (W overtake : ℕ) (w w' : World) → IsFresh w → IsBounded W overtake w → (events : List Event) → WorldRun overtake w events w'
+links_stay : (W overtake : ℕ) (w w' : World) → IsFresh w → IsTimely w.time.pace → IsBounded W overtake w → (events : List Event) → WorldRun overtake w events w'
     → (i : ℕ) → link_at w'.nodes i ≡ link_at w.nodes i
-links_stay W overtake w w' f b events run =
-    (run_over (link_at w.nodes) f.apart W (rules_of overtake w) (rules_bounded W overtake w b) refl (stores_of w.nodes) events w w' net_start
-    (fresh_over W overtake w f b)
+links_stay W overtake w w' f timely b events run =
+    (run_over (link_at w.nodes) f.apart W (rules_of overtake w) (rules_bounded W overtake w b) refl (stores_of w.nodes) events w w'
+    (net_start w.time.pace (λ i. (w.time.clocks i).exact)) (fresh_over W overtake w f timely b)
     (subst (λ (l : List Fact). IsOnce (stores_of w.nodes) l (stores_of w.nodes)) (sym f.log) (λ node. refl))
     run).1.linked
 
@@ -41,34 +42,34 @@ once_from opening other (f ∷ log) stores same h = (h.0, h.1, once_from opening
 -- What is known now.
 
 pub once_now : (W : ℕ) (w : WorldView) → HasRun W w → IsOnceNow w
-once_now W w h = once_from (stores_of h.first.nodes) (opening_stores w) w.world.log (stores_of w.world.nodes) h.opening
-    (headline W w.overtake h.first w.world h.fresh h.bounded h.events h.run)
+once_now W w h = once_from (stores_of h.first.nodes) (opening_stores w) w.log (stores_of w.nodes) h.opening
+    (headline W w.overtake h.first (as_world w) h.fresh h.timely h.bounded h.events h.run)
 
 -- claim by claim
 module _ (w : WorldView) (once : IsOnceNow w) where
   pub performed_now : ArePerformedOnceNow w
-  performed_now = performed_once (opening_stores w) w.world.log (stores_of w.world.nodes) once
+  performed_now = performed_once (opening_stores w) w.log (stores_of w.nodes) once
 
   pub ended_now : AreEndedOnceNow w
-  ended_now = ended_once (opening_stores w) w.world.log (stores_of w.world.nodes) once
+  ended_now = ended_once (opening_stores w) w.log (stores_of w.nodes) once
 
   pub permitted_now : AreChangesPermittedNow w
-  permitted_now = changes_permitted (opening_stores w) w.world.log (stores_of w.world.nodes) once
+  permitted_now = changes_permitted (opening_stores w) w.log (stores_of w.nodes) once
 
   pub replayed_now : AreReplayedNow w
-  replayed_now = replayed (opening_stores w) w.world.log (stores_of w.world.nodes) once
+  replayed_now = replayed (opening_stores w) w.log (stores_of w.nodes) once
 
   -- where no node changed its own store or restarted
   pub requests_now : HasRequestsAloneNow w → IsOnceByRequestsAloneNow w
-  requests_now alone = by_requests_alone (opening_stores w) w.world.log (stores_of w.world.nodes) alone once
+  requests_now alone = by_requests_alone (opening_stores w) w.log (stores_of w.nodes) alone once
 
 pub ready_now : (window overtake : ℕ) (opening : List Store) (n : Network) → IsKept window n.journal.links (view_of overtake opening n)
     → IsReady window overtake n
 ready_now window overtake opening n k =
     let h = k.history in
     record {
-      can = runs_can_go_on window overtake h.first (world_of n) h.fresh h.bounded h.events h.run;
-      linked = λ i. links_stay window overtake h.first (world_of n) h.fresh h.bounded h.events h.run i ∙ k.linked i;
+      can = runs_can_go_on window overtake h.first (world_of n) h.fresh h.timely h.bounded h.events h.run;
+      linked = λ i. links_stay window overtake h.first (world_of n) h.fresh h.timely h.bounded h.events h.run i ∙ k.linked i;
       apart = λ i j l a b. h.fresh.apart i j l (k.linked i ∙ a) (k.linked j ∙ b);
     }
 
@@ -87,6 +88,7 @@ module _ (window overtake : ℕ) (opening : List Store) (m n : Network) (links :
       first = k.history.first;
       events = events;
       fresh = k.history.fresh;
+      timely = k.history.timely;
       bounded = k.history.bounded;
       opening = k.history.opening;
       run = run;

@@ -1,3 +1,4 @@
+pub mod Clocks
 pub mod Histories
 pub mod Entered
 pub mod Happening

@@ -14,8 +14,9 @@ use Rattle.bac_journal.specs.Journals.{JournalView}
 use Rattle.bac_journal.specs.Views.{AreLinks}
 use Rattle.bac_network.specs.Fresh.{Maker, fresh_world, greatest_window, links_of, nodes_of, opening_of}
 use Rattle.bac_network.specs.Fresh.{HasBadSlots, HasBadWindow, HaveSameLink, IsGood, IsRight, IsTaken}
-use Rattle.bac_network.specs.Histories.{WorldView, IsKept, view_of}
+use Rattle.bac_network.specs.Histories.{WorldView, IsKept, as_world, view_of}
 use Rattle.bac_network.specs.declared.network.Network.{Network}
+use Rattle.bac_network.proofs.Clocks.{one_is_timely}
 
 -- Windows.
 
@@ -84,7 +85,7 @@ less_or_more i j ne = go (nat_lt i j) refl
 
 module _ (overtake : ℕ) (makers : List Maker) (right : IsRight overtake makers) where
   abbrev first : World
-  first = (fresh_world overtake makers).world
+  first = as_world (fresh_world overtake makers)
 
   apart : (i j : ℕ) (l : Octets) → link_at first.nodes i ≡ Some l → link_at first.nodes j ≡ Some l → i ≡ j
   apart i j l a b = go (decide_number i j)
@@ -128,6 +129,7 @@ module _ (overtake : ℕ) (makers : List Maker) (right : IsRight overtake makers
         subst IsFreshNode m.2 (record { latest = refl; slots = refl; asked = refl; asks_from = refl; entries = refl; serves_from = refl });
     apart = apart;
     now = refl;
+    clocks = λ i. refl;
     copies = refl;
     log = refl;
     notes = refl;
@@ -148,6 +150,7 @@ module _ (overtake : ℕ) (makers : List Maker) (right : IsRight overtake makers
       first = first;
       events = [];
       fresh = fresh;
+      timely = one_is_timely;
       bounded = bounded;
       opening = opened_fresh makers;
       run = refl;

@@ -17,7 +17,7 @@ use Rattle.bac_journal.specs.Notes.{note_view, notes_view}
 use Rattle.bac_journal.specs.Views.{copy_view}
 use Rattle.bac_network.specs.declared.fact.Fact as code
 use Rattle.bac_network.specs.declared.fault.WorldFault.{WorldFault}
-use Rattle.bac_network.specs.Histories.{WorldView, HasHistory}
+use Rattle.bac_network.specs.Histories.{WorldView, HasHistory, as_world}
 use Rattle.bac_network.specs.Steps.{IsFault}
 use Rattle.bac_network.specs.Views.{fact_view, log_view}
 use Rattle.bac_liveness.specs.StraightRuns.{IsStraight, deliveries, ending_in}
@@ -31,29 +31,30 @@ use Rattle.bac_network.proofs.Deliveries.{none_yet, one_more, run_of}
 use Rattle.bac_network.proofs.Grown.{since_grows, delivered_grows}
 use Rattle.bac_network.proofs.Tells.{log_tells}
 
-pub gone_none : (ask since first : ℕ) (w : WorldView) → IsSince since ask w.world.log → HasGone ask since first w w (first - first)
-gone_none ask since first w h = record { each = none_yet w.overtake ask first w.world; since_is = h; overtake = refl; opening = refl }
+pub gone_none : (ask since first : ℕ) (w : WorldView) → IsSince since ask w.log → HasGone ask since first w w (first - first)
+gone_none ask since first w h = record { each = none_yet w.overtake ask first (as_world w); since_is = h; overtake = refl; opening = refl }
 
 pub gone_more : (ask since first number : ℕ) (w u v : WorldView) → first ≤ number → HasGone ask since first w u (number - first)
-    → ending_in ask u.world.log ≡ None → WorldStep u.overtake u.world (Deliver number) v.world → v.overtake ≡ u.overtake → v.opening ≡ u.opening
+    → ending_in ask u.log ≡ None → WorldStep u.overtake (as_world u) (Deliver number) (as_world v) → v.overtake ≡ u.overtake → v.opening ≡ u.opening
     → HasGone ask since first w v (number + 1 - first)
 gone_more ask since first number w u v le h none step overtake opening =
-    let did : WorldStep w.overtake u.world (Deliver number) v.world = subst (λ k. WorldStep k u.world (Deliver number) v.world) h.overtake step in
+    let did : WorldStep w.overtake (as_world u) (Deliver number) (as_world v) = subst (λ k. WorldStep k (as_world u) (Deliver number) (as_world v)) h.overtake
+    step in
     record {
-      each = one_more w.overtake ask first number w.world u.world v.world le h.each none did;
-      since_is = since_grows since ask u.world.log v.world.log (delivered_grows w.overtake number u.world v.world did) h.since_is;
+      each = one_more w.overtake ask first number (as_world w) (as_world u) (as_world v) le h.each none did;
+      since_is = since_grows since ask u.log v.log (delivered_grows w.overtake number (as_world u) (as_world v) did) h.since_is;
       overtake = overtake ∙ h.overtake;
       opening = opening ∙ h.opening;
     }
 
-pub stopped_at : (ask since first number : ℕ) (w u : WorldView) → first ≤ number → HasGone ask since first w u (number - first) → Stops ask number u.world
+pub stopped_at : (ask since first number : ℕ) (w u : WorldView) → first ≤ number → HasGone ask since first w u (number - first) → Stops ask number (as_world u)
     → HasStopped ask since first w u (number - first)
 stopped_at ask since first number w u le h stops =
     let at : number ≡ first + (number - first) = omega (arith, le) in
-    record { gone = h; stops = subst (λ k. Stops ask k u.world) at stops }
+    record { gone = h; stops = subst (λ k. Stops ask k (as_world u)) at stops }
 
 pub stuck_at : (f : WorldFault) (ask since first number : ℕ) (w u v : WorldView) → first ≤ number → HasGone ask since first w u (number - first)
-    → ending_in ask u.world.log ≡ None → number < length u.world.copies → IsFault f u.overtake u.world (Deliver number) → v ≡ u
+    → ending_in ask u.log ≡ None → number < length u.copies → IsFault f u.overtake (as_world u) (Deliver number) → v ≡ u
     → IsStuck f ask since first w v
 stuck_at f ask since first number w u v le h none left why is =
     let at : number ≡ first + (number - first) = omega (arith, le) in
@@ -61,61 +62,61 @@ stuck_at f ask since first number w u v le h none left why is =
       count = number - first;
       gone = h;
       unended = none;
-      left = subst (λ k. k < length u.world.copies) at left;
-      why = subst (λ k. IsFault f w.overtake u.world (Deliver k)) at (subst (λ k. IsFault f k u.world (Deliver number)) h.overtake why);
+      left = subst (λ k. k < length u.copies) at left;
+      why = subst (λ k. IsFault f w.overtake (as_world u) (Deliver k)) at (subst (λ k. IsFault f k (as_world u) (Deliver number)) h.overtake why);
     })
 
 -- what the log of a world with a history tells
-pub tells : (w : WorldView) → HasHistory w → LogTells w.overtake w.world
-tells w h = log_tells h.0 w.overtake h.1.first w.world h.1.fresh h.1.bounded h.1.events h.1.run
+pub tells : (w : WorldView) → HasHistory w → LogTells w.overtake (as_world w)
+tells w h = log_tells h.0 w.overtake h.1.first (as_world w) h.1.fresh h.1.timely h.1.bounded h.1.events h.1.run
 
 module _ (w asked new : WorldView) (h : HasHistory w) (client server : ℕ) (limits : Limits) (r : Request)
-    (asks : IsAsked w.world client server limits r asked.world) (overtake : asked.overtake ≡ w.overtake)
-    (ask since first : ℕ) (ask_is : ask ≡ length w.world.notes) (first_is : first ≡ length w.world.copies) where
+    (asks : IsAsked (as_world w) client server limits r (as_world asked)) (overtake : asked.overtake ≡ w.overtake)
+    (ask since first : ℕ) (ask_is : ask ≡ length w.notes) (first_is : first ≡ length w.copies) where
   each_of : (count : ℕ) → HasGone ask since first asked new count
-      → DeliverUnended w.overtake (length w.world.notes) count (length w.world.copies) asked.world new.world
+      → DeliverUnended w.overtake (length w.notes) count (length w.copies) (as_world asked) (as_world new)
   each_of count g =
-      subst (λ k. DeliverUnended k (length w.world.notes) count (length w.world.copies) asked.world new.world) overtake
-      (subst (λ k. DeliverUnended asked.overtake k count (length w.world.copies) asked.world new.world) ask_is
-      (subst (λ k. DeliverUnended asked.overtake ask count k asked.world new.world) first_is g.each))
+      subst (λ k. DeliverUnended k (length w.notes) count (length w.copies) (as_world asked) (as_world new)) overtake
+      (subst (λ k. DeliverUnended asked.overtake k count (length w.copies) (as_world asked) (as_world new)) ask_is
+      (subst (λ k. DeliverUnended asked.overtake ask count k (as_world asked) (as_world new)) first_is g.each))
 
-  was_straight : (count : ℕ) (ending : Option Ending) → HasStopped ask since first asked new count → ending ≡ ending_in ask new.world.log
-      → IsStraight w.overtake w.world client server limits r ending count new.world
+  was_straight : (count : ℕ) (ending : Option Ending) → HasStopped ask since first asked new count → ending ≡ ending_in ask new.log
+      → IsStraight w.overtake (as_world w) client server limits r ending count (as_world new)
   was_straight count ending g is =
-      let stops : Stops (length w.world.notes) (length w.world.copies + count) new.world =
-      subst (λ k. Stops k (length w.world.copies + count) new.world) ask_is (subst (λ k. Stops ask (k + count) new.world) first_is g.stops) in
-      let same : ending_in (length w.world.notes) new.world.log ≡ ending = sym (is ∙ ap (λ k. ending_in k new.world.log) ask_is) in
-      subst (λ e. IsStraight w.overtake w.world client server limits r e count new.world) same
-      ((tells w h).straight client server limits r asked.world new.world asks count (each_of count g.gone) stops)
+      let stops : Stops (length w.notes) (length w.copies + count) (as_world new) =
+      subst (λ k. Stops k (length w.copies + count) (as_world new)) ask_is (subst (λ k. Stops ask (k + count) (as_world new)) first_is g.stops) in
+      let same : ending_in (length w.notes) new.log ≡ ending = sym (is ∙ ap (λ k. ending_in k new.log) ask_is) in
+      subst (λ e. IsStraight w.overtake (as_world w) client server limits r e count (as_world new)) same
+      ((tells w h).straight client server limits r (as_world asked) (as_world new) asks count (each_of count g.gone) stops)
 
   pub stopped_goes : (count : ℕ) (number : Option ℕ) → HasStopped ask since first asked new count → number ≡ Some ask
-      → Goes w.overtake w.world client server limits r (ending_by number new.world.log) count new.world
-  stopped_goes count number g is = inl (was_straight count (ending_by number new.world.log) g (ap (λ n. ending_by n new.world.log) is))
+      → Goes w.overtake (as_world w) client server limits r (ending_by number new.log) count (as_world new)
+  stopped_goes count number g is = inl (was_straight count (ending_by number new.log) g (ap (λ n. ending_by n new.log) is))
 
   -- a fault of a delivery
   module _ (f : WorldFault) where
-    stuck : IsStuck f ask since first asked new → DeliveryFails f w.overtake w.world client server limits r new.world
+    stuck : IsStuck f ask since first asked new → DeliveryFails f w.overtake (as_world w) client server limits r (as_world new)
     stuck s = record {
       count = s.count;
-      asked = asked.world;
+      asked = (as_world asked);
       asks = asks;
-      done = run_of w.overtake (length w.world.notes) s.count (length w.world.copies) asked.world new.world (each_of s.count s.gone);
-      unended = subst (λ k. ending_in k new.world.log ≡ None) ask_is s.unended;
-      left = subst (λ k. k + s.count < length new.world.copies) first_is s.left;
-      why = subst (λ k. IsFault f k new.world (Deliver (length w.world.copies + s.count))) overtake
-          (subst (λ k. IsFault f asked.overtake new.world (Deliver (k + s.count))) first_is s.why);
+      done = run_of w.overtake (length w.notes) s.count (length w.copies) (as_world asked) (as_world new) (each_of s.count s.gone);
+      unended = subst (λ k. ending_in k new.log ≡ None) ask_is s.unended;
+      left = subst (λ k. k + s.count < length new.copies) first_is s.left;
+      why = subst (λ k. IsFault f k (as_world new) (Deliver (length w.copies + s.count))) overtake
+          (subst (λ k. IsFault f asked.overtake (as_world new) (Deliver (k + s.count))) first_is s.why);
     }
 
-    pub stuck_fails : IsStuck f ask since first asked new → Fails f w.overtake w.world client server limits r new.world
+    pub stuck_fails : IsStuck f ask since first asked new → Fails f w.overtake (as_world w) client server limits r (as_world new)
     stuck_fails s = inr (stuck s)
 
 -- the facts before an accepted ask are the oldest
 pub asked_since : (w asked : WorldView) → HasHistory w → (client server : ℕ) (limits : Limits) (r : Request)
-    → IsAsked w.world client server limits r asked.world → (since ask : ℕ) → since ≡ length w.world.log → ask ≡ length w.world.notes
-    → IsSince since ask asked.world.log
+    → IsAsked (as_world w) client server limits r (as_world asked) → (since ask : ℕ) → since ≡ length w.log → ask ≡ length w.notes
+    → IsSince since ask asked.log
 asked_since w asked h client server limits r asks since ask since_is ask_is =
-    subst (λ k. IsSince k ask asked.world.log) (sym since_is) (subst (λ k. IsSince (length w.world.log) k asked.world.log) (sym ask_is)
-    ((tells w h).since client server limits r asked.world asks))
+    subst (λ k. IsSince k ask asked.log) (sym since_is) (subst (λ k. IsSince (length w.log) k asked.log) (sym ask_is)
+    ((tells w h).since client server limits r (as_world asked) asks))
 
 alone_deliveries : (count number : ℕ) → MakeRequestsAlone (deliveries count number)
 alone_deliveries zero number = tt

@@ -1,5 +1,6 @@
 -- What a loop over the copies of an ask needs.
 use Rattle.std.proofs.Common.{ℕ, List}
+use Rattle.bac_protocol.specs.Pace.{IsTimely}
 use Rattle.bac_world.specs.World.{World, Event, WorldRun, IsFresh, IsBounded}
 use Rattle.bac_network.specs.Tells.{LogTells, LoopGoesOn}
 use Rattle.bac_network.proofs.Deliveries.{none_yet, one_more}
@@ -13,14 +14,14 @@ loop_goes_on = record {
   since = λ overtake ask since number u v h step. since_grows since ask u.log v.log (delivered_grows overtake number u v step) h;
 }
 
-pub log_tells : (W overtake : ℕ) (first old : World) → IsFresh first → IsBounded W overtake first
+pub log_tells : (W overtake : ℕ) (first old : World) → IsFresh first → IsTimely first.time.pace → IsBounded W overtake first
     → (events : List Event) → WorldRun overtake first events old → LogTells overtake old
-log_tells W overtake first old fresh bounded events run = record {
-  since = asked_since W overtake first old fresh bounded events run;
+log_tells W overtake first old fresh timely bounded events run = record {
+  since = asked_since W overtake first old fresh timely bounded events run;
   run = λ client server limits r asked new asks count each.
-      delivered_run W overtake first old fresh bounded events run client server limits r asked new asks count each;
+      delivered_run W overtake first old fresh timely bounded events run client server limits r asked new asks count each;
   straight = λ client server limits r asked new asks count each stops.
-      delivered_straight W overtake first old fresh bounded events run client server limits r asked new asks count each stops;
+      delivered_straight W overtake first old fresh timely bounded events run client server limits r asked new asks count each stops;
   answers = λ client server r ending count new g well well_too a b can.
-      soon W overtake first old fresh bounded events run client server r ending count new g well well_too a b can;
+      soon W overtake first old fresh timely bounded events run client server r ending count new g well well_too a b can;
 }

@@ -28,13 +28,11 @@ fresh_world overtake makers =
     record {
       overtake = overtake;
       opening = opening_of makers;
-      world = record {
-        nodes = nodes_of makers;
-        now = 0;
-        copies = [];
-        log = [];
-        notes = [];
-      };
+      nodes = nodes_of makers;
+      moment = 0;
+      copies = [];
+      log = [];
+      notes = [];
     }
 
 -- one of those before a place has that link

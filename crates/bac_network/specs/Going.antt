@@ -1,7 +1,7 @@
 -- How far the deliveries of an ask have gone, in code.
 use Rattle.std.specs.Prelude.{◌≡◌, ℕ, ◌+◌, ◌<◌, length, None}
 use Rattle.bac_world.specs.World.Event.{Deliver}
-use Rattle.bac_network.specs.Histories.{WorldView}
+use Rattle.bac_network.specs.Histories.{WorldView, as_world}
 use Rattle.bac_network.specs.Steps.{IsFault}
 use Rattle.bac_network.specs.declared.fault.WorldFault.{WorldFault}
 use Rattle.bac_liveness.specs.StraightRuns.{ending_in}
@@ -9,20 +9,20 @@ use Rattle.bac_network.specs.Logs.{IsSince, DeliverUnended, Stops}
 
 -- so many copies were delivered, from the first of the ask on
 pub record HasGone (ask since first : ℕ) (old new : WorldView) (count : ℕ) : Type 0 where
-  pub each : DeliverUnended old.overtake ask count first old.world new.world
-  pub since_is : IsSince since ask new.world.log
+  pub each : DeliverUnended old.overtake ask count first (as_world old) (as_world new)
+  pub since_is : IsSince since ask new.log
   pub overtake : new.overtake ≡ old.overtake
   pub opening : new.opening ≡ old.opening
 
 -- and that was all
 pub record HasStopped (ask since first : ℕ) (old new : WorldView) (count : ℕ) : Type 0 where
   pub gone : HasGone ask since first old new count
-  pub stops : Stops ask (first + count) new.world
+  pub stops : Stops ask (first + count) (as_world new)
 
 -- the delivery of the next copy met that fault: that copy is there, and the ask has not ended
 pub record IsStuck (f : WorldFault) (ask since first : ℕ) (old new : WorldView) : Type 0 where
   pub count : ℕ
   pub gone : HasGone ask since first old new count
-  pub unended : ending_in ask new.world.log ≡ None
-  pub left : first + count < length new.world.copies
-  pub why : IsFault f old.overtake new.world (Deliver (first + count))
+  pub unended : ending_in ask new.log ≡ None
+  pub left : first + count < length new.copies
+  pub why : IsFault f old.overtake (as_world new) (Deliver (first + count))

@@ -1,22 +1,42 @@
 -- What contracts see of a world in code, and how it came to be.
 use Rattle.std.specs.Prelude.{◌≡◌, ℕ, List, slice_get}
+use Rattle.bac_protocol.specs.Pace.{IsTimely}
 use Rattle.bac_protocol.specs.Service.{Octets}
 use Rattle.bac_store.specs.Stores.{Store}
 use Rattle.bac_world.specs.Claims.{AreChangesPermitted, AreEndedOnce, ArePerformedOnce, AreReplayed}
-use Rattle.bac_world.specs.Once.{Stores, IsOnce, IsOnceByRequestsAlone, HasRequestsAlone}
-use Rattle.bac_world.specs.World.{World, Event, WorldRun, IsFresh, IsBounded, stores_of}
+use Rattle.bac_world.specs.Node.{Node}
+use Rattle.bac_world.specs.Once.{Fact, Stores, IsOnce, IsOnceByRequestsAlone, HasRequestsAlone}
+use Rattle.bac_world.specs.World.{World, Copy, Note, Event, WorldRun, IsFresh, IsBounded, stores_of}
+use Rattle.bac_network.specs.Clocks.{time_at}
 use Rattle.bac_journal.specs.Views.{AreLinks}
-use Rattle.bac_network.specs.Networks.{world_of}
+use Rattle.bac_network.specs.Views.{log_view}
 use Rattle.bac_network.specs.declared.network.Network.{Network}
 
 -- how many later copies may overtake one, the stores that the nodes had at first, and the world as it now is
 pub record WorldView : Type 0 where
   pub overtake : ℕ
   pub opening : List Store
-  pub world : World
+  pub nodes : List Node  -- numbered from 0
+  pub moment : ℕ  -- in milliseconds; each node has a clock that shows it
+  pub copies : List Copy  -- oldest first, numbered from 0
+  pub log : List Fact  -- newest first
+  pub notes : List Note  -- newest first
 
 abbrev pub view_of : (overtake : ℕ) → List Store → Network → WorldView
-view_of overtake opening n = record { overtake = overtake; opening = opening; world = world_of n }
+view_of overtake opening n =
+    record {
+      overtake = overtake;
+      opening = opening;
+      nodes = n.nodes.items;
+      moment = n.journal.moment;
+      copies = n.journal.copies;
+      log = log_view n.log.items;
+      notes = n.journal.notes;
+    }
+
+-- the world of bac_world that it is
+abbrev pub as_world : WorldView → World
+as_world w = record { nodes = w.nodes; time = time_at w.moment; copies = w.copies; log = w.log; notes = w.notes }
 
 -- the stores that the nodes had at first
 abbrev pub opening_stores : WorldView → Stores
@@ -24,42 +44,43 @@ opening_stores w i = slice_get w.opening i
 
 -- the log is right with the stores: every accepted ask was performed at most once
 abbrev pub IsOnceNow : WorldView → Type 0
-IsOnceNow w = IsOnce (opening_stores w) w.world.log (stores_of w.world.nodes)
+IsOnceNow w = IsOnce (opening_stores w) w.log (stores_of w.nodes)
 
 -- what that says of what was performed: each performed request is the one asked, and was not performed before; its reply is that of its server's store as it
 -- then was
 abbrev pub ArePerformedOnceNow : WorldView → Type 0
-ArePerformedOnceNow w = ArePerformedOnce (opening_stores w) w.world.log
+ArePerformedOnceNow w = ArePerformedOnce (opening_stores w) w.log
 
 -- of what was asked, and how it ended: each ask has the next number, and ended at most once, answered with the reply with which it was performed
 abbrev pub AreEndedOnceNow : WorldView → Type 0
-AreEndedOnceNow w = AreEndedOnce w.world.log
+AreEndedOnceNow w = AreEndedOnce w.log
 
 -- of the changes that nodes made in their own stores: none has a fault for its node's store as it then was
 abbrev pub AreChangesPermittedNow : WorldView → Type 0
-AreChangesPermittedNow w = AreChangesPermitted (opening_stores w) w.world.log
+AreChangesPermittedNow w = AreChangesPermitted (opening_stores w) w.log
 
 -- of the stores: they are those of their nodes' last starts, after what was performed and changed since, in the log's order
 abbrev pub AreReplayedNow : WorldView → Type 0
-AreReplayedNow w = AreReplayed (opening_stores w) w.world.log (stores_of w.world.nodes)
+AreReplayedNow w = AreReplayed (opening_stores w) w.log (stores_of w.nodes)
 
 -- so far no node changed its own store, and none restarted
 abbrev pub HasRequestsAloneNow : WorldView → Type 0
-HasRequestsAloneNow w = HasRequestsAlone w.world.log
+HasRequestsAloneNow w = HasRequestsAlone w.log
 
 -- every accepted ask takes effect at most once, and exactly once where a service answer reached its client; the request performed and the answer are its
 -- own, whole; and each server's store is its opening store after the performed requests in their order
 abbrev pub IsOnceByRequestsAloneNow : WorldView → Type 0
-IsOnceByRequestsAloneNow w = IsOnceByRequestsAlone (opening_stores w) w.world.log (stores_of w.world.nodes)
+IsOnceByRequestsAloneNow w = IsOnceByRequestsAlone (opening_stores w) w.log (stores_of w.nodes)
 
 -- a run of a fresh world with those stores, whose windows are at most W, led to it
 pub record HasRun (W : ℕ) (w : WorldView) : Type 0 where
   pub first : World
   pub events : List Event
   pub fresh : IsFresh first
+  pub timely : IsTimely first.time.pace
   pub bounded : IsBounded W w.overtake first
   pub opening : (i : ℕ) → stores_of first.nodes i ≡ opening_stores w i
-  pub run : WorldRun w.overtake first events w.world
+  pub run : WorldRun w.overtake first events (as_world w)
 
 -- some such run did
 abbrev pub HasHistory : WorldView → Type 0

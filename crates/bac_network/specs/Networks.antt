@@ -4,6 +4,7 @@ use Rattle.bac_protocol.specs.Service.{Octets}
 use Rattle.bac_world.specs.Node.{Node}
 use Rattle.bac_world.specs.Once.{Fact}
 use Rattle.bac_world.specs.World.{World}
+use Rattle.bac_network.specs.Clocks.{time_at}
 use Rattle.bac_journal.specs.Entering.{CanGoOn}
 use Rattle.bac_journal.specs.Journals.{JournalView}
 use Rattle.bac_journal.specs.Views.{AreLinks}
@@ -12,7 +13,7 @@ use Rattle.bac_network.specs.declared.network.Network.{Network}
 
 -- nodes, what a journal keeps beside them, and a log
 abbrev pub world_with : List Node → JournalView → List Fact → World
-world_with nodes j log = record { nodes = nodes; now = j.moment; copies = j.copies; log = log; notes = j.notes }
+world_with nodes j log = record { nodes = nodes; time = time_at j.moment; copies = j.copies; log = log; notes = j.notes }
 
 abbrev pub world_of : Network → World
 world_of n = world_with n.nodes.items n.journal (log_view n.log.items)

@@ -1,16 +1,16 @@
 -- Runs: one that stopped at a fault, and what holds after one in which no node changes its own store or restarts.
 use Rattle.std.specs.Prelude.{◌≡◌, List, Some, slice_get, take}
 use Rattle.bac_world.specs.World.{Event, WorldRun, MakeRequestsAlone}
-use Rattle.bac_network.specs.Histories.{WorldView, HasRequestsAloneNow, IsOnceByRequestsAloneNow}
+use Rattle.bac_network.specs.Histories.{WorldView, as_world, HasRequestsAloneNow, IsOnceByRequestsAloneNow}
 use Rattle.bac_network.specs.Steps.{IsFault}
 use Rattle.bac_network.specs.declared.fault.RunFault.{RunFault}
 
 -- the events before the fault's place happened, and the one there did not
 pub record StopsAt (f : RunFault) (old : WorldView) (events : List Event) (new : WorldView) : Type 0 where
-  pub done : WorldRun old.overtake old.world (take f.place events) new.world
+  pub done : WorldRun old.overtake (as_world old) (take f.place events) (as_world new)
   pub event : Event
   pub at : slice_get events f.place ≡ Some event
-  pub fault : IsFault f.fault old.overtake new.world event
+  pub fault : IsFault f.fault old.overtake (as_world new) event
 
 -- for every list of asks, deliveries, losses, repeats, reorderings, noise, ticks and clock steps among nodes, every accepted ask takes effect at most once,
 -- and exactly once where a service answer reached its client; the request performed and the answer are its own, whole; and each server's store is its

@@ -18,8 +18,8 @@ NamesNoNode w (Ask client server limits r) = (slice_get w.nodes client ≡ None)
 NamesNoNode w (Deliver number) = ⊥
 NamesNoNode w (Noise node from octets) = slice_get w.nodes node ≡ None
 NamesNoNode w (Tick node) = slice_get w.nodes node ≡ None
-NamesNoNode w (Restart node store) = slice_get w.nodes node ≡ None
-NamesNoNode w (Advance by) = ⊥
+NamesNoNode w (Restart node exact store) = slice_get w.nodes node ≡ None
+NamesNoNode w (Advance by own) = ⊥
 NamesNoNode w (Change node c) = slice_get w.nodes node ≡ None
 
 -- it names a copy that there is not
@@ -28,18 +28,18 @@ NamesNoCopy w (Deliver number) = slice_get w.copies number ≡ None
 NamesNoCopy w (Ask client server limits r) = ⊥
 NamesNoCopy w (Noise node from octets) = ⊥
 NamesNoCopy w (Tick node) = ⊥
-NamesNoCopy w (Restart node store) = ⊥
-NamesNoCopy w (Advance by) = ⊥
+NamesNoCopy w (Restart node exact store) = ⊥
+NamesNoCopy w (Advance by own) = ⊥
 NamesNoCopy w (Change node c) = ⊥
 
 -- the moment would pass 64 bits
 abbrev pub PassesClock : World → Event → Type 0
-PassesClock w (Advance by) = 2 ^ 64 - 1 < w.now + by
+PassesClock w (Advance by own) = 2 ^ 64 - 1 < w.time.now + by
 PassesClock w (Ask client server limits r) = ⊥
 PassesClock w (Deliver number) = ⊥
 PassesClock w (Noise node from octets) = ⊥
 PassesClock w (Tick node) = ⊥
-PassesClock w (Restart node store) = ⊥
+PassesClock w (Restart node exact store) = ⊥
 PassesClock w (Change node c) = ⊥
 
 -- it is a change that has that fault
@@ -50,11 +50,12 @@ RefusesChange w e why = ⊥
 -- it takes memory: an ask, a tick, a restart, a copy that is deliverable, and a change without a fault
 abbrev pub TakesMemory : (overtake : ℕ) → World → Event → Type 0
 TakesMemory overtake w (Ask client server limits r) = Unit {0}
-TakesMemory overtake w (Deliver number) = (c : Copy) × (slice_get w.copies number ≡ Some c) × (is_deliverable overtake w.now number w.copies c ≡ true)
+TakesMemory overtake w (Deliver number) =
+    (c : Copy) × (slice_get w.copies number ≡ Some c) × (is_deliverable overtake w.time.pace.life w.time.now number w.copies c ≡ true)
 TakesMemory overtake w (Noise node from octets) = ⊥
 TakesMemory overtake w (Tick node) = Unit {0}
-TakesMemory overtake w (Restart node store) = Unit {0}
-TakesMemory overtake w (Advance by) = ⊥
+TakesMemory overtake w (Restart node exact store) = Unit {0}
+TakesMemory overtake w (Advance by own) = ⊥
 TakesMemory overtake w (Change node c) = (why : ChangeFault) → RefusesChange w (Change node c) why → ⊥
 
 -- a fault says why an event does not happen; memory is refused where nothing else speaks against it
@@ -89,14 +90,14 @@ Tells (Some f) old (Ask client server limits r) new = (h : IsRefused old client 
 Tells None old (Deliver number) new = Unit {0}
 Tells None old (Noise node from octets) new = Unit {0}
 Tells None old (Tick node) new = Unit {0}
-Tells None old (Restart node store) new = Unit {0}
-Tells None old (Advance by) new = Unit {0}
+Tells None old (Restart node exact store) new = Unit {0}
+Tells None old (Advance by own) new = Unit {0}
 Tells None old (Change node c) new = Unit {0}
 Tells (Some f) old (Deliver number) new = ⊥
 Tells (Some f) old (Noise node from octets) new = ⊥
 Tells (Some f) old (Tick node) new = ⊥
-Tells (Some f) old (Restart node store) new = ⊥
-Tells (Some f) old (Advance by) new = ⊥
+Tells (Some f) old (Restart node exact store) new = ⊥
+Tells (Some f) old (Advance by own) new = ⊥
 Tells (Some f) old (Change node c) new = ⊥
 
 -- it happens, and tells that

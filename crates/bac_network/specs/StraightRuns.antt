@@ -10,7 +10,7 @@ use Rattle.bac_protocol.specs.Sizes.{request_way_of}
 use Rattle.bac_transaction.specs.Ends.{is_free}
 use Rattle.bac_transaction.specs.Meanings.{Ending}
 use Rattle.bac_world.specs.Node.{Node, Refusal, NodeRefuses}
-use Rattle.bac_world.specs.World.{World, WorldRun, IsAsked, IsRefused, peer_at}
+use Rattle.bac_world.specs.World.{World, WorldRun, IsAsked, IsRefused, peer_at, told}
 use Rattle.bac_world.specs.World.Event.{Ask}
 use Rattle.bac_liveness.specs.StraightRuns.{IsStraight, deliveries}
 use Rattle.bac_liveness.specs.StraightAnswers.{CanGo, IsAnswered, datagrams, way_between}
@@ -66,8 +66,8 @@ pub record CanReply (overtake now : ℕ) (client server : Node) (r : Request) : 
 pub record CanBeAnswered (overtake : ℕ) (old : World) (client server : ℕ) (a b : Node) (r : Request) : Type 0 where
   pub client_at : slice_get old.nodes client ≡ Some a
   pub server_at : slice_get old.nodes server ≡ Some b
-  pub may_ask : (why : Refusal) → NodeRefuses old.now (peer_at b.link) (limits_of_server b) r a why → ⊥
-  pub can : CanReply overtake old.now a b r
+  pub may_ask : (why : Refusal) → NodeRefuses (told old client) (peer_at b.link) (limits_of_server b) r a why → ⊥
+  pub can : CanReply overtake (told old server) a b r
 
 -- what holds of each node in code: a window of 1 at least, and replies that can be sent
 pub record IsWellMade (n : Node) : Type 0 where

@@ -1,7 +1,7 @@
 //! Worlds in code: nodes in one simulated network, with a log of what was asked, performed, answered, changed and restarted.
 //!
-//! Every run of a world is a run of bac_world's definitions, so each accepted ask takes effect at most once in it. [`World::step`] and [`World::run`] make events
-//! happen; [`straight`] asks, and delivers each copy that arises once, in order of sending. The functions that compare ([`World::same`], [`same_change`],
+//! Every run of a world is a run of bac_world's definitions, so each accepted ask takes effect at most once in it. [`World::step`] and [`World::run`] make
+//! events happen; [`straight`] asks, and delivers each copy that arises once, in order of sending. The functions that compare ([`World::same`], [`same_change`],
 //! [`same_ending`], [`are_alike`]) return true exactly where contracts see no difference, and take no memory.
 #![tactic(auto)]
 

@@ -40,7 +40,7 @@ impl Network {
         event: &Event,
     ) -> Result<Option<AskFault>, WorldFault>
         requires { IsReady window overtake self.old }
-        ensures happens { HappensTelling overtake (world_of self.old) (event_view event.now) result (world_of self.new) }
+        ensures happens { HappensTelling overtake (world_of self.old) (event_view self.old.journal.moment event.now) result (world_of self.new) }
         ensures links { self.new.journal.links ≡ self.old.journal.links }
     {
         match event {

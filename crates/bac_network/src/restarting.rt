@@ -31,7 +31,7 @@ impl Network {
         node: usize,
         store: &Option<Store>,
     ) -> Result<(), WorldFault>
-        ensures happens { (overtake : ℕ) → Happens overtake (world_of self.old) (Happening node store.now) result (world_of self.new) }
+        ensures happens { (overtake : ℕ) → Happens overtake (world_of self.old) (Happening node self.old.journal.moment store.now) result (world_of self.new) }
         ensures links { self.new.journal.links ≡ self.old.journal.links }
     {
         if node >= self.nodes.len() {
@@ -48,7 +48,7 @@ impl Network {
         store: &Option<Store>,
     ) -> Result<(), NoMemory>
         requires there { node < length self.old.nodes.items }
-        ensures restarted { OnOk result (IsRestarted (world_of self.old) node store.now (world_of self.new)) }
+        ensures restarted { OnOk result (IsRestarted (world_of self.old) node self.old.journal.moment store.now (world_of self.new)) }
         ensures err { OnErr result (world_of self.new ≡ world_of self.old) }
         ensures links { self.new.journal.links ≡ self.old.journal.links }
     {
@@ -68,7 +68,7 @@ impl Network {
         requires there { node < length self.old.nodes.items }
         requires kept { kept ≡ given }
         requires room { length self.old.log.items + 1 ≤ vec_capacity self.old.log }
-        ensures restarted { OnOk result (IsRestarted (world_of self.old) node given (world_of self.new)) }
+        ensures restarted { OnOk result (IsRestarted (world_of self.old) node self.old.journal.moment given (world_of self.new)) }
         ensures err { OnErr result (world_of self.new ≡ world_of self.old) }
         ensures links { self.new.journal.links ≡ self.old.journal.links }
     {

@@ -7,7 +7,7 @@ ghost use Rattle.bac_world.specs.Node.{Node};
 ghost use Rattle.bac_world.specs.World.{WorldStep};
 ghost use Rattle.bac_world.specs.World.Event.{Ask, Deliver};
 ghost use Rattle.bac_network.specs.Histories.{AreChangesPermittedNow, AreEndedOnceNow, ArePerformedOnceNow, AreReplayedNow, HasHistory};
-ghost use Rattle.bac_network.specs.Histories.{HasRequestsAloneNow, IsOnceByRequestsAloneNow, IsOnceNow};
+ghost use Rattle.bac_network.specs.Histories.{HasRequestsAloneNow, IsOnceByRequestsAloneNow, IsOnceNow, as_world};
 ghost use Rattle.bac_network.specs.Steps.{IsFault};
 ghost use Rattle.bac_liveness.specs.StraightRuns.{ending_in};
 ghost use Rattle.bac_network.specs.StraightFaults.{Fails, StopsShort};
@@ -34,8 +34,8 @@ pub struct StraightRun {
 impl StraightRun {
     /// How the ask ended, by the world's log, or None where it was refused or has not ended.
     pub fn ending<'a>(&self, world: &'a World) -> Option<&'a Ending>
-        ensures { MatchOption result (ending_by self.now.ask world.now.world.log ≡ None)
-            (λ how. ending_by self.now.ask world.now.world.log ≡ Some (ending_view how.now)) }
+        ensures { MatchOption result (ending_by self.now.ask world.now.log ≡ None)
+            (λ how. ending_by self.now.ask world.now.log ≡ Some (ending_view how.now)) }
     {
         match self.ask {
             Some(ask) => ending_of(world.log(), 0, ask),
@@ -46,8 +46,8 @@ impl StraightRun {
 
 /// What a client takes a node to accept of APDUs as a server: requests in segments whatever its SA bit says. None where there is no such node.
 fn limits_of_server(world: &World, node: usize) -> Option<Limits>
-    ensures { MatchOption result (slice_get world.now.world.nodes node ≡ None)
-        (λ l. (n : Node) × (slice_get world.now.world.nodes node ≡ Some n) × (limits_view l ≡ limits_of_server n)) }
+    ensures { MatchOption result (slice_get world.now.nodes node ≡ None)
+        (λ l. (n : Node) × (slice_get world.now.nodes node ≡ Some n) × (limits_view l ≡ limits_of_server n)) }
 {
     match world.nodes().get(node) {
         Some(node) => {
@@ -64,7 +64,7 @@ fn limits_of_server(world: &World, node: usize) -> Option<Limits>
 
 /// A law of each node: its window is at least 1, and each reply of its store can be sent.
 fn is_well_made(world: &World, node: usize)
-    ensures { IsWellMadeAt world.now.world node }
+    ensures { IsWellMadeAt (as_world world.now) node }
 {
     if let Some(node) = world.nodes().get(node) {
         node.replies_can_be_sent();
@@ -79,8 +79,10 @@ fn ask(
     limits: Limits,
     request: OwnedRequest,
 ) -> Result<bool, WorldFault>
-    ensures asked { IfOk result (λ accepted. AsksIf accepted world.old.world client server (limits_view limits) (owned_request_view request) world.new.world) }
-    ensures fault { IfErr result (λ f. IsFault f world.old.overtake world.old.world (Ask client server (limits_view limits) (owned_request_view request))) }
+    ensures asked { IfOk result (λ accepted. AsksIf accepted (as_world world.old) client server (limits_view limits) (owned_request_view request)
+        (as_world world.new)) }
+    ensures fault { IfErr result (λ f. IsFault f world.old.overtake (as_world world.old)
+        (Ask client server (limits_view limits) (owned_request_view request))) }
     ensures err { OnErr result (world.new ≡ world.old) }
     ensures overtake { world.new.overtake ≡ world.old.overtake }
     ensures opening { world.new.opening ≡ world.old.opening }
@@ -99,9 +101,9 @@ fn ask(
 
 /// Whether the ask has ended, or no copy is left from that number on. Where one is left, there is a number after its own.
 fn is_over(world: &World, ask: usize, since: usize, number: usize) -> bool
-    requires { IsSince since ask world.now.world.log }
-    ensures { MatchBool result (Stops ask number world.now.world)
-        ((ending_in ask world.now.world.log ≡ None) × (number < length world.now.world.copies) × (number + 1 < 2 ^ 64)) }
+    requires { IsSince since ask world.now.log }
+    ensures { MatchBool result (Stops ask number (as_world world.now))
+        ((ending_in ask world.now.log ≡ None) × (number < length world.now.copies) × (number + 1 < 2 ^ 64)) }
 {
     if number >= world.copies().len() {
         return true;
@@ -114,8 +116,8 @@ fn is_over(world: &World, ask: usize, since: usize, number: usize) -> bool
 
 /// Delivers a copy. After an error the world is as before.
 fn deliver(world: &mut World, number: usize) -> Result<(), WorldFault>
-    ensures went { OnOk result (WorldStep world.old.overtake world.old.world (Deliver number) world.new.world) }
-    ensures fault { IfErr result (λ f. IsFault f world.old.overtake world.old.world (Deliver number)) }
+    ensures went { OnOk result (WorldStep world.old.overtake (as_world world.old) (Deliver number) (as_world world.new)) }
+    ensures fault { IfErr result (λ f. IsFault f world.old.overtake (as_world world.old) (Deliver number)) }
     ensures err { OnErr result (world.new ≡ world.old) }
     ensures overtake { world.new.overtake ≡ world.old.overtake }
     ensures opening { world.new.opening ≡ world.old.opening }
@@ -131,7 +133,7 @@ fn deliver_each(
     since: usize,
     first: usize,
 ) -> Result<usize, WorldFault>
-    requires { IsSince since ask world.old.world.log }
+    requires { IsSince since ask world.old.log }
     ensures { MatchResult result (λ count. HasStopped ask since first world.old world.new count) (λ f. IsStuck f ask since first world.old world.new) }
 {
     let mut number = first;
@@ -149,7 +151,7 @@ fn deliver_all(
     since: usize,
     first: usize,
 ) -> Result<StraightRun, WorldFault>
-    requires { IsSince since ask world.old.world.log }
+    requires { IsSince since ask world.old.log }
     ensures { MatchResult result (λ s. HasStopped ask since first world.old world.new s.deliveries × (s.ask ≡ Some ask))
         (λ f. IsStuck f ask since first world.old world.new) }
 {
@@ -169,9 +171,9 @@ fn ask_and_deliver(
     request: OwnedRequest,
 ) -> Result<StraightRun, WorldFault>
     requires { HasHistory world.old }
-    ensures goes { MatchResult result (λ s. Goes world.old.overtake world.old.world client server (limits_view limits) (owned_request_view request)
-        (ending_by s.ask world.new.world.log) s.deliveries world.new.world)
-        (λ f. Fails f world.old.overtake world.old.world client server (limits_view limits) (owned_request_view request) world.new.world) }
+    ensures goes { MatchResult result (λ s. Goes world.old.overtake (as_world world.old) client server (limits_view limits) (owned_request_view request)
+        (ending_by s.ask world.new.log) s.deliveries (as_world world.new))
+        (λ f. Fails f world.old.overtake (as_world world.old) client server (limits_view limits) (owned_request_view request) (as_world world.new)) }
     ensures overtake { world.new.overtake ≡ world.old.overtake }
     ensures opening { world.new.opening ≡ world.old.opening }
 {
@@ -199,13 +201,13 @@ pub fn straight(
     server: usize,
     request: OwnedRequest,
 ) -> Result<StraightRun, WorldFault>
-    ensures run { WentSoFar world.old.overtake world.old.world client server (owned_request_view request) world.new.world }
-    ensures goes { IfOk result (λ s. GoesAt world.old.overtake world.old.world client server (owned_request_view request)
-        (ending_by s.ask world.new.world.log) s.deliveries world.new.world) }
-    ensures stopped { IfErr result (λ f. StopsShort f world.old.overtake world.old.world client server (owned_request_view request) world.new.world) }
-    ensures answered { (a b : Node) → CanBeAnswered world.old.overtake world.old.world client server a b (owned_request_view request)
-        → IfOk result (λ s. IsAnsweredSoon world.old.world client server a b (owned_request_view request)
-        (ending_by s.ask world.new.world.log) s.deliveries world.new.world) }
+    ensures run { WentSoFar world.old.overtake (as_world world.old) client server (owned_request_view request) (as_world world.new) }
+    ensures goes { IfOk result (λ s. GoesAt world.old.overtake (as_world world.old) client server (owned_request_view request)
+        (ending_by s.ask world.new.log) s.deliveries (as_world world.new)) }
+    ensures stopped { IfErr result (λ f. StopsShort f world.old.overtake (as_world world.old) client server (owned_request_view request) (as_world world.new)) }
+    ensures answered { (a b : Node) → CanBeAnswered world.old.overtake (as_world world.old) client server a b (owned_request_view request)
+        → IfOk result (λ s. IsAnsweredSoon (as_world world.old) client server a b (owned_request_view request)
+        (ending_by s.ask world.new.log) s.deliveries (as_world world.new)) }
     ensures overtake { world.new.overtake ≡ world.old.overtake }
     ensures opening { world.new.opening ≡ world.old.opening }
     ensures once { IsOnceNow world.new }

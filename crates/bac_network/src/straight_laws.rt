@@ -1,12 +1,13 @@
 //! Laws of straight runs in every world that was reached.
 ghost use Rattle.std.specs.Prelude.{ℕ, List};
+ghost use Rattle.bac_protocol.specs.Pace.{IsTimely};
 ghost use Rattle.bac_world.specs.World.{World, Event, WorldRun, IsFresh, IsBounded};
 ghost use Rattle.bac_network.specs.Open.{OpenUntilEnded};
 ghost use Rattle.bac_network.specs.Tells.{LogTells, LoopGoesOn};
 
 /// In every world that a run of a fresh one led to: while copies are delivered after an ask, its ticket is open exactly as long as the log has no ending of it.
 pub fn open_until_ended()
-    ensures { (W overtake : ℕ) (opening old : World) → IsFresh opening → IsBounded W overtake opening
+    ensures { (W overtake : ℕ) (opening old : World) → IsFresh opening → IsTimely opening.time.pace → IsBounded W overtake opening
         → (events : List Event) → WorldRun overtake opening events old → OpenUntilEnded overtake old }
 {}
 
@@ -20,6 +21,6 @@ pub fn loop_goes_on()
 /// In every world that a run of a fresh one led to, such a loop after an ask makes a run; where it stops, since the log has an ending of the ask or no copy is
 /// left, it was a straight run, with that ending. Where the ask can be answered it was performed once and answered, with few deliveries.
 pub fn log_tells()
-    ensures { (W overtake : ℕ) (opening old : World) → IsFresh opening → IsBounded W overtake opening
+    ensures { (W overtake : ℕ) (opening old : World) → IsFresh opening → IsTimely opening.time.pace → IsBounded W overtake opening
         → (events : List Event) → WorldRun overtake opening events old → LogTells overtake old }
 {}

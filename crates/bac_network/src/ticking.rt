@@ -55,7 +55,7 @@ impl Network {
 
     /// The clock goes on. It takes no memory.
     pub(crate) fn advance(&mut self, by: u64) -> Result<(), WorldFault>
-        ensures happens { (overtake : ℕ) → Happens overtake (world_of self.old) (Advance by) result (world_of self.new) }
+        ensures happens { (overtake : ℕ) → Happens overtake (world_of self.old) (Advance by (λ _. by)) result (world_of self.new) }
         ensures links { self.new.journal.links ≡ self.old.journal.links }
     {
         match self.journal.advance(by) {

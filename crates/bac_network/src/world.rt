@@ -5,10 +5,10 @@ ghost use Rattle.bac_world.specs.World.{WorldRun, WorldStep, stores_of};
 ghost use Rattle.bac_journal.specs.Notes.{notes_view};
 ghost use Rattle.bac_journal.specs.Views.{copy_view};
 ghost use Rattle.bac_network.specs.Histories.{AreChangesPermittedNow, AreEndedOnceNow, ArePerformedOnceNow, AreReplayedNow, HasHistory};
-ghost use Rattle.bac_network.specs.Histories.{HasRequestsAloneNow, IsOnceByRequestsAloneNow, IsOnceNow};
+ghost use Rattle.bac_network.specs.Histories.{HasRequestsAloneNow, IsOnceByRequestsAloneNow, IsOnceNow, as_world};
 ghost use Rattle.bac_network.specs.Steps.{NamesNoCopy, NamesNoNode, PassesClock, RefusesChange, TakesMemory, Tells};
 ghost use Rattle.bac_network.specs.Runs.{RequestsTakeEffectOnce, StopsAt};
-ghost use Rattle.bac_network.specs.Views.{event_view, log_view};
+ghost use Rattle.bac_network.specs.Views.{event_view, events_view, log_view};
 
 use crate::are_alike;
 use crate::event::Event;
@@ -56,14 +56,14 @@ impl World {
 
     /// The nodes, numbered from 0.
     pub fn nodes(&self) -> &[Node]
-        ensures { result.now ≡ self.now.world.nodes }
+        ensures { result.now ≡ self.now.nodes }
     {
         &self.network.nodes
     }
 
     /// The store of a node, or None where the world has no node of that number.
     pub fn store(&self, node: usize) -> Option<&Store>
-        ensures { MatchOption result (stores_of self.now.world.nodes node ≡ None) (λ s. stores_of self.now.world.nodes node ≡ Some s.now) }
+        ensures { MatchOption result (stores_of self.now.nodes node ≡ None) (λ s. stores_of self.now.nodes node ≡ Some s.now) }
     {
         match self.network.nodes.get(node) {
             Some(node) => Some(node.store()),
@@ -80,28 +80,28 @@ impl World {
 
     /// The present moment, in milliseconds since the world was made.
     pub fn now(&self) -> u64
-        ensures { result ≡ self.now.world.now }
+        ensures { result ≡ self.now.moment }
     {
         self.network.journal.now()
     }
 
     /// The log, oldest first; contracts see the newest fact first.
     pub fn log(&self) -> &[Fact]
-        ensures { log_view result.now ≡ self.now.world.log }
+        ensures { log_view result.now ≡ self.now.log }
     {
         &self.network.log
     }
 
     /// The copies of the datagrams that nodes sent, oldest first; they are numbered from 0.
     pub fn copies(&self) -> &[Copy]
-        ensures { map copy_view result.now ≡ self.now.world.copies }
+        ensures { map copy_view result.now ≡ self.now.copies }
     {
         self.network.journal.copies()
     }
 
     /// The transaction and the ticket of each accepted ask, in the order of the asks' numbers, which begin at 0; contracts see the newest first.
     pub fn asks(&self) -> &[Note]
-        ensures { notes_view result.now ≡ self.now.world.notes }
+        ensures { notes_view result.now ≡ self.now.notes }
     {
         self.network.journal.notes()
     }
@@ -129,13 +129,14 @@ impl World {
     /// exactly where the moment would pass 64 bits, `BadChange` exactly where a change of a node's own store has that fault, and after these `NoMemory` where
     /// an allocation fails: never for noise, for a copy that is not deliverable, or for the clock. After an error the world is as before.
     pub fn step(&mut self, event: &Event) -> Result<Option<AskFault>, WorldFault>
-        ensures went { OnOk result (WorldStep self.old.overtake self.old.world (event_view event.now) self.new.world) }
-        ensures told { IfOk result (λ told. Tells told self.old.world (event_view event.now) self.new.world) }
-        ensures node { IsErrOf result WorldFault.NoSuchNode ↔ NamesNoNode self.old.world (event_view event.now) }
-        ensures datagram { IsErrOf result WorldFault.NoSuchDatagram ↔ NamesNoCopy self.old.world (event_view event.now) }
-        ensures clock { IsErrOf result WorldFault.ClockEnd ↔ PassesClock self.old.world (event_view event.now) }
-        ensures change { (why : ChangeFault) → (IsErrOf result (WorldFault.BadChange why) ↔ RefusesChange self.old.world (event_view event.now) why) }
-        ensures memory { IsErrOf result WorldFault.NoMemory → TakesMemory self.old.overtake self.old.world (event_view event.now) }
+        ensures went { OnOk result (WorldStep self.old.overtake (as_world self.old) (event_view self.old.moment event.now) (as_world self.new)) }
+        ensures told { IfOk result (λ told. Tells told (as_world self.old) (event_view self.old.moment event.now) (as_world self.new)) }
+        ensures node { IsErrOf result WorldFault.NoSuchNode ↔ NamesNoNode (as_world self.old) (event_view self.old.moment event.now) }
+        ensures datagram { IsErrOf result WorldFault.NoSuchDatagram ↔ NamesNoCopy (as_world self.old) (event_view self.old.moment event.now) }
+        ensures clock { IsErrOf result WorldFault.ClockEnd ↔ PassesClock (as_world self.old) (event_view self.old.moment event.now) }
+        ensures change { (why : ChangeFault)
+            → (IsErrOf result (WorldFault.BadChange why) ↔ RefusesChange (as_world self.old) (event_view self.old.moment event.now) why) }
+        ensures memory { IsErrOf result WorldFault.NoMemory → TakesMemory self.old.overtake (as_world self.old) (event_view self.old.moment event.now) }
         ensures err { OnErr result (self.new ≡ self.old) }
         ensures settings { (self.new.overtake ≡ self.old.overtake) × (self.new.opening ≡ self.old.opening) }
         ensures once { IsOnceNow self.new }
@@ -143,7 +144,7 @@ impl World {
         ensures ended { AreEndedOnceNow self.new }
         ensures permitted { AreChangesPermittedNow self.new }
         ensures stores { AreReplayedNow self.new }
-        ensures requests_alone { RequestsTakeEffectOnce self.old (event_view event.now ∷ []) self.new }
+        ensures requests_alone { RequestsTakeEffectOnce self.old (event_view self.old.moment event.now ∷ []) self.new }
     {
         self.network
             .step(self.alloc, self.overtake, self.window, event)
@@ -155,15 +156,15 @@ impl World {
     /// most once, and exactly once where a service answer reached its client; the request performed and the answer are its own, whole; and each server's store
     /// is its opening store after the performed requests in their order. With changes and restarts of nodes too, the log is right with the stores (`once`).
     pub fn run(&mut self, events: &[Event]) -> Result<(), RunFault>
-        ensures went { OnOk result (WorldRun self.old.overtake self.old.world (map event_view events.now) self.new.world) }
-        ensures stopped { IfErr result (λ f. StopsAt f self.old (map event_view events.now) self.new) }
+        ensures went { OnOk result (WorldRun self.old.overtake (as_world self.old) (events_view self.old.moment events.now) (as_world self.new)) }
+        ensures stopped { IfErr result (λ f. StopsAt f self.old (events_view self.old.moment events.now) self.new) }
         ensures settings { (self.new.overtake ≡ self.old.overtake) × (self.new.opening ≡ self.old.opening) }
         ensures once { IsOnceNow self.new }
         ensures performed { ArePerformedOnceNow self.new }
         ensures ended { AreEndedOnceNow self.new }
         ensures permitted { AreChangesPermittedNow self.new }
         ensures stores { AreReplayedNow self.new }
-        ensures requests_alone { RequestsTakeEffectOnce self.old (map event_view events.now) self.new }
+        ensures requests_alone { RequestsTakeEffectOnce self.old (events_view self.old.moment events.now) self.new }
     {
         for (place, event) in events.iter().enumerate() {
             if let Err(fault) = self.step(event) {

@@ -13,5 +13,5 @@ returns-in-Some c = inl (λ none. some_none _ (sym c.in-Some.ensures ∙ ap (end
 
 pub returns-in-None : goal.returns-in-None
 returns-in-None c =
-    let many = copies_many c.copies.result.now c.args.world.now.world.copies c.copies.ensures in
+    let many = copies_many c.copies.result.now c.args.world.now.copies c.copies.ensures in
     (sym (ap (ending_in c.args.ask) c.log.ensures) ∙ c.in-None.ensures, omega (arith, many), omega arith)

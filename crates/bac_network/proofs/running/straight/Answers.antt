@@ -2,6 +2,7 @@
 use Rattle.std.proofs.Common.{refl, inl}
 use Rattle.bac_apdu.specs.Views.{limits_view}
 use Rattle.bac_service.specs.Views.{owned_request_view}
+use Rattle.bac_network.specs.Histories.{as_world}
 use Rattle.bac_network.specs.Logs.{ending_by}
 use Rattle.bac_network.proofs.StraightGoing.{alone_by, either_way, fails_at, fails_went, goes_at, goes_went, tells, told_as, went_at}
 use Rattle.bac_network.proofs.running.straight.Goals as goal
@@ -9,23 +10,23 @@ use Rattle.bac_network.proofs.running.straight.Goals as goal
 pub returns-clause-run : goal.returns-clause-run
 returns-clause-run c =
     let w = c.args.world.now in
-    let new = c.ask_and_deliver-run.new.world.world in
+    let new = (as_world c.ask_and_deliver-run.new.world) in
     let r = owned_request_view c.args.request in
     let limits = limits_view c.in-Some.limits in
-    went_at w.overtake w.world c.args.client c.args.server limits r new (c.in-Some.ensures).0 (c.in-Some.ensures).1 (c.in-Some.ensures).2
+    went_at w.overtake (as_world w) c.args.client c.args.server limits r new (c.in-Some.ensures).0 (c.in-Some.ensures).1 (c.in-Some.ensures).2
     (either_way c.ask_and_deliver-run.result
-    (λ s g. goes_went w.overtake w.world c.args.client c.args.server limits r new (ending_by s.ask new.log) s.deliveries g)
-    (λ f g. fails_went w.overtake w.world c.args.client c.args.server limits r new f g)
+    (λ s g. goes_went w.overtake (as_world w) c.args.client c.args.server limits r new (ending_by s.ask new.log) s.deliveries g)
+    (λ f g. fails_went w.overtake (as_world w) c.args.client c.args.server limits r new f g)
     c.ask_and_deliver-run.ensures.goes)
 
 pub returns-clause-goes : goal.returns-clause-goes
 returns-clause-goes c =
     let w = c.args.world.now in
-    let new = c.ask_and_deliver-run.new.world.world in
+    let new = (as_world c.ask_and_deliver-run.new.world) in
     let r = owned_request_view c.args.request in
     let limits = limits_view c.in-Some.limits in
     told_as c.ask_and_deliver-run.result
-    (λ s g. goes_at w.overtake w.world c.args.client c.args.server limits r new (c.in-Some.ensures).0 (c.in-Some.ensures).1 (c.in-Some.ensures).2
+    (λ s g. goes_at w.overtake (as_world w) c.args.client c.args.server limits r new (c.in-Some.ensures).0 (c.in-Some.ensures).1 (c.in-Some.ensures).2
     (ending_by s.ask new.log) s.deliveries g)
     (λ f g. tt)
     c.ask_and_deliver-run.ensures.goes
@@ -33,23 +34,23 @@ returns-clause-goes c =
 pub returns-clause-stopped : goal.returns-clause-stopped
 returns-clause-stopped c =
     let w = c.args.world.now in
-    let new = c.ask_and_deliver-run.new.world.world in
+    let new = (as_world c.ask_and_deliver-run.new.world) in
     let r = owned_request_view c.args.request in
     let limits = limits_view c.in-Some.limits in
     told_as c.ask_and_deliver-run.result
     (λ s g. tt)
-    (λ f g. fails_at w.overtake w.world c.args.client c.args.server limits r new (c.in-Some.ensures).0 (c.in-Some.ensures).1 (c.in-Some.ensures).2 f g)
+    (λ f g. fails_at w.overtake (as_world w) c.args.client c.args.server limits r new (c.in-Some.ensures).0 (c.in-Some.ensures).1 (c.in-Some.ensures).2 f g)
     c.ask_and_deliver-run.ensures.goes
 
 pub returns-clause-answered : goal.returns-clause-answered
 returns-clause-answered c = λ a b can.
     let w = c.args.world.now in
-    let new = c.ask_and_deliver-run.new.world.world in
+    let new = (as_world c.ask_and_deliver-run.new.world) in
     let r = owned_request_view c.args.request in
     let limits = limits_view c.in-Some.limits in
     told_as c.ask_and_deliver-run.result
     (λ s g. (tells w c.is_once.ensures.history).answers c.args.client c.args.server r (ending_by s.ask new.log) s.deliveries new
-    (goes_at w.overtake w.world c.args.client c.args.server limits r new (c.in-Some.ensures).0 (c.in-Some.ensures).1 (c.in-Some.ensures).2
+    (goes_at w.overtake (as_world w) c.args.client c.args.server limits r new (c.in-Some.ensures).0 (c.in-Some.ensures).1 (c.in-Some.ensures).2
     (ending_by s.ask new.log) s.deliveries g) c.is_well_made.ensures c.is_well_made-2.ensures a b can)
     (λ f g. tt)
     c.ask_and_deliver-run.ensures.goes
@@ -60,12 +61,12 @@ returns-in_default-clause-stopped c = inl (record { fault_is = refl; lacks = c.i
 pub returns-clause-requests_alone : goal.returns-clause-requests_alone
 returns-clause-requests_alone c = λ before.
     let w = c.args.world.now in
-    let new = c.ask_and_deliver-run.new.world.world in
+    let new = (as_world c.ask_and_deliver-run.new.world) in
     let r = owned_request_view c.args.request in
     let limits = limits_view c.in-Some.limits in
     c.is_once-2.ensures.requests_alone
-    (alone_by w.overtake w.world c.args.client c.args.server limits r new
+    (alone_by w.overtake (as_world w) c.args.client c.args.server limits r new
     (either_way c.ask_and_deliver-run.result
-    (λ s g. goes_went w.overtake w.world c.args.client c.args.server limits r new (ending_by s.ask new.log) s.deliveries g)
-    (λ f g. fails_went w.overtake w.world c.args.client c.args.server limits r new f g)
+    (λ s g. goes_went w.overtake (as_world w) c.args.client c.args.server limits r new (ending_by s.ask new.log) s.deliveries g)
+    (λ f g. fails_went w.overtake (as_world w) c.args.client c.args.server limits r new f g)
     c.ask_and_deliver-run.ensures.goes) before)

@@ -17,35 +17,41 @@ returns-in-Noise-clause-happens c =
     subst
     (λ (o : Octets). Happens c.args.overtake (world_of c.args.self.now) (Noise c.in-Noise.node c.in-Noise.from o) c.hear_noise.result
     (world_of c.hear_noise.new.self)) c.deref.ensures.value (c.hear_noise.ensures.happens c.args.overtake) in
-    subst (λ (e : Event). HappensTelling c.args.overtake (world_of c.args.self.now) (event_view e) c.untold-in-Noise.result (world_of c.hear_noise.new.self))
+    subst (λ (e : Event). HappensTelling c.args.overtake (world_of c.args.self.now) (event_view c.args.self.now.journal.moment e) c.untold-in-Noise.result
+    (world_of c.hear_noise.new.self))
     (sym c.in-Noise.is)
     (told_nothing c.args.overtake (world_of c.args.self.now) (world_of c.hear_noise.new.self)
     (Noise c.in-Noise.node c.in-Noise.from c.in-Noise.octets.items) tt c.hear_noise.result c.untold-in-Noise.result happens c.untold-in-Noise.ensures)
 
 pub returns-in-Tick-clause-happens : goal.returns-in-Tick-clause-happens
 returns-in-Tick-clause-happens c =
-    subst (λ (e : Event). HappensTelling c.args.overtake (world_of c.args.self.now) (event_view e) c.untold-in-Tick.result (world_of c.tick.new.self))
+    subst (λ (e : Event). HappensTelling c.args.overtake (world_of c.args.self.now) (event_view c.args.self.now.journal.moment e) c.untold-in-Tick.result
+    (world_of c.tick.new.self))
     (sym c.in-Tick.is)
     (told_nothing c.args.overtake (world_of c.args.self.now) (world_of c.tick.new.self) (Tick c.in-Tick.node) tt c.tick.result c.untold-in-Tick.result
     (c.tick.ensures.happens c.args.overtake) c.untold-in-Tick.ensures)
 
 pub returns-in-Advance-clause-happens : goal.returns-in-Advance-clause-happens
 returns-in-Advance-clause-happens c =
-    subst (λ (e : Event). HappensTelling c.args.overtake (world_of c.args.self.now) (event_view e) c.untold-in-Advance.result (world_of c.advance.new.self))
+    subst (λ (e : Event). HappensTelling c.args.overtake (world_of c.args.self.now) (event_view c.args.self.now.journal.moment e) c.untold-in-Advance.result
+    (world_of c.advance.new.self))
     (sym c.in-Advance.is)
-    (told_nothing c.args.overtake (world_of c.args.self.now) (world_of c.advance.new.self) (Advance c.in-Advance.by) tt c.advance.result
+    (told_nothing c.args.overtake (world_of c.args.self.now) (world_of c.advance.new.self) (Advance c.in-Advance.by (λ _. c.in-Advance.by)) tt c.advance.result
     c.untold-in-Advance.result (c.advance.ensures.happens c.args.overtake) c.untold-in-Advance.ensures)
 
 pub returns-in-Change-clause-happens : goal.returns-in-Change-clause-happens
 returns-in-Change-clause-happens c =
-    subst (λ (e : Event). HappensTelling c.args.overtake (world_of c.args.self.now) (event_view e) c.untold-in-Change.result (world_of c.change.new.self))
+    subst (λ (e : Event). HappensTelling c.args.overtake (world_of c.args.self.now) (event_view c.args.self.now.journal.moment e) c.untold-in-Change.result
+    (world_of c.change.new.self))
     (sym c.in-Change.is)
     (told_nothing c.args.overtake (world_of c.args.self.now) (world_of c.change.new.self) (Change c.in-Change.node (change_view c.in-Change.change)) tt
     c.change.result c.untold-in-Change.result (c.change.ensures.happens c.args.overtake) c.untold-in-Change.ensures)
 
 pub returns-in-Restart-clause-happens : goal.returns-in-Restart-clause-happens
 returns-in-Restart-clause-happens c =
-    subst (λ (e : Event). HappensTelling c.args.overtake (world_of c.args.self.now) (event_view e) c.untold-in-Restart.result (world_of c.restart.new.self))
+    subst (λ (e : Event). HappensTelling c.args.overtake (world_of c.args.self.now) (event_view c.args.self.now.journal.moment e) c.untold-in-Restart.result
+    (world_of c.restart.new.self))
     (sym c.in-Restart.is)
-    (told_nothing c.args.overtake (world_of c.args.self.now) (world_of c.restart.new.self) (Restart c.in-Restart.node c.in-Restart.store) tt
+    (told_nothing c.args.overtake (world_of c.args.self.now) (world_of c.restart.new.self) (Restart c.in-Restart.node c.args.self.now.journal.moment
+    c.in-Restart.store) tt
     c.restart.result c.untold-in-Restart.result (c.restart.ensures.happens c.args.overtake) c.untold-in-Restart.ensures)

@@ -1,10 +1,10 @@
 -- One event after the other.
-use Rattle.std.proofs.Common.{◌<◌, Err, length, map, refl, sym, subst, ◌∙◌, arith}
+use Rattle.std.proofs.Common.{◌<◌, ◌≤◌, Err, length, refl, sym, subst, ◌∙◌, arith}
 use Rattle.std.proofs.lemmas.Option.{slice_get_read}
-use Rattle.bac_network.specs.Views.{event_view}
-use Rattle.bac_network.specs.Histories.{HasRequestsAloneNow}
+use Rattle.bac_network.specs.Views.{event_view, events_view}
+use Rattle.bac_network.specs.Histories.{HasRequestsAloneNow, as_world}
 use Rattle.bac_network.proofs.Histories.{requests_now}
-use Rattle.bac_network.proofs.WorldRunning.{alone_so_far, fault_is, goes_on, stops}
+use Rattle.bac_network.proofs.WorldRunning.{all_done, alone_so_far, fault_is, goes_on, stops}
 use Rattle.bac_network.proofs.world.World.run.Goals as goal
 
 pub returns-in-Err-clause-stopped : goal.returns-in-Err-clause-stopped
@@ -14,8 +14,15 @@ returns-in-Err-clause-stopped c =
     let lt : at.place < length c.args.events.now = omega arith in
     stops c.in-Err.fault c.args.self.now at.self c.step.new.self c.args.events.now at.place event
     (slice_get_read c.args.events.now _ at.place event refl lt c.index-events-place.is) at.invariant.done at.invariant.overtake c.in-Err.ensures.err
-    (fault_is c.in-Err.fault at.self.overtake at.self.world (event_view event) (Err c.in-Err.fault) refl c.in-Err.ensures.node c.in-Err.ensures.datagram
-    c.in-Err.ensures.clock c.in-Err.ensures.change c.in-Err.ensures.memory)
+    (fault_is c.in-Err.fault at.self.overtake (as_world at.self) (event_view at.self.moment event) (Err c.in-Err.fault) refl c.in-Err.ensures.node
+    c.in-Err.ensures.datagram c.in-Err.ensures.clock c.in-Err.ensures.change c.in-Err.ensures.memory)
+
+pub returns-clause-went : goal.returns-clause-went
+returns-clause-went c =
+    let at = c.loop-place in
+    let end = c.loop-place-test.false in
+    let all : length c.args.events.now ≤ at.place = omega arith in
+    all_done c.args.self.now at.self c.args.events.now at.place all at.invariant.done
 
 pub loop-place-preserved : goal.loop-place-preserved
 loop-place-preserved c =
@@ -33,11 +40,11 @@ loop-place-preserved c =
 pub returns-in-Err-clause-requests_alone : goal.returns-in-Err-clause-requests_alone
 returns-in-Err-clause-requests_alone c = λ before alone.
     let at = c.loop-place in
-    let so_far = alone_so_far c.args.self.now at.self (map event_view c.args.events.now) at.place at.invariant.done before alone in
+    let so_far = alone_so_far c.args.self.now at.self (events_view c.args.self.now.moment c.args.events.now) at.place at.invariant.done before alone in
     requests_now c.step.new.self c.step.ensures.once (subst HasRequestsAloneNow (sym c.in-Err.ensures.err) so_far)
 
 pub returns-clause-requests_alone : goal.returns-clause-requests_alone
 returns-clause-requests_alone c = λ before alone.
     let at = c.loop-place in
     c.is_once.ensures.requests_alone
-    (alone_so_far c.args.self.now at.self (map event_view c.args.events.now) at.place at.invariant.done before alone)
+    (alone_so_far c.args.self.now at.self (events_view c.args.self.now.moment c.args.events.now) at.place at.invariant.done before alone)
