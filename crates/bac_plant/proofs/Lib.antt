@@ -1,2 +1,4 @@
 pub mod Turned
 pub mod Runs
+pub mod Chained
+pub mod Next

@@ -4,7 +4,7 @@ use Rattle.bac_driver.specs.BoundNodes.{BoundNode}
 use Rattle.bac_driver.specs.Turns.{Turn}
 use Rattle.bac_driver.specs.Runs.{Run}
 use Rattle.bac_plant.specs.Steps.{IsSomeTurn, Step}
-use Rattle.bac_plant.specs.Steps.Step.{Begins, Changes, FailsToReceive, Passes, Restarts, Takes}
+use Rattle.bac_plant.specs.Steps.Step.{Begins, Changes, FailsToReceive, Restarts, Takes}
 
 -- a turn at some moment
 pub record TakesSomeTurn (before : BoundNode) (turn : Turn) (after : BoundNode) : Type 0 where

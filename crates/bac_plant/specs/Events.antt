@@ -1,5 +1,5 @@
 -- Each step of a plant is some events of its world.
-use Rattle.std.specs.Prelude.{◌≡◌, ℕ, List, [], ◌∷◌, ◌++◌, Option, Some, None}
+use Rattle.std.specs.Prelude.{ℕ, List, [], ◌∷◌, ◌++◌, Option, Some, None}
 use Rattle.bac_world.specs.Node.{Outcome}
 use Rattle.bac_world.specs.World.{Event}
 use Rattle.bac_plant.specs.Network.{Source}

@@ -40,6 +40,7 @@ pub fn turns_go_on()
 
 /// What a station serves or waits for in turns is a chain of turns, and so are the steps of a station that takes turns alone in a run of a plant, whatever
 /// the other stations do between them.
+#[tactic(auto, using(crate::proofs::Chained::served_chain, crate::proofs::Chained::steps_chain))]
 pub fn chains_are_steps()
     ensures served { (p : WaitLimit) (turns : List Turn) (old new : Timed) → Run (TakesEarlyTurn p) turns old new
         → Chain turns old.bound_node new.bound_node }

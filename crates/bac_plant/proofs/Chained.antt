@@ -1,0 +1,107 @@
+-- Turns of one station, one after the other.
+use Rattle.std.proofs.Common.{◌≡◌, ◌≢◌, ℕ, max, Bool, true, false, List, [], ◌∷◌, Some, slice_get, slice_set, nat_eq, if◌then◌else◌}
+use Rattle.std.proofs.Common.{refl, sym, ap, subst, ◌∙◌, arith}
+use Rattle.std.proofs.lemmas.Bool.Decides.{nat_tests}
+use Rattle.std.proofs.lemmas.Option.{slice_get_within}
+use Rattle.bac_journal.proofs.Lists.{get_set, get_set_other}
+use Rattle.bac_driver.specs.BoundNodes.{BoundNode}
+use Rattle.bac_driver.specs.Runs.{Run, Timed}
+use Rattle.bac_driver.specs.Serving.{TakesEarlyTurn}
+use Rattle.bac_driver.specs.Turns.{Turn}
+use Rattle.bac_driver.specs.declared.wait_limit.WaitLimit.{WaitLimit}
+use Rattle.bac_plant.specs.Chains.{Chain, TakesSomeTurn, TakesTurnsAlone, turns_of}
+use Rattle.bac_plant.specs.Network.{Source}
+use Rattle.bac_plant.specs.Plants.{Plant, shows}
+use Rattle.bac_plant.specs.Steps.{PlantRun, Step, TakesTurn}
+use Rattle.bac_plant.specs.Steps.Step.{Begins, Changes, FailsToReceive, Passes, Restarts, Takes}
+
+early_turn : (p : WaitLimit) (old : Timed) (turn : Turn) (new : Timed) → TakesEarlyTurn p old turn new → TakesSomeTurn old.bound_node turn new.bound_node
+early_turn p old turn new t = record {
+  now = max t.takes.looked t.began;
+  is = record { limit = p; began = t.began; is = t.takes.takes };
+}
+
+pub served_chain : (p : WaitLimit) (turns : List Turn) (old new : Timed) → Run (TakesEarlyTurn p) turns old new → Chain turns old.bound_node new.bound_node
+served_chain p [] old new run = ap (λ (t : Timed). t.bound_node) run
+served_chain p (turn ∷ before) old new run = record {
+  middle = run.middle.bound_node;
+  so_far = served_chain p before old run.middle run.so_far;
+  last = early_turn p run.middle turn new run.last;
+}
+
+-- The steps of a station.
+
+-- the station is there after a step of another one, or of itself
+other_stays : (p : Plant) (i j : ℕ) (b : BoundNode) (new : List BoundNode) → new ≡ slice_set p.stations j b → (j ≢ i) → slice_get new i ≡ slice_get p.stations i
+other_stays p i j b new is ne = ap (λ l. slice_get l i) is ∙ get_set_other p.stations j i b (λ e. ne (sym e))
+
+self_is : (p : Plant) (i : ℕ) (a b : BoundNode) (new : List BoundNode) → slice_get p.stations i ≡ Some a → new ≡ slice_set p.stations i b
+    → slice_get new i ≡ Some b
+self_is p i a b new at is = ap (λ l. slice_get l i) is ∙ get_set p.stations i b (slice_get_within p.stations i a at)
+
+-- a run in which a step of another station, or of none, comes last
+module _ (overtake i : ℕ) where
+  -- where that station stood before the steps, and where it stands after them, there is a chain
+  abbrev HasChain : List Step → (old new : Plant) → Type 0
+  HasChain steps old new = (before : BoundNode) → slice_get old.stations i ≡ Some before
+      → (after : BoundNode) × (slice_get new.stations i ≡ Some after) × Chain (turns_of i steps) before after
+
+  abbrev StandsStill : (old new : Plant) → Type 0
+  StandsStill old new = slice_get new.stations i ≡ slice_get old.stations i
+
+  still : (turns : List Turn) (middle new : Plant) (before : BoundNode) → StandsStill middle new
+      → (after : BoundNode) × (slice_get middle.stations i ≡ Some after) × Chain turns before after
+      → (after : BoundNode) × (slice_get new.stations i ≡ Some after) × Chain turns before after
+  still turns middle new before same c = (c.0, same ∙ c.1, c.2)
+
+  took : (j : ℕ) (source : Source) (turn : Turn) (steps : List Step) (middle new : Plant) → TakesTurn overtake middle j source turn new → (before : BoundNode)
+      → (after : BoundNode) × (slice_get middle.stations i ≡ Some after) × Chain (turns_of i steps) before after → (own : Bool) → nat_eq j i ≡ own
+      → (after : BoundNode) × (slice_get new.stations i ≡ Some after) × Chain (if own then turn ∷ turns_of i steps else turns_of i steps) before after
+  took j source turn steps middle new t before c true is =
+      let same : j ≡ i = grind (arith, nat_tests) in
+      let mine : slice_get middle.stations i ≡ Some t.before = subst (λ k. slice_get middle.stations k ≡ Some t.before) same t.at in
+      let one : t.before ≡ c.0 = let e : Some t.before ≡ Some c.0 = sym mine ∙ c.1 in cc in (
+        t.after,
+        self_is middle i t.before t.after new.stations mine
+            (ap (λ (p : Plant). p.stations) t.is ∙ ap (λ k. slice_set middle.stations k t.after) same),
+        record {
+          middle = c.0;
+          so_far = c.2;
+          last = subst (λ b. TakesSomeTurn b turn t.after) one (record { now = shows middle j; is = t.takes });
+        },
+      )
+  took j source turn steps middle new t before c false is =
+      let other : j ≢ i = λ e. absurd (grind (arith, nat_tests)) in
+      still (turns_of i steps) middle new before (other_stays middle i j t.after new.stations (ap (λ (p : Plant). p.stations) t.is) other) c
+
+  chain_of : (steps : List Step) (old new : Plant) → PlantRun overtake steps old new → TakesTurnsAlone i steps → HasChain steps old new
+  chain_of [] old new run alone before at = (before, ap (λ (p : Plant). slice_get p.stations i) run ∙ at, refl)
+  chain_of (Passes by own ∷ steps) old new run alone before at =
+      still (turns_of i steps) run.middle new before (ap (λ (p : Plant). slice_get p.stations i) run.last)
+      (chain_of steps old run.middle run.so_far alone before at)
+  chain_of (Takes j source turn ∷ steps) old new run alone before at =
+      took j source turn steps run.middle new run.last before (chain_of steps old run.middle run.so_far alone before at) (nat_eq j i) refl
+  chain_of (FailsToReceive j ∷ steps) old new run alone before at =
+      still (turns_of i steps) run.middle new before
+      (other_stays run.middle i j run.last.after new.stations (ap (λ (p : Plant). p.stations) run.last.is) alone.0)
+      (chain_of steps old run.middle run.so_far alone.1 before at)
+  chain_of (Begins j server limits r ∷ steps) old new run alone before at =
+      still (turns_of i steps) run.middle new before
+      (other_stays run.middle i j run.last.after new.stations (ap (λ (p : Plant). p.stations) run.last.is) alone.0)
+      (chain_of steps old run.middle run.so_far alone.1 before at)
+  chain_of (Changes j change ∷ steps) old new run alone before at =
+      still (turns_of i steps) run.middle new before
+      (other_stays run.middle i j _ new.stations (ap (λ (p : Plant). p.stations) run.last.is) alone.0)
+      (chain_of steps old run.middle run.so_far alone.1 before at)
+  chain_of (Restarts j exact store ∷ steps) old new run alone before at =
+      still (turns_of i steps) run.middle new before
+      (other_stays run.middle i j run.last.after new.stations (ap (λ (p : Plant). p.stations) run.last.is) alone.0)
+      (chain_of steps old run.middle run.so_far alone.1 before at)
+
+pub steps_chain : (overtake station : ℕ) (steps : List Step) (old new : Plant) → PlantRun overtake steps old new → TakesTurnsAlone station steps
+    → (before after : BoundNode) → slice_get old.stations station ≡ Some before → slice_get new.stations station ≡ Some after
+    → Chain (turns_of station steps) before after
+steps_chain overtake station steps old new run alone before after at there =
+    let c = chain_of overtake station steps old new run alone before at in
+    let same : c.0 ≡ after = let e : Some c.0 ≡ Some after = sym c.1 ∙ there in cc in
+    subst (λ b. Chain (turns_of station steps) before b) same c.2
