@@ -1,13 +1,12 @@
 -- A run of a plant is a run of its world.
-use Rattle.std.proofs.Common.{◌≡◌, ℕ, List, [], ◌∷◌, ◌++◌, Some, slice_get, slice_set, refl, sym, ap, subst, inl, ◌∙◌}
+use Rattle.std.proofs.Common.{◌≡◌, ℕ, List, [], ◌∷◌, Some, slice_get, slice_set, refl, sym, ap, subst, inl, ◌∙◌}
 use Rattle.bac_protocol.specs.Pace.{IsTimely}
-use Rattle.bac_world.specs.Node.{Node}
 use Rattle.bac_world.specs.Once.{IsOnce}
-use Rattle.bac_world.specs.World.{Event, IsBounded, IsFresh, IsWithNode, World, WorldRun, WorldStep, stores_of}
+use Rattle.bac_world.specs.World.{Event, IsBounded, IsFresh, IsWithNode, WorldRun, WorldStep, stores_of}
 use Rattle.bac_world.proofs.Headline.{headline}
 use Rattle.bac_driver.specs.BoundNodes.{BoundNode}
 use Rattle.bac_plant.specs.Plants.{Plant, nodes_of, world_of}
-use Rattle.bac_plant.specs.Steps.{BeginsAsk, ChangesStore, FailsAt, PlantRun, PlantStep, RestartsAt, Step, note_of}
+use Rattle.bac_plant.specs.Steps.{AsksAt, ChangesAt, FailsAt, PlantRun, PlantStep, RestartsAt, Step, note_of}
 use Rattle.bac_plant.specs.Steps.Step.{Begins, Changes, FailsToReceive, Passes, Restarts, Takes}
 use Rattle.bac_plant.specs.Events.{events_in, events_of}
 use Rattle.bac_plant.proofs.Turned.{node_at, nodes_set, run_join, set_same, turn_run, with_node}
@@ -23,7 +22,7 @@ fails_same old i new f =
     ap world_of f.is ∙ ap (λ l. record (world_of old) { nodes = l }) (nodes_set old.stations i f.after
     ∙ ap (slice_set (nodes_of old.stations) i) f.node ∙ set_same (nodes_of old.stations) i f.before.node (node_at old.stations i f.before f.at))
 
-begins_event : (overtake : ℕ) (old : Plant) (i server : ℕ) (limits : _) (r : _) (new : Plant) → BeginsAsk old i server limits r new
+begins_event : (overtake : ℕ) (old : Plant) (i server : ℕ) (limits : _) (r : _) (new : Plant) → AsksAt old i server limits r new
     → WorldStep overtake (world_of old) (Event.Ask i server limits r) (world_of new)
 begins_event overtake old i server limits r new b = subst (λ p. WorldStep overtake (world_of old) (Event.Ask i server limits r) (world_of p)) (sym b.is)
     (inl (record {
@@ -44,7 +43,7 @@ begins_event overtake old i server limits r new b = subst (λ p. WorldStep overt
       log = refl;
     }))
 
-changes_event : (overtake : ℕ) (old : Plant) (i : ℕ) (c : _) (new : Plant) → ChangesStore old i c new
+changes_event : (overtake : ℕ) (old : Plant) (i : ℕ) (c : _) (new : Plant) → ChangesAt old i c new
     → WorldStep overtake (world_of old) (Event.Change i c) (world_of new)
 changes_event overtake old i c new k = subst (λ p. WorldStep overtake (world_of old) (Event.Change i c) (world_of p)) (sym k.is)
     (record {

@@ -1,16 +1,14 @@
 -- A turn of a station is a run of its world.
-use Rattle.std.proofs.Common.{◌≡◌, ℕ, zero, suc, Bool, true, false, List, [], ◌∷◌, ◌++◌, map, append_assoc, take, Option, Some, None, slice_get, slice_set}
+use Rattle.std.proofs.Common.{◌≡◌, ℕ, zero, suc, Bool, true, false, List, [], ◌∷◌, ◌++◌, append_assoc, take, Option, Some, None, slice_get, slice_set}
 use Rattle.std.proofs.Common.{nat_le, ◌&&◌, ◌≤◌, ◌-◌, refl, sym, ap, subst, inl, inr, ◌∙◌, arith}
 use Rattle.std.proofs.lemmas.Bool.Decides.{nat_tests}
 use Rattle.std.proofs.lemmas.List.{map-set}
 use Rattle.std.proofs.lemmas.Option.{slice_get_within, slice_get-map}
 use Rattle.std.specs.Option.{option_map}
-use Rattle.bac_npdu.specs.Peers.{PeerView}
-use Rattle.bac_apdu.specs.Apdu.{Apdu}
 use Rattle.bac_protocol.specs.Service.{Octets}
 use Rattle.bac_protocol.specs.Wire.{is_from_client}
 use Rattle.bac_transaction.specs.Sends.{Datagram, Pairwise}
-use Rattle.bac_world.specs.Node.{Node, NodeOn, NodeTick, Outcome, IsHeardBy}
+use Rattle.bac_world.specs.Node.{Node, NodeOn, Outcome, IsHeardBy}
 use Rattle.bac_world.specs.Once.{Fact}
 use Rattle.bac_world.specs.World.{Acts, AreEnded, AreLogged, Copy, Delivers, DeliversIf, Event, Hears, IsCopied, IsWithNode, World, WorldRun}
 use Rattle.bac_world.specs.World.{is_deliverable, later, link_at, told}
@@ -22,7 +20,7 @@ use Rattle.bac_driver.specs.Turns.{ended_of, performed_of, sends_of}
 use Rattle.bac_plant.specs.Plants.{Plant, node_of, nodes_of, shows, world_of}
 use Rattle.bac_plant.specs.Network.{HandsOver, IsOfStation, Source}
 use Rattle.bac_plant.specs.Network.Source.{Nowhere, Outside, Station}
-use Rattle.bac_plant.specs.Steps.{TakesTurn}
+use Rattle.bac_plant.specs.Steps.{IsSomeTurn, TakesTurnAt}
 use Rattle.bac_plant.specs.Events.{heard_events, ticked_events}
 
 -- Lists in which one member is set.
@@ -125,7 +123,7 @@ acted w i a b o at cs copied between log ended logged = record {
   logged = logged;
 }
 
-may_arrive : (overtake life now number : ℕ) (copies : List Copy) (c : Copy) → now - c.moment ≤ life → later c.key number copies ≤ overtake
+pub may_arrive : (overtake life now number : ℕ) (copies : List Copy) (c : Copy) → now - c.moment ≤ life → later c.key number copies ≤ overtake
     → is_deliverable overtake life now number copies c ≡ true
 may_arrive overtake life now number copies c young few = go (nat_le (now - c.moment) life) (nat_le (later c.key number copies) overtake) refl refl
   where
@@ -234,7 +232,15 @@ run_join overtake [] fs u v w h k = subst (λ (y : World). WorldRun overtake y f
 run_join overtake (e ∷ es) fs u v w h k = (h.0, h.1, run_join overtake es fs h.0 v w h.2 k)
 
 -- The turn.
-module _ (overtake : ℕ) (old : Plant) (i : ℕ) (source : Source) (turn : turns.Turn) (new : Plant) (t : TakesTurn overtake old i source turn new) where
+
+-- what its node hears, by the buffer that the turn leaves
+pub turn_hears : (now : ℕ) (before : BoundNode) (turn : turns.Turn) (after : BoundNode) (t : IsSomeTurn now before turn after)
+    → turns.Hears now after.buffer turn.received before.node t.is.acts.middle turn.heard
+turn_hears now before turn after t =
+    subst (λ n. turns.Hears now after.buffer turn.received n t.is.acts.middle turn.heard) t.is.receives.node
+    (subst (λ l. turns.Hears now l turn.received t.is.middle.node t.is.acts.middle turn.heard) (sym t.is.acts.buffer) t.is.acts.hears)
+
+module _ (overtake : ℕ) (old : Plant) (i : ℕ) (source : Source) (turn : turns.Turn) (new : Plant) (t : TakesTurnAt overtake old i source turn new) where
   abbrev acts : turns.Acts (shows old i) t.takes.is.middle turn t.after
   acts = t.takes.is.acts
 
@@ -242,8 +248,7 @@ module _ (overtake : ℕ) (old : Plant) (i : ℕ) (source : Source) (turn : turn
   first_at = node_at old.stations i t.before t.at
 
   hears : turns.Hears (shows old i) t.after.buffer turn.received t.before.node acts.middle turn.heard
-  hears = subst (λ n. turns.Hears (shows old i) t.after.buffer turn.received n acts.middle turn.heard) t.takes.is.receives.node
-      (subst (λ l. turns.Hears (shows old i) l turn.received t.takes.is.middle.node acts.middle turn.heard) (sym acts.buffer) acts.hears)
+  hears = turn_hears (shows old i) t.before turn t.after t.takes
 
   abbrev split : IsSplit (IsCopied (nodes_of old.stations) old.time.now i) (sends_of turn.heard) (sends_of turn.ticked) t.sent
   split = pairwise_split (IsCopied (nodes_of old.stations) old.time.now i) (sends_of turn.heard) (sends_of turn.ticked) t.sent t.copied

@@ -55,7 +55,7 @@ pub record AreEntered (p : Plant) (i : ℕ) (turn : Turn) (log : List Fact) : Ty
   pub gives_up : AreEnded p.notes i (ended_of turn.ticked) performed log
 
 -- a station takes a turn: what it received comes from there, what it sends becomes copies, and what it ended and performed enters the log
-pub record TakesTurn (overtake : ℕ) (old : Plant) (i : ℕ) (source : Source) (turn : Turn) (new : Plant) : Type 0 where
+pub record TakesTurnAt (overtake : ℕ) (old : Plant) (i : ℕ) (source : Source) (turn : Turn) (new : Plant) : Type 0 where
   pub before : BoundNode
   pub at : slice_get old.stations i ≡ Some before
   pub after : BoundNode
@@ -86,7 +86,7 @@ abbrev pub note_of : (client server invoke_id ticket : ℕ) → Note
 note_of client server invoke_id ticket = record { key = record { client = client; server = server; invoke_id = invoke_id }; ticket = ticket }
 
 -- a station begins an ask of another one: it has the next number, and what it sends becomes copies. A refused ask changes nothing.
-pub record BeginsAsk (old : Plant) (i server : ℕ) (limits : Limits) (r : Request) (new : Plant) : Type 0 where
+pub record AsksAt (old : Plant) (i server : ℕ) (limits : Limits) (r : Request) (new : Plant) : Type 0 where
   pub before : BoundNode
   pub at : slice_get old.stations i ≡ Some before
   pub link : Octets
@@ -105,7 +105,7 @@ pub record BeginsAsk (old : Plant) (i server : ℕ) (limits : Limits) (r : Reque
 -- ---- the store, and restarts
 
 -- a station changes its own store, where that has no fault
-pub record ChangesStore (old : Plant) (i : ℕ) (c : at_node.Change) (new : Plant) : Type 0 where
+pub record ChangesAt (old : Plant) (i : ℕ) (c : at_node.Change) (new : Plant) : Type 0 where
   pub before : BoundNode
   pub at : slice_get old.stations i ≡ Some before
   pub may : change_fault before.node.store c ≡ None
@@ -123,10 +123,10 @@ pub record RestartsAt (old : Plant) (i exact : ℕ) (store : Option Store) (new 
 
 abbrev pub PlantStep : (overtake : ℕ) → Plant → Step → Plant → Type 0
 PlantStep overtake old (Passes by own) new = new ≡ record old { time = passes old.time by own }
-PlantStep overtake old (Takes station source turn) new = TakesTurn overtake old station source turn new
+PlantStep overtake old (Takes station source turn) new = TakesTurnAt overtake old station source turn new
 PlantStep overtake old (FailsToReceive station) new = FailsAt old station new
-PlantStep overtake old (Begins station server limits request) new = BeginsAsk old station server limits request new
-PlantStep overtake old (Changes station change) new = ChangesStore old station change new
+PlantStep overtake old (Begins station server limits request) new = AsksAt old station server limits request new
+PlantStep overtake old (Changes station change) new = ChangesAt old station change new
 PlantStep overtake old (Restarts station exact store) new = RestartsAt old station exact store new
 
 -- the newest step comes first
