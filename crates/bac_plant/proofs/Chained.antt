@@ -1,5 +1,5 @@
 -- Turns of one station, one after the other.
-use Rattle.std.proofs.Common.{◌≡◌, ◌≢◌, ℕ, max, Bool, true, false, List, [], ◌∷◌, Some, slice_get, slice_set, nat_eq, if◌then◌else◌}
+use Rattle.std.proofs.Common.{inl, inr, map, ◌≡◌, ◌≢◌, ℕ, max, Bool, true, false, List, [], ◌∷◌, Some, slice_get, slice_set, nat_eq, if◌then◌else◌}
 use Rattle.std.proofs.Common.{refl, sym, ap, subst, ◌∙◌, arith}
 use Rattle.std.proofs.lemmas.Bool.Decides.{nat_tests}
 use Rattle.std.proofs.lemmas.Option.{slice_get_within}
@@ -16,7 +16,7 @@ use Rattle.bac_driver.specs.declared.wait_limit.WaitLimit.{WaitLimit}
 use Rattle.bac_plant.specs.Chains.{AsksInChain, Chain, ServesInChain, TakesSomeTurn, TakesTurnsAlone, turn_of_second, turns_of}
 use Rattle.bac_plant.specs.Network.{Source}
 use Rattle.bac_plant.specs.Plants.{Plant, shows}
-use Rattle.bac_plant.specs.Steps.{PlantRun, PlantStep, Step, TakesTurnAt}
+use Rattle.bac_plant.specs.Steps.{PlantRun, Step, TakesTurnAt}
 use Rattle.bac_plant.specs.Steps.Step.{Begins, Changes, FailsToReceive, Passes, Restarts, Takes}
 
 early_turn : (p : WaitLimit) (old : Timed) (turn : Turn) (new : Timed) → TakesEarlyTurn p old turn new → TakesSomeTurn old.bound_node turn new.bound_node

@@ -47,7 +47,7 @@ pub fn calls_go_on()
 
 /// What `serve`, `ask` and `pair` promise is a chain of turns of each station, for `ask` after an ask. The steps of a station that takes turns alone, in a run
 /// of a plant, are such a chain too, whatever other stations do between them; and by the law above each turn of a chain is a step.
-#[tactic(auto, using(crate::proofs::Chained::serves_chain, crate::proofs::Chained::ended_chain, crate::proofs::Chained::waited_chain, crate::proofs::Chained::first_chain, crate::proofs::Chained::second_chain, crate::proofs::Chained::steps_chain))]
+#[tactic(auto, using(crate::proofs::Chained::first_chain, crate::proofs::Chained::second_chain, crate::proofs::Chained::steps_chain))]
 pub fn chains_are_steps()
     ensures served { (p : WaitLimit) (turns effects : ℕ) (old new : Timed) → Serves p turns effects old new
         → ServesInChain effects old.bound_node new.bound_node }
