@@ -19,6 +19,7 @@ use Rattle.bac_plant.specs.Example.{AnsweredTurns, OPENING, station}
 use Rattle.bac_plant.specs.Network.{IsOfStation}
 use Rattle.bac_plant.specs.Plants.{Plant, world_of}
 use Rattle.bac_plant.specs.Steps.{AsksAt, question, with_station}
+use Rattle.bac_plant.proofs.Turned.{one_there}
 use Rattle.bac_plant.proofs.Resting.{IsCalm, after_none, after_turn, hearing_step, idle_step, next_plant, rests_until, turn_by, turn_by_none}
 
 -- When both nodes are due.
@@ -106,17 +107,17 @@ node_in w i = slice_index_or w.nodes i (node 0)
 delivered_hears : (overtake : ℕ) (w w' : World) (number : ℕ) (c : Copy) (link : Octets) → IsDelivered overtake w number w' → slice_get w.copies number ≡ Some c
     → is_deliverable overtake w.time.pace.life w.time.now number w.copies c ≡ true → link_at w.nodes c.from ≡ Some link → Hears w c.to link c.octets w'
 delivered_hears overtake w w' number c link d there may sender =
-    let same : d.copy ≡ c = let e : Some d.copy ≡ Some c = sym d.there ∙ there in cc in
+    let same : d.copy ≡ c = one_there (slice_get w.copies number) d.copy c d.there there in
     let goes : Delivers w c w' = subst (λ b. DeliversIf b w c w') may
     (subst (λ x. DeliversIf (is_deliverable overtake w.time.pace.life w.time.now number w.copies x) w x w') same d.goes) in
-    let from : goes.link ≡ link = let e : Some goes.link ≡ Some link = sym goes.sender ∙ sender in cc in
+    let from : goes.link ≡ link = one_there (link_at w.nodes c.from) goes.link link goes.sender sender in
     subst (λ l. Hears w c.to l c.octets w') from goes.hears
 
 served_hears : Hears (world_of IDLE) 1 (link 0) (copy 0 1 ASK).octets THIRD
 served_hears = delivered_hears 253 SECOND THIRD 0 (copy 0 1 ASK) (link 0) request_delivered refl refl refl
 
 served_is : served_hears.after ≡ node_in THIRD 1
-served_is = let e : Some served_hears.after ≡ Some (node_in THIRD 1) = sym served_hears.acts.nodes.here in cc
+served_is = one_there (slice_get THIRD.nodes 1) served_hears.after (node_in THIRD 1) served_hears.acts.nodes.here refl
 
 served_calm : IsCalm 0 (node_in THIRD 1)
 served_calm = record { sends = refl; ended = refl }
@@ -137,7 +138,7 @@ answered_hears : Hears (world_of SERVED) 0 (link 1) (copy 1 0 ANSWER).octets LAS
 answered_hears = delivered_hears 253 THIRD LAST 1 (copy 1 0 ANSWER) (link 1) answer_delivered refl refl refl
 
 answered_is : answered_hears.after ≡ node_in LAST 0
-answered_is = let e : Some answered_hears.after ≡ Some (node_in LAST 0) = sym answered_hears.acts.nodes.here in cc
+answered_is = one_there (slice_get LAST.nodes 0) answered_hears.after (node_in LAST 0) answered_hears.acts.nodes.here refl
 
 abbrev waiting : BoundNode
 waiting = after_none 0 ASKED

@@ -13,6 +13,7 @@ use Rattle.bac_driver.specs.Waits.{AT_ONCE}
 use Rattle.bac_driver.specs.declared.question.AskEnd.TheVariants as end
 use Rattle.bac_driver.specs.Turns.{Turn}
 use Rattle.bac_driver.specs.declared.wait_limit.WaitLimit.{WaitLimit}
+use Rattle.bac_plant.proofs.Turned.{one_there}
 use Rattle.bac_plant.specs.Chains.{AsksInChain, Chain, ServesInChain, TakesSomeTurn, TakesTurnsAlone, turn_of_second, turns_of}
 use Rattle.bac_plant.specs.Network.{Source}
 use Rattle.bac_plant.specs.Plants.{Plant, shows}
@@ -120,7 +121,7 @@ module _ (overtake i : ℕ) where
   took j source turn steps middle new t before c true is =
       let same : j ≡ i = grind (arith, nat_tests) in
       let mine : slice_get middle.stations i ≡ Some t.before = subst (λ k. slice_get middle.stations k ≡ Some t.before) same t.at in
-      let one : t.before ≡ c.0 = let e : Some t.before ≡ Some c.0 = sym mine ∙ c.1 in cc in (
+      let one : t.before ≡ c.0 = one_there (slice_get middle.stations i) t.before c.0 mine c.1 in (
         t.after,
         self_is middle i t.before t.after new.stations mine
             (ap (λ (p : Plant). p.stations) t.is ∙ ap (λ k. slice_set middle.stations k t.after) same),
@@ -163,5 +164,5 @@ pub steps_chain : (overtake station : ℕ) (steps : List Step) (old new : Plant)
     → Chain (turns_of station steps) before after
 steps_chain overtake station steps old new run alone before after at there =
     let c = chain_of overtake station steps old new run alone before at in
-    let same : c.0 ≡ after = let e : Some c.0 ≡ Some after = sym c.1 ∙ there in cc in
+    let same : c.0 ≡ after = one_there (slice_get new.stations station) c.0 after c.1 there in
     subst (λ b. Chain (turns_of station steps) before b) same c.2

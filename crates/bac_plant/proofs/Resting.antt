@@ -23,7 +23,7 @@ use Rattle.bac_plant.specs.Network.{IsOfStation}
 use Rattle.bac_plant.specs.Network.Source.{Nowhere, Station}
 use Rattle.bac_plant.specs.Plants.{Plant, nodes_of, shows, world_of}
 use Rattle.bac_plant.specs.Steps.{IsSomeTurn, TakesTurnAt, with_station}
-use Rattle.bac_plant.proofs.Turned.{node_at}
+use Rattle.bac_plant.proofs.Turned.{node_at, one_there}
 
 -- a tick leaves a table without entries as it is
 server_rests : (c : Settings) (now : ℕ) (e : ServerEnd) → e.slots ≡ [] → (responder_tick c now e).end ≡ e
@@ -163,7 +163,7 @@ module _ (overtake : ℕ) (old : Plant) (i : ℕ) (b : BoundNode) (at : slice_ge
   }
     where
       was : h.before ≡ b.node
-      was = let e : Some h.before ≡ Some b.node = sym h.at ∙ node_at old.stations i b at in cc
+      was = one_there (slice_get (nodes_of old.stations) i) h.before b.node h.at (node_at old.stations i b at)
 
       on : NodeOn (shows old i) from octets b.node n h.outcome
       on = subst (λ x. NodeOn (shows old i) from octets x n h.outcome) was (subst (λ y. NodeOn (shows old i) from octets h.before y h.outcome) same h.on)

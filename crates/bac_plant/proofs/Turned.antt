@@ -23,6 +23,10 @@ use Rattle.bac_plant.specs.Network.Source.{Nowhere, Outside, Station}
 use Rattle.bac_plant.specs.Steps.{IsSomeTurn, TakesTurnAt}
 use Rattle.bac_plant.specs.Events.{heard_events, ticked_events}
 
+-- what is there is one thing
+pub one_there : {A : Type 0} (o : Option A) (x y : A) → o ≡ Some x → o ≡ Some y → x ≡ y
+one_there o x y e f = let g : Some x ≡ Some y = sym e ∙ f in cc
+
 -- Lists in which one member is set.
 
 pub set_same : {A : Type 0} (xs : List A) (i : ℕ) (x : A) → slice_get xs i ≡ Some x → slice_set xs i x ≡ xs
