@@ -4,12 +4,14 @@ use Rattle.bac_protocol.specs.declared.times.TheConstants.{T_OUT}
 use Rattle.bac_requester.specs.Timers.{LAST_MOMENT}
 use Rattle.bac_transaction.specs.Ends.{ClientSlot, TransactionSlot, requester_tick}
 use Rattle.bac_transaction.specs.Ends.TransactionSlot.{Closed, Open}
+use Rattle.bac_protocol.proofs.AtDrift.{lives}
 use Rattle.bac_world.specs.AnsweredRun.{LIMITS, TIME, link, node}
 use Rattle.bac_world.specs.Examples.{REQUEST}
 use Rattle.bac_world.specs.Node.{Node}
 use Rattle.bac_protocol.specs.Service.{Octets}
 use Rattle.bac_world.specs.World.{Copy, Delivers, DeliversIf, Hears, IsDelivered, World, is_deliverable, link_at}
-use Rattle.bac_world.proofs.Answered.{ACCEPTED, ANSWER, ASK, ASKED_NODE, LAST, SECOND, THIRD, answer_delivered, ask_copied, asks, copy, datagram, request_delivered}
+use Rattle.bac_world.proofs.Answered.{ACCEPTED, ANSWER, ASK, ASKED_NODE, LAST, SECOND, THIRD, answer_delivered, answered_run, ask_copied, asks}
+use Rattle.bac_world.proofs.Answered.{copy, datagram, request_delivered}
 use Rattle.bac_node.specs.Waiting.{MovesAt, RestsUntil}
 use Rattle.bac_driver.specs.Asking.{IsBegun}
 use Rattle.bac_driver.specs.BoundNodes.{BoundNode}
@@ -56,7 +58,7 @@ asked_due = record { rests = asked_rests; moves = asked_moves }
 abbrev ASKED : BoundNode
 ASKED = record { node = ASKED_NODE; failures = 0; calls = with_calls (Some []) (map call_of (datagram (link 1) ASK ∷ [])); buffer = [] }
 
-begun : IsBegun 0 (question (link 1) LIMITS REQUEST) (station 0) 0 ASKED
+abbrev begun : IsBegun 0 (question (link 1) LIMITS REQUEST) (station 0) 0 ASKED
 begun = record {
   accepted = ACCEPTED;
   sends = datagram (link 1) ASK ∷ [];
@@ -78,15 +80,7 @@ asked = record {
   peer = refl;
   after = ASKED;
   ticket = 0;
-  begun = record {
-    accepted = ACCEPTED;
-    sends = datagram (link 1) ASK ∷ [];
-    asks = asks;
-    ticket_is = refl;
-    lost = 0;
-    carried = record { order = refl; count = refl; most = omega arith };
-    buffer = refl;
-  };
+  begun = begun;
   sent = copy 0 1 ASK ∷ [];
   copied = (ask_copied, tt);
   is = refl;
@@ -145,6 +139,9 @@ waiting = after_none 0 ASKED
 
 pub answered_turns : AnsweredTurns
 answered_turns = record {
+  fresh = answered_run.fresh;
+  timely = lives.today;
+  bounded = answered_run.bounded;
   idle = turn_by_none 0;
   served = turn_by 0 (link 0) (copy 0 1 ASK).octets served_hears.outcome;
   answered = turn_by 0 (link 1) (copy 1 0 ANSWER).octets answered_hears.outcome;
@@ -158,8 +155,8 @@ answered_turns = record {
         so_far = record { middle = OPENING; so_far = refl; last = asked };
         last = idle_step 253 FIRST 0 ASKED refl (Some T_OUT) asked_due asked_calm;
       };
-      last = hearing_step 253 IDLE 1 (station 1) refl None fresh_due 0 (link 0) (copy 0 1 ASK).octets request_comes THIRD served_hears (node_in THIRD 1) served_is
-          served_calm;
+      last = hearing_step 253 IDLE 1 (station 1) refl None fresh_due 0 (link 0) (copy 0 1 ASK).octets request_comes THIRD served_hears
+          (node_in THIRD 1) served_is served_calm;
     };
     last = hearing_step 253 SERVED 0 waiting refl (Some T_OUT) asked_due 1 (link 1) (copy 1 0 ANSWER).octets answer_comes LAST answered_hears (node_in LAST 0)
         answered_is answered_calm;

@@ -100,7 +100,6 @@ self_is : (p : Plant) (i : ℕ) (a b : BoundNode) (new : List BoundNode) → sli
     → slice_get new i ≡ Some b
 self_is p i a b new at is = ap (λ l. slice_get l i) is ∙ get_set p.stations i b (slice_get_within p.stations i a at)
 
--- a run in which a step of another station, or of none, comes last
 module _ (overtake i : ℕ) where
   -- where that station stood before the steps, and where it stands after them, there is a chain
   abbrev HasChain : List Step → (old new : Plant) → Type 0

@@ -81,7 +81,8 @@ module _ (W overtake : ℕ) (p : Plant) (on : CanGoOn W overtake (world_of p)) (
       → CanEnter (world_of p) i o
   copy_enters number from octets o c h = subst (λ k. CanEnter (world_of p) k o) c.to
       (on.hears number c.copy c.there
-      (may_arrive overtake p.time.pace.life p.time.now number p.copies c.copy c.young c.few) from c.sender a b o (subst (λ k. slice_get (nodes_of p.stations) k ≡ Some a) (sym c.to) at)
+      (may_arrive overtake p.time.pace.life p.time.now number p.copies c.copy c.young c.few) from c.sender a b o
+      (subst (λ k. slice_get (nodes_of p.stations) k ≡ Some a) (sym c.to) at)
       (subst (λ k. NodeOn (shows p k) from c.copy.octets a b o) (sym c.to) (subst (λ os. NodeOn (shows p i) from os a b o) (sym c.whole) h))).0
 
   came_enters : (source : Source) (d : Octets × ℕ) (buffer : Octets) (heard : Option Outcome) → turns.HearsOne (shows p i) d.0 (take d.1 buffer) a b heard
@@ -106,7 +107,8 @@ tick_enters W overtake w on i a b at (Some o) t = on.ticks i a b o at t
 
 -- Reached plants go on.
 
-reached_world : (W overtake : ℕ) (p : Plant) → IsReached W overtake p → (es : List Event) (w : World) → WorldRun overtake (world_of p) es w → CanGoOn W overtake w
+reached_world : (W overtake : ℕ) (p : Plant) → IsReached W overtake p → (es : List Event) (w : World) → WorldRun overtake (world_of p) es w
+    → CanGoOn W overtake w
 reached_world W overtake p r es w run =
     runs_can_go_on W overtake (world_of r.first) w r.fresh r.timely r.bounded (events_of r.steps ++ es)
     (run_join overtake (events_of r.steps) es (world_of r.first) (world_of p) w (run_events overtake r.steps r.first p r.run) run)
@@ -152,8 +154,8 @@ module _ (W overtake : ℕ) (p : Plant) (r : IsReached W overtake p) (i : ℕ) (
     second_at = get_set (nodes_of p.stations) i middle (slice_get_within (nodes_of p.stations) i before.node first_at)
 
     second : MayEnter Middle i turn.ticked
-    second = tick_enters W overtake Middle (reached_world W overtake p r (heard_events i source turn.heard) Middle went) i middle after.node second_at turn.ticked
-        t.is.acts.ticks
+    second = tick_enters W overtake Middle (reached_world W overtake p r (heard_events i source turn.heard) Middle went) i middle after.node second_at
+        turn.ticked t.is.acts.ticks
 
     linked : (j : ℕ) → link_at (nodes_of p.stations) j ≡ link_at Middle.nodes j
     linked j = sym (set_links (nodes_of p.stations) i before.node middle first_at

@@ -64,10 +64,7 @@ hears_link now buffer None a b heard h = ap (λ (n : Node). n.link) h.1
 hears_link now buffer (Some d) a b None h = ap (λ (n : Node). n.link) h.same
 hears_link now buffer (Some d) a b (Some o) h = on_link now d.0 (take d.1 buffer) a b o h
 
--- both lists have the same links
-pub AreLinked : List Node → List Node → Type 0
-AreLinked xs ys = (j : ℕ) → link_at ys j ≡ link_at xs j
-
+-- a node with that link takes the place of another one
 pub set_links : (xs : List Node) (i : ℕ) (a b : Node) → slice_get xs i ≡ Some a → b.link ≡ a.link → (j : ℕ) → link_at (slice_set xs i b) j ≡ link_at xs j
 set_links [] i a b at same j = refl
 set_links (x ∷ xs) zero a b at same zero = let is : x ≡ a = cc in ap Some same ∙ ap (λ (n : Node). Some n.link) (sym is)
@@ -112,7 +109,8 @@ nothing_called w i a b at same cs none log is =
     ap (λ n. record w { nodes = n; copies = w.copies ++ cs; log = log }) (ap (slice_set w.nodes i) same ∙ set_same w.nodes i a at)
     ∙ ap (λ l. record w { copies = l; log = log }) (ap (λ l. w.copies ++ l) none ∙ append_none w.copies) ∙ ap (λ l. record w { log = l }) is
 
-pub acted : (w : World) (i : ℕ) (a b : Node) (o : Outcome) → slice_get w.nodes i ≡ Some a → (cs : List Copy) → Pairwise (IsCopied w.nodes w.time.now i) o.sends cs
+pub acted : (w : World) (i : ℕ) (a b : Node) (o : Outcome) → slice_get w.nodes i ≡ Some a → (cs : List Copy)
+    → Pairwise (IsCopied w.nodes w.time.now i) o.sends cs
     → (between log : List Fact) → AreEnded w.notes i o.ended w.log between → AreLogged w.nodes w.notes i o.performed between log
     → Acts w i b o (after_call w i b cs log)
 acted w i a b o at cs copied between log ended logged = record {
@@ -276,8 +274,8 @@ module _ (overtake : ℕ) (old : Plant) (i : ℕ) (source : Source) (turn : turn
 
   pub turn_run : WorldRun overtake (world_of old) (heard_events i source turn.heard ++ ticked_events i turn.ticked) (world_of new)
   turn_run = run_join overtake (heard_events i source turn.heard) (ticked_events i turn.ticked) (world_of old) Middle (world_of new)
-      (heard_run overtake old i t.before.node acts.middle first_at split.front t.entered.ended t.entered.performed source turn.received t.after.buffer turn.heard
-      hears t.comes split.first t.entered.ends t.entered.performs)
+      (heard_run overtake old i t.before.node acts.middle first_at split.front t.entered.ended t.entered.performed source turn.received t.after.buffer
+      turn.heard hears t.comes split.first t.entered.ends t.entered.performs)
       (subst (WorldRun overtake Middle (ticked_events i turn.ticked)) last
       (tick_run overtake Middle i acts.middle t.after.node second_at turn.ticked acts.ticks split.rest
       (all_copied_on (nodes_of old.stations) Middle.nodes linked old.time.now i (sends_of turn.ticked) split.rest split.second)
