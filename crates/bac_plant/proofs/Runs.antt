@@ -1,0 +1,93 @@
+-- A run of a plant is a run of its world.
+use Rattle.std.proofs.Common.{◌≡◌, ℕ, List, [], ◌∷◌, Some, slice_get, slice_set, refl, sym, ap, subst, inl, ◌∙◌}
+use Rattle.bac_protocol.specs.Pace.{IsTimely}
+use Rattle.bac_world.specs.Once.{IsOnce}
+use Rattle.bac_world.specs.World.{Event, IsBounded, IsFresh, IsWithNode, WorldRun, WorldStep, stores_of}
+use Rattle.bac_world.proofs.Headline.{headline}
+use Rattle.bac_driver.specs.BoundNodes.{BoundNode}
+use Rattle.bac_plant.specs.Plants.{Plant, nodes_of, world_of}
+use Rattle.bac_plant.specs.Steps.{AsksAt, ChangesAt, FailsAt, PlantRun, PlantStep, RestartsAt, Step, note_of}
+use Rattle.bac_plant.specs.Steps.Step.{Begins, Changes, FailsToReceive, Passes, Restarts, Takes}
+use Rattle.bac_plant.specs.Events.{events_in, events_of}
+use Rattle.bac_plant.proofs.Turned.{node_at, nodes_set, run_join, set_same, turn_run, with_node}
+
+-- the nodes after a step of one station
+set_nodes : (xs : List BoundNode) (i : ℕ) (a b : BoundNode) → slice_get xs i ≡ Some a → IsWithNode (nodes_of xs) i b.node (nodes_of (slice_set xs i b))
+set_nodes xs i a b at = subst (λ l. IsWithNode (nodes_of xs) i b.node l) (sym (nodes_set xs i b))
+    (with_node (nodes_of xs) i a.node b.node (node_at xs i a at))
+
+-- the world knows nothing of links and buffers
+fails_same : (old : Plant) (i : ℕ) (new : Plant) → FailsAt old i new → world_of new ≡ world_of old
+fails_same old i new f =
+    ap world_of f.is ∙ ap (λ l. record (world_of old) { nodes = l }) (nodes_set old.stations i f.after
+    ∙ ap (slice_set (nodes_of old.stations) i) f.node ∙ set_same (nodes_of old.stations) i f.before.node (node_at old.stations i f.before f.at))
+
+begins_event : (overtake : ℕ) (old : Plant) (i server : ℕ) (limits : _) (r : _) (new : Plant) → AsksAt old i server limits r new
+    → WorldStep overtake (world_of old) (Event.Ask i server limits r) (world_of new)
+begins_event overtake old i server limits r new b = subst (λ p. WorldStep overtake (world_of old) (Event.Ask i server limits r) (world_of p)) (sym b.is)
+    (inl (record {
+      before = b.before.node;
+      at = node_at old.stations i b.before b.at;
+      link = b.link;
+      peer = b.peer;
+      after = b.after.node;
+      accepted = b.begun.accepted;
+      sends = b.begun.sends;
+      asks = b.begun.asks;
+      nodes = set_nodes old.stations i b.before b.after b.at;
+      time = refl;
+      sent = b.sent;
+      copies = refl;
+      copied = b.copied;
+      notes = ap (λ t. note_of i server b.begun.accepted.invoke_id t ∷ old.notes) b.begun.ticket_is;
+      log = refl;
+    }))
+
+changes_event : (overtake : ℕ) (old : Plant) (i : ℕ) (c : _) (new : Plant) → ChangesAt old i c new
+    → WorldStep overtake (world_of old) (Event.Change i c) (world_of new)
+changes_event overtake old i c new k = subst (λ p. WorldStep overtake (world_of old) (Event.Change i c) (world_of p)) (sym k.is)
+    (record {
+      before = k.before.node;
+      at = node_at old.stations i k.before k.at;
+      may = k.may;
+      nodes = set_nodes old.stations i k.before _ k.at;
+      time = refl;
+      copies = refl;
+      notes = refl;
+      log = refl;
+    })
+
+restarts_event : (overtake : ℕ) (old : Plant) (i exact : ℕ) (store : _) (new : Plant) → RestartsAt old i exact store new
+    → WorldStep overtake (world_of old) (Event.Restart i exact store) (world_of new)
+restarts_event overtake old i exact store new r = subst (λ p. WorldStep overtake (world_of old) (Event.Restart i exact store) (world_of p)) (sym r.is)
+    (record {
+      before = r.before.node;
+      at = node_at old.stations i r.before r.at;
+      nodes = subst (λ n. IsWithNode (nodes_of old.stations) i n (nodes_of (slice_set old.stations i r.after))) r.node
+          (set_nodes old.stations i r.before r.after r.at);
+      time = refl;
+      copies = refl;
+      notes = refl;
+      log = refl;
+    })
+
+step_events : (overtake : ℕ) (old : Plant) (step : Step) (new : Plant) → PlantStep overtake old step new
+    → WorldRun overtake (world_of old) (events_in step) (world_of new)
+step_events overtake old (Passes by own) new s = (world_of new, ap world_of s, refl)
+step_events overtake old (Takes i source turn) new s = turn_run overtake old i source turn new s
+step_events overtake old (FailsToReceive i) new s = fails_same old i new s
+step_events overtake old (Begins i server limits r) new s = (world_of new, begins_event overtake old i server limits r new s, refl)
+step_events overtake old (Changes i c) new s = (world_of new, changes_event overtake old i c new s, refl)
+step_events overtake old (Restarts i exact store) new s = (world_of new, restarts_event overtake old i exact store new s, refl)
+
+pub run_events : (overtake : ℕ) (steps : List Step) (old new : Plant) → PlantRun overtake steps old new
+    → WorldRun overtake (world_of old) (events_of steps) (world_of new)
+run_events overtake [] old new run = ap world_of run
+run_events overtake (step ∷ before) old new run =
+    run_join overtake (events_of before) (events_in step) (world_of old) (world_of run.middle) (world_of new)
+    (run_events overtake before old run.middle run.so_far) (step_events overtake run.middle step new run.last)
+
+pub once : (W overtake : ℕ) (old new : Plant) → IsFresh (world_of old) → IsTimely old.time.pace → IsBounded W overtake (world_of old)
+    → (steps : List Step) → PlantRun overtake steps old new → IsOnce (stores_of (nodes_of old.stations)) new.log (stores_of (nodes_of new.stations))
+once W overtake old new fresh timely bounded steps run =
+    headline W overtake (world_of old) (world_of new) fresh timely bounded (events_of steps) (run_events overtake steps old new run)

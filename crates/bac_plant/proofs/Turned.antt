@@ -1,0 +1,282 @@
+-- A turn of a station is a run of its world.
+use Rattle.std.proofs.Common.{◌≡◌, ℕ, zero, suc, Bool, true, false, List, [], ◌∷◌, ◌++◌, append_assoc, take, Option, Some, None, slice_get, slice_set}
+use Rattle.std.proofs.Common.{nat_le, ◌&&◌, ◌≤◌, ◌-◌, refl, sym, ap, subst, inl, inr, ◌∙◌, arith}
+use Rattle.std.proofs.lemmas.Bool.Decides.{nat_tests}
+use Rattle.std.proofs.lemmas.List.{map-set}
+use Rattle.std.proofs.lemmas.Option.{slice_get_within, slice_get-map}
+use Rattle.std.specs.Option.{option_map}
+use Rattle.bac_protocol.specs.Service.{Octets}
+use Rattle.bac_protocol.specs.Wire.{is_from_client}
+use Rattle.bac_transaction.specs.Sends.{Datagram, Pairwise}
+use Rattle.bac_world.specs.Node.{Node, NodeOn, Outcome, IsHeardBy}
+use Rattle.bac_world.specs.Once.{Fact}
+use Rattle.bac_world.specs.World.{Acts, AreEnded, AreLogged, Copy, Delivers, DeliversIf, Event, Hears, IsCopied, IsWithNode, World, WorldRun}
+use Rattle.bac_world.specs.World.{is_deliverable, later, link_at, told}
+use Rattle.bac_world.proofs.Pairs.{IsSplit, append_none, pairwise_none, pairwise_split}
+use Rattle.bac_journal.proofs.Lists.{get_set, get_set_other}
+use Rattle.bac_driver.specs.BoundNodes.{BoundNode}
+use Rattle.bac_driver.specs.Turns as turns
+use Rattle.bac_driver.specs.Turns.{ended_of, performed_of, sends_of}
+use Rattle.bac_plant.specs.Plants.{Plant, node_of, nodes_of, shows, world_of}
+use Rattle.bac_plant.specs.Network.{HandsOver, IsOfStation, Source}
+use Rattle.bac_plant.specs.Network.Source.{Nowhere, Outside, Station}
+use Rattle.bac_plant.specs.Steps.{IsSomeTurn, TakesTurnAt}
+use Rattle.bac_plant.specs.Events.{heard_events, ticked_events}
+
+-- what is there is one thing
+pub one_there : {A : Type 0} (o : Option A) (x y : A) → o ≡ Some x → o ≡ Some y → x ≡ y
+one_there o x y e f = let g : Some x ≡ Some y = sym e ∙ f in cc
+
+-- Lists in which one member is set.
+
+pub set_same : {A : Type 0} (xs : List A) (i : ℕ) (x : A) → slice_get xs i ≡ Some x → slice_set xs i x ≡ xs
+set_same [] i x e = refl
+set_same (y ∷ xs) zero x e = let same : y ≡ x = cc in ap (λ z. z ∷ xs) (sym same)
+set_same (y ∷ xs) (suc i) x e = ap (λ l. y ∷ l) (set_same xs i x e)
+
+pub set_twice : {A : Type 0} (xs : List A) (i : ℕ) (x y : A) → slice_set (slice_set xs i x) i y ≡ slice_set xs i y
+set_twice [] i x y = refl
+set_twice (z ∷ xs) zero x y = refl
+set_twice (z ∷ xs) (suc i) x y = ap (λ l. z ∷ l) (set_twice xs i x y)
+
+pub with_node : (xs : List Node) (i : ℕ) (a b : Node) → slice_get xs i ≡ Some a → IsWithNode xs i b (slice_set xs i b)
+with_node xs i a b at = record { here = get_set xs i b (slice_get_within xs i a at); others = λ j ne. get_set_other xs i j b ne }
+
+pub node_at : (xs : List BoundNode) (i : ℕ) (b : BoundNode) → slice_get xs i ≡ Some b → slice_get (nodes_of xs) i ≡ Some b.node
+node_at xs i b at = slice_get-map node_of xs i ∙ ap (option_map node_of) at
+
+pub nodes_set : (xs : List BoundNode) (i : ℕ) (b : BoundNode) → nodes_of (slice_set xs i b) ≡ slice_set (nodes_of xs) i b.node
+nodes_set xs i b = map-set node_of xs i b
+
+-- Links.
+
+pub on_link : (now : ℕ) (from octets : Octets) (a b : Node) (o : Outcome) → NodeOn now from octets a b o → b.link ≡ a.link
+on_link now from octets a b o (inl d) = ap (λ (n : Node). n.link) d.node
+on_link now from octets a b o (inr d) = go (is_from_client d.apdu) d.heard
+  where
+    go : (up : Bool) → IsHeardBy up d.peer d.apdu now a b o → b.link ≡ a.link
+    go true t = ap (λ (n : Node). n.link) t.node
+    go false t = ap (λ (n : Node). n.link) t.node
+
+pub hears_link : (now : ℕ) (buffer : Octets) (came : Option (Octets × ℕ)) (a b : Node) (heard : Option Outcome) → turns.Hears now buffer came a b heard
+    → b.link ≡ a.link
+hears_link now buffer None a b heard h = ap (λ (n : Node). n.link) h.1
+hears_link now buffer (Some d) a b None h = ap (λ (n : Node). n.link) h.same
+hears_link now buffer (Some d) a b (Some o) h = on_link now d.0 (take d.1 buffer) a b o h
+
+-- a node with that link takes the place of another one
+pub set_links : (xs : List Node) (i : ℕ) (a b : Node) → slice_get xs i ≡ Some a → b.link ≡ a.link → (j : ℕ) → link_at (slice_set xs i b) j ≡ link_at xs j
+set_links [] i a b at same j = refl
+set_links (x ∷ xs) zero a b at same zero = let is : x ≡ a = cc in ap Some same ∙ ap (λ (n : Node). Some n.link) (sym is)
+set_links (x ∷ xs) zero a b at same (suc j) = refl
+set_links (x ∷ xs) (suc i) a b at same zero = refl
+set_links (x ∷ xs) (suc i) a b at same (suc j) = set_links xs i a b at same j
+
+-- a copy is of a datagram by the links of the nodes alone
+pub copied_on : (xs ys : List Node) → ((j : ℕ) → link_at ys j ≡ link_at xs j) → (now i : ℕ) (d : Datagram) (c : Copy) → IsCopied xs now i d c
+    → IsCopied ys now i d c
+copied_on xs ys same now i d c k = record {
+  moment = k.moment;
+  from = k.from;
+  to = same c.to ∙ k.to;
+  octets = k.octets;
+  transaction = record {
+    link = k.transaction.link;
+    sender = same c.from ∙ k.transaction.sender;
+    peer = k.transaction.peer;
+    apdu = k.transaction.apdu;
+    means = k.transaction.means;
+    key = k.transaction.key;
+  };
+}
+
+pub all_copied_on : (xs ys : List Node) → ((j : ℕ) → link_at ys j ≡ link_at xs j) → (now i : ℕ) (ds : List Datagram) (cs : List Copy)
+    → Pairwise (IsCopied xs now i) ds cs → Pairwise (IsCopied ys now i) ds cs
+all_copied_on xs ys same now i [] [] h = h
+all_copied_on xs ys same now i [] (c ∷ cs) h = absurd h
+all_copied_on xs ys same now i (d ∷ ds) [] h = absurd h
+all_copied_on xs ys same now i (d ∷ ds) (c ∷ cs) h = (copied_on xs ys same now i d c h.0, all_copied_on xs ys same now i ds cs h.1)
+
+-- Worlds after a call of one node.
+
+abbrev pub after_call : World → ℕ → Node → List Copy → List Fact → World
+after_call w i b cs log = record w { nodes = slice_set w.nodes i b; copies = w.copies ++ cs; log = log }
+
+-- nothing came of it
+pub nothing_called : (w : World) (i : ℕ) (a b : Node) → slice_get w.nodes i ≡ Some a → b ≡ a → (cs : List Copy) → cs ≡ [] → (log : List Fact) → log ≡ w.log
+    → after_call w i b cs log ≡ w
+nothing_called w i a b at same cs none log is =
+    ap (λ n. record w { nodes = n; copies = w.copies ++ cs; log = log }) (ap (slice_set w.nodes i) same ∙ set_same w.nodes i a at)
+    ∙ ap (λ l. record w { copies = l; log = log }) (ap (λ l. w.copies ++ l) none ∙ append_none w.copies) ∙ ap (λ l. record w { log = l }) is
+
+pub acted : (w : World) (i : ℕ) (a b : Node) (o : Outcome) → slice_get w.nodes i ≡ Some a → (cs : List Copy)
+    → Pairwise (IsCopied w.nodes w.time.now i) o.sends cs
+    → (between log : List Fact) → AreEnded w.notes i o.ended w.log between → AreLogged w.nodes w.notes i o.performed between log
+    → Acts w i b o (after_call w i b cs log)
+acted w i a b o at cs copied between log ended logged = record {
+  nodes = with_node w.nodes i a b at;
+  time = refl;
+  notes = refl;
+  sent = cs;
+  copies = refl;
+  copied = copied;
+  between = between;
+  ended = ended;
+  logged = logged;
+}
+
+pub may_arrive : (overtake life now number : ℕ) (copies : List Copy) (c : Copy) → now - c.moment ≤ life → later c.key number copies ≤ overtake
+    → is_deliverable overtake life now number copies c ≡ true
+may_arrive overtake life now number copies c young few = go (nat_le (now - c.moment) life) (nat_le (later c.key number copies) overtake) refl refl
+  where
+    go : (e f : Bool) → nat_le (now - c.moment) life ≡ e → nat_le (later c.key number copies) overtake ≡ f → (e && f) ≡ true
+    go true true a b = refl
+    go true false a b = absurd (grind (arith, nat_tests))
+    go false f a b = absurd (grind (arith, nat_tests))
+
+pub delivers_if : (b : Bool) (w : World) (c : Copy) (w' : World) → b ≡ true → Delivers w c w' → DeliversIf b w c w'
+delivers_if true w c w' e d = d
+delivers_if false w c w' e d = absurd cc
+
+-- What a node hears.
+module _ (overtake : ℕ) (p : Plant) (i : ℕ) (a b : Node) (at : slice_get (nodes_of p.stations) i ≡ Some a) (cs : List Copy) (between log : List Fact) where
+  abbrev pub After : World
+  After = after_call (world_of p) i b cs log
+
+  none_heard : b ≡ a → cs ≡ [] → between ≡ p.log → log ≡ between → After ≡ world_of p
+  none_heard same none e f = nothing_called (world_of p) i a b at same cs none log (f ∙ e)
+
+  world_hears : (from octets : Octets) (o : Outcome) → NodeOn (shows p i) from octets a b o
+      → Pairwise (IsCopied (nodes_of p.stations) p.time.now i) o.sends cs → AreEnded p.notes i o.ended p.log between
+      → AreLogged (nodes_of p.stations) p.notes i o.performed between log → Hears (world_of p) i from octets After
+  world_hears from octets o on copied ended logged = record {
+    before = a;
+    at = at;
+    after = b;
+    outcome = o;
+    on = on;
+    acts = acted (world_of p) i a b o at cs copied between log ended logged;
+  }
+
+  arrives : (number : ℕ) (from octets : Octets) → IsOfStation overtake p i number from octets → Hears (world_of p) i from octets After
+      → WorldRun overtake (world_of p) (Event.Deliver number ∷ []) After
+  arrives number from octets c h = (
+    After,
+    record {
+      copy = c.copy;
+      there = c.there;
+      goes = delivers_if (is_deliverable overtake p.time.pace.life p.time.now number p.copies c.copy) (world_of p) c.copy After
+          (may_arrive overtake p.time.pace.life p.time.now number p.copies c.copy c.young c.few)
+          (record {
+            link = from;
+            sender = c.sender;
+            hears = subst (λ k. Hears (world_of p) k from c.copy.octets After) (sym c.to)
+                (subst (λ os. Hears (world_of p) i from os After) (sym c.whole) h);
+          });
+    },
+    refl,
+  )
+
+  came_run : (source : Source) (d : Octets × ℕ) (buffer : Octets) (heard : Option Outcome) → turns.HearsOne (shows p i) d.0 (take d.1 buffer) a b heard
+      → HandsOver overtake p i source (Some d) buffer → Pairwise (IsCopied (nodes_of p.stations) p.time.now i) (sends_of heard) cs
+      → AreEnded p.notes i (ended_of heard) p.log between → AreLogged (nodes_of p.stations) p.notes i (performed_of heard) between log
+      → WorldRun overtake (world_of p) (heard_events i source heard) After
+  came_run Nowhere d buffer heard h from copied ended logged = absurd from
+  came_run (Station number) d buffer None h from copied ended logged =
+      none_heard h.same (pairwise_none (IsCopied (nodes_of p.stations) p.time.now i) cs copied) ended logged
+  came_run (Outside sender octets) d buffer None h from copied ended logged =
+      none_heard h.same (pairwise_none (IsCopied (nodes_of p.stations) p.time.now i) cs copied) ended logged
+  came_run (Station number) d buffer (Some o) h from copied ended logged =
+      arrives number d.0 (take d.1 buffer) from (world_hears d.0 (take d.1 buffer) o h copied ended logged)
+  came_run (Outside sender octets) d buffer (Some o) h from copied ended logged = (
+    After,
+    inl (record {
+      noise = from.noise;
+      hears = subst (λ l. Hears (world_of p) i l octets After) from.link_is
+          (subst (λ os. Hears (world_of p) i d.0 os After) from.whole (world_hears d.0 (take d.1 buffer) o h copied ended logged));
+    }),
+    refl,
+  )
+
+  pub heard_run : (source : Source) (came : Option (Octets × ℕ)) (buffer : Octets) (heard : Option Outcome) → turns.Hears (shows p i) buffer came a b heard
+      → HandsOver overtake p i source came buffer → Pairwise (IsCopied (nodes_of p.stations) p.time.now i) (sends_of heard) cs
+      → AreEnded p.notes i (ended_of heard) p.log between → AreLogged (nodes_of p.stations) p.notes i (performed_of heard) between log
+      → WorldRun overtake (world_of p) (heard_events i source heard) After
+  heard_run source (Some d) buffer heard h from copied ended logged = came_run source d buffer heard h from copied ended logged
+  heard_run source None buffer None h from copied ended logged =
+      subst (λ s. WorldRun overtake (world_of p) (heard_events i s None) After) (sym from)
+      (none_heard h.1 (pairwise_none (IsCopied (nodes_of p.stations) p.time.now i) cs copied) ended logged)
+  heard_run source None buffer (Some o) h from copied ended logged = absurd (let e = h.0 in cc)
+
+-- What it does at a tick.
+pub tick_run : (overtake : ℕ) (w : World) (i : ℕ) (a b : Node) → slice_get w.nodes i ≡ Some a → (ticked : Option Outcome) → turns.Ticks (told w i) a b ticked
+    → (cs : List Copy) → Pairwise (IsCopied w.nodes w.time.now i) (sends_of ticked) cs → (log : List Fact) → AreEnded w.notes i (ended_of ticked) w.log log
+    → WorldRun overtake w (ticked_events i ticked) (after_call w i b cs log)
+tick_run overtake w i a b at None t cs copied log ended =
+    nothing_called w i a b at t.same cs (pairwise_none (IsCopied w.nodes w.time.now i) cs copied) log ended
+tick_run overtake w i a b at (Some o) t cs copied log ended = (
+  after_call w i b cs log,
+  record {
+    before = a;
+    at = at;
+    after = b;
+    outcome = o;
+    tick = t;
+    acts = acted w i a b o at cs copied log log ended (subst (λ f. AreLogged w.nodes w.notes i f log log) (sym t.performed) refl);
+  },
+  refl,
+)
+
+-- Runs.
+
+pub run_join : (overtake : ℕ) (es fs : List Event) (u v w : World) → WorldRun overtake u es v → WorldRun overtake v fs w → WorldRun overtake u (es ++ fs) w
+run_join overtake [] fs u v w h k = subst (λ (y : World). WorldRun overtake y fs w) h k
+run_join overtake (e ∷ es) fs u v w h k = (h.0, h.1, run_join overtake es fs h.0 v w h.2 k)
+
+-- The turn.
+
+-- what its node hears, by the buffer that the turn leaves
+pub turn_hears : (now : ℕ) (before : BoundNode) (turn : turns.Turn) (after : BoundNode) (t : IsSomeTurn now before turn after)
+    → turns.Hears now after.buffer turn.received before.node t.is.acts.middle turn.heard
+turn_hears now before turn after t =
+    subst (λ n. turns.Hears now after.buffer turn.received n t.is.acts.middle turn.heard) t.is.receives.node
+    (subst (λ l. turns.Hears now l turn.received t.is.middle.node t.is.acts.middle turn.heard) (sym t.is.acts.buffer) t.is.acts.hears)
+
+module _ (overtake : ℕ) (old : Plant) (i : ℕ) (source : Source) (turn : turns.Turn) (new : Plant) (t : TakesTurnAt overtake old i source turn new) where
+  abbrev acts : turns.Acts (shows old i) t.takes.is.middle turn t.after
+  acts = t.takes.is.acts
+
+  first_at : slice_get (nodes_of old.stations) i ≡ Some t.before.node
+  first_at = node_at old.stations i t.before t.at
+
+  hears : turns.Hears (shows old i) t.after.buffer turn.received t.before.node acts.middle turn.heard
+  hears = turn_hears (shows old i) t.before turn t.after t.takes
+
+  abbrev split : IsSplit (IsCopied (nodes_of old.stations) old.time.now i) (sends_of turn.heard) (sends_of turn.ticked) t.sent
+  split = pairwise_split (IsCopied (nodes_of old.stations) old.time.now i) (sends_of turn.heard) (sends_of turn.ticked) t.sent t.copied
+
+  abbrev Middle : World
+  Middle = after_call (world_of old) i acts.middle split.front t.entered.performed
+
+  second_at : slice_get Middle.nodes i ≡ Some acts.middle
+  second_at = get_set (nodes_of old.stations) i acts.middle (slice_get_within (nodes_of old.stations) i t.before.node first_at)
+
+  linked : (j : ℕ) → link_at Middle.nodes j ≡ link_at (nodes_of old.stations) j
+  linked = set_links (nodes_of old.stations) i t.before.node acts.middle first_at
+      (hears_link (shows old i) t.after.buffer turn.received t.before.node acts.middle turn.heard hears)
+
+  last : after_call Middle i t.after.node split.rest t.log ≡ world_of new
+  last =
+      ap (λ n. record Middle { nodes = n; copies = Middle.copies ++ split.rest; log = t.log })
+      (set_twice (nodes_of old.stations) i acts.middle t.after.node ∙ sym (nodes_set old.stations i t.after))
+      ∙ ap (λ l. record Middle { nodes = nodes_of (slice_set old.stations i t.after); copies = l; log = t.log })
+      (append_assoc old.copies split.front split.rest ∙ ap (λ l. old.copies ++ l) (sym split.is)) ∙ sym (ap world_of t.is)
+
+  pub turn_run : WorldRun overtake (world_of old) (heard_events i source turn.heard ++ ticked_events i turn.ticked) (world_of new)
+  turn_run = run_join overtake (heard_events i source turn.heard) (ticked_events i turn.ticked) (world_of old) Middle (world_of new)
+      (heard_run overtake old i t.before.node acts.middle first_at split.front t.entered.ended t.entered.performed source turn.received t.after.buffer
+      turn.heard hears t.comes split.first t.entered.ends t.entered.performs)
+      (subst (WorldRun overtake Middle (ticked_events i turn.ticked)) last
+      (tick_run overtake Middle i acts.middle t.after.node second_at turn.ticked acts.ticks split.rest
+      (all_copied_on (nodes_of old.stations) Middle.nodes linked old.time.now i (sends_of turn.ticked) split.rest split.second)
+      t.log t.entered.gives_up))

@@ -1,0 +1,64 @@
+-- After each run of a plant, whatever a call promises can be its next step.
+use Rattle.std.specs.Prelude.{◌≡◌, ℕ, List, Option, Some, None, slice_get}
+use Rattle.bac_apdu.specs.Apdu.{Limits}
+use Rattle.bac_service.specs.Values.{Request}
+use Rattle.bac_store.specs.AtNode.{Change, change_fault}
+use Rattle.bac_store.specs.Stores.{Store}
+use Rattle.bac_protocol.specs.Pace.{IsTimely, clock_at}
+use Rattle.bac_protocol.specs.Service.{Octets}
+use Rattle.bac_world.specs.Node.{restarted, store_after_restart, with_change}
+use Rattle.bac_world.specs.World.{IsBounded, IsFresh, link_at}
+use Rattle.bac_driver.specs.Asking.{IsBegun}
+use Rattle.bac_driver.specs.BoundNodes.{BoundNode}
+use Rattle.bac_driver.specs.Runs.{CannotReceive, Timed}
+use Rattle.bac_driver.specs.Turns.{Turn}
+use Rattle.bac_plant.specs.Network.{HandsOver, Source}
+use Rattle.bac_plant.specs.Plants.{Plant, nodes_of, shows, world_of}
+use Rattle.bac_plant.specs.Steps.{IsSomeTurn, PlantRun, PlantStep, Step, question}
+use Rattle.bac_plant.specs.Steps.Step.{Begins, Changes, FailsToReceive, Restarts, Takes}
+
+-- a run from a fresh plant led there
+pub record IsReached (W overtake : ℕ) (p : Plant) : Type 0 where
+  pub first : Plant
+  pub fresh : IsFresh (world_of first)
+  pub timely : IsTimely first.time.pace
+  pub bounded : IsBounded W overtake (world_of first)
+  pub steps : List Step
+  pub run : PlantRun overtake steps first p
+
+-- there is a plant after the step, in which that station is this one
+pub record LeadsTo (overtake : ℕ) (p : Plant) (step : Step) (station : ℕ) (after : BoundNode) : Type 0 where
+  pub new : Plant
+  pub goes : PlantStep overtake p step new
+  pub there : slice_get new.stations station ≡ Some after
+
+-- each turn of a station at the moment of its clock, by a datagram that the network may hand over
+abbrev pub TurnsGoOn : (overtake : ℕ) → Plant → Type 0
+TurnsGoOn overtake p =
+    (i : ℕ) (before : BoundNode) → slice_get p.stations i ≡ Some before → (turn : Turn) (after : BoundNode) → IsSomeTurn (shows p i) before turn after
+    → (source : Source) → HandsOver overtake p i source turn.received after.buffer → LeadsTo overtake p (Takes i source turn) i after
+
+-- each ask of another station that its node accepts
+abbrev pub AsksGoOn : (overtake : ℕ) → Plant → Type 0
+AsksGoOn overtake p =
+    (i server : ℕ) (before : BoundNode) → slice_get p.stations i ≡ Some before → (link : Octets) → link_at (nodes_of p.stations) server ≡ Some link
+    → (limits : Limits) (r : Request) (ticket : ℕ) (after : BoundNode) → IsBegun (shows p i) (question link limits r) before ticket after
+    → LeadsTo overtake p (Begins i server limits r) i after
+
+-- each call to receive that fails
+abbrev pub FailuresGoOn : (overtake : ℕ) → Plant → Type 0
+FailuresGoOn overtake p =
+    (i : ℕ) (old new : Timed) → slice_get p.stations i ≡ Some old.bound_node → CannotReceive old new → LeadsTo overtake p (FailsToReceive i) i new.bound_node
+
+-- each change of its own store that has no fault
+abbrev pub ChangesGoOn : (overtake : ℕ) → Plant → Type 0
+ChangesGoOn overtake p =
+    (i : ℕ) (before : BoundNode) → slice_get p.stations i ≡ Some before → (c : Change) → change_fault before.node.store c ≡ None
+    → LeadsTo overtake p (Changes i c) i (record before { node = with_change c before.node })
+
+-- each restart with a new clock, whatever its new link and buffer are
+abbrev pub RestartsGoOn : (overtake : ℕ) → Plant → Type 0
+RestartsGoOn overtake p =
+    (i : ℕ) (before : BoundNode) → slice_get p.stations i ≡ Some before → (exact : ℕ) (store : Option Store) (after : BoundNode)
+    → after.node ≡ restarted (clock_at p.time.pace exact).shows (store_after_restart before.node.store store) before.node
+    → LeadsTo overtake p (Restarts i exact store) i after

@@ -1,0 +1,28 @@
+-- A plant: stations that take turns on one network, each with a clock of its own, and what has happened there.
+use Rattle.std.specs.Prelude.{ℕ, List, map}
+use Rattle.bac_world.specs.Node.{Node}
+use Rattle.bac_world.specs.Once.{Fact}
+use Rattle.bac_world.specs.World.{Copy, Note, Time, World}
+use Rattle.bac_driver.specs.BoundNodes.{BoundNode}
+
+-- a station is a bound node: a node, what its link was asked to do, and its buffer
+pub record Plant : Type 0 where
+  pub stations : List BoundNode  -- numbered from 0
+  pub time : Time  -- real time, and the clock of each station
+  pub copies : List Copy  -- what stations gave their links to send, oldest first, numbered from 0
+  pub log : List Fact  -- what they asked, performed, ended and changed, newest first
+  pub notes : List Note  -- the transaction of each ask, newest first
+
+abbrev pub node_of : BoundNode → Node
+node_of b = b.node
+
+abbrev pub nodes_of : List BoundNode → List Node
+nodes_of stations = map node_of stations
+
+-- what a world knows of a plant: all but links and buffers
+abbrev pub world_of : Plant → World
+world_of p = record { nodes = nodes_of p.stations; time = p.time; copies = p.copies; log = p.log; notes = p.notes }
+
+-- what the clock of a station shows
+abbrev pub shows : Plant → (station : ℕ) → ℕ
+shows p i = (p.time.clocks i).shows

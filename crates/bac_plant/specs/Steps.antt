@@ -1,0 +1,134 @@
+-- What happens in a plant: time passes, and a station does what a call of bac_driver promises, at the moment that its clock shows.
+use Rattle.std.specs.Prelude.{◌≡◌, ℕ, List, ◌∷◌, ◌++◌, length, Option, Some, None, slice_get, slice_set}
+use Rattle.bac_apdu.specs.Apdu.{Limits}
+use Rattle.bac_service.specs.Values.{Request}
+use Rattle.bac_store.specs.AtNode as at_node
+use Rattle.bac_store.specs.AtNode.{change_fault}
+use Rattle.bac_store.specs.Stores.{Store}
+use Rattle.bac_protocol.specs.Pace.{clock_at}
+use Rattle.bac_protocol.specs.Service.{Octets}
+use Rattle.bac_transaction.specs.Sends.{Datagram, Pairwise}
+use Rattle.bac_world.specs.Node.{restarted, store_after_restart, with_change}
+use Rattle.bac_world.specs.Once.{Fact}
+use Rattle.bac_world.specs.Once.Fact.{Asked, Changed, Restarted}
+use Rattle.bac_world.specs.World.{AreEnded, AreLogged, Copy, IsCopied, Note, link_at, passes, peer_at, with_clock}
+use Rattle.bac_driver.specs.BoundNodes.{BoundNode}
+use Rattle.bac_driver.specs.Calls.{one_more, with_call}
+use Rattle.bac_driver.specs.Calls.Call.{FailedReceive}
+use Rattle.bac_driver.specs.Turns.{IsTurn, Turn, ended_of, performed_of, sends_of}
+use Rattle.bac_driver.specs.Runs.{Run}
+use Rattle.bac_driver.specs.Asking.{IsBegun, Question}
+use Rattle.bac_driver.specs.declared.wait_limit.WaitLimit.{WaitLimit}
+use Rattle.bac_plant.specs.Plants.{Plant, nodes_of, shows}
+use Rattle.bac_plant.specs.Network.{HandsOver, Source}
+
+pub data Step : Type 0 where
+  Passes : (by : ℕ) (own : ℕ → ℕ) → Step
+  Takes : (station : ℕ) (source : Source) (turn : Turn) → Step
+  FailsToReceive : (station : ℕ) → Step
+  Begins : (station server : ℕ) (limits : Limits) (request : Request) → Step
+  Changes : (station : ℕ) (change : at_node.Change) → Step
+  Restarts : (station exact : ℕ) (store : Option Store) → Step
+
+-- a station is another one now, and all others are as they were
+abbrev pub with_station : Plant → (station : ℕ) → BoundNode → Plant
+with_station p i after = record p { stations = slice_set p.stations i after }
+
+-- these datagrams, which a station gives its link, become these copies; one whose send fails is among them, and the network need not hand it over
+abbrev pub BecomeCopies : Plant → (station : ℕ) → List Datagram → List Copy → Type 0
+BecomeCopies p i sends sent = Pairwise (IsCopied (nodes_of p.stations) p.time.now i) sends sent
+
+-- ---- a turn
+
+-- the turn of a station as its call promises it, whatever the limit of its wait, and whenever it began
+pub record IsSomeTurn (now : ℕ) (before : BoundNode) (turn : Turn) (after : BoundNode) : Type 0 where
+  pub limit : WaitLimit
+  pub began : ℕ
+  pub is : IsTurn limit began now before turn after
+
+-- all that a turn returned enters the log: how asks ended by the datagram, what was performed, and how asks ended by the tick
+pub record AreEntered (p : Plant) (i : ℕ) (turn : Turn) (log : List Fact) : Type 0 where
+  pub ended : List Fact
+  pub performed : List Fact
+  pub ends : AreEnded p.notes i (ended_of turn.heard) p.log ended
+  pub performs : AreLogged (nodes_of p.stations) p.notes i (performed_of turn.heard) ended performed
+  pub gives_up : AreEnded p.notes i (ended_of turn.ticked) performed log
+
+-- a station takes a turn: what it received comes from there, what it sends becomes copies, and what it ended and performed enters the log
+pub record TakesTurnAt (overtake : ℕ) (old : Plant) (i : ℕ) (source : Source) (turn : Turn) (new : Plant) : Type 0 where
+  pub before : BoundNode
+  pub at : slice_get old.stations i ≡ Some before
+  pub after : BoundNode
+  pub takes : IsSomeTurn (shows old i) before turn after
+  pub comes : HandsOver overtake old i source turn.received after.buffer
+  pub sent : List Copy
+  pub copied : BecomeCopies old i (sends_of turn.heard ++ sends_of turn.ticked) sent
+  pub log : List Fact
+  pub entered : AreEntered old i turn log
+  pub is : new ≡ record (with_station old i after) { copies = old.copies ++ sent; log = log }
+
+-- its link could not receive: its count and its calls change, and the buffer may
+pub record FailsAt (old : Plant) (i : ℕ) (new : Plant) : Type 0 where
+  pub before : BoundNode
+  pub at : slice_get old.stations i ≡ Some before
+  pub after : BoundNode
+  pub node : after.node ≡ before.node
+  pub count : after.failures ≡ one_more before.failures
+  pub calls : after.calls ≡ with_call before.calls FailedReceive
+  pub is : new ≡ with_station old i after
+
+-- ---- an ask
+
+abbrev pub question : Octets → Limits → Request → Question
+question link limits r = record { peer = peer_at link; limits = limits; request = r }
+
+abbrev pub note_of : (client server invoke_id ticket : ℕ) → Note
+note_of client server invoke_id ticket = record { key = record { client = client; server = server; invoke_id = invoke_id }; ticket = ticket }
+
+-- a station begins an ask of another one: it has the next number, and what it sends becomes copies. A refused ask changes nothing.
+pub record AsksAt (old : Plant) (i server : ℕ) (limits : Limits) (r : Request) (new : Plant) : Type 0 where
+  pub before : BoundNode
+  pub at : slice_get old.stations i ≡ Some before
+  pub link : Octets
+  pub peer : link_at (nodes_of old.stations) server ≡ Some link
+  pub after : BoundNode
+  pub ticket : ℕ
+  pub begun : IsBegun (shows old i) (question link limits r) before ticket after
+  pub sent : List Copy
+  pub copied : BecomeCopies old i begun.sends sent
+  pub is : new ≡ record (with_station old i after) {
+    copies = old.copies ++ sent;
+    log = Asked (length old.notes) i server r ∷ old.log;
+    notes = note_of i server begun.accepted.invoke_id ticket ∷ old.notes;
+  }
+
+-- ---- the store, and restarts
+
+-- a station changes its own store, where that has no fault
+pub record ChangesAt (old : Plant) (i : ℕ) (c : at_node.Change) (new : Plant) : Type 0 where
+  pub before : BoundNode
+  pub at : slice_get old.stations i ≡ Some before
+  pub may : change_fault before.node.store c ≡ None
+  pub is : new ≡ record (with_station old i (record before { node = with_change c before.node })) { log = Changed i c ∷ old.log }
+
+-- a station restarts with a new clock, and with any link and buffer: its node waits, and has the store that it had or another one
+pub record RestartsAt (old : Plant) (i exact : ℕ) (store : Option Store) (new : Plant) : Type 0 where
+  pub before : BoundNode
+  pub at : slice_get old.stations i ≡ Some before
+  pub after : BoundNode
+  pub node : after.node ≡ restarted (clock_at old.time.pace exact).shows (store_after_restart before.node.store store) before.node
+  pub is : new ≡ record (with_station old i after) { time = with_clock old.time i exact; log = Restarted i store ∷ old.log }
+
+-- ---- steps, one after the other
+
+abbrev pub PlantStep : (overtake : ℕ) → Plant → Step → Plant → Type 0
+PlantStep overtake old (Passes by own) new = new ≡ record old { time = passes old.time by own }
+PlantStep overtake old (Takes station source turn) new = TakesTurnAt overtake old station source turn new
+PlantStep overtake old (FailsToReceive station) new = FailsAt old station new
+PlantStep overtake old (Begins station server limits request) new = AsksAt old station server limits request new
+PlantStep overtake old (Changes station change) new = ChangesAt old station change new
+PlantStep overtake old (Restarts station exact store) new = RestartsAt old station exact store new
+
+-- the newest step comes first
+abbrev pub PlantRun : (overtake : ℕ) → List Step → (old new : Plant) → Type 0
+PlantRun overtake steps old new = Run (PlantStep overtake) steps old new
