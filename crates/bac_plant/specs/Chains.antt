@@ -45,7 +45,7 @@ turns_of i [] = []
 turns_of i (Takes j source turn ∷ before) = if nat_eq j i then turn ∷ turns_of i before else turns_of i before
 turns_of i (step ∷ before) = turns_of i before
 
--- in a run that station takes turns, and does nothing else
+-- in a run that station takes turns and does nothing else
 abbrev pub TakesTurnsAlone : (station : ℕ) → List Step → Type 0
 TakesTurnsAlone i [] = Unit {0}
 TakesTurnsAlone i (FailsToReceive j ∷ before) = (j ≢ i) × TakesTurnsAlone i before

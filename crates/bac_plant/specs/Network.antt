@@ -22,11 +22,11 @@ pub record IsOfStation (overtake : ℕ) (p : Plant) (station number : ℕ) (from
   pub young : p.time.now - copy.moment ≤ p.time.pace.life
   pub few : later copy.key number p.copies ≤ overtake
 
--- what else it hands over means no APDU of a peer
-pub record IsOfOutside (from octets taken_from taken : Octets) : Type 0 where
-  pub link_is : taken_from ≡ from
-  pub whole : taken ≡ octets
-  pub noise : IsMeaningless from octets
+-- what else it hands over, from whatever link, means no APDU of a peer
+pub record IsOfOutside (sender sent from octets : Octets) : Type 0 where
+  pub link_is : from ≡ sender
+  pub whole : octets ≡ sent
+  pub noise : IsMeaningless sender sent
 
 -- a datagram comes from there
 abbrev pub ComesFrom : (overtake : ℕ) → Plant → (station : ℕ) → Source → (from octets : Octets) → Type 0

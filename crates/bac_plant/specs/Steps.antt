@@ -22,6 +22,8 @@ use Rattle.bac_driver.specs.declared.wait_limit.WaitLimit.{WaitLimit}
 use Rattle.bac_plant.specs.Plants.{Plant, nodes_of, shows}
 use Rattle.bac_plant.specs.Network.{HandsOver, Source}
 
+-- time passes, and each clock goes on; a station takes a turn, by a datagram from that source; its link fails to receive; it begins an ask of another
+-- station, changes its own store, or restarts
 pub data Step : Type 0 where
   Passes : (by : ℕ) (own : ℕ → ℕ) → Step
   Takes : (station : ℕ) (source : Source) (turn : Turn) → Step

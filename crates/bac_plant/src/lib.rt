@@ -23,7 +23,7 @@ ghost use Rattle.bac_plant.specs.NextSteps.{AsksGoOn, ChangesGoOn, FailuresGoOn,
 ghost use Rattle.bac_plant.specs.Plants.{Plant, nodes_of, world_of};
 ghost use Rattle.bac_plant.specs.Steps.{PlantRun, Step};
 
-/// The turns that stations take, their asks, changes and restarts are events of the world: a run of a plant is the run of its world through the events of its
+/// The turns that stations take, their asks, changes and restarts are events of a world: a run of a plant is the run of its world through the events of its
 /// steps. After a run of a fresh plant the log, which has all that turns returned as performed and ended, is right with the stores.
 #[tactic(auto, using(crate::proofs::Runs::run_events))]
 pub fn turns_are_events()
@@ -45,8 +45,8 @@ pub fn calls_go_on()
     ensures restarts { (overtake : ℕ) (p : Plant) → RestartsGoOn overtake p }
 {}
 
-/// What `serve`, `ask` and `pair` promise is a chain of turns of each station, for `ask` after an ask. The steps of a station that takes turns alone, in a run
-/// of a plant, are such a chain too, whatever other stations do between them; and by the law above each turn of a chain is a step.
+/// What `serve`, `ask` and `pair` promise is a chain of turns of each station, for `ask` after its ask. The turns of a station that does nothing else in a run
+/// of a plant are such a chain too, whatever other stations do between them; and by the law above each turn of a chain is a step.
 #[tactic(auto, using(crate::proofs::Chained::first_chain, crate::proofs::Chained::second_chain, crate::proofs::Chained::steps_chain))]
 pub fn chains_are_steps()
     ensures served { (p : WaitLimit) (turns effects : ℕ) (old new : Timed) → Serves p turns effects old new
