@@ -1,20 +1,22 @@
 -- Turns of one station, one after the other.
-use Rattle.std.proofs.Common.{inl, inr, map, ◌≡◌, ◌≢◌, ℕ, max, Bool, true, false, List, [], ◌∷◌, Some, slice_get, slice_set, nat_eq, if◌then◌else◌}
+use Rattle.std.proofs.Common.{inl, inr, map, ◌≡◌, ◌≢◌, ◌⊎◌, ℕ, max, Bool, true, false, List, [], ◌∷◌, Some, slice_get, slice_set, nat_eq, if◌then◌else◌}
 use Rattle.std.proofs.Common.{refl, sym, ap, subst, ◌∙◌, arith}
 use Rattle.std.proofs.lemmas.Bool.Decides.{nat_tests}
 use Rattle.std.proofs.lemmas.Option.{slice_get_within}
 use Rattle.bac_journal.proofs.Lists.{get_set, get_set_other}
 use Rattle.bac_driver.specs.BoundNodes.{BoundNode}
-use Rattle.bac_driver.specs.Asking.{AskingEnds, Asks, Question, StaysSo}
+use Rattle.bac_driver.specs.Asking.{AskingEnds, AskingFails, Asks, Question, StaysSo, StopsSo}
 use Rattle.bac_driver.specs.Pairs.{Pair, Round, TakesRound, turn_of_first}
-use Rattle.bac_driver.specs.Runs.{Run, TakesTurn, Timed, timed}
-use Rattle.bac_driver.specs.Serving.{Serves, TakesEarlyTurn}
+use Rattle.bac_driver.specs.Runs.{GoesBack, Run, TakesTurn, Timed, TurnFails, timed}
+use Rattle.bac_driver.specs.Serving.{Serves, ServingFails, TakesEarlyTurn}
 use Rattle.bac_driver.specs.Waits.{AT_ONCE}
 use Rattle.bac_driver.specs.declared.question.AskEnd.TheVariants as end
+use Rattle.bac_driver.specs.declared.fault.TurnFault.{TurnFault}
+use Rattle.bac_driver.specs.declared.fault.TurnFault.TheVariants as fault
 use Rattle.bac_driver.specs.Turns.{Turn}
 use Rattle.bac_driver.specs.declared.wait_limit.WaitLimit.{WaitLimit}
 use Rattle.bac_plant.proofs.Turned.{one_there}
-use Rattle.bac_plant.specs.Chains.{AsksInChain, Chain, ServesInChain, TakesSomeTurn, TakesTurnsAlone, turn_of_second, turns_of}
+use Rattle.bac_plant.specs.Chains.{AsksAndStops, AsksInChain, Chain, ServesInChain, StopsInChain, TakesSomeTurn, TakesTurnsAlone, turn_of_second, turns_of}
 use Rattle.bac_plant.specs.Network.{Source}
 use Rattle.bac_plant.specs.Plants.{Plant, shows}
 use Rattle.bac_plant.specs.Steps.{PlantRun, Step, TakesTurnAt}
@@ -65,6 +67,37 @@ waited_chain q p turns old new b = go b.rest_is
     go (inl all) = asks_first q p old b.ticket b.asked new b.begun all.taken (served_chain p all.taken b.asked new all.stays.run)
     go (inr some) = asks_first q p old b.ticket b.asked new b.begun some.taken
         (subst (λ n. Chain some.taken b.asked.bound_node n) (sym some.failed.same) (served_chain p some.taken b.asked some.middle some.stays.run))
+
+-- turns that were not taken
+
+pub serving_stops : (fault : TurnFault) (p : WaitLimit) (turns : ℕ) (old new : Timed) → ServingFails fault p turns old new → StopsInChain fault old new
+serving_stops fault.Link p turns old new f =
+    let s = f.stops in
+    record { turns = s.takes.taken; middle = s.middle; chain = served_chain p s.takes.taken old s.middle s.takes.run; failed = s.stopped }
+serving_stops fault.ClockBack p turns old new f =
+    let s = f.stops in
+    record { turns = s.takes.taken; middle = s.middle; chain = served_chain p s.takes.taken old s.middle s.takes.run; failed = s.stopped }
+
+stops_after : (fault : TurnFault) (p : WaitLimit) (turns ticket : ℕ) (old new : Timed) → StopsSo p turns (TurnFails fault) ticket old new
+    → StopsInChain fault old new
+stops_after fault p turns ticket old new s =
+    record { turns = s.taken; middle = s.middle; chain = served_chain p s.taken old s.middle s.stays.run; failed = s.failed }
+
+pub asking_stops : (q : Question) (fault : TurnFault) (p : WaitLimit) (turns : ℕ) (old new : Timed) → AskingFails q fault p turns old new
+    → GoesBack old new ⊎ AsksAndStops q fault old new
+asking_stops q fault.Link p turns old new b = inr (record {
+  ticket = b.ticket;
+  asked = b.asked;
+  asks = b.begun;
+  stops = stops_after fault.Link p turns b.ticket b.asked new b.rest_is;
+})
+asking_stops q fault.ClockBack p turns old new (inl back) = inl back
+asking_stops q fault.ClockBack p turns old new (inr b) = inr (record {
+  ticket = b.ticket;
+  asked = b.asked;
+  asks = b.begun;
+  stops = stops_after fault.ClockBack p turns b.ticket b.asked new b.rest_is;
+})
 
 -- rounds of two stations
 

@@ -1,11 +1,12 @@
 -- The turns that one station takes, whatever others do between them.
 use Rattle.std.specs.Prelude.{◌≡◌, ◌≢◌, ℕ, List, [], ◌∷◌, if◌then◌else◌, nat_eq}
-use Rattle.bac_driver.specs.Asking.{IsBegun, Question}
+use Rattle.bac_driver.specs.Asking.{Asks, IsBegun, Question}
 use Rattle.bac_driver.specs.BoundNodes.{BoundNode}
 use Rattle.bac_driver.specs.Turns.{Turn}
 use Rattle.bac_driver.specs.Pairs.{Round}
-use Rattle.bac_driver.specs.Runs.{Run}
+use Rattle.bac_driver.specs.Runs.{Run, Timed, TurnFails}
 use Rattle.bac_driver.specs.Serving.{performed_in}
+use Rattle.bac_driver.specs.declared.fault.TurnFault.{TurnFault}
 use Rattle.bac_plant.specs.Steps.{IsSomeTurn, Step}
 use Rattle.bac_plant.specs.Steps.Step.{Begins, Changes, FailsToReceive, Restarts, Takes}
 
@@ -32,6 +33,20 @@ pub record AsksInChain (q : Question) (before after : BoundNode) : Type 0 where
   pub begun : IsBegun now q before ticket asked
   pub turns : List Turn
   pub chain : Chain turns asked after
+
+-- a chain of turns, after which one was not taken, for that fault
+pub record StopsInChain (fault : TurnFault) (old new : Timed) : Type 0 where
+  pub turns : List Turn
+  pub middle : Timed
+  pub chain : Chain turns old.bound_node middle.bound_node
+  pub failed : TurnFails fault middle new
+
+-- the same after an ask
+pub record AsksAndStops (q : Question) (fault : TurnFault) (old new : Timed) : Type 0 where
+  pub ticket : ℕ
+  pub asked : Timed
+  pub asks : Asks q old ticket asked
+  pub stops : StopsInChain fault asked new
 
 -- what a round gave of the second of two stations
 abbrev pub turn_of_second : Round → Turn

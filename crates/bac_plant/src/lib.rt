@@ -5,19 +5,20 @@
 
 pub mod examples;
 
-ghost use Rattle.std.specs.Prelude.{◌≡◌, ℕ, List, map, Some, slice_get};
+ghost use Rattle.std.specs.Prelude.{◌≡◌, ◌⊎◌, ℕ, List, map, Some, slice_get};
 ghost use Rattle.bac_protocol.specs.Pace.{IsTimely};
 ghost use Rattle.bac_world.specs.Once.{IsOnce};
 ghost use Rattle.bac_world.specs.World.{IsBounded, IsFresh, WorldRun, stores_of};
 ghost use Rattle.bac_driver.specs.BoundNodes.{BoundNode};
-ghost use Rattle.bac_driver.specs.Asking.{AskingEnds, Question};
+ghost use Rattle.bac_driver.specs.Asking.{AskingEnds, AskingFails, Question};
 ghost use Rattle.bac_driver.specs.Pairs.{Pair, Round, TakesRound, turn_of_first};
-ghost use Rattle.bac_driver.specs.Runs.{Run, Timed};
-ghost use Rattle.bac_driver.specs.Serving.{Serves};
+ghost use Rattle.bac_driver.specs.Runs.{GoesBack, Run, Timed};
+ghost use Rattle.bac_driver.specs.Serving.{Serves, ServingFails};
 ghost use Rattle.bac_driver.specs.declared.question.AskEnd.TheVariants as end;
+ghost use Rattle.bac_driver.specs.declared.fault.TurnFault.{TurnFault};
 ghost use Rattle.bac_driver.specs.declared.wait_limit.WaitLimit.{WaitLimit};
 ghost use Rattle.bac_requester.specs.declared.ending.Ending.{Ending};
-ghost use Rattle.bac_plant.specs.Chains.{AsksInChain, Chain, ServesInChain, TakesTurnsAlone, turn_of_second, turns_of};
+ghost use Rattle.bac_plant.specs.Chains.{AsksAndStops, AsksInChain, Chain, ServesInChain, StopsInChain, TakesTurnsAlone, turn_of_second, turns_of};
 ghost use Rattle.bac_plant.specs.Events.{events_of};
 ghost use Rattle.bac_plant.specs.NextSteps.{AsksGoOn, ChangesGoOn, FailuresGoOn, IsReached, RestartsGoOn, TurnsGoOn};
 ghost use Rattle.bac_plant.specs.Plants.{Plant, nodes_of, world_of};
@@ -45,8 +46,9 @@ pub fn calls_go_on()
     ensures restarts { (overtake : ℕ) (p : Plant) → RestartsGoOn overtake p }
 {}
 
-/// What `serve`, `ask` and `pair` promise is a chain of turns of each station, for `ask` after its ask. The turns of a station that does nothing else in a run
-/// of a plant are such a chain too, whatever other stations do between them; and by the law above each turn of a chain is a step.
+/// What `serve`, `ask` and `pair` promise is a chain of turns of each station, for `ask` after its ask; for `serve` and `ask` also where a fault stops them.
+/// The turns of a station that does nothing else in a run of a plant are such a chain too, whatever other stations do between them; and by the law above
+/// each turn of a chain is a step.
 #[tactic(auto, using(crate::proofs::Chained::first_chain, crate::proofs::Chained::second_chain, crate::proofs::Chained::steps_chain))]
 pub fn chains_are_steps()
     ensures served { (p : WaitLimit) (turns effects : ℕ) (old new : Timed) → Serves p turns effects old new
@@ -55,6 +57,10 @@ pub fn chains_are_steps()
         → AsksInChain q old.bound_node new.bound_node }
     ensures waited { (q : Question) (p : WaitLimit) (turns : ℕ) (old new : Timed) → AskingEnds q end.NoEnding p turns old new
         → AsksInChain q old.bound_node new.bound_node }
+    ensures serving_failed { (fault : TurnFault) (p : WaitLimit) (turns : ℕ) (old new : Timed) → ServingFails fault p turns old new
+        → StopsInChain fault old new }
+    ensures asking_failed { (q : Question) (fault : TurnFault) (p : WaitLimit) (turns : ℕ) (old new : Timed) → AskingFails q fault p turns old new
+        → GoesBack old new ⊎ AsksAndStops q fault old new }
     ensures first { (rounds : List Round) (old new : Pair) → Run TakesRound rounds old new → Chain (map turn_of_first rounds) old.first new.first }
     ensures second { (rounds : List Round) (old new : Pair) → Run TakesRound rounds old new → Chain (map turn_of_second rounds) old.second new.second }
     ensures steps { (overtake station : ℕ) (steps : List Step) (old new : Plant) → PlantRun overtake steps old new → TakesTurnsAlone station steps
