@@ -1,5 +1,5 @@
 -- Worlds to which nothing has happened.
-use Rattle.std.proofs.Common.{◌≡◌, ◌⊎◌, ℕ, zero, suc, ◌+◌, ◌<◌, ◌≤◌, Bool, true, false, List, [], ◌∷◌, length, max, drop, Some, slice_get}
+use Rattle.std.proofs.Common.{◌≡◌, ◌⊎◌, ℕ, zero, suc, ◌+◌, ◌<◌, ◌≤◌, Bool, true, false, List, [], ◌∷◌, length, max, drop, None, Some, slice_get}
 use Rattle.std.proofs.Common.{nat_lt, refl, sym, ap, subst, inl, inr, ◌∙◌, arith}
 use Rattle.std.proofs.lemmas.Bool.Decides.{nat_tests}
 use Rattle.std.proofs.lemmas.Option.{slice_get_within}
@@ -16,7 +16,7 @@ use Rattle.bac_network.specs.Fresh.{Maker, fresh_world, greatest_window, links_o
 use Rattle.bac_network.specs.Fresh.{HasBadSlots, HasBadWindow, HaveSameLink, IsGood, IsRight, IsTaken}
 use Rattle.bac_network.specs.Histories.{WorldView, IsKept, as_world, view_of}
 use Rattle.bac_network.specs.declared.network.Network.{Network}
-use Rattle.bac_network.proofs.Clocks.{one_is_timely}
+use Rattle.bac_protocol.proofs.AtDrift.{lives}
 
 -- Windows.
 
@@ -150,7 +150,7 @@ module _ (overtake : ℕ) (makers : List Maker) (right : IsRight overtake makers
       first = first;
       events = [];
       fresh = fresh;
-      timely = one_is_timely;
+      timely = lives.today;
       bounded = bounded;
       opening = opened_fresh makers;
       run = refl;
@@ -167,13 +167,14 @@ module _ (overtake : ℕ) (makers : List Maker) (right : IsRight overtake makers
 
 -- what is made, as contracts see it
 pub made_is : (overtake : ℕ) (makers : List Maker) (opening : List Store) (n : Network) → opening ≡ opening_of makers → n.nodes.items ≡ nodes_of makers
-    → n.journal ≡ record (n.journal) { links = links_of makers; moment = 0; copies = []; notes = [] } → n.log.items ≡ []
+    → n.journal ≡ record (n.journal) { links = links_of makers; moment = 0; own = None; copies = []; notes = [] } → n.log.items ≡ []
     → view_of overtake opening n ≡ fresh_world overtake makers
 made_is overtake makers opening n a b d e =
     let moment : n.journal.moment ≡ 0 = ap (λ (j : JournalView). j.moment) d in
+    let own : n.journal.own ≡ None = ap (λ (j : JournalView). j.own) d in
     let copies : n.journal.copies ≡ [] = ap (λ (j : JournalView). j.copies) d in
     let notes : n.journal.notes ≡ [] = ap (λ (j : JournalView). j.notes) d in
-    rw (a, b, moment, copies, notes, e)
+    rw (a, b, moment, own, copies, notes, e)
 
 -- Tests of what is to be made.
 

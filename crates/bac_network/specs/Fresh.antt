@@ -1,5 +1,5 @@
 -- Which worlds are made, and what they are then.
-use Rattle.std.specs.Prelude.{◌≡◌, ◌<◌, ◌+◌, ◌*◌, ℕ, true, false, List, [], ◌∷◌, map, max, Some, slice_get}
+use Rattle.std.specs.Prelude.{◌≡◌, ◌<◌, ◌+◌, ◌*◌, ℕ, true, false, List, [], ◌∷◌, map, max, None, Some, slice_get}
 use Rattle.bac_protocol.specs.Service.{Octets}
 use Rattle.bac_store.specs.Stores.{Store}
 use Rattle.bac_world.specs.Node.{Node}
@@ -29,7 +29,7 @@ fresh_world overtake makers =
       overtake = overtake;
       opening = opening_of makers;
       nodes = nodes_of makers;
-      moment = 0;
+      time = record { moment = 0; own = None };
       copies = [];
       log = [];
       notes = [];

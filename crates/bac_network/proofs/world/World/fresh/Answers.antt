@@ -1,5 +1,5 @@
 -- What is made is fresh.
-use Rattle.std.proofs.Common.{◌≡◌, [], List, ap, ◌∙◌}
+use Rattle.std.proofs.Common.{◌≡◌, [], List, None, ap, ◌∙◌}
 use Rattle.bac_protocol.specs.Service.{Octets}
 use Rattle.bac_journal.specs.Journals.{JournalView}
 use Rattle.bac_network.specs.Fresh.{greatest_window, links_of, opening_of}
@@ -18,5 +18,5 @@ invariant_of-result c =
     (made_is c.args.overtake c.args.makers.items c.in_ok-opening.opening.items
     (record { nodes = c.in_ok-nodes.nodes; journal = c.in_ok-journal.journal; log = c.new-2.result })
     (c.in_ok-opening.ensures ∙ ap opening_of c.deref-2.ensures.value) c.in_ok-nodes.ensures
-    (c.in_ok-journal.ensures ∙ ap (λ (l : List Octets). record (c.in_ok-journal.journal) { links = l; moment = 0; copies = []; notes = [] }) are)
+    (c.in_ok-journal.ensures ∙ ap (λ (l : List Octets). record (c.in_ok-journal.journal) { links = l; moment = 0; own = None; copies = []; notes = [] }) are)
     c.new-2.ensures.items)
