@@ -22,7 +22,7 @@ use bac_store::Store;
 use std::alloc::Global;
 use std::marker::Model;
 
-/// Nodes in one simulated network, with a clock, the copies of the datagrams that they sent, and a log of what was asked, performed and answered.
+/// Nodes in one simulated network, with one clock or clocks of their own, the copies of the datagrams that they sent, and a log of what was asked, performed and answered.
 ///
 /// Whatever events happen, every accepted ask takes effect at most once, and exactly once where a service answer reached its client; the request performed and
 /// the answer are its own, whole; and each store is that of its node's last start, after what was performed and changed there since, in the log's order. A
@@ -176,7 +176,7 @@ impl World {
         Ok(())
     }
 
-    /// Whether two worlds are the same: the limit of overtaking, the opening stores, the nodes with their stores, the moment, the log, the copies, and the
+    /// Whether two worlds are the same: the limit of overtaking, the opening stores, the nodes with their stores and clocks, the moment, the log, the copies, and the
     /// notes of asks. It takes no memory.
     pub fn same(&self, other: &World) -> bool
         ensures { IsTrue result ↔ (self.now ≡ other.now) }
