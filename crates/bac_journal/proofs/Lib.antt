@@ -1,3 +1,4 @@
+pub mod Passing
 pub mod Lists
 pub mod Index
 pub mod Noted

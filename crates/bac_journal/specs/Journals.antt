@@ -1,5 +1,5 @@
 -- What contracts see of a journal.
-use Rattle.std.specs.Prelude.{◌≡◌, ℕ, ◌-◌, ◌≤◌, List, [], map, length, Some, slice_get, vec_capacity}
+use Rattle.std.specs.Prelude.{◌≡◌, ℕ, ◌-◌, ◌≤◌, List, [], map, length, Option, Some, slice_get, vec_capacity}
 use Rattle.std.specs.Global.{Vec}
 use Rattle.bac_protocol.specs.Service.{Octets}
 use Rattle.bac_world.specs.World as world
@@ -7,6 +7,7 @@ use Rattle.bac_journal.specs.declared.asks.Cell.{Cell}
 use Rattle.bac_journal.specs.declared.asks.Row.{Row}
 use Rattle.bac_journal.specs.declared.copies.Copy.{Copy}
 use Rattle.bac_journal.specs.declared.noting.Note.{Note}
+use Rattle.bac_journal.specs.Clocks.{OwnClocks}
 use Rattle.bac_journal.specs.Index.{places_of}
 use Rattle.bac_journal.specs.Notes.{notes_view}
 use Rattle.bac_journal.specs.Views.{copy_view}
@@ -21,10 +22,11 @@ pub record NoteRoom : Type 0 where
   pub notes : ℕ
   pub clients : List ClientRoom
 
--- the nodes' links, the moment, the copies and for how many more there is room, and the notes and for how many more there is room
+-- the nodes' links, the moment, the nodes' own clocks if they have some, the copies and for how many more there is room, and the notes and for how many more there is room
 pub record JournalView : Type 0 where
   pub links : List Octets
   pub moment : ℕ
+  pub own : Option OwnClocks
   pub copies : List world.Copy
   pub room : ℕ
   pub notes : List world.Note
@@ -49,6 +51,7 @@ pub record HasStrangerRoom (j : JournalView) (client : ℕ) : Type 0 where
 pub record AreSame (one other : JournalView) : Type 0 where
   pub links : one.links ≡ other.links
   pub moment : one.moment ≡ other.moment
+  pub own : one.own ≡ other.own
   pub copies : one.copies ≡ other.copies
   pub notes : one.notes ≡ other.notes
 
@@ -58,11 +61,12 @@ room_of r = record { tickets = vec_capacity r.numbers - length r.numbers.items; 
 abbrev pub note_room_of : List Note → (capacity : ℕ) → List Row → NoteRoom
 note_room_of notes capacity rows = record { notes = capacity - length notes; clients = map room_of rows }
 
-abbrev pub view_of : List Octets → (now : ℕ) → List Copy → (capacity : ℕ) → List Note → NoteRoom → JournalView
-view_of links now copies capacity notes note_room =
+abbrev pub view_of : List Octets → (now : ℕ) → Option OwnClocks → List Copy → (capacity : ℕ) → List Note → NoteRoom → JournalView
+view_of links now own copies capacity notes note_room =
     record {
       links = links;
       moment = now;
+      own = own;
       copies = map copy_view copies;
       room = capacity - length copies;
       notes = notes_view notes;

@@ -1,3 +1,4 @@
+pub mod Clocks
 pub mod Entering
 pub mod Views
 pub mod Index

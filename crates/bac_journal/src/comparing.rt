@@ -2,9 +2,11 @@
 ghost use Rattle.std.specs.Prelude.{◌≡◌, ◌↔◌, IsTrue, map, MatchBool};
 ghost use Rattle.std.specs.Option.{option_map};
 ghost use Rattle.bac_npdu.specs.Views.{peer_view};
+ghost use Rattle.bac_journal.specs.Clocks.{own_view, view_of_own};
 ghost use Rattle.bac_journal.specs.Notes.{note_view};
 ghost use Rattle.bac_journal.specs.Views.{key_view, copy_view};
 
+use crate::clocks::{NodeClock, OwnClocks};
 use crate::copies::Copy;
 use crate::noting::Note;
 use crate::transaction::Transaction;
@@ -100,6 +102,64 @@ pub(crate) fn are_same_notes(ones: &[Note], others: &[Note]) -> bool
         }
     }
     true
+}
+
+fn is_same_clock(one: &NodeClock, other: &NodeClock) -> bool
+    ensures { MatchBool result (one.now ≡ other.now) (one.now ≡ other.now → ⊥) }
+{
+    if one.exact != other.exact {
+        return false;
+    }
+    if one.since != other.since {
+        return false;
+    }
+    one.rate == other.rate
+}
+
+/// Whether both are the same clocks in the same order.
+fn are_same_nodes(ones: &[NodeClock], others: &[NodeClock]) -> bool
+    ensures { MatchBool result (ones.now ≡ others.now) (ones.now ≡ others.now → ⊥) }
+{
+    if ones.len() != others.len() {
+        return false;
+    }
+    for at in 0..ones.len() {
+        if !is_same_clock(&ones[at], &others[at]) {
+            return false;
+        }
+    }
+    true
+}
+
+fn are_same_own(one: &OwnClocks, other: &OwnClocks) -> bool
+    ensures { MatchBool result (own_view one.now ≡ own_view other.now) (own_view one.now ≡ own_view other.now → ⊥) }
+{
+    if one.elapsed != other.elapsed {
+        return false;
+    }
+    if one.pace.drift != other.pace.drift {
+        return false;
+    }
+    if one.pace.life != other.pace.life {
+        return false;
+    }
+    are_same_nodes(&one.nodes, &other.nodes)
+}
+
+/// Whether nodes have the same clocks in both.
+pub(crate) fn are_same_clocks(one: &Option<OwnClocks>, other: &Option<OwnClocks>) -> bool
+    ensures { MatchBool result (view_of_own one.now ≡ view_of_own other.now) (view_of_own one.now ≡ view_of_own other.now → ⊥) }
+{
+    match one {
+        Some(one) => match other {
+            Some(other) => are_same_own(one, other),
+            None => false,
+        },
+        None => match other {
+            Some(_other) => false,
+            None => true,
+        },
+    }
 }
 
 /// Whether both are the same links in the same order.

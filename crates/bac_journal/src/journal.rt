@@ -1,10 +1,11 @@
 //! What a simulated network keeps beside its nodes.
-ghost use Rattle.std.specs.Prelude.{◌≡◌, ◌↔◌, ◌+◌, ◌<◌, ◌≤◌, ◌≢◌, ℕ, IfOk, IfSome, IsNone, IsSome};
+ghost use Rattle.std.specs.Prelude.{◌≡◌, ◌↔◌, ◌+◌, ◌*◌, ◌<◌, ◌≤◌, ◌≢◌, ℕ, IfOk, IfSome, IsNone, IsSome};
 ghost use Rattle.std.specs.Prelude.{IsTrue, OnOk, OnErr, List, [], ◌∷◌, None, Some, length, map, slice_get};
-ghost use Rattle.bac_protocol.specs.declared.times.TheConstants.{LIFE};
+ghost use Rattle.bac_protocol.specs.Pace.{clock_at};
 ghost use Rattle.bac_world.specs.Node.{Node};
 ghost use Rattle.bac_world.specs.World as world;
-ghost use Rattle.bac_world.specs.World.{ask_of, is_away, is_deliverable, newest};
+ghost use Rattle.bac_world.specs.World.{ask_of, is_away, is_deliverable, newest, passes, with_clock};
+ghost use Rattle.bac_journal.specs.Clocks.{clock_of, drift_of, fresh_clocks, later_by, pace_of, paced, parts_of, restart_at, restarted_own, steps_of, time_of};
 ghost use Rattle.bac_journal.specs.Entering.{tickets_of};
 ghost use Rattle.bac_journal.specs.Growing.{BecomeCopies, CanGo};
 ghost use Rattle.bac_journal.specs.Journals.{AreEmpty, AreFresh, AreSame, HasNoteRoom, HasStrangerRoom, IsFreshRow, JournalView};
@@ -13,23 +14,26 @@ ghost use Rattle.bac_journal.specs.Views.{copy_view, key_view, AreLinks};
 
 use crate::arriving::deliverable;
 use crate::asks::{Cell, Row, known, number_of, reserve_ask, reserve_ticket};
-use crate::comparing::{are_same_copies, are_same_links, are_same_notes};
+use crate::clocks::{OwnClocks, Pace, pass, restart, set_rate, starting_clocks, told};
+use crate::comparing::{are_same_clocks, are_same_copies, are_same_links, are_same_notes};
 use crate::copies::{Copy, node_at};
 use crate::noting::{Note, add_note, add_stranger_note, is_of_stranger};
 use crate::sending::send_all;
 use crate::transaction::Transaction;
 use bac_npdu::LinkAddress;
+use bac_protocol::times::LIFE;
 use bac_transaction::Datagram;
 use bac_value::NoMemory;
 use std::alloc::Global;
 use std::marker::Model;
 
-/// What a simulated network keeps beside its nodes: their links, the clock, and the copies of the datagrams that they sent. Whether a copy may arrive is
+/// What a simulated network keeps beside its nodes: their links, time and clocks, and the copies of the datagrams that they sent. Whether a copy may arrive is
 /// known from counts, so it costs the same however many there are.
 #[derive(Drop)]
 pub struct Journal {
     links: Vec<LinkAddress>,
     moment: u64,
+    own: Option<OwnClocks>,
     copies: Vec<Copy>,
     notes: Vec<Note>,
     rows: Vec<Row>,
@@ -37,15 +41,18 @@ pub struct Journal {
 
 impl Model for Journal {
     ghost use Rattle.std.specs.Prelude.{◌≡◌, length, map};
+    ghost use Rattle.bac_journal.specs.Clocks.{MayGo, view_of_own};
     ghost use Rattle.bac_journal.specs.Journals.{JournalView, note_room_of, view_of};
     ghost use Rattle.bac_journal.specs.Notes.{notes_view};
     ghost use Rattle.bac_journal.specs.Records.{IsKept};
 
     ghost Value = { JournalView };
 
-    ghost view = { λ j. view_of j.links.items j.moment j.copies.items j.copies.cap j.notes.items (note_room_of j.notes.items j.notes.cap j.rows.items) };
+    ghost view = { λ j. view_of j.links.items j.moment (view_of_own j.own) j.copies.items j.copies.cap j.notes.items
+        (note_room_of j.notes.items j.notes.cap j.rows.items) };
 
-    ghost invariant = { λ j. IsKept j.rows.items j.copies.items (notes_view j.notes.items) × (length j.rows.items ≡ length j.links.items) };
+    ghost invariant = { λ j. IsKept j.rows.items j.copies.items (notes_view j.notes.items) × (length j.rows.items ≡ length j.links.items)
+        × MayGo j.moment (length j.links.items) (view_of_own j.own) };
 }
 
 /// So many empty pages: each gets its cells as its server is asked.
@@ -86,19 +93,49 @@ impl Journal {
     /// Nothing has happened: the moment is 0. Places for the transactions of a client and a server are made as the one asks the other (`reserve_note`).
     /// `NoMemory` where memory is refused.
     pub fn new(alloc: Global, links: Vec<LinkAddress>) -> Result<Journal, NoMemory>
-        ensures { IfOk result (λ j. j ≡ record (j) { links = links.items; moment = 0; copies = []; notes = [] }) }
+        ensures { IfOk result (λ j. j ≡ record (j) { links = links.items; moment = 0; own = None; copies = []; notes = [] }) }
     {
         let rows = fresh_rows(alloc, links.len())?;
         Ok(Journal {
             links,
             moment: 0,
+            own: None,
             copies: Vec::new(alloc),
             notes: Vec::new(alloc),
             rows,
         })
     }
 
-    /// The moment, in milliseconds.
+    /// The same, where each node has a clock of its own, with that pace and from that start on, in milliseconds.
+    pub fn with_clocks(
+        alloc: Global,
+        links: Vec<LinkAddress>,
+        pace: Pace,
+        starts: &[u32],
+    ) -> Result<Journal, NoMemory>
+        requires slow { pace.drift < 1000000 }
+        requires each { length starts.now ≡ length links.items }
+        ensures { IfOk result (λ j. j ≡ record (j) {
+            links = links.items; moment = 0; own = Some (fresh_clocks pace.drift pace.life starts.now); copies = []; notes = []
+        }) }
+    {
+        let rows = fresh_rows(alloc, links.len())?;
+        let nodes = starting_clocks(alloc, starts)?;
+        Ok(Journal {
+            links,
+            moment: 0,
+            own: Some(OwnClocks {
+                elapsed: 0,
+                pace,
+                nodes,
+            }),
+            copies: Vec::new(alloc),
+            notes: Vec::new(alloc),
+            rows,
+        })
+    }
+
+    /// The moment of real time, in parts of a millisecond (`parts`).
     pub fn now(&self) -> u64
         ensures { result ≡ self.now.moment }
     {
@@ -119,14 +156,88 @@ impl Journal {
         &self.notes
     }
 
-    /// The clock goes on by so many milliseconds; None, and nothing changes, where the moment would pass 64 bits.
-    pub fn advance(&mut self, by: u64) -> Option<()>
-        ensures some { IsSome result → self.new ≡ record (self.old) { moment = self.old.moment + by } }
-        ensures none { IsNone result → self.new ≡ self.old }
-        ensures passes { IsNone result ↔ (u64.MAX < self.old.moment + by) }
+    /// How many parts a millisecond has: 1, and 1,000,000 where nodes have clocks of their own.
+    pub fn parts(&self) -> u64
+        ensures { result ≡ parts_of self.now.own }
     {
-        self.moment = self.moment.checked_add(by)?;
+        match &self.own {
+            Some(_own) => 1_000_000,
+            None => 1,
+        }
+    }
+
+    /// By how many parts in a million a node's clock may be fast or slow.
+    pub fn drift(&self) -> u32
+        ensures { result ≡ drift_of self.now.own }
+    {
+        match &self.own {
+            Some(own) => own.pace.drift,
+            None => 0,
+        }
+    }
+
+    /// What a node is told: the whole milliseconds of its clock.
+    pub fn told(&self, node: usize) -> u64
+        ensures { result ≡ (clock_of self.now.moment self.now.own node).shows }
+    {
+        told(&self.own, self.moment, node)
+    }
+
+    /// What a node is told that restarts now.
+    pub fn told_at_restart(&self) -> u64
+        ensures { result ≡ (clock_at (pace_of self.now.own) (restart_at self.now.moment self.now.own)).shows }
+    {
+        match &self.own {
+            Some(_own) => 0,
+            None => self.moment,
+        }
+    }
+
+    /// Time passes, so many milliseconds, and each clock goes on; None, and nothing changes, where the moment would pass 64 bits.
+    #[tactic(auto, using(crate::proofs::Passing::time_passes, crate::proofs::Passing::may_later))]
+    pub fn advance(&mut self, by: u64) -> Option<()>
+        ensures some { IsSome result → self.new
+            ≡ record (self.old) { moment = self.old.moment + parts_of self.old.own * by; own = later_by by self.old.own } }
+        ensures time { IsSome result → time_of self.new.moment self.new.own
+            ≡ passes (time_of self.old.moment self.old.own) (parts_of self.old.own * by) (steps_of self.old.own by) }
+        ensures none { IsNone result → self.new ≡ self.old }
+        ensures passes { IsNone result ↔ (u64.MAX < self.old.moment + parts_of self.old.own * by) }
+    {
+        let parts = self.parts().checked_mul(by)?;
+        self.moment = self.moment.checked_add(parts)?;
+        pass(&mut self.own, by);
         Some(())
+    }
+
+    /// From now on a node's clock goes on by so many parts in each millisecond, which is within the drift. Where all nodes have one clock nothing changes.
+    pub fn set_rate(&mut self, node: usize, rate: u32)
+        requires there { node < length self.old.links }
+        requires slow { 1000000 ≤ rate + drift_of self.old.own }
+        requires fast { rate ≤ 1000000 + drift_of self.old.own }
+        ensures is { self.new ≡ record (self.old) { own = paced node rate self.old.own } }
+        ensures time { time_of self.new.moment self.new.own ≡ time_of self.old.moment self.old.own }
+    {
+        set_rate(&mut self.own, node, rate);
+    }
+
+    /// A node's clock begins anew at 0, where it has its own.
+    pub fn restart_clock(&mut self, node: usize)
+        requires { node < length self.old.links }
+        ensures is { self.new ≡ record (self.old) { own = restarted_own node self.old.own } }
+        ensures time { time_of self.new.moment self.new.own
+            ≡ with_clock (time_of self.old.moment self.old.own) node (restart_at self.old.moment self.old.own) }
+    {
+        restart(&mut self.own, node);
+    }
+
+    /// How long a copy lives, in parts of a millisecond.
+    fn life(&self) -> u64
+        ensures { result ≡ (pace_of self.now.own).life }
+    {
+        match &self.own {
+            Some(own) => 1_000_000 * u64::from(own.pace.life),
+            None => LIFE,
+        }
     }
 
     /// The node at a link, by its number; None where there is none. It takes no memory.
@@ -144,14 +255,21 @@ impl Journal {
         self.links.get(node).copied()
     }
 
-    /// Whether a copy may arrive now: it was sent at most 5,000 ms ago, and at most so many later copies are of its transaction. None where there is no
+    /// Whether a copy may arrive now: it was sent no longer ago than a copy lives, and at most so many later copies are of its transaction. None where there is no
     /// such copy. It takes no memory.
     pub fn is_deliverable(&self, overtake: u8, number: usize) -> Option<bool>
         ensures none { slice_get self.now.copies number ≡ None → result ≡ None }
         ensures is { (c : world.Copy) → slice_get self.now.copies number ≡ Some c
-            → result ≡ Some (is_deliverable overtake LIFE self.now.moment number self.now.copies c) }
+            → result ≡ Some (is_deliverable overtake (pace_of self.now.own).life self.now.moment number self.now.copies c) }
     {
-        deliverable(overtake, self.moment, &self.copies, &self.rows, number)
+        deliverable(
+            overtake,
+            self.life(),
+            self.moment,
+            &self.copies,
+            &self.rows,
+            number,
+        )
     }
 
     /// The newest ask of a transaction, by its number; None where there is none. It takes no memory.
@@ -256,11 +374,14 @@ impl Journal {
         add_stranger_note(&mut self.notes, &mut self.rows, note);
     }
 
-    /// Whether both have the same links, moment, copies and notes; it doesn't matter for how many more there is room. It takes no memory.
+    /// Whether both have the same links, moment, clocks, copies and notes; it doesn't matter for how many more there is room. It takes no memory.
     pub fn same(&self, other: &Journal) -> bool
         ensures { IsTrue result ↔ AreSame self.now other.now }
     {
         if self.moment != other.moment {
+            return false;
+        }
+        if !are_same_clocks(&self.own, &other.own) {
             return false;
         }
         if !are_same_links(&self.links, &other.links) {

@@ -3,6 +3,7 @@
 
 mod arriving;
 mod asks;
+mod clocks;
 mod comparing;
 mod copies;
 mod journal;
@@ -13,6 +14,7 @@ mod transaction;
 
 ghost use Rattle.bac_journal.specs.Entering.{RunsCanGoOn};
 
+pub use clocks::Pace;
 pub use copies::Copy;
 pub use journal::Journal;
 pub use meaning::is_meaningless;

@@ -23,7 +23,7 @@ use Rattle.bac_journal.specs.Views.{AreLinks}
 use Rattle.bac_network.specs.Asks.{CanAsk, CanBeNoted, IsNotedAsk, TellsFault}
 use Rattle.bac_network.specs.Clocks.{time_at}
 use Rattle.bac_network.specs.Goings.{Goes}
-use Rattle.bac_network.specs.Networks.{world_of}
+use Rattle.bac_network.specs.Networks.{told_in, world_of}
 use Rattle.bac_network.specs.Steps.{HappensTelling, refusal_of}
 use Rattle.bac_network.specs.Views.{log_view}
 use Rattle.bac_network.specs.declared.fault.WorldFault.{WorldFault}
@@ -43,10 +43,10 @@ pub record AskEnters (W : ℕ) (n : Network) (client server invoke_id ticket : �
 
 module _ (n : Network) (client server : ℕ) (can : CanAsk client server n) (b : Node) (there : slice_get n.nodes.items server ≡ Some b)
     (limits : Limits) (r : Request) (nodes : List Node) (x : code.Asked)
-    (before : List Node) (are : before ≡ n.nodes.items) (link : Octets) (to : link ≡ b.link) (now : ℕ) (is : now ≡ n.journal.moment)
+    (before : List Node) (are : before ≡ n.nodes.items) (link : Octets) (to : link ≡ b.link) (now : ℕ) (is : now ≡ (told_in n client))
     (went : Goes before client (λ a c. node.IsAsked now (peer_at link) limits r a c x) nodes) where
-  g : Goes n.nodes.items client (λ a c. node.IsAsked n.journal.moment (peer_at b.link) limits r a c x) nodes
-  g = subst (λ l. Goes l client (λ a c. node.IsAsked n.journal.moment (peer_at b.link) limits r a c x) nodes) are
+  g : Goes n.nodes.items client (λ a c. node.IsAsked (told_in n client) (peer_at b.link) limits r a c x) nodes
+  g = subst (λ l. Goes l client (λ a c. node.IsAsked (told_in n client) (peer_at b.link) limits r a c x) nodes) are
       (subst (λ (t : ℕ). Goes before client (λ a c. node.IsAsked t (peer_at b.link) limits r a c x) nodes) is
       (subst (λ (l : Octets). Goes before client (λ a c. node.IsAsked now (peer_at l) limits r a c x) nodes) to went))
 
@@ -54,7 +54,7 @@ module _ (n : Network) (client server : ℕ) (can : CanAsk client server n) (b :
   linked = ap (λ (o : Option Node). option_map (λ (m : Node). m.link) o) there
 
   -- its note is the one that is accepted
-  note_is : (k : node.IsAsked n.journal.moment (peer_at b.link) limits r g.before g.after x)
+  note_is : (k : node.IsAsked (told_in n client) (peer_at b.link) limits r g.before g.after x)
       → note_of client server x.invoke_id x.ticket ≡ note_of client server k.accepted.invoke_id k.accepted.ticket
   note_is k = λ i. note_of client server (k.invoke_id i) (k.ticket i)
 
@@ -70,7 +70,7 @@ module _ (n : Network) (client server : ℕ) (can : CanAsk client server n) (b :
           client_there = link_within n.nodes.items n.journal.links can.ready.linked client g.before g.at;
           room = can.note;
           counted =
-              let same = k.ticket ∙ ticket_is n.journal.moment b.link limits r g.before g.after k.accepted x.sends.items k.asks in
+              let same = k.ticket ∙ ticket_is (told_in n client) b.link limits r g.before g.after k.accepted x.sends.items k.asks in
               let few = can.ready.can.counted client g.before g.at in
               omega arith;
         };
@@ -92,7 +92,7 @@ module _ (n : Network) (client server : ℕ) (can : CanAsk client server n) (b :
         sends = x.sends.items;
         asks = k.asks;
         nodes = subst (λ l. IsWithNode n.nodes.items client g.after l) (sym same) g.nodes;
-        time = ap time_at h.moment;
+        time = λ i. time_at (record { moment = h.moment i; own = h.own i });
         sent = h.sent.sent;
         copies = h.sent.copies;
         copied = h.sent.copied;
@@ -121,6 +121,7 @@ noted_ask nodes client server r invoke_id ticket sends old mid new facts facts' 
       notes = ap (λ (j : JournalView). j.notes) sent ∙ ap (λ (j : JournalView). j.notes) noted;
       log = log ∙ ap (λ (k : ℕ). Fact.Asked k client server r ∷ facts) count;
       moment = ap (λ (j : JournalView). j.moment) sent ∙ moment;
+      own = ap (λ (j : JournalView). j.own) sent ∙ ap (λ (j : JournalView). j.own) noted;
       links = ap (λ (j : JournalView). j.links) sent ∙ links;
     }
 
@@ -131,7 +132,7 @@ module _ (overtake : ℕ) (n n' : Network) (client server : ℕ) (can : CanAsk c
   abbrev event : Event
   event = Ask client server limits r
 
-  refused_for : (refusal : Refusal) → NodeRefuses n.journal.moment (peer_at b.link) limits r a refusal
+  refused_for : (refusal : Refusal) → NodeRefuses (told_in n client) (peer_at b.link) limits r a refusal
       → IsRefused (world_of n) client server limits r (world_of n')
   refused_for refusal why = record {
     node = a;
@@ -143,7 +144,7 @@ module _ (overtake : ℕ) (n n' : Network) (client server : ℕ) (can : CanAsk c
     same = same;
   }
 
-  tells : (f : AskFault) (refusal : Refusal) → refusal_of f ≡ Some refusal → NodeRefuses n.journal.moment (peer_at b.link) limits r a refusal
+  tells : (f : AskFault) (refusal : Refusal) → refusal_of f ≡ Some refusal → NodeRefuses (told_in n client) (peer_at b.link) limits r a refusal
       → (q : Result (Option AskFault) WorldFault) → q ≡ Ok (Some f) → HappensTelling overtake (world_of n) event q (world_of n')
   unfolding refused_for
   tells f refusal of why q is =
@@ -154,9 +155,9 @@ module _ (overtake : ℕ) (n n' : Network) (client server : ℕ) (can : CanAsk c
   no_none : (m : ℕ) → (c : Node) → slice_get n.nodes.items m ≡ Some c → slice_get n.nodes.items m ≡ None → ⊥
   no_none m c some none = let e : None ≡ Some c = sym none ∙ some in cc
 
-  pub refused_as : (f : AskFault) → Refuses f n.journal.moment (peer_at b.link) limits r a → (q : Result (Option AskFault) WorldFault) → TellsFault f q
+  pub refused_as : (f : AskFault) → Refuses f (told_in n client) (peer_at b.link) limits r a → (q : Result (Option AskFault) WorldFault) → TellsFault f q
       → HappensTelling overtake (world_of n) event q (world_of n')
-  refused_as ask_fault.ClockBack why q is = let late : a.latest ≤ n.journal.moment = can.ready.can.punctual client a at in absurd (omega arith)
+  refused_as ask_fault.ClockBack why q is = let late : a.latest ≤ (told_in n client) = can.ready.can.punctual client a at in absurd (omega arith)
   refused_as ask_fault.SelfPeer why q is = tells ask_fault.SelfPeer _ refl why q is
   refused_as ask_fault.TooLong why q is = tells ask_fault.TooLong _ refl why q is
   refused_as ask_fault.NeedsSegments why q is = tells ask_fault.NeedsSegments _ refl why q is
@@ -169,12 +170,12 @@ module _ (overtake : ℕ) (n n' : Network) (client server : ℕ) (can : CanAsk c
 -- the same, as the call tells it
 pub told_so : (overtake : ℕ) (n n' : Network) (client server : ℕ) → CanAsk client server n → (b : Node) → slice_get n.nodes.items server ≡ Some b
     → (limits : Limits) (r : Request) → world_of n' ≡ world_of n → (before after : List Node) → before ≡ n.nodes.items → (link : Octets) → link ≡ b.link
-    → (now : ℕ) → now ≡ n.journal.moment → (f : AskFault) → Goes before client (λ a c. Refuses f now (peer_at link) limits r a) after
+    → (now : ℕ) → now ≡ (told_in n client) → (f : AskFault) → Goes before client (λ a c. Refuses f now (peer_at link) limits r a) after
     → (q : Result (Option AskFault) WorldFault) → TellsFault f q
     → HappensTelling overtake (world_of n) (Ask client server limits r) q (world_of n')
 told_so overtake n n' client server can b there limits r same before after are link to now is f g q tells =
     let at : slice_get n.nodes.items client ≡ Some g.before = subst (λ l. slice_get l client ≡ Some g.before) are g.at in
-    let why : Refuses f n.journal.moment (peer_at b.link) limits r g.before =
+    let why : Refuses f (told_in n client) (peer_at b.link) limits r g.before =
     subst (λ (t : ℕ). Refuses f t (peer_at b.link) limits r g.before) is
     (subst (λ (l : Octets). Refuses f now (peer_at l) limits r g.before) to g.goes) in
     refused_as overtake n n' client server can b there g.before at limits r same f why q tells

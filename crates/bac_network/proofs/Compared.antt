@@ -39,7 +39,7 @@ worlds_alike v w opening stores one other limit opened nodes log journal =
       overtake = limit i;
       opening = before i;
       nodes = now i;
-      moment = journal.moment i;
+      time = record { moment = journal.moment i; own = journal.own i };
       copies = journal.copies i;
       log = reverse (log i);
       notes = journal.notes i;
@@ -63,7 +63,8 @@ pub same_journals : (v w : ℕ) (opening stores : List Store) (one other : Netwo
 same_journals v w opening stores one other a b same =
     record {
       links = same_links one.nodes.items other.nodes.items one.journal.links other.journal.links (ap (λ (w : WorldView). w.nodes) same) a b;
-      moment = ap (λ (w : WorldView). w.moment) same;
+      moment = ap (λ (w : WorldView). w.time.moment) same;
+      own = ap (λ (w : WorldView). w.time.own) same;
       copies = ap (λ (w : WorldView). w.copies) same;
       notes = ap (λ (w : WorldView). w.notes) same;
     }

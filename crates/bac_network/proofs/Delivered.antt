@@ -3,7 +3,6 @@ use Rattle.std.proofs.Common.{◌≡◌, ℕ, zero, suc, ◌+◌, ◌<◌, ◌�
 use Rattle.std.proofs.Common.{refl, sym, ap, subst, inl, inr, ◌∙◌, arith}
 use Rattle.std.proofs.lemmas.Option.{slice_get_within}
 use Rattle.std.specs.Option.{option_map}
-use Rattle.bac_protocol.specs.declared.times.TheConstants.{LIFE}
 use Rattle.bac_protocol.specs.Service.{Octets}
 use Rattle.bac_node.specs.Calls.{ticked}
 use Rattle.bac_world.specs.Laws.{IsMeaningless}
@@ -16,10 +15,11 @@ use Rattle.bac_world.proofs.Pairs.{append_none}
 use Rattle.bac_journal.specs.Entering.{CanEnter, CanGoOn}
 use Rattle.bac_journal.specs.Journals.{JournalView}
 use Rattle.bac_journal.specs.Views.{AreLinks}
-use Rattle.bac_network.specs.Clocks.{time_at}
+use Rattle.bac_journal.specs.Clocks.{pace_of}
+use Rattle.bac_network.specs.Clocks.{instant, time_at, told_at}
 use Rattle.bac_network.specs.Entries.{CanBeEntered, IsEntered, performances}
 use Rattle.bac_network.specs.Goings.{Arrives, Goes, IsBetween, IsDue, IsHeardCopy}
-use Rattle.bac_network.specs.Networks.{world_of, world_with, AreAlike, IsReady}
+use Rattle.bac_network.specs.Networks.{told_in, world_of, AreAlike, IsReady}
 use Rattle.bac_network.specs.Steps.{TakesMemory}
 use Rattle.bac_network.specs.Views.{log_view}
 use Rattle.bac_network.specs.declared.network.Network.{Network}
@@ -28,15 +28,19 @@ use Rattle.bac_network.proofs.Entered.{acts_as, can_be_entered}
 -- More room changes nothing.
 
 pub world_alike : (m n : Network) → AreAlike m n → world_of n ≡ world_of m
-world_alike m n a =
-    ap (λ nodes. world_with nodes.items n.journal (log_view n.log.items)) a.nodes
-    ∙ ap (λ t. record { nodes = m.nodes.items; time = time_at t; copies = n.journal.copies; log = log_view n.log.items; notes = n.journal.notes }) a.moment
-    ∙ ap (λ copies. record { nodes = m.nodes.items; time = time_at m.journal.moment; copies = copies; log = log_view n.log.items; notes = n.journal.notes })
-    a.copies
-    ∙ ap (λ log. record { nodes = m.nodes.items; time = time_at m.journal.moment; copies = m.journal.copies; log = log_view log; notes = n.journal.notes })
-    a.log
-    ∙ ap (λ notes. record { nodes = m.nodes.items; time = time_at m.journal.moment; copies = m.journal.copies; log = log_view m.log.items; notes = notes })
-    a.notes
+world_alike m n a = λ i. record {
+  nodes = (a.nodes i).items;
+  time = time_at (record { moment = a.moment i; own = a.own i });
+  copies = a.copies i;
+  log = log_view (a.log i);
+  notes = a.notes i;
+}
+
+told_alike : (m n : Network) → AreAlike m n → (node : ℕ) → told_in n node ≡ told_in m node
+told_alike m n a node = λ i. told_at (record { moment = a.moment i; own = a.own i }) node
+
+pub same_instant : (m n : Network) → AreAlike m n → instant n.journal ≡ instant m.journal
+same_instant m n a = λ i. record { moment = a.moment i; own = a.own i }
 
 pub ready_alike : (W overtake : ℕ) (m n : Network) → AreAlike m n → IsReady W overtake m → IsReady W overtake n
 ready_alike W overtake m n a r = record {
@@ -91,12 +95,12 @@ pub record CopyEnters (W : ℕ) (n : Network) (to : ℕ) (o : Outcome) : Type 0 
   pub facts : length o.ended + performances o.performed ≤ 2
 
 module _ (W overtake : ℕ) (n : Network) (r : IsReady W overtake n) (number : ℕ) (m : TakesMemory overtake (world_of n) (Deliver number)) where
-  young : (c : Copy) → slice_get n.journal.copies number ≡ Some c → is_deliverable overtake LIFE n.journal.moment number n.journal.copies c ≡ true
+  young : (c : Copy) → slice_get n.journal.copies number ≡ Some c → is_deliverable overtake (pace_of n.journal.own).life n.journal.moment number n.journal.copies c ≡ true
   young c at =
       let same : m.0 ≡ c = let e : Some m.0 ≡ Some c = sym m.1 ∙ at in cc in
-      subst (λ (d : Copy). is_deliverable overtake LIFE n.journal.moment number n.journal.copies d ≡ true) same m.2
+      subst (λ (d : Copy). is_deliverable overtake (pace_of n.journal.own).life n.journal.moment number n.journal.copies d ≡ true) same m.2
 
-  entering : (to : ℕ) (o : Outcome) (new : List Node) → IsHeardCopy n.nodes.items n.journal.moment n.journal.copies number to o new
+  entering : (to : ℕ) (o : Outcome) (new : List Node) → IsHeardCopy n.nodes.items (told_in n) n.journal.copies number to o new
       → CopyEnters W n to o
   entering to o new h = subst (λ (i : ℕ). CopyEnters W n i o) (sym h.receiver) (record {
     can = can_be_entered W overtake n r h.copy.to o enters.0;
@@ -109,12 +113,12 @@ module _ (W overtake : ℕ) (n : Network) (r : IsReady W overtake n) (number : �
       enters = r.can.hears number h.copy h.there (young h.copy h.there) h.link h.sender h.goes.before h.goes.after o h.goes.at h.goes.goes
 
   pub copy_enters : (nodes : List Node) → nodes ≡ n.nodes.items → (to : ℕ) (o : Outcome) (new : List Node)
-      → IsHeardCopy nodes n.journal.moment n.journal.copies number to o new → CopyEnters W n to o
+      → IsHeardCopy nodes (told_in n) n.journal.copies number to o new → CopyEnters W n to o
   copy_enters nodes are to o new h =
-      entering to o new (subst (λ l. IsHeardCopy l n.journal.moment n.journal.copies number to o new) are h)
+      entering to o new (subst (λ l. IsHeardCopy l (told_in n) n.journal.copies number to o new) are h)
 
-arrives_so : (n n' : Network) (number to : ℕ) (o : Outcome) → IsHeardCopy n.nodes.items n.journal.moment n.journal.copies number to o n'.nodes.items
-    → IsEntered n.nodes.items to o n.journal n'.journal (log_view n.log.items) (log_view n'.log.items) → n'.journal.moment ≡ n.journal.moment
+arrives_so : (n n' : Network) (number to : ℕ) (o : Outcome) → IsHeardCopy n.nodes.items (told_in n) n.journal.copies number to o n'.nodes.items
+    → IsEntered n.nodes.items to o n.journal n'.journal (log_view n.log.items) (log_view n'.log.items) → time_at (instant n'.journal) ≡ time_at (instant n.journal)
     → n'.journal.notes ≡ n.journal.notes → Arrives (world_of n) number (world_of n')
 arrives_so n n' number to o h entered moment notes = record {
   copy = h.copy;
@@ -137,13 +141,13 @@ arrives_so n n' number to o h entered moment notes = record {
 }
 
 pub arrives : (n n' : Network) (number to : ℕ) (o : Outcome) (nodes : List Node) → nodes ≡ n.nodes.items
-    → (after : List Node) → n'.nodes.items ≡ after → IsHeardCopy nodes n.journal.moment n.journal.copies number to o after
-    → IsEntered n.nodes.items to o n.journal n'.journal (log_view n.log.items) (log_view n'.log.items) → n'.journal.moment ≡ n.journal.moment
+    → (after : List Node) → n'.nodes.items ≡ after → IsHeardCopy nodes (told_in n) n.journal.copies number to o after
+    → IsEntered n.nodes.items to o n.journal n'.journal (log_view n.log.items) (log_view n'.log.items) → time_at (instant n'.journal) ≡ time_at (instant n.journal)
     → n'.journal.notes ≡ n.journal.notes → Arrives (world_of n) number (world_of n')
 arrives n n' number to o nodes are after fits h entered moment notes =
     arrives_so n n' number to o
-    (subst (λ l. IsHeardCopy n.nodes.items n.journal.moment n.journal.copies number to o l) (sym fits)
-    (subst (λ l. IsHeardCopy l n.journal.moment n.journal.copies number to o after) are h)) entered moment notes
+    (subst (λ l. IsHeardCopy n.nodes.items (told_in n) n.journal.copies number to o l) (sym fits)
+    (subst (λ l. IsHeardCopy l (told_in n) n.journal.copies number to o after) are h)) entered moment notes
 
 -- the copy that arrived is the one that is deliverable
 pub delivered : (overtake : ℕ) (old new : World) (number : ℕ) → TakesMemory overtake old (Deliver number) → Arrives old number new
@@ -175,41 +179,41 @@ pub record TickEnters (n : Network) (node : ℕ) (o : Outcome) : Type 0 where
   pub sender : node < length n.journal.links
   pub facts : length o.ended + performances o.performed ≤ length o.ended
 
-pub tick_enters : (W overtake : ℕ) (n : Network) → IsReady W overtake n → (node : ℕ) (o : Outcome) → IsDue n.nodes.items n.journal.moment node o
+pub tick_enters : (W overtake : ℕ) (n : Network) → IsReady W overtake n → (node : ℕ) (o : Outcome) → IsDue n.nodes.items (told_in n node) node o
     → TickEnters n node o
 tick_enters W overtake n r node o d = record {
-  can = can_be_entered W overtake n r node o (r.can.ticks node d.before (ticked n.journal.moment d.before) o d.at d.due);
+  can = can_be_entered W overtake n r node o (r.can.ticks node d.before (ticked (told_in n node) d.before) o d.at d.due);
   sender = link_within n.nodes.items n.journal.links r.linked node d.before d.at;
   facts = no_facts (length o.ended) o.performed d.due.performed;
 }
 
-pub ticks : (n n' : Network) (node : ℕ) (o : Outcome) → IsDue n.nodes.items n.journal.moment node o
-    → (nodes : List Node) → nodes ≡ n.nodes.items → (now : ℕ) → now ≡ n.journal.moment
+pub ticks : (n n' : Network) (node : ℕ) (o : Outcome) → IsDue n.nodes.items (told_in n node) node o
+    → (nodes : List Node) → nodes ≡ n.nodes.items → (now : ℕ) → now ≡ told_in n node
     → (new : List Node) → n'.nodes.items ≡ new → Goes nodes node (λ a b. b ≡ ticked now a) new
-    → IsEntered n.nodes.items node o n.journal n'.journal (log_view n.log.items) (log_view n'.log.items) → n'.journal.moment ≡ n.journal.moment
+    → IsEntered n.nodes.items node o n.journal n'.journal (log_view n.log.items) (log_view n'.log.items) → time_at (instant n'.journal) ≡ time_at (instant n.journal)
     → n'.journal.notes ≡ n.journal.notes → Ticks (world_of n) node (world_of n')
 ticks n n' node o d nodes are now is new fits went entered moment notes =
-    let g : Goes n.nodes.items node (λ a b. b ≡ ticked n.journal.moment a) n'.nodes.items =
-    subst (λ l. Goes n.nodes.items node (λ a b. b ≡ ticked n.journal.moment a) l) (sym fits)
-    (subst (λ l. Goes l node (λ a b. b ≡ ticked n.journal.moment a) new) are
+    let g : Goes n.nodes.items node (λ a b. b ≡ ticked (told_in n node) a) n'.nodes.items =
+    subst (λ l. Goes n.nodes.items node (λ a b. b ≡ ticked (told_in n node) a) l) (sym fits)
+    (subst (λ l. Goes l node (λ a b. b ≡ ticked (told_in n node) a) new) are
     (subst (λ (t : ℕ). Goes nodes node (λ a b. b ≡ ticked t a) new) is went)) in
     let same : d.before ≡ g.before = let e : Some d.before ≡ Some g.before = sym d.at ∙ g.at in cc in
-    let tick_is : g.after ≡ ticked n.journal.moment d.before = g.goes ∙ ap (ticked n.journal.moment) (sym same) in
+    let tick_is : g.after ≡ ticked (told_in n node) d.before = g.goes ∙ ap (ticked (told_in n node)) (sym same) in
     record {
       before = d.before;
       at = d.at;
       after = g.after;
       outcome = o;
-      tick = subst (λ (b : Node). NodeTick n.journal.moment d.before b o) (sym tick_is) d.due;
+      tick = subst (λ (b : Node). NodeTick (told_in n node) d.before b o) (sym tick_is) d.due;
       acts = acts_as n.nodes.items n'.nodes.items n.journal n'.journal (log_view n.log.items) (log_view n'.log.items) node g.after o g.nodes entered
           moment notes;
     }
 
-pub due_alike : (m n : Network) → AreAlike m n → (node now : ℕ) → now ≡ m.journal.moment → (a : Node) → slice_get m.nodes.items node ≡ Some a
-    → (o : Outcome) → NodeTick now a (ticked now a) o → IsDue n.nodes.items n.journal.moment node o
+pub due_alike : (m n : Network) → AreAlike m n → (node now : ℕ) → now ≡ told_in m node → (a : Node) → slice_get m.nodes.items node ≡ Some a
+    → (o : Outcome) → NodeTick now a (ticked now a) o → IsDue n.nodes.items (told_in n node) node o
 due_alike m n same node now is a at o due =
-    subst (λ v. IsDue v.items n.journal.moment node o) (sym same.nodes)
-    (subst (λ (t : ℕ). IsDue m.nodes.items t node o) (is ∙ sym same.moment) (record { before = a; at = at; due = due }))
+    subst (λ v. IsDue v.items (told_in n node) node o) (sym same.nodes)
+    (subst (λ (t : ℕ). IsDue m.nodes.items t node o) (is ∙ sym (told_alike m n same node)) (record { before = a; at = at; due = due }))
 
 -- Noise.
 
@@ -219,15 +223,15 @@ dropped_is now from octets a b o none (inl d) = d
 dropped_is now from octets a b o none (inr h) = absurd (none h.peer h.apdu h.means)
 
 pub noise_heard : (n n' : Network) (node : ℕ) (from octets : Octets) (o : Outcome) → IsMeaningless from octets
-    → (nodes : List Node) → nodes ≡ n.nodes.items → (now : ℕ) → now ≡ n.journal.moment
+    → (nodes : List Node) → nodes ≡ n.nodes.items → (now : ℕ) → now ≡ told_in n node
     → (new : List Node) → n'.nodes.items ≡ new → Goes nodes node (λ a b. NodeOn now from octets a b o) new → n'.journal ≡ n.journal → n'.log ≡ n.log
     → HearsNoise (world_of n) node from octets (world_of n')
 noise_heard n n' node from octets o noise nodes are now is new fits went journal log =
-    let g : Goes n.nodes.items node (λ a b. NodeOn n.journal.moment from octets a b o) n'.nodes.items =
-    subst (λ l. Goes n.nodes.items node (λ a b. NodeOn n.journal.moment from octets a b o) l) (sym fits)
-    (subst (λ l. Goes l node (λ a b. NodeOn n.journal.moment from octets a b o) new) are
+    let g : Goes n.nodes.items node (λ a b. NodeOn (told_in n node) from octets a b o) n'.nodes.items =
+    subst (λ l. Goes n.nodes.items node (λ a b. NodeOn (told_in n node) from octets a b o) l) (sym fits)
+    (subst (λ l. Goes l node (λ a b. NodeOn (told_in n node) from octets a b o) new) are
     (subst (λ (t : ℕ). Goes nodes node (λ a b. NodeOn t from octets a b o) new) is went)) in
-    let d = dropped_is n.journal.moment from octets g.before g.after o noise g.goes in
+    let d = dropped_is (told_in n node) from octets g.before g.after o noise g.goes in
     record {
       noise = noise;
       hears = record {
@@ -235,10 +239,10 @@ noise_heard n n' node from octets o noise nodes are now is new fits went journal
         at = g.at;
         after = g.after;
         outcome = dropped_for d.cause;
-        on = subst (NodeOn n.journal.moment from octets g.before g.after) d.outcome g.goes;
+        on = subst (NodeOn (told_in n node) from octets g.before g.after) d.outcome g.goes;
         acts = record {
           nodes = g.nodes;
-          time = ap (λ (j : JournalView). time_at j.moment) journal;
+          time = ap (λ (j : JournalView). time_at (instant j)) journal;
           notes = ap (λ (j : JournalView). j.notes) journal;
           sent = [];
           copies = ap (λ (j : JournalView). j.copies) journal ∙ sym (append_none n.journal.copies);

@@ -11,7 +11,7 @@ use Rattle.bac_journal.specs.Entering.{AreOfClient, CanEnter}
 use Rattle.bac_journal.specs.Journals.{JournalView}
 use Rattle.bac_journal.specs.Notes.{note_view, notes_view}
 use Rattle.bac_journal.specs.declared.noting.Note as code
-use Rattle.bac_network.specs.Clocks.{time_at}
+use Rattle.bac_network.specs.Clocks.{instant, time_at}
 use Rattle.bac_network.specs.Entries.{AreNoted, CanBeEntered, HaveClient, IsEntered}
 use Rattle.bac_network.specs.Networks.{world_of, world_with, IsReady}
 use Rattle.bac_network.specs.Views.{fact_view, log_view}
@@ -71,10 +71,10 @@ can_be_entered W overtake n r i o h = record {
 }
 
 pub acts_as : (nodes nodes' : List Node) (j j' : JournalView) (log log' : List once.Fact) (i : ℕ) (b : Node) (o : Outcome) → IsWithNode nodes i b nodes'
-    → IsEntered nodes i o j j' log log' → j'.moment ≡ j.moment → j'.notes ≡ j.notes → Acts (world_with nodes j log) i b o (world_with nodes' j' log')
-acts_as nodes nodes' j j' log log' i b o with_node h moment notes = record {
+    → IsEntered nodes i o j j' log log' → time_at (instant j') ≡ time_at (instant j) → j'.notes ≡ j.notes → Acts (world_with nodes j log) i b o (world_with nodes' j' log')
+acts_as nodes nodes' j j' log log' i b o with_node h time notes = record {
   nodes = with_node;
-  time = ap time_at moment;
+  time = time;
   notes = notes;
   sent = h.sent.sent;
   copies = h.sent.copies;

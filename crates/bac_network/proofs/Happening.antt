@@ -6,6 +6,7 @@ use Rattle.bac_protocol.specs.Service.{Octets}
 use Rattle.bac_store.specs.AtNode.{change_fault}
 use Rattle.bac_store.specs.Stores.{Store}
 use Rattle.bac_store.specs.declared.change_fault.ChangeFault.{ChangeFault}
+use Rattle.bac_network.specs.Clocks.{Instant}
 use Rattle.bac_network.specs.Histories.{WorldView}
 use Rattle.bac_requester.specs.declared.ask_fault.AskFault.{AskFault}
 use Rattle.bac_world.specs.Node.{Node}
@@ -24,9 +25,9 @@ no_link nodes i l e at =
 none_some : {A : Type 0} (o : Option A) (x : A) → o ≡ None → o ≡ Some x → ⊥
 none_some o x e at = let f : None ≡ Some x = sym e ∙ at in cc
 
-abbrev seen : ℕ → List Store → World → WorldView
-seen limit opening w =
-    record { overtake = limit; opening = opening; nodes = w.nodes; moment = w.time.now; copies = w.copies; log = w.log; notes = w.notes }
+abbrev seen : ℕ → List Store → World → Instant → WorldView
+seen limit opening w t =
+    record { overtake = limit; opening = opening; nodes = w.nodes; time = t; copies = w.copies; log = w.log; notes = w.notes }
 
 module _ (overtake : ℕ) (old new : World) where
   no_node : (e : Event) → WorldStep overtake old e new → NamesNoNode old e → ⊥
@@ -224,10 +225,10 @@ module _ (overtake : ℕ) (old new : World) where
     same_is (Err f) h = h.1
 
     -- in code the opening stores and the limit stay beside it
-    pub same_seen : (r : Result (Option AskFault) WorldFault) → How r → (limit : ℕ) (opening : List Store)
-        → OnErr r (seen limit opening new ≡ seen limit opening old)
-    same_seen (Ok told) h limit opening = tt
-    same_seen (Err f) h limit opening = ap (seen limit opening) h.1
+    pub same_seen : (r : Result (Option AskFault) WorldFault) → How r → (now then : Instant) → OnErr r (now ≡ then) → (limit : ℕ) (opening : List Store)
+        → OnErr r (seen limit opening new now ≡ seen limit opening old then)
+    same_seen (Ok told) h now then same limit opening = tt
+    same_seen (Err f) h now then same limit opening = λ i. seen limit opening (h.1 i) (same i)
 
 -- Want of memory.
 

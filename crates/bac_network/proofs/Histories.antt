@@ -101,3 +101,7 @@ module _ (window overtake : ℕ) (opening : List Store) (m n : Network) (links :
   kept_after e (Ok told) h = kept_more (k.history.events ++ e ∷ [])
       (run_more overtake k.history.events e k.history.first (world_of m) (world_of n) k.history.run h.0)
   kept_after e (Err f) h = kept_more k.history.events (subst (WorldRun overtake k.history.first k.history.events) (sym h.1) k.history.run)
+
+  -- where the world is the same
+  pub kept_same : world_of n ≡ world_of m → IsKept window n.journal.links (view_of overtake opening n)
+  kept_same same = kept_more k.history.events (subst (WorldRun overtake k.history.first k.history.events) (sym same) k.history.run)

@@ -1,4 +1,3 @@
-pub mod Clocks
 pub mod Histories
 pub mod Entered
 pub mod Happening

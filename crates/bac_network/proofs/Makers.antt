@@ -1,5 +1,5 @@
 -- Worlds to which nothing has happened.
-use Rattle.std.proofs.Common.{◌≡◌, ◌⊎◌, ℕ, zero, suc, ◌+◌, ◌<◌, ◌≤◌, Bool, true, false, List, [], ◌∷◌, length, max, drop, Some, slice_get}
+use Rattle.std.proofs.Common.{◌≡◌, ◌⊎◌, ℕ, zero, suc, ◌+◌, ◌<◌, ◌≤◌, Bool, true, false, List, [], ◌∷◌, length, max, drop, None, Some, slice_get}
 use Rattle.std.proofs.Common.{nat_lt, refl, sym, ap, subst, inl, inr, ◌∙◌, arith}
 use Rattle.std.proofs.lemmas.Bool.Decides.{nat_tests}
 use Rattle.std.proofs.lemmas.Option.{slice_get_within}
@@ -12,11 +12,15 @@ use Rattle.bac_world.proofs.Steps.{decide_number}
 use Rattle.bac_journal.specs.Entering.{Every}
 use Rattle.bac_journal.specs.Journals.{JournalView}
 use Rattle.bac_journal.specs.Views.{AreLinks}
-use Rattle.bac_network.specs.Fresh.{Maker, fresh_world, greatest_window, links_of, nodes_of, opening_of}
+use Rattle.bac_network.specs.Fresh.{Maker, fresh_at, greatest_window, links_of, nodes_of, opening_of}
 use Rattle.bac_network.specs.Fresh.{HasBadSlots, HasBadWindow, HaveSameLink, IsGood, IsRight, IsTaken}
+use Rattle.bac_protocol.specs.Pace.{IsTimely, clock_at}
+use Rattle.bac_journal.specs.Clocks.{OwnClocks, clock_of, pace_of}
+use Rattle.bac_network.specs.Clocks.{Instant}
 use Rattle.bac_network.specs.Histories.{WorldView, IsKept, as_world, view_of}
+use Rattle.bac_network.specs.Views.{log_view}
 use Rattle.bac_network.specs.declared.network.Network.{Network}
-use Rattle.bac_network.proofs.Clocks.{one_is_timely}
+use Rattle.bac_protocol.proofs.AtDrift.{lives}
 
 -- Windows.
 
@@ -83,9 +87,11 @@ less_or_more i j ne = go (nat_lt i j) refl
 
 -- The world.
 
-module _ (overtake : ℕ) (makers : List Maker) (right : IsRight overtake makers) where
+module _ (t : Instant) (zero : t.moment ≡ 0) (timely : IsTimely (pace_of t.own))
+    (shown : (i : ℕ) → clock_of t.moment t.own i ≡ clock_at (pace_of t.own) (clock_of t.moment t.own i).exact)
+    (overtake : ℕ) (makers : List Maker) (right : IsRight overtake makers) where
   abbrev first : World
-  first = as_world (fresh_world overtake makers)
+  first = as_world (fresh_at t overtake makers)
 
   apart : (i j : ℕ) (l : Octets) → link_at first.nodes i ≡ Some l → link_at first.nodes j ≡ Some l → i ≡ j
   apart i j l a b = go (decide_number i j)
@@ -128,8 +134,8 @@ module _ (overtake : ℕ) (makers : List Maker) (right : IsRight overtake makers
         let m = maker_of makers i n at in
         subst IsFreshNode m.2 (record { latest = refl; slots = refl; asked = refl; asks_from = refl; entries = refl; serves_from = refl });
     apart = apart;
-    now = refl;
-    clocks = λ i. refl;
+    now = zero;
+    clocks = shown;
     copies = refl;
     log = refl;
     notes = refl;
@@ -144,13 +150,13 @@ module _ (overtake : ℕ) (makers : List Maker) (right : IsRight overtake makers
     room = omega (arith, right.bound);
   }
 
-  kept_fresh : IsKept (greatest_window makers) (links_of makers) (fresh_world overtake makers)
+  kept_fresh : IsKept (greatest_window makers) (links_of makers) (fresh_at t overtake makers)
   kept_fresh = record {
     history = record {
       first = first;
       events = [];
       fresh = fresh;
-      timely = one_is_timely;
+      timely = timely;
       bounded = bounded;
       opening = opened_fresh makers;
       run = refl;
@@ -159,21 +165,36 @@ module _ (overtake : ℕ) (makers : List Maker) (right : IsRight overtake makers
   }
 
   pub kept_first : (window : ℕ) (links : List Octets) (v : WorldView) → window ≡ greatest_window makers → links ≡ links_of makers
-      → v ≡ fresh_world overtake makers → IsKept window links v
+      → v ≡ fresh_at t overtake makers → IsKept window links v
   kept_first window links v a b d =
       subst (λ w. IsKept w links v) (sym a)
       (subst (λ l. IsKept (greatest_window makers) l v) (sym b)
       (subst (λ x. IsKept (greatest_window makers) (links_of makers) x) (sym d) kept_fresh))
 
 -- what is made, as contracts see it
-pub made_is : (overtake : ℕ) (makers : List Maker) (opening : List Store) (n : Network) → opening ≡ opening_of makers → n.nodes.items ≡ nodes_of makers
-    → n.journal ≡ record (n.journal) { links = links_of makers; moment = 0; copies = []; notes = [] } → n.log.items ≡ []
-    → view_of overtake opening n ≡ fresh_world overtake makers
-made_is overtake makers opening n a b d e =
-    let moment : n.journal.moment ≡ 0 = ap (λ (j : JournalView). j.moment) d in
-    let copies : n.journal.copies ≡ [] = ap (λ (j : JournalView). j.copies) d in
-    let notes : n.journal.notes ≡ [] = ap (λ (j : JournalView). j.notes) d in
-    rw (a, b, moment, copies, notes, e)
+pub made_is : (t : Instant) (overtake : ℕ) (makers : List Maker) (opening : List Store) (n : Network) → opening ≡ opening_of makers
+    → n.nodes.items ≡ nodes_of makers
+    → n.journal ≡ record (n.journal) { links = links_of makers; moment = t.moment; own = t.own; copies = []; notes = [] } → n.log.items ≡ []
+    → view_of overtake opening n ≡ fresh_at t overtake makers
+made_is t overtake makers opening n a b d e = λ i. record {
+  overtake = overtake;
+  opening = a i;
+  nodes = b i;
+  time = record { moment = (d i).moment; own = (d i).own };
+  copies = (d i).copies;
+  log = log_view (e i);
+  notes = (d i).notes;
+}
+
+-- all clocks are shown
+pub one_shown : (i : ℕ) → clock_of 0 None i ≡ clock_at (pace_of None) (clock_of 0 None i).exact
+one_shown i = refl
+
+pub own_shown : (o : OwnClocks) (i : ℕ) → clock_of 0 (Some o) i ≡ clock_at (pace_of (Some o)) (clock_of 0 (Some o) i).exact
+own_shown o i = refl
+
+pub today : IsTimely (pace_of None)
+today = lives.today
 
 -- Tests of what is to be made.
 

@@ -1,17 +1,17 @@
 -- Runs, event by event.
-use Rattle.std.proofs.Common.{◌≡◌, ◌↔◌, ℕ, zero, suc, ◌+◌, ◌≤◌, Bool, true, false, List, [], ◌∷◌, ◌++◌, length, take, Option, Some, Result, Err, IsErrOf, slice_get}
-use Rattle.std.proofs.Common.{refl, sym, ap, subst, inl, inr, ◌∙◌, arith}
+use Rattle.std.proofs.Common.{◌≡◌, ◌↔◌, ℕ, zero, suc, ◌+◌, ◌≤◌, List, [], ◌∷◌, ◌++◌, length, take, Option, Some, Result, Err, IsErrOf, slice_get}
+use Rattle.std.proofs.Common.{refl, sym, ap, subst, ◌∙◌, arith}
 use Rattle.bac_world.specs.World as world
-use Rattle.bac_world.specs.World.{World, Time, DeliversIf, WorldRun, WorldStep, MakeRequestsAlone, is_deliverable}
+use Rattle.bac_world.specs.World.{World, WorldRun, WorldStep, MakeRequestsAlone}
 use Rattle.bac_world.proofs.Quiet.{alone_after_run}
 use Rattle.bac_requester.specs.declared.ask_fault.AskFault.{AskFault}
 use Rattle.bac_store.specs.declared.change_fault.ChangeFault.{ChangeFault}
 use Rattle.bac_network.specs.Histories.{WorldView, HasRequestsAloneNow, as_world}
 use Rattle.bac_network.specs.Runs.{StopsAt}
 use Rattle.bac_network.specs.Steps.{IsFault, NamesNoCopy, NamesNoNode, PassesClock, RefusesChange, TakesMemory}
-use Rattle.bac_network.specs.Views.{event_view, events_view, moment_after}
+use Rattle.bac_network.specs.Clocks.{Instant}
+use Rattle.bac_network.specs.Views.{event_view, events_view, instant_after, instant_after_all}
 use Rattle.bac_network.specs.declared.event.Event.{Event}
-use Rattle.bac_network.specs.declared.event.Event.TheVariants as event
 use Rattle.bac_network.specs.declared.fault.WorldFault.{WorldFault}
 use Rattle.bac_network.specs.declared.fault.WorldFault.TheVariants as fault
 use Rattle.bac_network.proofs.Histories.{run_more}
@@ -32,61 +32,49 @@ take_whole [] (suc n) h = refl
 take_whole (x ∷ xs) zero h = absurd (omega arith)
 take_whole (x ∷ xs) (suc n) h = ap (λ l. x ∷ l) (take_whole xs n (omega arith))
 
--- a step takes the world to the moment after its event
-delivered_moment : (b : Bool) (w v : World) (c : world.Copy) → DeliversIf b w c v → v.time.now ≡ w.time.now
-delivered_moment true w v c d = ap (λ (t : Time). t.now) d.hears.acts.time
-delivered_moment false w v c same = ap (λ (u : World). u.time.now) same
+-- the next event is at the moment to which those before it lead
+seen_at : (events : List Event) (place : ℕ) (event : Event) → slice_get events place ≡ Some event → (t : Instant)
+    → slice_get (events_view t events) place ≡ Some (event_view (instant_after_all (take place events) t) event)
+seen_at [] place event at t = absurd cc
+seen_at (e ∷ es) zero event at t = let same : e ≡ event = let is : Some e ≡ Some event = at in cc in ap (λ (d : Event). Some (event_view t d)) same
+seen_at (e ∷ es) (suc place) event at t = seen_at es place event at (instant_after e t)
 
-step_moment : (overtake : ℕ) (w v : World) (e : Event) → WorldStep overtake w (event_view w.time.now e) v → v.time.now ≡ moment_after e w.time.now
-step_moment overtake w v (event.Ask client server limits request) (inl s) = ap (λ (t : Time). t.now) s.time
-step_moment overtake w v (event.Ask client server limits request) (inr s) = ap (λ (u : World). u.time.now) s.same
-step_moment overtake w v (event.Deliver number) s =
-    delivered_moment (is_deliverable overtake w.time.pace.life w.time.now number w.copies s.copy) w v s.copy s.goes
-step_moment overtake w v (event.Noise node from octets) (inl s) = ap (λ (t : Time). t.now) s.hears.acts.time
-step_moment overtake w v (event.Noise node from octets) (inr s) = ap (λ (u : World). u.time.now) s.same
-step_moment overtake w v (event.Tick node) s = ap (λ (t : Time). t.now) s.acts.time
-step_moment overtake w v (event.Advance by) s = ap (λ (u : World). u.time.now) s
-step_moment overtake w v (event.Change node change) s = ap (λ (t : Time). t.now) s.time
-step_moment overtake w v (event.Restart node store) s = ap (λ (t : Time). t.now) s.time
+after_more : (es : List Event) (e : Event) (t : Instant) → instant_after_all (es ++ e ∷ []) t ≡ instant_after e (instant_after_all es t)
+after_more [] e t = refl
+after_more (d ∷ es) e t = after_more es e (instant_after d t)
 
--- the next event is at the moment that the world has come to
-seen_at : (overtake : ℕ) (events : List Event) (place : ℕ) (event : Event) → slice_get events place ≡ Some event → (w u : World)
-    → WorldRun overtake w (take place (events_view w.time.now events)) u
-    → slice_get (events_view w.time.now events) place ≡ Some (event_view u.time.now event)
-seen_at overtake [] place event at w u run = absurd cc
-seen_at overtake (e ∷ es) zero event at w u run =
-    let same : e ≡ event = let is : Some e ≡ Some event = at in cc in
-    λ i. Some (event_view (sym run i).time.now (same i))
-seen_at overtake (e ∷ es) (suc place) event at w u run =
-    let now = step_moment overtake w run.0 e run.1 in
-    subst (λ (m : ℕ). slice_get (events_view m es) place ≡ Some (event_view u.time.now event)) now
-    (seen_at overtake es place event at run.0 u (subst (λ (m : ℕ). WorldRun overtake run.0 (take place (events_view m es)) u) (sym now) run.2))
+pub time_goes_on : (events : List Event) (place : ℕ) (event : Event) → slice_get events place ≡ Some event → (first mid new : Instant)
+    → mid ≡ instant_after_all (take place events) first → new ≡ instant_after event mid → new ≡ instant_after_all (take (place + 1) events) first
+time_goes_on events place event at first mid new before after =
+    after ∙ ap (instant_after event) before ∙ sym (after_more (take place events) event first)
+    ∙ ap (λ l. instant_after_all l first) (sym (take_next events place event at))
 
 -- One event more.
 
 pub goes_on : (old mid new : WorldView) (events : List Event) (place : ℕ) (event : Event) → slice_get events place ≡ Some event
-    → WorldRun old.overtake (as_world old) (take place (events_view old.moment events)) (as_world mid) → mid.overtake ≡ old.overtake
-    → WorldStep mid.overtake (as_world mid) (event_view mid.moment event) (as_world new)
-    → WorldRun old.overtake (as_world old) (take (place + 1) (events_view old.moment events)) (as_world new)
-goes_on old mid new events place event at done same step =
+    → WorldRun old.overtake (as_world old) (take place (events_view old.time events)) (as_world mid) → mid.overtake ≡ old.overtake
+    → mid.time ≡ instant_after_all (take place events) old.time
+    → WorldStep mid.overtake (as_world mid) (event_view mid.time event) (as_world new)
+    → WorldRun old.overtake (as_world old) (take (place + 1) (events_view old.time events)) (as_world new)
+goes_on old mid new events place event at done same now step =
     subst (λ l. WorldRun old.overtake (as_world old) l (as_world new))
-    (sym (take_next (events_view old.moment events) place (event_view mid.moment event)
-    (seen_at old.overtake events place event at (as_world old) (as_world mid) done)))
-    (run_more old.overtake (take place (events_view old.moment events)) (event_view mid.moment event) (as_world old) (as_world mid) (as_world new) done
-    (subst (λ (v : ℕ). WorldStep v (as_world mid) (event_view mid.moment event) (as_world new)) same step))
+    (sym (take_next (events_view old.time events) place (event_view mid.time event)
+    (seen_at events place event at old.time ∙ ap (λ (t : Instant). Some (event_view t event)) (sym now))))
+    (run_more old.overtake (take place (events_view old.time events)) (event_view mid.time event) (as_world old) (as_world mid) (as_world new) done
+    (subst (λ (v : ℕ). WorldStep v (as_world mid) (event_view mid.time event) (as_world new)) same step))
 
 -- All of them.
 
-as_many : (moment : ℕ) (events : List Event) → length (events_view moment events) ≡ length events
-as_many moment [] = refl
-as_many moment (e ∷ es) = ap suc (as_many (moment_after e moment) es)
+as_many : (t : Instant) (events : List Event) → length (events_view t events) ≡ length events
+as_many t [] = refl
+as_many t (e ∷ es) = ap suc (as_many (instant_after e t) es)
 
 pub all_done : (old new : WorldView) (events : List Event) (place : ℕ) → length events ≤ place
-    → WorldRun old.overtake (as_world old) (take place (events_view old.moment events)) (as_world new)
-    → WorldRun old.overtake (as_world old) (events_view old.moment events) (as_world new)
+    → WorldRun old.overtake (as_world old) (take place (events_view old.time events)) (as_world new)
+    → WorldRun old.overtake (as_world old) (events_view old.time events) (as_world new)
 all_done old new events place all done =
-    let many = as_many old.moment events in
-    subst (λ l. WorldRun old.overtake (as_world old) l (as_world new)) (take_whole (events_view old.moment events) place (omega (arith, many, all))) done
+    let many = as_many old.time events in
+    subst (λ l. WorldRun old.overtake (as_world old) l (as_world new)) (take_whole (events_view old.time events) place (omega (arith, many, all))) done
 
 -- Where no node changes its own store or restarts.
 
@@ -126,13 +114,14 @@ fault_is fault.NoMemory overtake w e r is node copy clock change memory = (
 )
 
 pub stops : (f : WorldFault) (old mid new : WorldView) (events : List Event) (place : ℕ) (event : Event) → slice_get events place ≡ Some event
-    → WorldRun old.overtake (as_world old) (take place (events_view old.moment events)) (as_world mid) → mid.overtake ≡ old.overtake → new ≡ mid
-    → IsFault f mid.overtake (as_world mid) (event_view mid.moment event)
-    → StopsAt (record { place = place; fault = f }) old (events_view old.moment events) new
-stops f old mid new events place event at done same is why = record {
-  done = subst (λ (v : WorldView). WorldRun old.overtake (as_world old) (take place (events_view old.moment events)) (as_world v)) (sym is) done;
-  event = event_view mid.moment event;
-  at = seen_at old.overtake events place event at (as_world old) (as_world mid) done;
-  fault = subst (λ (v : WorldView). IsFault f old.overtake (as_world v) (event_view mid.moment event)) (sym is)
-      (subst (λ (k : ℕ). IsFault f k (as_world mid) (event_view mid.moment event)) same why);
+    → WorldRun old.overtake (as_world old) (take place (events_view old.time events)) (as_world mid) → mid.overtake ≡ old.overtake
+    → mid.time ≡ instant_after_all (take place events) old.time → new ≡ mid
+    → IsFault f mid.overtake (as_world mid) (event_view mid.time event)
+    → StopsAt (record { place = place; fault = f }) old (events_view old.time events) new
+stops f old mid new events place event at done same now is why = record {
+  done = subst (λ (v : WorldView). WorldRun old.overtake (as_world old) (take place (events_view old.time events)) (as_world v)) (sym is) done;
+  event = event_view mid.time event;
+  at = seen_at events place event at old.time ∙ ap (λ (t : Instant). Some (event_view t event)) (sym now);
+  fault = subst (λ (v : WorldView). IsFault f old.overtake (as_world v) (event_view mid.time event)) (sym is)
+      (subst (λ (k : ℕ). IsFault f k (as_world mid) (event_view mid.time event)) same why);
 }

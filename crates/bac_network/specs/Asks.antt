@@ -42,6 +42,7 @@ pub record IsNotedAsk (nodes : List Node) (client server : ℕ) (r : Request) (i
   pub notes : new.notes ≡ note_of client server invoke_id ticket ∷ old.notes
   pub log : facts' ≡ Asked (length old.notes) client server r ∷ facts
   pub moment : new.moment ≡ old.moment
+  pub own : new.own ≡ old.own
   pub links : new.links ≡ old.links
 
 -- the fault of a refused ask is told, but where memory was refused, which is the event's

@@ -1,8 +1,20 @@
--- The clocks of a network's nodes.
-use Rattle.std.specs.Prelude.{ℕ}
-use Rattle.bac_protocol.specs.Pace.{one_clock}
+-- Moments, and what nodes are told then.
+use Rattle.std.specs.Prelude.{ℕ, Option}
 use Rattle.bac_world.specs.World.{Time}
+use Rattle.bac_journal.specs.Clocks.{OwnClocks, clock_of, time_of}
+use Rattle.bac_journal.specs.Journals.{JournalView}
 
--- all nodes have one clock, which shows real time, in milliseconds
-abbrev pub time_at : (moment : ℕ) → Time
-time_at moment = record { pace = one_clock; now = moment; clocks = λ node. record { exact = moment; shows = moment } }
+-- a moment of real time, in parts of a millisecond, and the nodes' own clocks then, if they have some
+pub record Instant : Type 0 where
+  pub moment : ℕ
+  pub own : Option OwnClocks
+
+abbrev pub instant : JournalView → Instant
+instant j = record { moment = j.moment; own = j.own }
+
+abbrev pub time_at : Instant → Time
+time_at t = time_of t.moment t.own
+
+-- what a node is told
+abbrev pub told_at : Instant → (node : ℕ) → ℕ
+told_at t node = (clock_of t.moment t.own node).shows

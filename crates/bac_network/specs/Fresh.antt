@@ -1,11 +1,16 @@
 -- Which worlds are made, and what they are then.
-use Rattle.std.specs.Prelude.{◌≡◌, ◌<◌, ◌+◌, ◌*◌, ℕ, true, false, List, [], ◌∷◌, map, max, Some, slice_get}
+use Rattle.std.specs.Prelude.{◌≡◌, ◌≢◌, ◌<◌, ◌+◌, ◌*◌, ℕ, true, false, List, [], ◌∷◌, length, map, max, None, Some, slice_get}
+use Rattle.bac_protocol.specs.Pace.{IsTimely}
 use Rattle.bac_protocol.specs.Service.{Octets}
 use Rattle.bac_store.specs.Stores.{Store}
 use Rattle.bac_world.specs.Node.{Node}
 use Rattle.bac_node.specs.Fresh.{fresh_node, has_slots, window_fits}
 use Rattle.bac_node.specs.declared.config.Config.{Config}
+use Rattle.bac_journal.specs.Clocks.{fresh_clocks, own_pace}
+use Rattle.bac_network.specs.Clocks.{Instant}
 use Rattle.bac_network.specs.Histories.{WorldView}
+use Rattle.bac_network.specs.declared.fault.NewClocksFault.{NewClocksFault}
+use Rattle.bac_network.specs.declared.fault.NewClocksFault.TheVariants as clocks_fault
 use Rattle.bac_network.specs.declared.fault.NewWorldFault.{NewWorldFault}
 use Rattle.bac_network.specs.declared.fault.NewWorldFault.TheVariants as fault
 
@@ -22,18 +27,25 @@ opening_of makers = map (λ (m : Maker). m.1) makers
 abbrev pub nodes_of : List Maker → List Node
 nodes_of makers = map (λ (m : Maker). fresh_node m.0 m.1) makers
 
--- a world to which nothing has happened
-abbrev pub fresh_world : (overtake : ℕ) → List Maker → WorldView
-fresh_world overtake makers =
+-- a world to which nothing has happened, at that moment
+abbrev pub fresh_at : Instant → (overtake : ℕ) → List Maker → WorldView
+fresh_at t overtake makers =
     record {
       overtake = overtake;
       opening = opening_of makers;
       nodes = nodes_of makers;
-      moment = 0;
+      time = t;
       copies = [];
       log = [];
       notes = [];
     }
+
+abbrev pub fresh_world : (overtake : ℕ) → List Maker → WorldView
+fresh_world overtake makers = fresh_at (record { moment = 0; own = None }) overtake makers
+
+-- its nodes have clocks of their own, which begin so
+abbrev pub clock_world : (overtake : ℕ) → List Maker → (drift life : ℕ) → (starts : List ℕ) → WorldView
+clock_world overtake makers drift life starts = fresh_at (record { moment = 0; own = Some (fresh_clocks drift life starts) }) overtake makers
 
 -- one of those before a place has that link
 pub record IsTaken (makers : List Maker) (place : ℕ) (link : Octets) : Type 0 where
@@ -97,3 +109,10 @@ IsRefusedFor fault.BadWindow overtake makers = (HaveSameLink makers → ⊥) × 
 IsRefusedFor fault.BadBound overtake makers =
     (HaveSameLink makers → ⊥) × (HasBadSlots makers → ⊥) × (HasBadWindow makers → ⊥) × PassesBound overtake makers
 IsRefusedFor fault.NoMemory overtake makers = IsRight overtake makers
+
+-- with clocks of their own: the times of the protocol don't suffice for their pace; or there is not one start for each node
+abbrev pub IsRefusedWithClocks : NewClocksFault → (overtake : ℕ) → List Maker → (drift life : ℕ) → (starts : List ℕ) → Type 0
+IsRefusedWithClocks clocks_fault.BadPace overtake makers drift life starts = IsTimely (own_pace drift life) → ⊥
+IsRefusedWithClocks clocks_fault.BadStarts overtake makers drift life starts = IsTimely (own_pace drift life) × (length starts ≢ length makers)
+IsRefusedWithClocks (clocks_fault.NotMade why) overtake makers drift life starts =
+    IsTimely (own_pace drift life) × (length starts ≡ length makers) × IsRefusedFor why overtake makers

@@ -13,9 +13,13 @@ pub record Goes (old : List Node) (i : ℕ) (how : Node → Node → Type 0) (ne
   pub goes : how before after
   pub nodes : IsWithNode old i after new
 
--- no node was told a later moment
-abbrev pub ArePunctual : List Node → (now : ℕ) → Type 0
-ArePunctual nodes now = (i : ℕ) (a : Node) → slice_get nodes i ≡ Some a → a.latest ≤ now
+-- that node was told no later moment
+abbrev pub IsPunctual : List Node → (i now : ℕ) → Type 0
+IsPunctual nodes i now = (a : Node) → slice_get nodes i ≡ Some a → a.latest ≤ now
+
+-- no node was told a later moment than it is now
+abbrev pub ArePunctual : List Node → (told : ℕ → ℕ) → Type 0
+ArePunctual nodes told = (i : ℕ) → IsPunctual nodes i (told i)
 
 -- a copy goes from a node to a node
 pub record IsBetween (nodes : List Node) (c : Copy) : Type 0 where
@@ -25,13 +29,13 @@ pub record IsBetween (nodes : List Node) (c : Copy) : Type 0 where
   pub to : slice_get nodes c.to ≡ Some receiver
 
 -- a node heard the copy of that number, and what came of it
-pub record IsHeardCopy (old : List Node) (now : ℕ) (copies : List Copy) (number to : ℕ) (o : Outcome) (new : List Node) : Type 0 where
+pub record IsHeardCopy (old : List Node) (told : ℕ → ℕ) (copies : List Copy) (number to : ℕ) (o : Outcome) (new : List Node) : Type 0 where
   pub copy : Copy
   pub there : slice_get copies number ≡ Some copy
   pub receiver : to ≡ copy.to
   pub link : Octets
   pub sender : link_at old copy.from ≡ Some link
-  pub goes : Goes old copy.to (λ a b. NodeOn now link copy.octets a b o) new
+  pub goes : Goes old copy.to (λ a b. NodeOn (told copy.to) link copy.octets a b o) new
 
 -- that comes of a node's tick
 pub record IsDue (nodes : List Node) (now node : ℕ) (o : Outcome) : Type 0 where

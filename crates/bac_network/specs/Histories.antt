@@ -7,7 +7,7 @@ use Rattle.bac_world.specs.Claims.{AreChangesPermitted, AreEndedOnce, ArePerform
 use Rattle.bac_world.specs.Node.{Node}
 use Rattle.bac_world.specs.Once.{Fact, Stores, IsOnce, IsOnceByRequestsAlone, HasRequestsAlone}
 use Rattle.bac_world.specs.World.{World, Copy, Note, Event, WorldRun, IsFresh, IsBounded, stores_of}
-use Rattle.bac_network.specs.Clocks.{time_at}
+use Rattle.bac_network.specs.Clocks.{Instant, instant, time_at}
 use Rattle.bac_journal.specs.Views.{AreLinks}
 use Rattle.bac_network.specs.Views.{log_view}
 use Rattle.bac_network.specs.declared.network.Network.{Network}
@@ -17,7 +17,7 @@ pub record WorldView : Type 0 where
   pub overtake : ℕ
   pub opening : List Store
   pub nodes : List Node  -- numbered from 0
-  pub moment : ℕ  -- in milliseconds; each node has a clock that shows it
+  pub time : Instant
   pub copies : List Copy  -- oldest first, numbered from 0
   pub log : List Fact  -- newest first
   pub notes : List Note  -- newest first
@@ -28,7 +28,7 @@ view_of overtake opening n =
       overtake = overtake;
       opening = opening;
       nodes = n.nodes.items;
-      moment = n.journal.moment;
+      time = instant n.journal;
       copies = n.journal.copies;
       log = log_view n.log.items;
       notes = n.journal.notes;
@@ -36,7 +36,7 @@ view_of overtake opening n =
 
 -- the world of bac_world that it is
 abbrev pub as_world : WorldView → World
-as_world w = record { nodes = w.nodes; time = time_at w.moment; copies = w.copies; log = w.log; notes = w.notes }
+as_world w = record { nodes = w.nodes; time = time_at w.time; copies = w.copies; log = w.log; notes = w.notes }
 
 -- the stores that the nodes had at first
 abbrev pub opening_stores : WorldView → Stores

@@ -4,7 +4,7 @@ use Rattle.bac_protocol.specs.Service.{Octets}
 use Rattle.bac_world.specs.Node.{Node}
 use Rattle.bac_world.specs.Once.{Fact}
 use Rattle.bac_world.specs.World.{World}
-use Rattle.bac_network.specs.Clocks.{time_at}
+use Rattle.bac_network.specs.Clocks.{instant, time_at, told_at}
 use Rattle.bac_journal.specs.Entering.{CanGoOn}
 use Rattle.bac_journal.specs.Journals.{JournalView}
 use Rattle.bac_journal.specs.Views.{AreLinks}
@@ -13,10 +13,14 @@ use Rattle.bac_network.specs.declared.network.Network.{Network}
 
 -- nodes, what a journal keeps beside them, and a log
 abbrev pub world_with : List Node → JournalView → List Fact → World
-world_with nodes j log = record { nodes = nodes; time = time_at j.moment; copies = j.copies; log = log; notes = j.notes }
+world_with nodes j log = record { nodes = nodes; time = time_at (instant j); copies = j.copies; log = log; notes = j.notes }
 
 abbrev pub world_of : Network → World
 world_of n = world_with n.nodes.items n.journal (log_view n.log.items)
+
+-- what one of its nodes is told
+abbrev pub told_in : Network → (node : ℕ) → ℕ
+told_in n node = told_at (instant n.journal) node
 
 -- what comes of a node's call can enter it; the journal has the nodes' links, and no two nodes have one
 pub record IsReady (window overtake : ℕ) (n : Network) : Type 0 where
@@ -29,6 +33,7 @@ pub record AreAlike (old new : Network) : Type 0 where
   pub nodes : new.nodes ≡ old.nodes
   pub links : new.journal.links ≡ old.journal.links
   pub moment : new.journal.moment ≡ old.journal.moment
+  pub own : new.journal.own ≡ old.journal.own
   pub copies : new.journal.copies ≡ old.journal.copies
   pub notes : new.journal.notes ≡ old.journal.notes
   pub log : new.log.items ≡ old.log.items

@@ -1,11 +1,13 @@
 -- What contracts see of facts and events.
-use Rattle.std.specs.Prelude.{ℕ, ◌+◌, List, [], ◌∷◌, map, reverse}
+use Rattle.std.specs.Prelude.{◌+◌, ◌*◌, List, [], ◌∷◌, map, reverse}
 use Rattle.bac_apdu.specs.Views.{limits_view}
 use Rattle.bac_service.specs.Views.{owned_request_view, owned_reply_view}
 use Rattle.bac_store.specs.Views.{change_view}
 use Rattle.bac_requester.specs.TransactionViews.{ending_view}
 use Rattle.bac_world.specs.Once as once
 use Rattle.bac_world.specs.World as world
+use Rattle.bac_journal.specs.Clocks.{later_by, parts_of, restart_at, restarted_own, steps_of}
+use Rattle.bac_network.specs.Clocks.{Instant}
 use Rattle.bac_network.specs.declared.event.Event.{Event}
 use Rattle.bac_network.specs.declared.event.Event.TheVariants as event
 use Rattle.bac_network.specs.declared.fact.Fact.{Fact}
@@ -22,22 +24,28 @@ fact_view (fact.Restarted node store) = once.Fact.Restarted node store
 abbrev pub log_view : List Fact → List once.Fact
 log_view log = reverse (map fact_view log)
 
--- what an event is at a moment: all nodes' clocks show it, and one that restarts begins with a clock that does
-abbrev pub event_view : (moment : ℕ) → Event → world.Event
-event_view moment (event.Ask client server limits request) = world.Event.Ask client server (limits_view limits) (owned_request_view request)
-event_view moment (event.Deliver number) = world.Event.Deliver number
-event_view moment (event.Noise node from octets) = world.Event.Noise node from octets.items
-event_view moment (event.Tick node) = world.Event.Tick node
-event_view moment (event.Advance by) = world.Event.Advance by (λ node. by)
-event_view moment (event.Change node change) = world.Event.Change node (change_view change)
-event_view moment (event.Restart node store) = world.Event.Restart node moment store
+-- what an event is at a moment: each clock goes on as its rate says, and one that begins anew begins where such a clock does
+abbrev pub event_view : Instant → Event → world.Event
+event_view t (event.Ask client server limits request) = world.Event.Ask client server (limits_view limits) (owned_request_view request)
+event_view t (event.Deliver number) = world.Event.Deliver number
+event_view t (event.Noise node from octets) = world.Event.Noise node from octets.items
+event_view t (event.Tick node) = world.Event.Tick node
+event_view t (event.Advance by) = world.Event.Advance (parts_of t.own * by) (steps_of t.own by)
+event_view t (event.Change node change) = world.Event.Change node (change_view change)
+event_view t (event.Restart node store) = world.Event.Restart node (restart_at t.moment t.own) store
 
 -- the moment after it
-abbrev pub moment_after : Event → ℕ → ℕ
-moment_after (event.Advance by) moment = moment + by
-moment_after e moment = moment
+abbrev pub instant_after : Event → Instant → Instant
+instant_after (event.Advance by) t = record { moment = t.moment + parts_of t.own * by; own = later_by by t.own }
+instant_after (event.Restart node store) t = record t { own = restarted_own node t.own }
+instant_after e t = t
 
 -- events one after the other, the first of them at that moment
-abbrev pub events_view : (moment : ℕ) → List Event → List world.Event
-events_view moment [] = []
-events_view moment (e ∷ es) = event_view moment e ∷ events_view (moment_after e moment) es
+abbrev pub events_view : Instant → List Event → List world.Event
+events_view t [] = []
+events_view t (e ∷ es) = event_view t e ∷ events_view (instant_after e t) es
+
+-- the moment after them
+abbrev pub instant_after_all : List Event → Instant → Instant
+instant_after_all [] t = t
+instant_after_all (e ∷ es) t = instant_after_all es (instant_after e t)

@@ -7,6 +7,7 @@ ghost use Rattle.bac_world.specs.World.Event.{Ask};
 ghost use Rattle.bac_journal.specs.Journals.{HasNoteRoom};
 ghost use Rattle.bac_journal.specs.Views.{AreLinks};
 ghost use Rattle.bac_network.specs.Asks.{CanAsk, CanBeNoted, IsNotedAsk, TellsFault};
+ghost use Rattle.bac_network.specs.Clocks.{instant};
 ghost use Rattle.bac_network.specs.Networks.{world_of, AreAlike, HasRoom, IsReady};
 ghost use Rattle.bac_network.specs.Steps.{HappensTelling};
 ghost use Rattle.bac_network.specs.Views.{log_view};
@@ -39,6 +40,7 @@ impl Network {
             → HappensTelling overtake (world_of self.old) (Ask client server (limits_view limits.now) (owned_request_view request.now)) result
             (world_of self.new) }
         ensures links { self.new.journal.links ≡ self.old.journal.links }
+        ensures stays { instant self.new.journal ≡ instant self.old.journal }
     {
         if client >= self.nodes.len() || server >= self.nodes.len() {
             return Err(WorldFault::NoSuchNode);
@@ -84,12 +86,13 @@ impl Network {
             → HappensTelling overtake (world_of self.old) (Ask client server (limits_view limits.now) (owned_request_view request.now)) result
             (world_of self.new) }
         ensures links { self.new.journal.links ≡ self.old.journal.links }
+        ensures stays { instant self.new.journal ≡ instant self.old.journal }
     {
         let peer = Peer {
             link: self.nodes[server].link(),
             route: None,
         };
-        let now = self.journal.now();
+        let now = self.journal.told(client);
         match ask(&mut self.nodes, client, now, &peer, limits, request) {
             Ok(asked) => {
                 note(

@@ -5,6 +5,7 @@ ghost use Rattle.bac_store.specs.Views.{change_view};
 ghost use Rattle.bac_world.specs.Node as node_view;
 ghost use Rattle.bac_world.specs.World.{IsChanged};
 ghost use Rattle.bac_world.specs.World.Event.{Change as Happening};
+ghost use Rattle.bac_network.specs.Clocks.{instant};
 ghost use Rattle.bac_network.specs.Networks.{world_of};
 ghost use Rattle.bac_network.specs.Steps.{Happens};
 
@@ -27,6 +28,7 @@ impl Network {
         ensures happens { (overtake : ℕ)
             → Happens overtake (world_of self.old) (Happening node (change_view change.now)) result (world_of self.new) }
         ensures links { self.new.journal.links ≡ self.old.journal.links }
+        ensures stays { instant self.new.journal ≡ instant self.old.journal }
     {
         if node >= self.nodes.len() {
             return Err(WorldFault::NoSuchNode);
@@ -44,6 +46,7 @@ impl Network {
         ensures changed { OnOk result (IsChanged (world_of self.old) node (change_view change.now) (world_of self.new)) }
         ensures err { OnErr result (world_of self.new ≡ world_of self.old) }
         ensures links { self.new.journal.links ≡ self.old.journal.links }
+        ensures stays { instant self.new.journal ≡ instant self.old.journal }
     {
         let kept = change.copy(alloc)?;
         self.make_room(1, 0)?;
@@ -59,6 +62,7 @@ impl Network {
         ensures changed { OnOk result (IsChanged (world_of self.old) node (change_view change.now) (world_of self.new)) }
         ensures err { OnErr result (world_of self.new ≡ world_of self.old) }
         ensures links { self.new.journal.links ≡ self.old.journal.links }
+        ensures stays { instant self.new.journal ≡ instant self.old.journal }
     {
         change_node(&mut self.nodes, node, change)?;
         self.log.push_reserved(Fact::Changed { node, change: kept });

@@ -2,6 +2,7 @@
 ghost use Rattle.std.specs.Prelude.{◌≡◌, ◌+◌, ℕ, OnErr, OnOk};
 ghost use Rattle.bac_world.specs.World.Event.{Deliver};
 ghost use Rattle.bac_network.specs.Goings.{Arrives};
+ghost use Rattle.bac_network.specs.Clocks.{instant};
 ghost use Rattle.bac_network.specs.Networks.{world_of, HasRoom, IsReady};
 ghost use Rattle.bac_network.specs.Steps.{Happens, TakesMemory};
 
@@ -22,6 +23,7 @@ impl Network {
         requires { IsReady window overtake self.old }
         ensures happens { Happens overtake (world_of self.old) (Deliver number) result (world_of self.new) }
         ensures links { self.new.journal.links ≡ self.old.journal.links }
+        ensures stays { instant self.new.journal ≡ instant self.old.journal }
     {
         match self.journal.is_deliverable(overtake, number) {
             None => Err(WorldFault::NoSuchDatagram),
@@ -36,6 +38,7 @@ impl Network {
         ensures went { OnOk result (Arrives (world_of self.old) number (world_of self.new)) }
         ensures err { OnErr result (world_of self.new ≡ world_of self.old) }
         ensures links { self.new.journal.links ≡ self.old.journal.links }
+        ensures stays { instant self.new.journal ≡ instant self.old.journal }
     {
         self.make_room(2, usize::from(window) + 1)?;
         self.hand_over(window, number)
@@ -49,6 +52,7 @@ impl Network {
         ensures went { OnOk result (Arrives (world_of self.old) number (world_of self.new)) }
         ensures err { OnErr result (world_of self.new ≡ world_of self.old) }
         ensures links { self.new.journal.links ≡ self.old.journal.links }
+        ensures stays { instant self.new.journal ≡ instant self.old.journal }
     {
         let (to, outcome) = hear_copy(&mut self.nodes, &self.journal, number)?;
         enter(&mut self.journal, &mut self.log, to, outcome);

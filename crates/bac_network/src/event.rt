@@ -37,9 +37,9 @@ pub enum Event {
         /// The node.
         node: usize,
     },
-    /// The clock advances.
+    /// Time passes: each node's clock goes on, as fast as it is.
     Advance {
-        /// By this many milliseconds.
+        /// So many milliseconds of real time.
         by: u64,
     },
     /// A node changes its own store, by no request, as where a sensor moves.
@@ -49,7 +49,8 @@ pub enum Event {
         /// The change.
         change: Change,
     },
-    /// A node restarts: it loses its asks and its reply table, asks nothing for `REST`, and turns requests away for `KEEP`.
+    /// A node restarts: it loses its asks and its reply table, asks nothing for `REST`, and turns requests away for `KEEP`. Its clock begins at 0, where it
+    /// has its own, and is as fast as before.
     Restart {
         /// The node.
         node: usize,

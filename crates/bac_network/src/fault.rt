@@ -1,6 +1,7 @@
 //! Why an event could not happen, and why a world was not made.
 ghost use Rattle.std.specs.Prelude.{◌≡◌};
 ghost use Rattle.bac_network.specs.Faults.{fault_number, new_fault_number};
+ghost use Rattle.bac_network.specs.declared.fault.NewClocksFault.TheVariants as clocks_fault;
 ghost use Rattle.bac_network.specs.declared.fault.NewWorldFault.TheVariants as new_fault;
 ghost use Rattle.bac_network.specs.declared.fault.WorldFault.TheVariants as fault;
 
@@ -93,6 +94,39 @@ impl From<NoMemory> for NewWorldFault {
     fn from(_error: NoMemory) -> NewWorldFault {
         NewWorldFault::NoMemory
     }
+}
+
+/// Why a world whose nodes have clocks of their own was not made: the first of these that holds.
+#[derive(Clone, Copy, Debug, PartialEq, Eq, Error)]
+pub enum NewClocksFault {
+    /// The times of the protocol don't suffice for clocks of that pace and copies that live so long.
+    #[error("clocks go too far apart for copies that live so long")]
+    BadPace,
+    /// There is not one start for each node.
+    #[error("there is not one start for each clock")]
+    BadStarts,
+    /// A world of these nodes is refused for that.
+    #[error("{0}")]
+    NotMade(NewWorldFault),
+}
+
+impl From<NewWorldFault> for NewClocksFault {
+    ghost from_gives = { λ why e. e ≡ clocks_fault.NotMade why };
+
+    fn from(why: NewWorldFault) -> NewClocksFault {
+        NewClocksFault::NotMade(why)
+    }
+}
+
+/// Why a clock keeps its pace.
+#[derive(Clone, Copy, Debug, PartialEq, Eq, Error)]
+pub enum PaceFault {
+    /// There is no such node.
+    #[error("no such node")]
+    NoSuchNode,
+    /// The clock would be faster or slower than those of the world may be.
+    #[error("a clock may not be so fast or slow")]
+    BadPace,
 }
 
 /// Where a run stopped: the events before that place happened, and the one there did not.

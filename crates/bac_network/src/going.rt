@@ -10,7 +10,8 @@ ghost use Rattle.bac_node.specs.Views.{outcome_view};
 ghost use Rattle.bac_world.specs.Laws.{IsMeaningless};
 ghost use Rattle.bac_world.specs.Node.{Node as NodeView, NodeOn, NodeTick, restarted, store_after_restart, with_change};
 ghost use Rattle.bac_world.specs.World.{Copy};
-ghost use Rattle.bac_network.specs.Goings.{ArePunctual, Goes, IsBetween, IsHeardCopy};
+ghost use Rattle.bac_network.specs.Clocks.{instant, told_at};
+ghost use Rattle.bac_network.specs.Goings.{ArePunctual, Goes, IsBetween, IsHeardCopy, IsPunctual};
 
 use bac_apdu::Limits;
 use bac_journal::Journal;
@@ -30,7 +31,7 @@ pub(crate) fn hear(
     octets: &[u8],
 ) -> Result<Outcome, NoMemory>
     requires there { i < length nodes.old }
-    requires punctual { ArePunctual nodes.old now }
+    requires punctual { IsPunctual nodes.old i now }
     ensures went { IfOk result (λ o. Goes nodes.old i (λ a b. NodeOn now from octets.now a b (outcome_view o)) nodes.new) }
     ensures meant { IsMeaningless from octets.now → OnErr result ⊥ }
     ensures err { OnErr result (nodes.new ≡ nodes.old) }
@@ -50,13 +51,13 @@ pub(crate) fn hear_copy(
     number: usize,
 ) -> Result<(usize, Outcome), NoMemory>
     requires there { (c : Copy) × (slice_get journal.now.copies number ≡ Some c) × IsBetween nodes.old c }
-    requires punctual { ArePunctual nodes.old journal.now.moment }
-    ensures heard { IfOk result (λ r. IsHeardCopy nodes.old journal.now.moment journal.now.copies number r.0 (outcome_view r.1) nodes.new) }
+    requires punctual { ArePunctual nodes.old (told_at (instant journal.now)) }
+    ensures heard { IfOk result (λ r. IsHeardCopy nodes.old (told_at (instant journal.now)) journal.now.copies number r.0 (outcome_view r.1) nodes.new) }
     ensures err { OnErr result (nodes.new ≡ nodes.old) }
 {
     let copy = &journal.copies()[number];
     let from = nodes[copy.from].link();
-    let outcome = hear(nodes, copy.to, journal.now(), from, &copy.octets)?;
+    let outcome = hear(nodes, copy.to, journal.told(copy.to), from, &copy.octets)?;
     Ok((copy.to, outcome))
 }
 
@@ -75,7 +76,7 @@ pub(crate) fn due(node: &Node, now: u64) -> Result<Outcome, NoMemory>
 /// A node ticks, at a moment that is not before its latest. It takes no memory.
 pub(crate) fn commit(nodes: &mut [Node], i: usize, now: u64)
     requires there { i < length nodes.old }
-    requires punctual { ArePunctual nodes.old now }
+    requires punctual { IsPunctual nodes.old i now }
     ensures { Goes nodes.old i (λ a b. b ≡ ticked now a) nodes.new }
 {
     let node = &mut nodes[i];

@@ -1,12 +1,14 @@
 //! Worlds in code: nodes in one simulated network, with a log of what was asked, performed, answered, changed and restarted.
 //!
-//! Every run of a world is a run of bac_world's definitions, so each accepted ask takes effect at most once in it. [`World::step`] and [`World::run`] make
-//! events happen; [`straight`] asks, and delivers each copy that arises once, in order of sending. The functions that compare ([`World::same`], [`same_change`],
-//! [`same_ending`], [`are_alike`]) return true exactly where contracts see no difference, and take no memory.
+//! All nodes of a world have one clock ([`World::new`]), or each has its own ([`World::with_clocks`]). Every run of a world is a run of bac_world's
+//! definitions, so each accepted ask takes effect at most once in it. [`World::step`] and [`World::run`] make events happen; [`straight`] asks, and delivers
+//! each copy that arises once, in order of sending. The functions that compare ([`World::same`], [`same_change`], [`same_ending`], [`are_alike`]) return true
+//! exactly where contracts see no difference, and take no memory.
 #![tactic(auto)]
 
 mod asking;
 mod changing;
+mod clocks;
 mod comparing_changes;
 mod comparing_endings;
 mod delivering;
@@ -28,12 +30,12 @@ mod straight_laws;
 mod ticking;
 mod world;
 
-pub use bac_journal::{Copy, Note, Transaction};
+pub use bac_journal::{Copy, Note, Pace, Transaction};
 pub use comparing_changes::same_change;
 pub use comparing_endings::same_ending;
 pub use event::Event;
 pub use fact::Fact;
-pub use fault::{NewWorldFault, RunFault, WorldFault};
+pub use fault::{NewClocksFault, NewWorldFault, PaceFault, RunFault, WorldFault};
 pub use lists::{Alike, are_alike};
 pub use running::{StraightRun, straight};
 pub use straight_laws::{log_tells, loop_goes_on, open_until_ended};

@@ -86,7 +86,7 @@ fn has_bad_window(makers: &[(Config, Store)]) -> bool
 }
 
 /// The greatest of the windows, and 1 where there are no nodes.
-fn greatest_window(makers: &[(Config, Store)]) -> u8
+pub(crate) fn greatest_window(makers: &[(Config, Store)]) -> u8
     ensures { result ≡ greatest_window makers.now }
 {
     let mut greatest = 1;
@@ -97,7 +97,7 @@ fn greatest_window(makers: &[(Config, Store)]) -> u8
 }
 
 /// The overtaking limit, or the first reason why a world is not made of these nodes.
-fn checked(makers: &[(Config, Store)], overtake: u64) -> Result<u8, NewWorldFault>
+pub(crate) fn checked(makers: &[(Config, Store)], overtake: u64) -> Result<u8, NewWorldFault>
     ensures same { IfOk result (λ limit. limit ≡ overtake) }
     ensures right { OnOk result (IsRight overtake makers.now) }
     ensures refused { IfErr result (λ e. IsRefusedFor e overtake makers.now) }
@@ -143,7 +143,7 @@ fn node_made(alloc: Global, config: Config, store: Store) -> Result<Node, NoMemo
 }
 
 /// The nodes.
-fn nodes_made(alloc: Global, makers: Vec<(Config, Store)>) -> Result<Vec<Node>, NoMemory>
+pub(crate) fn nodes_made(alloc: Global, makers: Vec<(Config, Store)>) -> Result<Vec<Node>, NoMemory>
     requires { Every IsGood makers.items }
     ensures { IfOk result (λ nodes. nodes.items ≡ nodes_of makers.items) }
 {
@@ -155,7 +155,10 @@ fn nodes_made(alloc: Global, makers: Vec<(Config, Store)>) -> Result<Vec<Node>, 
 }
 
 /// The nodes' links.
-fn links_of(alloc: Global, makers: &[(Config, Store)]) -> Result<Vec<LinkAddress>, NoMemory>
+pub(crate) fn links_of(
+    alloc: Global,
+    makers: &[(Config, Store)],
+) -> Result<Vec<LinkAddress>, NoMemory>
     ensures { IfOk result (λ links. links.items ≡ links_of makers.now) }
 {
     let mut links = Vec::with_capacity(alloc, makers.len())?;
@@ -166,7 +169,7 @@ fn links_of(alloc: Global, makers: &[(Config, Store)]) -> Result<Vec<LinkAddress
 }
 
 /// Copies of the nodes' stores.
-fn stores_of(alloc: Global, makers: &[(Config, Store)]) -> Result<Vec<Store>, NoMemory>
+pub(crate) fn stores_of(alloc: Global, makers: &[(Config, Store)]) -> Result<Vec<Store>, NoMemory>
     ensures { IfOk result (λ stores. stores.items ≡ opening_of makers.now) }
 {
     let mut stores = Vec::with_capacity(alloc, makers.len())?;

@@ -1,8 +1,9 @@
 //! Nodes, and what is kept beside them.
-ghost use Rattle.std.specs.Prelude.{◌≡◌, OnOk};
+ghost use Rattle.std.specs.Prelude.{◌≡◌, OnErr, OnOk};
 ghost use Rattle.bac_network.specs.Networks.{world_of, AreAlike, HasRoom, IsReady};
 ghost use Rattle.bac_network.specs.Steps.{HappensTelling, Untells};
-ghost use Rattle.bac_network.specs.Views.{event_view};
+ghost use Rattle.bac_network.specs.Clocks.{instant};
+ghost use Rattle.bac_network.specs.Views.{event_view, instant_after};
 
 use crate::event::Event;
 use crate::fact::Fact;
@@ -40,8 +41,10 @@ impl Network {
         event: &Event,
     ) -> Result<Option<AskFault>, WorldFault>
         requires { IsReady window overtake self.old }
-        ensures happens { HappensTelling overtake (world_of self.old) (event_view self.old.journal.moment event.now) result (world_of self.new) }
+        ensures happens { HappensTelling overtake (world_of self.old) (event_view (instant self.old.journal) event.now) result (world_of self.new) }
         ensures links { self.new.journal.links ≡ self.old.journal.links }
+        ensures passed { OnOk result (instant self.new.journal ≡ instant_after event.now (instant self.old.journal)) }
+        ensures stays { OnErr result (instant self.new.journal ≡ instant self.old.journal) }
     {
         match event {
             Event::Ask {

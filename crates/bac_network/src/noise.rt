@@ -4,7 +4,8 @@ ghost use Rattle.bac_world.specs.Laws.{IsMeaningless};
 ghost use Rattle.bac_world.specs.World.{HearsNoise};
 ghost use Rattle.bac_world.specs.World.Event.{Noise};
 ghost use Rattle.bac_network.specs.Goings.{ArePunctual};
-ghost use Rattle.bac_network.specs.Networks.{world_of};
+ghost use Rattle.bac_network.specs.Clocks.{instant};
+ghost use Rattle.bac_network.specs.Networks.{told_in, world_of};
 ghost use Rattle.bac_network.specs.Steps.{Happens};
 
 use crate::fault::WorldFault;
@@ -21,9 +22,10 @@ impl Network {
         from: LinkAddress,
         octets: &[u8],
     ) -> Result<(), WorldFault>
-        requires { ArePunctual self.old.nodes.items self.old.journal.moment }
+        requires { ArePunctual self.old.nodes.items (told_in self.old) }
         ensures happens { (overtake : ℕ) → Happens overtake (world_of self.old) (Noise node from octets.now) result (world_of self.new) }
         ensures links { self.new.journal.links ≡ self.old.journal.links }
+        ensures stays { instant self.new.journal ≡ instant self.old.journal }
     {
         if node >= self.nodes.len() {
             return Err(WorldFault::NoSuchNode);
@@ -36,13 +38,14 @@ impl Network {
 
     /// A node drops what means nothing.
     fn drop_noise(&mut self, node: usize, from: LinkAddress, octets: &[u8])
-        requires punctual { ArePunctual self.old.nodes.items self.old.journal.moment }
+        requires punctual { ArePunctual self.old.nodes.items (told_in self.old) }
         requires there { node < length self.old.nodes.items }
         requires noise { IsMeaningless from octets.now }
         ensures heard { HearsNoise (world_of self.old) node from octets.now (world_of self.new) }
         ensures links { self.new.journal.links ≡ self.old.journal.links }
+        ensures stays { instant self.new.journal ≡ instant self.old.journal }
     {
-        let Ok(_outcome) = hear(&mut self.nodes, node, self.journal.now(), from, octets) else {
+        let Ok(_outcome) = hear(&mut self.nodes, node, self.journal.told(node), from, octets) else {
             unreachable!()
         };
     }

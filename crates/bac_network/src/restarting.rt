@@ -2,7 +2,9 @@
 ghost use Rattle.std.specs.Prelude.{◌≡◌, ◌+◌, ◌<◌, ◌≤◌, ℕ, IfOk, OnErr, OnOk, length, vec_capacity};
 ghost use Rattle.bac_world.specs.World.{IsRestarted};
 ghost use Rattle.bac_world.specs.World.Event.{Restart as Happening};
-ghost use Rattle.bac_network.specs.Networks.{world_of};
+ghost use Rattle.bac_journal.specs.Clocks.{restart_at, restarted_own};
+ghost use Rattle.bac_network.specs.Clocks.{instant};
+ghost use Rattle.bac_network.specs.Networks.{world_of, IsReady};
 ghost use Rattle.bac_network.specs.Steps.{Happens};
 
 use crate::fact::Fact;
@@ -31,8 +33,12 @@ impl Network {
         node: usize,
         store: &Option<Store>,
     ) -> Result<(), WorldFault>
-        ensures happens { (overtake : ℕ) → Happens overtake (world_of self.old) (Happening node self.old.journal.moment store.now) result (world_of self.new) }
+        requires { (window : ℕ) × (overtake : ℕ) × IsReady window overtake self.old }
+        ensures happens { (overtake : ℕ) → Happens overtake (world_of self.old) (Happening node (restart_at self.old.journal.moment self.old.journal.own) store.now) result (world_of self.new) }
         ensures links { self.new.journal.links ≡ self.old.journal.links }
+        ensures passed { OnOk result (instant self.new.journal
+            ≡ record { moment = self.old.journal.moment; own = restarted_own node self.old.journal.own }) }
+        ensures stays { OnErr result (instant self.new.journal ≡ instant self.old.journal) }
     {
         if node >= self.nodes.len() {
             return Err(WorldFault::NoSuchNode);
@@ -48,9 +54,13 @@ impl Network {
         store: &Option<Store>,
     ) -> Result<(), NoMemory>
         requires there { node < length self.old.nodes.items }
-        ensures restarted { OnOk result (IsRestarted (world_of self.old) node self.old.journal.moment store.now (world_of self.new)) }
+        requires linked { node < length self.old.journal.links }
+        ensures restarted { OnOk result (IsRestarted (world_of self.old) node (restart_at self.old.journal.moment self.old.journal.own) store.now (world_of self.new)) }
         ensures err { OnErr result (world_of self.new ≡ world_of self.old) }
         ensures links { self.new.journal.links ≡ self.old.journal.links }
+        ensures passed { OnOk result (instant self.new.journal
+            ≡ record { moment = self.old.journal.moment; own = restarted_own node self.old.journal.own }) }
+        ensures stays { OnErr result (instant self.new.journal ≡ instant self.old.journal) }
     {
         let kept = start_of(alloc, store)?;
         let given = start_of(alloc, store)?;
@@ -66,14 +76,19 @@ impl Network {
         kept: Option<Store>,
     ) -> Result<(), NoMemory>
         requires there { node < length self.old.nodes.items }
+        requires linked { node < length self.old.journal.links }
         requires kept { kept ≡ given }
         requires room { length self.old.log.items + 1 ≤ vec_capacity self.old.log }
-        ensures restarted { OnOk result (IsRestarted (world_of self.old) node self.old.journal.moment given (world_of self.new)) }
+        ensures restarted { OnOk result (IsRestarted (world_of self.old) node (restart_at self.old.journal.moment self.old.journal.own) given (world_of self.new)) }
         ensures err { OnErr result (world_of self.new ≡ world_of self.old) }
         ensures links { self.new.journal.links ≡ self.old.journal.links }
+        ensures passed { OnOk result (instant self.new.journal
+            ≡ record { moment = self.old.journal.moment; own = restarted_own node self.old.journal.own }) }
+        ensures stays { OnErr result (instant self.new.journal ≡ instant self.old.journal) }
     {
-        let now = self.journal.now();
+        let now = self.journal.told_at_restart();
         restart_node(&mut self.nodes, node, now, given)?;
+        self.journal.restart_clock(node);
         let fact = Fact::Restarted { node, store: kept };
         self.log.push_reserved(fact);
         Ok(())

@@ -1,10 +1,12 @@
 //! Ticks of nodes, and of the clock.
-ghost use Rattle.std.specs.Prelude.{◌≡◌, ◌<◌, ℕ, OnErr, OnOk, length};
+ghost use Rattle.std.specs.Prelude.{◌≡◌, ◌+◌, ◌*◌, ◌<◌, ℕ, OnErr, OnOk, length};
 ghost use Rattle.bac_node.specs.Views.{outcome_view};
 ghost use Rattle.bac_world.specs.World.{Ticks};
 ghost use Rattle.bac_world.specs.World.Event.{Advance, Tick};
 ghost use Rattle.bac_network.specs.Goings.{IsDue};
-ghost use Rattle.bac_network.specs.Networks.{world_of, HasRoom, IsReady};
+ghost use Rattle.bac_journal.specs.Clocks.{later_by, parts_of, steps_of};
+ghost use Rattle.bac_network.specs.Clocks.{instant};
+ghost use Rattle.bac_network.specs.Networks.{told_in, world_of, HasRoom, IsReady};
 ghost use Rattle.bac_network.specs.Steps.{Happens};
 
 use crate::entering::enter;
@@ -20,6 +22,7 @@ impl Network {
         requires { (window : ℕ) × (overtake : ℕ) × IsReady window overtake self.old }
         ensures happens { (overtake : ℕ) → Happens overtake (world_of self.old) (Tick node) result (world_of self.new) }
         ensures links { self.new.journal.links ≡ self.old.journal.links }
+        ensures stays { instant self.new.journal ≡ instant self.old.journal }
     {
         if node >= self.nodes.len() {
             return Err(WorldFault::NoSuchNode);
@@ -34,8 +37,9 @@ impl Network {
         ensures went { OnOk result (Ticks (world_of self.old) node (world_of self.new)) }
         ensures err { OnErr result (world_of self.new ≡ world_of self.old) }
         ensures links { self.new.journal.links ≡ self.old.journal.links }
+        ensures stays { instant self.new.journal ≡ instant self.old.journal }
     {
-        let outcome = due(&self.nodes[node], self.journal.now())?;
+        let outcome = due(&self.nodes[node], self.journal.told(node))?;
         self.make_room(outcome.ended.len(), outcome.sends.len())?;
         self.make_tick(node, outcome);
         Ok(())
@@ -44,19 +48,24 @@ impl Network {
     /// A node does what is due, of which it is known what comes, and for which there is room. It takes no memory.
     fn make_tick(&mut self, node: usize, outcome: Outcome)
         requires ready { (window : ℕ) × (overtake : ℕ) × IsReady window overtake self.old }
-        requires due { IsDue self.old.nodes.items self.old.journal.moment node (outcome_view outcome) }
+        requires due { IsDue self.old.nodes.items (told_in self.old node) node (outcome_view outcome) }
         requires room { HasRoom (length (outcome_view outcome).ended) (length (outcome_view outcome).sends) self.old }
         ensures ticked { Ticks (world_of self.old) node (world_of self.new) }
         ensures links { self.new.journal.links ≡ self.old.journal.links }
+        ensures stays { instant self.new.journal ≡ instant self.old.journal }
     {
-        commit(&mut self.nodes, node, self.journal.now());
+        commit(&mut self.nodes, node, self.journal.told(node));
         enter(&mut self.journal, &mut self.log, node, outcome);
     }
 
     /// The clock goes on. It takes no memory.
     pub(crate) fn advance(&mut self, by: u64) -> Result<(), WorldFault>
-        ensures happens { (overtake : ℕ) → Happens overtake (world_of self.old) (Advance by (λ _. by)) result (world_of self.new) }
+        ensures happens { (overtake : ℕ) → Happens overtake (world_of self.old)
+            (Advance (parts_of self.old.journal.own * by) (steps_of self.old.journal.own by)) result (world_of self.new) }
         ensures links { self.new.journal.links ≡ self.old.journal.links }
+        ensures passed { OnOk result (instant self.new.journal
+            ≡ record { moment = self.old.journal.moment + parts_of self.old.journal.own * by; own = later_by by self.old.journal.own }) }
+        ensures stays { OnErr result (instant self.new.journal ≡ instant self.old.journal) }
     {
         match self.journal.advance(by) {
             Some(()) => Ok(()),

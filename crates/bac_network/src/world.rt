@@ -8,7 +8,7 @@ ghost use Rattle.bac_network.specs.Histories.{AreChangesPermittedNow, AreEndedOn
 ghost use Rattle.bac_network.specs.Histories.{HasRequestsAloneNow, IsOnceByRequestsAloneNow, IsOnceNow, as_world};
 ghost use Rattle.bac_network.specs.Steps.{NamesNoCopy, NamesNoNode, PassesClock, RefusesChange, TakesMemory, Tells};
 ghost use Rattle.bac_network.specs.Runs.{RequestsTakeEffectOnce, StopsAt};
-ghost use Rattle.bac_network.specs.Views.{event_view, events_view, log_view};
+ghost use Rattle.bac_network.specs.Views.{event_view, events_view, instant_after, log_view};
 
 use crate::are_alike;
 use crate::event::Event;
@@ -22,7 +22,7 @@ use bac_store::Store;
 use std::alloc::Global;
 use std::marker::Model;
 
-/// Nodes in one simulated network, with a clock, the copies of the datagrams that they sent, and a log of what was asked, performed and answered.
+/// Nodes in one simulated network, with one clock or clocks of their own, the copies of the datagrams that they sent, and a log of what was asked, performed and answered.
 ///
 /// Whatever events happen, every accepted ask takes effect at most once, and exactly once where a service answer reached its client; the request performed and
 /// the answer are its own, whole; and each store is that of its node's last start, after what was performed and changed there since, in the log's order. A
@@ -78,9 +78,9 @@ impl World {
         &self.opening
     }
 
-    /// The present moment, in milliseconds since the world was made.
+    /// The present moment, in milliseconds since the world was made; where nodes have clocks of their own in millionths of one.
     pub fn now(&self) -> u64
-        ensures { result ≡ self.now.moment }
+        ensures { result ≡ self.now.time.moment }
     {
         self.network.journal.now()
     }
@@ -129,14 +129,15 @@ impl World {
     /// exactly where the moment would pass 64 bits, `BadChange` exactly where a change of a node's own store has that fault, and after these `NoMemory` where
     /// an allocation fails: never for noise, for a copy that is not deliverable, or for the clock. After an error the world is as before.
     pub fn step(&mut self, event: &Event) -> Result<Option<AskFault>, WorldFault>
-        ensures went { OnOk result (WorldStep self.old.overtake (as_world self.old) (event_view self.old.moment event.now) (as_world self.new)) }
-        ensures told { IfOk result (λ told. Tells told (as_world self.old) (event_view self.old.moment event.now) (as_world self.new)) }
-        ensures node { IsErrOf result WorldFault.NoSuchNode ↔ NamesNoNode (as_world self.old) (event_view self.old.moment event.now) }
-        ensures datagram { IsErrOf result WorldFault.NoSuchDatagram ↔ NamesNoCopy (as_world self.old) (event_view self.old.moment event.now) }
-        ensures clock { IsErrOf result WorldFault.ClockEnd ↔ PassesClock (as_world self.old) (event_view self.old.moment event.now) }
+        ensures went { OnOk result (WorldStep self.old.overtake (as_world self.old) (event_view self.old.time event.now) (as_world self.new)) }
+        ensures told { IfOk result (λ told. Tells told (as_world self.old) (event_view self.old.time event.now) (as_world self.new)) }
+        ensures node { IsErrOf result WorldFault.NoSuchNode ↔ NamesNoNode (as_world self.old) (event_view self.old.time event.now) }
+        ensures datagram { IsErrOf result WorldFault.NoSuchDatagram ↔ NamesNoCopy (as_world self.old) (event_view self.old.time event.now) }
+        ensures clock { IsErrOf result WorldFault.ClockEnd ↔ PassesClock (as_world self.old) (event_view self.old.time event.now) }
         ensures change { (why : ChangeFault)
-            → (IsErrOf result (WorldFault.BadChange why) ↔ RefusesChange (as_world self.old) (event_view self.old.moment event.now) why) }
-        ensures memory { IsErrOf result WorldFault.NoMemory → TakesMemory self.old.overtake (as_world self.old) (event_view self.old.moment event.now) }
+            → (IsErrOf result (WorldFault.BadChange why) ↔ RefusesChange (as_world self.old) (event_view self.old.time event.now) why) }
+        ensures memory { IsErrOf result WorldFault.NoMemory → TakesMemory self.old.overtake (as_world self.old) (event_view self.old.time event.now) }
+        ensures passed { OnOk result (self.new.time ≡ instant_after event.now self.old.time) }
         ensures err { OnErr result (self.new ≡ self.old) }
         ensures settings { (self.new.overtake ≡ self.old.overtake) × (self.new.opening ≡ self.old.opening) }
         ensures once { IsOnceNow self.new }
@@ -144,7 +145,7 @@ impl World {
         ensures ended { AreEndedOnceNow self.new }
         ensures permitted { AreChangesPermittedNow self.new }
         ensures stores { AreReplayedNow self.new }
-        ensures requests_alone { RequestsTakeEffectOnce self.old (event_view self.old.moment event.now ∷ []) self.new }
+        ensures requests_alone { RequestsTakeEffectOnce self.old (event_view self.old.time event.now ∷ []) self.new }
     {
         self.network
             .step(self.alloc, self.overtake, self.window, event)
@@ -156,15 +157,15 @@ impl World {
     /// most once, and exactly once where a service answer reached its client; the request performed and the answer are its own, whole; and each server's store
     /// is its opening store after the performed requests in their order. With changes and restarts of nodes too, the log is right with the stores (`once`).
     pub fn run(&mut self, events: &[Event]) -> Result<(), RunFault>
-        ensures went { OnOk result (WorldRun self.old.overtake (as_world self.old) (events_view self.old.moment events.now) (as_world self.new)) }
-        ensures stopped { IfErr result (λ f. StopsAt f self.old (events_view self.old.moment events.now) self.new) }
+        ensures went { OnOk result (WorldRun self.old.overtake (as_world self.old) (events_view self.old.time events.now) (as_world self.new)) }
+        ensures stopped { IfErr result (λ f. StopsAt f self.old (events_view self.old.time events.now) self.new) }
         ensures settings { (self.new.overtake ≡ self.old.overtake) × (self.new.opening ≡ self.old.opening) }
         ensures once { IsOnceNow self.new }
         ensures performed { ArePerformedOnceNow self.new }
         ensures ended { AreEndedOnceNow self.new }
         ensures permitted { AreChangesPermittedNow self.new }
         ensures stores { AreReplayedNow self.new }
-        ensures requests_alone { RequestsTakeEffectOnce self.old (events_view self.old.moment events.now) self.new }
+        ensures requests_alone { RequestsTakeEffectOnce self.old (events_view self.old.time events.now) self.new }
     {
         for (place, event) in events.iter().enumerate() {
             if let Err(fault) = self.step(event) {
@@ -175,7 +176,7 @@ impl World {
         Ok(())
     }
 
-    /// Whether two worlds are the same: the limit of overtaking, the opening stores, the nodes with their stores, the moment, the log, the copies, and the
+    /// Whether two worlds are the same: the limit of overtaking, the opening stores, the nodes with their stores and clocks, the moment, the log, the copies, and the
     /// notes of asks. It takes no memory.
     pub fn same(&self, other: &World) -> bool
         ensures { IsTrue result ↔ (self.now ≡ other.now) }

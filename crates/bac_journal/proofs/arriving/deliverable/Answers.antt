@@ -3,7 +3,6 @@ use Rattle.std.proofs.Common.{◌≡◌, ℕ, List, map, length, Some, None, sli
 use Rattle.std.specs.Option.{option_map}
 use Rattle.std.proofs.lemmas.List.{length-map}
 use Rattle.std.proofs.lemmas.Option.{slice_get_read, slice_get_within, slice_get-map}
-use Rattle.bac_protocol.specs.declared.times.TheConstants.{LIFE}
 use Rattle.bac_world.specs.World as world
 use Rattle.bac_world.specs.World.{is_deliverable}
 use Rattle.bac_journal.specs.declared.copies.Copy.{Copy}
@@ -27,7 +26,7 @@ returns-in-Some-clause-is c = λ notes h w e.
     let at = slice_get_read copies (length copies) c.args.number copy refl c.in-Some.ensures.lookup.3.0 c.in-Some.ensures.lookup.1 in
     let same : copy_view copy ≡ w = let f : Some (copy_view copy) ≡ Some w = sym (seen copies c.args.number copy at) ∙ e in cc in
     ap Some (c.may_arrive.ensures notes c.args.number h at)
-    ∙ ap (λ (d : world.Copy). Some (is_deliverable c.args.overtake LIFE c.args.now c.args.number (map copy_view copies) d)) same
+    ∙ ap (λ (d : world.Copy). Some (is_deliverable c.args.overtake c.args.life c.args.now c.args.number (map copy_view copies) d)) same
 
 pub returns-in-None-clause-is : goal.returns-in-None-clause-is
 returns-in-None-clause-is c = λ notes h w e.

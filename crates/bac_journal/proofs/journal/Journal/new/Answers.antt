@@ -14,4 +14,5 @@ invariant_of-result c =
           (subst (λ (l : List Note). IsKept rows [] (notes_view l)) (sym c.new-2.ensures.items)
           (fresh_kept rows c.len.result c.in_ok-rows.ensures.many c.in_ok-rows.ensures.fresh)),
       c.in_ok-rows.ensures.many ∙ c.len.ensures ∙ c.args.links.ok.0,
+      tt,
     )

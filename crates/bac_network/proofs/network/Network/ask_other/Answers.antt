@@ -18,14 +18,14 @@ note-requires-clause-can c =
     let there = slice_get_read c.args.self.now.nodes.items _ c.args.server c.index.result.now refl c.requires.can.server_there c.index.ensures in
     (ask_enters c.args.self.now c.args.client c.args.server c.requires.can c.index.result.now there (limits_view c.args.limits.now)
     (owned_request_view c.args.request.now) c.ask.new.nodes c.in-Ok.asked c.deref_mut.result.now c.deref_mut.ensures.value c.link.result c.link.ensures
-    c.now-now.result c.now-now.ensures c.in-Ok.ensures.asked).can
+    c.told-now.result c.told-now.ensures c.in-Ok.ensures.asked).can
 
 pub note-requires-clause-room : goal.note-requires-clause-room
 note-requires-clause-room c =
     let there = slice_get_read c.args.self.now.nodes.items _ c.args.server c.index.result.now refl c.requires.can.server_there c.index.ensures in
     let few = (ask_enters c.args.self.now c.args.client c.args.server c.requires.can c.index.result.now there (limits_view c.args.limits.now)
     (owned_request_view c.args.request.now) c.ask.new.nodes c.in-Ok.asked c.deref_mut.result.now c.deref_mut.ensures.value c.link.result c.link.ensures
-    c.now-now.result c.now-now.ensures c.in-Ok.ensures.asked).few in
+    c.told-now.result c.told-now.ensures c.in-Ok.ensures.asked).few in
     let room = c.requires.can.room.journal in
     omega (arith, few, room)
 
@@ -39,7 +39,7 @@ returns-in-Ok-clause-happens c = λ overtake.
     c.requires.copied (c.note.ensures c.args.self.now.nodes.items c.requires.can.ready.linked) in
     let k = is_asked c.args.self.now c.args.client c.args.server c.requires.can c.index.result.now there (limits_view c.args.limits.now)
     (owned_request_view c.args.request.now) c.ask.new.nodes c.in-Ok.asked c.deref_mut.result.now c.deref_mut.ensures.value c.link.result c.link.ensures
-    c.now-now.result c.now-now.ensures c.in-Ok.ensures.asked new
+    c.told-now.result c.told-now.ensures c.in-Ok.ensures.asked new
     (with_items_is c.args.self.now.nodes c.ask.new.nodes (omega arith)) noted in
     (inl k, k, λ x. x)
 
@@ -54,5 +54,9 @@ returns-in-Err-clause-happens c = λ overtake.
     (owned_request_view c.args.request.now)
     (ap (λ l. world_with l c.args.self.now.journal (log_view c.args.self.now.log.items))
     (with_items_is c.args.self.now.nodes c.ask.new.nodes (omega arith) ∙ c.in-Err.ensures.err ∙ c.deref_mut.ensures.value))
-    c.deref_mut.result.now c.ask.new.nodes c.deref_mut.ensures.value c.link.result c.link.ensures c.now-now.result c.now-now.ensures c.in-Err.fault
+    c.deref_mut.result.now c.ask.new.nodes c.deref_mut.ensures.value c.link.result c.link.ensures c.told-now.result c.told-now.ensures c.in-Err.fault
     c.in-Err.ensures.refused c.told.result c.told.ensures
+
+pub returns-in-Ok-clause-stays : goal.returns-in-Ok-clause-stays
+returns-in-Ok-clause-stays c =
+    let k = c.note.ensures c.args.self.now.nodes.items c.requires.can.ready.linked in λ i. record { moment = k.moment i; own = k.own i }

@@ -11,5 +11,5 @@ pub returns-clause-heard : goal.returns-clause-heard
 returns-clause-heard c =
     let new : Network = record (c.args.self.now) { nodes = with_items c.args.self.now.nodes c.hear.new.nodes } in
     noise_heard c.args.self.now new c.args.node c.args.from c.args.octets.now (outcome_view c.in-Ok._outcome) c.requires.noise c.deref_mut.result.now
-    c.deref_mut.ensures.value c.now.result c.now.ensures c.hear.new.nodes
+    c.deref_mut.ensures.value c.told.result c.told.ensures c.hear.new.nodes
     (with_items_is c.args.self.now.nodes c.hear.new.nodes (omega arith)) c.in-Ok.ensures.went refl refl

@@ -3,6 +3,7 @@ use Rattle.std.proofs.Common.{ap, arith}
 use Rattle.std.proofs.lemmas.List.{with_items_is}
 use Rattle.std.specs.Vec.{with_items}
 use Rattle.bac_journal.specs.Journals.{JournalView}
+use Rattle.bac_network.specs.Clocks.{instant, time_at}
 use Rattle.bac_network.specs.declared.network.Network.{Network}
 use Rattle.bac_network.proofs.Delivered.{copy_enters, arrives}
 use Rattle.bac_network.proofs.network.Network.hand_over.Goals as goal
@@ -38,4 +39,4 @@ returns-clause-went c =
     arrives c.args.self.now new c.args.number _ _ c.deref_mut.result.now c.deref_mut.ensures.value c.hear_copy.new.nodes
     (with_items_is c.args.self.now.nodes c.hear_copy.new.nodes (omega arith)) c.in_ok-to.ensures.heard
     (c.enter.ensures.entered c.args.self.now.nodes.items (c.requires.ready.1).linked)
-    (ap (λ (j : JournalView). j.moment) c.enter.ensures.same) (ap (λ (j : JournalView). j.notes) c.enter.ensures.same)
+    (ap (λ (j : JournalView). time_at (instant j)) c.enter.ensures.same) (ap (λ (j : JournalView). j.notes) c.enter.ensures.same)

@@ -4,6 +4,7 @@ use Rattle.std.proofs.lemmas.List.{with_items_is}
 use Rattle.std.specs.Vec.{with_items}
 use Rattle.bac_node.specs.Views.{outcome_view}
 use Rattle.bac_journal.specs.Journals.{JournalView}
+use Rattle.bac_network.specs.Clocks.{instant, time_at}
 use Rattle.bac_network.specs.declared.network.Network.{Network}
 use Rattle.bac_network.proofs.Delivered.{tick_enters, ticks}
 use Rattle.bac_network.proofs.network.Network.make_tick.Goals as goal
@@ -27,7 +28,7 @@ pub returns-clause-ticked : goal.returns-clause-ticked
 returns-clause-ticked c =
     let new : Network =
     record { nodes = with_items c.args.self.now.nodes c.commit.new.nodes; journal = c.enter.new.journal; log = c.enter.new.log } in
-    ticks c.args.self.now new c.args.node (outcome_view c.args.outcome) c.requires.due c.deref_mut.result.now c.deref_mut.ensures.value c.now.result
-    c.now.ensures c.commit.new.nodes (with_items_is c.args.self.now.nodes c.commit.new.nodes (omega arith)) c.commit.ensures
+    ticks c.args.self.now new c.args.node (outcome_view c.args.outcome) c.requires.due c.deref_mut.result.now c.deref_mut.ensures.value c.told.result
+    c.told.ensures c.commit.new.nodes (with_items_is c.args.self.now.nodes c.commit.new.nodes (omega arith)) c.commit.ensures
     (c.enter.ensures.entered c.args.self.now.nodes.items (c.requires.ready.2).linked)
-    (ap (λ (j : JournalView). j.moment) c.enter.ensures.same) (ap (λ (j : JournalView). j.notes) c.enter.ensures.same)
+    (ap (λ (j : JournalView). time_at (instant j)) c.enter.ensures.same) (ap (λ (j : JournalView). j.notes) c.enter.ensures.same)

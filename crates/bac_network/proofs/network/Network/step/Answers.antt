@@ -1,8 +1,10 @@
 -- Events that tell nothing.
-use Rattle.std.proofs.Common.{sym, subst}
+use Rattle.std.proofs.Common.{◌*◌, sym, subst}
 use Rattle.bac_protocol.specs.Service.{Octets}
 use Rattle.bac_store.specs.Views.{change_view}
 use Rattle.bac_world.specs.World.Event.{Noise, Tick, Advance, Change, Restart}
+use Rattle.bac_journal.specs.Clocks.{parts_of, restart_at, steps_of}
+use Rattle.bac_network.specs.Clocks.{instant}
 use Rattle.bac_network.specs.Networks.{world_of}
 use Rattle.bac_network.specs.Steps.{Happens, HappensTelling}
 use Rattle.bac_network.specs.Views.{event_view}
@@ -17,7 +19,7 @@ returns-in-Noise-clause-happens c =
     subst
     (λ (o : Octets). Happens c.args.overtake (world_of c.args.self.now) (Noise c.in-Noise.node c.in-Noise.from o) c.hear_noise.result
     (world_of c.hear_noise.new.self)) c.deref.ensures.value (c.hear_noise.ensures.happens c.args.overtake) in
-    subst (λ (e : Event). HappensTelling c.args.overtake (world_of c.args.self.now) (event_view c.args.self.now.journal.moment e) c.untold-in-Noise.result
+    subst (λ (e : Event). HappensTelling c.args.overtake (world_of c.args.self.now) (event_view (instant c.args.self.now.journal) e) c.untold-in-Noise.result
     (world_of c.hear_noise.new.self))
     (sym c.in-Noise.is)
     (told_nothing c.args.overtake (world_of c.args.self.now) (world_of c.hear_noise.new.self)
@@ -25,7 +27,7 @@ returns-in-Noise-clause-happens c =
 
 pub returns-in-Tick-clause-happens : goal.returns-in-Tick-clause-happens
 returns-in-Tick-clause-happens c =
-    subst (λ (e : Event). HappensTelling c.args.overtake (world_of c.args.self.now) (event_view c.args.self.now.journal.moment e) c.untold-in-Tick.result
+    subst (λ (e : Event). HappensTelling c.args.overtake (world_of c.args.self.now) (event_view (instant c.args.self.now.journal) e) c.untold-in-Tick.result
     (world_of c.tick.new.self))
     (sym c.in-Tick.is)
     (told_nothing c.args.overtake (world_of c.args.self.now) (world_of c.tick.new.self) (Tick c.in-Tick.node) tt c.tick.result c.untold-in-Tick.result
@@ -33,15 +35,15 @@ returns-in-Tick-clause-happens c =
 
 pub returns-in-Advance-clause-happens : goal.returns-in-Advance-clause-happens
 returns-in-Advance-clause-happens c =
-    subst (λ (e : Event). HappensTelling c.args.overtake (world_of c.args.self.now) (event_view c.args.self.now.journal.moment e) c.untold-in-Advance.result
+    subst (λ (e : Event). HappensTelling c.args.overtake (world_of c.args.self.now) (event_view (instant c.args.self.now.journal) e) c.untold-in-Advance.result
     (world_of c.advance.new.self))
     (sym c.in-Advance.is)
-    (told_nothing c.args.overtake (world_of c.args.self.now) (world_of c.advance.new.self) (Advance c.in-Advance.by (λ _. c.in-Advance.by)) tt c.advance.result
+    (told_nothing c.args.overtake (world_of c.args.self.now) (world_of c.advance.new.self) (Advance (parts_of c.args.self.now.journal.own * c.in-Advance.by) (steps_of c.args.self.now.journal.own c.in-Advance.by)) tt c.advance.result
     c.untold-in-Advance.result (c.advance.ensures.happens c.args.overtake) c.untold-in-Advance.ensures)
 
 pub returns-in-Change-clause-happens : goal.returns-in-Change-clause-happens
 returns-in-Change-clause-happens c =
-    subst (λ (e : Event). HappensTelling c.args.overtake (world_of c.args.self.now) (event_view c.args.self.now.journal.moment e) c.untold-in-Change.result
+    subst (λ (e : Event). HappensTelling c.args.overtake (world_of c.args.self.now) (event_view (instant c.args.self.now.journal) e) c.untold-in-Change.result
     (world_of c.change.new.self))
     (sym c.in-Change.is)
     (told_nothing c.args.overtake (world_of c.args.self.now) (world_of c.change.new.self) (Change c.in-Change.node (change_view c.in-Change.change)) tt
@@ -49,9 +51,14 @@ returns-in-Change-clause-happens c =
 
 pub returns-in-Restart-clause-happens : goal.returns-in-Restart-clause-happens
 returns-in-Restart-clause-happens c =
-    subst (λ (e : Event). HappensTelling c.args.overtake (world_of c.args.self.now) (event_view c.args.self.now.journal.moment e) c.untold-in-Restart.result
+    subst (λ (e : Event). HappensTelling c.args.overtake (world_of c.args.self.now) (event_view (instant c.args.self.now.journal) e) c.untold-in-Restart.result
     (world_of c.restart.new.self))
     (sym c.in-Restart.is)
-    (told_nothing c.args.overtake (world_of c.args.self.now) (world_of c.restart.new.self) (Restart c.in-Restart.node c.args.self.now.journal.moment
+    (told_nothing c.args.overtake (world_of c.args.self.now) (world_of c.restart.new.self) (Restart c.in-Restart.node (restart_at c.args.self.now.journal.moment c.args.self.now.journal.own)
     c.in-Restart.store) tt
     c.restart.result c.untold-in-Restart.result (c.restart.ensures.happens c.args.overtake) c.untold-in-Restart.ensures)
+
+pub returns-in-Ask-clause-happens : goal.returns-in-Ask-clause-happens
+returns-in-Ask-clause-happens c =
+    subst (λ (e : Event). HappensTelling c.args.overtake (world_of c.args.self.now) (event_view (instant c.args.self.now.journal) e) c.ask.result
+    (world_of c.ask.new.self)) (sym c.in-Ask.is) (c.ask.ensures.happens c.args.overtake)

@@ -20,7 +20,7 @@ make_tick-requires-clause-ready c = (
 
 pub make_tick-requires-clause-due : goal.make_tick-requires-clause-due
 make_tick-requires-clause-due c =
-    due_alike c.args.self.now c.make_room.new.self c.in_ok-make_room.ensures.same c.args.node c.now.result c.now.ensures c.index.result.now
+    due_alike c.args.self.now c.make_room.new.self c.in_ok-make_room.ensures.same c.args.node c.told.result c.told.ensures c.index.result.now
     (slice_get_read c.args.self.now.nodes.items _ c.args.node c.index.result.now refl c.requires.there c.index.ensures) _ c.in_ok-outcome.ensures
 
 pub returns-clause-went : goal.returns-clause-went

@@ -1,9 +1,9 @@
 -- What is made is fresh.
-use Rattle.std.proofs.Common.{◌≡◌, [], List, ap, ◌∙◌}
+use Rattle.std.proofs.Common.{◌≡◌, [], List, None, refl, ap, ◌∙◌}
 use Rattle.bac_protocol.specs.Service.{Octets}
 use Rattle.bac_journal.specs.Journals.{JournalView}
 use Rattle.bac_network.specs.Fresh.{greatest_window, links_of, opening_of}
-use Rattle.bac_network.proofs.Makers.{all_good, kept_first, made_is}
+use Rattle.bac_network.proofs.Makers.{all_good, kept_first, made_is, one_shown, today}
 use Rattle.bac_network.proofs.world.World.fresh.Goals as goal
 
 pub nodes_made-requires : goal.nodes_made-requires
@@ -13,10 +13,11 @@ pub invariant_of-result : goal.invariant_of-result
 invariant_of-result c =
     let j = c.in_ok-journal.journal in
     let are : c.in_ok-links_of.field-0.items ≡ links_of c.args.makers.items = c.in_ok-links_of.ensures ∙ ap links_of c.deref-3.ensures.value in
-    kept_first c.args.overtake c.args.makers.items c.requires _ _ _ (c.greatest_window-window.ensures ∙ ap greatest_window c.deref.ensures.value)
+    kept_first (record { moment = 0; own = None }) refl today one_shown c.args.overtake c.args.makers.items c.requires _ _ _
+    (c.greatest_window-window.ensures ∙ ap greatest_window c.deref.ensures.value)
     (ap (λ (k : JournalView). k.links) c.in_ok-journal.ensures ∙ are)
-    (made_is c.args.overtake c.args.makers.items c.in_ok-opening.opening.items
+    (made_is (record { moment = 0; own = None }) c.args.overtake c.args.makers.items c.in_ok-opening.opening.items
     (record { nodes = c.in_ok-nodes.nodes; journal = c.in_ok-journal.journal; log = c.new-2.result })
     (c.in_ok-opening.ensures ∙ ap opening_of c.deref-2.ensures.value) c.in_ok-nodes.ensures
-    (c.in_ok-journal.ensures ∙ ap (λ (l : List Octets). record (c.in_ok-journal.journal) { links = l; moment = 0; copies = []; notes = [] }) are)
+    (c.in_ok-journal.ensures ∙ ap (λ (l : List Octets). record (c.in_ok-journal.journal) { links = l; moment = 0; own = None; copies = []; notes = [] }) are)
     c.new-2.ensures.items)

@@ -4,7 +4,7 @@ use Rattle.std.proofs.lemmas.Option.{slice_get_read}
 use Rattle.bac_network.specs.Views.{event_view, events_view}
 use Rattle.bac_network.specs.Histories.{HasRequestsAloneNow, as_world}
 use Rattle.bac_network.proofs.Histories.{requests_now}
-use Rattle.bac_network.proofs.WorldRunning.{all_done, alone_so_far, fault_is, goes_on, stops}
+use Rattle.bac_network.proofs.WorldRunning.{all_done, alone_so_far, fault_is, goes_on, stops, time_goes_on}
 use Rattle.bac_network.proofs.world.World.run.Goals as goal
 
 pub returns-in-Err-clause-stopped : goal.returns-in-Err-clause-stopped
@@ -13,8 +13,9 @@ returns-in-Err-clause-stopped c =
     let event = c.index-events-place.result in
     let lt : at.place < length c.args.events.now = omega arith in
     stops c.in-Err.fault c.args.self.now at.self c.step.new.self c.args.events.now at.place event
-    (slice_get_read c.args.events.now _ at.place event refl lt c.index-events-place.is) at.invariant.done at.invariant.overtake c.in-Err.ensures.err
-    (fault_is c.in-Err.fault at.self.overtake (as_world at.self) (event_view at.self.moment event) (Err c.in-Err.fault) refl c.in-Err.ensures.node
+    (slice_get_read c.args.events.now _ at.place event refl lt c.index-events-place.is) at.invariant.done at.invariant.overtake at.invariant.time
+    c.in-Err.ensures.err
+    (fault_is c.in-Err.fault at.self.overtake (as_world at.self) (event_view at.self.time event) (Err c.in-Err.fault) refl c.in-Err.ensures.node
     c.in-Err.ensures.datagram c.in-Err.ensures.clock c.in-Err.ensures.change c.in-Err.ensures.memory)
 
 pub returns-clause-went : goal.returns-clause-went
@@ -32,7 +33,9 @@ loop-place-preserved c =
     record {
       done = goes_on c.args.self.now at.self c.step.new.self c.args.events.now at.place event
           (slice_get_read c.args.events.now _ at.place event refl lt c.index-events-place.is) at.invariant.done at.invariant.overtake
-          c.in_default.ensures.went;
+          at.invariant.time c.in_default.ensures.went;
+      time = time_goes_on c.args.events.now at.place event (slice_get_read c.args.events.now _ at.place event refl lt c.index-events-place.is)
+          c.args.self.now.time at.self.time c.step.new.self.time at.invariant.time c.in_default.ensures.passed;
       overtake = c.in_default.ensures.settings.0 ∙ at.invariant.overtake;
       opening = c.in_default.ensures.settings.1 ∙ at.invariant.opening;
     }
@@ -40,11 +43,11 @@ loop-place-preserved c =
 pub returns-in-Err-clause-requests_alone : goal.returns-in-Err-clause-requests_alone
 returns-in-Err-clause-requests_alone c = λ before alone.
     let at = c.loop-place in
-    let so_far = alone_so_far c.args.self.now at.self (events_view c.args.self.now.moment c.args.events.now) at.place at.invariant.done before alone in
+    let so_far = alone_so_far c.args.self.now at.self (events_view c.args.self.now.time c.args.events.now) at.place at.invariant.done before alone in
     requests_now c.step.new.self c.step.ensures.once (subst HasRequestsAloneNow (sym c.in-Err.ensures.err) so_far)
 
 pub returns-clause-requests_alone : goal.returns-clause-requests_alone
 returns-clause-requests_alone c = λ before alone.
     let at = c.loop-place in
     c.is_once.ensures.requests_alone
-    (alone_so_far c.args.self.now at.self (events_view c.args.self.now.moment c.args.events.now) at.place at.invariant.done before alone)
+    (alone_so_far c.args.self.now at.self (events_view c.args.self.now.time c.args.events.now) at.place at.invariant.done before alone)

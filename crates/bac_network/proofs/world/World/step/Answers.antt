@@ -1,6 +1,7 @@
 -- The step of the network is one of the world.
 use Rattle.std.proofs.Common.{[], ◌∷◌, refl, sym, subst}
 use Rattle.bac_world.specs.World.{MakeRequestsAlone}
+use Rattle.bac_network.specs.Clocks.{instant}
 use Rattle.bac_network.specs.Histories.{WorldView, view_of}
 use Rattle.bac_network.specs.Networks.{world_of}
 use Rattle.bac_network.specs.Views.{event_view}
@@ -14,90 +15,91 @@ step-requires c = ready_now c.self.inside.window c.self.inside.overtake c.self.i
 pub invariant_of-self : goal.invariant_of-self
 invariant_of-self c =
     kept_after c.self.inside.window c.self.inside.overtake c.self.inside.opening.items c.self.inside.network c.step.new.self c.step.ensures.links
-    c.self.invariant (event_view c.self.inside.network.journal.moment c.args.event.now) c.step.result c.step.ensures.happens
+    c.self.invariant (event_view (instant c.self.inside.network.journal) c.args.event.now) c.step.result c.step.ensures.happens
 
 pub returns-clause-once : goal.returns-clause-once
 returns-clause-once c =
     let kept = kept_after c.self.inside.window c.self.inside.overtake c.self.inside.opening.items c.self.inside.network c.step.new.self c.step.ensures.links
-    c.self.invariant (event_view c.self.inside.network.journal.moment c.args.event.now) c.step.result c.step.ensures.happens in
+    c.self.invariant (event_view (instant c.self.inside.network.journal) c.args.event.now) c.step.result c.step.ensures.happens in
     once_now c.self.inside.window (view_of c.self.inside.overtake c.self.inside.opening.items c.step.new.self) kept.history
 
 pub returns-clause-performed : goal.returns-clause-performed
 returns-clause-performed c =
     let kept = kept_after c.self.inside.window c.self.inside.overtake c.self.inside.opening.items c.self.inside.network c.step.new.self c.step.ensures.links
-    c.self.invariant (event_view c.self.inside.network.journal.moment c.args.event.now) c.step.result c.step.ensures.happens in
+    c.self.invariant (event_view (instant c.self.inside.network.journal) c.args.event.now) c.step.result c.step.ensures.happens in
     let w = view_of c.self.inside.overtake c.self.inside.opening.items c.step.new.self in
     performed_now w (once_now c.self.inside.window w kept.history)
 
 pub returns-clause-ended : goal.returns-clause-ended
 returns-clause-ended c =
     let kept = kept_after c.self.inside.window c.self.inside.overtake c.self.inside.opening.items c.self.inside.network c.step.new.self c.step.ensures.links
-    c.self.invariant (event_view c.self.inside.network.journal.moment c.args.event.now) c.step.result c.step.ensures.happens in
+    c.self.invariant (event_view (instant c.self.inside.network.journal) c.args.event.now) c.step.result c.step.ensures.happens in
     let w = view_of c.self.inside.overtake c.self.inside.opening.items c.step.new.self in
     ended_now w (once_now c.self.inside.window w kept.history)
 
 pub returns-clause-stores : goal.returns-clause-stores
 returns-clause-stores c =
     let kept = kept_after c.self.inside.window c.self.inside.overtake c.self.inside.opening.items c.self.inside.network c.step.new.self c.step.ensures.links
-    c.self.invariant (event_view c.self.inside.network.journal.moment c.args.event.now) c.step.result c.step.ensures.happens in
+    c.self.invariant (event_view (instant c.self.inside.network.journal) c.args.event.now) c.step.result c.step.ensures.happens in
     let w = view_of c.self.inside.overtake c.self.inside.opening.items c.step.new.self in
     replayed_now w (once_now c.self.inside.window w kept.history)
 
 pub returns-clause-went : goal.returns-clause-went
 returns-clause-went c =
     rw (← c.self.view_is)
-    (step_is c.self.inside.overtake (world_of c.self.inside.network) (world_of c.step.new.self) (event_view c.self.inside.network.journal.moment
+    (step_is c.self.inside.overtake (world_of c.self.inside.network) (world_of c.step.new.self) (event_view (instant c.self.inside.network.journal)
     c.args.event.now) c.step.result
     c.step.ensures.happens)
 
 pub returns-clause-told : goal.returns-clause-told
 returns-clause-told c =
     rw (← c.self.view_is)
-    (told_is c.self.inside.overtake (world_of c.self.inside.network) (world_of c.step.new.self) (event_view c.self.inside.network.journal.moment
+    (told_is c.self.inside.overtake (world_of c.self.inside.network) (world_of c.step.new.self) (event_view (instant c.self.inside.network.journal)
     c.args.event.now) c.step.result
     c.step.ensures.happens)
 
 pub returns-clause-node : goal.returns-clause-node
 returns-clause-node c =
     rw (← c.self.view_is)
-    (node_exactly c.self.inside.overtake (world_of c.self.inside.network) (world_of c.step.new.self) (event_view c.self.inside.network.journal.moment
+    (node_exactly c.self.inside.overtake (world_of c.self.inside.network) (world_of c.step.new.self) (event_view (instant c.self.inside.network.journal)
     c.args.event.now) c.step.result
     c.step.ensures.happens)
 
 pub returns-clause-datagram : goal.returns-clause-datagram
 returns-clause-datagram c =
     rw (← c.self.view_is)
-    (copy_exactly c.self.inside.overtake (world_of c.self.inside.network) (world_of c.step.new.self) (event_view c.self.inside.network.journal.moment
+    (copy_exactly c.self.inside.overtake (world_of c.self.inside.network) (world_of c.step.new.self) (event_view (instant c.self.inside.network.journal)
     c.args.event.now) c.step.result
     c.step.ensures.happens)
 
 pub returns-clause-clock : goal.returns-clause-clock
 returns-clause-clock c =
     rw (← c.self.view_is)
-    (clock_exactly c.self.inside.overtake (world_of c.self.inside.network) (world_of c.step.new.self) (event_view c.self.inside.network.journal.moment
+    (clock_exactly c.self.inside.overtake (world_of c.self.inside.network) (world_of c.step.new.self) (event_view (instant c.self.inside.network.journal)
     c.args.event.now) c.step.result
     c.step.ensures.happens)
 
 pub returns-clause-change : goal.returns-clause-change
 returns-clause-change c =
     rw (← c.self.view_is)
-    (change_exactly c.self.inside.overtake (world_of c.self.inside.network) (world_of c.step.new.self) (event_view c.self.inside.network.journal.moment
+    (change_exactly c.self.inside.overtake (world_of c.self.inside.network) (world_of c.step.new.self) (event_view (instant c.self.inside.network.journal)
     c.args.event.now) c.step.result
     c.step.ensures.happens)
 
 pub returns-clause-memory : goal.returns-clause-memory
 returns-clause-memory c =
     rw (← c.self.view_is)
-    (memory_only c.self.inside.overtake (world_of c.self.inside.network) (world_of c.step.new.self) (event_view c.self.inside.network.journal.moment
+    (memory_only c.self.inside.overtake (world_of c.self.inside.network) (world_of c.step.new.self) (event_view (instant c.self.inside.network.journal)
     c.args.event.now) c.step.result
     c.step.ensures.happens)
 
 pub returns-clause-err : goal.returns-clause-err
 returns-clause-err c =
     rw (← c.self.view_is)
-    (same_seen c.self.inside.overtake (world_of c.self.inside.network) (world_of c.step.new.self) (event_view c.self.inside.network.journal.moment
+    (same_seen c.self.inside.overtake (world_of c.self.inside.network) (world_of c.step.new.self) (event_view (instant c.self.inside.network.journal)
     c.args.event.now) c.step.result
-    c.step.ensures.happens c.self.inside.overtake c.self.inside.opening.items)
+    c.step.ensures.happens (instant c.step.new.self.journal) (instant c.self.inside.network.journal) c.step.ensures.stays c.self.inside.overtake
+    c.self.inside.opening.items)
 
 pub returns-clause-settings : goal.returns-clause-settings
 returns-clause-settings c = rw (← c.self.view_is) (refl, refl)
@@ -105,19 +107,19 @@ returns-clause-settings c = rw (← c.self.view_is) (refl, refl)
 pub returns-clause-permitted : goal.returns-clause-permitted
 returns-clause-permitted c =
     let kept = kept_after c.self.inside.window c.self.inside.overtake c.self.inside.opening.items c.self.inside.network c.step.new.self c.step.ensures.links
-    c.self.invariant (event_view c.self.inside.network.journal.moment c.args.event.now) c.step.result c.step.ensures.happens in
+    c.self.invariant (event_view (instant c.self.inside.network.journal) c.args.event.now) c.step.result c.step.ensures.happens in
     let w = view_of c.self.inside.overtake c.self.inside.opening.items c.step.new.self in
     permitted_now w (once_now c.self.inside.window w kept.history)
 
 pub returns-clause-requests_alone : goal.returns-clause-requests_alone
 returns-clause-requests_alone c =
     let kept = kept_after c.self.inside.window c.self.inside.overtake c.self.inside.opening.items c.self.inside.network c.step.new.self c.step.ensures.links
-    c.self.invariant (event_view c.self.inside.network.journal.moment c.args.event.now) c.step.result c.step.ensures.happens in
+    c.self.invariant (event_view (instant c.self.inside.network.journal) c.args.event.now) c.step.result c.step.ensures.happens in
     let w = view_of c.self.inside.overtake c.self.inside.opening.items c.step.new.self in
     rw (← c.self.view_is)
     (λ before alone.
     requests_now w (once_now c.self.inside.window w kept.history)
-    (alone_after c.self.inside.overtake (world_of c.self.inside.network) (world_of c.step.new.self) (event_view c.self.inside.network.journal.moment
+    (alone_after c.self.inside.overtake (world_of c.self.inside.network) (world_of c.step.new.self) (event_view (instant c.self.inside.network.journal)
     c.args.event.now) c.step.result
     c.step.ensures.happens
-    (subst (λ (v : WorldView). MakeRequestsAlone (event_view v.moment c.args.event.now ∷ [])) (sym c.self.view_is) alone) before))
+    (subst (λ (v : WorldView). MakeRequestsAlone (event_view v.time c.args.event.now ∷ [])) (sym c.self.view_is) alone) before))

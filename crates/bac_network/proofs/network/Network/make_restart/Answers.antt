@@ -1,0 +1,22 @@
+-- It restarts with that store.
+use Rattle.std.proofs.Common.{◌∷◌, ap, ◌∙◌, arith}
+use Rattle.std.proofs.lemmas.List.{with_items_is}
+use Rattle.std.specs.Vec.{with_items}
+use Rattle.bac_world.specs.Once.Fact.{Restarted}
+use Rattle.bac_journal.specs.Journals.{JournalView}
+use Rattle.bac_network.specs.Views.{log_view}
+use Rattle.bac_network.specs.declared.network.Network.{Network}
+use Rattle.bac_network.proofs.Entered.{log_push}
+use Rattle.bac_network.proofs.Restarted.{node_restarted}
+use Rattle.bac_network.proofs.network.Network.make_restart.Goals as goal
+
+pub returns-clause-restarted : goal.returns-clause-restarted
+returns-clause-restarted c =
+    let new : Network =
+    record { nodes = with_items c.args.self.now.nodes c.restart_node.new.nodes; journal = c.restart_clock.new.self; log = c.push_reserved.new.self } in
+    node_restarted c.args.self.now new c.args.node c.told_at_restart-now.result c.args.given c.deref_mut.result.now c.deref_mut.ensures.value
+    c.restart_node.new.nodes (with_items_is c.args.self.now.nodes c.restart_node.new.nodes (omega arith)) c.told_at_restart-now.ensures
+    c.in_ok-restart_node.ensures.went c.restart_clock.ensures.time (ap (λ (j : JournalView). j.copies) c.restart_clock.ensures.is)
+    (ap (λ (j : JournalView). j.notes) c.restart_clock.ensures.is)
+    (ap log_view c.push_reserved.ensures.items ∙ log_push c.args.self.now.log.items _
+    ∙ ap (λ s. Restarted c.args.node s ∷ log_view c.args.self.now.log.items) c.requires.kept)
