@@ -81,5 +81,5 @@ pub record CanGoOn (W overtake : ℕ) (w : World) : Type 0 where
       → Every (CanBeCopied w.nodes (note_of client server accepted.invoke_id accepted.ticket ∷ w.notes) w.time.now client) sends × (length sends ≤ W + 1)
 
 abbrev pub RunsCanGoOn : Type 0
-RunsCanGoOn = (W overtake : ℕ) (w w' : World) → IsFresh w → IsTimely w.time.pace → IsBounded W overtake w → (events : List Event) → WorldRun overtake w events w'
-    → CanGoOn W overtake w'
+RunsCanGoOn = (W overtake : ℕ) (w w' : World) → IsFresh w → IsTimely w.time.pace → IsBounded W overtake w → (events : List Event)
+    → WorldRun overtake w events w' → CanGoOn W overtake w'
