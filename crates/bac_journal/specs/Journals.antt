@@ -22,7 +22,8 @@ pub record NoteRoom : Type 0 where
   pub notes : ℕ
   pub clients : List ClientRoom
 
--- the nodes' links, the moment, the nodes' own clocks if they have some, the copies and for how many more there is room, and the notes and for how many more there is room
+-- the nodes' links, the moment, the nodes' own clocks if they have some, the copies and for how many more there is room, and the notes and for how many
+-- more there is room
 pub record JournalView : Type 0 where
   pub links : List Octets
   pub moment : ℕ

@@ -116,7 +116,11 @@ impl Journal {
         requires slow { pace.drift < 1000000 }
         requires each { length starts.now ≡ length links.items }
         ensures { IfOk result (λ j. j ≡ record (j) {
-            links = links.items; moment = 0; own = Some (fresh_clocks pace.drift pace.life starts.now); copies = []; notes = []
+          links = links.items;
+          moment = 0;
+          own = Some (fresh_clocks pace.drift pace.life starts.now);
+          copies = [];
+          notes = [];
         }) }
     {
         let rows = fresh_rows(alloc, links.len())?;
@@ -255,8 +259,8 @@ impl Journal {
         self.links.get(node).copied()
     }
 
-    /// Whether a copy may arrive now: it was sent no longer ago than a copy lives, and at most so many later copies are of its transaction. None where there is no
-    /// such copy. It takes no memory.
+    /// Whether a copy may arrive now: it was sent no longer ago than a copy lives, and at most so many later copies are of its transaction. None where there
+    /// is no such copy. It takes no memory.
     pub fn is_deliverable(&self, overtake: u8, number: usize) -> Option<bool>
         ensures none { slice_get self.now.copies number ≡ None → result ≡ None }
         ensures is { (c : world.Copy) → slice_get self.now.copies number ≡ Some c

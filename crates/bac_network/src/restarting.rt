@@ -34,7 +34,8 @@ impl Network {
         store: &Option<Store>,
     ) -> Result<(), WorldFault>
         requires { (window : ℕ) × (overtake : ℕ) × IsReady window overtake self.old }
-        ensures happens { (overtake : ℕ) → Happens overtake (world_of self.old) (Happening node (restart_at self.old.journal.moment self.old.journal.own) store.now) result (world_of self.new) }
+        ensures happens { (overtake : ℕ) → Happens overtake (world_of self.old)
+            (Happening node (restart_at self.old.journal.moment self.old.journal.own) store.now) result (world_of self.new) }
         ensures links { self.new.journal.links ≡ self.old.journal.links }
         ensures passed { OnOk result (instant self.new.journal
             ≡ record { moment = self.old.journal.moment; own = restarted_own node self.old.journal.own }) }
@@ -55,7 +56,8 @@ impl Network {
     ) -> Result<(), NoMemory>
         requires there { node < length self.old.nodes.items }
         requires linked { node < length self.old.journal.links }
-        ensures restarted { OnOk result (IsRestarted (world_of self.old) node (restart_at self.old.journal.moment self.old.journal.own) store.now (world_of self.new)) }
+        ensures restarted { OnOk result (IsRestarted (world_of self.old) node
+            (restart_at self.old.journal.moment self.old.journal.own) store.now (world_of self.new)) }
         ensures err { OnErr result (world_of self.new ≡ world_of self.old) }
         ensures links { self.new.journal.links ≡ self.old.journal.links }
         ensures passed { OnOk result (instant self.new.journal
@@ -79,7 +81,8 @@ impl Network {
         requires linked { node < length self.old.journal.links }
         requires kept { kept ≡ given }
         requires room { length self.old.log.items + 1 ≤ vec_capacity self.old.log }
-        ensures restarted { OnOk result (IsRestarted (world_of self.old) node (restart_at self.old.journal.moment self.old.journal.own) given (world_of self.new)) }
+        ensures restarted { OnOk result (IsRestarted (world_of self.old) node
+            (restart_at self.old.journal.moment self.old.journal.own) given (world_of self.new)) }
         ensures err { OnErr result (world_of self.new ≡ world_of self.old) }
         ensures links { self.new.journal.links ≡ self.old.journal.links }
         ensures passed { OnOk result (instant self.new.journal

@@ -1,5 +1,6 @@
 //! A world.
-ghost use Rattle.std.specs.Prelude.{◌≡◌, ◌↔◌, ◌∷◌, [], ℕ, IsErrOf, IsTrue, IfErr, IfOk, OnErr, OnOk, MatchOption, MatchResult, None, Some, length, map, slice_get, take};
+ghost use Rattle.std.specs.Prelude.{◌≡◌, ◌↔◌, ◌∷◌, [], ℕ, IsErrOf, IsTrue, IfErr, IfOk, OnErr, OnOk, MatchOption, MatchResult, None, Some};
+ghost use Rattle.std.specs.Prelude.{length, map, slice_get, take};
 ghost use Rattle.bac_store.specs.declared.change_fault.ChangeFault.{ChangeFault};
 ghost use Rattle.bac_world.specs.World.{WorldRun, WorldStep, stores_of};
 ghost use Rattle.bac_journal.specs.Notes.{notes_view};
@@ -22,7 +23,8 @@ use bac_store::Store;
 use std::alloc::Global;
 use std::marker::Model;
 
-/// Nodes in one simulated network, with one clock or clocks of their own, the copies of the datagrams that they sent, and a log of what was asked, performed and answered.
+/// Nodes in one simulated network, with one clock or clocks of their own, the copies of the datagrams that they sent, and a log of what was asked, performed
+/// and answered.
 ///
 /// Whatever events happen, every accepted ask takes effect at most once, and exactly once where a service answer reached its client; the request performed and
 /// the answer are its own, whole; and each store is that of its node's last start, after what was performed and changed there since, in the log's order. A
@@ -176,8 +178,8 @@ impl World {
         Ok(())
     }
 
-    /// Whether two worlds are the same: the limit of overtaking, the opening stores, the nodes with their stores and clocks, the moment, the log, the copies, and the
-    /// notes of asks. It takes no memory.
+    /// Whether two worlds are the same: the limit of overtaking, the opening stores, the nodes with their stores and clocks, the moment, the log, the copies,
+    /// and the notes of asks. It takes no memory.
     pub fn same(&self, other: &World) -> bool
         ensures { IsTrue result ↔ (self.now ≡ other.now) }
     {
