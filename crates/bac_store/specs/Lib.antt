@@ -16,3 +16,4 @@ pub mod Kinds
 pub mod House
 pub mod Writes
 pub mod AtNode
+pub mod Listed

@@ -29,6 +29,7 @@ mod spelled;
 mod splice;
 mod store;
 mod store_fault;
+mod store_lookups;
 
 pub use change::Change;
 pub use change_fault::ChangeFault;
@@ -42,3 +43,4 @@ pub use object::{File, Object, Property};
 pub use planned::Planned;
 pub use store::Store;
 pub use store_fault::StoreFault;
+pub use store_lookups::{ListedValues, stores_are_in_order};
