@@ -1,0 +1,5 @@
+mod Chunks
+mod Files
+mod Maps
+mod Places
+mod Values
