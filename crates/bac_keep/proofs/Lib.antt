@@ -1,5 +1,7 @@
 mod Chunks
 mod Files
+mod Finding
 mod Maps
 mod Places
+mod Puts
 mod Values

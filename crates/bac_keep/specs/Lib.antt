@@ -1,5 +1,6 @@
 pub mod Cells
-pub mod Overlay
 pub mod Made
+pub mod Noted
+pub mod Overlay
 pub mod Rows
 pub mod Steps

@@ -15,7 +15,7 @@ pub record IsReady (v : View) : Type 0 where
 -- these cells wait for a commit, in place of those that were there; the last commit is as it was
 pub record HasCells (old : View) (cells : Cells) (new : View) : Type 0 where
   pub ready : IsReady new
-  pub cells : cells_of new.trees ≡ cells
+  pub has : cells_of new.trees ≡ cells
   pub committed : new.committed ≡ old.committed
 
 -- a crash leaves nothing that it could not leave before

@@ -2,6 +2,15 @@
 #![tactic(auto)]
 
 mod cell;
+mod fault;
+mod keeper;
 mod laws;
+mod made;
+mod noting;
+mod putting;
 
 pub use cell::Cell;
+pub use fault::KeepFault;
+pub use keeper::{Keeper, KeepsNothing};
+pub use laws::cells_are_writes;
+pub use made::Made;
