@@ -1,6 +1,6 @@
 -- The chunks of a file give all its octets.
-use Rattle.std.proofs.Common.{◌≡◌, ℕ, zero, suc, ◌+◌, ◌*◌, ◌<◌, ◌≤◌, Bool, true, false, ◌==◌, ◌&&◌, nat_lt, List, [], ◌∷◌, ◌++◌, length, take, drop, Option, Some, refl, sym, ap, ◌∙◌, arith, zero-add, if◌then◌else◌}
-use Rattle.std.proofs.lemmas.List.{take_all}
+use Rattle.std.proofs.Common.{◌≡◌, ℕ, zero, suc, ◌+◌, ◌-◌, ◌*◌, ◌<◌, ◌≤◌, Bool, true, false, ◌==◌, ◌&&◌, nat_lt, List, [], ◌∷◌, ◌++◌, length, take, drop, Option, Some, refl, sym, ap, ◌∙◌, arith, zero-add, if◌then◌else◌}
+use Rattle.std.proofs.lemmas.List.{length-drop, take_all}
 use Rattle.std.proofs.lemmas.Bool.Decides.{nat_tests}
 use Rattle.std.proofs.Math.Nat.{suc-mul, suc-add}
 use Rattle.bac_value.specs.Value.{ObjectId}
@@ -40,3 +40,9 @@ module _ (id : ObjectId) (octets : List ℕ) (cells : Cells) where
 
   pub chunks_join : (count : ℕ) → length octets ≤ count * CHUNK → joined (with_file id octets count cells) id count ≡ octets
   chunks_join count long = joined_there count count (omega arith) ∙ take_all _ _ long
+
+-- the last chunk may be short
+pub last_chunk : (size start : ℕ) (octets : List ℕ) → length octets - start ≤ size → take (length octets - start) (drop start octets) ≡ take size (drop start octets)
+last_chunk size start octets short =
+    take_all (length octets - start) (drop start octets) (omega (arith, length-drop start octets))
+    ∙ sym (take_all size (drop start octets) (omega (arith, short, length-drop start octets)))

@@ -1,11 +1,13 @@
 -- What a put makes of the cells.
-use Rattle.std.proofs.Common.{◌≡◌, ℕ, false, List, Some, refl, sym, ap, ◌∙◌, subst}
+use Rattle.std.proofs.Common.{◌≡◌, ◌≤◌, ℕ, false, List, Some, refl, sym, ap, ◌∙◌, subst}
 use Rattle.sqlite_value.specs.Order.{Row}
 use Rattle.sqlite_trees.specs.Tree.{Trees, put_row, with_tree}
-use Rattle.sqlite_trees.specs.View.{View, IsOrdered, SetsTree}
+use Rattle.sqlite_trees.specs.View.{View, IsClean, IsOrdered, SetsTree, doubt}
+use Rattle.bac_value.specs.Value.{ObjectId}
+use Rattle.bac_keep.specs.Overlay.{with_chunks}
 use Rattle.bac_keep.specs.Cells.{Cells, with_cell}
 use Rattle.bac_keep.specs.Rows.{IsRowOf, cells_of}
-use Rattle.bac_keep.specs.Steps.{HasCells, IsReady}
+use Rattle.bac_keep.specs.Steps.{HasCells, IsReady, NoMore}
 use Rattle.bac_keep.proofs.Finding.{found-put, ints, there_already}
 
 pub puts : (old mid new : View) (place : ℕ) (octets : List ℕ) (row : Row) → IsReady old → (old.is_broken ≡ false → IsOrdered old.shape old.trees) → mid ≡ old
@@ -40,3 +42,9 @@ and_then old mid new cells place octets before now = record {
   has = now.has ∙ ap (with_cell place octets) before.has;
   committed = now.committed ∙ before.committed;
 }
+
+-- so many chunks are put
+pub record IsPutting {S : Type 0} (view : S → View) (recovers : S → Trees → Type 0) (id : ObjectId) (octets : List ℕ) (old : S) (count : ℕ) (new : S) : Type 0 where
+  pub clean : doubt (view old).is_clean ≤ doubt (view new).is_clean
+  pub put : IsClean (view new) → HasCells (view old) (with_chunks id octets count (cells_of (view old).trees)) (view new)
+  pub crash : NoMore recovers old new

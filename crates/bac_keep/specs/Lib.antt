@@ -3,4 +3,5 @@ pub mod Made
 pub mod Noted
 pub mod Overlay
 pub mod Rows
+pub mod Settling
 pub mod Steps

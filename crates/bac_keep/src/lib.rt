@@ -2,6 +2,7 @@
 #![tactic(auto)]
 
 mod cell;
+mod cells;
 mod fault;
 mod keeper;
 mod laws;
@@ -10,6 +11,7 @@ mod noting;
 mod putting;
 
 pub use cell::Cell;
+pub use cells::CellKeeper;
 pub use fault::KeepFault;
 pub use keeper::{Keeper, KeepsNothing};
 pub use laws::cells_are_writes;

@@ -52,11 +52,11 @@ fn chunk_of(octets: &[u8], at: u8) -> &[u8]
     requires { at * CHUNK_SIZE ≤ length octets.now }
     ensures { result.now ≡ chunk octets.now at }
 {
-    let rest = &octets[usize::from(at) * CHUNK..];
-    if rest.len() <= CHUNK {
-        return rest;
+    let start = usize::from(at) * CHUNK;
+    if octets.len() - start <= CHUNK {
+        return &octets[start..];
     }
-    &rest[..CHUNK]
+    &octets[start..start + CHUNK]
 }
 
 /// Puts the first chunks of a file into the table.
