@@ -5,4 +5,5 @@ mod Maps
 mod Notes
 mod Places
 mod Puts
+mod RowReading
 mod Values

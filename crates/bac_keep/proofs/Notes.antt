@@ -1,7 +1,7 @@
 -- When what a node has made is noted, the document and its cells make the store that it has.
-use Rattle.std.proofs.Common.{◌≡◌, ◌⊎◌, ℕ, ◌+◌, ◌*◌, ◌/◌, ◌<◌, ◌≤◌, Bool, true, false, not, ◌&&◌, ◌==◌, nat_lt, List, [], ◌∷◌, length, map, Option, Some, None, is_some, refl, sym, ap, ◌∙◌, subst, arith, if◌then◌else◌}
+use Rattle.std.proofs.Common.{◌≡◌, ◌⊎◌, ℕ, ℤ, ◌+◌, ◌*◌, ◌/◌, ◌<◌, ◌≤◌, Bool, true, false, not, ◌&&◌, ◌==◌, nat_lt, List, [], ◌∷◌, length, map, Option, Some, None, is_some, refl, sym, ap, ◌∙◌, subst, arith, if◌then◌else◌}
 use Rattle.std.specs.List.{AllPairs}
-use Rattle.std.specs.Option.{option_map}
+use Rattle.std.specs.Option.{IfSome, option_map}
 use Rattle.std.proofs.lemmas.Bool.Decides.{nat_tests}
 use Rattle.bac_value.specs.Value.{ObjectId}
 use Rattle.bac_service.specs.Replies.{Reply}
@@ -16,16 +16,18 @@ use Rattle.bac_store.specs.Replies.{at_file, at_object, at_property, file_of, is
 use Rattle.bac_store.specs.Limits.{FILE_LIMIT, VALUE_LIMIT}
 use Rattle.bac_store.specs.Stores.{File, Object, Property, Store, is_number, is_object, is_state, listed_in, object_in, property_in}
 use Rattle.bac_store.specs.Writes.{file_at, listed_at, listed_of}
-use Rattle.bac_store.proofs.Distinct.{AllPairs-map}
-use Rattle.bac_store.proofs.GrantLaws.{listed}
+use Rattle.bac_store.proofs.Distinct.{AllPairs-map, some_first}
+use Rattle.bac_store.proofs.GrantLaws.{granted_after, listed}
 use Rattle.bac_store.proofs.OrderLaws.{first_that-map}
 use Rattle.bac_store.proofs.PlanLaws.{same_octets}
 use Rattle.bac_store.proofs.WriteLaws.{file_changed, value_written, where_done}
-use Rattle.bac_keep.specs.Cells.{Cells, Fits, NUMBERS, value_place, with_cell}
-use Rattle.bac_keep.specs.Made.{IsWritableFile, IsWritableValue}
+use Rattle.bac_keep.specs.Cells.{Cells, Fits, NUMBERS, file_place, value_place, with_cell}
+use Rattle.bac_keep.specs.Made.{IsKeepable, IsWritableFile, IsWritableValue, Made, after_made}
+use Rattle.bac_keep.specs.Made.Made.{Changed, Performed}
 use Rattle.bac_keep.specs.Noted.{chunk_count, octets_noted, values_noted, with_octets_of, with_property}
 use Rattle.bac_keep.specs.Overlay.{CHUNK, file_over, in_place, is_kept, joined, object_over, of_chunks, overlay, value_over, with_file}
 use Rattle.bac_keep.proofs.Files.{file_written}
+use Rattle.bac_keep.proofs.Maps.{kept}
 use Rattle.bac_keep.proofs.Values as cell
 
 number_over : (cells : Cells) (id : ObjectId) (p : Property) → (value_over cells id p).number ≡ p.number
@@ -45,15 +47,15 @@ flag_over cells id p = go (is_kept p) (cells (value_place id p.number))
     go false x = refl
 
 file_flag_over : (cells : Cells) (id : ObjectId) (f : File) → (file_over cells id f).writable ≡ f.writable
-file_flag_over cells id f = go f.writable refl (of_chunks_flag _ (joined cells id))
+file_flag_over cells id f = go f.writable (of_chunks (cells (file_place id 0)) (joined cells id) f) (of_chunks_flag (cells (file_place id 0)) (joined cells id))
   where
     of_chunks_flag : (x : Option (List ℕ)) (chunks : ℕ → List ℕ) → (of_chunks x chunks f).writable ≡ f.writable
     of_chunks_flag None chunks = refl
     of_chunks_flag (Some c) chunks = refl
 
-    go : (b : Bool) → f.writable ≡ b → {y : File} → y.writable ≡ f.writable → (if b then y else f).writable ≡ f.writable
-    go true e h = h
-    go false e h = refl
+    go : (b : Bool) (y : File) → y.writable ≡ f.writable → (if b then y else f).writable ≡ f.writable
+    go true y h = h
+    go false y h = refl
 
 module _ (cells : Cells) (document : Store) where
   object_there : (id : ObjectId) → object_in (overlay cells document) id ≡ option_map (object_over cells) (object_in document id)
@@ -179,3 +181,60 @@ granted_file s id access granted = go (file_at s id) refl access granted
       found = e;
       writable = by_flag f.writable (is_no_write_start start f.octets) (nat_lt FILE_LIMIT (length (written start new f.octets))) _ h;
     }
+
+-- ---- what is made
+
+file_short : (s : Store) → IsInOrder s → (id : ObjectId) (f : File) → file_at s id ≡ Some f → length f.octets ≤ FILE_LIMIT
+file_short s order id f found = go (object_in s id) refl found
+  where
+    go : (x : Option Object) → object_in s id ≡ x → file_of x ≡ Some f → length f.octets ≤ FILE_LIMIT
+    go None e h = absurd (cc)
+    go (Some o) e h =
+        let there = some_first (is_object id) s o e in
+        subst (λ (x : Option File). IfSome x (λ g. length g.octets ≤ FILE_LIMIT)) h (kept s order o there.0).file_fits
+
+if_some : {A : Type 0} (P : A → Type 0) (x : Option A) → IfSome x P → (a : A) → x ≡ Some a → P a
+if_some {A = A} P x h a e = subst (λ (y : Option A). IfSome y P) e h
+
+records_refused : (x : Option File) (start : ℤ) (count : ℕ) (run : List ℕ) → is_done (at_file x (write_file_reply (WriteRecords start count run))) ≡ true → ⊥
+records_refused None start count run h = cc
+records_refused (Some f) start count run h = cc
+
+module _ (cells : Cells) (document : Store) (order : IsInOrder document) (s : Store) (m : Made) (is : s ≡ after_made m (overlay cells document))
+    (keepable : IsKeepable m (overlay cells document)) where
+  pub performed_value : (r : Reference) (values : List ℕ) (priority : Option ℕ) → m ≡ Performed (WriteProperty r values priority) → Fits r.object
+      → IfSome (listed_at s r.object r.property) (λ p. p.writable ≡ true → r.property < NUMBERS)
+      → overlay (values_noted s r.object r.property cells) document ≡ s
+  performed_value r values priority e id_fits small =
+      let now = overlay cells document in
+      let granted : IsGranted now (WriteProperty r values priority) = subst (λ (x : Made). IsKeepable x now) e keepable in
+      let made : s ≡ after now (WriteProperty r values priority) = is ∙ ap (λ (x : Made). after_made x now) e in
+      values_are_noted cells document order r.object r.property values s id_fits (granted_value r values now priority granted)
+      (made ∙ granted_after now r values priority granted) (if_some (λ p. p.writable ≡ true → r.property < NUMBERS) _ small)
+
+  pub changed_value : (id : ObjectId) (n : ℕ) (values : List ℕ) → m ≡ Changed (Change.Value id n values) → Fits id
+      → IfSome (listed_at s id n) (λ p. p.writable ≡ true → n < NUMBERS) → overlay (values_noted s id n cells) document ≡ s
+  changed_value id n values e id_fits small =
+      let now = overlay cells document in
+      values_are_noted cells document order id n values s id_fits (subst (λ (x : Made). IsKeepable x now) e keepable)
+      (is ∙ ap (λ (x : Made). after_made x now) e) (if_some (λ p. p.writable ≡ true → n < NUMBERS) _ small)
+
+  pub performed_octets : IsInOrder s → (id : ObjectId) (access : WriteAccess) → m ≡ Performed (WriteFile id access) → Fits id
+      → overlay (octets_noted s id cells) document ≡ s
+  performed_octets s_order id (WriteRecords start count run) e id_fits =
+      let granted : IsGranted (overlay cells document) (WriteFile id (WriteRecords start count run)) = subst (λ (x : Made). IsKeepable x (overlay cells document)) e keepable in
+      absurd (records_refused (file_at (overlay cells document) id) start count run granted)
+  performed_octets s_order id (WriteStream start octets) e id_fits =
+      let now = overlay cells document in
+      let r : Request = WriteFile id (WriteStream start octets) in
+      let granted : IsGranted now r = subst (λ (x : Made). IsKeepable x now) e keepable in
+      let made : s ≡ after now r = is ∙ ap (λ (x : Made). after_made x now) e in
+      octets_are_noted cells document order id (written start octets) s id_fits (granted_file now id (WriteStream start octets) granted)
+      (made ∙ where_done (is_done (reply_to now r)) (with_object id (with_octets (written start octets)) now) now granted) (file_short s s_order id)
+
+  pub changed_octets : IsInOrder s → (id : ObjectId) (octets : List ℕ) → m ≡ Changed (Change.File id octets) → Fits id
+      → overlay (octets_noted s id cells) document ≡ s
+  changed_octets s_order id octets e id_fits =
+      let now = overlay cells document in
+      octets_are_noted cells document order id (λ old. octets) s id_fits (subst (λ (x : Made). IsKeepable x now) e keepable)
+      (is ∙ ap (λ (x : Made). after_made x now) e) (file_short s s_order id)

@@ -24,3 +24,10 @@ cells_of trees = found (trees 0)
 abbrev pub held : List Cell → Cells
 held [] = no_cells
 held (c ∷ cs) = with_cell c.place c.octets.items (held cs)
+
+-- the rows of these cells, in the same order
+abbrev pub AreCells : List Row → List Cell → Type 0
+AreCells [] [] = Unit {0}
+AreCells [] (c ∷ cs) = ⊥
+AreCells (r ∷ rs) [] = ⊥
+AreCells (r ∷ rs) (c ∷ cs) = IsRowOf c.place c.octets.items r × AreCells rs cs

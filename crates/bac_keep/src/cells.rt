@@ -44,29 +44,30 @@ fn note_made<S: Store>(
     ensures crash { NoMore S.recovers database.old database.new }
 {
     stores_are_in_order(document);
+    stores_are_in_order(store);
     match *made {
         Made::Performed(AnyRequest::WriteProperty(write)) => {
             let reference = write.reference;
-            note_values(alloc, database, store, reference.object, reference.property)
+            note_values(alloc, database, store, reference.object, reference.property)?;
+            Ok(())
         }
-        Made::Performed(AnyRequest::WriteFile(write)) => note_octets(
-            alloc,
-            database,
-            store,
-            write.file,
-        ),
+        Made::Performed(AnyRequest::WriteFile(write)) => {
+            note_octets(alloc, database, store, write.file)?;
+            Ok(())
+        }
         Made::Performed(_) => Ok(()),
         Made::Changed(Change::Value {
             object,
             property,
             octets: _,
-        }) => note_values(alloc, database, store, *object, *property),
-        Made::Changed(Change::File { object, octets: _ }) => note_octets(
-            alloc,
-            database,
-            store,
-            *object,
-        ),
+        }) => {
+            note_values(alloc, database, store, *object, *property)?;
+            Ok(())
+        }
+        Made::Changed(Change::File { object, octets: _ }) => {
+            note_octets(alloc, database, store, *object)?;
+            Ok(())
+        }
     }
 }
 

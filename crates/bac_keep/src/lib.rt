@@ -9,6 +9,7 @@ mod laws;
 mod made;
 mod noting;
 mod putting;
+mod reading;
 
 pub use cell::Cell;
 pub use cells::CellKeeper;
