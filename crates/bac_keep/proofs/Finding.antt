@@ -37,7 +37,7 @@ module _ (p : ℕ) (octets : List ℕ) (new : Row) (row : IsRowOf p octets new) 
   what_is_there : Some (bytes (column new 2)) ≡ Some octets
   what_is_there = ap (λ (v : Value). Some (bytes v)) row.holds
 
-  on_top : (rows : List Row) (q : ℕ) → found (new ∷ rows) q ≡ with_cell p octets (found rows) q
+  pub on_top : (rows : List Row) (q : ℕ) → found (new ∷ rows) q ≡ with_cell p octets (found rows) q
   on_top rows q = ap (λ (b : Bool). if b then Some (bytes (column new 2)) else found rows q) (is_there q) ∙ ap (λ (x : Option (List ℕ)). if q == p then x else found rows q) what_is_there
 
   pub found-put : (rows : List Row) → AllByRecursion (λ r. IsTrue (is_int (rowid r))) rows → (q : ℕ) → found (put_row new rows) q ≡ with_cell p octets (found rows) q

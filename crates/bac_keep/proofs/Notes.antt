@@ -30,7 +30,7 @@ use Rattle.bac_keep.proofs.Files.{file_written}
 use Rattle.bac_keep.proofs.Maps.{kept}
 use Rattle.bac_keep.proofs.Values as cell
 
-number_over : (cells : Cells) (id : ObjectId) (p : Property) → (value_over cells id p).number ≡ p.number
+pub number_over : (cells : Cells) (id : ObjectId) (p : Property) → (value_over cells id p).number ≡ p.number
 number_over cells id p = go (is_kept p) (cells (value_place id p.number))
   where
     go : (b : Bool) (x : Option (List ℕ)) → (if b then in_place x p else p).number ≡ p.number
@@ -38,7 +38,7 @@ number_over cells id p = go (is_kept p) (cells (value_place id p.number))
     go true (Some v) = refl
     go false x = refl
 
-flag_over : (cells : Cells) (id : ObjectId) (p : Property) → (value_over cells id p).writable ≡ p.writable
+pub flag_over : (cells : Cells) (id : ObjectId) (p : Property) → (value_over cells id p).writable ≡ p.writable
 flag_over cells id p = go (is_kept p) (cells (value_place id p.number))
   where
     go : (b : Bool) (x : Option (List ℕ)) → (if b then in_place x p else p).writable ≡ p.writable
@@ -46,7 +46,7 @@ flag_over cells id p = go (is_kept p) (cells (value_place id p.number))
     go true (Some v) = refl
     go false x = refl
 
-file_flag_over : (cells : Cells) (id : ObjectId) (f : File) → (file_over cells id f).writable ≡ f.writable
+pub file_flag_over : (cells : Cells) (id : ObjectId) (f : File) → (file_over cells id f).writable ≡ f.writable
 file_flag_over cells id f = go f.writable (of_chunks (cells (file_place id 0)) (joined cells id) f) (of_chunks_flag (cells (file_place id 0)) (joined cells id))
   where
     of_chunks_flag : (x : Option (List ℕ)) (chunks : ℕ → List ℕ) → (of_chunks x chunks f).writable ≡ f.writable
@@ -58,7 +58,7 @@ file_flag_over cells id f = go f.writable (of_chunks (cells (file_place id 0)) (
     go false y h = refl
 
 module _ (cells : Cells) (document : Store) where
-  object_there : (id : ObjectId) → object_in (overlay cells document) id ≡ option_map (object_over cells) (object_in document id)
+  pub object_there : (id : ObjectId) → object_in (overlay cells document) id ≡ option_map (object_over cells) (object_in document id)
   object_there id = first_that-map (is_object id) (object_over cells) (λ o. refl) document
 
   -- a writable property of the store is one of the document

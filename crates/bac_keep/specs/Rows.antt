@@ -1,5 +1,6 @@
 -- The rows of the table, and the cells that they are.
-use Rattle.std.specs.Prelude.{◌≡◌, ℕ, pos, List, [], ◌∷◌, Some, None, if◌then◌else◌}
+use Rattle.std.specs.Prelude.{◌≡◌, ◌<◌, ℕ, pos, List, [], ◌∷◌, Some, None, if◌then◌else◌}
+use Rattle.std.specs.List.{AllByRecursion}
 use Rattle.sqlite_value.specs.declared.value.Value.TheVariants.{Int, Blob}
 use Rattle.sqlite_value.specs.Order.{Row, column, bytes}
 use Rattle.sqlite_trees.specs.Tree.{Trees, has_rowid, rowid}
@@ -31,3 +32,8 @@ AreCells [] [] = Unit {0}
 AreCells [] (c ∷ cs) = ⊥
 AreCells (r ∷ rs) [] = ⊥
 AreCells (r ∷ rs) (c ∷ cs) = IsRowOf c.place c.octets.items r × AreCells rs cs
+
+-- each place is above those before it
+abbrev pub IsRising : List Cell → Type 0
+IsRising [] = Unit {0}
+IsRising (c ∷ cs) = AllByRecursion (λ d. c.place < d.place) cs × IsRising cs

@@ -8,8 +8,10 @@ mod keeper;
 mod laws;
 mod made;
 mod noting;
+mod part;
 mod putting;
 mod reading;
+mod restoring;
 
 pub use cell::Cell;
 pub use cells::CellKeeper;
@@ -17,3 +19,4 @@ pub use fault::KeepFault;
 pub use keeper::{Keeper, KeepsNothing};
 pub use laws::cells_are_writes;
 pub use made::Made;
+pub use part::Part;
