@@ -10,7 +10,10 @@ use Rattle.sqlite_trees.specs.Tree.{IsTable, rowid}
 use Rattle.sqlite_trees.specs.View.{View, IsOrdered, IsShaped}
 use Rattle.sqlite_trees.specs.declared.store.Shape.{Shape}
 use Rattle.bac_keep.specs.declared.cell.Cell.{Cell}
-use Rattle.bac_keep.specs.Rows.{AreCells, IsRising, IsRowOf, found, held}
+use Rattle.bac_store.specs.Stores.{Store}
+use Rattle.bac_keep.specs.Cells.{Cells}
+use Rattle.bac_keep.specs.Overlay.{overlay}
+use Rattle.bac_keep.specs.Rows.{AreCells, IsRising, IsRowOf, cells_of, found, held}
 use Rattle.bac_keep.specs.Steps.{IsReady}
 use Rattle.bac_keep.proofs.Finding.{on_top}
 
@@ -85,3 +88,10 @@ pub held_drop : (cs : List Cell) (at : ℕ) (d : Cell) → at < length cs → dr
 held_drop [] at d l = absurd (omega (arith, l))
 held_drop (c ∷ cs) zero d l = refl
 held_drop (c ∷ cs) (suc at) d l = held_drop cs at d (omega (arith, l))
+
+-- the store of a document and the cells that were read
+pub opened : (v : View) (cells : List Cell) (document s : Store) → IsReady v → (v.is_broken ≡ false → IsOrdered v.shape v.trees) → AreCells (v.trees 0) cells
+    → (IsRising cells → s ≡ overlay (held cells) document) → s ≡ overlay (cells_of v.trees) document
+opened v cells document s ready ordered are restored =
+    restored (rising (v.trees 0) cells are (table v ready ordered))
+    ∙ ap (λ (x : Cells). overlay x document) (λ i q. sym (found-held (v.trees 0) cells are q) i)

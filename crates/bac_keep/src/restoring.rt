@@ -20,9 +20,8 @@ fn octets_at(
     object: ObjectIdentifier,
     count: u8,
 ) -> Result<Vec<u8>, KeepFault>
-    requires rising { IsRising cells.now }
-    requires within { at < length cells.now }
-    ensures { IfOk result (λ v. v.items ≡ joined (held (drop at cells.now)) (object_identifier_view object) count) }
+    requires { at < length cells.now }
+    ensures { IfOk result (λ v. IsRising cells.now → v.items ≡ joined (held (drop at cells.now)) (object_identifier_view object) count) }
 {
     let mut octets = Vec::new(alloc);
     for part in 0..count {
@@ -104,10 +103,9 @@ fn restore_cell(
     cells: &[Cell],
     at: usize,
 ) -> Result<(), KeepFault>
-    requires rising { IsRising cells.now }
     requires within { at < length cells.now }
-    requires above { store.old ≡ overlay (held (drop (at + 1) cells.now)) document.now }
-    ensures { OnOk result (store.new ≡ overlay (held (drop at cells.now)) document.now) }
+    requires above { IsRising cells.now → store.old ≡ overlay (held (drop (at + 1) cells.now)) document.now }
+    ensures { OnOk result (IsRising cells.now → store.new ≡ overlay (held (drop at cells.now)) document.now) }
 {
     stores_are_in_order(document);
     let cell = &cells[at];
@@ -133,8 +131,7 @@ fn restore_cell(
 /// a file that can't have what is kept. Cells of no property and no file of the document, or of one that may not be written, have no
 /// effect.
 pub(crate) fn restored(alloc: Global, document: &Store, cells: &[Cell]) -> Result<Store, KeepFault>
-    requires { IsRising cells.now }
-    ensures { IfOk result (λ s. s ≡ overlay (held cells.now) document.now) }
+    ensures { IfOk result (λ s. IsRising cells.now → s ≡ overlay (held cells.now) document.now) }
 {
     let mut store = document.copy(alloc)?;
     let count = cells.len();
