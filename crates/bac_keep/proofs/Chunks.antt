@@ -1,10 +1,11 @@
 -- The chunks of a file give all its octets.
-use Rattle.std.proofs.Common.{◌≡◌, ℕ, zero, suc, ◌+◌, ◌-◌, ◌*◌, ◌<◌, ◌≤◌, Bool, true, false, ◌==◌, ◌&&◌, nat_lt, List, [], ◌∷◌, ◌++◌, length, take, drop, Option, Some, refl, sym, ap, ◌∙◌, arith, zero-add, if◌then◌else◌}
+use Rattle.std.proofs.Common.{◌≡◌, ℕ, zero, suc, ◌+◌, ◌-◌, ◌*◌, ◌<◌, ◌≤◌, Bool, true, false, ◌==◌, List, [], ◌∷◌, ◌++◌, length, take}
+use Rattle.std.proofs.Common.{drop, Some, refl, sym, ap, ◌∙◌, arith, zero-add}
 use Rattle.std.proofs.lemmas.List.{length-drop, take_all}
 use Rattle.std.proofs.lemmas.Bool.Decides.{nat_tests}
 use Rattle.std.proofs.Math.Nat.{suc-mul, suc-add}
 use Rattle.bac_value.specs.Value.{ObjectId}
-use Rattle.bac_keep.specs.Cells.{Cells, file_place, with_cell}
+use Rattle.bac_keep.specs.Cells.{Cells, file_place}
 use Rattle.bac_keep.specs.Overlay.{CHUNK, chunk, joined, or_nothing, with_chunks, with_file}
 
 take_both : (a b : ℕ) (xs : List ℕ) → take a xs ++ take b (drop a xs) ≡ take (a + b) xs
@@ -32,7 +33,8 @@ module _ (id : ObjectId) (octets : List ℕ) (cells : Cells) where
   joined_there : (count c : ℕ) → c ≤ count → joined (with_file id octets count cells) id c ≡ take (c * CHUNK) octets
   joined_there count zero l = let none : 0 ≡ 0 * CHUNK = omega arith in ap (λ (n : ℕ). take n octets) none
   joined_there count (suc k) l =
-      let there : with_file id octets count cells (file_place id (suc k)) ≡ Some (chunk octets k) = rw (part_is_not_count k) (chunk_there count k (omega (arith, l))) in
+      let there : with_file id octets count cells (file_place id (suc k)) ≡ Some (chunk octets k) = rw (part_is_not_count k)
+      (chunk_there count k (omega (arith, l))) in
       ap (λ before. before ++ or_nothing (with_file id octets count cells (file_place id (suc k)))) (joined_there count k (omega (arith, l)))
       ∙ ap (λ x. take (k * CHUNK) octets ++ or_nothing x) there
       ∙ take_both (k * CHUNK) CHUNK octets
@@ -42,7 +44,8 @@ module _ (id : ObjectId) (octets : List ℕ) (cells : Cells) where
   chunks_join count long = joined_there count count (omega arith) ∙ take_all _ _ long
 
 -- the last chunk may be short
-pub last_chunk : (size start : ℕ) (octets : List ℕ) → length octets - start ≤ size → take (length octets - start) (drop start octets) ≡ take size (drop start octets)
+pub last_chunk : (size start : ℕ) (octets : List ℕ) → length octets - start ≤ size
+    → take (length octets - start) (drop start octets) ≡ take size (drop start octets)
 last_chunk size start octets short =
     take_all (length octets - start) (drop start octets) (omega (arith, length-drop start octets))
     ∙ sym (take_all size (drop start octets) (omega (arith, short, length-drop start octets)))

@@ -1,5 +1,6 @@
 -- Where a file that is kept gets new octets, its cells get them, and no others.
-use Rattle.std.proofs.Common.{◌≡◌, ◌⊎◌, inl, inr, ℕ, suc, zero, ◌<◌, ◌≤◌, ◌*◌, Bool, true, false, ◌==◌, ◌&&◌, nat_lt, List, [], ◌∷◌, ◌++◌, length, map, Option, Some, None, refl, sym, ap, ◌∙◌, subst, arith, if◌then◌else◌}
+use Rattle.std.proofs.Common.{◌≡◌, ◌⊎◌, inl, inr, ℕ, suc, zero, ◌<◌, ◌≤◌, ◌*◌, Bool, true, false, ◌==◌, nat_lt, List, [], ◌∷◌, ◌++◌, length}
+use Rattle.std.proofs.Common.{map, Option, Some, None, refl, sym, ap, ◌∙◌, subst, arith, if◌then◌else◌}
 use Rattle.std.specs.List.{Contains}
 use Rattle.std.specs.Option.{option_map}
 use Rattle.std.proofs.lemmas.Bool.Decides.{nat_tests}
@@ -8,10 +9,11 @@ use Rattle.bac_value.specs.Value.{ObjectId}
 use Rattle.bac_store.specs.Changes.{with_contents, with_object, with_octets}
 use Rattle.bac_store.specs.Kept.{IsInOrder}
 use Rattle.bac_store.specs.Replies.{file_of}
-use Rattle.bac_store.specs.Stores.{Store, Object, Property, File, is_object, is_same, object_in}
+use Rattle.bac_store.specs.Stores.{Store, Object, Property, File, is_object, is_same}
 use Rattle.bac_store.specs.Writes.{file_at}
-use Rattle.bac_keep.specs.Cells.{Cells, Fits, NUMBERS, file_place, value_place, with_cell}
-use Rattle.bac_keep.specs.Overlay.{CHUNK, count_in, file_over, in_place, is_kept, joined, object_over, of_chunks, or_nothing, overlay, value_over, with_chunks, with_file}
+use Rattle.bac_keep.specs.Cells.{Cells, Fits, file_place, value_place}
+use Rattle.bac_keep.specs.Overlay.{CHUNK, count_in, file_over, in_place, is_kept, joined, object_over, of_chunks, or_nothing, overlay, value_over}
+use Rattle.bac_keep.specs.Overlay.{with_chunks, with_file}
 use Rattle.bac_keep.proofs.Chunks.{chunks_join}
 use Rattle.bac_keep.proofs.Maps.{at_object, fits, map_same, object_found, option_same}
 use Rattle.bac_keep.proofs.Places.{same_part, value_is_no_part}
@@ -44,7 +46,8 @@ module _ (id : ObjectId) (id_fits : Fits id) (cells new : Cells) (differ : Diffe
   value_stays : (other : ObjectId) (p : Property) → Fits other → value_over new other p ≡ value_over cells other p
   value_stays other p other_fits = go (is_kept p) refl
     where
-      go : (b : Bool) → is_kept p ≡ b → (if b then in_place (new (value_place other p.number)) p else p) ≡ (if b then in_place (cells (value_place other p.number)) p else p)
+      go : (b : Bool) → is_kept p ≡ b
+          → (if b then in_place (new (value_place other p.number)) p else p) ≡ (if b then in_place (cells (value_place other p.number)) p else p)
       go true e = ap (λ x. in_place x p) (differ (value_place other p.number) (λ k l. value_is_no_part other id p.number k other_fits (number_fits p e)))
       go false e = refl
 
@@ -67,7 +70,8 @@ module _ (id : ObjectId) (id_fits : Fits id) (cells new : Cells) (differ : Diffe
 
     file_stays : (f : File) → file_over new other f ≡ file_over cells other f
     file_stays f =
-        ap (λ x. if f.writable then x else f) (ap (λ x. of_chunks x (joined new other) f) (part_stays 0 (omega arith)) ∙ chunks_stay (cells (file_place other 0)) f)
+        ap (λ x. if f.writable then x else f)
+        (ap (λ x. of_chunks x (joined new other) f) (part_stays 0 (omega arith)) ∙ chunks_stay (cells (file_place other 0)) f)
 
   other_object : (o : Object) → Fits o.id → is_same id o.id ≡ false → object_over new o ≡ object_over cells o
   other_object o o_fits apart =
@@ -129,26 +133,27 @@ module _ (id : ObjectId) (id_fits : Fits id) (cells new : Cells) (differ : Diffe
 
     -- ---- cells of no file that is kept, or of one whose number of chunks is not there
 
-    module _ (idle : ((f : File) → file_at document id ≡ Some f → f.writable ≡ false) ⊎ ((new (file_place id 0) ≡ None) × (cells (file_place id 0) ≡ None))) where
-      same_file : (f : File) → file_at document id ≡ Some f → file_over new id f ≡ file_over cells id f
-      same_file f found = go idle
-        where
-          go : ((f : File) → file_at document id ≡ Some f → f.writable ≡ false) ⊎ ((new (file_place id 0) ≡ None) × (cells (file_place id 0) ≡ None))
-              → file_over new id f ≡ file_over cells id f
-          go (inl fixed) = rw (fixed f found) refl
-          go (inr none) = rw (none.0, none.1) refl
+    module _ (idle : ((f : File) → file_at document id ≡ Some f → f.writable ≡ false) ⊎ ((new (file_place id 0) ≡ None) × (cells (file_place id 0) ≡ None)))
+      where
+        same_file : (f : File) → file_at document id ≡ Some f → file_over new id f ≡ file_over cells id f
+        same_file f found = go idle
+          where
+            go : ((f : File) → file_at document id ≡ Some f → f.writable ≡ false) ⊎ ((new (file_place id 0) ≡ None) × (cells (file_place id 0) ≡ None))
+                → file_over new id f ≡ file_over cells id f
+            go (inl fixed) = rw (fixed f found) refl
+            go (inr none) = rw (none.0, none.1) refl
 
-      pub parts_ignored : overlay new document ≡ overlay cells document
-      parts_ignored = map_same (object_over new) (object_over cells) document (λ o c. go o c (is_same id o.id) refl)
-        where
-          go : (o : Object) → Contains document o → (b : Bool) → is_same id o.id ≡ b → object_over new o ≡ object_over cells o
-          go o c true e =
-              let same_id : id ≡ o.id = same_objects id o.id e in
-              ap (λ ps. record o { properties = ps; file = option_map (file_over new o.id) o.file }) (values_stay o (fits document order o c))
-              ∙ ap (λ f. record o { properties = map (value_over cells o.id) o.properties; file = f })
-              (subst (λ x. option_map (file_over new x) o.file ≡ option_map (file_over cells x) o.file) same_id
-              (option_same (file_over new id) (file_over cells id) o.file (λ f h. same_file f (file_found o c e ∙ h))))
-          go o c false e = other_object o (fits document order o c) e
+        pub parts_ignored : overlay new document ≡ overlay cells document
+        parts_ignored = map_same (object_over new) (object_over cells) document (λ o c. go o c (is_same id o.id) refl)
+          where
+            go : (o : Object) → Contains document o → (b : Bool) → is_same id o.id ≡ b → object_over new o ≡ object_over cells o
+            go o c true e =
+                let same_id : id ≡ o.id = same_objects id o.id e in
+                ap (λ ps. record o { properties = ps; file = option_map (file_over new o.id) o.file }) (values_stay o (fits document order o c))
+                ∙ ap (λ f. record o { properties = map (value_over cells o.id) o.properties; file = f })
+                (subst (λ x. option_map (file_over new x) o.file ≡ option_map (file_over cells x) o.file) same_id
+                (option_same (file_over new id) (file_over cells id) o.file (λ f h. same_file f (file_found o c e ∙ h))))
+            go o c false e = other_object o (fits document order o c) e
 
 -- ---- all octets of a file
 

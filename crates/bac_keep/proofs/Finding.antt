@@ -1,5 +1,6 @@
 -- A row that is put is found at its place, and what was found elsewhere still is.
-use Rattle.std.proofs.Common.{◌≡◌, ◌==◌, ℕ, ℤ, pos, Bool, true, false, if◌then◌else◌, List, [], ◌∷◌, Option, Some, None, IsTrue, refl, sym, ap, ◌∙◌, subst, arith, Ordering, Less, Equal, Greater, eqb-true, filter}
+use Rattle.std.proofs.Common.{◌≡◌, ◌==◌, ℕ, ℤ, pos, Bool, true, false, if◌then◌else◌, List, [], ◌∷◌, Option, Some, IsTrue, refl, sym, ap, ◌∙◌}
+use Rattle.std.proofs.Common.{subst, arith, Ordering, Less, Equal, Greater, eqb-true, filter}
 use Rattle.std.specs.Ordering.{is_eq, match_ordering}
 use Rattle.std.specs.List.{AllByRecursion}
 use Rattle.std.proofs.lemmas.Bool.Decides.{nat_tests}
@@ -8,11 +9,11 @@ use Rattle.sqlite_value.specs.declared.value.Value.{Value}
 use Rattle.sqlite_value.specs.declared.value.Value.TheVariants.{Null, Int, Real, Text, Blob}
 use Rattle.sqlite_value.specs.Order.{Row, column, bytes, value_cmp}
 use Rattle.sqlite_value.proofs.OrderLemmas.{value_cmp-Int}
-use Rattle.sqlite_trees.specs.Tree.{Trees, rowid, has_rowid, put_row}
+use Rattle.sqlite_trees.specs.Tree.{rowid, has_rowid, put_row}
 use Rattle.sqlite_trees.specs.View.{View, is_int, IsOrdered, IsShaped}
 use Rattle.sqlite_trees.specs.declared.store.Shape.{Shape}
 use Rattle.bac_keep.specs.Cells.{Cells, with_cell}
-use Rattle.bac_keep.specs.Rows.{IsRowOf, cells_of, found}
+use Rattle.bac_keep.specs.Rows.{IsRowOf, found}
 use Rattle.bac_keep.specs.Steps.{IsReady}
 
 -- two places are one where their rowids are
@@ -38,11 +39,14 @@ module _ (p : ℕ) (octets : List ℕ) (new : Row) (row : IsRowOf p octets new) 
   what_is_there = ap (λ (v : Value). Some (bytes v)) row.holds
 
   pub on_top : (rows : List Row) (q : ℕ) → found (new ∷ rows) q ≡ with_cell p octets (found rows) q
-  on_top rows q = ap (λ (b : Bool). if b then Some (bytes (column new 2)) else found rows q) (is_there q) ∙ ap (λ (x : Option (List ℕ)). if q == p then x else found rows q) what_is_there
+  on_top rows q = ap (λ (b : Bool). if b then Some (bytes (column new 2)) else found rows q) (is_there q)
+      ∙ ap (λ (x : Option (List ℕ)). if q == p then x else found rows q) what_is_there
 
-  pub found-put : (rows : List Row) → AllByRecursion (λ r. IsTrue (is_int (rowid r))) rows → (q : ℕ) → found (put_row new rows) q ≡ with_cell p octets (found rows) q
+  pub found-put : (rows : List Row) → AllByRecursion (λ r. IsTrue (is_int (rowid r))) rows → (q : ℕ)
+      → found (put_row new rows) q ≡ with_cell p octets (found rows) q
   found-put [] ints q = on_top [] q
-  found-put (r ∷ rows) ints q = ap (λ (v : Value). found (match_ordering (value_cmp (rowid r) v) (r ∷ put_row new rows) (new ∷ rows) (new ∷ r ∷ rows)) q) row.keyed ∙ go (value_cmp (rowid r) (Int (pos p))) refl (found-put rows ints.1 q)
+  found-put (r ∷ rows) ints q = ap (λ (v : Value). found (match_ordering (value_cmp (rowid r) v) (r ∷ put_row new rows) (new ∷ rows) (new ∷ r ∷ rows)) q)
+      row.keyed ∙ go (value_cmp (rowid r) (Int (pos p))) refl (found-put rows ints.1 q)
     where
       go : (o : Ordering) → value_cmp (rowid r) (Int (pos p)) ≡ o → found (put_row new rows) q ≡ with_cell p octets (found rows) q
           → found (match_ordering o (r ∷ put_row new rows) (new ∷ rows) (new ∷ r ∷ rows)) q ≡ with_cell p octets (found (r ∷ rows)) q

@@ -1,18 +1,19 @@
 -- When what a node has made is noted, the document and its cells make the store that it has.
-use Rattle.std.proofs.Common.{◌≡◌, ◌⊎◌, ℕ, ℤ, ◌+◌, ◌*◌, ◌/◌, ◌<◌, ◌≤◌, Bool, true, false, not, ◌&&◌, ◌==◌, nat_lt, List, [], ◌∷◌, length, map, Option, Some, None, is_some, refl, sym, ap, ◌∙◌, subst, arith, if◌then◌else◌}
+use Rattle.std.proofs.Common.{◌≡◌, ℕ, ℤ, ◌*◌, ◌<◌, ◌≤◌, Bool, true, false, not, ◌&&◌, ◌==◌, nat_lt, List, length}
+use Rattle.std.proofs.Common.{Option, Some, None, is_some, refl, sym, ap, ◌∙◌, subst, arith, if◌then◌else◌}
 use Rattle.std.specs.List.{AllPairs}
 use Rattle.std.specs.Option.{IfSome, option_map}
-use Rattle.std.proofs.lemmas.Bool.Decides.{nat_tests}
 use Rattle.bac_value.specs.Value.{ObjectId}
 use Rattle.bac_service.specs.Replies.{Reply}
-use Rattle.bac_service.specs.Replies.Reply.{Simple, Complex}
+use Rattle.bac_service.specs.Replies.Reply.{Simple}
 use Rattle.bac_service.specs.Values.{Reference, Request, WriteAccess}
-use Rattle.bac_service.specs.Values.Request.{ReadFile, WriteFile, ReadProperty, WriteProperty}
+use Rattle.bac_service.specs.Values.Request.{WriteFile, WriteProperty}
 use Rattle.bac_service.specs.Values.WriteAccess.{WriteStream, WriteRecords}
-use Rattle.bac_store.specs.AtNode.{Change, changed}
+use Rattle.bac_store.specs.AtNode.{Change}
 use Rattle.bac_store.specs.Changes.{IsGranted, after, is_done, with_contents, with_object, with_octets, with_own_values, with_values}
 use Rattle.bac_store.specs.Kept.{IsInOrder, object_number}
-use Rattle.bac_store.specs.Replies.{at_file, at_object, at_property, file_of, is_binary_state, is_no_write_start, is_of_kind, reply_to, write_file_reply, write_reply, write_start, written}
+use Rattle.bac_store.specs.Replies.{at_file, at_object, at_property, file_of, is_binary_state, is_no_write_start, is_of_kind, reply_to}
+use Rattle.bac_store.specs.Replies.{write_file_reply, write_reply, written}
 use Rattle.bac_store.specs.Limits.{FILE_LIMIT, VALUE_LIMIT}
 use Rattle.bac_store.specs.Stores.{File, Object, Property, Store, is_number, is_object, is_state, listed_in, object_in, property_in}
 use Rattle.bac_store.specs.Writes.{file_at, listed_at, listed_of}
@@ -68,7 +69,8 @@ module _ (cells : Cells) (document : Store) where
       over : listed_of n (option_map (object_over cells) (object_in document id)) ≡ Some w.property
       over = sym (ap (listed_of n) (object_there id)) ∙ w.found
 
-      in_object : (o : Object) → object_in document id ≡ Some o → (x : Option Property) → listed_in o n ≡ x → option_map (value_over cells o.id) x ≡ Some w.property
+      in_object : (o : Object) → object_in document id ≡ Some o → (x : Option Property) → listed_in o n ≡ x
+          → option_map (value_over cells o.id) x ≡ Some w.property
           → IsWritableValue document id n
       in_object o e None f h = absurd (cc)
       in_object o e (Some p) f h =
@@ -76,7 +78,8 @@ module _ (cells : Cells) (document : Store) where
           record { property = p; found = ap (listed_of n) e ∙ f; writable = sym (flag_over cells o.id p) ∙ ap (λ (x : Property). x.writable) same ∙ w.writable }
 
       go : (x : Option Object) → object_in document id ≡ x → IsWritableValue document id n
-      go None e = let none : listed_of n (option_map (object_over cells) None) ≡ Some w.property = ap (λ x. listed_of n (option_map (object_over cells) x)) (sym e) ∙ over in absurd (cc)
+      go None e = let none : listed_of n (option_map (object_over cells) None) ≡ Some w.property = ap (λ x. listed_of n (option_map (object_over cells) x))
+          (sym e) ∙ over in absurd (cc)
       go (Some o) e =
           let here : listed_in (object_over cells o) n ≡ Some w.property = ap (λ x. listed_of n (option_map (object_over cells) x)) (sym e) ∙ over in
           in_object o e (listed_in o n) refl
@@ -88,14 +91,16 @@ module _ (cells : Cells) (document : Store) where
       over : file_of (option_map (object_over cells) (object_in document id)) ≡ Some w.file
       over = sym (ap file_of (object_there id)) ∙ w.found
 
-      in_object : (o : Object) → object_in document id ≡ Some o → (x : Option File) → o.file ≡ x → option_map (file_over cells o.id) x ≡ Some w.file → IsWritableFile document id
+      in_object : (o : Object) → object_in document id ≡ Some o → (x : Option File) → o.file ≡ x → option_map (file_over cells o.id) x ≡ Some w.file
+          → IsWritableFile document id
       in_object o e None f h = absurd (cc)
       in_object o e (Some g) f h =
           let same : file_over cells o.id g ≡ w.file = cc in
           record { file = g; found = ap file_of e ∙ f; writable = sym (file_flag_over cells o.id g) ∙ ap (λ (x : File). x.writable) same ∙ w.writable }
 
       go : (x : Option Object) → object_in document id ≡ x → IsWritableFile document id
-      go None e = let none : file_of (option_map (object_over cells) None) ≡ Some w.file = ap (λ x. file_of (option_map (object_over cells) x)) (sym e) ∙ over in absurd (cc)
+      go None e = let none : file_of (option_map (object_over cells) None) ≡ Some w.file = ap (λ x. file_of (option_map (object_over cells) x)) (sym e)
+          ∙ over in absurd (cc)
       go (Some o) e =
           let here : option_map (file_over cells o.id) o.file ≡ Some w.file = ap (λ x. file_of (option_map (object_over cells) x)) (sym e) ∙ over in
           in_object o e o.file refl here
@@ -107,7 +112,8 @@ module _ (cells : Cells) (document : Store) where
       → overlay (values_noted s id n cells) document ≡ s
   values_are_noted order id n v s id_fits w is small =
       let now : listed_at s id n ≡ Some (with_own_values v w.property) =
-      ap (λ (x : Store). listed_at x id n) is ∙ (value_written (overlay cells document) (record { object = id; property = n; index = None }) v).there ∙ ap (option_map (with_own_values v)) w.found in
+      ap (λ (x : Store). listed_at x id n) is ∙ (value_written (overlay cells document) (record { object = id; property = n; index = None }) v).there
+      ∙ ap (option_map (with_own_values v)) w.found in
       let d = writable_value id n w in
       let noted : values_noted s id n cells ≡ with_cell (value_place id n) v cells =
       ap (λ x. with_property id n x cells) now ∙ ap (λ b. if b then with_cell (value_place id n) v cells else cells) w.writable in
@@ -155,7 +161,8 @@ module _ (r : Reference) (values : List ℕ) where
   pub granted_value : (s : Store) (priority : Option ℕ) → IsGranted s (WriteProperty r values priority) → IsWritableValue s r.object r.property
   granted_value s priority granted = go (object_in s r.object) refl granted
     where
-      found : (o : Object) → object_in s r.object ≡ Some o → (x : Option Property) → listed_in o r.property ≡ x → is_done (at_property x (write_reply r values)) ≡ true
+      found : (o : Object) → object_in s r.object ≡ Some o → (x : Option Property) → listed_in o r.property ≡ x
+          → is_done (at_property x (write_reply r values)) ≡ true
           → IsWritableValue s r.object r.property
       found o e None f h = absurd (cc)
       found o e (Some p) f h = record { property = p; found = ap (listed_of r.property) e ∙ f; writable = of_property p h }
@@ -222,7 +229,8 @@ module _ (cells : Cells) (document : Store) (order : IsInOrder document) (s : St
   pub performed_octets : IsInOrder s → (id : ObjectId) (access : WriteAccess) → m ≡ Performed (WriteFile id access) → Fits id
       → overlay (octets_noted s id cells) document ≡ s
   performed_octets s_order id (WriteRecords start count run) e id_fits =
-      let granted : IsGranted (overlay cells document) (WriteFile id (WriteRecords start count run)) = subst (λ (x : Made). IsKeepable x (overlay cells document)) e keepable in
+      let granted : IsGranted (overlay cells document) (WriteFile id (WriteRecords start count run)) = subst
+      (λ (x : Made). IsKeepable x (overlay cells document)) e keepable in
       absurd (records_refused (file_at (overlay cells document) id) start count run granted)
   performed_octets s_order id (WriteStream start octets) e id_fits =
       let now = overlay cells document in

@@ -35,7 +35,8 @@ pub idle : (v : View) → IsReady v → HasCells v (cells_of v.trees) v
 idle v ready = record { ready = ready; has = refl; committed = refl }
 
 -- one put after another
-pub and_then : (old mid new : View) (cells : Cells) (place : ℕ) (octets : List ℕ) → HasCells old cells mid → HasCells mid (with_cell place octets (cells_of mid.trees)) new
+pub and_then : (old mid new : View) (cells : Cells) (place : ℕ) (octets : List ℕ) → HasCells old cells mid
+    → HasCells mid (with_cell place octets (cells_of mid.trees)) new
     → HasCells old (with_cell place octets cells) new
 and_then old mid new cells place octets before now = record {
   ready = now.ready;
@@ -44,7 +45,8 @@ and_then old mid new cells place octets before now = record {
 }
 
 -- so many chunks are put
-pub record IsPutting {S : Type 0} (view : S → View) (recovers : S → Trees → Type 0) (id : ObjectId) (octets : List ℕ) (old : S) (count : ℕ) (new : S) : Type 0 where
+pub record IsPutting {S : Type 0} (view : S → View) (recovers : S → Trees → Type 0) (id : ObjectId) (octets : List ℕ) (old : S) (count : ℕ) (new : S) : Type
+    0 where
   pub clean : doubt (view old).is_clean ≤ doubt (view new).is_clean
   pub put : IsClean (view new) → HasCells (view old) (with_chunks id octets count (cells_of (view old).trees)) (view new)
   pub crash : NoMore recovers old new

@@ -1,5 +1,6 @@
 -- A cell on top of others makes of a document what it makes of the store that they make.
-use Rattle.std.proofs.Common.{◌≡◌, inl, inr, ℕ, suc, zero, ◌<◌, Bool, true, false, ◌==◌, List, [], ◌∷◌, map, Option, Some, None, refl, sym, ap, ◌∙◌, subst, arith, if◌then◌else◌}
+use Rattle.std.proofs.Common.{◌≡◌, inl, inr, ℕ, suc, ◌<◌, Bool, true, false, ◌==◌, List, [], ◌∷◌, map, Option, Some, None, refl, sym, ap, ◌∙◌}
+use Rattle.std.proofs.Common.{arith, if◌then◌else◌}
 use Rattle.std.specs.Option.{option_map}
 use Rattle.std.proofs.lemmas.Bool.Decides.{nat_tests}
 use Rattle.bac_value.specs.Value.{ObjectId}
@@ -53,10 +54,12 @@ module _ (cells : Cells) (document : Store) where
       go (Some o) = in_object o o.file
 
   module _ (order : IsInOrder document) (id : ObjectId) (id_fits : Fits id) where
-    pub value_restored : (n : ℕ) (v : List ℕ) → n < NUMBERS → overlay (with_cell (value_place id n) v cells) document ≡ with_kept_values id n v (overlay cells document)
+    pub value_restored : (n : ℕ) (v : List ℕ) → n < NUMBERS
+        → overlay (with_cell (value_place id n) v cells) document ≡ with_kept_values id n v (overlay cells document)
     value_restored n v small = go (is_writable_value (listed_at document id n)) refl
       where
-        go : (b : Bool) → is_writable_value (listed_at document id n) ≡ b → overlay (with_cell (value_place id n) v cells) document ≡ with_kept_values id n v (overlay cells document)
+        go : (b : Bool) → is_writable_value (listed_at document id n) ≡ b
+            → overlay (with_cell (value_place id n) v cells) document ≡ with_kept_values id n v (overlay cells document)
         go true e =
             let q = some_value (listed_at document id n) e in
             cell.value_written cells id n v id_fits small document order q.0 q.1 q.2
@@ -90,10 +93,12 @@ module _ (cells : Cells) (document : Store) where
             parts_ignored id id_fits cells new (part_differs 0 (count ∷ []) (omega arith)) document order (inl (λ f found. sym (ap is_writable_file found) ∙ e))
             ∙ ap (λ b. if b then with_object id (with_octets (λ old. octets)) (overlay cells document) else overlay cells document) (sym (file_flag id ∙ e))
 
-    pub chunk_restored : (k : ℕ) (v : List ℕ) → k < 255 → cells (file_place id 0) ≡ None → overlay (with_cell (file_place id (suc k)) v cells) document ≡ overlay cells document
+    pub chunk_restored : (k : ℕ) (v : List ℕ) → k < 255 → cells (file_place id 0) ≡ None
+        → overlay (with_cell (file_place id (suc k)) v cells) document ≡ overlay cells document
     chunk_restored k v l none =
         let new = with_cell (file_place id (suc k)) v cells in
-        parts_ignored id id_fits cells (with_cell (file_place id (suc k)) v cells) (part_differs (suc k) v (omega (arith, l))) document order (inr (rw (part_is_apart id k) none, none))
+        parts_ignored id id_fits cells (with_cell (file_place id (suc k)) v cells) (part_differs (suc k) v (omega (arith, l))) document order
+        (inr (rw (part_is_apart id k) none, none))
 
 -- without cells the store is that of the document
 pub nothing_over : (document : Store) → overlay no_cells document ≡ document

@@ -1,10 +1,11 @@
 -- Cells whose places rise.
-use Rattle.std.proofs.Common.{◌≡◌, ◌==◌, ℕ, zero, suc, pos, ◌<◌, ◌≤◌, Bool, true, false, List, [], ◌∷◌, length, drop, get_or, Option, Some, None, refl, sym, ap, ◌∙◌, subst, arith, if◌then◌else◌, Less}
+use Rattle.std.proofs.Common.{◌≡◌, ◌==◌, ℕ, zero, suc, pos, ◌<◌, ◌≤◌, true, false, List, [], ◌∷◌, length, drop, get_or, Option, Some, None}
+use Rattle.std.proofs.Common.{refl, sym, ap, ◌∙◌, subst, arith, if◌then◌else◌, Less}
 use Rattle.std.specs.List.{AllByRecursion}
 use Rattle.std.proofs.lemmas.Bool.Decides.{nat_tests}
 use Rattle.sqlite_value.specs.declared.value.Value.{Value}
 use Rattle.sqlite_value.specs.declared.value.Value.TheVariants.{Int}
-use Rattle.sqlite_value.specs.Order.{Row, column, bytes, value_cmp}
+use Rattle.sqlite_value.specs.Order.{Row, value_cmp}
 use Rattle.sqlite_value.proofs.OrderLemmas.{value_cmp-Int}
 use Rattle.sqlite_trees.specs.Tree.{IsTable, rowid}
 use Rattle.sqlite_trees.specs.View.{View, IsOrdered, IsShaped}
@@ -33,11 +34,10 @@ all_above : (r : Row) (c : Cell) → IsRowOf c.place c.octets.items r → (rs : 
 all_above r c is [] [] are all = tt
 all_above r c is [] (d ∷ cs) are all = absurd are
 all_above r c is (q ∷ rs) [] are all = absurd are
-all_above r c is (q ∷ rs) (d ∷ cs) are all =
-    (
-      below c.place d.place (sym (ap (λ (v : Value). value_cmp v (Int (pos d.place))) is.keyed) ∙ sym (ap (value_cmp (rowid r)) are.0.keyed) ∙ all.0),
-      all_above r c is rs cs are.1 all.1,
-    )
+all_above r c is (q ∷ rs) (d ∷ cs) are all = (
+  below c.place d.place (sym (ap (λ (v : Value). value_cmp v (Int (pos d.place))) is.keyed) ∙ sym (ap (value_cmp (rowid r)) are.0.keyed) ∙ all.0),
+  all_above r c is rs cs are.1 all.1,
+)
 
 pub rising : (rows : List Row) (cells : List Cell) → AreCells rows cells → IsTable rows → IsRising cells
 rising [] [] are table = tt
@@ -58,7 +58,8 @@ weaker : (q p : ℕ) → q ≤ p → (cs : List Cell) → AllByRecursion (λ (d 
 weaker q p le [] all = tt
 weaker q p le (c ∷ cs) all = (omega (arith, le, all.0), weaker q p le cs all.1)
 
-pub nothing_after : (cs : List Cell) (at : ℕ) (d : Cell) → IsRising cs → at < length cs → (q : ℕ) → q ≤ (get_or cs at d).place → held (drop (suc at) cs) q ≡ None
+pub nothing_after : (cs : List Cell) (at : ℕ) (d : Cell) → IsRising cs → at < length cs → (q : ℕ) → q ≤ (get_or cs at d).place
+    → held (drop (suc at) cs) q ≡ None
 nothing_after [] at d rise l q le = absurd (omega (arith, l))
 nothing_after (c ∷ cs) zero d rise l q le = none_below q cs (weaker q c.place le cs rise.0)
 nothing_after (c ∷ cs) (suc at) d rise l q le = nothing_after cs at d rise.1 (omega (arith, l)) q le
@@ -77,7 +78,8 @@ found_at (c ∷ cs) (suc j) d rise l =
     let apart : ((get_or cs j d).place == c.place) ≡ false = grind (arith, nat_tests) in
     rw apart (found_at cs j d rise.1 (omega (arith, l)))
 
-pub held_at : (cs : List Cell) (at j : ℕ) (d : Cell) → IsRising cs → at ≤ j → j < length cs → held (drop at cs) (get_or cs j d).place ≡ Some (get_or cs j d).octets.items
+pub held_at : (cs : List Cell) (at j : ℕ) (d : Cell) → IsRising cs → at ≤ j → j < length cs
+    → held (drop at cs) (get_or cs j d).place ≡ Some (get_or cs j d).octets.items
 held_at [] at j d rise le l = absurd (omega (arith, l))
 held_at (c ∷ cs) zero j d rise le l = found_at (c ∷ cs) j d rise l
 held_at (c ∷ cs) (suc at) zero d rise le l = absurd (omega (arith, le))

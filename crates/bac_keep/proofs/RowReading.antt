@@ -33,7 +33,8 @@ no_key o [] = refl
 no_key o (e ∷ es) = refl
 
 -- before the first
-pub begins : (old new : View) (key : Row) → key ≡ [] → IsReady old → new ≡ with_cursor old 0 (sought (order_of (old.shape 0)) Forward key (old.trees 0)) → HasReadSome old [] new
+pub begins : (old new : View) (key : Row) → key ≡ [] → IsReady old → new ≡ with_cursor old 0 (sought (order_of (old.shape 0)) Forward key (old.trees 0))
+    → HasReadSome old [] new
 begins old new key empty ready is =
     subst (HasReadSome old []) (sym (is ∙ ap (λ (k : Row). with_cursor old 0 (sought (order_of (old.shape 0)) Forward k (old.trees 0))) empty)) (record {
       ready = record { table = ready.table; sound = ready.sound; is_open = ready.is_open };
@@ -56,7 +57,8 @@ some_is : (a b : List Row) → Some a ≡ Some b → a ≡ b
 some_is a b e = cc
 
 -- one more
-pub goes_on : (old mid new : View) (cs : List Cell) (c : Cell) (row : Row) → HasReadSome old cs mid → IsRowOf c.place c.octets.items row → Advances mid new 0 row true
+pub goes_on : (old mid new : View) (cs : List Cell) (c : Cell) (row : Row) → HasReadSome old cs mid → IsRowOf c.place c.octets.items row
+    → Advances mid new 0 row true
     → HasReadSome old (cs ++ c ∷ []) new
 goes_on old mid new cs c row so_far makes next =
     let left : so_far.left ≡ row ∷ next.0 = some_is _ _ (sym so_far.cursor ∙ next.1) in
@@ -79,8 +81,7 @@ pub ends : (old mid new : View) (cs : List Cell) (row : Row) → HasReadSome old
     → AreCells (old.trees 0) cs × IsReady new × (new.trees ≡ old.trees) × (new.committed ≡ old.committed)
 ends old mid new cs row so_far next =
     let left : so_far.left ≡ [] = some_is _ _ (sym so_far.cursor ∙ next.0) in
-    let whole : so_far.read ≡ old.trees 0 = sym (append-nil so_far.read) ∙ ap (λ (l : List Row). so_far.read ++ l) (sym left) ∙ so_far.rows in
-    (
+    let whole : so_far.read ≡ old.trees 0 = sym (append-nil so_far.read) ∙ ap (λ (l : List Row). so_far.read ++ l) (sym left) ∙ so_far.rows in (
       subst (λ (rs : List Row). AreCells rs cs) whole so_far.are,
       subst IsReady (sym next.1) so_far.ready,
       ap (λ (v : View). v.trees) next.1 ∙ so_far.trees,

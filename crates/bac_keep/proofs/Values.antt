@@ -1,5 +1,6 @@
 -- Where a property that is kept gets new values, its cell gets them, and no other.
-use Rattle.std.proofs.Common.{◌≡◌, ℕ, suc, zero, ◌<◌, Bool, true, false, ◌==◌, ◌&&◌, nat_lt, List, ◌++◌, map, Option, Some, None, refl, sym, ap, ◌∙◌, subst, arith, if◌then◌else◌}
+use Rattle.std.proofs.Common.{◌≡◌, ℕ, suc, zero, ◌<◌, Bool, true, false, ◌==◌, ◌&&◌, nat_lt, List, ◌++◌, map, Option, Some, None, refl, sym, ap, ◌∙◌}
+use Rattle.std.proofs.Common.{subst, arith, if◌then◌else◌}
 use Rattle.std.specs.List.{Contains}
 use Rattle.std.specs.Option.{option_map}
 use Rattle.std.proofs.lemmas.Bool.Decides.{nat_tests}
@@ -7,7 +8,7 @@ use mathlib.Core.List.{map-map}
 use Rattle.bac_value.specs.Value.{ObjectId}
 use Rattle.bac_store.specs.Changes.{with_object, with_own_values, with_values}
 use Rattle.bac_store.specs.Kept.{IsInOrder}
-use Rattle.bac_store.specs.Stores.{Store, Object, Property, File, is_number, is_object, is_same, object_in, listed_in}
+use Rattle.bac_store.specs.Stores.{Store, Object, Property, File, is_number, is_object, is_same}
 use Rattle.bac_store.specs.Writes.{listed_at, listed_of}
 use Rattle.bac_keep.specs.Cells.{Cells, Fits, NUMBERS, file_place, value_place, with_cell}
 use Rattle.bac_keep.specs.Overlay.{file_over, in_place, is_kept, joined, object_over, of_chunks, or_nothing, overlay, value_over}
@@ -36,10 +37,12 @@ module _ (cells : Cells) (id : ObjectId) (n : ℕ) (v : List ℕ) (id_fits : Fit
   abbrev pub new : Cells
   new = with_cell (value_place id n) v cells
 
-  value_stays : (other : ObjectId) (p : Property) → Fits other → (is_same other id && (p.number == n)) ≡ false → value_over new other p ≡ value_over cells other p
+  value_stays : (other : ObjectId) (p : Property) → Fits other → (is_same other id && (p.number == n)) ≡ false
+      → value_over new other p ≡ value_over cells other p
   value_stays other p other_fits apart = go (is_kept p) refl
     where
-      go : (b : Bool) → is_kept p ≡ b → (if b then in_place (new (value_place other p.number)) p else p) ≡ (if b then in_place (cells (value_place other p.number)) p else p)
+      go : (b : Bool) → is_kept p ≡ b
+          → (if b then in_place (new (value_place other p.number)) p else p) ≡ (if b then in_place (cells (value_place other p.number)) p else p)
       go true e = rw (same_value other id p.number n other_fits id_fits (number_fits p e) n_fits, apart) refl
       go false e = refl
 
@@ -85,7 +88,8 @@ module _ (cells : Cells) (id : ObjectId) (n : ℕ) (v : List ℕ) (id_fits : Fit
           let number : p.number < NUMBERS = grind (arith, nat_tests) in
           let small : nat_lt p.number NUMBERS ≡ true = grind (arith, nat_tests) in
           let kept : is_kept p ≡ true = ap (λ w. w && nat_lt p.number NUMBERS) writable ∙ small in
-          let here : (value_place other p.number == value_place id n) ≡ true = same_value other id p.number n other_fits id_fits number n_fits ∙ (rw (same, e) refl) in
+          let here : (value_place other p.number == value_place id n) ≡ true = same_value other id p.number n other_fits id_fits number n_fits
+          ∙ (rw (same, e) refl) in
           let old = cells (value_place other p.number) in
           ap (λ b. if b then in_place (new (value_place other p.number)) p else p) kept
           ∙ ap (λ b. in_place (if b then Some v else old) p) here
@@ -125,14 +129,16 @@ module _ (cells : Cells) (id : ObjectId) (n : ℕ) (v : List ℕ) (id_fits : Fit
 
   -- a cell of no property that is kept
   module _ (document : Store) (order : IsInOrder document) (fixed : (q : Property) → listed_at document id n ≡ Some q → q.writable ≡ false) where
-    ignored : (other : ObjectId) (p : Property) → Fits other → ((p.number == n) ≡ true → p.writable ≡ false) → is_same other id ≡ true → value_over new other p ≡ value_over cells other p
+    ignored : (other : ObjectId) (p : Property) → Fits other → ((p.number == n) ≡ true → p.writable ≡ false) → is_same other id ≡ true
+        → value_over new other p ≡ value_over cells other p
     ignored other p other_fits closed same = go (p.number == n) refl
       where
         go : (b : Bool) → (p.number == n) ≡ b → value_over new other p ≡ value_over cells other p
         go true e = rw (closed e) refl
         go false e = value_stays other p other_fits (rw (same, e) refl)
 
-    closed : (o : Object) → Contains document o → is_same id o.id ≡ true → (p : Property) → Contains o.properties p → (p.number == n) ≡ true → p.writable ≡ false
+    closed : (o : Object) → Contains document o → is_same id o.id ≡ true → (p : Property) → Contains o.properties p → (p.number == n) ≡ true
+        → p.writable ≡ false
     closed o c same p d e = fixed p (ap (listed_of n) (object_found document order o c id same) ∙ property_found document order o c p n d e)
 
     pub value_ignored : overlay new document ≡ overlay cells document

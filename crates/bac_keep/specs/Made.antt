@@ -1,5 +1,5 @@
 -- What a node makes of its store: it performs a request, or makes a local change.
-use Rattle.std.specs.Prelude.{◌≡◌, true, ℕ, List, Option, Some, None}
+use Rattle.std.specs.Prelude.{◌≡◌, true, ℕ, Some}
 use Rattle.bac_value.specs.Value.{ObjectId}
 use Rattle.bac_service.specs.Values.{Request}
 use Rattle.bac_service.specs.Views.{request_view}

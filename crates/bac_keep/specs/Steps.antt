@@ -1,5 +1,5 @@
 -- What the calls of a keeper over a store make of that store.
-use Rattle.std.specs.Prelude.{◌≡◌, false, List, IsTrue}
+use Rattle.std.specs.Prelude.{◌≡◌, false, IsTrue}
 use Rattle.sqlite_trees.specs.View.{View}
 use Rattle.sqlite_trees.specs.Tree.{Trees}
 use Rattle.sqlite_trees.specs.declared.store.Shape.TheVariants.{Table}

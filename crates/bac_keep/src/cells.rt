@@ -77,11 +77,13 @@ fn note_made<S: Store>(
             Ok(())
         }
         Made::Performed(_) => Ok(()),
-        Made::Changed(Change::Value {
-            object,
-            property,
-            octets: _,
-        }) => {
+        Made::Changed(
+            Change::Value {
+                object,
+                property,
+                octets: _,
+            },
+        ) => {
             note_values(alloc, database, store, *object, *property)?;
             Ok(())
         }

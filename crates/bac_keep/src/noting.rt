@@ -30,7 +30,8 @@ pub(crate) fn note_values<S: Store>(
     ensures clean { doubt (S.view database.old).is_clean ≤ doubt (S.view database.new).is_clean }
     ensures fits { OnOk result (IfSome (listed_at store.now (object_identifier_view object) number) (λ p. p.writable ≡ true → number < MOST_NUMBERS)) }
     ensures noted { OnOk result (IsClean (S.view database.new)
-        → HasCells (S.view database.old) (values_noted store.now (object_identifier_view object) number (cells_of (S.view database.old).trees)) (S.view database.new)) }
+        → HasCells (S.view database.old) (values_noted store.now (object_identifier_view object) number (cells_of (S.view database.old).trees))
+        (S.view database.new)) }
     ensures crash { NoMore S.recovers database.old database.new }
 {
     let Some(listed) = store.listed(object, number) else {
@@ -71,7 +72,8 @@ fn put_chunks<S: Store>(
     requires within { count * CHUNK_SIZE ≤ length octets.now + 1023 }
     ensures clean { doubt (S.view database.old).is_clean ≤ doubt (S.view database.new).is_clean }
     ensures put { OnOk result (IsClean (S.view database.new)
-        → HasCells (S.view database.old) (with_chunks (object_identifier_view object) octets.now count (cells_of (S.view database.old).trees)) (S.view database.new)) }
+        → HasCells (S.view database.old) (with_chunks (object_identifier_view object) octets.now count (cells_of (S.view database.old).trees))
+        (S.view database.new)) }
     ensures crash { NoMore S.recovers database.old database.new }
 {
     for at in 0..count {
@@ -114,7 +116,8 @@ pub(crate) fn note_octets<S: Store>(
     requires { IsClean (S.view database.old) → IsReady (S.view database.old) }
     ensures clean { doubt (S.view database.old).is_clean ≤ doubt (S.view database.new).is_clean }
     ensures noted { OnOk result (IsClean (S.view database.new)
-        → HasCells (S.view database.old) (octets_noted store.now (object_identifier_view object) (cells_of (S.view database.old).trees)) (S.view database.new)) }
+        → HasCells (S.view database.old) (octets_noted store.now (object_identifier_view object) (cells_of (S.view database.old).trees))
+        (S.view database.new)) }
     ensures crash { NoMore S.recovers database.old database.new }
 {
     let Some(file) = store.file(object) else {

@@ -9,7 +9,7 @@ use sqlite::{Alter, Connection};
 /// The statement that makes the table of a new file. The octets of a cell are those at its place; the other columns are for people:
 /// the object's type and instance, and the number of the property or of the part of the file.
 const TABLE: &str =
-    "CREATE TABLE cell (place INTEGER PRIMARY KEY, octets BLOB NOT NULL, object_type INTEGER NOT NULL, instance INTEGER NOT NULL, number INTEGER NOT NULL) STRICT";
+    "CREATE TABLE cell (place INTEGER PRIMARY KEY, octets BLOB NOT NULL, object_type INTEGER, instance INTEGER, number INTEGER) STRICT";
 
 /// Makes the table where there is none. Returns whether it made it.
 fn make_table<S: Alter + Drop>(conn: &mut Connection<S>) -> Result<bool, OpenFault>
@@ -25,7 +25,8 @@ fn make_table<S: Alter + Drop>(conn: &mut Connection<S>) -> Result<bool, OpenFau
 /// The store of a connection.
 fn into_store<S: Alter + Drop>(conn: Connection<S>) -> S
     ensures clean { doubt (S.Store.view conn.store).is_clean ≤ doubt (S.Store.view result).is_clean }
-    ensures same { IsClean (S.Store.view result) → IsTrue (S.Store.view result).is_open → (S.Store.view result).committed ≡ (state S.Store conn).committed.trees }
+    ensures same { IsClean (S.Store.view result) → IsTrue (S.Store.view result).is_open
+        → (S.Store.view result).committed ≡ (state S.Store conn).committed.trees }
 {
     conn.into_store()
 }

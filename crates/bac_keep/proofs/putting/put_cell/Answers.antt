@@ -1,6 +1,6 @@
-use Rattle.std.proofs.Common.{rules, arith, ◌≡◌, true}
+use Rattle.std.proofs.Common.{arith}
 use Rattle.sqlite_trees.specs.View.{IsClean}
-use Rattle.bac_keep.proofs.Puts.{puts, stays}
+use Rattle.bac_keep.proofs.Puts.{puts}
 use Rattle.bac_keep.proofs.putting.put_cell.Goals as goal
 
 pub returns-clause-put : goal.returns-clause-put

@@ -1,7 +1,6 @@
-use Rattle.std.proofs.Common.{rules, arith, ◌≡◌, ◌∙◌, ap, sym, List}
+use Rattle.std.proofs.Common.{rules, arith, ◌≡◌, ◌∙◌, ap, sym}
 use Rattle.sqlite_trees.specs.Tree.{Trees}
 use Rattle.sqlite_trees.specs.View.{IsClean}
-use Rattle.bac_keep.specs.declared.cell.Cell.{Cell}
 use Rattle.bac_keep.specs.Overlay.{overlay}
 use Rattle.bac_keep.specs.Rows.{IsRising, cells_of, held}
 use Rattle.bac_keep.proofs.Risings.{opened}
