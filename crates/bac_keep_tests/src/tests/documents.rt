@@ -142,8 +142,13 @@ fn is_retyped(alloc: Global) -> Result<bool, KeepFault> {
 #[test]
 fn values_of_another_kind_are_refused(rt: HostRuntime) -> Result<(), Fail> {
     let is_refused = match is_retyped(rt.alloc()) {
-        Err(KeepFault::BadValues { property, fault, .. }) => property == 512
-            && fault == ChangeFault::BadValue,
+        Err(
+            KeepFault::BadValues {
+                property,
+                fault,
+                ..
+            },
+        ) => property == 512 && fault == ChangeFault::BadValue,
         _ => false,
     };
     holds(is_refused, "retyped")
