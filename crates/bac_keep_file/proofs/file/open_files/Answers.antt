@@ -1,4 +1,4 @@
-use Rattle.std.proofs.Common.{◌≡◌, ◌∙◌}
+use Rattle.std.proofs.Common.{◌∙◌}
 use Rattle.bac_keep_file.proofs.file.open_files.Goals as goal
 
 pub returns : goal.returns
