@@ -1,4 +1,4 @@
-//! Tests of stores that survive power cuts: a cut at each call of the disk, and documents that changed between two starts.
+//! Tests of stores that survive power cuts: cuts at calls of the disk, and documents that changed between two starts.
 #![tactic(auto)]
 
 #[cfg(test)]

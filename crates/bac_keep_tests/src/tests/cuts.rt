@@ -1,4 +1,4 @@
-//! The power is cut at each call of the disk: the next start finds all rounds that were kept, and nothing of a later one, or all of the next.
+//! The power is cut at every third call of the disk: the next start finds all rounds that were kept, and nothing of a later one, or all of the next.
 use super::playing::{Asked, Round, keep_rounds, perform_rounds};
 use bac_keep::{CellKeeper, KeepFault};
 use bac_keep_file::open_files;
@@ -113,7 +113,7 @@ fn survives(alloc: Global, log: u64, db: u64) -> Result<bool, KeepFault> {
 }
 
 #[test]
-fn survives_a_cut_at_each_call_of_the_log(rt: HostRuntime) -> Result<(), Fail> {
+fn survives_cuts_at_calls_of_the_log(rt: HostRuntime) -> Result<(), Fail> {
     for calls in 0..40u64 {
         let survived = survives(rt.alloc(), calls * 3, u64::MAX);
         holds(survived == Ok(true), "the log")?;
@@ -122,7 +122,7 @@ fn survives_a_cut_at_each_call_of_the_log(rt: HostRuntime) -> Result<(), Fail> {
 }
 
 #[test]
-fn survives_a_cut_at_each_call_of_the_database(rt: HostRuntime) -> Result<(), Fail> {
+fn survives_cuts_at_calls_of_the_database(rt: HostRuntime) -> Result<(), Fail> {
     for calls in 0..20u64 {
         let survived = survives(rt.alloc(), u64::MAX, calls * 3);
         holds(survived == Ok(true), "the database file")?;
