@@ -90,7 +90,7 @@ module _ {A : Type 0} (test : A → Bool) where
       go true t e rest = let same : y ≡ x = cc in ((0, omega arith, same), subst (λ z. test z ≡ true) same t)
       go false t e rest = let r = rest e in ((suc r.0.0, omega (arith, r.0.1), r.0.2), r.1)
 
-  first_some : (xs : List A) (x : A) → AllPairs (λ a b. test a ≡ true → test b ≡ true → ⊥) xs → Contains xs x → test x ≡ true → first_that test xs ≡ Some x
+  pub first_some : (xs : List A) (x : A) → AllPairs (λ a b. test a ≡ true → test b ≡ true → ⊥) xs → Contains xs x → test x ≡ true → first_that test xs ≡ Some x
   first_some [] x one c t = absurd (omega (arith, c.1))
   first_some (y ∷ xs) x one c t = go c.0 c.1 c.2 (test y) refl (first_some xs x (λ i j d l w. one (suc i) (suc j) d (omega arith) (omega arith)))
     where

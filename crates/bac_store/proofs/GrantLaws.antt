@@ -64,7 +64,7 @@ module _ (r : Reference) (values : List ℕ) where
   past_file true n d (Some g) x h = absurd (not_computed n (d g) h)
   past_file false n d f x h = h
 
-  listed : (o : Object) → Grants (property_in o r.property) → Grants (listed_in o r.property)
+  pub listed : (o : Object) → Grants (property_in o r.property) → Grants (listed_in o r.property)
   listed o h =
       let n = r.property in
       past_file (n == FILE_SIZE) FILE_SIZE (λ f. unsigned (length f.octets)) o.file (listed_in o n)

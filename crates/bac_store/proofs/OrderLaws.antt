@@ -16,7 +16,7 @@ use Rattle.bac_store.specs.Stores.{listed_in, object_in, property_in}
 
 module _ {A : Type 0} (test : A → Bool) where
   -- if a change does not affect a test, what is found is the changed element that was found before
-  first_that-map : (g : A → A) → ((x : A) → test (g x) ≡ test x) → (xs : List A) → first_that test (map g xs) ≡ option_map g (first_that test xs)
+  pub first_that-map : (g : A → A) → ((x : A) → test (g x) ≡ test x) → (xs : List A) → first_that test (map g xs) ≡ option_map g (first_that test xs)
   first_that-map g same [] = refl
   first_that-map g same (x ∷ xs) = go (test x) refl (first_that-map g same xs)
     where

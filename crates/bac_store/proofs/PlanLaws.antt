@@ -27,7 +27,7 @@ module _ (id : ObjectId) (change : Object → Object) where
       go false e rest = ap (λ t. b ∷ t) rest
 
 module _ (id : ObjectId) (planned write : List ℕ → List ℕ) (f : File) (same : planned f.octets ≡ write f.octets) where
-  same_octets : (s : Store) → AllPairs (λ a b. object_number a.id < object_number b.id) s → file_of (object_in s id) ≡ Some f
+  pub same_octets : (s : Store) → AllPairs (λ a b. object_number a.id < object_number b.id) s → file_of (object_in s id) ≡ Some f
       → where_that (is_object id) (with_octets planned) s ≡ where_that (is_object id) (with_octets write) s
   same_octets [] rise is = refl
   same_octets (o ∷ s) rise is = go (is_object id o) refl is (same_octets s tail)

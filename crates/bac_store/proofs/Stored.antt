@@ -66,10 +66,10 @@ kept_from_sorting r old new s = record {
 
 -- ---- look-ups
 
-one_number : (m : ℕ) (ps : List Property) → AllPairs (λ p q. p.number < q.number) ps → AllPairs (λ p q. is_number m p ≡ true → is_number m q ≡ true → ⊥) ps
+pub one_number : (m : ℕ) (ps : List Property) → AllPairs (λ p q. p.number < q.number) ps → AllPairs (λ p q. is_number m p ≡ true → is_number m q ≡ true → ⊥) ps
 one_number m ps rise i j d l within a b = grind (arith, nat_tests, rise i j d l within)
 
-one_object : (id : ObjectId) (os : List Object) → AllPairs (λ a b. object_number a.id < object_number b.id) os
+pub one_object : (id : ObjectId) (os : List Object) → AllPairs (λ a b. object_number a.id < object_number b.id) os
     → AllPairs (λ a b. is_object id a ≡ true → is_object id b ≡ true → ⊥) os
 one_object id os rise i j d l within a b = same_numbers id (get_or os i d).id (get_or os j d).id a b (rise i j d l within)
 

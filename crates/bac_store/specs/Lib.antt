@@ -19,3 +19,4 @@ pub mod ReplyLengths
 pub mod House
 pub mod Writes
 pub mod AtNode
+pub mod Listed

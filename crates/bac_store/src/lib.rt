@@ -36,6 +36,7 @@ mod spelled;
 mod splice;
 mod store;
 mod store_fault;
+mod store_lookups;
 
 pub use allowed::Allowed;
 pub use change::Change;
@@ -52,3 +53,4 @@ pub use object::{File, Object, Property};
 pub use planned::Planned;
 pub use store::Store;
 pub use store_fault::StoreFault;
+pub use store_lookups::{ListedValues, stores_are_in_order};

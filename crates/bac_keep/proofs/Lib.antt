@@ -1,0 +1,12 @@
+mod Chunks
+mod Files
+mod Finding
+mod Lists
+mod Maps
+mod Notes
+mod Places
+mod Puts
+mod Restores
+mod Risings
+mod RowReading
+mod Values

@@ -1,0 +1,89 @@
+-- What holds while the rows of the table are read.
+use Rattle.std.proofs.Common.{◌≡◌, ◌≤◌, true, false, List, [], ◌∷◌, ◌++◌, Some, IsSome, refl, sym, ap, ◌∙◌, subst, append_assoc}
+use Rattle.std.proofs.lemmas.List.{append-nil}
+use Rattle.sqlite_value.specs.declared.keys.Order.{Order}
+use Rattle.sqlite_trees.specs.declared.store.Direction.TheVariants.{Forward}
+use Rattle.sqlite_value.specs.Order.{Row}
+use Rattle.sqlite_trees.specs.View.{View, IsClean, doubt, with_cursor, Advances}
+use Rattle.sqlite_trees.specs.Tree.{from_key, order_of, sought}
+use Rattle.sqlite_trees.specs.Tree.{Trees}
+use Rattle.bac_keep.specs.declared.cell.Cell.{Cell}
+use Rattle.bac_keep.specs.Rows.{AreCells, IsRowOf}
+use Rattle.bac_keep.specs.Steps.{IsReady, NoMore}
+
+-- these cells are the rows so far, and the cursor gives the others
+pub record HasReadSome (old : View) (cells : List Cell) (new : View) : Type 0 where
+  pub ready : IsReady new
+  pub trees : new.trees ≡ old.trees
+  pub committed : new.committed ≡ old.committed
+  pub read : List Row
+  pub left : List Row
+  pub cursor : new.cursors 0 ≡ Some left
+  pub are : AreCells read cells
+  pub rows : read ++ left ≡ old.trees 0
+
+pub record IsReading {S : Type 0} (view : S → View) (recovers : S → Trees → Type 0) (old : S) (cells : List Cell) (new : S) : Type 0 where
+  pub clean : doubt (view old).is_clean ≤ doubt (view new).is_clean
+  pub live : IsSome ((view new).cursors 0)
+  pub some : IsClean (view new) → HasReadSome (view old) cells (view new)
+  pub crash : NoMore recovers old new
+
+no_key : (o : Order) (es : List Row) → from_key o [] es ≡ es
+no_key o [] = refl
+no_key o (e ∷ es) = refl
+
+-- before the first
+pub begins : (old new : View) (key : Row) → key ≡ [] → IsReady old → new ≡ with_cursor old 0 (sought (order_of (old.shape 0)) Forward key (old.trees 0))
+    → HasReadSome old [] new
+begins old new key empty ready is =
+    subst (HasReadSome old []) (sym (is ∙ ap (λ (k : Row). with_cursor old 0 (sought (order_of (old.shape 0)) Forward k (old.trees 0))) empty)) (record {
+      ready = record { table = ready.table; sound = ready.sound; is_open = ready.is_open };
+      trees = refl;
+      committed = refl;
+      read = [];
+      left = sought (order_of (old.shape 0)) Forward [] (old.trees 0);
+      cursor = refl;
+      are = tt;
+      rows = no_key (order_of (old.shape 0)) (old.trees 0);
+    })
+
+one_more : (rs : List Row) (cs : List Cell) (r : Row) (c : Cell) → AreCells rs cs → IsRowOf c.place c.octets.items r → AreCells (rs ++ r ∷ []) (cs ++ c ∷ [])
+one_more [] [] r c are is = (is, tt)
+one_more [] (d ∷ cs) r c are is = absurd are
+one_more (q ∷ rs) [] r c are is = absurd are
+one_more (q ∷ rs) (d ∷ cs) r c are is = (are.0, one_more rs cs r c are.1 is)
+
+some_is : (a b : List Row) → Some a ≡ Some b → a ≡ b
+some_is a b e = cc
+
+-- one more
+pub goes_on : (old mid new : View) (cs : List Cell) (c : Cell) (row : Row) → HasReadSome old cs mid → IsRowOf c.place c.octets.items row
+    → Advances mid new 0 row true
+    → HasReadSome old (cs ++ c ∷ []) new
+goes_on old mid new cs c row so_far makes next =
+    let left : so_far.left ≡ row ∷ next.0 = some_is _ _ (sym so_far.cursor ∙ next.1) in
+    subst (HasReadSome old (cs ++ c ∷ [])) (sym next.2) (record {
+      ready = record { table = so_far.ready.table; sound = so_far.ready.sound; is_open = so_far.ready.is_open };
+      trees = so_far.trees;
+      committed = so_far.committed;
+      read = so_far.read ++ row ∷ [];
+      left = next.0;
+      cursor = refl;
+      are = one_more so_far.read cs row c so_far.are makes;
+      rows =
+          append_assoc so_far.read (row ∷ []) next.0
+          ∙ ap (λ (l : List Row). so_far.read ++ l) (sym left)
+          ∙ so_far.rows;
+    })
+
+-- at the end
+pub ends : (old mid new : View) (cs : List Cell) (row : Row) → HasReadSome old cs mid → Advances mid new 0 row false
+    → AreCells (old.trees 0) cs × IsReady new × (new.trees ≡ old.trees) × (new.committed ≡ old.committed)
+ends old mid new cs row so_far next =
+    let left : so_far.left ≡ [] = some_is _ _ (sym so_far.cursor ∙ next.0) in
+    let whole : so_far.read ≡ old.trees 0 = sym (append-nil so_far.read) ∙ ap (λ (l : List Row). so_far.read ++ l) (sym left) ∙ so_far.rows in (
+      subst (λ (rs : List Row). AreCells rs cs) whole so_far.are,
+      subst IsReady (sym next.1) so_far.ready,
+      ap (λ (v : View). v.trees) next.1 ∙ so_far.trees,
+      ap (λ (v : View). v.committed) next.1 ∙ so_far.committed,
+    )

@@ -1,0 +1,30 @@
+use Rattle.std.proofs.Common.{rules, arith, ◌≡◌, List, Bool, true, sym, subst}
+use Rattle.sqlite_trees.specs.View.{Advances}
+use Rattle.bac_keep.specs.declared.cell.Cell.{Cell}
+use Rattle.bac_keep.specs.Rows.{IsRowOf}
+use Rattle.bac_keep.proofs.RowReading.{HasReadSome, begins, goes_on}
+use Rattle.bac_keep.proofs.reading.read_cells.Goals as goal
+
+pub loop-init : goal.loop-init
+loop-init g c = record {
+  clean = c.in_ok-seek.ensures.quiet.clean;
+  live = c.in_ok-seek.ensures.live;
+  some = λ clean. subst (λ (cs : List Cell). HasReadSome (g.S.Store.view c.args.database.now) cs (g.S.Store.view c.seek-2.new.self))
+      (sym c.new-cells.ensures.items)
+      (begins _ _ _ c.new.ensures (c.requires (omega (arith, clean, c.in_ok-seek.ensures.quiet.clean))) (c.in_ok-seek.ensures.ok clean));
+  crash = c.in_ok-seek.ensures.quiet.outcomes;
+}
+
+pub loop-preserved : goal.loop-preserved
+loop-preserved g c = record {
+  clean = omega (arith, c.loop.invariant.clean, c.in_ok-next.ensures.quiet.clean);
+  live = c.in_ok-next.ensures.stay 0 c.loop.invariant.live;
+  some = λ clean.
+      let more : c.in_ok-next.field-0 ≡ true = search rules in
+      let makes : IsRowOf c.in-Some.cell.place c.in-Some.cell.octets.items c.next.new.row = search rules in
+      subst (λ (cs : List Cell). HasReadSome (g.S.Store.view c.args.database.now) cs (g.S.Store.view c.next.new.self)) (sym c.in_ok-push.ensures.items)
+      (goes_on _ _ _ _ _ _ (c.loop.invariant.some (omega (arith, clean, c.in_ok-next.ensures.quiet.clean))) makes
+      (subst (λ (b : Bool). Advances (g.S.Store.view c.loop.database) (g.S.Store.view c.next.new.self) 0 c.next.new.row b) more
+      (c.in_ok-next.ensures.ok clean)));
+  crash = λ db left. c.loop.invariant.crash db (c.in_ok-next.ensures.quiet.outcomes db left);
+}

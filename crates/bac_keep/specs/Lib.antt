@@ -1,0 +1,9 @@
+pub mod Cells
+pub mod Made
+pub mod Noted
+pub mod Overlay
+pub mod Parts
+pub mod Restored
+pub mod Rows
+pub mod Settling
+pub mod Steps

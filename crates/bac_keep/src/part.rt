@@ -1,0 +1,69 @@
+//! What a place is for.
+ghost use Rattle.std.specs.Prelude.{◌≡◌, ◌<◌, ◌^◌, IfSome};
+ghost use Rattle.bac_value.specs.Views.{object_identifier_view};
+ghost use Rattle.bac_keep.specs.Cells.{value_place};
+ghost use Rattle.bac_keep.specs.Parts.{IsSmall, place_for};
+
+use crate::cell::{FILES, INSTANCES, NUMBERS};
+use bac_value::ObjectIdentifier;
+
+/// What a place is for.
+#[derive(Clone, Copy, Debug, PartialEq, Eq)]
+pub enum Part {
+    /// The values of a property.
+    Values {
+        /// The object.
+        object: ObjectIdentifier,
+        /// The number of the property.
+        property: u32,
+    },
+    /// The number of chunks of a file.
+    Count {
+        /// The file.
+        object: ObjectIdentifier,
+    },
+    /// A chunk of a file.
+    Chunk {
+        /// The file.
+        object: ObjectIdentifier,
+        /// The number of the chunk, from 0.
+        at: u8,
+    },
+}
+
+/// The object identifier and the number of 22 bits that are one number.
+fn object_of(number: u64) -> (ObjectIdentifier, u32)
+    requires { number < 2 ^ 54 }
+    ensures is { number ≡ value_place (object_identifier_view result.0) result.1 }
+    ensures small { result.1 < 2 ^ 22 }
+{
+    let object = number / NUMBERS;
+    let id = ObjectIdentifier {
+        kind: (object / INSTANCES) as u16,
+        instance: (object % INSTANCES) as u32,
+    };
+    (id, (number % NUMBERS) as u32)
+}
+
+/// What a place is for. Returns None if no cell has it.
+pub(crate) fn part_of(place: u64) -> Option<Part>
+    ensures is { IfSome result (λ p. place ≡ place_for p) }
+    ensures small { IfSome result IsSmall }
+{
+    if place < FILES {
+        let (object, property) = object_of(place);
+        return Some(Part::Values { object, property });
+    }
+    if place - FILES >= FILES {
+        return None;
+    }
+    let (object, part) = object_of(place - FILES);
+    match part {
+        0 => Some(Part::Count { object }),
+        1..=255 => Some(Part::Chunk {
+            object,
+            at: (part - 1) as u8,
+        }),
+        _ => None,
+    }
+}

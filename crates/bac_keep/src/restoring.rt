@@ -1,0 +1,142 @@
+//! Restoring a store from a document and cells.
+ghost use Rattle.std.specs.Prelude.{◌≡◌, ◌<◌, ◌+◌, [], ◌∷◌, drop, length, IfOk, OnOk};
+ghost use Rattle.bac_value.specs.Views.{object_identifier_view};
+ghost use Rattle.bac_keep.specs.Overlay.{joined, overlay};
+ghost use Rattle.bac_keep.specs.Restored.{with_kept_octets, with_kept_values};
+ghost use Rattle.bac_keep.specs.Rows.{IsRising, held};
+
+use crate::cell::{Cell, file_place};
+use crate::fault::KeepFault;
+use crate::part::{Part, part_of};
+use bac_store::{Store, stores_are_in_order};
+use bac_value::ObjectIdentifier;
+use std::alloc::Global;
+
+/// The octets of a file, whose number of chunks is in the cell at this place in the list: those of the cells after it.
+fn octets_at(
+    alloc: Global,
+    cells: &[Cell],
+    at: usize,
+    object: ObjectIdentifier,
+    count: u8,
+) -> Result<Vec<u8>, KeepFault>
+    requires { at < length cells.now }
+    ensures { IfOk result (λ v. IsRising cells.now → v.items ≡ joined (held (drop at cells.now)) (object_identifier_view object) count) }
+{
+    let mut octets = Vec::new(alloc);
+    for part in 0..count {
+        let next = at + 1 + usize::from(part);
+        if next >= cells.len() {
+            return Err(KeepFault::BadRow);
+        }
+        let cell = &cells[next];
+        if cell.place != file_place(object, u32::from(part) + 1) {
+            return Err(KeepFault::BadRow);
+        }
+        octets.extend_from_slice(&cell.octets)?;
+    }
+    Ok(octets)
+}
+
+/// The number of chunks that a cell states.
+fn count_of(cell: &Cell) -> Result<u8, KeepFault>
+    ensures { IfOk result (λ n. cell.now.octets.items ≡ n ∷ []) }
+{
+    match cell.octets.as_slice() {
+        [count] => Ok(*count),
+        _ => Err(KeepFault::BadRow),
+    }
+}
+
+/// Gives a property the values that are kept, if they may be written.
+fn restore_values(
+    alloc: Global,
+    store: &mut Store,
+    object: ObjectIdentifier,
+    property: u32,
+    octets: &[u8],
+) -> Result<(), KeepFault>
+    ensures { OnOk result (store.new ≡ with_kept_values (object_identifier_view object) property octets.now store.old) }
+{
+    let Some(listed) = store.listed(object, property) else {
+        return Ok(());
+    };
+    if !listed.writable {
+        return Ok(());
+    }
+    match store.set_value(alloc, object, property, octets) {
+        Ok(()) => Ok(()),
+        Err(fault) => Err(KeepFault::BadValues {
+            object,
+            property,
+            fault,
+        }),
+    }
+}
+
+/// Gives a file the octets that are kept, if they may be written.
+fn restore_octets(
+    alloc: Global,
+    store: &mut Store,
+    object: ObjectIdentifier,
+    octets: &[u8],
+) -> Result<(), KeepFault>
+    ensures { OnOk result (store.new ≡ with_kept_octets (object_identifier_view object) octets.now store.old) }
+{
+    let Some(file) = store.file(object) else {
+        return Ok(());
+    };
+    if !file.writable {
+        return Ok(());
+    }
+    match store.set_file(alloc, object, octets) {
+        Ok(()) => Ok(()),
+        Err(fault) => Err(KeepFault::BadOctets { object, fault }),
+    }
+}
+
+/// Restores what the cell at this place in the list has, on top of the cells after it.
+fn restore_cell(
+    alloc: Global,
+    store: &mut Store,
+    document: &Store,
+    cells: &[Cell],
+    at: usize,
+) -> Result<(), KeepFault>
+    requires within { at < length cells.now }
+    requires above { IsRising cells.now → store.old ≡ overlay (held (drop (at + 1) cells.now)) document.now }
+    ensures { OnOk result (IsRising cells.now → store.new ≡ overlay (held (drop at cells.now)) document.now) }
+{
+    stores_are_in_order(document);
+    let cell = &cells[at];
+    match part_of(cell.place) {
+        None => Err(KeepFault::BadRow),
+        Some(Part::Values { object, property }) => {
+            restore_values(alloc, store, object, property, &cell.octets)?;
+            Ok(())
+        }
+        Some(Part::Count { object }) => {
+            let count = count_of(cell)?;
+            let octets = octets_at(alloc, cells, at, object, count)?;
+            restore_octets(alloc, store, object, &octets)?;
+            Ok(())
+        }
+        Some(Part::Chunk { .. }) => Ok(()),
+    }
+}
+
+/// The store that a document and cells make, whose places rise.
+///
+/// Returns `BadRow` if a place is for nothing, or a chunk is missing; `BadValues` and `BadOctets` if the document has a property or
+/// a file that can't have what is kept. Cells of no property and no file of the document, or of one that may not be written, have no
+/// effect.
+pub(crate) fn restored(alloc: Global, document: &Store, cells: &[Cell]) -> Result<Store, KeepFault>
+    ensures { IfOk result (λ s. IsRising cells.now → s ≡ overlay (held cells.now) document.now) }
+{
+    let mut store = document.copy(alloc)?;
+    let count = cells.len();
+    for done in 0..count {
+        restore_cell(alloc, &mut store, document, cells, count - 1 - done)?;
+    }
+    Ok(store)
+}

@@ -1,0 +1,43 @@
+//! Why a file is not opened.
+
+use sqlite::{Error as SqlError, ErrorCode};
+use thiserror::Error;
+
+/// Why a file is not opened.
+#[derive(Clone, Copy, Debug, PartialEq, Eq, Error)]
+pub enum OpenFault {
+    /// Another process has the file open.
+    #[error("another process has it open")]
+    Locked,
+    /// The file is no database, or it is damaged.
+    #[error("no database, or a damaged one")]
+    Damaged,
+    /// The file can't be opened or made.
+    #[error("it cannot be opened")]
+    CannotOpen,
+    /// The disk failed, or it is full.
+    #[error("the disk failed or is full")]
+    Disk,
+    /// An allocation failed.
+    #[error("no memory")]
+    NoMemory,
+    /// Any other fault of the database.
+    #[error("{0}")]
+    Database(SqlError),
+}
+
+impl From<SqlError> for OpenFault {
+    fn from(error: SqlError) -> OpenFault {
+        match error {
+            SqlError::SqliteFailure(code) => match code {
+                ErrorCode::DatabaseBusy => OpenFault::Locked,
+                ErrorCode::NotADatabase | ErrorCode::DatabaseCorrupt => OpenFault::Damaged,
+                ErrorCode::CannotOpen => OpenFault::CannotOpen,
+                ErrorCode::SystemIoFailure | ErrorCode::DiskFull => OpenFault::Disk,
+                ErrorCode::OutOfMemory => OpenFault::NoMemory,
+                _ => OpenFault::Database(error),
+            },
+            _ => OpenFault::Database(error),
+        }
+    }
+}

@@ -1,0 +1,42 @@
+//! The table of cells.
+ghost use Rattle.std.specs.Prelude.{◌≡◌, ◌≤◌, false, IsTrue, IfOk};
+ghost use Rattle.sqlite_trees.specs.View.{IsClean, doubt};
+ghost use Rattle.sqlite.specs.Held.{state};
+
+use crate::fault::OpenFault;
+use sqlite::{Alter, Connection};
+
+/// The statement that makes the table of a new file. The octets of a cell are those at its place; the other columns are for people:
+/// the object's type and instance, and the number of the property or of the part of the file.
+const TABLE: &str =
+    "CREATE TABLE cell (place INTEGER PRIMARY KEY, octets BLOB NOT NULL, object_type INTEGER, instance INTEGER, number INTEGER) STRICT";
+
+/// Makes the table where there is none. Returns whether it made it.
+fn make_table<S: Alter + Drop>(conn: &mut Connection<S>) -> Result<bool, OpenFault>
+    ensures { IfOk result (λ made. made ≡ false → conn.new ≡ conn.old) }
+{
+    if conn.schema().tables.as_slice().is_empty() {
+        conn.execute(TABLE, &[])?;
+        return Ok(true);
+    }
+    Ok(false)
+}
+
+/// The store of a connection.
+fn into_store<S: Alter + Drop>(conn: Connection<S>) -> S
+    ensures clean { doubt (S.Store.view conn.store).is_clean ≤ doubt (S.Store.view result).is_clean }
+    ensures same { IsClean (S.Store.view result) → IsTrue (S.Store.view result).is_open
+        → (S.Store.view result).committed ≡ (state S.Store conn).committed.trees }
+{
+    conn.into_store()
+}
+
+/// The store of a connection, with the table, which is made where there is none; and whether it was made.
+pub(crate) fn store_of<S: Alter + Drop>(mut conn: Connection<S>) -> Result<(S, bool), OpenFault>
+    ensures clean { IfOk result (λ r. r.1 ≡ false → IsClean (S.Store.view r.0) → IsClean (S.Store.view conn.store)) }
+    ensures same { IfOk result (λ r. r.1 ≡ false → IsClean (S.Store.view r.0) → IsTrue (S.Store.view r.0).is_open
+        → (S.Store.view r.0).committed ≡ (state S.Store conn).committed.trees) }
+{
+    let is_new = make_table(&mut conn)?;
+    Ok((into_store(conn), is_new))
+}

@@ -1,0 +1,4 @@
+//! Tests of stores that survive power cuts.
+mod cuts;
+mod documents;
+mod playing;
