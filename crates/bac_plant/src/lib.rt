@@ -20,7 +20,7 @@ ghost use Rattle.bac_driver.specs.declared.wait_limit.WaitLimit.{WaitLimit};
 ghost use Rattle.bac_requester.specs.declared.ending.Ending.{Ending};
 ghost use Rattle.bac_plant.specs.Chains.{AsksAndStops, AsksInChain, Chain, ServesInChain, StopsInChain, TakesTurnsAlone, turn_of_second, turns_of};
 ghost use Rattle.bac_plant.specs.Events.{events_of};
-ghost use Rattle.bac_plant.specs.NextSteps.{AsksGoOn, ChangesGoOn, FailuresGoOn, IsReached, RestartsGoOn, TurnsGoOn};
+ghost use Rattle.bac_plant.specs.NextSteps.{AsksGoOn, ChangesGoOn, FailuresGoOn, IsReached, RestartsGoOn, StrangersAskedGoOn, TurnsGoOn};
 ghost use Rattle.bac_plant.specs.Plants.{Plant, nodes_of, world_of};
 ghost use Rattle.bac_plant.specs.Steps.{PlantRun, Step};
 
@@ -41,6 +41,7 @@ pub fn turns_are_events()
 pub fn calls_go_on()
     ensures turns { (W overtake : ℕ) (p : Plant) → IsReached W overtake p → TurnsGoOn overtake p }
     ensures asks { (W overtake : ℕ) (p : Plant) → IsReached W overtake p → AsksGoOn overtake p }
+    ensures strangers_asked { (overtake : ℕ) (p : Plant) → StrangersAskedGoOn overtake p }
     ensures failures { (overtake : ℕ) (p : Plant) → FailuresGoOn overtake p }
     ensures changes { (overtake : ℕ) (p : Plant) → ChangesGoOn overtake p }
     ensures restarts { (overtake : ℕ) (p : Plant) → RestartsGoOn overtake p }
