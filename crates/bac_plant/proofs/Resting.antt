@@ -147,6 +147,7 @@ module _ (overtake : ℕ) (old : Plant) (i : ℕ) (b : BoundNode) (at : slice_ge
       → (w : World) (h : Hears (world_of old) i from octets w) (n : Node) → h.after ≡ n → IsCalm (shows old i) n
       → TakesTurnAt overtake old i (Station number) (turn_by (shows old i) from octets h.outcome)
       (next_plant old i (after_turn (shows old i) b from octets n h.outcome) w)
+  unfolding takes_turn
   hearing_step number from octets comes w h n same calm = record {
     before = b;
     at = at;

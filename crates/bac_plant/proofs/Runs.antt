@@ -1,9 +1,10 @@
 -- A run of a plant is a run of its world.
 use Rattle.std.proofs.Common.{◌≡◌, ℕ, List, [], ◌∷◌, Some, slice_get, slice_set, refl, sym, ap, subst, inl, ◌∙◌}
 use Rattle.bac_protocol.specs.Pace.{IsTimely}
+use Rattle.bac_world.specs.Claims.{AreServedApart}
 use Rattle.bac_world.specs.Once.{IsOnce}
 use Rattle.bac_world.specs.World.{Event, IsBounded, IsFresh, IsWithNode, WorldRun, WorldStep, stores_of}
-use Rattle.bac_world.proofs.Headline.{headline}
+use Rattle.bac_world.proofs.Headline.{apart_in_run, headline}
 use Rattle.bac_driver.specs.BoundNodes.{BoundNode}
 use Rattle.bac_plant.specs.Plants.{Plant, nodes_of, world_of}
 use Rattle.bac_plant.specs.Steps.{AsksAt, AsksAwayAt, ChangesAt, FailsAt, PlantRun, PlantStep, RestartsAt, Step, away_note, note_of}
@@ -110,3 +111,8 @@ pub once : (W overtake : ℕ) (old new : Plant) → IsFresh (world_of old) → I
     → (steps : List Step) → PlantRun overtake steps old new → IsOnce (stores_of (nodes_of old.stations)) new.log (stores_of (nodes_of new.stations))
 once W overtake old new fresh timely bounded steps run =
     headline W overtake (world_of old) (world_of new) fresh timely bounded (events_of steps) (run_events overtake steps old new run)
+
+pub apart : (W overtake : ℕ) (old new : Plant) → IsFresh (world_of old) → IsTimely old.time.pace → IsBounded W overtake (world_of old)
+    → (steps : List Step) → PlantRun overtake steps old new → AreServedApart (world_of new)
+apart W overtake old new fresh timely bounded steps run =
+    apart_in_run W overtake (world_of old) (world_of new) fresh timely bounded (events_of steps) (run_events overtake steps old new run)

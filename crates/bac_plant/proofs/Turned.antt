@@ -108,7 +108,9 @@ all_copied_on xs ys same now i (d ∷ ds) cs (inr h) = inr (λ j at. h.0 j (sym 
 pub copied_join : (nodes : List Node) (now i : ℕ) (ds es : List Datagram) (xs ys : List Copy) → AreCopied nodes now i ds xs → AreCopied nodes now i es ys
     → AreCopied nodes now i (ds ++ es) (xs ++ ys)
 copied_join nodes now i ds es xs ys h k =
-    (more_become nodes now i ds es [] xs (xs ++ ys) (record { sent = xs; copies = refl; copied = h }) (record { sent = ys; copies = refl; copied = k })).copied
+    let both = more_become nodes now i ds es [] xs (xs ++ ys) (record { sent = xs; copies = refl; copied = h })
+    (record { sent = ys; copies = refl; copied = k }) in
+    subst (AreCopied nodes now i (ds ++ es)) (sym both.copies) both.copied
 
 -- Worlds after a call of one node.
 

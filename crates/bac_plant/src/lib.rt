@@ -7,6 +7,7 @@ pub mod examples;
 
 ghost use Rattle.std.specs.Prelude.{◌≡◌, ◌⊎◌, ℕ, List, map, Some, slice_get};
 ghost use Rattle.bac_protocol.specs.Pace.{IsTimely};
+ghost use Rattle.bac_world.specs.Claims.{AreServedApart};
 ghost use Rattle.bac_world.specs.Once.{IsOnce};
 ghost use Rattle.bac_world.specs.World.{IsBounded, IsFresh, WorldRun, stores_of};
 ghost use Rattle.bac_driver.specs.BoundNodes.{BoundNode};
@@ -25,7 +26,8 @@ ghost use Rattle.bac_plant.specs.Plants.{Plant, nodes_of, world_of};
 ghost use Rattle.bac_plant.specs.Steps.{PlantRun, Step};
 
 /// The turns that stations take, their asks, changes and restarts are events of a world: a run of a plant is the run of its world through the events of its
-/// steps. After a run of a fresh plant the log, which has all that turns returned as performed and ended, is right with the stores.
+/// steps. After a run of a fresh plant the log, which has all that turns returned as performed and ended, is right with the stores. Whatever strangers send,
+/// what a station performs for one of them under one invoke ID, between two of its restarts, it performs in entries that began more than 65,000 ms apart.
 #[tactic(auto, using(crate::proofs::Runs::run_events))]
 pub fn turns_are_events()
     ensures events { (overtake : ℕ) (steps : List Step) (old new : Plant) → PlantRun overtake steps old new
@@ -33,6 +35,8 @@ pub fn turns_are_events()
     ensures once { (W overtake : ℕ) (old new : Plant) → IsFresh (world_of old) → IsTimely old.time.pace → IsBounded W overtake (world_of old)
         → (steps : List Step) → PlantRun overtake steps old new
         → IsOnce (stores_of (nodes_of old.stations)) new.log (stores_of (nodes_of new.stations)) }
+    ensures apart { (W overtake : ℕ) (old new : Plant) → IsFresh (world_of old) → IsTimely old.time.pace → IsBounded W overtake (world_of old)
+        → (steps : List Step) → PlantRun overtake steps old new → AreServedApart (world_of new) }
 {}
 
 /// After each run of a fresh plant, whatever a call promises of a station, at the moment of its clock and by a datagram that the network may hand over, is a
