@@ -40,7 +40,7 @@ pub fn turns_are_events()
 {}
 
 /// After each run of a fresh plant, whatever a call promises of a station, at the moment of its clock and by a datagram that the network may hand over, is a
-/// step of the plant: there are the asks and transactions of all that it returned. So no turn is left out of the law above.
+/// step of the plant: there are the asks, transactions and strangers of all that it returned. So no turn is left out of the law above.
 #[tactic(auto, using(crate::proofs::Next::changes_go_on, crate::proofs::Next::restarts_go_on))]
 pub fn calls_go_on()
     ensures turns { (W overtake : ℕ) (p : Plant) → IsReached W overtake p → TurnsGoOn overtake p }
