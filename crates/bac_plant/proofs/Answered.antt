@@ -9,7 +9,7 @@ use Rattle.bac_world.specs.AnsweredRun.{LIMITS, TIME, link, node}
 use Rattle.bac_world.specs.Examples.{REQUEST}
 use Rattle.bac_world.specs.Node.{Node}
 use Rattle.bac_protocol.specs.Service.{Octets}
-use Rattle.bac_world.specs.World.{Copy, Delivers, DeliversIf, Hears, IsDelivered, World, is_deliverable, link_at}
+use Rattle.bac_world.specs.World.{Copy, Delivers, DeliversIf, Hears, IsDelivered, World, is_deliverable, link_at, peer_at}
 use Rattle.bac_world.proofs.Answered.{ACCEPTED, ANSWER, ASK, ASKED_NODE, LAST, SECOND, THIRD, answer_delivered, answered_run, ask_copied, asks}
 use Rattle.bac_world.proofs.Answered.{copy, datagram, request_delivered}
 use Rattle.bac_node.specs.Waiting.{MovesAt, RestsUntil}
@@ -58,7 +58,7 @@ asked_due = record { rests = asked_rests; moves = asked_moves }
 abbrev ASKED : BoundNode
 ASKED = record { node = ASKED_NODE; failures = 0; calls = with_calls (Some []) (map call_of (datagram (link 1) ASK ∷ [])); buffer = [] }
 
-abbrev begun : IsBegun 0 (question (link 1) LIMITS REQUEST) (station 0) 0 ASKED
+abbrev begun : IsBegun 0 (question (peer_at (link 1)) LIMITS REQUEST) (station 0) 0 ASKED
 begun = record {
   accepted = ACCEPTED;
   sends = datagram (link 1) ASK ∷ [];

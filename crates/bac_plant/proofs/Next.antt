@@ -1,19 +1,18 @@
 -- Whatever a call promises after a run can be the next step.
-use Rattle.std.proofs.Common.{◌≡◌, ℕ, List, [], ◌∷◌, ◌++◌, length, take, Option, Some, None, slice_get, slice_set, refl, sym, subst, inl, inr}
+use Rattle.std.proofs.Common.{◌≡◌, ℕ, List, [], ◌∷◌, ◌++◌, ◌⊎◌, length, take, Option, Some, None, slice_get, slice_set, refl, sym, subst, inl, inr}
 use Rattle.std.proofs.lemmas.Option.{slice_get_within}
 use Rattle.bac_apdu.specs.Apdu.{Limits}
 use Rattle.bac_service.specs.Values.{Request}
 use Rattle.bac_protocol.specs.Service.{Octets}
 use Rattle.bac_transaction.specs.Meanings.{EndedView}
 use Rattle.bac_transaction.specs.Sends.{Datagram, Pairwise}
-use Rattle.bac_world.specs.Laws.{IsMeaningless}
 use Rattle.bac_world.specs.Node.{Node, NodeOn, Outcome, with_change}
 use Rattle.bac_world.specs.Once.{Fact}
-use Rattle.bac_world.specs.Once.Fact.{Asked, Changed, Ended, Performed, Restarted}
+use Rattle.bac_world.specs.Once.Fact.{Asked, AskedAway, Changed, Performed, Restarted, Served}
 use Rattle.bac_world.specs.Services as service
-use Rattle.bac_world.specs.World.{AreEnded, AreLogged, Copy, Event, IsCopied, Note, World, WorldRun, link_at, told, with_clock}
-use Rattle.bac_world.proofs.Pairs.{pairwise_join}
-use Rattle.bac_journal.specs.Entering.{AreOfClient, CanBeCopied, CanEnter, CanGoOn, Every, IsNoted}
+use Rattle.bac_world.specs.World.{AreCopied, AreEnded, AreLogged, Copy, Event, IsCopied, IsOutside, Note, World, WorldRun}
+use Rattle.bac_world.specs.World.{ending_fact, is_away, link_at, peer_at, told, with_clock}
+use Rattle.bac_journal.specs.Entering.{AreOfPeer, CanBeCopied, CanEnter, CanGoOn, CanLeave, Every, IsNoted, IsOfClient, IsOfStranger}
 use Rattle.bac_journal.proofs.GoingOn.{runs_can_go_on}
 use Rattle.bac_journal.proofs.Lists.{get_set}
 use Rattle.bac_driver.specs.Asking.{IsBegun}
@@ -21,87 +20,108 @@ use Rattle.bac_driver.specs.BoundNodes.{BoundNode}
 use Rattle.bac_driver.specs.Turns as turns
 use Rattle.bac_driver.specs.Turns.{Turn, ended_of, performed_of, sends_of}
 use Rattle.bac_plant.specs.Network.{HandsOver, IsOfStation, Source}
-use Rattle.bac_plant.specs.Network.Source.{Nowhere, Outside, Station}
-use Rattle.bac_plant.specs.NextSteps.{AsksGoOn, ChangesGoOn, FailuresGoOn, IsReached, LeadsTo, RestartsGoOn, TurnsGoOn}
+use Rattle.bac_plant.specs.Network.Source.{Noise, Nowhere, Station, Stranger}
+use Rattle.bac_plant.specs.NextSteps.{AsksGoOn, ChangesGoOn, FailuresGoOn, IsReached, LeadsTo, RestartsGoOn, StrangersAskedGoOn, TurnsGoOn}
 use Rattle.bac_plant.specs.Plants.{Plant, nodes_of, shows, world_of}
-use Rattle.bac_plant.specs.Steps.{IsSomeTurn, note_of, question, with_station}
+use Rattle.bac_plant.specs.Steps.{IsSomeTurn, away_note, note_of, question, with_station}
 use Rattle.bac_plant.specs.Steps.Step.{Begins, Takes}
 use Rattle.bac_plant.specs.Events.{events_of, heard_events}
 use Rattle.bac_plant.proofs.Runs.{run_events}
-use Rattle.bac_plant.proofs.Turned.{after_call, all_copied_on, hears_link, heard_run, may_arrive, node_at, run_join, set_links, turn_hears}
+use Rattle.bac_plant.proofs.Turned.{after_call, all_copied_on, copied_join, hears_link, heard_run, may_arrive, node_at, run_join, set_links, turn_hears}
 
 -- What can enter does.
 
-copies_of : (nodes : List Node) (notes : List Note) (now i : ℕ) (ds : List Datagram) → Every (CanBeCopied nodes notes now i) ds
+each_copy_of : (nodes : List Node) (notes : List Note) (now i : ℕ) (ds : List Datagram) → Every (CanBeCopied nodes notes now i) ds
     → (cs : List Copy) × Pairwise (IsCopied nodes now i) ds cs
-copies_of nodes notes now i [] h = ([], tt)
-copies_of nodes notes now i (d ∷ ds) h =
-    let rest = copies_of nodes notes now i ds h.1 in
+each_copy_of nodes notes now i [] h = ([], tt)
+each_copy_of nodes notes now i (d ∷ ds) h =
+    let rest = each_copy_of nodes notes now i ds h.1 in
     (h.0.copy ∷ rest.0, (h.0.is, rest.1))
+
+copies_of : (nodes : List Node) (notes : List Note) (now i : ℕ) (ds : List Datagram) → Every (CanLeave nodes notes now i) ds
+    → (cs : List Copy) × AreCopied nodes now i ds cs
+copies_of nodes notes now i [] h = ([], refl)
+copies_of nodes notes now i (d ∷ ds) h = go h.0 (copies_of nodes notes now i ds h.1)
+  where
+    go : CanLeave nodes notes now i d → (cs : List Copy) × AreCopied nodes now i ds cs → (cs : List Copy) × AreCopied nodes now i (d ∷ ds) cs
+    go (inl can) rest =
+        (can.copy ∷ rest.0, inl (record { copy = can.copy; rest = rest.0; is = refl; copied = can.is; others = rest.1 }))
+    go (inr stranger) rest = (rest.0, inr (stranger, rest.1))
 
 ends_of : (w : World) (i : ℕ) (fs : List EndedView) (log : List Fact) → Every (IsNoted w i) fs → (next : List Fact) × AreEnded w.notes i fs log next
 ends_of w i [] log h = (log, refl)
 ends_of w i (f ∷ fs) log h =
-    let rest = ends_of w i fs (Ended h.0.0 f.how ∷ log) h.1 in
+    let rest = ends_of w i fs (ending_fact (is_away h.0.0 w.notes) h.0.0 f.how ∷ log) h.1 in
     (rest.0, (h.0.0, h.0.1, rest.1))
 
-logs_of : (w : World) (i : ℕ) (p : Option service.Performed) (log : List Fact) → AreOfClient w i p → (next : List Fact) × AreLogged w.nodes w.notes i p log next
-logs_of w i None log h = (log, refl)
-logs_of w i (Some p) log h =
-    (Performed h.number p.request p.reply ∷ log, record { client = h.client; number = h.number; link = h.link; noted = h.noted; log = refl })
+-- what its node, which is that one then, performed
+logs_of : (w : World) (i : ℕ) (b : Node) (p : Option service.Performed) (log : List Fact) → AreOfPeer w i b p
+    → (next : List Fact) × AreLogged w.nodes w.notes i b p log next
+logs_of w i b None log h = (log, refl)
+logs_of w i b (Some p) log h = go h
+  where
+    go : IsOfClient w i p ⊎ IsOfStranger w b p → (next : List Fact) × AreLogged w.nodes w.notes i b (Some p) log next
+    go (inl k) =
+        (Performed k.number p.request p.reply ∷ log, inl (record { client = k.client; number = k.number; link = k.link; noted = k.noted; log = refl }))
+    go (inr k) = (
+      Served p.key.peer i p.key.invoke_id k.entry.begin p.request p.reply ∷ log,
+      inr (record { stranger = k.stranger; entry = k.entry; kept = k.kept; log = refl }),
+    )
 
 -- what a call returned, where it did not fail to allocate, can enter
-abbrev MayEnter : World → ℕ → Option Outcome → Type 0
-MayEnter w i None = Unit {0}
-MayEnter w i (Some o) = CanEnter w i o
+abbrev MayEnter : World → ℕ → Node → Option Outcome → Type 0
+MayEnter w i b None = Unit {0}
+MayEnter w i b (Some o) = CanEnter w i b o
 
-may_send : (w : World) (i : ℕ) (o : Option Outcome) → MayEnter w i o → (cs : List Copy) × Pairwise (IsCopied w.nodes w.time.now i) (sends_of o) cs
-may_send w i None h = ([], tt)
-may_send w i (Some o) h = copies_of w.nodes w.notes w.time.now i o.sends h.sends
+may_send : (w : World) (i : ℕ) (b : Node) (o : Option Outcome) → MayEnter w i b o → (cs : List Copy) × AreCopied w.nodes w.time.now i (sends_of o) cs
+may_send w i b None h = ([], refl)
+may_send w i b (Some o) h = copies_of w.nodes w.notes w.time.now i o.sends h.sends
 
-may_end : (w : World) (i : ℕ) (o : Option Outcome) (log : List Fact) → MayEnter w i o → (next : List Fact) × AreEnded w.notes i (ended_of o) log next
-may_end w i None log h = (log, refl)
-may_end w i (Some o) log h = ends_of w i o.ended log h.ended
+may_end : (w : World) (i : ℕ) (b : Node) (o : Option Outcome) (log : List Fact) → MayEnter w i b o
+    → (next : List Fact) × AreEnded w.notes i (ended_of o) log next
+may_end w i b None log h = (log, refl)
+may_end w i b (Some o) log h = ends_of w i o.ended log h.ended
 
-may_perform : (w : World) (i : ℕ) (o : Option Outcome) (log : List Fact) → MayEnter w i o
-    → (next : List Fact) × AreLogged w.nodes w.notes i (performed_of o) log next
-may_perform w i None log h = (log, refl)
-may_perform w i (Some o) log h = logs_of w i o.performed log h.performed
+may_perform : (w : World) (i : ℕ) (b : Node) (o : Option Outcome) (log : List Fact) → MayEnter w i b o
+    → (next : List Fact) × AreLogged w.nodes w.notes i b (performed_of o) log next
+may_perform w i b None log h = (log, refl)
+may_perform w i b (Some o) log h = logs_of w i b o.performed log h.performed
 
 -- What a node hears, and what it does at a tick.
 
--- noise is dropped
-drops : (w : World) (i now : ℕ) (from octets : Octets) (a b : Node) (o : Outcome) → IsMeaningless from octets → NodeOn now from octets a b o → CanEnter w i o
-drops w i now from octets a b o noise (inl d) =
-    subst (CanEnter w i) (sym d.outcome) (record { sends = tt; ended = tt; performed = tt })
-drops w i now from octets a b o noise (inr d) = absurd (noise d.peer d.apdu d.means)
-
 module _ (W overtake : ℕ) (p : Plant) (on : CanGoOn W overtake (world_of p)) (i : ℕ) (a b : Node) (at : slice_get (nodes_of p.stations) i ≡ Some a) where
   copy_enters : (number : ℕ) (from octets : Octets) (o : Outcome) → IsOfStation overtake p i number from octets → NodeOn (shows p i) from octets a b o
-      → CanEnter (world_of p) i o
-  copy_enters number from octets o c h = subst (λ k. CanEnter (world_of p) k o) c.to
+      → CanEnter (world_of p) i b o
+  copy_enters number from octets o c h = subst (λ k. CanEnter (world_of p) k b o) c.to
       (on.hears number c.copy c.there
       (may_arrive overtake p.time.pace.life p.time.now number p.copies c.copy c.young c.few) from c.sender a b o
       (subst (λ k. slice_get (nodes_of p.stations) k ≡ Some a) (sym c.to) at)
       (subst (λ k. NodeOn (shows p k) from c.copy.octets a b o) (sym c.to) (subst (λ os. NodeOn (shows p i) from os a b o) (sym c.whole) h))).0
 
+  outside_enters : (sender sent from octets : Octets) (o : Outcome) → from ≡ sender → octets ≡ sent → IsOutside (nodes_of p.stations) sender sent
+      → NodeOn (shows p i) from octets a b o → CanEnter (world_of p) i b o
+  outside_enters sender sent from octets o link_is whole outside h =
+      (on.outside i sender sent outside a b o at
+      (subst (λ l. NodeOn (shows p i) l sent a b o) link_is (subst (λ os. NodeOn (shows p i) from os a b o) whole h))).0
+
   came_enters : (source : Source) (d : Octets × ℕ) (buffer : Octets) (heard : Option Outcome) → turns.HearsOne (shows p i) d.0 (take d.1 buffer) a b heard
-      → HandsOver overtake p i source (Some d) buffer → MayEnter (world_of p) i heard
+      → HandsOver overtake p i source (Some d) buffer → MayEnter (world_of p) i b heard
   came_enters source d buffer None h from = tt
   came_enters Nowhere d buffer (Some o) h from = absurd from
   came_enters (Station number) d buffer (Some o) h from = copy_enters number d.0 (take d.1 buffer) o from h
-  came_enters (Outside sender octets) d buffer (Some o) h from =
-      drops (world_of p) i (shows p i) sender octets a b o from.noise
-      (subst (λ l. NodeOn (shows p i) l octets a b o) from.link_is (subst (λ os. NodeOn (shows p i) d.0 os a b o) from.whole h))
+  came_enters (Stranger sender octets) d buffer (Some o) h from =
+      outside_enters sender octets d.0 (take d.1 buffer) o from.link_is from.whole (inl from.stranger) h
+  came_enters (Noise sender octets) d buffer (Some o) h from =
+      outside_enters sender octets d.0 (take d.1 buffer) o from.link_is from.whole (inr from.meaningless) h
 
   heard_enters : (source : Source) (came : Option (Octets × ℕ)) (buffer : Octets) (heard : Option Outcome) → turns.Hears (shows p i) buffer came a b heard
-      → HandsOver overtake p i source came buffer → MayEnter (world_of p) i heard
+      → HandsOver overtake p i source came buffer → MayEnter (world_of p) i b heard
   heard_enters source (Some d) buffer heard h from = came_enters source d buffer heard h from
   heard_enters source None buffer None h from = tt
   heard_enters source None buffer (Some o) h from = absurd (let e = h.0 in cc)
 
 tick_enters : (W overtake : ℕ) (w : World) → CanGoOn W overtake w → (i : ℕ) (a b : Node) → slice_get w.nodes i ≡ Some a → (ticked : Option Outcome)
-    → turns.Ticks (told w i) a b ticked → MayEnter w i ticked
+    → turns.Ticks (told w i) a b ticked → MayEnter w i b ticked
 tick_enters W overtake w on i a b at None t = tt
 tick_enters W overtake w on i a b at (Some o) t = on.ticks i a b o at t
 
@@ -131,17 +151,17 @@ module _ (W overtake : ℕ) (p : Plant) (r : IsReached W overtake p) (i : ℕ) (
     hears : turns.Hears (shows p i) after.buffer turn.received before.node middle turn.heard
     hears = turn_hears (shows p i) before turn after t
 
-    first : MayEnter (world_of p) i turn.heard
+    first : MayEnter (world_of p) i middle turn.heard
     first = heard_enters W overtake p goes_on i before.node middle first_at source turn.received after.buffer turn.heard hears from
 
-    abbrev sends : (cs : List Copy) × Pairwise (IsCopied (nodes_of p.stations) p.time.now i) (sends_of turn.heard) cs
-    sends = may_send (world_of p) i turn.heard first
+    abbrev sends : (cs : List Copy) × AreCopied (nodes_of p.stations) p.time.now i (sends_of turn.heard) cs
+    sends = may_send (world_of p) i middle turn.heard first
 
     abbrev ends : (next : List Fact) × AreEnded p.notes i (ended_of turn.heard) p.log next
-    ends = may_end (world_of p) i turn.heard p.log first
+    ends = may_end (world_of p) i middle turn.heard p.log first
 
-    abbrev performs : (next : List Fact) × AreLogged (nodes_of p.stations) p.notes i (performed_of turn.heard) ends.0 next
-    performs = may_perform (world_of p) i turn.heard ends.0 first
+    abbrev performs : (next : List Fact) × AreLogged (nodes_of p.stations) p.notes i middle (performed_of turn.heard) ends.0 next
+    performs = may_perform (world_of p) i middle turn.heard ends.0 first
 
     abbrev Middle : World
     Middle = after_call (world_of p) i middle sends.0 performs.0
@@ -153,7 +173,7 @@ module _ (W overtake : ℕ) (p : Plant) (r : IsReached W overtake p) (i : ℕ) (
     second_at : slice_get Middle.nodes i ≡ Some middle
     second_at = get_set (nodes_of p.stations) i middle (slice_get_within (nodes_of p.stations) i before.node first_at)
 
-    second : MayEnter Middle i turn.ticked
+    second : MayEnter Middle i after.node turn.ticked
     second = tick_enters W overtake Middle (reached_world W overtake p r (heard_events i source turn.heard) Middle went) i middle after.node second_at
         turn.ticked t.is.acts.ticks
 
@@ -161,11 +181,11 @@ module _ (W overtake : ℕ) (p : Plant) (r : IsReached W overtake p) (i : ℕ) (
     linked j = sym (set_links (nodes_of p.stations) i before.node middle first_at
         (hears_link (shows p i) after.buffer turn.received before.node middle turn.heard hears) j)
 
-    abbrev later_sends : (cs : List Copy) × Pairwise (IsCopied Middle.nodes p.time.now i) (sends_of turn.ticked) cs
-    later_sends = may_send Middle i turn.ticked second
+    abbrev later_sends : (cs : List Copy) × AreCopied Middle.nodes p.time.now i (sends_of turn.ticked) cs
+    later_sends = may_send Middle i after.node turn.ticked second
 
     abbrev later_ends : (next : List Fact) × AreEnded p.notes i (ended_of turn.ticked) performs.0 next
-    later_ends = may_end Middle i turn.ticked performs.0 second
+    later_ends = may_end Middle i after.node turn.ticked performs.0 second
 
     turn_leads : LeadsTo overtake p (Takes i source turn) i after
     turn_leads = record {
@@ -177,7 +197,7 @@ module _ (W overtake : ℕ) (p : Plant) (r : IsReached W overtake p) (i : ℕ) (
         takes = t;
         comes = from;
         sent = sends.0 ++ later_sends.0;
-        copied = pairwise_join (IsCopied (nodes_of p.stations) p.time.now i) (sends_of turn.heard) (sends_of turn.ticked) sends.0 later_sends.0 sends.1
+        copied = copied_join (nodes_of p.stations) p.time.now i (sends_of turn.heard) (sends_of turn.ticked) sends.0 later_sends.0 sends.1
             (all_copied_on Middle.nodes (nodes_of p.stations) linked p.time.now i (sends_of turn.ticked) later_sends.0 later_sends.1);
         log = later_ends.0;
         entered = record { ended = ends.0; performed = performs.0; ends = ends.1; performs = performs.1; gives_up = later_ends.1 };
@@ -187,10 +207,11 @@ module _ (W overtake : ℕ) (p : Plant) (r : IsReached W overtake p) (i : ℕ) (
     }
 
   ask_leads : (server : ℕ) (link : Octets) → link_at (nodes_of p.stations) server ≡ Some link → (limits : Limits) (request : Request) (ticket : ℕ)
-      (after : BoundNode) → IsBegun (shows p i) (question link limits request) before ticket after → LeadsTo overtake p (Begins i server limits request) i after
+      (after : BoundNode) → IsBegun (shows p i) (question (peer_at link) limits request) before ticket after
+      → LeadsTo overtake p (Begins i server limits request) i after
   ask_leads server link there limits request ticket after b =
       let can = goes_on.asks i server before.node after.node link limits request b.accepted b.sends first_at there b.asks in
-      let sent = copies_of (nodes_of p.stations) (note_of i server b.accepted.invoke_id b.accepted.ticket ∷ p.notes) p.time.now i b.sends can.0 in
+      let sent = each_copy_of (nodes_of p.stations) (note_of i server b.accepted.invoke_id b.accepted.ticket ∷ p.notes) p.time.now i b.sends can.0 in
       record {
         new = record (with_station p i after) {
           copies = p.copies ++ sent.0;
@@ -218,6 +239,16 @@ turns_go_on W overtake p r i before at turn after t source from = turn_leads W o
 pub asks_go_on : (W overtake : ℕ) (p : Plant) → IsReached W overtake p → AsksGoOn overtake p
 asks_go_on W overtake p r i server before at link there limits request ticket after b =
     ask_leads W overtake p r i before at server link there limits request ticket after b
+
+pub strangers_asked_go_on : (overtake : ℕ) (p : Plant) → StrangersAskedGoOn overtake p
+strangers_asked_go_on overtake p i before at peer stranger limits request ticket after b = record {
+  new = record (with_station p i after) {
+    log = AskedAway (length p.notes) i peer request ∷ p.log;
+    notes = away_note i peer b.accepted.invoke_id ticket ∷ p.notes;
+  };
+  goes = record { before = before; at = at; stranger = stranger; after = after; ticket = ticket; begun = b; is = refl };
+  there = get_set p.stations i after (slice_get_within p.stations i before at);
+}
 
 pub failures_go_on : (overtake : ℕ) (p : Plant) → FailuresGoOn overtake p
 failures_go_on overtake p i old new at failed = record {

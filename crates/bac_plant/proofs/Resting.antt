@@ -11,9 +11,8 @@ use Rattle.bac_transaction.specs.Meanings.{IsEndedView}
 use Rattle.bac_transaction.specs.Sends.{IsSent, Pairwise}
 use Rattle.bac_protocol.specs.Context.{Settings}
 use Rattle.bac_world.specs.Node.{Node, NodeOn, NodeTick, Outcome}
-use Rattle.bac_world.specs.World.{Hears, World}
-use Rattle.bac_world.proofs.Pairs.{append_none, pairwise_join, pairwise_none}
-use Rattle.bac_world.specs.World.{IsCopied}
+use Rattle.bac_world.specs.World.{AreLogged, Hears, World}
+use Rattle.bac_world.proofs.Pairs.{append_none, pairwise_none}
 use Rattle.bac_node.specs.Waiting.{RestsUntil}
 use Rattle.bac_driver.specs.BoundNodes.{BoundNode}
 use Rattle.bac_driver.specs.Calls.{received, with_call}
@@ -23,7 +22,7 @@ use Rattle.bac_plant.specs.Network.{IsOfStation}
 use Rattle.bac_plant.specs.Network.Source.{Nowhere, Station}
 use Rattle.bac_plant.specs.Plants.{Plant, nodes_of, shows, world_of}
 use Rattle.bac_plant.specs.Steps.{IsSomeTurn, TakesTurnAt, with_station}
-use Rattle.bac_plant.proofs.Turned.{node_at, one_there}
+use Rattle.bac_plant.proofs.Turned.{copied_join, node_at, one_there}
 
 -- a tick leaves a table without entries as it is
 server_rests : (c : Settings) (now : ℕ) (e : ServerEnd) → e.slots ≡ [] → (responder_tick c now e).end ≡ e
@@ -148,6 +147,7 @@ module _ (overtake : ℕ) (old : Plant) (i : ℕ) (b : BoundNode) (at : slice_ge
       → (w : World) (h : Hears (world_of old) i from octets w) (n : Node) → h.after ≡ n → IsCalm (shows old i) n
       → TakesTurnAt overtake old i (Station number) (turn_by (shows old i) from octets h.outcome)
       (next_plant old i (after_turn (shows old i) b from octets n h.outcome) w)
+  unfolding takes_turn
   hearing_step number from octets comes w h n same calm = record {
     before = b;
     at = at;
@@ -155,9 +155,15 @@ module _ (overtake : ℕ) (old : Plant) (i : ℕ) (b : BoundNode) (at : slice_ge
     takes = takes_turn (shows old i) b due is from octets n h.outcome on calm;
     comes = subst (λ os. IsOfStation overtake old i number from os) (sym (take-length octets)) comes;
     sent = h.acts.sent ++ [];
-    copied = pairwise_join (IsCopied (nodes_of old.stations) old.time.now i) h.outcome.sends [] h.acts.sent [] h.acts.copied tt;
+    copied = copied_join (nodes_of old.stations) old.time.now i h.outcome.sends [] h.acts.sent [] h.acts.copied refl;
     log = w.log;
-    entered = record { ended = h.acts.between; performed = w.log; ends = h.acts.ended; performs = h.acts.logged; gives_up = refl };
+    entered = record {
+      ended = h.acts.between;
+      performed = w.log;
+      ends = h.acts.ended;
+      performs = subst (λ x. AreLogged (nodes_of old.stations) old.notes i x h.outcome.performed h.acts.between w.log) same h.acts.logged;
+      gives_up = refl;
+    };
     is = ap (λ l. record (with_station old i (after_turn (shows old i) b from octets n h.outcome)) { copies = l; log = w.log })
         (h.acts.copies ∙ ap (λ l. old.copies ++ l) (sym (append_none h.acts.sent)));
   }
@@ -177,7 +183,7 @@ module _ (overtake : ℕ) (old : Plant) (i : ℕ) (b : BoundNode) (at : slice_ge
     takes = takes_none (shows old i) b due is calm;
     comes = refl;
     sent = [];
-    copied = tt;
+    copied = refl;
     log = old.log;
     entered = record { ended = old.log; performed = old.log; ends = refl; performs = refl; gives_up = refl };
     is = ap (λ l. record (with_station old i (after_none (shows old i) b)) { copies = l }) (sym (append_none old.copies));

@@ -1,13 +1,14 @@
 -- A run of a plant is a run of its world.
 use Rattle.std.proofs.Common.{◌≡◌, ℕ, List, [], ◌∷◌, Some, slice_get, slice_set, refl, sym, ap, subst, inl, ◌∙◌}
 use Rattle.bac_protocol.specs.Pace.{IsTimely}
+use Rattle.bac_world.specs.Claims.{AreServedApart}
 use Rattle.bac_world.specs.Once.{IsOnce}
 use Rattle.bac_world.specs.World.{Event, IsBounded, IsFresh, IsWithNode, WorldRun, WorldStep, stores_of}
-use Rattle.bac_world.proofs.Headline.{headline}
+use Rattle.bac_world.proofs.Headline.{apart_in_run, headline}
 use Rattle.bac_driver.specs.BoundNodes.{BoundNode}
 use Rattle.bac_plant.specs.Plants.{Plant, nodes_of, world_of}
-use Rattle.bac_plant.specs.Steps.{AsksAt, ChangesAt, FailsAt, PlantRun, PlantStep, RestartsAt, Step, note_of}
-use Rattle.bac_plant.specs.Steps.Step.{Begins, Changes, FailsToReceive, Passes, Restarts, Takes}
+use Rattle.bac_plant.specs.Steps.{AsksAt, AsksAwayAt, ChangesAt, FailsAt, PlantRun, PlantStep, RestartsAt, Step, away_note, note_of}
+use Rattle.bac_plant.specs.Steps.Step.{Begins, BeginsAway, Changes, FailsToReceive, Passes, Restarts, Takes}
 use Rattle.bac_plant.specs.Events.{events_in, events_of}
 use Rattle.bac_plant.proofs.Turned.{node_at, nodes_set, run_join, set_same, turn_run, with_node}
 
@@ -40,6 +41,24 @@ begins_event overtake old i server limits r new b = subst (λ p. WorldStep overt
       copies = refl;
       copied = b.copied;
       notes = ap (λ t. note_of i server b.begun.accepted.invoke_id t ∷ old.notes) b.begun.ticket_is;
+      log = refl;
+    }))
+
+begins_away_event : (overtake : ℕ) (old : Plant) (i : ℕ) (peer : _) (limits : _) (r : _) (new : Plant) → AsksAwayAt old i peer limits r new
+    → WorldStep overtake (world_of old) (Event.AskAway i peer limits r) (world_of new)
+begins_away_event overtake old i peer limits r new b = subst (λ p. WorldStep overtake (world_of old) (Event.AskAway i peer limits r) (world_of p)) (sym b.is)
+    (inl (record {
+      before = b.before.node;
+      at = node_at old.stations i b.before b.at;
+      stranger = b.stranger;
+      after = b.after.node;
+      accepted = b.begun.accepted;
+      sends = b.begun.sends;
+      asks = b.begun.asks;
+      nodes = set_nodes old.stations i b.before b.after b.at;
+      time = refl;
+      copies = refl;
+      notes = ap (λ t. away_note i peer b.begun.accepted.invoke_id t ∷ old.notes) b.begun.ticket_is;
       log = refl;
     }))
 
@@ -77,6 +96,7 @@ step_events overtake old (Passes by own) new s = (world_of new, ap world_of s, r
 step_events overtake old (Takes i source turn) new s = turn_run overtake old i source turn new s
 step_events overtake old (FailsToReceive i) new s = fails_same old i new s
 step_events overtake old (Begins i server limits r) new s = (world_of new, begins_event overtake old i server limits r new s, refl)
+step_events overtake old (BeginsAway i peer limits r) new s = (world_of new, begins_away_event overtake old i peer limits r new s, refl)
 step_events overtake old (Changes i c) new s = (world_of new, changes_event overtake old i c new s, refl)
 step_events overtake old (Restarts i exact store) new s = (world_of new, restarts_event overtake old i exact store new s, refl)
 
@@ -91,3 +111,8 @@ pub once : (W overtake : ℕ) (old new : Plant) → IsFresh (world_of old) → I
     → (steps : List Step) → PlantRun overtake steps old new → IsOnce (stores_of (nodes_of old.stations)) new.log (stores_of (nodes_of new.stations))
 once W overtake old new fresh timely bounded steps run =
     headline W overtake (world_of old) (world_of new) fresh timely bounded (events_of steps) (run_events overtake steps old new run)
+
+pub apart : (W overtake : ℕ) (old new : Plant) → IsFresh (world_of old) → IsTimely old.time.pace → IsBounded W overtake (world_of old)
+    → (steps : List Step) → PlantRun overtake steps old new → AreServedApart (world_of new)
+apart W overtake old new fresh timely bounded steps run =
+    apart_in_run W overtake (world_of old) (world_of new) fresh timely bounded (events_of steps) (run_events overtake steps old new run)

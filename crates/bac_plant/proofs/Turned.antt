@@ -7,19 +7,21 @@ use Rattle.std.proofs.lemmas.Option.{slice_get_within, slice_get-map}
 use Rattle.std.specs.Option.{option_map}
 use Rattle.bac_protocol.specs.Service.{Octets}
 use Rattle.bac_protocol.specs.Wire.{is_from_client}
-use Rattle.bac_transaction.specs.Sends.{Datagram, Pairwise}
+use Rattle.bac_transaction.specs.Sends.{Datagram}
 use Rattle.bac_world.specs.Node.{Node, NodeOn, Outcome, IsHeardBy}
 use Rattle.bac_world.specs.Once.{Fact}
-use Rattle.bac_world.specs.World.{Acts, AreEnded, AreLogged, Copy, Delivers, DeliversIf, Event, Hears, IsCopied, IsWithNode, World, WorldRun}
+use Rattle.bac_world.specs.World.{Acts, AreCopied, AreEnded, AreLogged, Copy, Delivers, DeliversIf, Event, Hears, IsCopied, IsWithNode, World, WorldRun}
 use Rattle.bac_world.specs.World.{is_deliverable, later, link_at, told}
-use Rattle.bac_world.proofs.Pairs.{IsSplit, append_none, pairwise_none, pairwise_split}
+use Rattle.bac_world.proofs.Bridge.{AreParted, copied_split}
+use Rattle.bac_world.proofs.Pairs.{append_none}
+use Rattle.bac_journal.proofs.Grown.{more_become}
 use Rattle.bac_journal.proofs.Lists.{get_set, get_set_other}
 use Rattle.bac_driver.specs.BoundNodes.{BoundNode}
 use Rattle.bac_driver.specs.Turns as turns
 use Rattle.bac_driver.specs.Turns.{ended_of, performed_of, sends_of}
 use Rattle.bac_plant.specs.Plants.{Plant, node_of, nodes_of, shows, world_of}
 use Rattle.bac_plant.specs.Network.{HandsOver, IsOfStation, Source}
-use Rattle.bac_plant.specs.Network.Source.{Nowhere, Outside, Station}
+use Rattle.bac_plant.specs.Network.Source.{Noise, Nowhere, Station, Stranger}
 use Rattle.bac_plant.specs.Steps.{IsSomeTurn, TakesTurnAt}
 use Rattle.bac_plant.specs.Events.{heard_events, ticked_events}
 
@@ -91,11 +93,24 @@ copied_on xs ys same now i d c k = record {
 }
 
 pub all_copied_on : (xs ys : List Node) → ((j : ℕ) → link_at ys j ≡ link_at xs j) → (now i : ℕ) (ds : List Datagram) (cs : List Copy)
-    → Pairwise (IsCopied xs now i) ds cs → Pairwise (IsCopied ys now i) ds cs
-all_copied_on xs ys same now i [] [] h = h
-all_copied_on xs ys same now i [] (c ∷ cs) h = absurd h
-all_copied_on xs ys same now i (d ∷ ds) [] h = absurd h
-all_copied_on xs ys same now i (d ∷ ds) (c ∷ cs) h = (copied_on xs ys same now i d c h.0, all_copied_on xs ys same now i ds cs h.1)
+    → AreCopied xs now i ds cs → AreCopied ys now i ds cs
+all_copied_on xs ys same now i [] cs h = h
+all_copied_on xs ys same now i (d ∷ ds) cs (inl h) = inl (record {
+  copy = h.copy;
+  rest = h.rest;
+  is = h.is;
+  copied = copied_on xs ys same now i d h.copy h.copied;
+  others = all_copied_on xs ys same now i ds h.rest h.others;
+})
+all_copied_on xs ys same now i (d ∷ ds) cs (inr h) = inr (λ j at. h.0 j (sym (same j) ∙ at), all_copied_on xs ys same now i ds cs h.1)
+
+-- the copies of two lists, one list after the other
+pub copied_join : (nodes : List Node) (now i : ℕ) (ds es : List Datagram) (xs ys : List Copy) → AreCopied nodes now i ds xs → AreCopied nodes now i es ys
+    → AreCopied nodes now i (ds ++ es) (xs ++ ys)
+copied_join nodes now i ds es xs ys h k =
+    let both = more_become nodes now i ds es [] xs (xs ++ ys) (record { sent = xs; copies = refl; copied = h })
+    (record { sent = ys; copies = refl; copied = k }) in
+    subst (AreCopied nodes now i (ds ++ es)) (sym both.copies) both.copied
 
 -- Worlds after a call of one node.
 
@@ -110,8 +125,8 @@ nothing_called w i a b at same cs none log is =
     ∙ ap (λ l. record w { copies = l; log = log }) (ap (λ l. w.copies ++ l) none ∙ append_none w.copies) ∙ ap (λ l. record w { log = l }) is
 
 pub acted : (w : World) (i : ℕ) (a b : Node) (o : Outcome) → slice_get w.nodes i ≡ Some a → (cs : List Copy)
-    → Pairwise (IsCopied w.nodes w.time.now i) o.sends cs
-    → (between log : List Fact) → AreEnded w.notes i o.ended w.log between → AreLogged w.nodes w.notes i o.performed between log
+    → AreCopied w.nodes w.time.now i o.sends cs
+    → (between log : List Fact) → AreEnded w.notes i o.ended w.log between → AreLogged w.nodes w.notes i b o.performed between log
     → Acts w i b o (after_call w i b cs log)
 acted w i a b o at cs copied between log ended logged = record {
   nodes = with_node w.nodes i a b at;
@@ -147,8 +162,8 @@ module _ (overtake : ℕ) (p : Plant) (i : ℕ) (a b : Node) (at : slice_get (no
   none_heard same none e f = nothing_called (world_of p) i a b at same cs none log (f ∙ e)
 
   world_hears : (from octets : Octets) (o : Outcome) → NodeOn (shows p i) from octets a b o
-      → Pairwise (IsCopied (nodes_of p.stations) p.time.now i) o.sends cs → AreEnded p.notes i o.ended p.log between
-      → AreLogged (nodes_of p.stations) p.notes i o.performed between log → Hears (world_of p) i from octets After
+      → AreCopied (nodes_of p.stations) p.time.now i o.sends cs → AreEnded p.notes i o.ended p.log between
+      → AreLogged (nodes_of p.stations) p.notes i b o.performed between log → Hears (world_of p) i from octets After
   world_hears from octets o on copied ended logged = record {
     before = a;
     at = at;
@@ -177,43 +192,54 @@ module _ (overtake : ℕ) (p : Plant) (i : ℕ) (a b : Node) (at : slice_get (no
     refl,
   )
 
+  -- it hears what was sent
+  heard_as : (sender sent from octets : Octets) → from ≡ sender → octets ≡ sent → Hears (world_of p) i from octets After
+      → Hears (world_of p) i sender sent After
+  heard_as sender sent from octets link_is whole h =
+      subst (λ l. Hears (world_of p) i l sent After) link_is (subst (λ os. Hears (world_of p) i from os After) whole h)
+
   came_run : (source : Source) (d : Octets × ℕ) (buffer : Octets) (heard : Option Outcome) → turns.HearsOne (shows p i) d.0 (take d.1 buffer) a b heard
-      → HandsOver overtake p i source (Some d) buffer → Pairwise (IsCopied (nodes_of p.stations) p.time.now i) (sends_of heard) cs
-      → AreEnded p.notes i (ended_of heard) p.log between → AreLogged (nodes_of p.stations) p.notes i (performed_of heard) between log
+      → HandsOver overtake p i source (Some d) buffer → AreCopied (nodes_of p.stations) p.time.now i (sends_of heard) cs
+      → AreEnded p.notes i (ended_of heard) p.log between → AreLogged (nodes_of p.stations) p.notes i b (performed_of heard) between log
       → WorldRun overtake (world_of p) (heard_events i source heard) After
   came_run Nowhere d buffer heard h from copied ended logged = absurd from
-  came_run (Station number) d buffer None h from copied ended logged =
-      none_heard h.same (pairwise_none (IsCopied (nodes_of p.stations) p.time.now i) cs copied) ended logged
-  came_run (Outside sender octets) d buffer None h from copied ended logged =
-      none_heard h.same (pairwise_none (IsCopied (nodes_of p.stations) p.time.now i) cs copied) ended logged
+  came_run (Station number) d buffer None h from copied ended logged = none_heard h.same copied ended logged
+  came_run (Stranger sender octets) d buffer None h from copied ended logged = none_heard h.same copied ended logged
+  came_run (Noise sender octets) d buffer None h from copied ended logged = none_heard h.same copied ended logged
   came_run (Station number) d buffer (Some o) h from copied ended logged =
       arrives number d.0 (take d.1 buffer) from (world_hears d.0 (take d.1 buffer) o h copied ended logged)
-  came_run (Outside sender octets) d buffer (Some o) h from copied ended logged = (
+  came_run (Stranger sender octets) d buffer (Some o) h from copied ended logged = (
     After,
     inl (record {
-      noise = from.noise;
-      hears = subst (λ l. Hears (world_of p) i l octets After) from.link_is
-          (subst (λ os. Hears (world_of p) i d.0 os After) from.whole (world_hears d.0 (take d.1 buffer) o h copied ended logged));
+      stranger = from.stranger;
+      hears = heard_as sender octets d.0 (take d.1 buffer) from.link_is from.whole (world_hears d.0 (take d.1 buffer) o h copied ended logged);
+    }),
+    refl,
+  )
+  came_run (Noise sender octets) d buffer (Some o) h from copied ended logged = (
+    After,
+    inl (record {
+      meaningless = from.meaningless;
+      hears = heard_as sender octets d.0 (take d.1 buffer) from.link_is from.whole (world_hears d.0 (take d.1 buffer) o h copied ended logged);
     }),
     refl,
   )
 
   pub heard_run : (source : Source) (came : Option (Octets × ℕ)) (buffer : Octets) (heard : Option Outcome) → turns.Hears (shows p i) buffer came a b heard
-      → HandsOver overtake p i source came buffer → Pairwise (IsCopied (nodes_of p.stations) p.time.now i) (sends_of heard) cs
-      → AreEnded p.notes i (ended_of heard) p.log between → AreLogged (nodes_of p.stations) p.notes i (performed_of heard) between log
+      → HandsOver overtake p i source came buffer → AreCopied (nodes_of p.stations) p.time.now i (sends_of heard) cs
+      → AreEnded p.notes i (ended_of heard) p.log between → AreLogged (nodes_of p.stations) p.notes i b (performed_of heard) between log
       → WorldRun overtake (world_of p) (heard_events i source heard) After
   heard_run source (Some d) buffer heard h from copied ended logged = came_run source d buffer heard h from copied ended logged
   heard_run source None buffer None h from copied ended logged =
       subst (λ s. WorldRun overtake (world_of p) (heard_events i s None) After) (sym from)
-      (none_heard h.1 (pairwise_none (IsCopied (nodes_of p.stations) p.time.now i) cs copied) ended logged)
+      (none_heard h.1 copied ended logged)
   heard_run source None buffer (Some o) h from copied ended logged = absurd (let e = h.0 in cc)
 
 -- What it does at a tick.
 pub tick_run : (overtake : ℕ) (w : World) (i : ℕ) (a b : Node) → slice_get w.nodes i ≡ Some a → (ticked : Option Outcome) → turns.Ticks (told w i) a b ticked
-    → (cs : List Copy) → Pairwise (IsCopied w.nodes w.time.now i) (sends_of ticked) cs → (log : List Fact) → AreEnded w.notes i (ended_of ticked) w.log log
+    → (cs : List Copy) → AreCopied w.nodes w.time.now i (sends_of ticked) cs → (log : List Fact) → AreEnded w.notes i (ended_of ticked) w.log log
     → WorldRun overtake w (ticked_events i ticked) (after_call w i b cs log)
-tick_run overtake w i a b at None t cs copied log ended =
-    nothing_called w i a b at t.same cs (pairwise_none (IsCopied w.nodes w.time.now i) cs copied) log ended
+tick_run overtake w i a b at None t cs copied log ended = nothing_called w i a b at t.same cs copied log ended
 tick_run overtake w i a b at (Some o) t cs copied log ended = (
   after_call w i b cs log,
   record {
@@ -222,7 +248,7 @@ tick_run overtake w i a b at (Some o) t cs copied log ended = (
     after = b;
     outcome = o;
     tick = t;
-    acts = acted w i a b o at cs copied log log ended (subst (λ f. AreLogged w.nodes w.notes i f log log) (sym t.performed) refl);
+    acts = acted w i a b o at cs copied log log ended (subst (λ f. AreLogged w.nodes w.notes i b f log log) (sym t.performed) refl);
   },
   refl,
 )
@@ -252,8 +278,8 @@ module _ (overtake : ℕ) (old : Plant) (i : ℕ) (source : Source) (turn : turn
   hears : turns.Hears (shows old i) t.after.buffer turn.received t.before.node acts.middle turn.heard
   hears = turn_hears (shows old i) t.before turn t.after t.takes
 
-  abbrev split : IsSplit (IsCopied (nodes_of old.stations) old.time.now i) (sends_of turn.heard) (sends_of turn.ticked) t.sent
-  split = pairwise_split (IsCopied (nodes_of old.stations) old.time.now i) (sends_of turn.heard) (sends_of turn.ticked) t.sent t.copied
+  abbrev split : AreParted (nodes_of old.stations) old.time.now i (sends_of turn.heard) (sends_of turn.ticked) t.sent
+  split = copied_split (nodes_of old.stations) old.time.now i (sends_of turn.heard) (sends_of turn.ticked) t.sent t.copied
 
   abbrev Middle : World
   Middle = after_call (world_of old) i acts.middle split.front t.entered.performed

@@ -8,7 +8,7 @@ use Rattle.bac_driver.specs.Runs.{Run, Timed, TurnFails}
 use Rattle.bac_driver.specs.Serving.{performed_in}
 use Rattle.bac_driver.specs.declared.fault.TurnFault.{TurnFault}
 use Rattle.bac_plant.specs.Steps.{IsSomeTurn, Step}
-use Rattle.bac_plant.specs.Steps.Step.{Begins, Changes, FailsToReceive, Restarts, Takes}
+use Rattle.bac_plant.specs.Steps.Step.{Begins, BeginsAway, Changes, FailsToReceive, Restarts, Takes}
 
 -- a turn at some moment
 pub record TakesSomeTurn (before : BoundNode) (turn : Turn) (after : BoundNode) : Type 0 where
@@ -65,6 +65,7 @@ abbrev pub TakesTurnsAlone : (station : ℕ) → List Step → Type 0
 TakesTurnsAlone i [] = Unit {0}
 TakesTurnsAlone i (FailsToReceive j ∷ before) = (j ≢ i) × TakesTurnsAlone i before
 TakesTurnsAlone i (Begins j server limits r ∷ before) = (j ≢ i) × TakesTurnsAlone i before
+TakesTurnsAlone i (BeginsAway j peer limits r ∷ before) = (j ≢ i) × TakesTurnsAlone i before
 TakesTurnsAlone i (Changes j change ∷ before) = (j ≢ i) × TakesTurnsAlone i before
 TakesTurnsAlone i (Restarts j exact store ∷ before) = (j ≢ i) × TakesTurnsAlone i before
 TakesTurnsAlone i (step ∷ before) = TakesTurnsAlone i before

@@ -3,16 +3,17 @@ use Rattle.std.specs.Prelude.{ℕ, List, [], ◌∷◌, ◌++◌, Option, Some, 
 use Rattle.bac_world.specs.Node.{Outcome}
 use Rattle.bac_world.specs.World.{Event}
 use Rattle.bac_plant.specs.Network.{Source}
-use Rattle.bac_plant.specs.Network.Source.{Nowhere, Outside, Station}
+use Rattle.bac_plant.specs.Network.Source.{Noise, Nowhere, Station, Stranger}
 use Rattle.bac_plant.specs.Steps.{Step}
-use Rattle.bac_plant.specs.Steps.Step.{Begins, Changes, FailsToReceive, Passes, Restarts, Takes}
+use Rattle.bac_plant.specs.Steps.Step.{Begins, BeginsAway, Changes, FailsToReceive, Passes, Restarts, Takes}
 
 -- a node heard what came; if that failed to allocate, the datagram is lost
 abbrev pub heard_events : (station : ℕ) → Source → (heard : Option Outcome) → List Event
 heard_events i Nowhere heard = []
 heard_events i source None = []
 heard_events i (Station number) (Some o) = Event.Deliver number ∷ []
-heard_events i (Outside from octets) (Some o) = Event.Noise i from octets ∷ []
+heard_events i (Stranger from octets) (Some o) = Event.Stray i from octets ∷ []
+heard_events i (Noise from octets) (Some o) = Event.Noise i from octets ∷ []
 
 -- it ticked; if that failed to allocate, it did not
 abbrev pub ticked_events : (station : ℕ) → (ticked : Option Outcome) → List Event
@@ -24,6 +25,7 @@ events_in (Passes by own) = Event.Advance by own ∷ []
 events_in (Takes i source turn) = heard_events i source turn.heard ++ ticked_events i turn.ticked
 events_in (FailsToReceive i) = []
 events_in (Begins i server limits r) = Event.Ask i server limits r ∷ []
+events_in (BeginsAway i peer limits r) = Event.AskAway i peer limits r ∷ []
 events_in (Changes i change) = Event.Change i change ∷ []
 events_in (Restarts i exact store) = Event.Restart i exact store ∷ []
 

@@ -1,13 +1,14 @@
 -- After each run of a plant, whatever a call promises can be its next step.
 use Rattle.std.specs.Prelude.{◌≡◌, ℕ, List, Option, Some, None, slice_get}
 use Rattle.bac_apdu.specs.Apdu.{Limits}
+use Rattle.bac_npdu.specs.Peers.{PeerView}
 use Rattle.bac_service.specs.Values.{Request}
 use Rattle.bac_store.specs.AtNode.{Change, change_fault}
 use Rattle.bac_store.specs.Stores.{Store}
 use Rattle.bac_protocol.specs.Pace.{IsTimely, clock_at}
 use Rattle.bac_protocol.specs.Service.{Octets}
 use Rattle.bac_world.specs.Node.{restarted, store_after_restart, with_change}
-use Rattle.bac_world.specs.World.{IsBounded, IsFresh, link_at}
+use Rattle.bac_world.specs.World.{IsBounded, IsFresh, IsOfNone, link_at, peer_at}
 use Rattle.bac_driver.specs.Asking.{IsBegun}
 use Rattle.bac_driver.specs.BoundNodes.{BoundNode}
 use Rattle.bac_driver.specs.Runs.{CannotReceive, Timed}
@@ -15,7 +16,7 @@ use Rattle.bac_driver.specs.Turns.{Turn}
 use Rattle.bac_plant.specs.Network.{HandsOver, Source}
 use Rattle.bac_plant.specs.Plants.{Plant, nodes_of, shows, world_of}
 use Rattle.bac_plant.specs.Steps.{IsSomeTurn, PlantRun, PlantStep, Step, question}
-use Rattle.bac_plant.specs.Steps.Step.{Begins, Changes, FailsToReceive, Restarts, Takes}
+use Rattle.bac_plant.specs.Steps.Step.{Begins, BeginsAway, Changes, FailsToReceive, Restarts, Takes}
 
 -- a run from a fresh plant led there
 pub record IsReached (W overtake : ℕ) (p : Plant) : Type 0 where
@@ -42,8 +43,15 @@ TurnsGoOn overtake p =
 abbrev pub AsksGoOn : (overtake : ℕ) → Plant → Type 0
 AsksGoOn overtake p =
     (i server : ℕ) (before : BoundNode) → slice_get p.stations i ≡ Some before → (link : Octets) → link_at (nodes_of p.stations) server ≡ Some link
-    → (limits : Limits) (r : Request) (ticket : ℕ) (after : BoundNode) → IsBegun (shows p i) (question link limits r) before ticket after
+    → (limits : Limits) (r : Request) (ticket : ℕ) (after : BoundNode) → IsBegun (shows p i) (question (peer_at link) limits r) before ticket after
     → LeadsTo overtake p (Begins i server limits r) i after
+
+-- each ask of a stranger, at a link of no station, that its node accepts
+abbrev pub StrangersAskedGoOn : (overtake : ℕ) → Plant → Type 0
+StrangersAskedGoOn overtake p =
+    (i : ℕ) (before : BoundNode) → slice_get p.stations i ≡ Some before → (peer : PeerView) → IsOfNone (nodes_of p.stations) peer.link
+    → (limits : Limits) (r : Request) (ticket : ℕ) (after : BoundNode) → IsBegun (shows p i) (question peer limits r) before ticket after
+    → LeadsTo overtake p (BeginsAway i peer limits r) i after
 
 -- each call to receive that fails
 abbrev pub FailuresGoOn : (overtake : ℕ) → Plant → Type 0

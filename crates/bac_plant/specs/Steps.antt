@@ -1,6 +1,7 @@
 -- What happens in a plant: time passes, and a station does what a call of bac_driver promises, at the moment that its clock shows.
 use Rattle.std.specs.Prelude.{◌≡◌, ℕ, List, ◌∷◌, ◌++◌, length, Option, Some, None, slice_get, slice_set}
 use Rattle.bac_apdu.specs.Apdu.{Limits}
+use Rattle.bac_npdu.specs.Peers.{PeerView}
 use Rattle.bac_service.specs.Values.{Request}
 use Rattle.bac_store.specs.AtNode as at_node
 use Rattle.bac_store.specs.AtNode.{change_fault}
@@ -8,10 +9,10 @@ use Rattle.bac_store.specs.Stores.{Store}
 use Rattle.bac_protocol.specs.Pace.{clock_at}
 use Rattle.bac_protocol.specs.Service.{Octets}
 use Rattle.bac_transaction.specs.Sends.{Datagram, Pairwise}
-use Rattle.bac_world.specs.Node.{restarted, store_after_restart, with_change}
+use Rattle.bac_world.specs.Node.{Node, restarted, store_after_restart, with_change}
 use Rattle.bac_world.specs.Once.{Fact}
-use Rattle.bac_world.specs.Once.Fact.{Asked, Changed, Restarted}
-use Rattle.bac_world.specs.World.{AreEnded, AreLogged, Copy, IsCopied, Note, link_at, passes, peer_at, with_clock}
+use Rattle.bac_world.specs.Once.Fact.{Asked, AskedAway, Changed, Restarted}
+use Rattle.bac_world.specs.World.{AreCopied, AreEnded, AreLogged, Copy, IsCopied, IsOfNone, Note, link_at, passes, peer_at, with_clock}
 use Rattle.bac_driver.specs.BoundNodes.{BoundNode}
 use Rattle.bac_driver.specs.Calls.{one_more, with_call}
 use Rattle.bac_driver.specs.Calls.Call.{FailedReceive}
@@ -23,12 +24,13 @@ use Rattle.bac_plant.specs.Plants.{Plant, nodes_of, shows}
 use Rattle.bac_plant.specs.Network.{HandsOver, Source}
 
 -- time passes, and each clock goes on; a station takes a turn, by a datagram from that source; its link fails to receive; it begins an ask of another
--- station, changes its own store, or restarts
+-- station or of a stranger, changes its own store, or restarts
 pub data Step : Type 0 where
   Passes : (by : ℕ) (own : ℕ → ℕ) → Step
   Takes : (station : ℕ) (source : Source) (turn : Turn) → Step
   FailsToReceive : (station : ℕ) → Step
   Begins : (station server : ℕ) (limits : Limits) (request : Request) → Step
+  BeginsAway : (station : ℕ) (peer : PeerView) (limits : Limits) (request : Request) → Step
   Changes : (station : ℕ) (change : at_node.Change) → Step
   Restarts : (station exact : ℕ) (store : Option Store) → Step
 
@@ -36,9 +38,10 @@ pub data Step : Type 0 where
 abbrev pub with_station : Plant → (station : ℕ) → BoundNode → Plant
 with_station p i after = record p { stations = slice_set p.stations i after }
 
--- these datagrams, which a station gives its link, become these copies; one whose send fails is among them, and the network need not hand it over
+-- what a station gives its link for stations becomes these copies, and what goes to strangers is not followed. One whose send fails is among the copies, and
+-- the network need not hand it over.
 abbrev pub BecomeCopies : Plant → (station : ℕ) → List Datagram → List Copy → Type 0
-BecomeCopies p i sends sent = Pairwise (IsCopied (nodes_of p.stations) p.time.now i) sends sent
+BecomeCopies p i sends sent = AreCopied (nodes_of p.stations) p.time.now i sends sent
 
 -- ---- a turn
 
@@ -48,12 +51,13 @@ pub record IsSomeTurn (now : ℕ) (before : BoundNode) (turn : Turn) (after : Bo
   pub began : ℕ
   pub is : IsTurn limit began now before turn after
 
--- all that a turn returned enters the log: how asks ended by the datagram, what was performed, and how asks ended by the tick
-pub record AreEntered (p : Plant) (i : ℕ) (turn : Turn) (log : List Fact) : Type 0 where
+-- all that a turn returned enters the log: how asks ended by the datagram, what was performed, and how asks ended by the tick; middle
+-- is the node between both
+pub record AreEntered (p : Plant) (i : ℕ) (middle : Node) (turn : Turn) (log : List Fact) : Type 0 where
   pub ended : List Fact
   pub performed : List Fact
   pub ends : AreEnded p.notes i (ended_of turn.heard) p.log ended
-  pub performs : AreLogged (nodes_of p.stations) p.notes i (performed_of turn.heard) ended performed
+  pub performs : AreLogged (nodes_of p.stations) p.notes i middle (performed_of turn.heard) ended performed
   pub gives_up : AreEnded p.notes i (ended_of turn.ticked) performed log
 
 -- a station takes a turn: what it received comes from there, what it sends becomes copies, and what it ended and performed enters the log
@@ -66,7 +70,7 @@ pub record TakesTurnAt (overtake : ℕ) (old : Plant) (i : ℕ) (source : Source
   pub sent : List Copy
   pub copied : BecomeCopies old i (sends_of turn.heard ++ sends_of turn.ticked) sent
   pub log : List Fact
-  pub entered : AreEntered old i turn log
+  pub entered : AreEntered old i takes.is.acts.middle turn log
   pub is : new ≡ record (with_station old i after) { copies = old.copies ++ sent; log = log }
 
 -- its link could not receive: its count and its calls change, and the buffer may
@@ -81,11 +85,11 @@ pub record FailsAt (old : Plant) (i : ℕ) (new : Plant) : Type 0 where
 
 -- ---- an ask
 
-abbrev pub question : Octets → Limits → Request → Question
-question link limits r = record { peer = peer_at link; limits = limits; request = r }
+abbrev pub question : PeerView → Limits → Request → Question
+question peer limits r = record { peer = peer; limits = limits; request = r }
 
 abbrev pub note_of : (client server invoke_id ticket : ℕ) → Note
-note_of client server invoke_id ticket = record { key = record { client = client; server = server; invoke_id = invoke_id }; ticket = ticket }
+note_of client server invoke_id ticket = record { key = record { client = client; server = server; invoke_id = invoke_id }; ticket = ticket; away = None }
 
 -- a station begins an ask of another one: it has the next number, and what it sends becomes copies. A refused ask changes nothing.
 pub record AsksAt (old : Plant) (i server : ℕ) (limits : Limits) (r : Request) (new : Plant) : Type 0 where
@@ -95,13 +99,30 @@ pub record AsksAt (old : Plant) (i server : ℕ) (limits : Limits) (r : Request)
   pub peer : link_at (nodes_of old.stations) server ≡ Some link
   pub after : BoundNode
   pub ticket : ℕ
-  pub begun : IsBegun (shows old i) (question link limits r) before ticket after
+  pub begun : IsBegun (shows old i) (question (peer_at link) limits r) before ticket after
   pub sent : List Copy
-  pub copied : BecomeCopies old i begun.sends sent
+  pub copied : Pairwise (IsCopied (nodes_of old.stations) old.time.now i) begun.sends sent
   pub is : new ≡ record (with_station old i after) {
     copies = old.copies ++ sent;
     log = Asked (length old.notes) i server r ∷ old.log;
     notes = note_of i server begun.accepted.invoke_id ticket ∷ old.notes;
+  }
+
+abbrev pub away_note : (client : ℕ) → PeerView → (invoke_id ticket : ℕ) → Note
+away_note client peer invoke_id ticket =
+    record { key = record { client = client; server = 0; invoke_id = invoke_id }; ticket = ticket; away = Some peer }
+
+-- a station begins an ask of a stranger, at a link of no station: it has the next number, and what it sends is not followed
+pub record AsksAwayAt (old : Plant) (i : ℕ) (peer : PeerView) (limits : Limits) (r : Request) (new : Plant) : Type 0 where
+  pub before : BoundNode
+  pub at : slice_get old.stations i ≡ Some before
+  pub stranger : IsOfNone (nodes_of old.stations) peer.link
+  pub after : BoundNode
+  pub ticket : ℕ
+  pub begun : IsBegun (shows old i) (question peer limits r) before ticket after
+  pub is : new ≡ record (with_station old i after) {
+    log = AskedAway (length old.notes) i peer r ∷ old.log;
+    notes = away_note i peer begun.accepted.invoke_id ticket ∷ old.notes;
   }
 
 -- ---- the store, and restarts
@@ -128,6 +149,7 @@ PlantStep overtake old (Passes by own) new = new ≡ record old { time = passes 
 PlantStep overtake old (Takes station source turn) new = TakesTurnAt overtake old station source turn new
 PlantStep overtake old (FailsToReceive station) new = FailsAt old station new
 PlantStep overtake old (Begins station server limits request) new = AsksAt old station server limits request new
+PlantStep overtake old (BeginsAway station peer limits request) new = AsksAwayAt old station peer limits request new
 PlantStep overtake old (Changes station change) new = ChangesAt old station change new
 PlantStep overtake old (Restarts station exact store) new = RestartsAt old station exact store new
 

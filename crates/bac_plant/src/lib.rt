@@ -7,6 +7,7 @@ pub mod examples;
 
 ghost use Rattle.std.specs.Prelude.{◌≡◌, ◌⊎◌, ℕ, List, map, Some, slice_get};
 ghost use Rattle.bac_protocol.specs.Pace.{IsTimely};
+ghost use Rattle.bac_world.specs.Claims.{AreServedApart};
 ghost use Rattle.bac_world.specs.Once.{IsOnce};
 ghost use Rattle.bac_world.specs.World.{IsBounded, IsFresh, WorldRun, stores_of};
 ghost use Rattle.bac_driver.specs.BoundNodes.{BoundNode};
@@ -20,12 +21,13 @@ ghost use Rattle.bac_driver.specs.declared.wait_limit.WaitLimit.{WaitLimit};
 ghost use Rattle.bac_requester.specs.declared.ending.Ending.{Ending};
 ghost use Rattle.bac_plant.specs.Chains.{AsksAndStops, AsksInChain, Chain, ServesInChain, StopsInChain, TakesTurnsAlone, turn_of_second, turns_of};
 ghost use Rattle.bac_plant.specs.Events.{events_of};
-ghost use Rattle.bac_plant.specs.NextSteps.{AsksGoOn, ChangesGoOn, FailuresGoOn, IsReached, RestartsGoOn, TurnsGoOn};
+ghost use Rattle.bac_plant.specs.NextSteps.{AsksGoOn, ChangesGoOn, FailuresGoOn, IsReached, RestartsGoOn, StrangersAskedGoOn, TurnsGoOn};
 ghost use Rattle.bac_plant.specs.Plants.{Plant, nodes_of, world_of};
 ghost use Rattle.bac_plant.specs.Steps.{PlantRun, Step};
 
 /// The turns that stations take, their asks, changes and restarts are events of a world: a run of a plant is the run of its world through the events of its
-/// steps. After a run of a fresh plant the log, which has all that turns returned as performed and ended, is right with the stores.
+/// steps. After a run of a fresh plant the log, which has all that turns returned as performed and ended, is right with the stores. Whatever strangers send,
+/// what a station performs for one of them under one invoke ID, between two of its restarts, it performs in entries that began more than 65,000 ms apart.
 #[tactic(auto, using(crate::proofs::Runs::run_events))]
 pub fn turns_are_events()
     ensures events { (overtake : ℕ) (steps : List Step) (old new : Plant) → PlantRun overtake steps old new
@@ -33,14 +35,17 @@ pub fn turns_are_events()
     ensures once { (W overtake : ℕ) (old new : Plant) → IsFresh (world_of old) → IsTimely old.time.pace → IsBounded W overtake (world_of old)
         → (steps : List Step) → PlantRun overtake steps old new
         → IsOnce (stores_of (nodes_of old.stations)) new.log (stores_of (nodes_of new.stations)) }
+    ensures apart { (W overtake : ℕ) (old new : Plant) → IsFresh (world_of old) → IsTimely old.time.pace → IsBounded W overtake (world_of old)
+        → (steps : List Step) → PlantRun overtake steps old new → AreServedApart (world_of new) }
 {}
 
 /// After each run of a fresh plant, whatever a call promises of a station, at the moment of its clock and by a datagram that the network may hand over, is a
-/// step of the plant: there are the asks and transactions of all that it returned. So no turn is left out of the law above.
+/// step of the plant: there are the asks, transactions and strangers of all that it returned. So no turn is left out of the law above.
 #[tactic(auto, using(crate::proofs::Next::changes_go_on, crate::proofs::Next::restarts_go_on))]
 pub fn calls_go_on()
     ensures turns { (W overtake : ℕ) (p : Plant) → IsReached W overtake p → TurnsGoOn overtake p }
     ensures asks { (W overtake : ℕ) (p : Plant) → IsReached W overtake p → AsksGoOn overtake p }
+    ensures strangers_asked { (overtake : ℕ) (p : Plant) → StrangersAskedGoOn overtake p }
     ensures failures { (overtake : ℕ) (p : Plant) → FailuresGoOn overtake p }
     ensures changes { (overtake : ℕ) (p : Plant) → ChangesGoOn overtake p }
     ensures restarts { (overtake : ℕ) (p : Plant) → RestartsGoOn overtake p }

@@ -1,5 +1,5 @@
 -- What a call promises is a step.
-use Rattle.bac_plant.proofs.Next.{asks_go_on, failures_go_on, turns_go_on}
+use Rattle.bac_plant.proofs.Next.{asks_go_on, failures_go_on, strangers_asked_go_on, turns_go_on}
 use Rattle.bac_plant.proofs.calls_go_on.Goals as goal
 
 pub returns-clause-turns : goal.returns-clause-turns
@@ -8,6 +8,10 @@ returns-clause-turns c = λ W overtake p r i before at turn after t source from.
 pub returns-clause-asks : goal.returns-clause-asks
 returns-clause-asks c = λ W overtake p r i server before at link there limits request ticket after b.
     asks_go_on W overtake p r i server before at link there limits request ticket after b
+
+pub returns-clause-strangers_asked : goal.returns-clause-strangers_asked
+returns-clause-strangers_asked c = λ overtake p i before at peer stranger limits request ticket after b.
+    strangers_asked_go_on overtake p i before at peer stranger limits request ticket after b
 
 pub returns-clause-failures : goal.returns-clause-failures
 returns-clause-failures c = λ overtake p i old new at failed. failures_go_on overtake p i old new at failed
