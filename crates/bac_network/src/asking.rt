@@ -156,6 +156,7 @@ fn note(
     journal.note(Note {
         transaction,
         ticket,
+        stranger: None,
     });
     journal.send(client, sends);
 }
