@@ -135,7 +135,7 @@ module _ (W overtake : ℕ) (n : Network) (r : IsReady W overtake n) (number : �
     where
       near : IsOfNode n.nodes.items o.performed
       near q is none = none h.copy.from (h.sender
-          ∙ ap Some (sym (from_link n.journal.moment h.link h.copy.octets h.goes.before h.goes.after o h.goes.goes q is)))
+          ∙ ap Some (sym (from_link (told_in n h.copy.to) h.link h.copy.octets h.goes.before h.goes.after o h.goes.goes q is)))
 
       enters : CanEnter (world_of n) h.copy.to h.goes.after o × (length o.sends ≤ W + 1) × (length o.ended ≤ 1)
       enters = r.can.hears number h.copy h.there (young h.copy h.there) h.link h.sender h.goes.before h.goes.after o h.goes.at h.goes.goes
