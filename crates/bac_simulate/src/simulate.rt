@@ -1,12 +1,10 @@
 //! `bac simulate`, over any reader and writers.
 ghost use Rattle.std.specs.Prelude.{◌≡◌, ◌+◌, ◌<◌, ◌^◌, length, map, IfOk, IfSome, Ok, Some};
-ghost use Rattle.bac_network.specs.Views.{event_view};
-ghost use Rattle.bac_simulate.specs.Views.{setting_view};
 ghost use Rattle.bac_text.specs.Lines.{lines_of};
 ghost use Rattle.bac_text.specs.Texts.{AppendsText};
 ghost use Rattle.bac_simulate.specs.Runs.{Goes, IsEnd, IsRun, IsStep, IsUnread, Reports, Simulates, SimulatesAs, SimulatesIn, change_fault_in, status_for, status_of};
 ghost use Rattle.bac_simulate.specs.Scripts.{Happens, IsModest, Lost, limits_in, most_limits, said_from, script_of, with_setting};
-ghost use Rattle.bac_simulate.specs.Views.{line_view};
+ghost use Rattle.bac_simulate.specs.Views.{happening_view, line_view, setting_view};
 
 use crate::line::Setting;
 use crate::printing::{Seen, print_lost, print_outcome};
@@ -44,7 +42,7 @@ fn event_and_print<W: Write>(
     out: &mut W,
 ) -> io::Result<bool>
     ensures { IfOk result (λ passed. AppendsText (W.contents out.old) (W.contents out.new)
-        (IsStep line passed (Happens (event_view event.now)) world.old world.new)) }
+        (IsStep line passed (Happens (happening_view event.now)) world.old world.new)) }
 {
     let before = Seen::of(world);
     let fault = match world.step(event) {
@@ -179,7 +177,7 @@ fn run_lines<O: Write, E: Write>(
     err: &mut E,
 ) -> Status
     requires { before + length text.now < 2 ^ 64 }
-    ensures { Goes (before + 1) (said_from notes (limits_in world.old.world.nodes) (before + 1) (lines_of text.now)) world.old world.new
+    ensures { Goes (before + 1) (said_from notes (limits_in world.old.nodes) (before + 1) (lines_of text.now)) world.old world.new
         (O.contents out.old) (O.contents out.new) result }
 {
     match lines_in(alloc, world, notes, before, text) {
