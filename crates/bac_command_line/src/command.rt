@@ -34,12 +34,12 @@ fn perform<F: OpenFiles, M: Machine, O: Write, E: Write>(
         Task::Decode { in_words, datagram } => {
             decode(alloc, files, in_words, datagram, out, err)
         }
-        Task::Check { named, path, port } => { check(alloc, files, named, path, port, out, err) }
+        Task::Check { named, capture } => check(alloc, files, named, &capture, out, err),
         Task::CheckLines(path) => check_lines(alloc, files, path, out, err),
-        Task::Explain { path, port } => explain(alloc, files, path, port, out, err),
-        Task::Chart { form, path, port } => chart(alloc, files, form, path, port, out, err),
-        Task::Simulate { notes, path } => simulate(alloc, files, notes, path, out, err),
-        Task::Show { view, notes, path } => show(alloc, files, view, notes, path, out, err),
+        Task::Explain(capture) => explain(alloc, files, &capture, out, err),
+        Task::Chart { form, capture } => chart(alloc, files, form, &capture, out, err),
+        Task::Simulate(script) => simulate(alloc, files, &script, out, err),
+        Task::Show { view, script } => show(alloc, files, view, &script, out, err),
         Task::Serve { serving, objects } => {
             serve(alloc, files, machine, &serving, objects, out, err)
         }
