@@ -9,6 +9,7 @@ ghost use Rattle.bac_command_line.specs.Files.{OfFile, OnFile};
 ghost use Rattle.bac_command_line.specs.Online.{OnClock, OnPort};
 
 use crate::asking::Asking;
+use crate::environment::Environment;
 use crate::files::{OpenFiles, opened};
 use crate::objects::octets_of;
 use crate::online::{Machine, ask_once};
@@ -128,9 +129,7 @@ fn questions_at<F: OpenFiles, E: Write>(
 /// A client asks what the lines of a file ask, one after the other, in rounds where they are wanted; how each ask ended is printed behind the line's number.
 /// A file that cannot be opened or read: `cannot read` on `err`. Where words are no request, `err` says the line and which is bad, and nothing is asked.
 pub(crate) fn ask_lines<F: OpenFiles, M: Machine, O: Write, E: Write>(
-    alloc: Global,
-    files: &F,
-    machine: &M,
+    environment: &Environment<'_, F, M>,
     asking: &Asking,
     path: &str,
     out: &mut O,
@@ -139,10 +138,11 @@ pub(crate) fn ask_lines<F: OpenFiles, M: Machine, O: Write, E: Write>(
     ensures { AreAskedFrom (OnFile F.is_file F.File.remaining) (OnPort M.is_bound M.Link.failures M.Link.calls) (OnClock M.is_made M.Timer.told) result
         asking.now path.now (O.contents out.old) (O.contents out.new) }
 {
-    match questions_at(alloc, files, asking, path, err) {
+    let alloc = environment.alloc;
+    match questions_at(alloc, environment.files, asking, path, err) {
         Ok(lines) => {
             let asked = Asked::Lines(lines);
-            ask_by_client(alloc, machine, asking, &asked, out, err)
+            ask_by_client(alloc, environment.machine, asking, &asked, out, err)
         }
         Err(why) => why.status(),
     }

@@ -7,6 +7,7 @@ mod asking_lines;
 mod bad_words;
 mod command;
 mod ends;
+mod environment;
 mod file_words;
 mod files;
 mod flights;
