@@ -19,6 +19,7 @@ mod parts;
 mod question_lines;
 mod rounds;
 mod serving;
+mod station;
 mod system;
 mod task;
 mod window;
