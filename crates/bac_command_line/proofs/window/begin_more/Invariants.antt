@@ -11,7 +11,8 @@ invariant-loop-rest g l =
       kept : length l.flights.asks.items + length l.rest ≡ length l.fn.flights.asks.items + length l.waiting;
       whole : (r : List Numbered) (n : Aloft)
           → BeginsMore l.asking l.window (map line_view l.rest) (aloft (timed l.station.bound_node (g.C.Clock.told l.station.clock)) l.flights.asks.items) r n
-          → BeginsMore l.asking l.window (map line_view l.waiting) (aloft (timed l.fn.station.bound_node (g.C.Clock.told l.fn.station.clock)) l.fn.flights.asks.items) r n;
+          → BeginsMore l.asking l.window (map line_view l.waiting)
+          (aloft (timed l.fn.station.bound_node (g.C.Clock.told l.fn.station.clock)) l.fn.flights.asks.items) r n;
     }
 
 abbrev pub decreases-loop-rest : goal.decreases-loop-rest
