@@ -12,7 +12,7 @@ use Rattle.bac_network.specs.Faults.{fault_number}
 use Rattle.bac_network.specs.Histories.{WorldView, as_world}
 use Rattle.bac_network.specs.declared.event.Event.{Event}
 use Rattle.bac_network.specs.Steps.{NamesNoCopy, NamesNoNode, PassesClock, RefusesChange, TakesMemory, Tells}
-use Rattle.bac_network.specs.Views.{event_view, fact_view, log_view}
+use Rattle.bac_network.specs.Views.{event_view, fact_view, instant_after, log_view}
 use Rattle.bac_network.specs.declared.fact.Fact as fact
 use Rattle.bac_network.specs.declared.fault.WorldFault.{WorldFault}
 use Rattle.bac_network.specs.declared.fault.WorldFault.TheVariants as fault
@@ -32,7 +32,7 @@ use Rattle.bac_simulate.specs.Worded.{Adds, AreFactLines, AreFactWords, AreNews,
 use Rattle.bac_simulate.specs.declared.nothing.Why.{Why}
 use Rattle.bac_simulate.specs.declared.script.ScriptLine as script
 use Rattle.bac_simulate.proofs.Appending.{drop_seen, nothing_more}
-use Rattle.bac_simulate.proofs.Stepping.{fails, refuses, same_event, the_err}
+use Rattle.bac_simulate.proofs.Stepping.{fails, refuses, same_after, same_event, the_err}
 use Rattle.bac_simulate.proofs.Tracing.{later_is}
 
 -- ---- one line more
@@ -117,9 +117,10 @@ head_at now e w head is line = subst (λ (n : ℕ). IsEventLine n e head) is lin
 pub event_told : (line : ℕ) (e : Event) (told : Option AskFault) (old new : WorldView) (facts copies now : ℕ) (reason : Why) (head text : List ℕ)
     → (a b : Option (List ℕ)) → facts ≡ length old.log → copies ≡ length old.copies → now ≡ old.time.moment
     → reason ≡ why_nothing old (happening_view e) → IsEventLine now (happening_view e) head → WorldStep old.overtake (as_world old) (event_view old.time e) (as_world new)
-    → Tells told (as_world old) (event_view old.time e) (as_world new) → new.overtake ≡ old.overtake → Adds head text (IsOutcome told reason facts copies new) → Appends a b text
+    → Tells told (as_world old) (event_view old.time e) (as_world new) → new.overtake ≡ old.overtake → new.time ≡ instant_after e old.time
+    → Adds head text (IsOutcome told reason facts copies new) → Appends a b text
     → AppendsText a b (Steps in_words line true (Happens (happening_view e)) old new)
-event_told line e told old new facts copies now reason head text a b fs cs ns why is_head went tells same added printed = (
+event_told line e told old new facts copies now reason head text a b fs cs ns why is_head went tells same passed added printed = (
   text,
   (
     inl (record {
@@ -127,6 +128,7 @@ event_told line e told old new facts copies now reason head text a b fs cs ns wh
       went = subst (λ (h : world.Event). WorldStep old.overtake (as_world old) h (as_world new)) (same_event old.time e) went;
       tells = subst (λ (h : world.Event). Tells told (as_world old) h (as_world new)) (same_event old.time e) tells;
       overtake = same;
+      time = passed ∙ same_after old.time e;
       is =
           record {
             head = head;

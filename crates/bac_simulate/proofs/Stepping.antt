@@ -8,7 +8,7 @@ use Rattle.bac_world.specs.World.{WorldStep}
 use Rattle.bac_network.specs.Faults.{fault_number}
 use Rattle.bac_network.specs.Clocks.{Instant}
 use Rattle.bac_network.specs.Histories.{WorldView, as_world}
-use Rattle.bac_network.specs.Views.{event_view}
+use Rattle.bac_network.specs.Views.{event_view, instant_after}
 use Rattle.bac_network.specs.declared.event.Event.{Event}
 use Rattle.bac_network.specs.declared.event.Event.TheVariants as event
 use Rattle.bac_store.specs.AtNode.{change_fault_number}
@@ -17,7 +17,7 @@ use Rattle.bac_network.specs.Steps.{IsFault, NamesNoCopy, NamesNoNode, PassesClo
 use Rattle.bac_network.proofs.WorldRunning.{fault_is}
 use Rattle.bac_simulate.specs.declared.script.ScriptLine as code
 use Rattle.bac_simulate.specs.Scripts.{ScriptLine, Happens, Lost, Note}
-use Rattle.bac_simulate.specs.Happenings.{event_at}
+use Rattle.bac_simulate.specs.Happenings.{event_at, time_after}
 use Rattle.bac_simulate.specs.Views.{happening_view, line_view}
 use Rattle.bac_network.specs.declared.fault.WorldFault.{WorldFault}
 use Rattle.bac_network.specs.declared.fault.WorldFault.TheVariants as fault
@@ -38,10 +38,19 @@ same_event t (event.Advance by) = refl
 same_event t (event.Change node change) = refl
 same_event t (event.Restart node store) = refl
 
+pub same_after : (t : Instant) (e : Event) → instant_after e t ≡ time_after (happening_view e) t
+same_after t (event.Ask client server limits request) = refl
+same_after t (event.Deliver number) = refl
+same_after t (event.Noise node from octets) = refl
+same_after t (event.Tick node) = refl
+same_after t (event.Advance by) = refl
+same_after t (event.Change node change) = refl
+same_after t (event.Restart node store) = refl
+
 pub happened : (line : ℕ) (e : Event) (told : Option AskFault) (old new : WorldView) (facts copies : ℕ) (a b : Option (List ℕ))
     → facts ≡ length old.log → copies ≡ length old.copies → WorldStep old.overtake (as_world old) (event_view old.time e) (as_world new) → Tells told (as_world old) (event_view old.time e) (as_world new)
-    → new.overtake ≡ old.overtake → Appends a b (outcome_text told facts copies new) → AppendsText a b (IsStep line true (Happens (happening_view e)) old new)
-happened line e told old new facts copies a b fs cs went tells same printed = (
+    → new.overtake ≡ old.overtake → new.time ≡ instant_after e old.time → Appends a b (outcome_text told facts copies new) → AppendsText a b (IsStep line true (Happens (happening_view e)) old new)
+happened line e told old new facts copies a b fs cs went tells same passed printed = (
   outcome_text told facts copies new,
   (
     inl (record {
@@ -49,6 +58,7 @@ happened line e told old new facts copies a b fs cs went tells same printed = (
       went = subst (λ (h : world.Event). WorldStep old.overtake (as_world old) h (as_world new)) (same_event old.time e) went;
       tells = subst (λ (h : world.Event). Tells told (as_world old) h (as_world new)) (same_event old.time e) tells;
       overtake = same;
+      time = passed ∙ same_after old.time e;
       is = ap (λ (n : ℕ). outcome_text told n copies new) fs ∙ ap (λ (n : ℕ). outcome_text told (length old.log) n new) cs;
     }),
     printed,

@@ -15,7 +15,7 @@ use Rattle.bac_journal.specs.declared.copies.Copy as copy
 use Rattle.bac_network.specs.Histories.{WorldView, as_world}
 use Rattle.bac_network.specs.declared.event.Event.{Event}
 use Rattle.bac_network.specs.Steps.{Tells}
-use Rattle.bac_network.specs.Views.{event_view, fact_view}
+use Rattle.bac_network.specs.Views.{event_view, fact_view, instant_after}
 use Rattle.bac_network.specs.declared.fact.Fact as fact
 use Rattle.bac_protocol.specs.Transaction.{Key}
 use Rattle.bac_requester.specs.declared.ask_fault.AskFault.{AskFault}
@@ -30,7 +30,7 @@ use Rattle.bac_simulate.specs.Traces.{life_in, arrow_of, coming_mark, delivered_
 use Rattle.bac_simulate.specs.Views.{happening_view, line_view}
 use Rattle.bac_simulate.specs.declared.script.ScriptLine as script
 use Rattle.bac_simulate.proofs.Appending.{drop_next, drop_seen}
-use Rattle.bac_simulate.proofs.Stepping.{more, same_event}
+use Rattle.bac_simulate.proofs.Stepping.{more, same_after, same_event}
 
 -- ---- later copies of a transaction
 
@@ -156,12 +156,12 @@ no_line line lines i all w a = (
 -- ---- one event
 
 pub passed : (line : ℕ) (e : Event) (told : Option AskFault) (old new : WorldView) (a b : List code.Mark) → WorldStep old.overtake (as_world old) (event_view old.time e) (as_world new)
-    → Tells told (as_world old) (event_view old.time e) (as_world new) → new.overtake ≡ old.overtake → AddsMarks a b (event_marks told (happening_view e) old new)
+    → Tells told (as_world old) (event_view old.time e) (as_world new) → new.overtake ≡ old.overtake → new.time ≡ instant_after e old.time → AddsMarks a b (event_marks told (happening_view e) old new)
     → AppendsMarks a b (Steps in_marks line true (Happens (happening_view e)) old new)
-passed line e told old new a b step tells same added =
+passed line e told old new a b step tells same after added =
     let went = subst (λ (h : world.Event). WorldStep old.overtake (as_world old) h (as_world new)) (same_event old.time e) step in
     let said = subst (λ (h : world.Event). Tells told (as_world old) h (as_world new)) (same_event old.time e) tells in
-    (event_marks told (happening_view e) old new, (inl (record { told = told; went = went; tells = said; overtake = same; is = refl }), added))
+    (event_marks told (happening_view e) old new, (inl (record { told = told; went = went; tells = said; overtake = same; time = after ∙ same_after old.time e; is = refl }), added))
 
 pub news_are : (facts copies i k : ℕ) (w : WorldView) (coming : Option Mark) (a b : List code.Mark) → i ≡ facts → k ≡ copies
     → AddsMarks a b (optional_marks coming ++ news_marks i k w) → AddsMarks a b (optional_marks coming ++ news_marks facts copies w)

@@ -16,7 +16,7 @@ use Rattle.bac_text.specs.Statuses.{IsFailure}
 use Rattle.bac_text.specs.Texts.{AppendsText}
 use Rattle.bac_text.specs.declared.status.Status.{Status}
 use Rattle.bac_text.specs.declared.status.Status.TheVariants as status
-use Rattle.bac_simulate.specs.Happenings.{Happening, event_at}
+use Rattle.bac_simulate.specs.Happenings.{Happening, event_at, time_after}
 use Rattle.bac_simulate.specs.Houses.{world_set}
 use Rattle.bac_simulate.specs.Scripts.{Script, ScriptLine, Happens, Lost, Note, limits_in, said_from, script_of}
 use Rattle.bac_simulate.specs.Printed.{lost_line, outcome_text}
@@ -39,6 +39,7 @@ pub record Happened {A : Type 0} (t : Printing A) (event : Happening) (old new :
   pub went : WorldStep old.overtake (as_world old) (event_at old.time event) (as_world new)
   pub tells : Tells told (as_world old) (event_at old.time event) (as_world new)
   pub overtake : new.overtake ≡ old.overtake
+  pub time : new.time ≡ time_after event old.time
   pub is : t.went told event old new said
 
 -- the event was a change with that fault, which is printed; nothing changed
