@@ -16,12 +16,12 @@ abbrev pub IsPerformed : (IsAt : (path : List ℕ) → (content : Option (List �
 IsPerformed IsAt IsOn IsClock (task.Answer datagram objects) s old new =
     IsAnsweredFrom IsAt (option_map (λ p. p.now) objects) datagram.now s old new
 IsPerformed IsAt IsOn IsClock (task.Decode in_words datagram) s old new = IsDecodedFrom IsAt in_words datagram.now s old new
-IsPerformed IsAt IsOn IsClock (task.Check named path port) s old new = IsCheckedFile IsAt named path.now port s old new
+IsPerformed IsAt IsOn IsClock (task.Check named capture) s old new = IsCheckedFile IsAt named capture.path.now capture.port s old new
 IsPerformed IsAt IsOn IsClock (task.CheckLines path) s old new = AreCheckedLines IsAt path.now s old new
-IsPerformed IsAt IsOn IsClock (task.Explain path port) s old new = IsExplainedFile IsAt path.now port s old new
-IsPerformed IsAt IsOn IsClock (task.Chart form path port) s old new = IsChartedFile IsAt form path.now port s old new
-IsPerformed IsAt IsOn IsClock (task.Simulate notes path) s old new = IsSimulatedFile IsAt notes path.now s old new
-IsPerformed IsAt IsOn IsClock (task.Show view notes path) s old new = IsShownFile IsAt view notes path.now s old new
+IsPerformed IsAt IsOn IsClock (task.Explain capture) s old new = IsExplainedFile IsAt capture.path.now capture.port s old new
+IsPerformed IsAt IsOn IsClock (task.Chart form capture) s old new = IsChartedFile IsAt form capture.path.now capture.port s old new
+IsPerformed IsAt IsOn IsClock (task.Simulate script) s old new = IsSimulatedFile IsAt script.notes script.path.now s old new
+IsPerformed IsAt IsOn IsClock (task.Show view script) s old new = IsShownFile IsAt view script.notes script.path.now s old new
 IsPerformed IsAt IsOn IsClock (task.Serve serving objects) s old new =
     IsServedFrom IsAt (option_map (λ p. p.now) objects) IsOn IsClock s serving old new
 IsPerformed IsAt IsOn IsClock (task.Ask asking words) s old new = IsAskedFrom IsAt IsOn IsClock s asking (map (λ w. w.now) words.now) old new

@@ -9,35 +9,36 @@ ghost use Rattle.bac_command_line.specs.Files.{OfFile, OnFile};
 ghost use Rattle.bac_command_line.specs.Online.{OnClock, OnPort};
 
 use crate::asking::Asking;
+use crate::environment::Environment;
 use crate::files::{OpenFiles, opened};
 use crate::objects::octets_of;
 use crate::online::{Machine, ask_once};
 use crate::question_lines::{LineQuestion, questions_in};
 use crate::rounds::{Asked, ask_by_client};
-use bac_driver::{BoundNode, Clock, Link};
+use crate::station::Station;
+use bac_driver::{Clock, Link};
 use bac_text::{Status, output_failed};
 use std::alloc::Global;
 use std::io::Write;
 
 /// A node asks what a line asks; how that ended is printed behind the line's number. Answers whether it succeeded.
 fn ask_line<L: Link, C: Clock, O: Write, E: Write>(
-    alloc: Global,
     asking: &Asking,
-    bound_node: &mut BoundNode<L>,
-    clock: &mut C,
+    station: &mut Station<L, C>,
     line: &LineQuestion,
     out: &mut O,
     err: &mut E,
 ) -> Result<bool, Status>
     ensures asked { IfOk result (λ succeeded. AsksLine asking.now (line_view line.now) succeeded
-        (timed bound_node.old (C.told clock.old)) (timed bound_node.new (C.told clock.new)) (O.contents out.old) (O.contents out.new)) }
+        (timed station.old.bound_node (C.told station.old.clock)) (timed station.new.bound_node (C.told station.new.clock))
+        (O.contents out.old) (O.contents out.new)) }
     ensures failed { IfErr result IsFailure }
 {
     let number = line.number;
     if let Err(error) = write!(out, "{number}: ") {
         return Err(output_failed(err, &error));
     }
-    ask_once(alloc, asking, bound_node, clock, &line.question, out, err)
+    ask_once(asking, station, &line.question, out, err)
 }
 
 pub(crate) fn both(first: bool, second: bool) -> bool
@@ -48,21 +49,20 @@ pub(crate) fn both(first: bool, second: bool) -> bool
 
 /// A node asks what lines ask, one after the other. Answers whether all succeeded.
 pub(crate) fn ask_each<L: Link, C: Clock, O: Write, E: Write>(
-    alloc: Global,
     asking: &Asking,
-    bound_node: &mut BoundNode<L>,
-    clock: &mut C,
+    station: &mut Station<L, C>,
     lines: &[LineQuestion],
     out: &mut O,
     err: &mut E,
 ) -> Result<bool, Status>
     ensures asked { IfOk result (λ all. AsksEach asking.now (map line_view lines.now) all
-        (timed bound_node.old (C.told clock.old)) (timed bound_node.new (C.told clock.new)) (O.contents out.old) (O.contents out.new)) }
+        (timed station.old.bound_node (C.told station.old.clock)) (timed station.new.bound_node (C.told station.new.clock))
+        (O.contents out.old) (O.contents out.new)) }
     ensures failed { IfErr result IsFailure }
 {
     let mut all = true;
     for (place, line) in lines.iter().enumerate() {
-        let succeeded = ask_line(alloc, asking, bound_node, clock, line, out, err)?;
+        let succeeded = ask_line(asking, station, line, out, err)?;
         all = both(all, succeeded);
     }
     Ok(all)
@@ -128,9 +128,7 @@ fn questions_at<F: OpenFiles, E: Write>(
 /// A client asks what the lines of a file ask, one after the other, in rounds where they are wanted; how each ask ended is printed behind the line's number.
 /// A file that cannot be opened or read: `cannot read` on `err`. Where words are no request, `err` says the line and which is bad, and nothing is asked.
 pub(crate) fn ask_lines<F: OpenFiles, M: Machine, O: Write, E: Write>(
-    alloc: Global,
-    files: &F,
-    machine: &M,
+    environment: &Environment<'_, F, M>,
     asking: &Asking,
     path: &str,
     out: &mut O,
@@ -139,10 +137,11 @@ pub(crate) fn ask_lines<F: OpenFiles, M: Machine, O: Write, E: Write>(
     ensures { AreAskedFrom (OnFile F.is_file F.File.remaining) (OnPort M.is_bound M.Link.failures M.Link.calls) (OnClock M.is_made M.Timer.told) result
         asking.now path.now (O.contents out.old) (O.contents out.new) }
 {
-    match questions_at(alloc, files, asking, path, err) {
+    let alloc = environment.alloc;
+    match questions_at(alloc, environment.files, asking, path, err) {
         Ok(lines) => {
             let asked = Asked::Lines(lines);
-            ask_by_client(alloc, machine, asking, &asked, out, err)
+            ask_by_client(alloc, environment.machine, asking, &asked, out, err)
         }
         Err(why) => why.status(),
     }

@@ -4,6 +4,7 @@ ghost use Rattle.bac_command_line.specs.Online.{OnClock, OnPort};
 ghost use Rattle.bac_command_line.specs.Tasks.{IsPerformed};
 
 use crate::asking_lines::ask_lines;
+use crate::environment::Environment;
 use crate::files::{OpenFiles, chart, check, explain, show, simulate};
 use crate::grammar::matches;
 use crate::lines::{check_lines, decode};
@@ -19,37 +20,31 @@ use std::io::Write;
 
 /// Does what was asked for.
 fn perform<F: OpenFiles, M: Machine, O: Write, E: Write>(
-    alloc: Global,
+    environment: &Environment<'_, F, M>,
     task: Task<'_, '_>,
-    files: &F,
-    machine: &M,
     out: &mut O,
     err: &mut E,
 ) -> Status
     ensures { IsPerformed (OnFile F.is_file F.File.remaining) (OnPort M.is_bound M.Link.failures M.Link.calls) (OnClock M.is_made M.Timer.told)
         task.entry result (O.contents out.old) (O.contents out.new) }
 {
+    let alloc = environment.alloc;
+    let files = environment.files;
     match task {
         Task::Answer { datagram, objects } => { answer(alloc, files, datagram, objects, out, err) }
         Task::Decode { in_words, datagram } => {
             decode(alloc, files, in_words, datagram, out, err)
         }
-        Task::Check { named, path, port } => { check(alloc, files, named, path, port, out, err) }
+        Task::Check { named, capture } => check(alloc, files, named, &capture, out, err),
         Task::CheckLines(path) => check_lines(alloc, files, path, out, err),
-        Task::Explain { path, port } => explain(alloc, files, path, port, out, err),
-        Task::Chart { form, path, port } => chart(alloc, files, form, path, port, out, err),
-        Task::Simulate { notes, path } => simulate(alloc, files, notes, path, out, err),
-        Task::Show { view, notes, path } => show(alloc, files, view, notes, path, out, err),
-        Task::Serve { serving, objects } => {
-            serve(alloc, files, machine, &serving, objects, out, err)
-        }
-        Task::Ask { asking, words } => {
-            file_words::ask(alloc, files, machine, &asking, words, out, err)
-        }
-        Task::AskLines { asking, path } => {
-            ask_lines(alloc, files, machine, &asking, path, out, err)
-        }
-        Task::Pair => online::pair(alloc, machine, out, err),
+        Task::Explain(capture) => explain(alloc, files, &capture, out, err),
+        Task::Chart { form, capture } => chart(alloc, files, form, &capture, out, err),
+        Task::Simulate(script) => simulate(alloc, files, &script, out, err),
+        Task::Show { view, script } => show(alloc, files, view, &script, out, err),
+        Task::Serve { serving, objects } => { serve(environment, &serving, objects, out, err) }
+        Task::Ask { asking, words } => { file_words::ask(environment, &asking, words, out, err) }
+        Task::AskLines { asking, path } => { ask_lines(environment, &asking, path, out, err) }
+        Task::Pair => online::pair(alloc, environment.machine, out, err),
     }
 }
 
@@ -81,8 +76,13 @@ pub fn run<F: OpenFiles, M: Machine, O: Write, E: Write>(
             return Status::CommandLine;
         }
     };
+    let environment = Environment {
+        alloc,
+        files,
+        machine,
+    };
     match task_of(&matches, machine.shows_progress()) {
-        Some(task) => perform(alloc, task, files, machine, out, err),
+        Some(task) => perform(&environment, task, out, err),
         None => complain(err, fault_of(&matches), Status::CommandLine),
     }
 }

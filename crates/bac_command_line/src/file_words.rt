@@ -7,6 +7,7 @@ ghost use Rattle.bac_command_line.specs.FileWords.{AreDigitsOf, IsBefore, file_o
 ghost use Rattle.bac_command_line.specs.Online.{IsAskedFrom, OnClock, OnPort};
 
 use crate::asking::Asking;
+use crate::environment::Environment;
 use crate::files::{OpenFiles, opened};
 use crate::objects::octets_of;
 use crate::online;
@@ -66,9 +67,7 @@ fn with_last<'a>(
 /// As [`online::ask`]; but where the last word is `@` and a path, the octets of the file there stand in its place, in hexadecimal. A file that cannot be opened
 /// or read: `cannot read` on `err`.
 pub(crate) fn ask<F: OpenFiles, M: Machine, O: Write, E: Write>(
-    alloc: Global,
-    files: &F,
-    machine: &M,
+    environment: &Environment<'_, F, M>,
     asking: &Asking,
     words: &[&str],
     out: &mut O,
@@ -77,15 +76,16 @@ pub(crate) fn ask<F: OpenFiles, M: Machine, O: Write, E: Write>(
     ensures { IsAskedFrom (OnFile F.is_file F.File.remaining) (OnPort M.is_bound M.Link.failures M.Link.calls) (OnClock M.is_made M.Timer.told) result
         asking.now (map (λ w. w.now) words.now) (O.contents out.old) (O.contents out.new) }
 {
+    let alloc = environment.alloc;
     let Some((front, path)) = file_in(words) else {
-        return online::ask(alloc, machine, asking, words, out, err);
+        return online::ask(alloc, environment.machine, asking, words, out, err);
     };
-    let digits = match digits_of(alloc, files, path, err) {
+    let digits = match digits_of(alloc, environment.files, path, err) {
         Ok(digits) => digits,
         Err(status) => return status,
     };
     let Ok(meant) = with_last(alloc, front, digits.as_str()) else {
         return no_memory(err);
     };
-    online::ask(alloc, machine, asking, &meant, out, err)
+    online::ask(alloc, environment.machine, asking, &meant, out, err)
 }

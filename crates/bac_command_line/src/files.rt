@@ -59,96 +59,111 @@ pub(crate) fn reader_of<F: OpenFiles, E: Write>(
     }
 }
 
-/// Checks the capture in a file: one of pcap or pcapng, or of lines; with a port beside those of BACnet/IP, and with counts of other functions by name or not.
-/// A file that cannot be opened: `cannot read` on `err`.
+/// The file of a capture.
+#[derive(Clone, Copy, Debug)]
+pub(crate) struct CaptureFile<'a> {
+    pub path: &'a str,
+    /// A UDP port beside those of BACnet/IP whose datagrams are read too.
+    pub port: Option<u16>,
+}
+
+/// The file of a script.
+#[derive(Clone, Copy, Debug)]
+pub(crate) struct ScriptFile<'a> {
+    pub path: &'a str,
+    /// Whether notes are taken.
+    pub notes: bool,
+}
+
+/// Checks the capture in a file: one of pcap or pcapng, or of lines; with counts of other functions by name or not. A file that cannot be opened: `cannot read`
+/// on `err`.
 pub(crate) fn check<F: OpenFiles, O: Write, E: Write>(
     alloc: Global,
     files: &F,
     named: bool,
-    path: &str,
-    port: Option<u16>,
+    capture: &CaptureFile<'_>,
     out: &mut O,
     err: &mut E,
 ) -> Status
-    ensures { IsCheckedFile (OnFile F.is_file F.File.remaining) named path.now port result (O.contents out.old) (O.contents out.new) }
+    ensures { IsCheckedFile (OnFile F.is_file F.File.remaining) named capture.now.path.now capture.now.port result (O.contents out.old) (O.contents out.new) }
 {
-    match reader_of(alloc, files, path, err) {
+    match reader_of(alloc, files, capture.path, err) {
         Ok(mut input) => {
-            let ports = Ports { also: port };
+            let ports = Ports { also: capture.port };
             check_capture_over(alloc, &mut input, ports, named, out, err)
         }
         Err(status) => status,
     }
 }
 
-/// Explains the capture in a file of pcap or pcapng; with a port beside those of BACnet/IP. A file that cannot be opened:
-/// `cannot read` on `err`.
+/// Explains the capture in a file of pcap or pcapng. A file that cannot be opened: `cannot read` on `err`.
 pub(crate) fn explain<F: OpenFiles, O: Write, E: Write>(
     alloc: Global,
     files: &F,
-    path: &str,
-    port: Option<u16>,
+    capture: &CaptureFile<'_>,
     out: &mut O,
     err: &mut E,
 ) -> Status
-    ensures { IsExplainedFile (OnFile F.is_file F.File.remaining) path.now port result (O.contents out.old) (O.contents out.new) }
+    ensures { IsExplainedFile (OnFile F.is_file F.File.remaining) capture.now.path.now capture.now.port result (O.contents out.old) (O.contents out.new) }
 {
-    match reader_of(alloc, files, path, err) {
-        Ok(mut input) => explain_over(alloc, &mut input, Ports { also: port }, out, err),
+    match reader_of(alloc, files, capture.path, err) {
+        Ok(mut input) => {
+            let ports = Ports { also: capture.port };
+            explain_over(alloc, &mut input, ports, out, err)
+        }
         Err(status) => status,
     }
 }
 
-/// Draws the datagrams of the capture in a file of pcap or pcapng; with a port beside those of BACnet/IP. A file that cannot be opened:
-/// `cannot read` on `err`.
+/// Draws the datagrams of the capture in a file of pcap or pcapng. A file that cannot be opened: `cannot read` on `err`.
 pub(crate) fn chart<F: OpenFiles, O: Write, E: Write>(
     alloc: Global,
     files: &F,
     form: ChartFormat,
-    path: &str,
-    port: Option<u16>,
+    capture: &CaptureFile<'_>,
     out: &mut O,
     err: &mut E,
 ) -> Status
-    ensures { IsChartedFile (OnFile F.is_file F.File.remaining) form path.now port result (O.contents out.old) (O.contents out.new) }
+    ensures { IsChartedFile (OnFile F.is_file F.File.remaining) form capture.now.path.now capture.now.port result (O.contents out.old) (O.contents out.new) }
 {
-    match reader_of(alloc, files, path, err) {
-        Ok(mut input) => chart_over(alloc, form, &mut input, Ports { also: port }, out, err),
+    match reader_of(alloc, files, capture.path, err) {
+        Ok(mut input) => {
+            let ports = Ports { also: capture.port };
+            chart_over(alloc, form, &mut input, ports, out, err)
+        }
         Err(status) => status,
     }
 }
 
-/// Runs the script in a file, with notes or without. A file that cannot be opened: `cannot read` on `err`.
+/// Runs the script in a file. A file that cannot be opened: `cannot read` on `err`.
 pub(crate) fn simulate<F: OpenFiles, O: Write, E: Write>(
     alloc: Global,
     files: &F,
-    notes: bool,
-    path: &str,
+    script: &ScriptFile<'_>,
     out: &mut O,
     err: &mut E,
 ) -> Status
-    ensures { IsSimulatedFile (OnFile F.is_file F.File.remaining) notes path.now result (O.contents out.old) (O.contents out.new) }
+    ensures { IsSimulatedFile (OnFile F.is_file F.File.remaining) script.now.notes script.now.path.now result (O.contents out.old) (O.contents out.new) }
 {
-    match opened(files, path, err) {
-        Ok(mut file) => simulate_lines_over(alloc, notes, &mut file, out, err),
+    match opened(files, script.path, err) {
+        Ok(mut file) => simulate_lines_over(alloc, script.notes, &mut file, out, err),
         Err(status) => status,
     }
 }
 
-/// Shows the run of the script in a file, with notes or without. A file that cannot be opened: `cannot read` on `err`.
+/// Shows the run of the script in a file. A file that cannot be opened: `cannot read` on `err`.
 pub(crate) fn show<F: OpenFiles, O: Write, E: Write>(
     alloc: Global,
     files: &F,
     view: View,
-    notes: bool,
-    path: &str,
+    script: &ScriptFile<'_>,
     out: &mut O,
     err: &mut E,
 ) -> Status
-    ensures { IsShownFile (OnFile F.is_file F.File.remaining) view notes path.now result (O.contents out.old) (O.contents out.new) }
+    ensures { IsShownFile (OnFile F.is_file F.File.remaining) view script.now.notes script.now.path.now result (O.contents out.old) (O.contents out.new) }
 {
-    match opened(files, path, err) {
-        Ok(mut file) => show_over(alloc, view, notes, &mut file, out, err),
+    match opened(files, script.path, err) {
+        Ok(mut file) => show_over(alloc, view, script.notes, &mut file, out, err),
         Err(status) => status,
     }
 }

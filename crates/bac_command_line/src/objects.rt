@@ -8,6 +8,7 @@ ghost use Rattle.bac_command_line.specs.Online.{IsServedBy, OnClock, OnPort};
 ghost use Rattle.bac_store.specs.House.{house as spec_house};
 ghost use Rattle.bac_command_line.specs.Stores.{IsAnsweredFrom, IsServedFrom, MeansStore};
 
+use crate::environment::Environment;
 use crate::files::{OpenFiles, opened};
 use crate::online;
 use crate::online::Machine;
@@ -141,9 +142,7 @@ fn serve_house<M: Machine, O: Write, E: Write>(
 
 /// A node serves so. A file is reported as by [`answer`].
 pub(crate) fn serve<F: OpenFiles, M: Machine, O: Write, E: Write>(
-    alloc: Global,
-    files: &F,
-    machine: &M,
+    environment: &Environment<'_, F, M>,
     serving: &Serving,
     objects: Option<&str>,
     out: &mut O,
@@ -152,11 +151,12 @@ pub(crate) fn serve<F: OpenFiles, M: Machine, O: Write, E: Write>(
     ensures { IsServedFrom (OnFile F.is_file F.File.remaining) (option_map (λ p. p.now) objects.entry) (OnPort M.is_bound M.Link.failures M.Link.calls)
         (OnClock M.is_made M.Timer.told) result serving.now (O.contents out.old) (O.contents out.new) }
 {
+    let alloc = environment.alloc;
     let Some(path) = objects else {
-        return serve_house(alloc, machine, serving, out, err);
+        return serve_house(alloc, environment.machine, serving, out, err);
     };
-    match store_of(alloc, files, path, err) {
-        Ok(store) => online::serve(alloc, machine, store, serving, out, err),
+    match store_of(alloc, environment.files, path, err) {
+        Ok(store) => online::serve(alloc, environment.machine, store, serving, out, err),
         Err(status) => status,
     }
 }

@@ -13,10 +13,11 @@ use crate::asking::Asking;
 use crate::bad_words::print_bad_words;
 use crate::rounds::{Asked, ask_by_client};
 use crate::serving::{Serving, print_listening, print_not_bound, serve_from};
+use crate::station::Station;
 use bac_commands::{
     AskCommand, Style, bound_house, bound_server, clock_fault, link_fault, read_question,
 };
-use bac_driver::{BoundNode, Clock, Link, Question};
+use bac_driver::{Clock, Link, Question};
 use bac_node::NewNodeFault;
 use bac_npdu::{LinkAddress, Peer};
 use bac_service_text::{FormFault, reads_file};
@@ -75,20 +76,18 @@ pub(crate) fn serve<M: Machine, O: Write, E: Write>(
     let start = timer.now();
     let objects = store.object_count();
     let restart = serving.restart(start);
-    let mut bound_node = match bound_server(
-        alloc,
-        bound.0,
-        address,
-        store,
-        serving.slots,
-        restart,
-    ) {
+    let bound_node = match bound_server(alloc, bound.0, address, store, serving.slots, restart) {
         Ok(bound_node) => bound_node,
         Err(NewNodeFault::BadSlots) => return complain(err, "bad slots", Status::CommandLine),
         Err(_) => return no_memory(err),
     };
     print_listening(serving, address, objects, start, err);
-    serve_from(alloc, serving, start, &mut bound_node, &mut timer, out, err)
+    let mut station = Station {
+        alloc,
+        bound_node,
+        clock: timer,
+    };
+    serve_from(serving, start, &mut station, out, err)
 }
 
 /// The question for a peer that some words are.
@@ -129,25 +128,32 @@ fn asked_in(alloc: Global, asking: &Asking, words: &[&str]) -> Result<Question, 
 
 /// A node asks from the moment of the clock on; how that ended is printed as is wanted. Answers whether it succeeded.
 pub(crate) fn ask_once<L: Link, C: Clock, O: Write, E: Write>(
-    alloc: Global,
     asking: &Asking,
-    bound_node: &mut BoundNode<L>,
-    clock: &mut C,
+    station: &mut Station<L, C>,
     question: &Question,
     out: &mut O,
     err: &mut E,
 ) -> Result<bool, Status>
     ensures asked { IfOk result (λ succeeded. AsksOnce asking.now (question_view question.now) succeeded
-        (timed bound_node.old (C.told clock.old)) (timed bound_node.new (C.told clock.new)) (O.contents out.old) (O.contents out.new)) }
+        (timed station.old.bound_node (C.told station.old.clock)) (timed station.new.bound_node (C.told station.new.clock))
+        (O.contents out.old) (O.contents out.new)) }
     ensures failed { IfErr result IsFailure }
 {
     let command = AskCommand {
         question,
-        wait_limit: asking.wait_limit(clock.now()),
+        wait_limit: asking.wait_limit(station.clock.now()),
         output_format: asking.output_format,
         shows_progress: asking.shows_progress,
     };
-    match bac_commands::ask(alloc, bound_node, clock, &command, out, err) {
+    let status = bac_commands::ask(
+        station.alloc,
+        &mut station.bound_node,
+        &mut station.clock,
+        &command,
+        out,
+        err,
+    );
+    match status {
         Status::Done => Ok(true),
         Status::Faulty => Ok(false),
         Status::CommandLine => Err(Status::CommandLine),

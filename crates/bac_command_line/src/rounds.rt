@@ -2,7 +2,7 @@
 ghost use Rattle.std.specs.Prelude.{◌≡◌, map, IfErr, IfOk};
 ghost use Rattle.bac_driver.specs.Runs.{timed};
 ghost use Rattle.bac_text.specs.Statuses.{IsFailure};
-ghost use Rattle.bac_command_line.specs.Asked.{AsksAll, ReportsClient, ReportsDoing};
+ghost use Rattle.bac_command_line.specs.Asked.{AsksAll, ReportsClient};
 ghost use Rattle.bac_command_line.specs.AskedLines.{line_view};
 ghost use Rattle.bac_command_line.specs.InFlight.{AsksLines};
 ghost use Rattle.bac_command_line.specs.Online.{OnClock, OnPort};
@@ -13,9 +13,10 @@ use crate::asking::{Asking, Rounds};
 use crate::asking_lines::{ask_each, both};
 use crate::online::{Machine, ask_once};
 use crate::question_lines::LineQuestion;
+use crate::station::Station;
 use crate::window::ask_ahead;
 use bac_commands::{CommandError, bound_client, clock_fault, link_fault};
-use bac_driver::{BoundNode, Clock, Link, Question, RunLimit, WaitLimit};
+use bac_driver::{Clock, Link, Question, RunLimit, WaitLimit};
 use bac_text::{Status, no_memory};
 use std::alloc::Global;
 use std::io::Write;
@@ -31,52 +32,50 @@ pub(crate) enum Asked {
 
 /// A node asks what lines ask, so many at once as is wanted. Answers whether all succeeded.
 fn ask_lines<L: Link, C: Clock, O: Write, E: Write>(
-    alloc: Global,
     asking: &Asking,
-    bound_node: &mut BoundNode<L>,
-    clock: &mut C,
+    station: &mut Station<L, C>,
     lines: &[LineQuestion],
     out: &mut O,
     err: &mut E,
 ) -> Result<bool, Status>
     ensures asked { IfOk result (λ all. AsksLines asking.now (map line_view lines.now) all
-        (timed bound_node.old (C.told clock.old)) (timed bound_node.new (C.told clock.new)) (O.contents out.old) (O.contents out.new)) }
+        (timed station.old.bound_node (C.told station.old.clock)) (timed station.new.bound_node (C.told station.new.clock))
+        (O.contents out.old) (O.contents out.new)) }
     ensures failed { IfErr result IsFailure }
 {
     match asking.window {
-        Some(window) => ask_ahead(alloc, asking, window, bound_node, clock, lines, out, err),
-        None => ask_each(alloc, asking, bound_node, clock, lines, out, err),
+        Some(window) => ask_ahead(asking, window, station, lines, out, err),
+        None => ask_each(asking, station, lines, out, err),
     }
 }
 
 /// A node asks all that, once. Answers whether all succeeded.
 fn ask_all<L: Link, C: Clock, O: Write, E: Write>(
-    alloc: Global,
     asking: &Asking,
-    bound_node: &mut BoundNode<L>,
-    clock: &mut C,
+    station: &mut Station<L, C>,
     asked: &Asked,
     out: &mut O,
     err: &mut E,
 ) -> Result<bool, Status>
     ensures asked { IfOk result (λ all. AsksAll asking.now asked.now all
-        (timed bound_node.old (C.told clock.old)) (timed bound_node.new (C.told clock.new)) (O.contents out.old) (O.contents out.new)) }
+        (timed station.old.bound_node (C.told station.old.clock)) (timed station.new.bound_node (C.told station.new.clock))
+        (O.contents out.old) (O.contents out.new)) }
     ensures failed { IfErr result IsFailure }
 {
     match asked {
-        Asked::One(question) => ask_once(alloc, asking, bound_node, clock, question, out, err),
-        Asked::Lines(lines) => ask_lines(alloc, asking, bound_node, clock, lines, out, err),
+        Asked::One(question) => ask_once(asking, station, question, out, err),
+        Asked::Lines(lines) => ask_lines(asking, station, lines, out, err),
     }
 }
 
 /// Until a moment a node hears what comes late, and does what is due.
 fn rest<L: Link, C: Clock, E: Write>(
-    bound_node: &mut BoundNode<L>,
-    clock: &mut C,
+    station: &mut Station<L, C>,
     moment: u64,
     err: &mut E,
 ) -> Result<(), Status>
-    ensures rested { IfOk result (λ _. Rests moment (timed bound_node.old (C.told clock.old)) (timed bound_node.new (C.told clock.new))) }
+    ensures rested { IfOk result (λ _. Rests moment
+        (timed station.old.bound_node (C.told station.old.clock)) (timed station.new.bound_node (C.told station.new.clock))) }
     ensures failed { IfErr result IsFailure }
 {
     let limit = RunLimit {
@@ -86,7 +85,7 @@ fn rest<L: Link, C: Clock, E: Write>(
             until: Some(moment),
         },
     };
-    match bound_node.serve(clock, &limit) {
+    match station.bound_node.serve(&mut station.clock, &limit) {
         Ok(_) => Ok(()),
         Err(fault) => Err(CommandError::from(fault).report(err)),
     }
@@ -103,45 +102,43 @@ struct RoundEnd {
 
 /// Once a moment has come, a round begins, in which a node asks all that.
 fn ask_round<L: Link, C: Clock, O: Write, E: Write>(
-    alloc: Global,
     asking: &Asking,
-    bound_node: &mut BoundNode<L>,
-    clock: &mut C,
+    station: &mut Station<L, C>,
     asked: &Asked,
     from: u64,
     out: &mut O,
     err: &mut E,
 ) -> Result<RoundEnd, Status>
     ensures asked { IfOk result (λ r. BeginsRound (AsksAll asking.now asked.now) from r.began r.succeeded
-        (timed bound_node.old (C.told clock.old)) (timed bound_node.new (C.told clock.new)) (O.contents out.old) (O.contents out.new)) }
+        (timed station.old.bound_node (C.told station.old.clock)) (timed station.new.bound_node (C.told station.new.clock))
+        (O.contents out.old) (O.contents out.new)) }
     ensures failed { IfErr result IsFailure }
 {
-    rest(bound_node, clock, from, err)?;
-    let began = clock.now();
-    let succeeded = ask_all(alloc, asking, bound_node, clock, asked, out, err)?;
+    rest(station, from, err)?;
+    let began = station.clock.now();
+    let succeeded = ask_all(asking, station, asked, out, err)?;
     Ok(RoundEnd { began, succeeded })
 }
 
 /// A node asks all that in so many rounds. Answers whether all asks succeeded.
 fn ask_rounds<L: Link, C: Clock, O: Write, E: Write>(
-    alloc: Global,
     asking: &Asking,
-    bound_node: &mut BoundNode<L>,
-    clock: &mut C,
+    station: &mut Station<L, C>,
     asked: &Asked,
     rounds: Rounds,
     out: &mut O,
     err: &mut E,
 ) -> Result<bool, Status>
     ensures asked { IfOk result (λ all. AreRoundsFrom (AsksAll asking.now asked.now) rounds.every (turns_of rounds.times) 0 all
-        (timed bound_node.old (C.told clock.old)) (timed bound_node.new (C.told clock.new)) (O.contents out.old) (O.contents out.new)) }
+        (timed station.old.bound_node (C.told station.old.clock)) (timed station.new.bound_node (C.told station.new.clock))
+        (O.contents out.old) (O.contents out.new)) }
     ensures failed { IfErr result IsFailure }
 {
     let times = rounds.most();
     let mut all = true;
     let mut from = 0;
     for _ in 0..times {
-        let round = ask_round(alloc, asking, bound_node, clock, asked, from, out, err)?;
+        let round = ask_round(asking, station, asked, from, out, err)?;
         all = both(all, round.succeeded);
         from = rounds.next_from(round.began);
     }
@@ -150,42 +147,20 @@ fn ask_rounds<L: Link, C: Clock, O: Write, E: Write>(
 
 /// A node asks all that: once, or in the rounds that are wanted. Answers whether all asks succeeded.
 fn ask_so<L: Link, C: Clock, O: Write, E: Write>(
-    alloc: Global,
     asking: &Asking,
-    bound_node: &mut BoundNode<L>,
-    clock: &mut C,
+    station: &mut Station<L, C>,
     asked: &Asked,
     out: &mut O,
     err: &mut E,
 ) -> Result<bool, Status>
     ensures asked { IfOk result (λ all. AreRounds asking.now.rounds (AsksAll asking.now asked.now) all
-        (timed bound_node.old (C.told clock.old)) (timed bound_node.new (C.told clock.new)) (O.contents out.old) (O.contents out.new)) }
+        (timed station.old.bound_node (C.told station.old.clock)) (timed station.new.bound_node (C.told station.new.clock))
+        (O.contents out.old) (O.contents out.new)) }
     ensures failed { IfErr result IsFailure }
 {
     match asking.rounds {
-        Some(rounds) => ask_rounds(alloc, asking, bound_node, clock, asked, rounds, out, err),
-        None => ask_all(alloc, asking, bound_node, clock, asked, out, err),
-    }
-}
-
-/// The same, and the status says whether all asks succeeded, or why asking stopped.
-#[tactic(auto, using(bac_commands::proofs::Statuses::failed))]
-fn ask_and_report<L: Link, C: Clock, O: Write, E: Write>(
-    alloc: Global,
-    asking: &Asking,
-    bound_node: &mut BoundNode<L>,
-    clock: &mut C,
-    asked: &Asked,
-    out: &mut O,
-    err: &mut E,
-) -> Status
-    ensures { ReportsDoing result (AreRounds asking.now.rounds (AsksAll asking.now asked.now))
-        (timed bound_node.old (C.told clock.old)) (timed bound_node.new (C.told clock.new)) (O.contents out.old) (O.contents out.new) }
-{
-    match ask_so(alloc, asking, bound_node, clock, asked, out, err) {
-        Ok(true) => Status::Done,
-        Ok(false) => Status::Faulty,
-        Err(status) => status,
+        Some(rounds) => ask_rounds(asking, station, asked, rounds, out, err),
+        None => ask_all(asking, station, asked, out, err),
     }
 }
 
@@ -204,15 +179,24 @@ pub(crate) fn ask_by_client<M: Machine, O: Write, E: Write>(
     let Ok(bound) = machine.bind(asking.host, 0) else {
         return link_fault(err);
     };
-    let Some(mut timer) = machine.timer() else {
+    let Some(timer) = machine.timer() else {
         return clock_fault(err);
     };
     let Some(first_id) = machine.first_id() else {
         return clock_fault(err);
     };
     let address = bound.1;
-    let Ok(mut bound_node) = bound_client(alloc, bound.0, address, first_id) else {
+    let Ok(bound_node) = bound_client(alloc, bound.0, address, first_id) else {
         return no_memory(err);
     };
-    ask_and_report(alloc, asking, &mut bound_node, &mut timer, asked, out, err)
+    let mut station = Station {
+        alloc,
+        bound_node,
+        clock: timer,
+    };
+    match ask_so(asking, &mut station, asked, out, err) {
+        Ok(true) => Status::Done,
+        Ok(false) => Status::Faulty,
+        Err(status) => status,
+    }
 }

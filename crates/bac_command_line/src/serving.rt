@@ -6,12 +6,12 @@ ghost use Rattle.bac_text.specs.declared.status.Status.TheVariants as status;
 ghost use Rattle.bac_command_line.specs.Serving.{patience_of, restart_of, turns_of};
 
 use crate::address::{LOCAL_HOST, read_host};
+use crate::station::Station;
 use bac_commands::{ServeCommand, link_fault};
-use bac_driver::{BoundNode, Clock, Link, NoObserver, RunLimit, WaitLimit};
+use bac_driver::{Clock, Link, NoObserver, RunLimit, WaitLimit};
 use bac_npdu::LinkAddress;
 use bac_text::Status;
 use clap::ArgMatches;
-use std::alloc::Global;
 use std::io;
 use std::io::Write;
 
@@ -120,29 +120,41 @@ pub(crate) fn print_listening<E: Write>(
 
 /// A node serves from that moment on, and its turns are logged on `err` where that is wanted; where a line of the log could not be written, `log fault` ends it.
 pub(crate) fn serve_from<L: Link, C: Clock, O: Write, E: Write>(
-    alloc: Global,
     serving: &Serving,
     start: u64,
-    bound_node: &mut BoundNode<L>,
-    clock: &mut C,
+    station: &mut Station<L, C>,
     out: &mut O,
     err: &mut E,
 ) -> Status
-    ensures { ReportsServing result (patience_of serving.now start) (turns_of serving.now.turns) (timed bound_node.old (C.told clock.old))
-        (timed bound_node.new (C.told clock.new)) (O.contents out.old) (O.contents out.new) }
+    ensures { ReportsServing result (patience_of serving.now start) (turns_of serving.now.turns) (timed station.old.bound_node (C.told station.old.clock))
+        (timed station.new.bound_node (C.told station.new.clock)) (O.contents out.old) (O.contents out.new) }
 {
     let limit = RunLimit {
         turns: serving.most_turns(),
         wait_limit: serving.wait_limit(start),
     };
     if !serving.log {
-        return bac_commands::serve(bound_node, clock, &limit, &mut NoObserver, out, err);
+        return bac_commands::serve(
+            &mut station.bound_node,
+            &mut station.clock,
+            &limit,
+            &mut NoObserver,
+            out,
+            err,
+        );
     }
     let command = ServeCommand {
         limit,
         serves_from: serving.serves_from(start),
     };
-    let logged = bac_commands::serve_logged(alloc, bound_node, clock, &command, out, err);
+    let logged = bac_commands::serve_logged(
+        station.alloc,
+        &mut station.bound_node,
+        &mut station.clock,
+        &command,
+        out,
+        err,
+    );
     if !logged.whole {
         // if that fails too, nothing is printed
         let _ = err.writeln("log fault");

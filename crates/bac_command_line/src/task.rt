@@ -1,5 +1,6 @@
 //! What a command line asks for.
 use crate::asking::{Asking, asking_of};
+use crate::files::{CaptureFile, ScriptFile};
 use crate::serving::{Serving, serving_of};
 use bac_explain_report::ChartFormat;
 use bac_simulate::View;
@@ -17,35 +18,26 @@ pub(crate) enum Task<'m, 'a> {
         in_words: bool,
         datagram: &'a str,
     },
-    /// What is bad of the capture in this file, with a port beside those of BACnet/IP; other functions are counted by name or not.
+    /// What is bad of this capture; other functions are counted by name or not.
     Check {
         named: bool,
-        path: &'a str,
-        port: Option<u16>,
+        capture: CaptureFile<'a>,
     },
     /// The bad lines of the capture in this file, which has notes.
     CheckLines(&'a str),
-    /// The transactions of the capture in this file, with such a port.
-    Explain {
-        path: &'a str,
-        port: Option<u16>,
-    },
-    /// The datagrams of the capture in this file, with such a port, drawn as that.
+    /// The transactions of this capture.
+    Explain(CaptureFile<'a>),
+    /// The datagrams of this capture, drawn as that.
     Chart {
         form: ChartFormat,
-        path: &'a str,
-        port: Option<u16>,
+        capture: CaptureFile<'a>,
     },
-    /// The script in this file, with notes or without.
-    Simulate {
-        notes: bool,
-        path: &'a str,
-    },
-    /// The run of the script in this file, with notes or without, shown as that.
+    /// This script.
+    Simulate(ScriptFile<'a>),
+    /// The run of this script, shown as that.
     Show {
         view: View,
-        notes: bool,
-        path: &'a str,
+        script: ScriptFile<'a>,
     },
     /// A node that serves so, with the house or the objects in this file.
     Serve {
@@ -92,6 +84,13 @@ fn form_of(given: &ArgMatches<'_>) -> Option<ChartFormat> {
     }
 }
 
+/// The file of a capture, with the port that is given. None where no file is.
+fn capture_of<'a>(given: &ArgMatches<'a>) -> Option<CaptureFile<'a>> {
+    let path = given.get_str("FILE")?;
+    let port = given.get_one("port");
+    Some(CaptureFile { path, port })
+}
+
 /// None where there is no subcommand, or its word is missing; clap refuses such words itself. Also where an address is none of IPv4. The progress of asks is
 /// shown or not.
 pub(crate) fn task_of<'m, 'a>(
@@ -113,25 +112,24 @@ pub(crate) fn task_of<'m, 'a>(
             Some(Task::CheckLines(given.get_str("FILE")?))
         }
         ("check", given) => {
-            let path = given.get_str("FILE")?;
-            let port = given.get_one("port");
+            let capture = capture_of(given)?;
             let named = given.get_flag("text");
-            Some(Task::Check { named, path, port })
+            Some(Task::Check { named, capture })
         }
         ("explain", given) => {
-            let path = given.get_str("FILE")?;
-            let port = given.get_one("port");
+            let capture = capture_of(given)?;
             match form_of(given) {
-                Some(form) => Some(Task::Chart { form, path, port }),
-                None => Some(Task::Explain { path, port }),
+                Some(form) => Some(Task::Chart { form, capture }),
+                None => Some(Task::Explain(capture)),
             }
         }
         ("simulate", given) => {
             let path = given.get_str("FILE")?;
             let notes = given.get_flag("notes");
+            let script = ScriptFile { path, notes };
             match view_of(given) {
-                Some(view) => Some(Task::Show { view, notes, path }),
-                None => Some(Task::Simulate { notes, path }),
+                Some(view) => Some(Task::Show { view, script }),
+                None => Some(Task::Simulate(script)),
             }
         }
         ("serve", given) => {

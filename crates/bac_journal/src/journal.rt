@@ -234,8 +234,8 @@ impl Journal {
         restart(&mut self.own, node);
     }
 
-    /// How long a copy lives, in parts of a millisecond.
-    fn life(&self) -> u64
+    /// How long a copy may be under way after its sending, in parts of a millisecond (`parts`); after that it is lost.
+    pub fn life(&self) -> u64
         ensures { result ≡ (pace_of self.now.own).life }
     {
         match &self.own {

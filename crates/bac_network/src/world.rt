@@ -87,6 +87,13 @@ impl World {
         self.network.journal.now()
     }
 
+    /// How long a copy may be under way after its sending; after that it is lost. It is counted as `now` is.
+    pub fn life(&self) -> u64
+        ensures { result ≡ (as_world self.now).time.pace.life }
+    {
+        self.network.journal.life()
+    }
+
     /// The log, oldest first; contracts see the newest fact first.
     pub fn log(&self) -> &[Fact]
         ensures { log_view result.now ≡ self.now.log }

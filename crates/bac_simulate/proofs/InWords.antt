@@ -9,13 +9,13 @@ use Rattle.bac_commands.specs.Facts.{fault_line}
 use Rattle.bac_journal.specs.Views.{copy_view}
 use Rattle.bac_journal.specs.declared.copies.Copy as copy
 use Rattle.bac_network.specs.Faults.{fault_number}
-use Rattle.bac_network.specs.Histories.{WorldView}
+use Rattle.bac_network.specs.Histories.{WorldView, as_world}
+use Rattle.bac_network.specs.declared.event.Event.{Event}
 use Rattle.bac_network.specs.Steps.{NamesNoCopy, NamesNoNode, PassesClock, RefusesChange, TakesMemory, Tells}
-use Rattle.bac_network.specs.Views.{fact_view, log_view}
+use Rattle.bac_network.specs.Views.{event_view, fact_view, instant_after, log_view}
 use Rattle.bac_network.specs.declared.fact.Fact as fact
 use Rattle.bac_network.specs.declared.fault.WorldFault.{WorldFault}
 use Rattle.bac_network.specs.declared.fault.WorldFault.TheVariants as fault
-use Rattle.bac_protocol.specs.declared.times.TheConstants.{LIFE}
 use Rattle.bac_requester.specs.declared.ask_fault.AskFault.{AskFault}
 use Rattle.bac_store.specs.AtNode.{change_fault_number}
 use Rattle.bac_store.specs.declared.change_fault.ChangeFault.{ChangeFault}
@@ -25,12 +25,14 @@ use Rattle.bac_world.specs.World as world
 use Rattle.bac_world.specs.World.{count_of, later, WorldStep}
 use Rattle.bac_simulate.specs.Runs.{Runs, Steps, Printing, change_fault_in}
 use Rattle.bac_simulate.specs.Scripts.{ScriptLine, Happens, Lost}
-use Rattle.bac_simulate.specs.Views.{line_view}
+use Rattle.bac_simulate.specs.Happenings.{Happening}
+use Rattle.bac_simulate.specs.Views.{happening_view, line_view}
+use Rattle.bac_simulate.specs.Traces.{life_in}
 use Rattle.bac_simulate.specs.Worded.{Adds, AreFactLines, AreFactWords, AreNews, IsEventLine, IsOutcome, in_words, lose_text, news_line, refused_news, sent_lines, sent_words, why_copy, why_delivered, why_nothing}
 use Rattle.bac_simulate.specs.declared.nothing.Why.{Why}
 use Rattle.bac_simulate.specs.declared.script.ScriptLine as script
 use Rattle.bac_simulate.proofs.Appending.{drop_seen, nothing_more}
-use Rattle.bac_simulate.proofs.Stepping.{fails, refuses, the_err}
+use Rattle.bac_simulate.proofs.Stepping.{fails, refuses, same_after, same_event, the_err}
 use Rattle.bac_simulate.proofs.Tracing.{later_is}
 
 -- ---- one line more
@@ -68,7 +70,7 @@ pub copies_told : (copies : List copy.Copy) (i : ℕ) → length copies ≤ i �
 copies_told copies i all a =
     sym (append-nil a) ∙ ap (λ (l : List world.Copy). a ++ sent_lines i l) (sym (none_left copy_view copies i all))
 
-pub news_told : (w : world.World) (facts copies : ℕ) (log : List fact.Fact) (sent : List copy.Copy) (a b c : List ℕ) → log_view log ≡ w.log
+pub news_told : (w : WorldView) (facts copies : ℕ) (log : List fact.Fact) (sent : List copy.Copy) (a b c : List ℕ) → log_view log ≡ w.log
     → map copy_view sent ≡ w.copies → Adds a b (AreFactLines (drop facts (map fact_view log)))
     → c ≡ b ++ sent_lines copies (drop copies (map copy_view sent)) → Adds a c (AreNews facts copies w)
 news_told w facts copies log sent a b c logged copied first second =
@@ -89,50 +91,53 @@ news_told w facts copies log sent a b c logged copied first second =
 
 -- ---- why nothing came
 
-pub why_is : (overtake o now number more : ℕ) (w : world.World) (copies after : List copy.Copy) (k : copy.Copy) (is_young few : Bool) (r : Why)
+pub why_is : (o life now number more : ℕ) (w : WorldView) (copies after : List copy.Copy) (k : copy.Copy) (is_young few : Bool) (r : Why)
     → map copy_view copies ≡ w.copies → slice_get copies number ≡ Some k → after ≡ drop (number + 1) copies
-    → more ≡ count_of (copy_view k).key (map copy_view after) → o ≡ overtake → now ≡ w.now
-    → is_young ≡ nat_le (now - k.moment) LIFE → few ≡ nat_le more o → r ≡ why_copy is_young few
-    → r ≡ why_delivered overtake w number (slice_get w.copies number)
-why_is overtake o now number more w copies after k is_young few r cs at rest count os now_is young_is few_is is =
+    → more ≡ count_of (copy_view k).key (map copy_view after) → o ≡ w.overtake → life ≡ life_in w → now ≡ w.time.moment
+    → is_young ≡ nat_le (now - k.moment) life → few ≡ nat_le more o → r ≡ why_copy is_young few
+    → r ≡ why_delivered w number (slice_get w.copies number)
+why_is o life now number more w copies after k is_young few r cs at rest count os life_is now_is young_is few_is is =
     let c : world.Copy = copy_view k in
     let there : slice_get w.copies number ≡ Some c
     = ap (λ (l : List world.Copy). slice_get l number) (sym cs) ∙ (slice_get-map copy_view copies number ∙ ap (option_map copy_view) at) in
     let many : more ≡ later c.key number w.copies
     = count ∙ (ap (λ (l : List copy.Copy). count_of c.key (map copy_view l)) rest ∙ (sym (later_is c.key number copies) ∙ ap (later c.key number) cs)) in
-    let young : is_young ≡ nat_le (w.now - c.moment) LIFE = young_is ∙ ap (λ (t : ℕ). nat_le (t - k.moment) LIFE) now_is in
-    let fewer : few ≡ nat_le (later c.key number w.copies) overtake
+    let young : is_young ≡ nat_le (w.time.moment - c.moment) (life_in w)
+    = young_is ∙ (ap (λ (t : ℕ). nat_le (t - k.moment) life) now_is ∙ ap (λ (l : ℕ). nat_le (w.time.moment - k.moment) l) life_is) in
+    let fewer : few ≡ nat_le (later c.key number w.copies) w.overtake
     = few_is ∙ (ap (λ (l : ℕ). nat_le l o) many ∙ ap (λ (v : ℕ). nat_le (later c.key number w.copies) v) os) in
-    is ∙ (ap (λ (b : Bool). why_copy b few) young ∙ (ap (λ (b : Bool). why_copy (nat_le (w.now - c.moment) LIFE) b) fewer
-    ∙ sym (ap (why_delivered overtake w number) there)))
+    is ∙ (ap (λ (b : Bool). why_copy b few) young ∙ (ap (λ (b : Bool). why_copy (nat_le (w.time.moment - c.moment) (life_in w)) b) fewer
+    ∙ sym (ap (why_delivered w number) there)))
 
 -- ---- one event
 
-head_at : (now : ℕ) (e : world.Event) (w : WorldView) (head : List ℕ) → now ≡ w.world.now → IsEventLine now e head → IsEventLine w.world.now e head
+head_at : (now : ℕ) (e : Happening) (w : WorldView) (head : List ℕ) → now ≡ w.time.moment → IsEventLine now e head → IsEventLine w.time.moment e head
 head_at now e w head is line = subst (λ (n : ℕ). IsEventLine n e head) is line
 
-pub event_told : (line : ℕ) (e : world.Event) (told : Option AskFault) (old new : WorldView) (facts copies now : ℕ) (reason : Why) (head text : List ℕ)
-    → (a b : Option (List ℕ)) → facts ≡ length old.world.log → copies ≡ length old.world.copies → now ≡ old.world.now
-    → reason ≡ why_nothing old.overtake old.world e → IsEventLine now e head → WorldStep old.overtake old.world e new.world
-    → Tells told old.world e new.world → new.overtake ≡ old.overtake → Adds head text (IsOutcome told reason facts copies new.world) → Appends a b text
-    → AppendsText a b (Steps in_words line true (Happens e) old new)
-event_told line e told old new facts copies now reason head text a b fs cs ns why is_head went tells same added printed = (
+pub event_told : (line : ℕ) (e : Event) (told : Option AskFault) (old new : WorldView) (facts copies now : ℕ) (reason : Why) (head text : List ℕ)
+    → (a b : Option (List ℕ)) → facts ≡ length old.log → copies ≡ length old.copies → now ≡ old.time.moment
+    → reason ≡ why_nothing old (happening_view e) → IsEventLine now (happening_view e) head → WorldStep old.overtake (as_world old) (event_view old.time e) (as_world new)
+    → Tells told (as_world old) (event_view old.time e) (as_world new) → new.overtake ≡ old.overtake → new.time ≡ instant_after e old.time
+    → Adds head text (IsOutcome told reason facts copies new) → Appends a b text
+    → AppendsText a b (Steps in_words line true (Happens (happening_view e)) old new)
+event_told line e told old new facts copies now reason head text a b fs cs ns why is_head went tells same passed added printed = (
   text,
   (
     inl (record {
       told = told;
-      went = went;
-      tells = tells;
+      went = subst (λ (h : world.Event). WorldStep old.overtake (as_world old) h (as_world new)) (same_event old.time e) went;
+      tells = subst (λ (h : world.Event). Tells told (as_world old) h (as_world new)) (same_event old.time e) tells;
       overtake = same;
+      time = passed ∙ same_after old.time e;
       is =
           record {
             head = head;
-            is_head = head_at now e old head ns is_head;
+            is_head = head_at now (happening_view e) old head ns is_head;
             outcome = added.0;
             is_outcome =
-                subst (λ (n : ℕ). IsOutcome told (why_nothing old.overtake old.world e) (length old.world.log) n new.world added.0) cs
-                (subst (λ (n : ℕ). IsOutcome told (why_nothing old.overtake old.world e) n copies new.world added.0) fs
-                (subst (λ (r : Why). IsOutcome told r facts copies new.world added.0) why added.1.0));
+                subst (λ (n : ℕ). IsOutcome told (why_nothing old (happening_view e)) (length old.log) n new added.0) cs
+                (subst (λ (n : ℕ). IsOutcome told (why_nothing old (happening_view e)) n copies new added.0) fs
+                (subst (λ (r : Why). IsOutcome told r facts copies new added.0) why added.1.0));
             is = added.1.1;
           };
     }),
@@ -140,27 +145,27 @@ event_told line e told old new facts copies now reason head text a b fs cs ns wh
   ),
 )
 
-pub refusal_told : (line : ℕ) (e : world.Event) (f : WorldFault) (why : ChangeFault) (old new : WorldView) (now number : ℕ) (head text : List ℕ)
+pub refusal_told : (line : ℕ) (e : Event) (f : WorldFault) (why : ChangeFault) (old new : WorldView) (now number : ℕ) (head text : List ℕ)
     → (a b : Option (List ℕ)) → change_fault_in f ≡ Some why
-    → ((w : ChangeFault) → (IsErrOf (the_err f) (fault.BadChange w) ↔ RefusesChange old.world e w)) → new ≡ old → now ≡ old.world.now
-    → number ≡ change_fault_number why → IsEventLine now e head → text ≡ head ++ refused_news number → Appends a b text
-    → AppendsText a b (Steps in_words line true (Happens e) old new)
+    → ((w : ChangeFault) → (IsErrOf (the_err f) (fault.BadChange w) ↔ RefusesChange (as_world old) (event_view old.time e) w)) → new ≡ old → now ≡ old.time.moment
+    → number ≡ change_fault_number why → IsEventLine now (happening_view e) head → text ≡ head ++ refused_news number → Appends a b text
+    → AppendsText a b (Steps in_words line true (Happens (happening_view e)) old new)
 refusal_told line e f why old new now number head text a b bad change same ns is is_head added printed = (
   text,
   (
     refuses in_words line e f why old new text bad change same
-        (record { head = head; is_head = head_at now e old head ns is_head; is = added ∙ ap (λ (n : ℕ). head ++ refused_news n) is }),
+        (record { head = head; is_head = head_at now (happening_view e) old head ns is_head; is = added ∙ ap (λ (n : ℕ). head ++ refused_news n) is }),
     printed,
   ),
 )
 
-pub fault_told : (line : ℕ) (e : world.Event) (f : WorldFault) (old new : WorldView) (number : ℕ) (a b : Option (List ℕ)) → change_fault_in f ≡ None
-    → (IsErrOf (the_err f) fault.NoSuchNode ↔ NamesNoNode old.world e)
-    → (IsErrOf (the_err f) fault.NoSuchDatagram ↔ NamesNoCopy old.world e)
-    → (IsErrOf (the_err f) fault.ClockEnd ↔ PassesClock old.world e)
-    → ((why : ChangeFault) → (IsErrOf (the_err f) (fault.BadChange why) ↔ RefusesChange old.world e why))
-    → (IsErrOf (the_err f) fault.NoMemory → TakesMemory old.overtake old.world e)
-    → new ≡ old → number ≡ fault_number f → Appends a b (fault_line line number) → AppendsText a b (Steps in_words line false (Happens e) old new)
+pub fault_told : (line : ℕ) (e : Event) (f : WorldFault) (old new : WorldView) (number : ℕ) (a b : Option (List ℕ)) → change_fault_in f ≡ None
+    → (IsErrOf (the_err f) fault.NoSuchNode ↔ NamesNoNode (as_world old) (event_view old.time e))
+    → (IsErrOf (the_err f) fault.NoSuchDatagram ↔ NamesNoCopy (as_world old) (event_view old.time e))
+    → (IsErrOf (the_err f) fault.ClockEnd ↔ PassesClock (as_world old) (event_view old.time e))
+    → ((why : ChangeFault) → (IsErrOf (the_err f) (fault.BadChange why) ↔ RefusesChange (as_world old) (event_view old.time e) why))
+    → (IsErrOf (the_err f) fault.NoMemory → TakesMemory old.overtake (as_world old) (event_view old.time e))
+    → new ≡ old → number ≡ fault_number f → Appends a b (fault_line line number) → AppendsText a b (Steps in_words line false (Happens (happening_view e)) old new)
 fault_told line e f old new number a b ends node copy clock change memory same is printed = (
   fault_line line number,
   (fails in_words line e f old new (fault_line line number) ends node copy clock change memory same (ap (λ (n : ℕ). fault_line line n) is), printed),
@@ -168,12 +173,12 @@ fault_told line e f old new number a b ends node copy clock change memory same i
 
 -- ---- a copy that counts as lost
 
-pub lost_told : (line copy now : ℕ) (w : WorldView) (a b : Option (List ℕ)) → copy < length w.world.copies → now ≡ w.world.now
+pub lost_told : (line copy now : ℕ) (w : WorldView) (a b : Option (List ℕ)) → copy < length w.copies → now ≡ w.time.moment
     → Appends a b (lose_text now copy) → AppendsText a b (Steps in_words line true (Lost copy) w w)
 lost_told line copy now w a b sent is printed =
     (lose_text now copy, (record { sent = sent; same = refl; is = ap (λ (n : ℕ). lose_text n copy) is }, printed))
 
-pub no_copy_told : (line copy : ℕ) (w : WorldView) (number : ℕ) (a b : Option (List ℕ)) → length w.world.copies ≤ copy
+pub no_copy_told : (line copy : ℕ) (w : WorldView) (number : ℕ) (a b : Option (List ℕ)) → length w.copies ≤ copy
     → number ≡ fault_number fault.NoSuchDatagram → Appends a b (fault_line line number) → AppendsText a b (Steps in_words line false (Lost copy) w w)
 no_copy_told line copy w number a b none is printed =
     (fault_line line number, (record { none = none; same = refl; is = ap (λ (n : ℕ). fault_line line n) is }, printed))

@@ -4,7 +4,6 @@ use Rattle.std.specs.Option.{option_map}
 use Rattle.bac_simulate.specs.Lines.{Statement, statement_at}
 use Rattle.bac_simulate.specs.Lines.Statement.{Ask, Deliver, Lose, Noise, Tick, Advance, SetProperty, SetFile, Restart}
 use Rattle.bac_apdu.specs.Apdu as plain
-use Rattle.bac_world.specs.World as world
 use Rattle.bac_simulate.specs.Houses.{house_nodes}
 use Rattle.bac_simulate.specs.Scripts.{NodeLimits, ScriptLine, Happens, before_others, limits_in, most_limits, said_at, said_by, said_from, said_in}
 use Rattle.bac_text.specs.Notes.{read_of}

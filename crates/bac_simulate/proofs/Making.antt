@@ -1,5 +1,5 @@
 -- The nodes of a script can make a network: nothing but memory speaks against it.
-use Rattle.std.proofs.Common.{◌≡◌, ℕ, zero, suc, ◌+◌, ◌-◌, ◌*◌, ◌<◌, ◌≤◌, true, false, List, [], ◌∷◌, ◌++◌, Some, slice_get}
+use Rattle.std.proofs.Common.{◌≡◌, ℕ, zero, suc, ◌+◌, ◌-◌, ◌*◌, ◌<◌, ◌≤◌, true, false, List, [], ◌∷◌, ◌++◌, None, Some, slice_get}
 use Rattle.std.proofs.Common.{refl, sym, ap, subst, ◌∙◌, arith, append_assoc}
 use Rattle.std.proofs.lemmas.Bool.Decides.{nat_tests}
 use Rattle.bac_apdu.specs.Apdu as plain
@@ -101,7 +101,7 @@ opening_is limits window first (suc count) = ap (λ (stores : List Store). house
 
 abbrev of_parts : (overtake : ℕ) → List Store → List Node → WorldView
 of_parts overtake opening nodes =
-    record { overtake = overtake; opening = opening; world = record { nodes = nodes; now = 0; copies = []; log = []; notes = [] } }
+    record { overtake = overtake; opening = opening; nodes = nodes; time = record { moment = 0; own = None }; copies = []; log = []; notes = [] }
 
 pub world_made : (limits : Limits) (s : Setting) (overtake : ℕ) (makers : List Maker) (w : WorldView) → limits_view limits ≡ most_limits
     → overtake ≡ s.overtake → makers ≡ makers_from limits s.window 0 s.nodes → w ≡ fresh_world overtake makers → w ≡ world_set s

@@ -9,6 +9,7 @@ use Rattle.bac_journal.specs.declared.noting.Note as note
 use Rattle.bac_network.specs.Views.{fact_view, log_view}
 use Rattle.bac_network.specs.declared.fact.Fact as fact
 use Rattle.bac_world.specs.Once as once
+use Rattle.bac_network.specs.Histories.{WorldView}
 use Rattle.bac_world.specs.World as world
 use Rattle.bac_simulate.specs.Captures.{record_of, records_of}
 use Rattle.bac_simulate.specs.Printed.{copies_text, fact_text, facts_text, news_text}
@@ -65,7 +66,7 @@ pub no_record_more : (copies : List copy.Copy) (i : ℕ) → length copies ≤ i
 no_record_more copies i h a =
     subst (λ (l : List world.Copy). Appends a a (records_of l)) (sym (drop_all i (map copy_view copies) (past copy_view copies i h))) (nothing_more a)
 
-pub news_told : {T E : Type 0} (r : Result T E) (w : world.World) (notes : List note.Note) (facts : List fact.Fact) (copies : List copy.Copy) (i k : ℕ)
+pub news_told : {T E : Type 0} (r : Result T E) (w : WorldView) (notes : List note.Note) (facts : List fact.Fact) (copies : List copy.Copy) (i k : ℕ)
     → (a b c : Option (List ℕ)) → notes_view notes ≡ w.notes → log_view facts ≡ w.log → map copy_view copies ≡ w.copies
     → Appends a b (facts_text (map note_view notes) (drop i (map fact_view facts)))
     → OnOk r (Appends b c (copies_text k (drop k (map copy_view copies)))) → OnOk r (Appends a c (news_text false i k w))

@@ -82,11 +82,11 @@ reports number s (Err bad) last a b status.Output goes = absurd goes
 reports number s (Err bad) last a b status.Memory goes = goes.0
 
 pub reported : (notes : Bool) (number : ℕ) (s : Setting) (lines : List (List ℕ)) (first last : WorldView) (a b : Option (List ℕ)) (end : Status)
-    → first ≡ world_set s → Goes (number + 1) (said_from notes (limits_in first.world.nodes) (number + 1) lines) first last a b end
+    → first ≡ world_set s → Goes (number + 1) (said_from notes (limits_in first.nodes) (number + 1) lines) first last a b end
     → Reports (with_setting number (Some s) (said_from notes (λ node. most_limits) (number + 1) lines)) a b end
 reported notes number s lines first last a b end is goes =
     let n = number + 1 in
-    let set = subst (λ (w : WorldView). Goes n (said_from notes (limits_in w.world.nodes) n lines) w last a b end) is goes in
+    let set = subst (λ (w : WorldView). Goes n (said_from notes (limits_in w.nodes) n lines) w last a b end) is goes in
     reports number s (said_from notes (λ node. most_limits) n lines) last a b end
     (subst (λ (r : Result (List ScriptLine) ℕ). Goes n r (world_set s) last a b end) (events_of_houses notes s.window 0 s.nodes n lines) set)
 

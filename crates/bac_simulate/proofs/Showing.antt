@@ -96,7 +96,7 @@ not_taken v notes (Some octets) a end unread = inr (keeps_itself a, unread)
 -- ---- what is read behind the first line
 
 pub rest_read : (notes : Bool) (f : FirstLine) (world : WorldView) (r : ReadScript) → world ≡ world_set (setting_view f.setting)
-    → said_from notes (limits_in world.world.nodes) (f.number + 1) (lines_of f.rest.now) ≡ Ok (map line_view r.lines.items)
+    → said_from notes (limits_in world.nodes) (f.number + 1) (lines_of f.rest.now) ≡ Ok (map line_view r.lines.items)
     → r.nodes ≡ f.setting.nodes → r.world ≡ world → r.before ≡ f.number → IsRead (rest_of notes f) r
 rest_read notes f world r set said nodes same before =
     let s : Setting = setting_view f.setting in
@@ -104,7 +104,7 @@ rest_read notes f world r set said nodes same before =
     let lines = lines_of f.rest.now in
     let read : said_from notes (λ node. most_limits) n lines ≡ Ok (map line_view r.lines.items)
     = sym (events_of_houses notes s.window 0 s.nodes n lines)
-    ∙ (ap (λ (w : WorldView). said_from notes (limits_in w.world.nodes) n lines) (sym set) ∙ said) in
+    ∙ (ap (λ (w : WorldView). said_from notes (limits_in w.nodes) n lines) (sym set) ∙ said) in
     record {
       script = record { setting = s; first = n; lines = map line_view r.lines.items };
       is = ap (with_setting f.number (Some s)) read;
@@ -119,14 +119,14 @@ bad_line : (number first : ℕ) (s : Setting) (read : Result (List ScriptLine) �
 bad_line number first s read is = ap (with_setting first (Some s)) is
 
 pub rest_not_read : (notes : Bool) (f : FirstLine) (world : WorldView) (why : ScriptFault) → world ≡ world_set (setting_view f.setting)
-    → IsNotRead why (said_from notes (limits_in world.world.nodes) (f.number + 1) (lines_of f.rest.now)) → IsNotRead why (rest_of notes f)
+    → IsNotRead why (said_from notes (limits_in world.nodes) (f.number + 1) (lines_of f.rest.now)) → IsNotRead why (rest_of notes f)
 rest_not_read notes f world (fault.Line number) set bad =
     let s : Setting = setting_view f.setting in
     let n = f.number + 1 in
     let lines = lines_of f.rest.now in
     bad_line number f.number s (said_from notes (λ node. most_limits) n lines)
     (sym (events_of_houses notes s.window 0 s.nodes n lines)
-    ∙ (ap (λ (w : WorldView). said_from notes (limits_in w.world.nodes) n lines) (sym set) ∙ bad))
+    ∙ (ap (λ (w : WorldView). said_from notes (limits_in w.nodes) n lines) (sym set) ∙ bad))
 rest_not_read notes f world fault.NoMemory set bad = tt
 
 pub same_read : (wanted other : Result Script ℕ) (r : ReadScript) → wanted ≡ other → IsRead other r → IsRead wanted r
@@ -138,10 +138,10 @@ same_not_read wanted other why is read = subst (IsNotRead why) (sym is) read
 -- ---- a run that is shown
 
 pub run_shown : (v : View) (nodes first : ℕ) (lines : List ScriptLine) (all : Bool) (world last : WorldView) (marks : List code.Mark) (a b : Option (List ℕ))
-    → AppendsMarks [] marks (Runs in_marks first lines all world last) → Appends a b (shown_text v nodes (map mark_view marks) last.world)
+    → AppendsMarks [] marks (Runs in_marks first lines all world last) → Appends a b (shown_text v nodes (map mark_view marks) last.copies)
     → AppendsText a b (IsDrawn v nodes first lines all world)
 run_shown v nodes first lines all world last marks a b traced printed = (
-  shown_text v nodes (map mark_view marks) last.world,
+  shown_text v nodes (map mark_view marks) last.copies,
   (
     record {
       last = last;

@@ -6,14 +6,19 @@ use Rattle.bac_requester.specs.declared.ask_fault.AskFault.{AskFault}
 use Rattle.bac_world.specs.World as world
 use Rattle.bac_world.specs.World.{WorldStep}
 use Rattle.bac_network.specs.Faults.{fault_number}
-use Rattle.bac_network.specs.Histories.{WorldView}
+use Rattle.bac_network.specs.Clocks.{Instant}
+use Rattle.bac_network.specs.Histories.{WorldView, as_world}
+use Rattle.bac_network.specs.Views.{event_view, instant_after}
+use Rattle.bac_network.specs.declared.event.Event.{Event}
+use Rattle.bac_network.specs.declared.event.Event.TheVariants as event
 use Rattle.bac_store.specs.AtNode.{change_fault_number}
 use Rattle.bac_store.specs.declared.change_fault.ChangeFault.{ChangeFault}
-use Rattle.bac_network.specs.Steps.{NamesNoCopy, NamesNoNode, PassesClock, RefusesChange, TakesMemory, Tells}
+use Rattle.bac_network.specs.Steps.{IsFault, NamesNoCopy, NamesNoNode, PassesClock, RefusesChange, TakesMemory, Tells}
 use Rattle.bac_network.proofs.WorldRunning.{fault_is}
 use Rattle.bac_simulate.specs.declared.script.ScriptLine as code
 use Rattle.bac_simulate.specs.Scripts.{ScriptLine, Happens, Lost, Note}
-use Rattle.bac_simulate.specs.Views.{line_view}
+use Rattle.bac_simulate.specs.Happenings.{event_at, time_after}
+use Rattle.bac_simulate.specs.Views.{happening_view, line_view}
 use Rattle.bac_network.specs.declared.fault.WorldFault.{WorldFault}
 use Rattle.bac_network.specs.declared.fault.WorldFault.TheVariants as fault
 use Rattle.bac_commands.specs.Facts.{fault_line, refused_line}
@@ -24,18 +29,37 @@ use Rattle.bac_simulate.proofs.Appending.{drop_seen, joined, nothing_more}
 
 -- ---- one event
 
-pub happened : (line : ℕ) (e : world.Event) (told : Option AskFault) (old new : WorldView) (facts copies : ℕ) (a b : Option (List ℕ))
-    → facts ≡ length old.world.log → copies ≡ length old.world.copies → WorldStep old.overtake old.world e new.world → Tells told old.world e new.world
-    → new.overtake ≡ old.overtake → Appends a b (outcome_text told facts copies new.world) → AppendsText a b (IsStep line true (Happens e) old new)
-happened line e told old new facts copies a b fs cs went tells same printed = (
-  outcome_text told facts copies new.world,
+pub same_event : (t : Instant) (e : Event) → event_view t e ≡ event_at t (happening_view e)
+same_event t (event.Ask client server limits request) = refl
+same_event t (event.Deliver number) = refl
+same_event t (event.Noise node from octets) = refl
+same_event t (event.Tick node) = refl
+same_event t (event.Advance by) = refl
+same_event t (event.Change node change) = refl
+same_event t (event.Restart node store) = refl
+
+pub same_after : (t : Instant) (e : Event) → instant_after e t ≡ time_after (happening_view e) t
+same_after t (event.Ask client server limits request) = refl
+same_after t (event.Deliver number) = refl
+same_after t (event.Noise node from octets) = refl
+same_after t (event.Tick node) = refl
+same_after t (event.Advance by) = refl
+same_after t (event.Change node change) = refl
+same_after t (event.Restart node store) = refl
+
+pub happened : (line : ℕ) (e : Event) (told : Option AskFault) (old new : WorldView) (facts copies : ℕ) (a b : Option (List ℕ))
+    → facts ≡ length old.log → copies ≡ length old.copies → WorldStep old.overtake (as_world old) (event_view old.time e) (as_world new) → Tells told (as_world old) (event_view old.time e) (as_world new)
+    → new.overtake ≡ old.overtake → new.time ≡ instant_after e old.time → Appends a b (outcome_text told facts copies new) → AppendsText a b (IsStep line true (Happens (happening_view e)) old new)
+happened line e told old new facts copies a b fs cs went tells same passed printed = (
+  outcome_text told facts copies new,
   (
     inl (record {
       told = told;
-      went = went;
-      tells = tells;
+      went = subst (λ (h : world.Event). WorldStep old.overtake (as_world old) h (as_world new)) (same_event old.time e) went;
+      tells = subst (λ (h : world.Event). Tells told (as_world old) h (as_world new)) (same_event old.time e) tells;
       overtake = same;
-      is = ap (λ (n : ℕ). outcome_text told n copies new.world) fs ∙ ap (λ (n : ℕ). outcome_text told (length old.world.log) n new.world) cs;
+      time = passed ∙ same_after old.time e;
+      is = ap (λ (n : ℕ). outcome_text told n copies new) fs ∙ ap (λ (n : ℕ). outcome_text told (length old.log) n new) cs;
     }),
     printed,
   ),
@@ -44,29 +68,31 @@ happened line e told old new facts copies a b fs cs went tells same printed = (
 abbrev pub the_err : WorldFault → Result (Option AskFault) WorldFault
 the_err f = Err f
 
-pub fails : {A : Type 0} (t : Printing A) (line : ℕ) (e : world.Event) (f : WorldFault) (old new : WorldView) (said : List A) → change_fault_in f ≡ None
-    → (IsErrOf (the_err f) fault.NoSuchNode ↔ NamesNoNode old.world e)
-    → (IsErrOf (the_err f) fault.NoSuchDatagram ↔ NamesNoCopy old.world e)
-    → (IsErrOf (the_err f) fault.ClockEnd ↔ PassesClock old.world e)
-    → ((why : ChangeFault) → (IsErrOf (the_err f) (fault.BadChange why) ↔ RefusesChange old.world e why))
-    → (IsErrOf (the_err f) fault.NoMemory → TakesMemory old.overtake old.world e)
-    → new ≡ old → t.ended line (fault_number f) said → Steps t line false (Happens e) old new said
+pub fails : {A : Type 0} (t : Printing A) (line : ℕ) (e : Event) (f : WorldFault) (old new : WorldView) (said : List A) → change_fault_in f ≡ None
+    → (IsErrOf (the_err f) fault.NoSuchNode ↔ NamesNoNode (as_world old) (event_view old.time e))
+    → (IsErrOf (the_err f) fault.NoSuchDatagram ↔ NamesNoCopy (as_world old) (event_view old.time e))
+    → (IsErrOf (the_err f) fault.ClockEnd ↔ PassesClock (as_world old) (event_view old.time e))
+    → ((why : ChangeFault) → (IsErrOf (the_err f) (fault.BadChange why) ↔ RefusesChange (as_world old) (event_view old.time e) why))
+    → (IsErrOf (the_err f) fault.NoMemory → TakesMemory old.overtake (as_world old) (event_view old.time e))
+    → new ≡ old → t.ended line (fault_number f) said → Steps t line false (Happens (happening_view e)) old new said
 fails t line e f old new said ends node copy clock change memory same is =
     record {
       fault = f;
       ends = ends;
-      why = fault_is f old.overtake old.world e (the_err f) refl node copy clock change memory;
+      why =
+          subst (IsFault f old.overtake (as_world old)) (same_event old.time e)
+              (fault_is f old.overtake (as_world old) (event_view old.time e) (the_err f) refl node copy clock change memory);
       same = same;
       is = is;
     }
 
-pub stopped : (line : ℕ) (e : world.Event) (f : WorldFault) (old new : WorldView) (number : ℕ) (a b : Option (List ℕ)) → change_fault_in f ≡ None
-    → (IsErrOf (the_err f) fault.NoSuchNode ↔ NamesNoNode old.world e)
-    → (IsErrOf (the_err f) fault.NoSuchDatagram ↔ NamesNoCopy old.world e)
-    → (IsErrOf (the_err f) fault.ClockEnd ↔ PassesClock old.world e)
-    → ((why : ChangeFault) → (IsErrOf (the_err f) (fault.BadChange why) ↔ RefusesChange old.world e why))
-    → (IsErrOf (the_err f) fault.NoMemory → TakesMemory old.overtake old.world e)
-    → new ≡ old → number ≡ fault_number f → Appends a b (fault_line line number) → AppendsText a b (IsStep line false (Happens e) old new)
+pub stopped : (line : ℕ) (e : Event) (f : WorldFault) (old new : WorldView) (number : ℕ) (a b : Option (List ℕ)) → change_fault_in f ≡ None
+    → (IsErrOf (the_err f) fault.NoSuchNode ↔ NamesNoNode (as_world old) (event_view old.time e))
+    → (IsErrOf (the_err f) fault.NoSuchDatagram ↔ NamesNoCopy (as_world old) (event_view old.time e))
+    → (IsErrOf (the_err f) fault.ClockEnd ↔ PassesClock (as_world old) (event_view old.time e))
+    → ((why : ChangeFault) → (IsErrOf (the_err f) (fault.BadChange why) ↔ RefusesChange (as_world old) (event_view old.time e) why))
+    → (IsErrOf (the_err f) fault.NoMemory → TakesMemory old.overtake (as_world old) (event_view old.time e))
+    → new ≡ old → number ≡ fault_number f → Appends a b (fault_line line number) → AppendsText a b (IsStep line false (Happens (happening_view e)) old new)
 stopped line e f old new number a b ends node copy clock change memory same is printed = (
   fault_line line (fault_number f),
   (fails in_text line e f old new (fault_line line (fault_number f)) ends node copy clock change memory same refl, subst (λ (n : ℕ). Appends a b (fault_line line n)) is printed),
@@ -79,16 +105,16 @@ bad_change fault.ClockEnd why e = absurd cc
 bad_change (fault.BadChange other) why e = ap (λ (w : ChangeFault). the_err (fault.BadChange w)) (let same : Some other ≡ Some why = e in cc)
 bad_change fault.NoMemory why e = absurd cc
 
-pub refuses : {A : Type 0} (t : Printing A) (line : ℕ) (e : world.Event) (f : WorldFault) (why : ChangeFault) (old new : WorldView) (said : List A)
-    → change_fault_in f ≡ Some why → ((w : ChangeFault) → (IsErrOf (the_err f) (fault.BadChange w) ↔ RefusesChange old.world e w))
-    → new ≡ old → t.refused why e old said → Steps t line true (Happens e) old new said
+pub refuses : {A : Type 0} (t : Printing A) (line : ℕ) (e : Event) (f : WorldFault) (why : ChangeFault) (old new : WorldView) (said : List A)
+    → change_fault_in f ≡ Some why → ((w : ChangeFault) → (IsErrOf (the_err f) (fault.BadChange w) ↔ RefusesChange (as_world old) (event_view old.time e) w))
+    → new ≡ old → t.refused why (happening_view e) old said → Steps t line true (Happens (happening_view e)) old new said
 refuses t line e f why old new said bad change same is =
-    inr (record { fault = why; why = (change why).0 (bad_change f why bad); same = same; is = is })
+    inr (record { fault = why; why = subst (λ (h : world.Event). RefusesChange (as_world old) h why) (same_event old.time e) ((change why).0 (bad_change f why bad)); same = same; is = is })
 
-pub turned_down : (line : ℕ) (e : world.Event) (f : WorldFault) (why : ChangeFault) (old new : WorldView) (number : ℕ) (a b : Option (List ℕ))
+pub turned_down : (line : ℕ) (e : Event) (f : WorldFault) (why : ChangeFault) (old new : WorldView) (number : ℕ) (a b : Option (List ℕ))
     → change_fault_in f ≡ Some why
-    → ((w : ChangeFault) → (IsErrOf (the_err f) (fault.BadChange w) ↔ RefusesChange old.world e w))
-    → new ≡ old → number ≡ change_fault_number why → Appends a b (refused_line number) → AppendsText a b (IsStep line true (Happens e) old new)
+    → ((w : ChangeFault) → (IsErrOf (the_err f) (fault.BadChange w) ↔ RefusesChange (as_world old) (event_view old.time e) w))
+    → new ≡ old → number ≡ change_fault_number why → Appends a b (refused_line number) → AppendsText a b (IsStep line true (Happens (happening_view e)) old new)
 turned_down line e f why old new number a b bad change same is printed = (
   refused_line (change_fault_number why),
   (refuses in_text line e f why old new (refused_line (change_fault_number why)) bad change same refl, subst (λ (n : ℕ). Appends a b (refused_line n)) is printed),
@@ -96,11 +122,11 @@ turned_down line e f why old new number a b bad change same is printed = (
 
 -- ---- a copy that counts as lost
 
-pub counted_lost : (line copy : ℕ) (w : WorldView) (a b : Option (List ℕ)) → copy < length w.world.copies → Appends a b (lost_line copy)
+pub counted_lost : (line copy : ℕ) (w : WorldView) (a b : Option (List ℕ)) → copy < length w.copies → Appends a b (lost_line copy)
     → AppendsText a b (IsStep line true (Lost copy) w w)
 counted_lost line copy w a b sent printed = (lost_line copy, (record { sent = sent; same = refl; is = refl }, printed))
 
-pub not_sent : (line copy : ℕ) (w : WorldView) (number : ℕ) (a b : Option (List ℕ)) → length w.world.copies ≤ copy → number ≡ fault_number fault.NoSuchDatagram
+pub not_sent : (line copy : ℕ) (w : WorldView) (number : ℕ) (a b : Option (List ℕ)) → length w.copies ≤ copy → number ≡ fault_number fault.NoSuchDatagram
     → Appends a b (fault_line line number) → AppendsText a b (IsStep line false (Lost copy) w w)
 not_sent line copy w number a b none is printed =
     (fault_line line number, (record { none = none; same = refl; is = ap (λ (n : ℕ). fault_line line n) is }, printed))

@@ -12,25 +12,25 @@ use Rattle.bac_chart.specs.declared.mark.Mark as code
 use Rattle.bac_chart.specs.declared.mark.Mark.TheVariants as mark
 use Rattle.bac_journal.specs.Views.{copy_view}
 use Rattle.bac_journal.specs.declared.copies.Copy as copy
-use Rattle.bac_network.specs.Histories.{WorldView}
+use Rattle.bac_network.specs.Histories.{WorldView, as_world}
+use Rattle.bac_network.specs.declared.event.Event.{Event}
 use Rattle.bac_network.specs.Steps.{Tells}
-use Rattle.bac_network.specs.Views.{fact_view}
+use Rattle.bac_network.specs.Views.{event_view, fact_view, instant_after}
 use Rattle.bac_network.specs.declared.fact.Fact as fact
 use Rattle.bac_protocol.specs.Transaction.{Key}
 use Rattle.bac_requester.specs.declared.ask_fault.AskFault.{AskFault}
 use Rattle.bac_protocol.specs.World.{same_key}
-use Rattle.bac_protocol.specs.declared.times.TheConstants.{LIFE}
 use Rattle.bac_world.specs.Once as once
 use Rattle.bac_world.specs.World as world
 use Rattle.bac_world.specs.World.{count_of, is_deliverable, later, WorldStep}
 use Rattle.bac_simulate.specs.Drawn.{in_marks}
 use Rattle.bac_simulate.specs.Runs.{Runs, Steps}
 use Rattle.bac_simulate.specs.Scripts.{ScriptLine, Happens}
-use Rattle.bac_simulate.specs.Traces.{arrow_of, coming_mark, delivered_mark, event_marks, fact_mark, facts_marks, news_marks, optional_marks, sent_marks, AddsMarks, AppendsMarks}
-use Rattle.bac_simulate.specs.Views.{line_view}
+use Rattle.bac_simulate.specs.Traces.{life_in, arrow_of, coming_mark, delivered_mark, event_marks, fact_mark, facts_marks, news_marks, optional_marks, sent_marks, AddsMarks, AppendsMarks}
+use Rattle.bac_simulate.specs.Views.{happening_view, line_view}
 use Rattle.bac_simulate.specs.declared.script.ScriptLine as script
 use Rattle.bac_simulate.proofs.Appending.{drop_next, drop_seen}
-use Rattle.bac_simulate.proofs.Stepping.{more}
+use Rattle.bac_simulate.proofs.Stepping.{more, same_after, same_event}
 
 -- ---- later copies of a transaction
 
@@ -50,24 +50,26 @@ pub counted : (key : Key) (copies : List copy.Copy) (i : ℕ) (c : copy.Copy) �
     ≡ (if same_key (copy_view c).key key then suc (count_of key (map copy_view (drop (i + 1) copies))) else count_of key (map copy_view (drop (i + 1) copies)))
 counted key copies i c at = ap (λ (l : List copy.Copy). count_of key (map copy_view l)) (drop_next copies i c at)
 
-pub delivered : (overtake o now n number more : ℕ) (w : world.World) (copies after : List copy.Copy) (k : copy.Copy) (comes : Bool) (m : Mark)
+pub delivered : (o life now n number more : ℕ) (w : WorldView) (copies after : List copy.Copy) (k : copy.Copy) (comes : Bool) (m : Mark)
     → map copy_view copies ≡ w.copies → slice_get copies number ≡ Some k → after ≡ drop (number + 1) copies
-    → more ≡ count_of (copy_view k).key (map copy_view after) → o ≡ overtake → now ≡ w.now → n ≡ w.now
-    → comes ≡ (nat_le (now - k.moment) LIFE && nat_le more o) → m ≡ coming_mark comes n number (copy_view k)
-    → Some m ≡ delivered_mark overtake w number (slice_get w.copies number)
-delivered overtake o now n number more w copies after k comes m cs at rest count os now_is n_is comes_is is =
+    → more ≡ count_of (copy_view k).key (map copy_view after) → o ≡ w.overtake → life ≡ life_in w → now ≡ w.time.moment → n ≡ w.time.moment
+    → comes ≡ (nat_le (now - k.moment) life && nat_le more o) → m ≡ coming_mark comes n number (copy_view k)
+    → Some m ≡ delivered_mark w number (slice_get w.copies number)
+delivered o life now n number more w copies after k comes m cs at rest count os life_is now_is n_is comes_is is =
     let c : world.Copy = copy_view k in
     let there : slice_get w.copies number ≡ Some c
     = ap (λ (l : List world.Copy). slice_get l number) (sym cs) ∙ (slice_get-map copy_view copies number ∙ ap (option_map copy_view) at) in
     let many : more ≡ later c.key number w.copies
     = count ∙ (ap (λ (l : List copy.Copy). count_of c.key (map copy_view l)) rest ∙ (sym (later_is c.key number copies) ∙ ap (later c.key number) cs)) in
-    let may : comes ≡ is_deliverable overtake w.now number w.copies c
-    = comes_is ∙ (ap (λ (t : ℕ). nat_le (t - k.moment) LIFE && nat_le more o) now_is
-    ∙ (ap (λ (l : ℕ). nat_le (w.now - k.moment) LIFE && nat_le l o) many
-    ∙ ap (λ (v : ℕ). nat_le (w.now - k.moment) LIFE && nat_le (later c.key number w.copies) v) os)) in
+    let young : comes ≡ (nat_le (w.time.moment - k.moment) (life_in w) && nat_le more o)
+    = comes_is ∙ (ap (λ (t : ℕ). nat_le (t - k.moment) life && nat_le more o) now_is
+    ∙ ap (λ (l : ℕ). nat_le (w.time.moment - k.moment) l && nat_le more o) life_is) in
+    let may : comes ≡ is_deliverable w.overtake (life_in w) w.time.moment number w.copies c
+    = young ∙ (ap (λ (l : ℕ). nat_le (w.time.moment - k.moment) (life_in w) && nat_le l o) many
+    ∙ ap (λ (v : ℕ). nat_le (w.time.moment - k.moment) (life_in w) && nat_le (later c.key number w.copies) v) os) in
     ap Some (is ∙ (ap (λ (b : Bool). coming_mark b n number c) may
-    ∙ ap (λ (t : ℕ). coming_mark (is_deliverable overtake w.now number w.copies c) t number c) n_is))
-    ∙ sym (ap (delivered_mark overtake w number) there)
+    ∙ ap (λ (t : ℕ). coming_mark (is_deliverable w.overtake (life_in w) w.time.moment number w.copies c) t number c) n_is))
+    ∙ sym (ap (delivered_mark w number) there)
 
 -- ---- marks that are added
 
@@ -153,13 +155,15 @@ no_line line lines i all w a = (
 
 -- ---- one event
 
-pub passed : (line : ℕ) (e : world.Event) (told : Option AskFault) (old new : WorldView) (a b : List code.Mark) → WorldStep old.overtake old.world e new.world
-    → Tells told old.world e new.world → new.overtake ≡ old.overtake → AddsMarks a b (event_marks told e old new)
-    → AppendsMarks a b (Steps in_marks line true (Happens e) old new)
-passed line e told old new a b step tells same added =
-    (event_marks told e old new, (inl (record { told = told; went = step; tells = tells; overtake = same; is = refl }), added))
+pub passed : (line : ℕ) (e : Event) (told : Option AskFault) (old new : WorldView) (a b : List code.Mark) → WorldStep old.overtake (as_world old) (event_view old.time e) (as_world new)
+    → Tells told (as_world old) (event_view old.time e) (as_world new) → new.overtake ≡ old.overtake → new.time ≡ instant_after e old.time → AddsMarks a b (event_marks told (happening_view e) old new)
+    → AppendsMarks a b (Steps in_marks line true (Happens (happening_view e)) old new)
+passed line e told old new a b step tells same after added =
+    let went = subst (λ (h : world.Event). WorldStep old.overtake (as_world old) h (as_world new)) (same_event old.time e) step in
+    let said = subst (λ (h : world.Event). Tells told (as_world old) h (as_world new)) (same_event old.time e) tells in
+    (event_marks told (happening_view e) old new, (inl (record { told = told; went = went; tells = said; overtake = same; time = after ∙ same_after old.time e; is = refl }), added))
 
-pub news_are : (facts copies i k : ℕ) (w : world.World) (coming : Option Mark) (a b : List code.Mark) → i ≡ facts → k ≡ copies
+pub news_are : (facts copies i k : ℕ) (w : WorldView) (coming : Option Mark) (a b : List code.Mark) → i ≡ facts → k ≡ copies
     → AddsMarks a b (optional_marks coming ++ news_marks i k w) → AddsMarks a b (optional_marks coming ++ news_marks facts copies w)
 news_are facts copies i k w coming a b fs cs added =
     subst (λ (n : ℕ). AddsMarks a b (optional_marks coming ++ news_marks facts n w)) cs

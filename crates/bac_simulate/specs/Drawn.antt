@@ -10,7 +10,7 @@ use Rattle.bac_text.specs.Lines.{lines_of}
 use Rattle.bac_text.specs.Texts.{AppendsText}
 use Rattle.bac_text.specs.declared.status.Status.{Status}
 use Rattle.bac_text.specs.declared.status.Status.TheVariants as status
-use Rattle.bac_world.specs.World.{World}
+use Rattle.bac_world.specs.World.{Copy}
 use Rattle.bac_simulate.specs.Captures.{capture_of}
 use Rattle.bac_simulate.specs.Houses.{world_set}
 use Rattle.bac_simulate.specs.Runs.{IsUnread, Runs, Printing}
@@ -34,18 +34,18 @@ in_marks =
     }
 
 -- a drawing of what came of the lines in a network of so many nodes, or the copies that there are in the end; what is printed in words is no drawing
-abbrev pub shown_text : View → (nodes : ℕ) → List Mark → (last : World) → List ℕ
-shown_text view.Text nodes marks last = []
-shown_text view.Chart nodes marks last = drawing_text form.Chart nodes marks
-shown_text view.Mermaid nodes marks last = drawing_text form.Mermaid nodes marks
-shown_text view.Capture nodes marks last = capture_of last.copies
+abbrev pub shown_text : View → (nodes : ℕ) → List Mark → (copies : List Copy) → List ℕ
+shown_text view.Text nodes marks copies = []
+shown_text view.Chart nodes marks copies = drawing_text form.Chart nodes marks
+shown_text view.Mermaid nodes marks copies = drawing_text form.Mermaid nodes marks
+shown_text view.Capture nodes marks copies = capture_of copies
 
 -- what lines say came in a network of so many nodes, all of it or up to the first that could not, and that is drawn
 pub record IsDrawn (v : View) (nodes first : ℕ) (lines : List ScriptLine) (all : Bool) (world : WorldView) (text : List ℕ) : Type 0 where
   pub last : WorldView
   pub marks : List Mark
   pub ran : Runs in_marks first lines all world last marks
-  pub is : text ≡ shown_text v nodes marks last.world
+  pub is : text ≡ shown_text v nodes marks last.copies
 
 -- likewise, and that is printed in words
 abbrev pub IsWorded : (first : ℕ) → List ScriptLine → (all : Bool) → (world : WorldView) → (text : List ℕ) → Type 0

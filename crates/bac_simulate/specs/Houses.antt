@@ -1,5 +1,5 @@
 -- The network that the first line of a script sets.
-use Rattle.std.specs.Prelude.{ℕ, zero, suc, ◌+◌, List, [], ◌∷◌}
+use Rattle.std.specs.Prelude.{ℕ, zero, suc, ◌+◌, List, [], ◌∷◌, None}
 use Rattle.bac_apdu.specs.Apdu as plain
 use Rattle.bac_apdu.specs.declared.limits.Limits.{Limits}
 use Rattle.bac_network.specs.Fresh.{Maker}
@@ -41,13 +41,11 @@ world_set s =
     record {
       overtake = s.overtake;
       opening = houses s.nodes;
-      world = record {
-        nodes = house_nodes s.window 0 s.nodes;
-        now = 0;
-        copies = [];
-        log = [];
-        notes = [];
-      };
+      nodes = house_nodes s.window 0 s.nodes;
+      time = record { moment = 0; own = None };
+      copies = [];
+      log = [];
+      notes = [];
     }
 
 -- ---- what nodes are made of

@@ -1,4 +1,5 @@
 pub mod Captures
+pub mod Happenings
 pub mod Houses
 pub mod Runs
 pub mod LineWords

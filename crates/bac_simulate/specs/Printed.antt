@@ -3,8 +3,9 @@ use Rattle.std.specs.Prelude.{ℕ, codes, decimal, ◌+◌, Bool, true, false, �
 use Rattle.bac_requester.specs.Faults.{ask_fault_number}
 use Rattle.bac_requester.specs.declared.ask_fault.AskFault.{AskFault}
 use Rattle.bac_world.specs.Once.{Fact}
-use Rattle.bac_world.specs.Once.Fact.{Asked, Performed, Ended, Changed, Restarted}
-use Rattle.bac_world.specs.World.{World, Copy, Note}
+use Rattle.bac_world.specs.Once.Fact.{Asked, Performed, Ended, Changed, Restarted, Served, AskedAway, EndedAway}
+use Rattle.bac_world.specs.World.{Copy, Note}
+use Rattle.bac_network.specs.Histories.{WorldView}
 use Rattle.bac_commands.specs.Facts.{asked_line, changed_line, ended_line, nothing_line, performed_line, refused_line, sent_line}
 use Rattle.bac_text.specs.Texts.{line_end}
 
@@ -17,13 +18,16 @@ abbrev pub asked_text : (ask : ℕ) → Option Note → List ℕ
 asked_text ask None = []
 asked_text ask (Some note) = asked_line ask note.key.invoke_id
 
--- a fact, where these notes are of the accepted asks, oldest first
+-- a fact, where these notes are of the accepted asks, oldest first; nothing is printed of strangers
 abbrev pub fact_text : List Note → Fact → List ℕ
 fact_text notes (Asked ask client server request) = asked_text ask (slice_get notes ask)
 fact_text notes (Performed ask request reply) = performed_line ask
 fact_text notes (Ended ask how) = ended_line ask how
 fact_text notes (Changed node change) = changed_line node
 fact_text notes (Restarted node store) = restarted_line node
+fact_text notes (Served peer node invoke_id begin request reply) = []
+fact_text notes (AskedAway ask client peer request) = []
+fact_text notes (EndedAway ask how) = []
 
 abbrev pub facts_text : List Note → List Fact → List ℕ
 facts_text notes [] = []
@@ -35,11 +39,11 @@ copies_text number [] = []
 copies_text number (c ∷ copies) = sent_line number c.from c.to c.octets ++ copies_text (number + 1) copies
 
 -- nothing is new
-abbrev pub is_as_before : (facts copies : ℕ) → World → Bool
+abbrev pub is_as_before : (facts copies : ℕ) → WorldView → Bool
 is_as_before facts copies w = nat_eq (length w.log) facts && nat_eq (length w.copies) copies
 
 -- the facts after so many, oldest first, and then the copies after so many
-abbrev pub news_text : (as_before : Bool) → (facts copies : ℕ) → World → List ℕ
+abbrev pub news_text : (as_before : Bool) → (facts copies : ℕ) → WorldView → List ℕ
 news_text true facts copies w = nothing_line
 news_text false facts copies w = facts_text (reverse w.notes) (drop facts (reverse w.log)) ++ copies_text copies (drop copies w.copies)
 
@@ -48,6 +52,6 @@ abbrev pub lost_line : (copy : ℕ) → List ℕ
 lost_line copy = (codes "lost " ++ decimal copy) ++ line_end
 
 -- a refused ask, by the number of its fault; or what is new in a world that had so many facts and copies
-abbrev pub outcome_text : Option AskFault → (facts copies : ℕ) → World → List ℕ
+abbrev pub outcome_text : Option AskFault → (facts copies : ℕ) → WorldView → List ℕ
 outcome_text (Some fault) facts copies w = refused_line (ask_fault_number fault)
 outcome_text None facts copies w = news_text (is_as_before facts copies w) facts copies w

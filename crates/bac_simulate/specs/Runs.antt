@@ -2,9 +2,9 @@
 use Rattle.std.specs.Prelude.{◌≡◌, ◌<◌, ◌≤◌, ◌⊎◌, ℕ, ◌+◌, Bool, true, false, List, [], ◌∷◌, ◌++◌, length, ⊤, Option, Some, None, Result, Ok, Err}
 use Rattle.std.specs.Io.KnownBytes.{Keeps}
 use Rattle.bac_requester.specs.declared.ask_fault.AskFault.{AskFault}
-use Rattle.bac_world.specs.World.{Event, WorldStep}
+use Rattle.bac_world.specs.World.{WorldStep}
 use Rattle.bac_network.specs.Faults.{fault_number}
-use Rattle.bac_network.specs.Histories.{WorldView}
+use Rattle.bac_network.specs.Histories.{WorldView, as_world}
 use Rattle.bac_network.specs.Steps.{IsFault, RefusesChange, Tells}
 use Rattle.bac_network.specs.declared.fault.WorldFault.{WorldFault}
 use Rattle.bac_network.specs.declared.fault.WorldFault.TheVariants as world_fault
@@ -16,6 +16,7 @@ use Rattle.bac_text.specs.Statuses.{IsFailure}
 use Rattle.bac_text.specs.Texts.{AppendsText}
 use Rattle.bac_text.specs.declared.status.Status.{Status}
 use Rattle.bac_text.specs.declared.status.Status.TheVariants as status
+use Rattle.bac_simulate.specs.Happenings.{Happening, event_at, time_after}
 use Rattle.bac_simulate.specs.Houses.{world_set}
 use Rattle.bac_simulate.specs.Scripts.{Script, ScriptLine, Happens, Lost, Note, limits_in, said_from, script_of}
 use Rattle.bac_simulate.specs.Printed.{lost_line, outcome_text}
@@ -27,29 +28,30 @@ use Rattle.bac_simulate.specs.declared.script.ScriptFault.TheVariants as fault
 -- which lists say what comes of a line: of an event that happens, of a change that its node's store refuses, of a copy that counts as lost, and of a fault that
 -- ends the script at a line
 pub record Printing (A : Type 0) : Type 1 where
-  pub went : Option AskFault → Event → (old new : WorldView) → List A → Type 0
-  pub refused : ChangeFault → Event → (old : WorldView) → List A → Type 0
+  pub went : Option AskFault → Happening → (old new : WorldView) → List A → Type 0
+  pub refused : ChangeFault → Happening → (old : WorldView) → List A → Type 0
   pub lost : (old : WorldView) → (copy : ℕ) → List A → Type 0
   pub ended : (line fault : ℕ) → List A → Type 0
 
 -- an event happened, and this is printed of it
-pub record Happened {A : Type 0} (t : Printing A) (event : Event) (old new : WorldView) (said : List A) : Type 0 where
+pub record Happened {A : Type 0} (t : Printing A) (event : Happening) (old new : WorldView) (said : List A) : Type 0 where
   pub told : Option AskFault
-  pub went : WorldStep old.overtake old.world event new.world
-  pub tells : Tells told old.world event new.world
+  pub went : WorldStep old.overtake (as_world old) (event_at old.time event) (as_world new)
+  pub tells : Tells told (as_world old) (event_at old.time event) (as_world new)
   pub overtake : new.overtake ≡ old.overtake
+  pub time : new.time ≡ time_after event old.time
   pub is : t.went told event old new said
 
 -- the event was a change with that fault, which is printed; nothing changed
-pub record TurnedDown {A : Type 0} (t : Printing A) (event : Event) (old new : WorldView) (said : List A) : Type 0 where
+pub record TurnedDown {A : Type 0} (t : Printing A) (event : Happening) (old new : WorldView) (said : List A) : Type 0 where
   pub fault : ChangeFault
-  pub why : RefusesChange old.world event fault
+  pub why : RefusesChange (as_world old) (event_at old.time event) fault
   pub same : new ≡ old
   pub is : t.refused fault event old said
 
 -- a copy that was sent counts as lost: that is printed, and nothing changed
 pub record CountedLost {A : Type 0} (t : Printing A) (copy : ℕ) (old new : WorldView) (said : List A) : Type 0 where
-  pub sent : copy < length old.world.copies
+  pub sent : copy < length old.copies
   pub same : new ≡ old
   pub is : t.lost old copy said
 
@@ -68,16 +70,16 @@ change_fault_in (world_fault.BadChange why) = Some why
 change_fault_in world_fault.NoMemory = None
 
 -- the event of that line did not happen, nothing changed, and the number of the fault is printed
-pub record Failed {A : Type 0} (t : Printing A) (line : ℕ) (event : Event) (old new : WorldView) (said : List A) : Type 0 where
+pub record Failed {A : Type 0} (t : Printing A) (line : ℕ) (event : Happening) (old new : WorldView) (said : List A) : Type 0 where
   pub fault : WorldFault
   pub ends : change_fault_in fault ≡ None
-  pub why : IsFault fault old.overtake old.world event
+  pub why : IsFault fault old.overtake (as_world old) (event_at old.time event)
   pub same : new ≡ old
   pub is : t.ended line (fault_number fault) said
 
 -- there is no such copy that could count as lost
 pub record NotSent {A : Type 0} (t : Printing A) (line copy : ℕ) (old new : WorldView) (said : List A) : Type 0 where
-  pub none : length old.world.copies ≤ copy
+  pub none : length old.copies ≤ copy
   pub same : new ≡ old
   pub is : t.ended line (fault_number world_fault.NoSuchDatagram) said
 
@@ -106,7 +108,7 @@ Runs {A} t line (said ∷ lines) false old new told = Stopped t line said old ne
 abbrev pub in_text : Printing ℕ
 in_text =
     record {
-      went = λ told event old new text. text ≡ outcome_text told (length old.world.log) (length old.world.copies) new.world;
+      went = λ told event old new text. text ≡ outcome_text told (length old.log) (length old.copies) new;
       refused = λ why event old text. text ≡ refused_line (change_fault_number why);
       lost = λ old copy text. text ≡ lost_line copy;
       ended = λ line fault text. text ≡ fault_line line fault;
@@ -167,7 +169,7 @@ Goes line (Err bad) first last old new status.Memory = Keeps old new × (last �
 
 -- of the octets of lines that are counted from 1
 abbrev pub SimulatesIn : (text : List ℕ) → (first last : WorldView) → (old new : Option (List ℕ)) → Status → Type 0
-SimulatesIn text first last old new end = Goes 1 (said_from false (limits_in first.world.nodes) 1 (lines_of text)) first last old new end
+SimulatesIn text first last old new end = Goes 1 (said_from false (limits_in first.nodes) 1 (lines_of text)) first last old new end
 
 -- the input could not be read
 abbrev pub IsUnread : Status → Type 0

@@ -9,13 +9,13 @@ use Rattle.bac_service_text.specs.declared.form_fault.FormFault.{FormFault}
 use Rattle.bac_service_text.specs.declared.form_fault.FormFault.TheVariants as form_fault
 use Rattle.bac_world.specs.Node.{Node}
 use Rattle.bac_store.specs.AtNode as at_node
-use Rattle.bac_world.specs.World as world
+use Rattle.bac_simulate.specs.Happenings.{Happening}
 use Rattle.bac_simulate.specs.declared.script.ScriptFault.{ScriptFault}
 use Rattle.bac_simulate.specs.declared.script.ScriptFault.TheVariants as fault
 
 -- what a line says: an event is to happen; a copy counts as lost, which is a note of the script alone; or it is a note for people
 pub data ScriptLine : Type 0 where
-  Happens : world.Event → ScriptLine
+  Happens : Happening → ScriptLine
   Lost : (copy : ℕ) → ScriptLine
   Note : ScriptLine
 
@@ -48,15 +48,15 @@ limits_in nodes node = limits_of (slice_get nodes node)
 
 -- what a step says; an ask goes by what the server takes
 abbrev pub said_by : NodeLimits → line.Statement → ScriptLine
-said_by limits (line.Statement.Ask client server request) = Happens (world.Event.Ask client server (limits server) request)
-said_by limits (line.Statement.Deliver copy) = Happens (world.Event.Deliver copy)
+said_by limits (line.Statement.Ask client server request) = Happens (Happening.Ask client server (limits server) request)
+said_by limits (line.Statement.Deliver copy) = Happens (Happening.Deliver copy)
 said_by limits (line.Statement.Lose copy) = Lost copy
-said_by limits (line.Statement.Noise node octets) = Happens (world.Event.Noise node nowhere octets)
-said_by limits (line.Statement.Tick node) = Happens (world.Event.Tick node)
-said_by limits (line.Statement.Advance by) = Happens (world.Event.Advance by)
-said_by limits (line.Statement.SetProperty node object property octets) = Happens (world.Event.Change node (at_node.Change.Value object property octets))
-said_by limits (line.Statement.SetFile node object octets) = Happens (world.Event.Change node (at_node.Change.File object octets))
-said_by limits (line.Statement.Restart node) = Happens (world.Event.Restart node None)
+said_by limits (line.Statement.Noise node octets) = Happens (Happening.Noise node nowhere octets)
+said_by limits (line.Statement.Tick node) = Happens (Happening.Tick node)
+said_by limits (line.Statement.Advance by) = Happens (Happening.Advance by)
+said_by limits (line.Statement.SetProperty node object property octets) = Happens (Happening.Change node (at_node.Change.Value object property octets))
+said_by limits (line.Statement.SetFile node object octets) = Happens (Happening.Change node (at_node.Change.File object octets))
+said_by limits (line.Statement.Restart node) = Happens (Happening.Restart node None)
 
 -- by what is to be read of a line
 abbrev pub said_in : NodeLimits → (read : Option (List ℕ)) → Option ScriptLine

@@ -8,15 +8,17 @@ use Rattle.bac_chart.specs.Views.{mark_view}
 use Rattle.bac_chart.specs.declared.mark.Mark as code
 use Rattle.bac_commands.specs.Facts.{ending_text}
 use Rattle.bac_transaction.specs.Meanings.{Ending}
+use Rattle.bac_journal.specs.Clocks.{pace_of}
 use Rattle.bac_network.specs.Histories.{WorldView}
 use Rattle.bac_requester.specs.Faults.{ask_fault_number}
 use Rattle.bac_requester.specs.declared.ask_fault.AskFault.{AskFault}
 use Rattle.bac_store.specs.AtNode.{change_fault_number}
 use Rattle.bac_store.specs.declared.change_fault.ChangeFault.{ChangeFault}
 use Rattle.bac_world.specs.Once.{Fact}
-use Rattle.bac_world.specs.Once.Fact.{Asked, Performed, Ended, Changed, Restarted}
-use Rattle.bac_world.specs.World.{World, Copy, Event, Note, is_deliverable}
-use Rattle.bac_world.specs.World.Event.{Ask, Deliver, Noise, Tick, Advance, Change, Restart}
+use Rattle.bac_world.specs.Once.Fact.{Asked, Performed, Ended, Changed, Restarted, Served, AskedAway, EndedAway}
+use Rattle.bac_world.specs.World.{Copy, Note, is_deliverable}
+use Rattle.bac_simulate.specs.Happenings.{Happening}
+use Rattle.bac_simulate.specs.Happenings.Happening.{Ask, Deliver, Noise, Tick, Advance, Change, Restart}
 
 -- ---- copies
 
@@ -36,19 +38,24 @@ abbrev pub coming_mark : (is_deliverable : Bool) → (now number : ℕ) → Copy
 coming_mark true now number c = marks.Came now (arrow_of number c)
 coming_mark false now number c = marks.Note now c.to (late_words number)
 
-abbrev pub delivered_mark : (overtake : ℕ) → World → (number : ℕ) → Option Copy → Option Mark
-delivered_mark overtake w number None = None
-delivered_mark overtake w number (Some c) = Some (coming_mark (is_deliverable overtake w.now number w.copies c) w.now number c)
+-- how long a copy may be under way, as moments are counted
+abbrev pub life_in : WorldView → ℕ
+life_in w = (pace_of w.time.own).life
+
+abbrev pub delivered_mark : WorldView → (number : ℕ) → Option Copy → Option Mark
+delivered_mark w number None = None
+delivered_mark w number (Some c) =
+    Some (coming_mark (is_deliverable w.overtake (life_in w) w.time.moment number w.copies c) w.time.moment number c)
 
 -- what comes to a node in an event
-abbrev pub coming_in : (overtake : ℕ) → World → Event → Option Mark
-coming_in overtake w (Ask client server limits request) = None
-coming_in overtake w (Deliver number) = delivered_mark overtake w number (slice_get w.copies number)
-coming_in overtake w (Noise node from octets) = Some (marks.Note w.now node (codes "noise"))
-coming_in overtake w (Tick node) = None
-coming_in overtake w (Advance by) = None
-coming_in overtake w (Change node change) = None
-coming_in overtake w (Restart node store) = None
+abbrev pub coming_in : WorldView → Happening → Option Mark
+coming_in w (Ask client server limits request) = None
+coming_in w (Deliver number) = delivered_mark w number (slice_get w.copies number)
+coming_in w (Noise node from octets) = Some (marks.Note w.time.moment node (codes "noise"))
+coming_in w (Tick node) = None
+coming_in w (Advance by) = None
+coming_in w (Change node change) = None
+coming_in w (Restart node store) = None
 
 -- ---- facts
 
@@ -67,13 +74,16 @@ abbrev pub ended_mark : (now ask : ℕ) → Ending → (client : Option ℕ) →
 ended_mark now ask how None = None
 ended_mark now ask how (Some client) = Some (marks.Note now client (ended_words ask how))
 
--- a fact, where these notes are of the accepted asks, oldest first
+-- a fact, where these notes are of the accepted asks, oldest first; strangers are not drawn
 abbrev pub fact_mark : (now : ℕ) → List Note → Fact → Option Mark
 fact_mark now notes (Asked ask client server request) = Some (marks.Note now client (codes "asked " ++ decimal ask))
 fact_mark now notes (Performed ask request reply) = performed_mark now ask (slice_get notes ask)
 fact_mark now notes (Ended ask how) = ended_mark now ask how (client_in notes ask)
 fact_mark now notes (Changed node change) = Some (marks.Note now node (codes "changed"))
 fact_mark now notes (Restarted node store) = Some (marks.Note now node (codes "restarted"))
+fact_mark now notes (Served peer node invoke_id begin request reply) = None
+fact_mark now notes (AskedAway ask client peer request) = None
+fact_mark now notes (EndedAway ask how) = None
 
 abbrev pub optional_marks : Option Mark → List Mark
 optional_marks None = []
@@ -86,12 +96,12 @@ facts_marks now notes (f ∷ facts) = optional_marks (fact_mark now notes f) ++ 
 -- ---- events
 
 -- the facts after so many, oldest first, and then the copies after so many
-abbrev pub news_marks : (facts copies : ℕ) → World → List Mark
+abbrev pub news_marks : (facts copies : ℕ) → WorldView → List Mark
 news_marks facts copies w =
-    facts_marks w.now (reverse w.notes) (drop facts (reverse w.log)) ++ sent_marks copies (drop copies w.copies)
+    facts_marks w.time.moment (reverse w.notes) (drop facts (reverse w.log)) ++ sent_marks copies (drop copies w.copies)
 
 -- the node at which an event is refused
-abbrev pub place_of : Event → ℕ
+abbrev pub place_of : Happening → ℕ
 place_of (Ask client server limits request) = client
 place_of (Deliver number) = 0
 place_of (Noise node from octets) = node
@@ -100,17 +110,17 @@ place_of (Advance by) = 0
 place_of (Change node change) = node
 place_of (Restart node store) = node
 
-abbrev pub refused_mark : (now : ℕ) → Event → (fault : ℕ) → Mark
+abbrev pub refused_mark : (now : ℕ) → Happening → (fault : ℕ) → Mark
 refused_mark now event fault = marks.Note now (place_of event) (codes "refused " ++ decimal fault)
 
 -- what comes to a node, and what is new; or the number of a refused ask's fault
-abbrev pub event_marks : Option AskFault → Event → (old new : WorldView) → List Mark
-event_marks (Some fault) event old new = refused_mark old.world.now event (ask_fault_number fault) ∷ []
+abbrev pub event_marks : Option AskFault → Happening → (old new : WorldView) → List Mark
+event_marks (Some fault) event old new = refused_mark old.time.moment event (ask_fault_number fault) ∷ []
 event_marks None event old new =
-    optional_marks (coming_in old.overtake old.world event) ++ news_marks (length old.world.log) (length old.world.copies) new.world
+    optional_marks (coming_in old event) ++ news_marks (length old.log) (length old.copies) new
 
-abbrev pub change_marks : ChangeFault → Event → WorldView → List Mark
-change_marks why event old = refused_mark old.world.now event (change_fault_number why) ∷ []
+abbrev pub change_marks : ChangeFault → Happening → WorldView → List Mark
+change_marks why event old = refused_mark old.time.moment event (change_fault_number why) ∷ []
 
 -- ---- lists of marks
 

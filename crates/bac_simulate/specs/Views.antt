@@ -1,8 +1,12 @@
 -- From each type in code to its plain value.
-use Rattle.bac_network.specs.Views.{event_view}
+use Rattle.bac_apdu.specs.Views.{limits_view}
+use Rattle.bac_network.specs.declared.event.Event.{Event}
+use Rattle.bac_network.specs.declared.event.Event.TheVariants as event
+use Rattle.bac_simulate.specs.Happenings.{Happening}
 use Rattle.bac_simulate.specs.Scripts as plain
 use Rattle.bac_simulate.specs.declared.script.ScriptLine.{ScriptLine}
 use Rattle.bac_simulate.specs.declared.script.ScriptLine.TheVariants as code
+use Rattle.bac_store.specs.Views.{change_view}
 use Rattle.bac_value.specs.Views.{object_identifier_view}
 use Rattle.bac_service.specs.Views.{owned_request_view}
 use Rattle.bac_simulate.specs.Lines as plain_line
@@ -10,8 +14,17 @@ use Rattle.bac_simulate.specs.declared.line.Setting.{Setting}
 use Rattle.bac_simulate.specs.declared.line.Statement.{Statement}
 use Rattle.bac_simulate.specs.declared.line.Statement.TheVariants as step
 
+abbrev pub happening_view : Event → Happening
+happening_view (event.Ask client server limits request) = Happening.Ask client server (limits_view limits) (owned_request_view request)
+happening_view (event.Deliver number) = Happening.Deliver number
+happening_view (event.Noise node from octets) = Happening.Noise node from octets.items
+happening_view (event.Tick node) = Happening.Tick node
+happening_view (event.Advance by) = Happening.Advance by
+happening_view (event.Change node change) = Happening.Change node (change_view change)
+happening_view (event.Restart node store) = Happening.Restart node store
+
 abbrev pub line_view : ScriptLine → plain.ScriptLine
-line_view (code.Happens event) = plain.ScriptLine.Happens (event_view event)
+line_view (code.Happens event) = plain.ScriptLine.Happens (happening_view event)
 line_view (code.Lost copy) = plain.ScriptLine.Lost copy
 line_view code.Note = plain.ScriptLine.Note
 

@@ -7,7 +7,6 @@ use Rattle.bac_transaction.specs.Meanings.{Ending}
 use Rattle.bac_service_text.specs.Answers.{AreReplyWords}
 use Rattle.bac_service_text.specs.Dispatch.{AreRequestWords}
 use Rattle.bac_network.specs.Histories.{WorldView}
-use Rattle.bac_protocol.specs.declared.times.TheConstants.{LIFE}
 use Rattle.bac_requester.specs.Faults.{ask_fault_number}
 use Rattle.bac_requester.specs.declared.ask_fault.AskFault.{AskFault}
 use Rattle.bac_service.specs.Replies.{Reply}
@@ -18,11 +17,13 @@ use Rattle.bac_store.specs.declared.change_fault.ChangeFault.{ChangeFault}
 use Rattle.bac_text.specs.Texts.{line_end}
 use Rattle.bac_value_text.specs.Texts.{object_text, property_text}
 use Rattle.bac_world.specs.Once.{Fact}
-use Rattle.bac_world.specs.Once.Fact.{Asked, Performed, Ended, Changed, Restarted}
-use Rattle.bac_world.specs.World.{World, Copy, Event, later}
-use Rattle.bac_world.specs.World.Event.{Ask, Deliver, Noise, Tick, Advance, Change, Restart}
+use Rattle.bac_world.specs.Once.Fact.{Asked, Performed, Ended, Changed, Restarted, Served, AskedAway, EndedAway}
+use Rattle.bac_world.specs.World.{Copy, later}
+use Rattle.bac_simulate.specs.Happenings.{Happening}
+use Rattle.bac_simulate.specs.Happenings.Happening.{Ask, Deliver, Noise, Tick, Advance, Change, Restart}
 use Rattle.bac_simulate.specs.Runs.{Printing}
 use Rattle.bac_simulate.specs.Printed.{is_as_before}
+use Rattle.bac_simulate.specs.Traces.{life_in}
 use Rattle.bac_simulate.specs.declared.nothing.Why.{Why}
 use Rattle.bac_simulate.specs.declared.nothing.Why.TheVariants as why
 
@@ -40,7 +41,7 @@ change_words node (at_node.Change.Value id property octets) =
     (codes "set " ++ (decimal node ++ codes " ")) ++ (object_text id ++ (codes " " ++ property_text property))
 change_words node (at_node.Change.File id octets) = (codes "file " ++ (decimal node ++ codes " ")) ++ object_text id
 
-abbrev pub AreEventWords : Event → List ℕ → Type 0
+abbrev pub AreEventWords : Happening → List ℕ → Type 0
 AreEventWords (Ask client server limits request) words = AreAskWords client server request words
 AreEventWords (Deliver number) words = words ≡ codes "deliver " ++ decimal number
 AreEventWords (Noise node from octets) words = words ≡ codes "noise " ++ decimal node
@@ -50,7 +51,7 @@ AreEventWords (Change node change) words = words ≡ change_words node change
 AreEventWords (Restart node store) words = words ≡ codes "restart " ++ decimal node
 
 -- behind the moment
-pub record IsEventLine (now : ℕ) (event : Event) (text : List ℕ) : Type 0 where
+pub record IsEventLine (now : ℕ) (event : Happening) (text : List ℕ) : Type 0 where
   pub words : List ℕ
   pub are : AreEventWords event words
   pub is : text ≡ ((decimal now ++ codes " ") ++ words) ++ line_end
@@ -73,12 +74,16 @@ pub record AreEndedWords (ask : ℕ) (how : Ending) (words : List ℕ) : Type 0 
   pub are : AreEndingWords how ending
   pub is : words ≡ (codes "ended " ++ (decimal ask ++ codes ": ")) ++ ending
 
+-- there are no words of strangers
 abbrev pub AreFactWords : Fact → List ℕ → Type 0
 AreFactWords (Asked ask client server request) words = words ≡ codes "asked " ++ decimal ask
 AreFactWords (Performed ask request reply) words = ArePerformedWords ask reply words
 AreFactWords (Ended ask how) words = AreEndedWords ask how words
 AreFactWords (Changed node change) words = words ≡ codes "changed " ++ decimal node
 AreFactWords (Restarted node store) words = words ≡ codes "restarted " ++ decimal node
+AreFactWords (Served peer node invoke_id begin request reply) words = ⊥
+AreFactWords (AskedAway ask client peer request) words = ⊥
+AreFactWords (EndedAway ask how) words = ⊥
 
 -- one line for each
 abbrev pub AreFactLines : List Fact → List ℕ → Type 0
@@ -102,19 +107,19 @@ why_copy false few = why.TooOld
 why_copy true false = why.Overtaken
 why_copy true true = why.Heard
 
-abbrev pub why_delivered : (overtake : ℕ) → World → (number : ℕ) → Option Copy → Why
-why_delivered overtake w number None = why.Heard
-why_delivered overtake w number (Some c) = why_copy (nat_le (w.now - c.moment) LIFE) (nat_le (later c.key number w.copies) overtake)
+abbrev pub why_delivered : WorldView → (number : ℕ) → Option Copy → Why
+why_delivered w number None = why.Heard
+why_delivered w number (Some c) = why_copy (nat_le (w.time.moment - c.moment) (life_in w)) (nat_le (later c.key number w.copies) w.overtake)
 
 -- of an event in a world, if nothing comes of it
-abbrev pub why_nothing : (overtake : ℕ) → World → Event → Why
-why_nothing overtake w (Ask client server limits request) = why.Heard
-why_nothing overtake w (Deliver number) = why_delivered overtake w number (slice_get w.copies number)
-why_nothing overtake w (Noise node from octets) = why.Dropped
-why_nothing overtake w (Tick node) = why.Idle
-why_nothing overtake w (Advance by) = why.Passed
-why_nothing overtake w (Change node change) = why.Heard
-why_nothing overtake w (Restart node store) = why.Heard
+abbrev pub why_nothing : WorldView → Happening → Why
+why_nothing w (Ask client server limits request) = why.Heard
+why_nothing w (Deliver number) = why_delivered w number (slice_get w.copies number)
+why_nothing w (Noise node from octets) = why.Dropped
+why_nothing w (Tick node) = why.Idle
+why_nothing w (Advance by) = why.Passed
+why_nothing w (Change node change) = why.Heard
+why_nothing w (Restart node store) = why.Heard
 
 abbrev pub why_words : Why → List ℕ
 why_words why.TooOld = codes "lost: too old"
@@ -131,31 +136,31 @@ abbrev pub refused_news : (fault : ℕ) → List ℕ
 refused_news fault = news_line (codes "refused " ++ decimal fault)
 
 -- the facts after so many, oldest first, and then the copies after so many
-pub record AreNews (facts copies : ℕ) (w : World) (text : List ℕ) : Type 0 where
+pub record AreNews (facts copies : ℕ) (w : WorldView) (text : List ℕ) : Type 0 where
   pub told : List ℕ
   pub are : AreFactLines (drop facts (reverse w.log)) told
   pub is : text ≡ told ++ sent_lines copies (drop copies w.copies)
 
-abbrev pub AreNewsOrWhy : (as_before : Bool) → Why → (facts copies : ℕ) → World → List ℕ → Type 0
+abbrev pub AreNewsOrWhy : (as_before : Bool) → Why → (facts copies : ℕ) → WorldView → List ℕ → Type 0
 AreNewsOrWhy true reason facts copies w text = text ≡ news_line (why_words reason)
 AreNewsOrWhy false reason facts copies w text = AreNews facts copies w text
 
 -- a refused ask; or what is new in a world that had so many facts and copies, or why nothing is
-abbrev pub IsOutcome : Option AskFault → Why → (facts copies : ℕ) → World → List ℕ → Type 0
+abbrev pub IsOutcome : Option AskFault → Why → (facts copies : ℕ) → WorldView → List ℕ → Type 0
 IsOutcome (Some fault) reason facts copies w text = text ≡ refused_news (ask_fault_number fault)
 IsOutcome None reason facts copies w text = AreNewsOrWhy (is_as_before facts copies w) reason facts copies w text
 
-pub record IsEventText (told : Option AskFault) (event : Event) (old new : WorldView) (text : List ℕ) : Type 0 where
+pub record IsEventText (told : Option AskFault) (event : Happening) (old new : WorldView) (text : List ℕ) : Type 0 where
   pub head : List ℕ
-  pub is_head : IsEventLine old.world.now event head
+  pub is_head : IsEventLine old.time.moment event head
   pub outcome : List ℕ
-  pub is_outcome : IsOutcome told (why_nothing old.overtake old.world event) (length old.world.log) (length old.world.copies) new.world outcome
+  pub is_outcome : IsOutcome told (why_nothing old event) (length old.log) (length old.copies) new outcome
   pub is : text ≡ head ++ outcome
 
 -- a change that its node's store refused
-pub record IsRefusedText (fault : ChangeFault) (event : Event) (old : WorldView) (text : List ℕ) : Type 0 where
+pub record IsRefusedText (fault : ChangeFault) (event : Happening) (old : WorldView) (text : List ℕ) : Type 0 where
   pub head : List ℕ
-  pub is_head : IsEventLine old.world.now event head
+  pub is_head : IsEventLine old.time.moment event head
   pub is : text ≡ head ++ refused_news (change_fault_number fault)
 
 -- a copy that counts as lost
@@ -169,7 +174,7 @@ in_words =
     record {
       went = IsEventText;
       refused = IsRefusedText;
-      lost = λ old copy text. text ≡ lose_text old.world.now copy;
+      lost = λ old copy text. text ≡ lose_text old.time.moment copy;
       ended = λ line fault text. text ≡ fault_line line fault;
     }
 

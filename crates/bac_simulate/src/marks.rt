@@ -5,9 +5,9 @@ ghost use Rattle.bac_chart.specs.Marks as plain;
 ghost use Rattle.bac_chart.specs.Views.{arrow_view, mark_view};
 ghost use Rattle.bac_journal.specs.Notes.{note_view};
 ghost use Rattle.bac_journal.specs.Views.{copy_view, key_view};
-ghost use Rattle.bac_network.specs.Views.{event_view, fact_view};
+ghost use Rattle.bac_network.specs.Views.{fact_view};
+ghost use Rattle.bac_simulate.specs.Views.{happening_view};
 ghost use Rattle.bac_protocol.specs.World.{same_key};
-ghost use Rattle.bac_protocol.specs.declared.times.TheConstants.{LIFE};
 ghost use Rattle.bac_simulate.specs.Traces.{arrow_of, client_in, coming_in, coming_mark, delivered_mark, ended_mark, ended_words, fact_mark, optional_marks, performed_mark, place_of, refused_mark, AddsMarks};
 ghost use Rattle.bac_requester.specs.TransactionViews.{ending_view};
 ghost use Rattle.bac_world.specs.World.{count_of};
@@ -16,7 +16,6 @@ use bac_chart::{Arrow, Mark, datagram_words};
 use bac_commands::print_ending;
 use bac_journal::{Copy, Note, Transaction};
 use bac_network::{Event, Fact, World};
-use bac_protocol::times::LIFE;
 use bac_requester::Ending;
 use std::alloc::{AllocError, Global};
 use std::io;
@@ -45,11 +44,11 @@ pub(crate) fn count_of(transaction: &Transaction, copies: &[Copy]) -> usize
     count
 }
 
-/// Whether a copy may come to its node: it was sent at most 5,000 ms ago, and not too many later ones are of its transaction.
-fn may_come(overtake: u8, now: u64, later: usize, copy: &Copy) -> bool
-    ensures { result ≡ (nat_le (now - copy.now.moment) LIFE && nat_le later overtake) }
+/// Whether a copy may come to its node: it was sent no longer ago than a copy lives, and not too many later ones are of its transaction.
+fn may_come(overtake: u8, life: u64, now: u64, later: usize, copy: &Copy) -> bool
+    ensures { result ≡ (nat_le (now - copy.now.moment) life && nat_le later overtake) }
 {
-    now.saturating_sub(copy.moment) <= LIFE && later <= usize::from(overtake)
+    now.saturating_sub(copy.moment) <= life && later <= usize::from(overtake)
 }
 
 pub(crate) fn arrow_of(alloc: Global, number: usize, copy: &Copy) -> Result<Arrow, AllocError>
@@ -94,7 +93,7 @@ fn coming_mark(
 
 fn delivered_mark(alloc: Global, world: &World, number: usize) -> Result<Option<Mark>, AllocError>
     ensures { IfOk result (λ o. option_map mark_view o
-        ≡ delivered_mark world.now.overtake world.now.world number (slice_get world.now.world.copies number)) }
+        ≡ delivered_mark world.now number (slice_get world.now.copies number)) }
 {
     let copies = world.copies();
     if number >= copies.len() {
@@ -102,7 +101,7 @@ fn delivered_mark(alloc: Global, world: &World, number: usize) -> Result<Option<
     }
     let copy = &copies[number];
     let later = count_of(&copy.transaction, &copies[number + 1..]);
-    let comes = may_come(world.overtake(), world.now(), later, copy);
+    let comes = may_come(world.overtake(), world.life(), world.now(), later, copy);
     let mark = coming_mark(alloc, comes, world.now(), number, copy)?;
     Ok(Some(mark))
 }
@@ -113,7 +112,7 @@ pub(crate) fn coming_in(
     world: &World,
     event: &Event,
 ) -> Result<Option<Mark>, AllocError>
-    ensures { IfOk result (λ o. option_map mark_view o ≡ coming_in world.now.overtake world.now.world (event_view event.now)) }
+    ensures { IfOk result (λ o. option_map mark_view o ≡ coming_in world.now (happening_view event.now)) }
 {
     match event {
         Event::Deliver { number } => delivered_mark(alloc, world, *number),
@@ -216,7 +215,7 @@ pub(crate) fn fact_mark(
 
 /// The node at which an event is refused.
 fn place_of(event: &Event) -> usize
-    ensures { result ≡ place_of (event_view event.now) }
+    ensures { result ≡ place_of (happening_view event.now) }
 {
     match event {
         Event::Ask { client, .. } => *client,
@@ -234,7 +233,7 @@ pub(crate) fn refused_mark(
     event: &Event,
     fault: u8,
 ) -> Result<Mark, AllocError>
-    ensures { IfOk result (λ m. mark_view m ≡ refused_mark now (event_view event.now) fault) }
+    ensures { IfOk result (λ m. mark_view m ≡ refused_mark now (happening_view event.now) fault) }
 {
     let words = format!(in alloc; "refused {fault}")?;
     Ok(note(now, place_of(event), words.into_bytes()))

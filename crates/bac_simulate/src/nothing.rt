@@ -1,18 +1,16 @@
 //! Why nothing came of an event.
 ghost use Rattle.std.specs.Prelude.{◌≡◌, ◌-◌, nat_le, slice_get};
-ghost use Rattle.bac_network.specs.Views.{event_view};
-ghost use Rattle.bac_protocol.specs.declared.times.TheConstants.{LIFE};
+ghost use Rattle.bac_simulate.specs.Views.{happening_view};
 ghost use Rattle.bac_simulate.specs.Worded.{why_copy, why_delivered, why_nothing, why_words};
 
 use crate::marks::count_of;
 use bac_journal::Copy;
 use bac_network::{Event, World};
-use bac_protocol::times::LIFE;
 
 /// Why nothing came of an event.
 #[derive(Clone, Copy, Debug, PartialEq, Eq)]
 pub(crate) enum Why {
-    /// The copy was sent more than 5,000 ms ago, and is lost.
+    /// The copy was sent longer ago than a copy lives, and is lost.
     TooOld,
     /// More later copies of its transaction were sent than may overtake it, and it is lost.
     Overtaken,
@@ -26,10 +24,10 @@ pub(crate) enum Why {
     Passed,
 }
 
-fn is_young(now: u64, copy: &Copy) -> bool
-    ensures { result ≡ nat_le (now - copy.now.moment) LIFE }
+fn is_young(life: u64, now: u64, copy: &Copy) -> bool
+    ensures { result ≡ nat_le (now - copy.now.moment) life }
 {
-    now.saturating_sub(copy.moment) <= LIFE
+    now.saturating_sub(copy.moment) <= life
 }
 
 fn are_few(later: usize, overtake: u8) -> bool
@@ -49,7 +47,7 @@ fn why_copy(is_young: bool, few: bool) -> Why
 
 /// Of a copy that is about to come to its node.
 fn why_delivered(world: &World, number: usize) -> Why
-    ensures { result ≡ why_delivered world.now.overtake world.now.world number (slice_get world.now.world.copies number) }
+    ensures { result ≡ why_delivered world.now number (slice_get world.now.copies number) }
 {
     let copies = world.copies();
     if number >= copies.len() {
@@ -57,13 +55,13 @@ fn why_delivered(world: &World, number: usize) -> Why
     }
     let copy = &copies[number];
     let later = count_of(&copy.transaction, &copies[number + 1..]);
-    let is_young = is_young(world.now(), copy);
+    let is_young = is_young(world.life(), world.now(), copy);
     why_copy(is_young, are_few(later, world.overtake()))
 }
 
 /// Of an event that is about to happen in a world, if nothing comes of it.
 pub(crate) fn why_nothing(world: &World, event: &Event) -> Why
-    ensures { result ≡ why_nothing world.now.overtake world.now.world (event_view event.now) }
+    ensures { result ≡ why_nothing world.now (happening_view event.now) }
 {
     match event {
         Event::Deliver { number } => why_delivered(world, *number),

@@ -27,8 +27,8 @@ pub(crate) struct Seen {
 
 impl Seen {
     pub(crate) fn of(world: &World) -> Seen
-        ensures facts { result.facts ≡ length world.now.world.log }
-        ensures copies { result.copies ≡ length world.now.world.copies }
+        ensures facts { result.facts ≡ length world.now.log }
+        ensures copies { result.copies ≡ length world.now.copies }
     {
         Seen {
             facts: world.log().len(),
@@ -118,14 +118,14 @@ pub(crate) fn print_lost<W: Write>(copy: u64, out: &mut W) -> io::Result<()>
 }
 
 pub(crate) fn is_as_before(world: &World, before: Seen) -> bool
-    ensures { result ≡ is_as_before before.facts before.copies world.now.world }
+    ensures { result ≡ is_as_before before.facts before.copies world.now }
 {
     let seen = Seen::of(world);
     seen.facts == before.facts && seen.copies == before.copies
 }
 
 fn print_news<W: Write>(alloc: Global, world: &World, before: Seen, out: &mut W) -> io::Result<()>
-    ensures { OnOk result (Appends (W.contents out.old) (W.contents out.new) (news_text false before.facts before.copies world.now.world)) }
+    ensures { OnOk result (Appends (W.contents out.old) (W.contents out.new) (news_text false before.facts before.copies world.now)) }
 {
     print_facts(alloc, world.asks(), world.log(), before.facts, out)?;
     print_copies(alloc, world.copies(), before.copies, out)
@@ -139,7 +139,7 @@ pub(crate) fn print_outcome<W: Write>(
     refused: Option<AskFault>,
     out: &mut W,
 ) -> io::Result<()>
-    ensures { OnOk result (Appends (W.contents out.old) (W.contents out.new) (outcome_text refused before.facts before.copies world.now.world)) }
+    ensures { OnOk result (Appends (W.contents out.old) (W.contents out.new) (outcome_text refused before.facts before.copies world.now)) }
 {
     if let Some(fault) = refused {
         return print_refused(fault.number(), out);

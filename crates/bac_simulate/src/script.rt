@@ -2,11 +2,10 @@
 ghost use Rattle.std.specs.Prelude.{◌≡◌, ◌<◌, ◌≤◌, ◌+◌, ◌^◌, [], ◌∷◌, length, map, IfOk, MatchOption, MatchResult, Some};
 ghost use Rattle.std.specs.List.{position};
 ghost use Rattle.bac_simulate.specs.Lines.{setting_at};
-ghost use Rattle.bac_simulate.specs.Views.{setting_view};
 ghost use Rattle.bac_text.specs.Lines.{is_line_end, lines_of};
 ghost use Rattle.bac_simulate.specs.Scripts.{IsModest, IsNotRead, Reads, ReadsAt, fault_at, limits_in, most_limits, said_at, said_from, script_of};
 ghost use Rattle.bac_simulate.specs.Scripts.{with_setting};
-ghost use Rattle.bac_simulate.specs.Views.{line_view};
+ghost use Rattle.bac_simulate.specs.Views.{line_view, setting_view};
 
 use crate::line::Setting;
 use crate::line_reading::{read_setting, read_statement};
@@ -87,7 +86,7 @@ fn said_in(
     line: &[u8],
     number: u64,
 ) -> Result<ScriptLine, ScriptFault>
-    ensures { ReadsAt line_view result number (said_at notes (limits_in world.now.world.nodes) line.now) }
+    ensures { ReadsAt line_view result number (said_at notes (limits_in world.now.nodes) line.now) }
 {
     let Some(read) = read_of(notes, line) else {
         return Ok(ScriptLine::Note);
@@ -108,7 +107,7 @@ pub(crate) fn lines_in(
 ) -> Result<Vec<ScriptLine>, ScriptFault>
     requires { before + length text.now < 2 ^ 64 }
     ensures read { Reads (λ lines. map line_view lines.items) result
-        (said_from notes (limits_in world.now.world.nodes) (before + 1) (lines_of text.now)) }
+        (said_from notes (limits_in world.now.nodes) (before + 1) (lines_of text.now)) }
     ensures few { IfOk result (λ lines. length lines.items ≤ length text.now) }
 {
     let mut lines = Vec::new(alloc);

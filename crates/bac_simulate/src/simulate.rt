@@ -1,16 +1,13 @@
 //! `bac simulate`, over any reader and writers.
 ghost use Rattle.std.specs.Prelude.{◌≡◌, ◌+◌, ◌<◌, ◌^◌, length, map, IfOk, IfSome, Ok, Some};
-ghost use Rattle.bac_network.specs.Views.{event_view};
-ghost use Rattle.bac_simulate.specs.Views.{setting_view};
 ghost use Rattle.bac_text.specs.Lines.{lines_of};
 ghost use Rattle.bac_text.specs.Texts.{AppendsText};
 ghost use Rattle.bac_simulate.specs.Runs.{Goes, IsEnd, IsRun, IsStep, IsUnread, Reports, Simulates, SimulatesAs, SimulatesIn, change_fault_in, status_for, status_of};
 ghost use Rattle.bac_simulate.specs.Scripts.{Happens, IsModest, Lost, limits_in, most_limits, said_from, script_of, with_setting};
-ghost use Rattle.bac_simulate.specs.Views.{line_view};
+ghost use Rattle.bac_simulate.specs.Views.{happening_view, line_view, setting_view};
 
-use crate::line::Setting;
 use crate::printing::{Seen, print_lost, print_outcome};
-use crate::script::{ScriptFault, ScriptLine, lines_in, read_first};
+use crate::script::{FirstLine, ScriptFault, ScriptLine, lines_in, read_first};
 use crate::world_of::world_of;
 use bac_commands::{print_fault, print_refused};
 use bac_network::{Event, World, WorldFault};
@@ -44,7 +41,7 @@ fn event_and_print<W: Write>(
     out: &mut W,
 ) -> io::Result<bool>
     ensures { IfOk result (λ passed. AppendsText (W.contents out.old) (W.contents out.new)
-        (IsStep line passed (Happens (event_view event.now)) world.old world.new)) }
+        (IsStep line passed (Happens (happening_view event.now)) world.old world.new)) }
 {
     let before = Seen::of(world);
     let fault = match world.step(event) {
@@ -168,22 +165,30 @@ pub(crate) fn no_script<E: Write>(fault: ScriptFault, err: &mut E) -> Status
     }
 }
 
-/// Runs lines in a world, where so many stand before them; all are read before the first event.
+/// Lines of a script that are to be read.
+#[derive(Drop)]
+struct ScriptText<'t> {
+    /// Whether notes are taken.
+    notes: bool,
+    /// How many lines stand before them.
+    before: u64,
+    text: &'t [u8],
+}
+
+/// Runs lines in a world; all are read before the first event.
 fn run_lines<O: Write, E: Write>(
     alloc: Global,
     world: &mut World,
-    notes: bool,
-    before: u64,
-    text: &[u8],
+    script: &ScriptText<'_>,
     out: &mut O,
     err: &mut E,
 ) -> Status
-    requires { before + length text.now < 2 ^ 64 }
-    ensures { Goes (before + 1) (said_from notes (limits_in world.old.world.nodes) (before + 1) (lines_of text.now)) world.old world.new
-        (O.contents out.old) (O.contents out.new) result }
+    requires { script.now.before + length script.now.text.now < 2 ^ 64 }
+    ensures { Goes (script.now.before + 1) (said_from script.now.notes (limits_in world.old.nodes) (script.now.before + 1)
+        (lines_of script.now.text.now)) world.old world.new (O.contents out.old) (O.contents out.new) result }
 {
-    match lines_in(alloc, world, notes, before, text) {
-        Ok(lines) => run_said(alloc, world, before, &lines, out, err),
+    match lines_in(alloc, world, script.notes, script.before, script.text) {
+        Ok(lines) => run_said(alloc, world, script.before, &lines, out, err),
         Err(fault) => no_script(fault, err),
     }
 }
@@ -201,26 +206,35 @@ pub fn simulate_in<O: Write, E: Write>(
 ) -> Status
     ensures { SimulatesIn text.now world.old world.new (O.contents out.old) (O.contents out.new) result }
 {
-    run_lines(alloc, world, false, 0, text, out, err)
+    let script = ScriptText {
+        notes: false,
+        before: 0,
+        text,
+    };
+    run_lines(alloc, world, &script, out, err)
 }
 
-/// Runs the lines after the one of that number in the network that this sets.
+/// Runs the lines after the first one in the network that this sets.
 fn run_set<O: Write, E: Write>(
     alloc: Global,
     notes: bool,
-    setting: &Setting,
-    number: u64,
-    rest: &[u8],
+    first: &FirstLine<'_>,
     out: &mut O,
     err: &mut E,
 ) -> Status
-    requires modest { IsModest (setting_view setting.now) }
-    requires few { number + length rest.now < 2 ^ 64 }
-    ensures { Reports (with_setting number (Some (setting_view setting.now)) (said_from notes (λ node. most_limits) (number + 1) (lines_of rest.now)))
+    requires modest { IsModest (setting_view first.now.setting) }
+    requires few { first.now.number + length first.now.rest.now < 2 ^ 64 }
+    ensures { Reports (with_setting first.now.number (Some (setting_view first.now.setting))
+        (said_from notes (λ node. most_limits) (first.now.number + 1) (lines_of first.now.rest.now)))
         (O.contents out.old) (O.contents out.new) result }
 {
-    match world_of(alloc, setting) {
-        Ok(mut world) => run_lines(alloc, &mut world, notes, number, rest, out, err),
+    let script = ScriptText {
+        notes,
+        before: first.number,
+        text: first.rest,
+    };
+    match world_of(alloc, &first.setting) {
+        Ok(mut world) => run_lines(alloc, &mut world, &script, out, err),
         Err(NoMemory) => no_memory(err),
     }
 }
@@ -236,15 +250,7 @@ fn simulate<O: Write, E: Write>(
     ensures { Reports (script_of notes (lines_of text.now)) (O.contents out.old) (O.contents out.new) result }
 {
     match read_first(alloc, notes, text) {
-        Ok(first) => run_set(
-            alloc,
-            notes,
-            &first.setting,
-            first.number,
-            first.rest,
-            out,
-            err,
-        ),
+        Ok(first) => run_set(alloc, notes, &first, out, err),
         Err(fault) => no_script(fault, err),
     }
 }

@@ -4,12 +4,12 @@ ghost use Rattle.std.specs.Option.{option_map};
 ghost use Rattle.bac_chart.specs.Views.{mark_view};
 ghost use Rattle.bac_journal.specs.Notes.{note_view};
 ghost use Rattle.bac_journal.specs.Views.{copy_view};
-ghost use Rattle.bac_network.specs.Views.{event_view, fact_view};
+ghost use Rattle.bac_network.specs.Views.{fact_view};
 ghost use Rattle.bac_simulate.specs.Drawn.{in_marks};
 ghost use Rattle.bac_simulate.specs.Runs.{Runs, Steps};
 ghost use Rattle.bac_simulate.specs.Scripts.{Happens, Lost};
 ghost use Rattle.bac_simulate.specs.Traces.{facts_marks, news_marks, optional_marks, refused_mark, sent_marks, AddsMarks, AppendsMarks};
-ghost use Rattle.bac_simulate.specs.Views.{line_view};
+ghost use Rattle.bac_simulate.specs.Views.{happening_view, line_view};
 
 use crate::marks::{add, arrow_of, coming_in, fact_mark, refused_mark};
 use crate::printing::Seen;
@@ -65,7 +65,7 @@ fn add_news(
     marks: &mut Vec<Mark>,
 ) -> io::Result<()>
     ensures { OnOk result (AddsMarks marks.old.items marks.new.items
-        (optional_marks (option_map mark_view coming) ++ news_marks before.facts before.copies world.now.world)) }
+        (optional_marks (option_map mark_view coming) ++ news_marks before.facts before.copies world.now)) }
 {
     add(coming, marks)?;
     add_facts(
@@ -88,7 +88,7 @@ fn add_refused(
     fault: u8,
     marks: &mut Vec<Mark>,
 ) -> Result<(), AllocError>
-    ensures { OnOk result (AddsMarks marks.old.items marks.new.items (refused_mark now (event_view event.now) fault ∷ [])) }
+    ensures { OnOk result (AddsMarks marks.old.items marks.new.items (refused_mark now (happening_view event.now) fault ∷ [])) }
 {
     let mark = refused_mark(alloc, now, event, fault)?;
     marks.push(mark)?;
@@ -113,7 +113,7 @@ fn trace_event<E: Write>(
     err: &mut E,
 ) -> io::Result<bool>
     ensures { IfOk result (λ passed. AppendsMarks marks.old.items marks.new.items
-        (Steps in_marks line passed (Happens (event_view event.now)) world.old world.new)) }
+        (Steps in_marks line passed (Happens (happening_view event.now)) world.old world.new)) }
 {
     let before = Seen::of(world);
     let now = world.now();

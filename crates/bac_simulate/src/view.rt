@@ -2,11 +2,10 @@
 ghost use Rattle.std.specs.Prelude.{◌≡◌, ◌<◌, ◌+◌, ◌^◌, length, map, IfOk, MatchResult, OnOk};
 ghost use Rattle.std.specs.Io.KnownBytes.{Appends};
 ghost use Rattle.bac_chart.specs.Views.{mark_view};
-ghost use Rattle.bac_simulate.specs.Views.{setting_view};
 ghost use Rattle.bac_simulate.specs.Drawn.{rest_of, shown_text, IsDrawn, IsRead, IsShown, IsWorded, Shows, ShowsAs};
 ghost use Rattle.bac_simulate.specs.Runs.{status_for};
 ghost use Rattle.bac_simulate.specs.Scripts.{IsModest, IsNotRead, script_of};
-ghost use Rattle.bac_simulate.specs.Views.{line_view};
+ghost use Rattle.bac_simulate.specs.Views.{line_view, setting_view};
 ghost use Rattle.bac_text.specs.Lines.{lines_of};
 ghost use Rattle.bac_text.specs.Texts.{AppendsText};
 
@@ -47,7 +46,7 @@ fn print_view<W: Write>(
     world: &World,
     out: &mut W,
 ) -> io::Result<()>
-    ensures { OnOk result (Appends (W.contents out.old) (W.contents out.new) (shown_text view nodes (map mark_view marks.now) world.now.world)) }
+    ensures { OnOk result (Appends (W.contents out.old) (W.contents out.new) (shown_text view nodes (map mark_view marks.now) world.now.copies)) }
 {
     let nodes = u64::from(nodes);
     match view {

@@ -1,11 +1,10 @@
 //! The run of a script, printed in words.
 ghost use Rattle.std.specs.Prelude.{◌+◌, ◌<◌, ◌^◌, length, map, IfOk, OnOk};
 ghost use Rattle.std.specs.Io.KnownBytes.{Appends};
-ghost use Rattle.bac_network.specs.Views.{event_view};
 ghost use Rattle.bac_text.specs.Texts.{AppendsText};
 ghost use Rattle.bac_simulate.specs.Runs.{Runs, Steps};
 ghost use Rattle.bac_simulate.specs.Scripts.{Happens, Lost};
-ghost use Rattle.bac_simulate.specs.Views.{line_view};
+ghost use Rattle.bac_simulate.specs.Views.{happening_view, line_view};
 ghost use Rattle.bac_simulate.specs.Worded.{in_words, lose_text};
 
 use crate::nothing::why_nothing;
@@ -28,7 +27,7 @@ fn print_event<W: Write>(
     out: &mut W,
 ) -> io::Result<bool>
     ensures { IfOk result (λ passed. AppendsText (W.contents out.old) (W.contents out.new)
-        (Steps in_words line passed (Happens (event_view event.now)) world.old world.new)) }
+        (Steps in_words line passed (Happens (happening_view event.now)) world.old world.new)) }
 {
     let before = Seen::of(world);
     let why = why_nothing(world, event);

@@ -1,7 +1,8 @@
 //! An event, and what came of it, in words.
 ghost use Rattle.std.specs.Prelude.{◌≡◌, ◌++◌, drop, map, IfOk, OnOk};
 ghost use Rattle.bac_journal.specs.Views.{copy_view};
-ghost use Rattle.bac_network.specs.Views.{event_view, fact_view};
+ghost use Rattle.bac_network.specs.Views.{fact_view};
+ghost use Rattle.bac_simulate.specs.Views.{happening_view};
 ghost use Rattle.bac_service.specs.Views.{owned_reply_view, owned_request_view};
 ghost use Rattle.bac_store.specs.Views.{change_view};
 ghost use Rattle.bac_requester.specs.TransactionViews.{ending_view};
@@ -68,7 +69,7 @@ fn change_words(alloc: Global, node: usize, change: &Change) -> Result<Vec<u8>, 
 }
 
 fn event_words(alloc: Global, event: &Event) -> io::Result<Vec<u8>>
-    ensures { IfOk result (λ t. AreEventWords (event_view event.now) t.items) }
+    ensures { IfOk result (λ t. AreEventWords (happening_view event.now) t.items) }
 {
     let words = match event {
         Event::Ask {
@@ -89,7 +90,7 @@ fn event_words(alloc: Global, event: &Event) -> io::Result<Vec<u8>>
 
 /// An event at that moment.
 pub(crate) fn event_line(alloc: Global, now: u64, event: &Event) -> io::Result<Vec<u8>>
-    ensures { IfOk result (λ t. IsEventLine now (event_view event.now) t.items) }
+    ensures { IfOk result (λ t. IsEventLine now (happening_view event.now) t.items) }
 {
     let words = event_words(alloc, event)?;
     let mut text = format!(in alloc; "{now} ")?.into_bytes();
@@ -184,7 +185,7 @@ fn add_copies(
 }
 
 fn add_news(alloc: Global, world: &World, before: Seen, text: &mut Vec<u8>) -> io::Result<()>
-    ensures { OnOk result (Adds text.old.items text.new.items (AreNews before.facts before.copies world.now.world)) }
+    ensures { OnOk result (Adds text.old.items text.new.items (AreNews before.facts before.copies world.now)) }
 {
     add_facts(alloc, world.log(), before.facts, text)?;
     add_copies(alloc, world.copies(), before.copies, text)?;
@@ -208,7 +209,7 @@ pub(crate) fn add_outcome(
     refused: Option<AskFault>,
     text: &mut Vec<u8>,
 ) -> io::Result<()>
-    ensures { OnOk result (Adds text.old.items text.new.items (IsOutcome refused why before.facts before.copies world.now.world)) }
+    ensures { OnOk result (Adds text.old.items text.new.items (IsOutcome refused why before.facts before.copies world.now)) }
 {
     if let Some(fault) = refused {
         add_refused(alloc, fault.number(), text)?;

@@ -3,12 +3,10 @@ ghost use Rattle.std.specs.Prelude.{◌≡◌, ◌<◌, IfOk};
 ghost use Rattle.bac_value.specs.Views.{object_identifier_view};
 ghost use Rattle.bac_apdu.specs.Views.{limits_view};
 ghost use Rattle.bac_store.specs.AtNode.Change.{Value, File};
-ghost use Rattle.bac_world.specs.World.Event.{Change as Happening};
-ghost use Rattle.bac_network.specs.Views.{event_view};
-ghost use Rattle.bac_simulate.specs.Views.{setting_view, statement_view};
+ghost use Rattle.bac_simulate.specs.Happenings.Happening.{Change as Changes};
 ghost use Rattle.bac_simulate.specs.Houses.{link_at, makers_from, world_set};
 ghost use Rattle.bac_simulate.specs.Scripts.{IsModest, limits_in, said_by};
-ghost use Rattle.bac_simulate.specs.Views.{line_view};
+ghost use Rattle.bac_simulate.specs.Views.{happening_view, line_view, setting_view, statement_view};
 
 use crate::line::{SetFile, SetProperty, Setting, Statement};
 use crate::script::ScriptLine;
@@ -79,7 +77,7 @@ pub(crate) fn world_of(alloc: Global, setting: &Setting) -> Result<World, NoMemo
 
 /// What a node takes of APDUs as a server: segmented requests whatever its SA bit says of its replies. Where there is no such node, everything.
 fn limits_of(world: &World, node: usize) -> Limits
-    ensures { limits_view result ≡ limits_in world.now.world.nodes node }
+    ensures { limits_view result ≡ limits_in world.now.nodes node }
 {
     match world.nodes().get(node) {
         Some(node) => {
@@ -96,7 +94,7 @@ fn limits_of(world: &World, node: usize) -> Limits
 
 /// A node changes a property of its own store.
 fn value_change(set: SetProperty) -> Event
-    ensures { event_view result ≡ Happening set.node (Value (object_identifier_view set.object) set.property set.octets.items) }
+    ensures { happening_view result ≡ Changes set.node (Value (object_identifier_view set.object) set.property set.octets.items) }
 {
     Event::Change {
         node: set.node as usize,
@@ -110,7 +108,7 @@ fn value_change(set: SetProperty) -> Event
 
 /// A node changes a file of its own store.
 fn file_change(set: SetFile) -> Event
-    ensures { event_view result ≡ Happening set.node (File (object_identifier_view set.object) set.octets.items) }
+    ensures { happening_view result ≡ Changes set.node (File (object_identifier_view set.object) set.octets.items) }
 {
     Event::Change {
         node: set.node as usize,
@@ -123,7 +121,7 @@ fn file_change(set: SetFile) -> Event
 
 /// What a line says in a world: who asks knows what the other node takes.
 pub(crate) fn said_by(world: &World, step: Statement) -> ScriptLine
-    ensures { line_view result ≡ said_by (limits_in world.now.world.nodes) (statement_view step) }
+    ensures { line_view result ≡ said_by (limits_in world.now.nodes) (statement_view step) }
 {
     match step {
         Statement::Ask(ask) => ScriptLine::Happens(Event::Ask {

@@ -14,7 +14,7 @@ loop-place-preserved g c =
     let lt : at.place < length c.args.lines.now = omega arith in
     λ all last end more. one_more_asked c.args.asking.now (drop at.place (map line_view c.args.lines.now))
     (drop (at.place + 1) (map line_view c.args.lines.now)) (line_view e) at.all _ _ all _ _ last _ _ end
-    (λ b t o. AsksEach c.args.asking.now (map line_view c.args.lines.now) b (timed c.args.bound_node.now (g.C.Clock.told c.args.clock.now)) t
+    (λ b t o. AsksEach c.args.asking.now (map line_view c.args.lines.now) b (timed c.args.station.now.bound_node (g.C.Clock.told c.args.station.now.clock)) t
     (g.O.Write.contents c.args.out.now) o)
     (drop_seen line_view c.args.lines.now at.place e (slice_get_read c.args.lines.now _ at.place e refl lt c.index-lines-place.is))
     c.both-all.ensures c.in_ok-succeeded.ensures.asked at.invariant more
@@ -24,6 +24,6 @@ returns-clause-asked g c =
     let at = c.loop-place in
     let same : length (map line_view c.args.lines.now) ≡ length c.args.lines.now = length-map c.args.lines.now line_view in
     all_asked c.args.asking.now (drop at.place (map line_view c.args.lines.now)) at.all _ _
-    (λ b t o. AsksEach c.args.asking.now (map line_view c.args.lines.now) b (timed c.args.bound_node.now (g.C.Clock.told c.args.clock.now)) t
+    (λ b t o. AsksEach c.args.asking.now (map line_view c.args.lines.now) b (timed c.args.station.now.bound_node (g.C.Clock.told c.args.station.now.clock)) t
     (g.O.Write.contents c.args.out.now) o)
     (drop_all at.place (map line_view c.args.lines.now) (omega (arith, same))) at.invariant

@@ -6,5 +6,7 @@ use Rattle.bac_command_line.proofs.asking_lines.ask_each.Given as goal
 
 abbrev pub invariant-loop-place : goal.invariant-loop-place
 invariant-loop-place g l = (all : Bool) (last : Timed) (end : Option (List ℕ))
-    → AsksEach l.asking (drop l.place (map line_view l.lines)) all (timed l.bound_node (g.C.Clock.told l.clock)) last (g.O.Write.contents l.out) end
-    → AsksEach l.asking (map line_view l.lines) (l.all && all) (timed l.fn.bound_node (g.C.Clock.told l.fn.clock)) last (g.O.Write.contents l.fn.out) end
+    → AsksEach l.asking (drop l.place (map line_view l.lines)) all (timed l.station.bound_node (g.C.Clock.told l.station.clock)) last
+    (g.O.Write.contents l.out) end
+    → AsksEach l.asking (map line_view l.lines) (l.all && all) (timed l.fn.station.bound_node (g.C.Clock.told l.fn.station.clock)) last
+    (g.O.Write.contents l.fn.out) end

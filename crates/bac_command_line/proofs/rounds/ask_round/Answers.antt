@@ -6,5 +6,6 @@ use Rattle.bac_command_line.proofs.rounds.ask_round.Goals as goal
 
 pub returns-clause-asked : goal.returns-clause-asked
 returns-clause-asked g c =
-    round_begun (AsksAll c.args.asking.now c.args.asked.now) c.args.from _ _ _ (timed c.rest.new.bound_node (g.C.Clock.told c.rest.new.clock)) _ _ _ _
+    round_begun (AsksAll c.args.asking.now c.args.asked.now) c.args.from _ _ _
+    (timed c.rest.new.station.bound_node (g.C.Clock.told c.rest.new.station.clock)) _ _ _ _
     c.in_ok-rest.ensures.rested c.now-began.ensures.tells c.in_ok-succeeded.ensures.asked

@@ -10,7 +10,7 @@ loop-preserved g c =
     let at = c.loop in
     λ left few all last end more. one_more_round (AsksAll c.args.asking.now c.args.asked.now) c.args.rounds.every left at.from _ _ at.all _ _ all _ _ last _ _ end
     (λ b t o. AreRoundsFrom (AsksAll c.args.asking.now c.args.asked.now) c.args.rounds.every c.most-times.result 0 b
-    (timed c.args.bound_node.now (g.C.Clock.told c.args.clock.now)) t (g.O.Write.contents c.args.out.now) o)
+    (timed c.args.station.now.bound_node (g.C.Clock.told c.args.station.now.clock)) t (g.O.Write.contents c.args.out.now) o)
     c.both-all.ensures c.next_from-from.ensures c.in_ok-round.ensures.asked (at.invariant (suc left) (omega arith)) more
 
 pub returns-clause-asked : goal.returns-clause-asked

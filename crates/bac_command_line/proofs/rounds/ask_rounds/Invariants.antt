@@ -7,6 +7,7 @@ use Rattle.bac_command_line.proofs.rounds.ask_rounds.Given as goal
 
 abbrev pub invariant-loop : goal.invariant-loop
 invariant-loop g l = (left : ℕ) → left + l.counter ≡ l.times → (all : Bool) (last : Timed) (end : Option (List ℕ))
-    → AreRoundsFrom (AsksAll l.asking l.asked) l.rounds.every left l.from all (timed l.bound_node (g.C.Clock.told l.clock)) last (g.O.Write.contents l.out) end
-    → AreRoundsFrom (AsksAll l.asking l.asked) l.rounds.every l.times 0 (l.all && all) (timed l.fn.bound_node (g.C.Clock.told l.fn.clock)) last
+    → AreRoundsFrom (AsksAll l.asking l.asked) l.rounds.every left l.from all (timed l.station.bound_node (g.C.Clock.told l.station.clock)) last
+    (g.O.Write.contents l.out) end
+    → AreRoundsFrom (AsksAll l.asking l.asked) l.rounds.every l.times 0 (l.all && all) (timed l.fn.station.bound_node (g.C.Clock.told l.fn.station.clock)) last
     (g.O.Write.contents l.fn.out) end

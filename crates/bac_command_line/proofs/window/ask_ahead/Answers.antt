@@ -18,7 +18,8 @@ loop-place-preserved g c =
       whole = λ all last text more. one_more_told c.args.asking.now c.args.window (drop at.place (map line_view c.args.lines.now))
           (drop (at.place + 1) (map line_view c.args.lines.now)) (map line_view at.waiting.now) (map line_view c.in_ok-waiting.waiting.now) (line_view e)
           at.all _ _ all _ _ _ c.in_ok-end.end last _ _ text
-          (λ b t o. AsksAhead c.args.asking.now c.args.window (map line_view c.args.lines.now) b (timed c.args.bound_node.now (g.C.Clock.told c.args.clock.now)) t
+          (λ b t o. AsksAhead c.args.asking.now c.args.window (map line_view c.args.lines.now) b
+          (timed c.args.station.now.bound_node (g.C.Clock.told c.args.station.now.clock)) t
           (g.O.Write.contents c.args.out.now) o)
           (drop_seen line_view c.args.lines.now at.place e (slice_get_read c.args.lines.now _ at.place e refl lt c.index-lines-place.is))
           c.both-all.ensures c.in_ok-waiting.ensures.begun c.in_ok-end.ensures.ended c.in_ok-succeeded.ensures.told at.invariant.whole more;
@@ -29,6 +30,7 @@ returns-clause-asked g c =
     let at = c.loop-place in
     let same : length (map line_view c.args.lines.now) ≡ length c.args.lines.now = length-map c.args.lines.now line_view in
     all_told c.args.asking.now c.args.window (drop at.place (map line_view c.args.lines.now)) (map line_view at.waiting.now) at.all _ _
-    (λ b t o. AsksAhead c.args.asking.now c.args.window (map line_view c.args.lines.now) b (timed c.args.bound_node.now (g.C.Clock.told c.args.clock.now)) t
+    (λ b t o. AsksAhead c.args.asking.now c.args.window (map line_view c.args.lines.now) b
+    (timed c.args.station.now.bound_node (g.C.Clock.told c.args.station.now.clock)) t
     (g.O.Write.contents c.args.out.now) o)
     (drop_all at.place (map line_view c.args.lines.now) (omega (arith, same))) at.invariant.whole

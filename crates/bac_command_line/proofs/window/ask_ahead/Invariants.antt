@@ -11,7 +11,7 @@ invariant-loop-place g l =
       kept : length l.flights.asks.items + length l.waiting + l.place ≡ length l.lines;
       whole : (all : Bool) (last : Timed) (end : Option (List ℕ))
           → PrintsEach l.asking l.window (drop l.place (map line_view l.lines)) (map line_view l.waiting) all
-          (aloft (timed l.bound_node (g.C.Clock.told l.clock)) l.flights.asks.items) last (g.O.Write.contents l.out) end
-          → AsksAhead l.asking l.window (map line_view l.lines) (l.all && all) (timed l.fn.bound_node (g.C.Clock.told l.fn.clock)) last
+          (aloft (timed l.station.bound_node (g.C.Clock.told l.station.clock)) l.flights.asks.items) last (g.O.Write.contents l.out) end
+          → AsksAhead l.asking l.window (map line_view l.lines) (l.all && all) (timed l.fn.station.bound_node (g.C.Clock.told l.fn.station.clock)) last
           (g.O.Write.contents l.fn.out) end;
     }

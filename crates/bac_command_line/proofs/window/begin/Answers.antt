@@ -13,7 +13,7 @@ returns-in-Err g c =
           record {
             start = c.now.result;
             begun =
-                subst (λ (t : Told). IsRefused (question_view c.args.question.now) c.in-Err.fault (timed c.args.bound_node.now t)
+                subst (λ (t : Told). IsRefused (question_view c.args.question.now) c.in-Err.fault (timed c.args.station.now.bound_node t)
                 (timed c.begin_by.new.self (g.C.Clock.told c.begin_by.new.clock))) c.now.ensures.tells (c.in-Err.ensures.refused (search rules));
           };
       failed = tt;

@@ -10,8 +10,9 @@ invariant-loop-rest g l =
     record {
       kept : length l.flights.asks.items + length l.rest ≡ length l.fn.flights.asks.items + length l.waiting;
       whole : (r : List Numbered) (n : Aloft)
-          → BeginsMore l.asking l.window (map line_view l.rest) (aloft (timed l.bound_node (g.C.Clock.told l.clock)) l.flights.asks.items) r n
-          → BeginsMore l.asking l.window (map line_view l.waiting) (aloft (timed l.fn.bound_node (g.C.Clock.told l.fn.clock)) l.fn.flights.asks.items) r n;
+          → BeginsMore l.asking l.window (map line_view l.rest) (aloft (timed l.station.bound_node (g.C.Clock.told l.station.clock)) l.flights.asks.items) r n
+          → BeginsMore l.asking l.window (map line_view l.waiting)
+          (aloft (timed l.fn.station.bound_node (g.C.Clock.told l.fn.station.clock)) l.fn.flights.asks.items) r n;
     }
 
 abbrev pub decreases-loop-rest : goal.decreases-loop-rest

@@ -7,11 +7,15 @@ use Rattle.bac_simulate.proofs.simulate.run_lines.Goals as goal
 
 pub returns-in-Ok : goal.returns-in-Ok
 returns-in-Ok g c =
-    as_read (said_from c.args.notes (limits_in c.args.world.now.world.nodes) (c.args.before + 1) (lines_of c.args.text.now)) (c.args.before + 1)
+    as_read
+    (said_from c.args.script.now.notes (limits_in c.args.world.now.nodes) (c.args.script.now.before + 1) (lines_of c.args.script.now.text.now))
+    (c.args.script.now.before + 1)
     (map line_view c.in-Ok.lines.items) (map line_view c.deref.result.now) _ _ _ _ _ (ap (map line_view) c.deref.ensures.value) c.in-Ok.ensures.read
     c.run_said.ensures
 
 pub returns-in-Err : goal.returns-in-Err
 returns-in-Err g c =
-    not_read c.in-Err.fault (said_from c.args.notes (limits_in c.args.world.now.world.nodes) (c.args.before + 1) (lines_of c.args.text.now)) (c.args.before + 1) _ _ _
+    not_read c.in-Err.fault
+    (said_from c.args.script.now.notes (limits_in c.args.world.now.nodes) (c.args.script.now.before + 1) (lines_of c.args.script.now.text.now))
+    (c.args.script.now.before + 1) _ _ _
     c.in-Err.ensures.read c.no_script.ensures
