@@ -1,7 +1,8 @@
 -- How a node is started.
 use Rattle.std.specs.Prelude.{◌≡◌, ℕ, Bool, ◌&&◌, IsTrue, List, Option, Some, MatchOption, map}
 use Rattle.bac_apdu.specs.Spelling.{codes_fit}
-use Rattle.bac_store.specs.Made.{IsMadeOf}
+use Rattle.bac_store.specs.Made.{IsMadeOf, IsRefused}
+use Rattle.bac_store.specs.declared.store_fault.StoreFault.TheVariants as store_fault
 use Rattle.bac_store.specs.House.{house}
 use Rattle.bac_store.specs.Stores.{Object, Store}
 use Rattle.bac_store.specs.Views.{object_view}
@@ -11,6 +12,10 @@ use Rattle.bac_node.specs.declared.config.Config.{Config}
 use Rattle.bac_c.specs.Devices.{IsIdle}
 use Rattle.bac_c.specs.declared.device.Device.{Device}
 use Rattle.bac_c.specs.declared.records.Settings.{Settings}
+
+-- the objects are no store, though no two have one identifier
+abbrev pub IsBad : List Object → Type 0
+IsBad objects = IsRefused objects store_fault.BadObject
 
 -- each number is in its range
 abbrev pub is_right : Settings → Bool

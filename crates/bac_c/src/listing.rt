@@ -1,6 +1,6 @@
 //! The objects of a node that is to be started.
 ghost use Rattle.std.specs.Prelude.{◌≡◌, ◌≢◌, ◌↔◌, ◌++◌, ◌∷◌, [], false, IfOk, IsErrOf, IsTrue, None, OnErr, OnOk};
-ghost use Rattle.bac_store.specs.Views.{object_view};
+ghost use Rattle.bac_store.specs.Views.{object_view, property_view};
 ghost use Rattle.bac_c.specs.Devices.{Holds, IsIdle};
 ghost use Rattle.bac_c.specs.Listing.{bare, can_add, with_file, with_property, HasListed, IsLastChanged, StaysListed};
 ghost use Rattle.bac_c.specs.Ranges.{can_list};
@@ -43,7 +43,8 @@ fn bare_object(alloc: Global, object_type: u16, instance: u32, name: &[u8]) -> R
 
 /// An object with one more property, and whether there was memory for it; the object as it was otherwise.
 fn one_more(object: Object, property: Property) -> (Object, bool)
-    ensures more { IsTrue result.1 → object_view result.0 ≡ with_property property.number property.values.octets.items property.writable (object_view object) }
+    ensures more { IsTrue result.1 → object_view result.0
+        ≡ record (object_view object) { properties = (object_view object).properties ++ property_view property ∷ [] } }
     ensures same { (IsTrue result.1 → ⊥) → object_view result.0 ≡ object_view object }
 {
     let mut object = object;

@@ -1,11 +1,11 @@
 //! Start.
 ghost use Rattle.std.specs.Prelude.{◌≡◌, ◌≢◌, ◌↔◌, [], false, map, true, IfOk, IsErrOf, IsTrue, None, OnErr, OnOk, Some};
 ghost use Rattle.bac_node.specs.Fresh.{has_slots, made_node, window_fits};
-ghost use Rattle.bac_store.specs.Made.{IsBad, IsMadeOf};
+ghost use Rattle.bac_store.specs.Made.{IsMadeOf};
 ghost use Rattle.bac_store.specs.Objects.{AreDistinct};
 ghost use Rattle.bac_store.specs.Views.{object_view};
 ghost use Rattle.bac_c.specs.Devices.{Holds, IsIdle, IsQuiet};
-ghost use Rattle.bac_c.specs.Starting.{HasHouse, HasStarted, IsHouseWith, IsReady, IsStartedWith, is_right, listed_in};
+ghost use Rattle.bac_c.specs.Starting.{HasHouse, HasStarted, IsBad, IsHouseWith, IsReady, IsStartedWith, is_right, listed_in};
 ghost use Rattle.bac_c.specs.Statuses.{is_one_of, status_of, HOUSE_STARTING, STARTING};
 ghost use Rattle.bac_c.specs.Statuses.{ALREADY_STARTED, BAD_OBJECT, BAD_SETTINGS, DONE, DUPLICATE, NOT_OPEN, NO_MEMORY};
 

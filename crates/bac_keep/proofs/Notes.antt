@@ -12,10 +12,10 @@ use Rattle.bac_service.specs.Values.WriteAccess.{WriteStream, WriteRecords}
 use Rattle.bac_store.specs.AtNode.{Change}
 use Rattle.bac_store.specs.Changes.{IsGranted, after, is_done, with_contents, with_object, with_octets, with_own_values, with_values}
 use Rattle.bac_store.specs.Kept.{IsInOrder, object_number}
-use Rattle.bac_store.specs.Replies.{at_file, at_object, at_property, file_of, is_binary_state, is_no_write_start, is_of_kind, reply_to}
+use Rattle.bac_store.specs.Replies.{at_file, at_object, at_property, file_of, is_no_write_start, is_of_kind, is_out_of_range, reply_to}
 use Rattle.bac_store.specs.Replies.{write_file_reply, write_reply, written}
 use Rattle.bac_store.specs.Limits.{FILE_LIMIT, VALUE_LIMIT}
-use Rattle.bac_store.specs.Stores.{File, Object, Property, Store, is_number, is_object, is_state, listed_in, object_in, property_in}
+use Rattle.bac_store.specs.Stores.{File, Object, Property, Store, is_number, is_object, listed_in, object_in, property_in}
 use Rattle.bac_store.specs.Writes.{file_at, listed_at, listed_of}
 use Rattle.bac_store.proofs.Distinct.{AllPairs-map, some_first}
 use Rattle.bac_store.proofs.GrantLaws.{granted_after, listed}
@@ -147,16 +147,17 @@ module _ (cells : Cells) (document : Store) where
 -- ---- what is granted may be written
 
 module _ (r : Reference) (values : List ℕ) where
-  by_case : (index writable kind binary state long : Bool)
+  by_case : (index writable kind range long : Bool)
       → is_done (if index then Reply.Error 2 50 else (if not writable then Reply.Error 2 40 else (if not kind then Reply.Error 2 9 else
-      (if binary && not state then Reply.Error 2 37 else (if long then Reply.Error 3 20 else Simple))))) ≡ true
+      (if range then Reply.Error 2 37 else (if long then Reply.Error 3 20 else Simple))))) ≡ true
       → writable ≡ true
-  by_case true writable kind binary state long h = cc
-  by_case false false kind binary state long h = cc
-  by_case false true kind binary state long h = refl
+  by_case true writable kind range long h = cc
+  by_case false false kind range long h = cc
+  by_case false true kind range long h = refl
 
   of_property : (p : Property) → is_done (at_property (Some p) (write_reply r values)) ≡ true → p.writable ≡ true
-  of_property p h = by_case (is_some r.index) p.writable (is_of_kind p.kind values) (is_binary_state r) (is_state values) (nat_lt VALUE_LIMIT (length values)) h
+  of_property p h =
+      by_case (is_some r.index) p.writable (is_of_kind p.kind values) (is_out_of_range r values p) (nat_lt VALUE_LIMIT (length values)) h
 
   pub granted_value : (s : Store) (priority : Option ℕ) → IsGranted s (WriteProperty r values priority) → IsWritableValue s r.object r.property
   granted_value s priority granted = go (object_in s r.object) refl granted
