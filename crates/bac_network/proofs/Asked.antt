@@ -1,9 +1,9 @@
 -- A node asks another one.
-use Rattle.std.proofs.Common.{◌≡◌, ℕ, ◌+◌, ◌≤◌, List, ◌∷◌, length, Option, Some, None, Result, Ok, slice_get, refl, sym, ap, subst, inl, inr, ◌∙◌, arith}
+use Rattle.std.proofs.Common.{◌≡◌, ℕ, ◌+◌, ◌≤◌, List, [], ◌∷◌, length, Option, Some, None, Result, Ok, slice_get, refl, sym, ap, subst, inl, inr, ◌∙◌, arith}
 use Rattle.std.specs.Option.{option_map}
 use Rattle.bac_apdu.specs.Apdu.{Limits}
 use Rattle.bac_transaction.specs.Ends.{Accepted}
-use Rattle.bac_transaction.specs.Sends.{Datagram}
+use Rattle.bac_transaction.specs.Sends.{Datagram, Pairwise}
 use Rattle.bac_protocol.specs.Service.{Octets}
 use Rattle.bac_requester.specs.declared.ask_fault.AskFault.{AskFault}
 use Rattle.bac_requester.specs.declared.ask_fault.AskFault.TheVariants as ask_fault
@@ -13,10 +13,10 @@ use Rattle.bac_node.specs.Calls as node
 use Rattle.bac_node.specs.Calls.{Refuses}
 use Rattle.bac_world.specs.Node.{Node, NodeAsks, NodeRefuses, Refusal}
 use Rattle.bac_world.specs.Once.{Fact}
-use Rattle.bac_world.specs.World.{Event, Note, IsAsked, IsRefused, IsWithNode, link_at, peer_at}
+use Rattle.bac_world.specs.World.{AreCopied, Copy, Event, Note, IsAsked, IsCopied, IsRefused, IsWithNode, link_at, peer_at}
 use Rattle.bac_world.specs.World.Event.{Ask}
 use Rattle.bac_world.proofs.Asking.{accepted_is}
-use Rattle.bac_journal.specs.Entering.{note_of}
+use Rattle.bac_journal.specs.Entering.{note_of, CanBeCopied, Every}
 use Rattle.bac_journal.specs.Growing.{BecomeCopies, CanBecome}
 use Rattle.bac_journal.specs.Journals.{JournalView, NoteRoom}
 use Rattle.bac_journal.specs.Views.{AreLinks}
@@ -36,6 +36,19 @@ ticket_is : (now : ℕ) (link : Octets) (limits : Limits) (r : Request) (a b : N
     → NodeAsks now (peer_at link) limits r a b accepted sends → accepted.ticket ≡ a.clients.asked
 ticket_is now link limits r a b accepted sends k =
     ap (λ (y : Accepted). y.ticket) (accepted_is a.settings now (peer_at link) (choice_of r) k.octets a.clients accepted limits k.accepted).is
+
+-- each datagram of an ask of a node becomes a copy
+module _ (nodes : List Node) (notes : List Note) (now sender : ℕ) where
+  all_leave : (ds : List Datagram) → Every (CanBeCopied nodes notes now sender) ds → CanBecome nodes notes now sender ds
+  all_leave [] h = tt
+  all_leave (d ∷ ds) h = (inl h.0, all_leave ds h.1)
+
+  all_copied : (ds : List Datagram) (cs : List Copy) → Every (CanBeCopied nodes notes now sender) ds → AreCopied nodes now sender ds cs
+      → Pairwise (IsCopied nodes now sender) ds cs
+  all_copied [] cs can is = subst (λ (l : List Copy). Pairwise (IsCopied nodes now sender) [] l) (sym is) tt
+  all_copied (d ∷ ds) cs can (inl f) =
+      subst (λ (l : List Copy). Pairwise (IsCopied nodes now sender) (d ∷ ds) l) (sym f.is) (f.copied, all_copied ds f.rest can.1 f.others)
+  all_copied (d ∷ ds) cs can (inr away) = absurd (away.0 (can.0).copy.to (can.0).is.to)
 
 pub record AskEnters (W : ℕ) (n : Network) (client server invoke_id ticket : ℕ) (sends : List Datagram) : Type 0 where
   pub can : CanBeNoted n.journal client server invoke_id ticket sends
@@ -66,7 +79,9 @@ module _ (n : Network) (client server : ℕ) (can : CanAsk client server n) (b :
         can = record {
           nodes = n.nodes.items;
           linked = can.ready.linked;
-          sent = subst (λ (y : Note). CanBecome n.nodes.items (y ∷ n.journal.notes) n.journal.moment client x.sends.items) (sym (note_is k)) enters.0;
+          sent = subst (λ (y : Note). CanBecome n.nodes.items (y ∷ n.journal.notes) n.journal.moment client x.sends.items) (sym (note_is k))
+              (all_leave n.nodes.items (note_of client server k.accepted.invoke_id k.accepted.ticket ∷ n.journal.notes) n.journal.moment client x.sends.items
+              enters.0);
           client_there = link_within n.nodes.items n.journal.links can.ready.linked client g.before g.at;
           room = can.note;
           counted =
@@ -95,7 +110,9 @@ module _ (n : Network) (client server : ℕ) (can : CanAsk client server n) (b :
         time = ap time_at h.moment;
         sent = h.sent.sent;
         copies = h.sent.copies;
-        copied = h.sent.copied;
+        copied = all_copied n.nodes.items (note_of client server k.accepted.invoke_id k.accepted.ticket ∷ n.journal.notes) n.journal.moment client
+            x.sends.items h.sent.sent
+            (can.ready.can.asks client server g.before g.after b.link limits r k.accepted x.sends.items g.at linked k.asks).0 h.sent.copied;
         notes = h.notes
             ∙ ap (λ (y : Note). y ∷ n.journal.notes) (note_is k);
         log = h.log;

@@ -1,10 +1,10 @@
 -- All nodes have one clock.
-use Rattle.std.proofs.Common.{◌≡◌, ℕ, ◌+◌, ◌*◌, ◌/◌, Bool, true, false, if◌then◌else◌, nat_eq, refl, sym, ap, ◌∙◌, arith}
+use Rattle.std.proofs.Common.{◌≡◌, ℕ, ◌+◌, ◌/◌, Bool, true, false, if◌then◌else◌, nat_eq, refl, ap, ◌∙◌, arith}
 use Rattle.std.proofs.Math.Nat.{mul-zero}
-use Rattle.bac_protocol.specs.Pace.{Clock, IsTimely, clock_at, goes_on, slack, steps, one_clock}
+use Rattle.bac_protocol.specs.Pace.{IsTimely, clock_at, goes_on, slack, steps, one_clock}
 use Rattle.bac_protocol.proofs.AtDrift.{lives}
 use Rattle.bac_protocol.proofs.Paces.{steps_low, steps_high}
-use Rattle.bac_world.specs.World.{Time, passes, with_clock}
+use Rattle.bac_world.specs.World.{passes, with_clock}
 use Rattle.bac_network.specs.Clocks.{time_at}
 
 -- a part is a millisecond

@@ -4,11 +4,16 @@ use Rattle.std.proofs.Common.{refl, sym, ap, subst, inl, inr, ◌∙◌, arith}
 use Rattle.std.proofs.lemmas.Option.{slice_get_within}
 use Rattle.std.specs.Option.{option_map}
 use Rattle.bac_protocol.specs.declared.times.TheConstants.{LIFE}
+use Rattle.bac_protocol.specs.Server.{Effect}
 use Rattle.bac_protocol.specs.Service.{Octets}
+use Rattle.bac_protocol.specs.Wire.{is_from_client}
+use Rattle.bac_store.specs.Stores.{Store}
+use Rattle.bac_transaction.specs.Keys.{PeerKey}
+use Rattle.bac_transaction.specs.Ends.{act_at, key_of}
 use Rattle.bac_node.specs.Calls.{ticked}
 use Rattle.bac_world.specs.Laws.{IsMeaningless}
-use Rattle.bac_world.specs.Node.{Node, Outcome, NodeOn, NodeTick, IsDropped, dropped_for}
-use Rattle.bac_world.specs.Services.{Performed}
+use Rattle.bac_world.specs.Node.{Node, Outcome, NodeOn, NodeTick, IsDropped, IsHeardBy, dropped_for}
+use Rattle.bac_world.specs.Services.{ArePerformed, Performed}
 use Rattle.bac_world.specs.World.{World, Copy, DeliversIf, IsDelivered, HearsNoise, Ticks}
 use Rattle.bac_world.specs.World.{is_deliverable}
 use Rattle.bac_world.specs.World.Event.{Deliver}
@@ -19,11 +24,11 @@ use Rattle.bac_journal.specs.Views.{AreLinks}
 use Rattle.bac_network.specs.Clocks.{time_at}
 use Rattle.bac_network.specs.Entries.{CanBeEntered, IsEntered, performances}
 use Rattle.bac_network.specs.Goings.{Arrives, Goes, IsBetween, IsDue, IsHeardCopy}
-use Rattle.bac_network.specs.Networks.{world_of, world_with, AreAlike, IsReady}
+use Rattle.bac_network.specs.Networks.{world_of, world_with, AreAlike, AreNear, IsReady}
 use Rattle.bac_network.specs.Steps.{TakesMemory}
 use Rattle.bac_network.specs.Views.{log_view}
 use Rattle.bac_network.specs.declared.network.Network.{Network}
-use Rattle.bac_network.proofs.Entered.{acts_as, can_be_entered}
+use Rattle.bac_network.proofs.Entered.{acts_as, can_be_entered, IsOfNode}
 
 -- More room changes nothing.
 
@@ -43,6 +48,7 @@ ready_alike W overtake m n a r = record {
   can = subst (λ w. CanGoOn W overtake w) (sym (world_alike m n a)) r.can;
   linked = subst (λ nodes. AreLinks nodes.items n.journal.links) (sym a.nodes) (subst (λ links. AreLinks m.nodes.items links) (sym a.links) r.linked);
   apart = subst (λ links. (i j : ℕ) (l : Octets) → slice_get links i ≡ Some l → slice_get links j ≡ Some l → i ≡ j) (sym a.links) r.apart;
+  near = subst AreNear (sym a.notes) r.near;
 }
 
 -- The journal's links are as many as the nodes.
@@ -84,6 +90,24 @@ few_facts : (ended : ℕ) (p : Option Performed) → ended ≤ 1 → ended + per
 few_facts ended None h = omega arith
 few_facts ended (Some p) h = omega arith
 
+-- what a node performs as it hears a datagram is of a peer at the link from which that comes
+performed_for : (store : Store) (p : PeerKey) (e : Option Effect) (d : Option Performed) → ArePerformed store (act_at p e) d → (q : Performed)
+    → d ≡ Some q → q.key ≡ p
+performed_for store p None None done q is = absurd cc
+performed_for store p None (Some d) done q is = absurd done
+performed_for store p (Some e) None done q is = absurd done
+performed_for store p (Some e) (Some d) done q is = let same : d ≡ q = cc in ap (λ (y : Performed). y.key) (sym same) ∙ done.key
+
+from_link : (now : ℕ) (from octets : Octets) (a b : Node) (o : Outcome) → NodeOn now from octets a b o → (q : Performed) → o.performed ≡ Some q
+    → q.key.peer.link ≡ from
+from_link now from octets a b o (inl d) q is = absurd (let none : o.performed ≡ None = ap (λ (y : Outcome). y.performed) d.outcome in cc)
+from_link now from octets a b o (inr z) q is = go (is_from_client z.apdu) z.heard
+  where
+    go : (up : Bool) → IsHeardBy up z.peer z.apdu now a b o → q.key.peer.link ≡ from
+    go true turn = ap (λ (y : PeerKey). y.peer.link) (performed_for a.store (key_of z.peer z.apdu) _ o.performed turn.performed q is)
+        ∙ ap (λ y. y.link) z.means.carries.sender
+    go false turn = absurd (let none : o.performed ≡ None = turn.performed in cc)
+
 pub record CopyEnters (W : ℕ) (n : Network) (to : ℕ) (o : Outcome) : Type 0 where
   pub can : CanBeEntered n.journal to o
   pub sender : to < length n.journal.links
@@ -99,13 +123,17 @@ module _ (W overtake : ℕ) (n : Network) (r : IsReady W overtake n) (number : �
   entering : (to : ℕ) (o : Outcome) (new : List Node) → IsHeardCopy n.nodes.items n.journal.moment n.journal.copies number to o new
       → CopyEnters W n to o
   entering to o new h = subst (λ (i : ℕ). CopyEnters W n i o) (sym h.receiver) (record {
-    can = can_be_entered W overtake n r h.copy.to o enters.0;
+    can = can_be_entered W overtake n r h.copy.to h.goes.after o near enters.0;
     sender = link_within n.nodes.items n.journal.links r.linked h.copy.to h.goes.before h.goes.at;
     sends = enters.1;
     facts = few_facts (length o.ended) o.performed enters.2;
   })
     where
-      enters : CanEnter (world_of n) h.copy.to o × (length o.sends ≤ W + 1) × (length o.ended ≤ 1)
+      near : IsOfNode n.nodes.items o.performed
+      near q is none = none h.copy.from (h.sender
+          ∙ ap Some (sym (from_link n.journal.moment h.link h.copy.octets h.goes.before h.goes.after o h.goes.goes q is)))
+
+      enters : CanEnter (world_of n) h.copy.to h.goes.after o × (length o.sends ≤ W + 1) × (length o.ended ≤ 1)
       enters = r.can.hears number h.copy h.there (young h.copy h.there) h.link h.sender h.goes.before h.goes.after o h.goes.at h.goes.goes
 
   pub copy_enters : (nodes : List Node) → nodes ≡ n.nodes.items → (to : ℕ) (o : Outcome) (new : List Node)
@@ -114,8 +142,8 @@ module _ (W overtake : ℕ) (n : Network) (r : IsReady W overtake n) (number : �
       entering to o new (subst (λ l. IsHeardCopy l n.journal.moment n.journal.copies number to o new) are h)
 
 arrives_so : (n n' : Network) (number to : ℕ) (o : Outcome) → IsHeardCopy n.nodes.items n.journal.moment n.journal.copies number to o n'.nodes.items
-    → IsEntered n.nodes.items to o n.journal n'.journal (log_view n.log.items) (log_view n'.log.items) → n'.journal.moment ≡ n.journal.moment
-    → n'.journal.notes ≡ n.journal.notes → Arrives (world_of n) number (world_of n')
+    → ((after : Node) → IsEntered n.nodes.items to after o n.journal n'.journal (log_view n.log.items) (log_view n'.log.items))
+    → n'.journal.moment ≡ n.journal.moment → n'.journal.notes ≡ n.journal.notes → Arrives (world_of n) number (world_of n')
 arrives_so n n' number to o h entered moment notes = record {
   copy = h.copy;
   there = h.there;
@@ -130,7 +158,8 @@ arrives_so n n' number to o h entered moment notes = record {
       on = h.goes.goes;
       acts = acts_as n.nodes.items n'.nodes.items n.journal n'.journal (log_view n.log.items) (log_view n'.log.items) h.copy.to h.goes.after o
           h.goes.nodes
-          (subst (λ (i : ℕ). IsEntered n.nodes.items i o n.journal n'.journal (log_view n.log.items) (log_view n'.log.items)) h.receiver entered)
+          (subst (λ (i : ℕ). IsEntered n.nodes.items i h.goes.after o n.journal n'.journal (log_view n.log.items) (log_view n'.log.items)) h.receiver
+          (entered h.goes.after))
           moment notes;
     };
   };
@@ -138,8 +167,8 @@ arrives_so n n' number to o h entered moment notes = record {
 
 pub arrives : (n n' : Network) (number to : ℕ) (o : Outcome) (nodes : List Node) → nodes ≡ n.nodes.items
     → (after : List Node) → n'.nodes.items ≡ after → IsHeardCopy nodes n.journal.moment n.journal.copies number to o after
-    → IsEntered n.nodes.items to o n.journal n'.journal (log_view n.log.items) (log_view n'.log.items) → n'.journal.moment ≡ n.journal.moment
-    → n'.journal.notes ≡ n.journal.notes → Arrives (world_of n) number (world_of n')
+    → ((after : Node) → IsEntered n.nodes.items to after o n.journal n'.journal (log_view n.log.items) (log_view n'.log.items))
+    → n'.journal.moment ≡ n.journal.moment → n'.journal.notes ≡ n.journal.notes → Arrives (world_of n) number (world_of n')
 arrives n n' number to o nodes are after fits h entered moment notes =
     arrives_so n n' number to o
     (subst (λ l. IsHeardCopy n.nodes.items n.journal.moment n.journal.copies number to o l) (sym fits)
@@ -170,6 +199,9 @@ lost overtake old number c at old_or_overtaken = record {
 no_facts : (ended : ℕ) (p : Option Performed) → p ≡ None → ended + performances p ≤ ended
 no_facts ended p is = subst (λ (q : Option Performed). ended + performances q ≤ ended) (sym is) (omega arith)
 
+none_performed : (nodes : List Node) (p : Option Performed) → p ≡ None → IsOfNode nodes p
+none_performed nodes p is q at none = let e : None ≡ Some q = sym is ∙ at in cc
+
 pub record TickEnters (n : Network) (node : ℕ) (o : Outcome) : Type 0 where
   pub can : CanBeEntered n.journal node o
   pub sender : node < length n.journal.links
@@ -178,7 +210,8 @@ pub record TickEnters (n : Network) (node : ℕ) (o : Outcome) : Type 0 where
 pub tick_enters : (W overtake : ℕ) (n : Network) → IsReady W overtake n → (node : ℕ) (o : Outcome) → IsDue n.nodes.items n.journal.moment node o
     → TickEnters n node o
 tick_enters W overtake n r node o d = record {
-  can = can_be_entered W overtake n r node o (r.can.ticks node d.before (ticked n.journal.moment d.before) o d.at d.due);
+  can = can_be_entered W overtake n r node (ticked n.journal.moment d.before) o (none_performed n.nodes.items o.performed d.due.performed)
+      (r.can.ticks node d.before (ticked n.journal.moment d.before) o d.at d.due);
   sender = link_within n.nodes.items n.journal.links r.linked node d.before d.at;
   facts = no_facts (length o.ended) o.performed d.due.performed;
 }
@@ -186,8 +219,8 @@ tick_enters W overtake n r node o d = record {
 pub ticks : (n n' : Network) (node : ℕ) (o : Outcome) → IsDue n.nodes.items n.journal.moment node o
     → (nodes : List Node) → nodes ≡ n.nodes.items → (now : ℕ) → now ≡ n.journal.moment
     → (new : List Node) → n'.nodes.items ≡ new → Goes nodes node (λ a b. b ≡ ticked now a) new
-    → IsEntered n.nodes.items node o n.journal n'.journal (log_view n.log.items) (log_view n'.log.items) → n'.journal.moment ≡ n.journal.moment
-    → n'.journal.notes ≡ n.journal.notes → Ticks (world_of n) node (world_of n')
+    → ((after : Node) → IsEntered n.nodes.items node after o n.journal n'.journal (log_view n.log.items) (log_view n'.log.items))
+    → n'.journal.moment ≡ n.journal.moment → n'.journal.notes ≡ n.journal.notes → Ticks (world_of n) node (world_of n')
 ticks n n' node o d nodes are now is new fits went entered moment notes =
     let g : Goes n.nodes.items node (λ a b. b ≡ ticked n.journal.moment a) n'.nodes.items =
     subst (λ l. Goes n.nodes.items node (λ a b. b ≡ ticked n.journal.moment a) l) (sym fits)
@@ -201,7 +234,7 @@ ticks n n' node o d nodes are now is new fits went entered moment notes =
       after = g.after;
       outcome = o;
       tick = subst (λ (b : Node). NodeTick n.journal.moment d.before b o) (sym tick_is) d.due;
-      acts = acts_as n.nodes.items n'.nodes.items n.journal n'.journal (log_view n.log.items) (log_view n'.log.items) node g.after o g.nodes entered
+      acts = acts_as n.nodes.items n'.nodes.items n.journal n'.journal (log_view n.log.items) (log_view n'.log.items) node g.after o g.nodes (entered g.after)
           moment notes;
     }
 
@@ -229,7 +262,7 @@ noise_heard n n' node from octets o noise nodes are now is new fits went journal
     (subst (λ (t : ℕ). Goes nodes node (λ a b. NodeOn t from octets a b o) new) is went)) in
     let d = dropped_is n.journal.moment from octets g.before g.after o noise g.goes in
     record {
-      noise = noise;
+      meaningless = noise;
       hears = record {
         before = g.before;
         at = g.at;
@@ -242,7 +275,7 @@ noise_heard n n' node from octets o noise nodes are now is new fits went journal
           notes = ap (λ (j : JournalView). j.notes) journal;
           sent = [];
           copies = ap (λ (j : JournalView). j.copies) journal ∙ sym (append_none n.journal.copies);
-          copied = tt;
+          copied = refl;
           between = log_view n.log.items;
           ended = refl;
           logged = ap (λ v. log_view v.items) log;

@@ -10,7 +10,7 @@ use Rattle.bac_network.specs.Histories.{WorldView}
 use Rattle.bac_requester.specs.declared.ask_fault.AskFault.{AskFault}
 use Rattle.bac_world.specs.Node.{Node}
 use Rattle.bac_world.specs.World.{World, Event, Copy, WorldStep, link_at, is_deliverable}
-use Rattle.bac_world.specs.World.Event.{Ask, Deliver, Noise, Tick, Advance, Change, Restart}
+use Rattle.bac_world.specs.World.Event.{Ask, AskAway, Deliver, Noise, Stray, Tick, Advance, Change, Restart}
 use Rattle.bac_network.specs.Steps.{NamesNoNode, NamesNoCopy, PassesClock, RefusesChange, TakesMemory, Happens, HappensTelling, Tells, Untells}
 use Rattle.bac_network.specs.declared.fault.WorldFault.{WorldFault}
 use Rattle.bac_network.specs.declared.fault.WorldFault.TheVariants as fault
@@ -36,7 +36,11 @@ module _ (overtake : ℕ) (old new : World) where
   no_node (Ask client server limits r) (inr h) (inr n) = no_link old.nodes server h.link n h.peer
   no_node (Deliver number) h n = n
   no_node (Noise node from octets) (inl h) n = none_some (slice_get old.nodes node) h.hears.before n h.hears.at
+  no_node (Stray node from octets) (inl h) n = none_some (slice_get old.nodes node) h.hears.before n h.hears.at
+  no_node (AskAway client peer limits q) (inl h) n = none_some (slice_get old.nodes client) h.before n h.at
   no_node (Noise node from octets) (inr h) n = none_some (slice_get old.nodes node) h.node n h.at
+  no_node (Stray node from octets) (inr h) n = none_some (slice_get old.nodes node) h.node n h.at
+  no_node (AskAway client peer limits q) (inr h) n = none_some (slice_get old.nodes client) h.node n h.at
   no_node (Tick node) h n = none_some (slice_get old.nodes node) h.before n h.at
   no_node (Restart node exact store) h n = none_some (slice_get old.nodes node) h.before n h.at
   no_node (Advance by own) h n = n
@@ -46,6 +50,8 @@ module _ (overtake : ℕ) (old new : World) where
   no_copy (Ask client server limits r) h n = n
   no_copy (Deliver number) h n = none_some (slice_get old.copies number) h.copy n h.there
   no_copy (Noise node from octets) h n = n
+  no_copy (Stray node from octets) h n = n
+  no_copy (AskAway client peer limits q) h n = n
   no_copy (Tick node) h n = n
   no_copy (Restart node exact store) h n = n
   no_copy (Advance by own) h n = n
@@ -55,6 +61,8 @@ module _ (overtake : ℕ) (old new : World) where
   node_or_copy (Ask client server limits r) n c = c
   node_or_copy (Deliver number) n c = n
   node_or_copy (Noise node from octets) n c = c
+  node_or_copy (Stray node from octets) n c = c
+  node_or_copy (AskAway client peer limits q) n c = c
   node_or_copy (Tick node) n c = c
   node_or_copy (Restart node exact store) n c = c
   node_or_copy (Advance by own) n c = n
@@ -64,6 +72,8 @@ module _ (overtake : ℕ) (old new : World) where
   node_or_clock (Ask client server limits r) n c = c
   node_or_clock (Deliver number) n c = n
   node_or_clock (Noise node from octets) n c = c
+  node_or_clock (Stray node from octets) n c = c
+  node_or_clock (AskAway client peer limits q) n c = c
   node_or_clock (Tick node) n c = c
   node_or_clock (Restart node exact store) n c = c
   node_or_clock (Advance by own) n c = n
@@ -73,6 +83,8 @@ module _ (overtake : ℕ) (old new : World) where
   copy_or_clock (Ask client server limits r) n c = n
   copy_or_clock (Deliver number) n c = c
   copy_or_clock (Noise node from octets) n c = n
+  copy_or_clock (Stray node from octets) n c = n
+  copy_or_clock (AskAway client peer limits q) n c = n
   copy_or_clock (Tick node) n c = n
   copy_or_clock (Restart node exact store) n c = n
   copy_or_clock (Advance by own) n c = n
@@ -82,6 +94,8 @@ module _ (overtake : ℕ) (old new : World) where
   copy_or_memory (Ask client server limits r) n m = n
   copy_or_memory (Deliver number) n m = none_some (slice_get old.copies number) m.0 n m.1
   copy_or_memory (Noise node from octets) n m = n
+  copy_or_memory (Stray node from octets) n m = n
+  copy_or_memory (AskAway client peer limits q) n m = n
   copy_or_memory (Tick node) n m = n
   copy_or_memory (Restart node exact store) n m = n
   copy_or_memory (Advance by own) n m = n
@@ -91,6 +105,8 @@ module _ (overtake : ℕ) (old new : World) where
   clock_or_memory (Ask client server limits r) n m = n
   clock_or_memory (Deliver number) n m = n
   clock_or_memory (Noise node from octets) n m = n
+  clock_or_memory (Stray node from octets) n m = n
+  clock_or_memory (AskAway client peer limits q) n m = n
   clock_or_memory (Tick node) n m = n
   clock_or_memory (Restart node exact store) n m = n
   clock_or_memory (Advance by own) n m = m
@@ -104,6 +120,8 @@ module _ (overtake : ℕ) (old new : World) where
   no_refusal (Ask client server limits q) h why r = r
   no_refusal (Deliver number) h why r = r
   no_refusal (Noise node from octets) h why r = r
+  no_refusal (Stray node from octets) h why r = r
+  no_refusal (AskAway client peer limits q) h why r = r
   no_refusal (Tick node) h why r = r
   no_refusal (Restart node exact store) h why r = r
   no_refusal (Advance by own) h why r = r
@@ -113,6 +131,8 @@ module _ (overtake : ℕ) (old new : World) where
   node_or_refusal (Ask client server limits q) n why r = r
   node_or_refusal (Deliver number) n why r = r
   node_or_refusal (Noise node from octets) n why r = r
+  node_or_refusal (Stray node from octets) n why r = r
+  node_or_refusal (AskAway client peer limits q) n why r = r
   node_or_refusal (Tick node) n why r = r
   node_or_refusal (Restart node exact store) n why r = r
   node_or_refusal (Advance by own) n why r = r
@@ -122,6 +142,8 @@ module _ (overtake : ℕ) (old new : World) where
   copy_or_refusal (Ask client server limits q) n why r = r
   copy_or_refusal (Deliver number) n why r = r
   copy_or_refusal (Noise node from octets) n why r = r
+  copy_or_refusal (Stray node from octets) n why r = r
+  copy_or_refusal (AskAway client peer limits q) n why r = r
   copy_or_refusal (Tick node) n why r = r
   copy_or_refusal (Restart node exact store) n why r = r
   copy_or_refusal (Advance by own) n why r = r
@@ -131,6 +153,8 @@ module _ (overtake : ℕ) (old new : World) where
   clock_or_refusal (Ask client server limits q) n why r = r
   clock_or_refusal (Deliver number) n why r = r
   clock_or_refusal (Noise node from octets) n why r = r
+  clock_or_refusal (Stray node from octets) n why r = r
+  clock_or_refusal (AskAway client peer limits q) n why r = r
   clock_or_refusal (Tick node) n why r = r
   clock_or_refusal (Restart node exact store) n why r = r
   clock_or_refusal (Advance by own) n why r = r
@@ -140,6 +164,8 @@ module _ (overtake : ℕ) (old new : World) where
   memory_or_refusal (Ask client server limits q) m why r = r
   memory_or_refusal (Deliver number) m why r = r
   memory_or_refusal (Noise node from octets) m why r = r
+  memory_or_refusal (Stray node from octets) m why r = r
+  memory_or_refusal (AskAway client peer limits q) m why r = r
   memory_or_refusal (Tick node) m why r = r
   memory_or_refusal (Restart node exact store) m why r = r
   memory_or_refusal (Advance by own) m why r = r
@@ -153,6 +179,8 @@ module _ (overtake : ℕ) (old new : World) where
   one_refusal (Ask client server limits q) why other r s = absurd r
   one_refusal (Deliver number) why other r s = absurd r
   one_refusal (Noise node from octets) why other r s = absurd r
+  one_refusal (Stray node from octets) why other r s = absurd r
+  one_refusal (AskAway client peer limits q) why other r s = absurd r
   one_refusal (Tick node) why other r s = absurd r
   one_refusal (Restart node exact store) why other r s = absurd r
   one_refusal (Advance by own) why other r s = absurd r
@@ -251,6 +279,8 @@ abbrev pub IsNoAsk : Event → Type 0
 IsNoAsk (Ask client server limits r) = ⊥
 IsNoAsk (Deliver number) = Unit {0}
 IsNoAsk (Noise node from octets) = Unit {0}
+IsNoAsk (Stray node from octets) = Unit {0}
+IsNoAsk (AskAway client peer limits q) = ⊥
 IsNoAsk (Tick node) = Unit {0}
 IsNoAsk (Restart node exact store) = Unit {0}
 IsNoAsk (Advance by own) = Unit {0}
@@ -260,6 +290,8 @@ tells_none : (old new : World) (e : Event) → IsNoAsk e → Tells None old e ne
 tells_none old new (Ask client server limits r) n = absurd n
 tells_none old new (Deliver number) n = tt
 tells_none old new (Noise node from octets) n = tt
+tells_none old new (Stray node from octets) n = tt
+tells_none old new (AskAway client peer limits q) n = absurd n
 tells_none old new (Tick node) n = tt
 tells_none old new (Restart node exact store) n = tt
 tells_none old new (Advance by own) n = tt

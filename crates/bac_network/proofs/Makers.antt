@@ -156,6 +156,7 @@ module _ (overtake : ℕ) (makers : List Maker) (right : IsRight overtake makers
       run = refl;
     };
     linked = linked_fresh makers;
+    near = λ number. refl;
   }
 
   pub kept_first : (window : ℕ) (links : List Octets) (v : WorldView) → window ≡ greatest_window makers → links ≡ links_of makers

@@ -1,18 +1,18 @@
 -- What comes of a node's call enters the journal and the log.
-use Rattle.std.specs.Prelude.{◌≡◌, ℕ, List, Option, Some, None, slice_get}
+use Rattle.std.specs.Prelude.{◌≡◌, ℕ, false, List, Option, Some, None, slice_get}
 use Rattle.bac_world.specs.Node.{Node, Outcome}
 use Rattle.bac_world.specs.Once.{Fact}
 use Rattle.bac_world.specs.Services.{Performed}
-use Rattle.bac_world.specs.World.{Note, newest, ask_of, AreEnded, AreLogged}
+use Rattle.bac_world.specs.World.{Note, newest, ask_of, is_away, AreEnded, AreLogged}
 use Rattle.bac_transaction.specs.Meanings.{EndedView}
 use Rattle.bac_journal.specs.Entering.{Every}
 use Rattle.bac_journal.specs.Growing.{BecomeCopies, CanBecome}
 use Rattle.bac_journal.specs.Journals.{JournalView}
 use Rattle.bac_journal.specs.Views.{AreLinks}
 
--- the endings of a node's tickets have the numbers of asks
+-- the endings of a node's tickets have the numbers of asks of nodes
 abbrev pub AreNoted : List Note → (node : ℕ) → List EndedView → Type 0
-AreNoted notes node ended = Every (λ f. (number : ℕ) × (ask_of node f.ticket notes ≡ Some number)) ended
+AreNoted notes node ended = Every (λ f. (number : ℕ) × (ask_of node f.ticket notes ≡ Some number) × (is_away number notes ≡ false)) ended
 
 -- what was performed has a client, whose newest ask is known
 pub record HasClient (j : JournalView) (node : ℕ) (p : Performed) : Type 0 where
@@ -38,9 +38,9 @@ abbrev pub performances : Option Performed → ℕ
 performances None = 0
 performances (Some p) = 1
 
--- it has entered
-pub record IsEntered (nodes : List Node) (node : ℕ) (o : Outcome) (old new : JournalView) (log log' : List Fact) : Type 0 where
+-- it has entered; the node is that one after the call
+pub record IsEntered (nodes : List Node) (node : ℕ) (after : Node) (o : Outcome) (old new : JournalView) (log log' : List Fact) : Type 0 where
   pub sent : BecomeCopies nodes old.moment node o.sends old.copies new.copies
   pub between : List Fact
   pub ended : AreEnded old.notes node o.ended log between
-  pub logged : AreLogged nodes old.notes node o.performed between log'
+  pub logged : AreLogged nodes old.notes node after o.performed between log'

@@ -9,6 +9,7 @@ use Rattle.bac_world.specs.Once.{Fact, Stores, IsOnce, IsOnceByRequestsAlone, Ha
 use Rattle.bac_world.specs.World.{World, Copy, Note, Event, WorldRun, IsFresh, IsBounded, stores_of}
 use Rattle.bac_network.specs.Clocks.{time_at}
 use Rattle.bac_journal.specs.Views.{AreLinks}
+use Rattle.bac_network.specs.Networks.{AreNear}
 use Rattle.bac_network.specs.Views.{log_view}
 use Rattle.bac_network.specs.declared.network.Network.{Network}
 
@@ -86,7 +87,8 @@ pub record HasRun (W : ℕ) (w : WorldView) : Type 0 where
 abbrev pub HasHistory : WorldView → Type 0
 HasHistory w = (W : ℕ) × HasRun W w
 
--- what is kept of it: the greatest window, and the nodes' links
+-- what is kept of it: the greatest window, the nodes' links, and that no stranger was asked
 pub record IsKept (window : ℕ) (links : List Octets) (w : WorldView) : Type 0 where
   pub history : HasRun window w
   pub linked : AreLinks history.first.nodes links
+  pub near : AreNear w.notes

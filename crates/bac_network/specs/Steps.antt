@@ -7,8 +7,8 @@ use Rattle.bac_requester.specs.declared.ask_fault.AskFault.TheVariants as ask_fa
 use Rattle.bac_store.specs.AtNode.{change_fault}
 use Rattle.bac_store.specs.declared.change_fault.ChangeFault.{ChangeFault}
 use Rattle.bac_world.specs.Node.{Node, Refusal}
-use Rattle.bac_world.specs.World.{World, Copy, Event, WorldStep, IsAsked, IsRefused, is_deliverable}
-use Rattle.bac_world.specs.World.Event.{Ask, Deliver, Noise, Tick, Advance, Change, Restart}
+use Rattle.bac_world.specs.World.{World, Copy, Event, WorldStep, IsAsked, IsAskedAway, IsOfNone, IsRefused, IsRefusedAway, is_deliverable}
+use Rattle.bac_world.specs.World.Event.{Ask, AskAway, Deliver, Noise, Stray, Tick, Advance, Change, Restart}
 use Rattle.bac_network.specs.declared.fault.WorldFault.{WorldFault}
 use Rattle.bac_network.specs.declared.fault.WorldFault.TheVariants as fault
 
@@ -17,6 +17,8 @@ abbrev pub NamesNoNode : World → Event → Type 0
 NamesNoNode w (Ask client server limits r) = (slice_get w.nodes client ≡ None) ⊎ (slice_get w.nodes server ≡ None)
 NamesNoNode w (Deliver number) = ⊥
 NamesNoNode w (Noise node from octets) = slice_get w.nodes node ≡ None
+NamesNoNode w (Stray node from octets) = slice_get w.nodes node ≡ None
+NamesNoNode w (AskAway client peer limits q) = slice_get w.nodes client ≡ None
 NamesNoNode w (Tick node) = slice_get w.nodes node ≡ None
 NamesNoNode w (Restart node exact store) = slice_get w.nodes node ≡ None
 NamesNoNode w (Advance by own) = ⊥
@@ -27,6 +29,8 @@ abbrev pub NamesNoCopy : World → Event → Type 0
 NamesNoCopy w (Deliver number) = slice_get w.copies number ≡ None
 NamesNoCopy w (Ask client server limits r) = ⊥
 NamesNoCopy w (Noise node from octets) = ⊥
+NamesNoCopy w (Stray node from octets) = ⊥
+NamesNoCopy w (AskAway client peer limits q) = ⊥
 NamesNoCopy w (Tick node) = ⊥
 NamesNoCopy w (Restart node exact store) = ⊥
 NamesNoCopy w (Advance by own) = ⊥
@@ -38,6 +42,8 @@ PassesClock w (Advance by own) = 2 ^ 64 - 1 < w.time.now + by
 PassesClock w (Ask client server limits r) = ⊥
 PassesClock w (Deliver number) = ⊥
 PassesClock w (Noise node from octets) = ⊥
+PassesClock w (Stray node from octets) = ⊥
+PassesClock w (AskAway client peer limits q) = ⊥
 PassesClock w (Tick node) = ⊥
 PassesClock w (Restart node exact store) = ⊥
 PassesClock w (Change node c) = ⊥
@@ -47,12 +53,14 @@ abbrev pub RefusesChange : World → Event → ChangeFault → Type 0
 RefusesChange w (Change node c) why = (a : Node) × (slice_get w.nodes node ≡ Some a) × (change_fault a.store c ≡ Some why)
 RefusesChange w e why = ⊥
 
--- it takes memory: an ask, a tick, a restart, a copy that is deliverable, and a change without a fault
+-- it takes memory: an ask, a tick, a restart, a copy that is deliverable, octets of a stranger, and a change without a fault
 abbrev pub TakesMemory : (overtake : ℕ) → World → Event → Type 0
 TakesMemory overtake w (Ask client server limits r) = Unit {0}
 TakesMemory overtake w (Deliver number) =
     (c : Copy) × (slice_get w.copies number ≡ Some c) × (is_deliverable overtake w.time.pace.life w.time.now number w.copies c ≡ true)
 TakesMemory overtake w (Noise node from octets) = ⊥
+TakesMemory overtake w (Stray node from octets) = IsOfNone w.nodes from
+TakesMemory overtake w (AskAway client peer limits q) = Unit {0}
 TakesMemory overtake w (Tick node) = Unit {0}
 TakesMemory overtake w (Restart node exact store) = Unit {0}
 TakesMemory overtake w (Advance by own) = ⊥
@@ -89,12 +97,16 @@ Tells None old (Ask client server limits r) new = IsAsked old client server limi
 Tells (Some f) old (Ask client server limits r) new = (h : IsRefused old client server limits r new) × (refusal_of f ≡ Some h.refusal)
 Tells None old (Deliver number) new = Unit {0}
 Tells None old (Noise node from octets) new = Unit {0}
+Tells None old (Stray node from octets) new = Unit {0}
+Tells None old (AskAway client peer limits q) new = IsAskedAway old client peer limits q new
 Tells None old (Tick node) new = Unit {0}
 Tells None old (Restart node exact store) new = Unit {0}
 Tells None old (Advance by own) new = Unit {0}
 Tells None old (Change node c) new = Unit {0}
 Tells (Some f) old (Deliver number) new = ⊥
 Tells (Some f) old (Noise node from octets) new = ⊥
+Tells (Some f) old (Stray node from octets) new = ⊥
+Tells (Some f) old (AskAway client peer limits q) new = IsRefusedAway old client peer limits q new
 Tells (Some f) old (Tick node) new = ⊥
 Tells (Some f) old (Restart node exact store) new = ⊥
 Tells (Some f) old (Advance by own) new = ⊥

@@ -153,6 +153,7 @@ fn note(
     journal.note(Note {
         transaction,
         ticket,
+        stranger: None,
     });
     journal.send(client, sends);
 }

@@ -18,8 +18,8 @@ pub(crate) fn enter(journal: &mut Journal, log: &mut Vec<Fact>, node: usize, out
     requires sender { node < length journal.old.links }
     requires room { length (outcome_view outcome).sends ≤ journal.old.room }
     requires log_room { length log.old.items + length (outcome_view outcome).ended + performances (outcome_view outcome).performed ≤ vec_capacity log.old }
-    ensures entered { (nodes : List Node) → AreLinks nodes journal.old.links
-        → IsEntered nodes node (outcome_view outcome) journal.old journal.new (log_view log.old.items) (log_view log.new.items) }
+    ensures entered { (nodes : List Node) → AreLinks nodes journal.old.links → (after : Node)
+        → IsEntered nodes node after (outcome_view outcome) journal.old journal.new (log_view log.old.items) (log_view log.new.items) }
     ensures same { journal.new ≡ record (journal.old) { copies = journal.new.copies; room = journal.new.room } }
 {
     let Outcome {

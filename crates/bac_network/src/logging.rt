@@ -76,8 +76,8 @@ fn log_act(log: &mut Vec<Fact>, journal: &Journal, node: usize, act: Act)
 pub(crate) fn log_performed(log: &mut Vec<Fact>, journal: &Journal, node: usize, act: Option<Act>)
     requires room { length log.old.items + performances (option_map performed_view act) ≤ vec_capacity log.old }
     requires client { HaveClient journal.now node (option_map performed_view act) }
-    ensures log { (nodes : List Node) → AreLinks nodes journal.now.links
-        → AreLogged nodes journal.now.notes node (option_map performed_view act) (log_view log.old.items) (log_view log.new.items) }
+    ensures log { (nodes : List Node) → AreLinks nodes journal.now.links → (after : Node)
+        → AreLogged nodes journal.now.notes node after (option_map performed_view act) (log_view log.old.items) (log_view log.new.items) }
 {
     if let Some(act) = act {
         log_act(log, journal, node, act);

@@ -67,6 +67,7 @@ fn a_noted_ask_is_found(rt: HostRuntime) -> Result<(), Fail> {
     journal.note(Note {
         transaction: ASKED,
         ticket: 0,
+        stranger: None,
     });
     assert!(rt; is_noted(&journal) && fresh.newest(&ASKED) == None);
     assert!(rt; !journal.same(&fresh) && fresh.same(&fresh));

@@ -1,5 +1,4 @@
 -- As many copies were delivered as it tells.
-use Rattle.std.proofs.Common.{refl}
 use Rattle.bac_network.specs.Going.{IsStuck}
 use Rattle.bac_network.proofs.StraightGoing.{told_why}
 use Rattle.bac_network.proofs.running.deliver_all.Goals as goal

@@ -14,32 +14,32 @@ step-requires c = ready_now c.self.inside.window c.self.inside.overtake c.self.i
 pub invariant_of-self : goal.invariant_of-self
 invariant_of-self c =
     kept_after c.self.inside.window c.self.inside.overtake c.self.inside.opening.items c.self.inside.network c.step.new.self c.step.ensures.links
-    c.self.invariant (event_view c.self.inside.network.journal.moment c.args.event.now) c.step.result c.step.ensures.happens
+    c.self.invariant c.self.inside.network.journal.moment c.args.event.now c.step.result c.step.ensures.happens
 
 pub returns-clause-once : goal.returns-clause-once
 returns-clause-once c =
     let kept = kept_after c.self.inside.window c.self.inside.overtake c.self.inside.opening.items c.self.inside.network c.step.new.self c.step.ensures.links
-    c.self.invariant (event_view c.self.inside.network.journal.moment c.args.event.now) c.step.result c.step.ensures.happens in
+    c.self.invariant c.self.inside.network.journal.moment c.args.event.now c.step.result c.step.ensures.happens in
     once_now c.self.inside.window (view_of c.self.inside.overtake c.self.inside.opening.items c.step.new.self) kept.history
 
 pub returns-clause-performed : goal.returns-clause-performed
 returns-clause-performed c =
     let kept = kept_after c.self.inside.window c.self.inside.overtake c.self.inside.opening.items c.self.inside.network c.step.new.self c.step.ensures.links
-    c.self.invariant (event_view c.self.inside.network.journal.moment c.args.event.now) c.step.result c.step.ensures.happens in
+    c.self.invariant c.self.inside.network.journal.moment c.args.event.now c.step.result c.step.ensures.happens in
     let w = view_of c.self.inside.overtake c.self.inside.opening.items c.step.new.self in
     performed_now w (once_now c.self.inside.window w kept.history)
 
 pub returns-clause-ended : goal.returns-clause-ended
 returns-clause-ended c =
     let kept = kept_after c.self.inside.window c.self.inside.overtake c.self.inside.opening.items c.self.inside.network c.step.new.self c.step.ensures.links
-    c.self.invariant (event_view c.self.inside.network.journal.moment c.args.event.now) c.step.result c.step.ensures.happens in
+    c.self.invariant c.self.inside.network.journal.moment c.args.event.now c.step.result c.step.ensures.happens in
     let w = view_of c.self.inside.overtake c.self.inside.opening.items c.step.new.self in
     ended_now w (once_now c.self.inside.window w kept.history)
 
 pub returns-clause-stores : goal.returns-clause-stores
 returns-clause-stores c =
     let kept = kept_after c.self.inside.window c.self.inside.overtake c.self.inside.opening.items c.self.inside.network c.step.new.self c.step.ensures.links
-    c.self.invariant (event_view c.self.inside.network.journal.moment c.args.event.now) c.step.result c.step.ensures.happens in
+    c.self.invariant c.self.inside.network.journal.moment c.args.event.now c.step.result c.step.ensures.happens in
     let w = view_of c.self.inside.overtake c.self.inside.opening.items c.step.new.self in
     replayed_now w (once_now c.self.inside.window w kept.history)
 
@@ -105,14 +105,14 @@ returns-clause-settings c = rw (← c.self.view_is) (refl, refl)
 pub returns-clause-permitted : goal.returns-clause-permitted
 returns-clause-permitted c =
     let kept = kept_after c.self.inside.window c.self.inside.overtake c.self.inside.opening.items c.self.inside.network c.step.new.self c.step.ensures.links
-    c.self.invariant (event_view c.self.inside.network.journal.moment c.args.event.now) c.step.result c.step.ensures.happens in
+    c.self.invariant c.self.inside.network.journal.moment c.args.event.now c.step.result c.step.ensures.happens in
     let w = view_of c.self.inside.overtake c.self.inside.opening.items c.step.new.self in
     permitted_now w (once_now c.self.inside.window w kept.history)
 
 pub returns-clause-requests_alone : goal.returns-clause-requests_alone
 returns-clause-requests_alone c =
     let kept = kept_after c.self.inside.window c.self.inside.overtake c.self.inside.opening.items c.self.inside.network c.step.new.self c.step.ensures.links
-    c.self.invariant (event_view c.self.inside.network.journal.moment c.args.event.now) c.step.result c.step.ensures.happens in
+    c.self.invariant c.self.inside.network.journal.moment c.args.event.now c.step.result c.step.ensures.happens in
     let w = view_of c.self.inside.overtake c.self.inside.opening.items c.step.new.self in
     rw (← c.self.view_is)
     (λ before alone.
