@@ -3,6 +3,7 @@ use Rattle.std.specs.Prelude.{ℕ, Bool, true, false, List, map, Option, Some}
 use Rattle.std.specs.Io.KnownBytes.{Keeps}
 use Rattle.bac_npdu.specs.Views.{peer_view}
 use Rattle.bac_text.specs.declared.status.Status.{Status}
+use Rattle.bac_driver.specs.Runs.{Timed}
 use Rattle.bac_driver.specs.Views.{question_view}
 use Rattle.bac_commands.specs.Statuses.{ByStatus}
 use Rattle.bac_command_line.specs.AskedLines.{AreRead, Numbered, line_view}
@@ -22,7 +23,10 @@ abbrev pub AsksAll : Asking → Asked → Doing
 AsksAll asking (asked.One q) = AsksOnce asking (question_view q)
 AsksAll asking (asked.Lines lines) = AsksLines asking (map line_view lines.items)
 
--- whether all succeeded is printed by the status
+-- that was done; whether all succeeded is printed by the status
+abbrev pub ReportsDoing : Status → Doing → (before after : Timed) → (old new : Option (List ℕ)) → Type 0
+ReportsDoing s Does before after old new = ByStatus s (Does true before after old new) (Does false before after old new) ⊥
+
 abbrev pub ReportsClient : Links → Clocks → Status → Asking → Asked → (old new : Option (List ℕ)) → Type 0
 ReportsClient IsOn IsClock s asking asked old new =
     ByStatus s (ByClient IsOn IsClock asking (AsksAll asking asked) true old new) (ByClient IsOn IsClock asking (AsksAll asking asked) false old new) ⊥

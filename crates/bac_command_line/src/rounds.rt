@@ -2,7 +2,7 @@
 ghost use Rattle.std.specs.Prelude.{◌≡◌, map, IfErr, IfOk};
 ghost use Rattle.bac_driver.specs.Runs.{timed};
 ghost use Rattle.bac_text.specs.Statuses.{IsFailure};
-ghost use Rattle.bac_command_line.specs.Asked.{AsksAll, ReportsClient};
+ghost use Rattle.bac_command_line.specs.Asked.{AsksAll, ReportsClient, ReportsDoing};
 ghost use Rattle.bac_command_line.specs.AskedLines.{line_view};
 ghost use Rattle.bac_command_line.specs.InFlight.{AsksLines};
 ghost use Rattle.bac_command_line.specs.Online.{OnClock, OnPort};
@@ -164,6 +164,26 @@ fn ask_so<L: Link, C: Clock, O: Write, E: Write>(
     }
 }
 
+/// The same, and the status says whether all asks succeeded, or why asking stopped.
+#[tactic(auto, using(bac_commands::proofs::Statuses::failed))]
+fn ask_and_report<L: Link, C: Clock, O: Write, E: Write>(
+    asking: &Asking,
+    station: &mut Station<L, C>,
+    asked: &Asked,
+    out: &mut O,
+    err: &mut E,
+) -> Status
+    ensures { ReportsDoing result (AreRounds asking.now.rounds (AsksAll asking.now asked.now))
+        (timed station.old.bound_node (C.told station.old.clock)) (timed station.new.bound_node (C.told station.new.clock))
+        (O.contents out.old) (O.contents out.new) }
+{
+    match ask_so(asking, station, asked, out, err) {
+        Ok(true) => Status::Done,
+        Ok(false) => Status::Faulty,
+        Err(status) => status,
+    }
+}
+
 /// A client at any free port, whose invoke IDs begin where the machine says, asks all that, in rounds where they are wanted.
 pub(crate) fn ask_by_client<M: Machine, O: Write, E: Write>(
     alloc: Global,
@@ -194,9 +214,5 @@ pub(crate) fn ask_by_client<M: Machine, O: Write, E: Write>(
         bound_node,
         clock: timer,
     };
-    match ask_so(asking, &mut station, asked, out, err) {
-        Ok(true) => Status::Done,
-        Ok(false) => Status::Faulty,
-        Err(status) => status,
-    }
+    ask_and_report(asking, &mut station, asked, out, err)
 }
