@@ -116,7 +116,8 @@ head_at now e w head is line = subst (λ (n : ℕ). IsEventLine n e head) is lin
 
 pub event_told : (line : ℕ) (e : Event) (told : Option AskFault) (old new : WorldView) (facts copies now : ℕ) (reason : Why) (head text : List ℕ)
     → (a b : Option (List ℕ)) → facts ≡ length old.log → copies ≡ length old.copies → now ≡ old.time.moment
-    → reason ≡ why_nothing old (happening_view e) → IsEventLine now (happening_view e) head → WorldStep old.overtake (as_world old) (event_view old.time e) (as_world new)
+    → reason ≡ why_nothing old (happening_view e) → IsEventLine now (happening_view e) head
+    → WorldStep old.overtake (as_world old) (event_view old.time e) (as_world new)
     → Tells told (as_world old) (event_view old.time e) (as_world new) → new.overtake ≡ old.overtake → new.time ≡ instant_after e old.time
     → Adds head text (IsOutcome told reason facts copies new) → Appends a b text
     → AppendsText a b (Steps in_words line true (Happens (happening_view e)) old new)
@@ -147,7 +148,8 @@ event_told line e told old new facts copies now reason head text a b fs cs ns wh
 
 pub refusal_told : (line : ℕ) (e : Event) (f : WorldFault) (why : ChangeFault) (old new : WorldView) (now number : ℕ) (head text : List ℕ)
     → (a b : Option (List ℕ)) → change_fault_in f ≡ Some why
-    → ((w : ChangeFault) → (IsErrOf (the_err f) (fault.BadChange w) ↔ RefusesChange (as_world old) (event_view old.time e) w)) → new ≡ old → now ≡ old.time.moment
+    → ((w : ChangeFault) → (IsErrOf (the_err f) (fault.BadChange w) ↔ RefusesChange (as_world old) (event_view old.time e) w))
+    → new ≡ old → now ≡ old.time.moment
     → number ≡ change_fault_number why → IsEventLine now (happening_view e) head → text ≡ head ++ refused_news number → Appends a b text
     → AppendsText a b (Steps in_words line true (Happens (happening_view e)) old new)
 refusal_told line e f why old new now number head text a b bad change same ns is is_head added printed = (
@@ -165,7 +167,8 @@ pub fault_told : (line : ℕ) (e : Event) (f : WorldFault) (old new : WorldView)
     → (IsErrOf (the_err f) fault.ClockEnd ↔ PassesClock (as_world old) (event_view old.time e))
     → ((why : ChangeFault) → (IsErrOf (the_err f) (fault.BadChange why) ↔ RefusesChange (as_world old) (event_view old.time e) why))
     → (IsErrOf (the_err f) fault.NoMemory → TakesMemory old.overtake (as_world old) (event_view old.time e))
-    → new ≡ old → number ≡ fault_number f → Appends a b (fault_line line number) → AppendsText a b (Steps in_words line false (Happens (happening_view e)) old new)
+    → new ≡ old → number ≡ fault_number f → Appends a b (fault_line line number)
+    → AppendsText a b (Steps in_words line false (Happens (happening_view e)) old new)
 fault_told line e f old new number a b ends node copy clock change memory same is printed = (
   fault_line line number,
   (fails in_words line e f old new (fault_line line number) ends node copy clock change memory same (ap (λ (n : ℕ). fault_line line n) is), printed),

@@ -48,8 +48,10 @@ same_after t (event.Change node change) = refl
 same_after t (event.Restart node store) = refl
 
 pub happened : (line : ℕ) (e : Event) (told : Option AskFault) (old new : WorldView) (facts copies : ℕ) (a b : Option (List ℕ))
-    → facts ≡ length old.log → copies ≡ length old.copies → WorldStep old.overtake (as_world old) (event_view old.time e) (as_world new) → Tells told (as_world old) (event_view old.time e) (as_world new)
-    → new.overtake ≡ old.overtake → new.time ≡ instant_after e old.time → Appends a b (outcome_text told facts copies new) → AppendsText a b (IsStep line true (Happens (happening_view e)) old new)
+    → facts ≡ length old.log → copies ≡ length old.copies → WorldStep old.overtake (as_world old) (event_view old.time e) (as_world new)
+    → Tells told (as_world old) (event_view old.time e) (as_world new)
+    → new.overtake ≡ old.overtake → new.time ≡ instant_after e old.time → Appends a b (outcome_text told facts copies new)
+    → AppendsText a b (IsStep line true (Happens (happening_view e)) old new)
 happened line e told old new facts copies a b fs cs went tells same passed printed = (
   outcome_text told facts copies new,
   (
@@ -81,7 +83,7 @@ fails t line e f old new said ends node copy clock change memory same is =
       ends = ends;
       why =
           subst (IsFault f old.overtake (as_world old)) (same_event old.time e)
-              (fault_is f old.overtake (as_world old) (event_view old.time e) (the_err f) refl node copy clock change memory);
+          (fault_is f old.overtake (as_world old) (event_view old.time e) (the_err f) refl node copy clock change memory);
       same = same;
       is = is;
     }
@@ -109,7 +111,8 @@ pub refuses : {A : Type 0} (t : Printing A) (line : ℕ) (e : Event) (f : WorldF
     → change_fault_in f ≡ Some why → ((w : ChangeFault) → (IsErrOf (the_err f) (fault.BadChange w) ↔ RefusesChange (as_world old) (event_view old.time e) w))
     → new ≡ old → t.refused why (happening_view e) old said → Steps t line true (Happens (happening_view e)) old new said
 refuses t line e f why old new said bad change same is =
-    inr (record { fault = why; why = subst (λ (h : world.Event). RefusesChange (as_world old) h why) (same_event old.time e) ((change why).0 (bad_change f why bad)); same = same; is = is })
+    let refused = subst (λ (h : world.Event). RefusesChange (as_world old) h why) (same_event old.time e) ((change why).0 (bad_change f why bad)) in
+    inr (record { fault = why; why = refused; same = same; is = is })
 
 pub turned_down : (line : ℕ) (e : Event) (f : WorldFault) (why : ChangeFault) (old new : WorldView) (number : ℕ) (a b : Option (List ℕ))
     → change_fault_in f ≡ Some why

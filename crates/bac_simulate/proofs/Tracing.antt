@@ -26,7 +26,8 @@ use Rattle.bac_world.specs.World.{count_of, is_deliverable, later, WorldStep}
 use Rattle.bac_simulate.specs.Drawn.{in_marks}
 use Rattle.bac_simulate.specs.Runs.{Runs, Steps}
 use Rattle.bac_simulate.specs.Scripts.{ScriptLine, Happens}
-use Rattle.bac_simulate.specs.Traces.{life_in, arrow_of, coming_mark, delivered_mark, event_marks, fact_mark, facts_marks, news_marks, optional_marks, sent_marks, AddsMarks, AppendsMarks}
+use Rattle.bac_simulate.specs.Traces.{life_in}
+use Rattle.bac_simulate.specs.Traces.{arrow_of, coming_mark, delivered_mark, event_marks, fact_mark, facts_marks, news_marks, optional_marks, sent_marks, AddsMarks, AppendsMarks}
 use Rattle.bac_simulate.specs.Views.{happening_view, line_view}
 use Rattle.bac_simulate.specs.declared.script.ScriptLine as script
 use Rattle.bac_simulate.proofs.Appending.{drop_next, drop_seen}
@@ -155,13 +156,17 @@ no_line line lines i all w a = (
 
 -- ---- one event
 
-pub passed : (line : ℕ) (e : Event) (told : Option AskFault) (old new : WorldView) (a b : List code.Mark) → WorldStep old.overtake (as_world old) (event_view old.time e) (as_world new)
-    → Tells told (as_world old) (event_view old.time e) (as_world new) → new.overtake ≡ old.overtake → new.time ≡ instant_after e old.time → AddsMarks a b (event_marks told (happening_view e) old new)
+pub passed : (line : ℕ) (e : Event) (told : Option AskFault) (old new : WorldView) (a b : List code.Mark)
+    → WorldStep old.overtake (as_world old) (event_view old.time e) (as_world new)
+    → Tells told (as_world old) (event_view old.time e) (as_world new) → new.overtake ≡ old.overtake → new.time ≡ instant_after e old.time
+    → AddsMarks a b (event_marks told (happening_view e) old new)
     → AppendsMarks a b (Steps in_marks line true (Happens (happening_view e)) old new)
 passed line e told old new a b step tells same after added =
     let went = subst (λ (h : world.Event). WorldStep old.overtake (as_world old) h (as_world new)) (same_event old.time e) step in
-    let said = subst (λ (h : world.Event). Tells told (as_world old) h (as_world new)) (same_event old.time e) tells in
-    (event_marks told (happening_view e) old new, (inl (record { told = told; went = went; tells = said; overtake = same; time = after ∙ same_after old.time e; is = refl }), added))
+    let said = subst (λ (h : world.Event). Tells told (as_world old) h (as_world new)) (same_event old.time e) tells in (
+      event_marks told (happening_view e) old new,
+      (inl (record { told = told; went = went; tells = said; overtake = same; time = after ∙ same_after old.time e; is = refl }), added),
+    )
 
 pub news_are : (facts copies i k : ℕ) (w : WorldView) (coming : Option Mark) (a b : List code.Mark) → i ≡ facts → k ≡ copies
     → AddsMarks a b (optional_marks coming ++ news_marks i k w) → AddsMarks a b (optional_marks coming ++ news_marks facts copies w)

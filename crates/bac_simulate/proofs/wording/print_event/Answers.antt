@@ -10,7 +10,8 @@ pub returns-in-Ok : goal.returns-in-Ok
 returns-in-Ok g c =
     event_told c.args.line c.args.event.now c.in-Ok.refused c.args.world.now c.step.new.self c.of-before.result.facts c.of-before.result.copies
     c.now.result c.why_nothing-why.result _ _ _ _ c.of-before.ensures.facts c.of-before.ensures.copies c.now.ensures c.why_nothing-why.ensures
-    c.in_ok-text.ensures c.in-Ok.ensures.went c.in-Ok.ensures.told c.step.ensures.settings.0 c.in-Ok.ensures.passed c.in_ok-add_outcome-in-Ok.ensures (written _ _ _ _ c.in_ok-write_all-in-Ok.ensures.bytes c.as_slice.ensures.value)
+    c.in_ok-text.ensures c.in-Ok.ensures.went c.in-Ok.ensures.told c.step.ensures.settings.0 c.in-Ok.ensures.passed
+    c.in_ok-add_outcome-in-Ok.ensures (written _ _ _ _ c.in_ok-write_all-in-Ok.ensures.bytes c.as_slice.ensures.value)
 
 pub returns-in-Some : goal.returns-in-Some
 returns-in-Some g c =
