@@ -4,6 +4,7 @@ use Rattle.std.specs.Option.{option_map}
 use Rattle.bac_simulate.specs.Lines.{Statement, statement_at}
 use Rattle.bac_simulate.specs.Lines.Statement.{Ask, Deliver, Lose, Noise, Tick, Advance, SetProperty, SetFile, Restart}
 use Rattle.bac_apdu.specs.Apdu as plain
+use Rattle.bac_simulate.specs.Happenings.{Happening}
 use Rattle.bac_simulate.specs.Houses.{house_nodes}
 use Rattle.bac_simulate.specs.Scripts.{NodeLimits, ScriptLine, Happens, before_others, limits_in, most_limits, said_at, said_by, said_from, said_in}
 use Rattle.bac_text.specs.Notes.{read_of}
@@ -14,7 +15,7 @@ house_limits window first (suc count) zero = refl
 house_limits window first (suc count) (suc node) = house_limits window (first + 1) count node
 
 same_event : (f g : NodeLimits) → ((node : ℕ) → f node ≡ g node) → (s : Statement) → said_by f s ≡ said_by g s
-same_event f g same (Ask client server request) = ap (λ (l : plain.Limits). Happens (world.Event.Ask client server l request)) (same server)
+same_event f g same (Ask client server request) = ap (λ (l : plain.Limits). Happens (Happening.Ask client server l request)) (same server)
 same_event f g same (Deliver copy) = refl
 same_event f g same (Lose copy) = refl
 same_event f g same (Noise node octets) = refl
