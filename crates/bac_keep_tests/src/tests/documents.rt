@@ -2,7 +2,7 @@
 use super::playing::{Asked, Round, keep_rounds};
 use bac_keep::{CellKeeper, KeepFault};
 use bac_rows::holds;
-use bac_store::{ChangeFault, Object, Property, Store as Objects};
+use bac_store::{Allowed, ChangeFault, Object, Property, Store as Objects};
 use bac_value::{ObjectIdentifier, read_data};
 use sqlite_trees::memory::MemStore;
 use sqlite_trees::schema::Object as Table;
@@ -36,6 +36,7 @@ fn object_of(
         number: 512,
         values: data.to_owned(alloc)?,
         writable,
+        allowed: Allowed::Any,
     })?;
     Ok(Object {
         id,
