@@ -5,6 +5,7 @@
 //! interface; the fields and the private methods may change.
 ghost use Rattle.std.specs.Prelude.{◌≡◌, ◌≢◌, ◌↔◌, ℕ, ◌<◌, ◌≤◌, [], true, false, max, count_by};
 ghost use Rattle.std.specs.Prelude.{IfErr, IfOk, IsErr, IsErrOf, IsSome, IfSome, IsTrue, OnErr, OnOk, MatchOption, None};
+ghost use Rattle.std.specs.Option.{option_map};
 ghost use Rattle.bac_apdu.specs.Views.{apdu_view, limits_view};
 ghost use Rattle.bac_npdu.specs.Views.{peer_view};
 ghost use Rattle.bac_service.specs.Values.{Request};
@@ -13,9 +14,11 @@ ghost use Rattle.bac_store.specs.AtNode.{change_fault, IsFaultOf};
 ghost use Rattle.bac_store.specs.Replies.{reply_to};
 ghost use Rattle.bac_store.specs.ReplyLengths.{DATA_LIMIT, reply_length};
 ghost use Rattle.bac_store.specs.Views.{change_view};
+ghost use Rattle.bac_slots.specs.Slots.{value_at};
+ghost use Rattle.bac_transaction.specs.Keys.{same_key};
 ghost use Rattle.bac_transaction.specs.Ends.{first_after, key_of, is_slot_held, is_slot_live, requester_tick, responder_tick};
 ghost use Rattle.bac_transaction.specs.Tables.{IsOrderlyClient, IsOrderlyServer};
-ghost use Rattle.bac_transaction.specs.Views.{settings_view};
+ghost use Rattle.bac_transaction.specs.Views.{peer_key_view, settings_view};
 ghost use Rattle.bac_protocol.specs.Context.{Settings as Set};
 ghost use Rattle.bac_protocol.specs.declared.times.TheConstants.{KEEP as KEPT_FOR, REST as REST_TIME};
 ghost use Rattle.bac_protocol.specs.Wire.{is_from_client};
@@ -25,7 +28,7 @@ ghost use Rattle.bac_responder.specs.Short.{AreRequestsShort};
 ghost use Rattle.bac_world.specs.Keys.{HasKeysApart};
 ghost use Rattle.bac_world.specs.Node.{NodeOn, NodeTick, IsHeardBy, restarted, store_after_restart, with_change};
 ghost use Rattle.bac_node.specs.Calls.{Dispatches, IsAsked, IsForNoneOpen, IsNotHeard, IsTickOfBoth, Refuses, ticked};
-ghost use Rattle.bac_node.specs.Fresh.{fresh_node, has_slots, made_node, slots_fit, window_fits, with_first_id};
+ghost use Rattle.bac_node.specs.Fresh.{fresh_node, has_large_slots, has_slots, has_slots_within, made_node, slots_within, window_fits, with_first_id};
 ghost use Rattle.bac_node.specs.Views.{outcome_view, settings_of};
 ghost use Rattle.bac_node.specs.Waiting.{IsDueBy, MovesAt, RestsUntil};
 ghost use Rattle.bac_requester.specs.Timers.{LAST_MOMENT};
@@ -70,11 +73,17 @@ impl Model for Node {
     ghost view = { λ n. record { link = n.link; settings = settings_view n.settings; latest = n.latest; clients = n.clients; servers = n.servers; store = n.store } };
 }
 
-/// Whether a table may have so many slots.
-fn slots_fit(slots: usize) -> bool
-    ensures { result ≡ slots_fit slots }
+/// How many slots each table of a node has at the most.
+const MOST_SLOTS: usize = 1_024;
+
+/// How many slots each table of a node with large tables has at the most.
+const MOST_LARGE_SLOTS: usize = 65_536;
+
+/// Whether a table may have so many slots, where it may have that many at the most.
+fn slots_within(most: usize, slots: usize) -> bool
+    ensures { result ≡ slots_within most slots }
 {
-    slots >= 1 && slots <= 1_024
+    slots >= 1 && slots <= most
 }
 
 /// The settings of a node; None where its window is not 1 to 64.
@@ -132,7 +141,7 @@ impl Node {
         ensures slots { IsErrOf result NewNodeFault.BadSlots ↔ (has_slots config ≡ false) }
         ensures window { IsErrOf result NewNodeFault.BadWindow ↔ ((has_slots config ≡ true) × (window_fits config.window ≡ false)) }
     {
-        Node::made(alloc, config, store, None)
+        Node::made(alloc, config, store, None, MOST_SLOTS)
     }
 
     /// A node that restarts at a moment, in milliseconds, after it has lost its transactions: its process was started again, or its power came back. Use it in
@@ -151,21 +160,52 @@ impl Node {
         ensures slots { IsErrOf result NewNodeFault.BadSlots ↔ (has_slots config ≡ false) }
         ensures window { IsErrOf result NewNodeFault.BadWindow ↔ ((has_slots config ≡ true) × (window_fits config.window ≡ false)) }
     {
-        Node::made(alloc, config, store, Some(now))
+        Node::made(alloc, config, store, Some(now), MOST_SLOTS)
     }
 
-    /// A node without asks and entries, which restarts at that moment if there is one.
+    /// A new node as one of `new`, with up to 65,536 slots in each table: for one that many ask, or that asks many, at once. Its memory is used as its slots are.
+    ///
+    /// `BadSlots` where a number of slots is not 1 to 65,536; the other faults are those of `new`.
+    pub fn with_large_tables(
+        alloc: Global,
+        config: Config,
+        store: Store,
+    ) -> Result<Node, NewNodeFault>
+        ensures fresh { IfOk result (λ n. n ≡ fresh_node config store) }
+        ensures slots { IsErrOf result NewNodeFault.BadSlots ↔ (has_large_slots config ≡ false) }
+        ensures window { IsErrOf result NewNodeFault.BadWindow ↔ ((has_large_slots config ≡ true) × (window_fits config.window ≡ false)) }
+    {
+        Node::made(alloc, config, store, None, MOST_LARGE_SLOTS)
+    }
+
+    /// A node that restarts at a moment, in milliseconds, as one of `restarted`, with up to 65,536 slots in each table. The faults are those of
+    /// `with_large_tables`.
+    pub fn restarted_with_large_tables(
+        alloc: Global,
+        config: Config,
+        store: Store,
+        now: u64,
+    ) -> Result<Node, NewNodeFault>
+        ensures restarted { IfOk result (λ n. n ≡ restarted now store (fresh_node config store)) }
+        ensures slots { IsErrOf result NewNodeFault.BadSlots ↔ (has_large_slots config ≡ false) }
+        ensures window { IsErrOf result NewNodeFault.BadWindow ↔ ((has_large_slots config ≡ true) × (window_fits config.window ≡ false)) }
+    {
+        Node::made(alloc, config, store, Some(now), MOST_LARGE_SLOTS)
+    }
+
+    /// A node without asks and entries, which restarts at that moment if there is one; its tables have so many slots at the most.
     fn made(
         alloc: Global,
         config: Config,
         store: Store,
         restart: Option<u64>,
+        most: usize,
     ) -> Result<Node, NewNodeFault>
         ensures made { IfOk result (λ n. n ≡ made_node config store restart) }
-        ensures slots { IsErrOf result NewNodeFault.BadSlots ↔ (has_slots config ≡ false) }
-        ensures window { IsErrOf result NewNodeFault.BadWindow ↔ ((has_slots config ≡ true) × (window_fits config.window ≡ false)) }
+        ensures slots { IsErrOf result NewNodeFault.BadSlots ↔ (has_slots_within most config ≡ false) }
+        ensures window { IsErrOf result NewNodeFault.BadWindow ↔ ((has_slots_within most config ≡ true) × (window_fits config.window ≡ false)) }
     {
-        if !slots_fit(config.client_slots) || !slots_fit(config.reply_slots) {
+        if !slots_within(most, config.client_slots) || !slots_within(most, config.reply_slots) {
             return Err(NewNodeFault::BadSlots);
         }
         let Some(settings) = settings_of(&config) else {
@@ -248,6 +288,14 @@ impl Node {
         ensures orderly { IsOrderlyServer self.now.servers }
     {
         self.servers.live(now)
+    }
+
+    /// When the entry of its reply table for a request began, in milliseconds, by the peer that asked and the invoke ID; None where it keeps none for them. Call
+    /// it to tell one performance for a peer from the next under the same invoke ID: their entries began more than 65,000 ms apart.
+    pub fn entry_begin(&self, key: &PeerKey) -> Option<u64>
+        ensures { result ≡ option_map (λ e. e.begin) (value_at same_key (peer_key_view key.now) self.now.servers.slots) }
+    {
+        self.servers.begin_of(key)
     }
 
     /// A law of each node, for a caller that was handed one: in each of its tables the slots have different keys. It goes over both tables, and changes
