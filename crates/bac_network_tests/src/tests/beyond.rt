@@ -52,7 +52,7 @@ fn is_done(
     Some((served.effect.is_some(), is_answered))
 }
 
-/// What comes of the second of two asks, by a client at the link of that number; the first client is at link 0.
+/// What comes of the second of two asks for the same, by a client at the link of that number; the first client is at link 0.
 fn second_done(alloc: Global, second: u8) -> Option<(bool, bool)> {
     let mut server = node(alloc, 1)?;
     is_done(alloc, &mut node(alloc, 0)?, &mut server, "append 10:1 AB")?;
@@ -60,7 +60,7 @@ fn second_done(alloc: Global, second: u8) -> Option<(bool, bool)> {
         alloc,
         &mut node(alloc, second)?,
         &mut server,
-        "append 10:1 CD",
+        "append 10:1 AB",
     )
 }
 

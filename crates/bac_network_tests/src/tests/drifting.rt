@@ -36,7 +36,7 @@ const PACE: Pace = Pace {
 };
 
 /// From which numbers schedules are made up.
-const SEEDS: u64 = 40;
+const SEEDS: u64 = 12;
 
 /// Of how many events each is.
 const EVENTS: usize = 400;
@@ -210,7 +210,7 @@ fn is_enough(counts: &Counts) -> bool {
     let happened = counts.restarts.min(counts.changes);
     let for_nodes = counts.performed.min(counts.answered);
     let for_strangers = counts.served.min(counts.answered_away);
-    happened >= 100 && for_nodes >= 50 && for_strangers >= 50
+    happened >= 20 && for_nodes >= 10 && for_strangers >= 10
 }
 
 #[test]
