@@ -9,9 +9,7 @@ use std::alloc::Global;
 use std::test::Fail;
 
 mod alone;
-mod beyond;
 mod chance;
-mod drifting;
 mod failing;
 mod faults;
 mod following;
@@ -23,7 +21,6 @@ mod links;
 mod memory;
 mod scene;
 mod sleeping;
-mod strangers;
 mod turns;
 mod twins;
 

@@ -99,18 +99,13 @@ impl Member {
 }
 
 impl Scene {
-    /// What its nodes are made of.
-    pub(super) fn made(&self, alloc: Global) -> Option<Vec<(Config, Store)>> {
+    /// A new world.
+    pub(super) fn world(&self, alloc: Global) -> Option<World> {
         let mut nodes = Vec::new(alloc);
         for (number, member) in self.members.iter().enumerate() {
             put(&mut nodes, member.made(alloc, (number % 256) as u8)?)?;
         }
-        Some(nodes)
-    }
-
-    /// A new world.
-    pub(super) fn world(&self, alloc: Global) -> Option<World> {
-        match World::new(alloc, self.made(alloc)?, self.overtake) {
+        match World::new(alloc, nodes, self.overtake) {
             Ok(world) => Some(world),
             Err(_) => None,
         }
