@@ -176,6 +176,7 @@ static int own_rows(bac_node *node)
     CALL(BAC_TOO_LONG, bac_append_file(node, 1, name, 1, out, 3));
     CALL(BAC_OK, bac_get_file(node, 1, out, sizeof out, &n));
     HOLDS(n == 3 && memcmp(out, name, 3) == 0);
+    CALL(BAC_OK, bac_set_file(node, 1, name, 2));
     n = 99;
     CALL(BAC_NO_SUCH_OBJECT, bac_get_file(node, 2, out, sizeof out, &n));
     CALL(BAC_BAD_REQUEST, bac_get_file(node, 4194304, out, sizeof out, &n));
@@ -299,8 +300,8 @@ static int writes(bac_node *node, uint8_t invoke, const uint8_t *value, uint8_t 
     }
     CALL(BAC_OK, bac_on(node, 1, THERE, request, request[3]));
     n = bac_send(node, 0, to, out, sizeof out);
-    HOLDS(bac_sends(node) == 1 && n == wanted_len && out[8] == invoke);
-    out[8] = 0;
+    HOLDS(bac_sends(node) == 1 && n == wanted_len && out[7] == invoke);
+    out[7] = 0;
     HOLDS(memcmp(out, wanted, n) == 0);
     HOLDS(bac_performed(node, &a, out, sizeof out) == 5 && a.service == 15 && a.priority == priority && a.done == (wanted_len == 9));
     return 0;
