@@ -11,7 +11,7 @@ use Rattle.bac_journal.specs.declared.copies.Copy as copy
 use Rattle.bac_network.specs.Faults.{fault_number}
 use Rattle.bac_network.specs.Histories.{WorldView, as_world}
 use Rattle.bac_network.specs.declared.event.Event.{Event}
-use Rattle.bac_network.specs.Steps.{NamesNoCopy, NamesNoNode, PassesClock, RefusesChange, TakesMemory, Tells}
+use Rattle.bac_network.specs.Steps.{NamesNoCopy, NamesNodeLink, NamesNoNode, PassesClock, RefusesChange, TakesMemory, Tells}
 use Rattle.bac_network.specs.Views.{event_view, fact_view, instant_after, log_view}
 use Rattle.bac_network.specs.declared.fact.Fact as fact
 use Rattle.bac_network.specs.declared.fault.WorldFault.{WorldFault}
@@ -164,14 +164,15 @@ refusal_told line e f why old new now number head text a b bad change same ns is
 pub fault_told : (line : ℕ) (e : Event) (f : WorldFault) (old new : WorldView) (number : ℕ) (a b : Option (List ℕ)) → change_fault_in f ≡ None
     → (IsErrOf (the_err f) fault.NoSuchNode ↔ NamesNoNode (as_world old) (event_view old.time e))
     → (IsErrOf (the_err f) fault.NoSuchDatagram ↔ NamesNoCopy (as_world old) (event_view old.time e))
+    → (IsErrOf (the_err f) fault.NodeLink ↔ NamesNodeLink (as_world old) (event_view old.time e))
     → (IsErrOf (the_err f) fault.ClockEnd ↔ PassesClock (as_world old) (event_view old.time e))
     → ((why : ChangeFault) → (IsErrOf (the_err f) (fault.BadChange why) ↔ RefusesChange (as_world old) (event_view old.time e) why))
     → (IsErrOf (the_err f) fault.NoMemory → TakesMemory old.overtake (as_world old) (event_view old.time e))
     → new ≡ old → number ≡ fault_number f → Appends a b (fault_line line number)
     → AppendsText a b (Steps in_words line false (Happens (happening_view e)) old new)
-fault_told line e f old new number a b ends node copy clock change memory same is printed = (
+fault_told line e f old new number a b ends node copy link clock change memory same is printed = (
   fault_line line number,
-  (fails in_words line e f old new (fault_line line number) ends node copy clock change memory same (ap (λ (n : ℕ). fault_line line n) is), printed),
+  (fails in_words line e f old new (fault_line line number) ends node copy link clock change memory same (ap (λ (n : ℕ). fault_line line n) is), printed),
 )
 
 -- ---- a copy that counts as lost

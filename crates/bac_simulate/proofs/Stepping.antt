@@ -13,7 +13,7 @@ use Rattle.bac_network.specs.declared.event.Event.{Event}
 use Rattle.bac_network.specs.declared.event.Event.TheVariants as event
 use Rattle.bac_store.specs.AtNode.{change_fault_number}
 use Rattle.bac_store.specs.declared.change_fault.ChangeFault.{ChangeFault}
-use Rattle.bac_network.specs.Steps.{IsFault, NamesNoCopy, NamesNoNode, PassesClock, RefusesChange, TakesMemory, Tells}
+use Rattle.bac_network.specs.Steps.{IsFault, NamesNoCopy, NamesNodeLink, NamesNoNode, PassesClock, RefusesChange, TakesMemory, Tells}
 use Rattle.bac_network.proofs.WorldRunning.{fault_is}
 use Rattle.bac_simulate.specs.declared.script.ScriptLine as code
 use Rattle.bac_simulate.specs.Scripts.{ScriptLine, Happens, Lost, Note}
@@ -37,6 +37,8 @@ same_event t (event.Tick node) = refl
 same_event t (event.Advance by) = refl
 same_event t (event.Change node change) = refl
 same_event t (event.Restart node store) = refl
+same_event t (event.Stranger node from octets) = refl
+same_event t (event.AskStranger node peer limits request) = refl
 
 pub same_after : (t : Instant) (e : Event) → instant_after e t ≡ time_after (happening_view e) t
 same_after t (event.Ask client server limits request) = refl
@@ -46,6 +48,8 @@ same_after t (event.Tick node) = refl
 same_after t (event.Advance by) = refl
 same_after t (event.Change node change) = refl
 same_after t (event.Restart node store) = refl
+same_after t (event.Stranger node from octets) = refl
+same_after t (event.AskStranger node peer limits request) = refl
 
 pub happened : (line : ℕ) (e : Event) (told : Option AskFault) (old new : WorldView) (facts copies : ℕ) (a b : Option (List ℕ))
     → facts ≡ length old.log → copies ≡ length old.copies → WorldStep old.overtake (as_world old) (event_view old.time e) (as_world new)
@@ -73,17 +77,18 @@ the_err f = Err f
 pub fails : {A : Type 0} (t : Printing A) (line : ℕ) (e : Event) (f : WorldFault) (old new : WorldView) (said : List A) → change_fault_in f ≡ None
     → (IsErrOf (the_err f) fault.NoSuchNode ↔ NamesNoNode (as_world old) (event_view old.time e))
     → (IsErrOf (the_err f) fault.NoSuchDatagram ↔ NamesNoCopy (as_world old) (event_view old.time e))
+    → (IsErrOf (the_err f) fault.NodeLink ↔ NamesNodeLink (as_world old) (event_view old.time e))
     → (IsErrOf (the_err f) fault.ClockEnd ↔ PassesClock (as_world old) (event_view old.time e))
     → ((why : ChangeFault) → (IsErrOf (the_err f) (fault.BadChange why) ↔ RefusesChange (as_world old) (event_view old.time e) why))
     → (IsErrOf (the_err f) fault.NoMemory → TakesMemory old.overtake (as_world old) (event_view old.time e))
     → new ≡ old → t.ended line (fault_number f) said → Steps t line false (Happens (happening_view e)) old new said
-fails t line e f old new said ends node copy clock change memory same is =
+fails t line e f old new said ends node copy link clock change memory same is =
     record {
       fault = f;
       ends = ends;
       why =
           subst (IsFault f old.overtake (as_world old)) (same_event old.time e)
-          (fault_is f old.overtake (as_world old) (event_view old.time e) (the_err f) refl node copy clock change memory);
+          (fault_is f old.overtake (as_world old) (event_view old.time e) (the_err f) refl node copy link clock change memory);
       same = same;
       is = is;
     }
@@ -91,18 +96,20 @@ fails t line e f old new said ends node copy clock change memory same is =
 pub stopped : (line : ℕ) (e : Event) (f : WorldFault) (old new : WorldView) (number : ℕ) (a b : Option (List ℕ)) → change_fault_in f ≡ None
     → (IsErrOf (the_err f) fault.NoSuchNode ↔ NamesNoNode (as_world old) (event_view old.time e))
     → (IsErrOf (the_err f) fault.NoSuchDatagram ↔ NamesNoCopy (as_world old) (event_view old.time e))
+    → (IsErrOf (the_err f) fault.NodeLink ↔ NamesNodeLink (as_world old) (event_view old.time e))
     → (IsErrOf (the_err f) fault.ClockEnd ↔ PassesClock (as_world old) (event_view old.time e))
     → ((why : ChangeFault) → (IsErrOf (the_err f) (fault.BadChange why) ↔ RefusesChange (as_world old) (event_view old.time e) why))
     → (IsErrOf (the_err f) fault.NoMemory → TakesMemory old.overtake (as_world old) (event_view old.time e))
     → new ≡ old → number ≡ fault_number f → Appends a b (fault_line line number) → AppendsText a b (IsStep line false (Happens (happening_view e)) old new)
-stopped line e f old new number a b ends node copy clock change memory same is printed = (
+stopped line e f old new number a b ends node copy link clock change memory same is printed = (
   fault_line line (fault_number f),
-  (fails in_text line e f old new (fault_line line (fault_number f)) ends node copy clock change memory same refl, subst (λ (n : ℕ). Appends a b (fault_line line n)) is printed),
+  (fails in_text line e f old new (fault_line line (fault_number f)) ends node copy link clock change memory same refl, subst (λ (n : ℕ). Appends a b (fault_line line n)) is printed),
 )
 
 bad_change : (f : WorldFault) (why : ChangeFault) → change_fault_in f ≡ Some why → the_err f ≡ the_err (fault.BadChange why)
 bad_change fault.NoSuchNode why e = absurd cc
 bad_change fault.NoSuchDatagram why e = absurd cc
+bad_change fault.NodeLink why e = absurd cc
 bad_change fault.ClockEnd why e = absurd cc
 bad_change (fault.BadChange other) why e = ap (λ (w : ChangeFault). the_err (fault.BadChange w)) (let same : Some other ≡ Some why = e in cc)
 bad_change fault.NoMemory why e = absurd cc

@@ -65,6 +65,7 @@ Passed t Note old new said = (new ≡ old) × (said ≡ [])
 abbrev pub change_fault_in : WorldFault → Option ChangeFault
 change_fault_in world_fault.NoSuchNode = None
 change_fault_in world_fault.NoSuchDatagram = None
+change_fault_in world_fault.NodeLink = None
 change_fault_in world_fault.ClockEnd = None
 change_fault_in (world_fault.BadChange why) = Some why
 change_fault_in world_fault.NoMemory = None

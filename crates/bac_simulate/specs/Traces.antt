@@ -9,6 +9,7 @@ use Rattle.bac_chart.specs.declared.mark.Mark as code
 use Rattle.bac_commands.specs.Facts.{ending_text}
 use Rattle.bac_transaction.specs.Meanings.{Ending}
 use Rattle.bac_journal.specs.Clocks.{pace_of}
+use Rattle.bac_npdu.specs.Peers.{PeerView}
 use Rattle.bac_network.specs.Histories.{WorldView}
 use Rattle.bac_requester.specs.Faults.{ask_fault_number}
 use Rattle.bac_requester.specs.declared.ask_fault.AskFault.{AskFault}
@@ -18,7 +19,8 @@ use Rattle.bac_world.specs.Once.{Fact}
 use Rattle.bac_world.specs.Once.Fact.{Asked, Performed, Ended, Changed, Restarted, Served, AskedAway, EndedAway}
 use Rattle.bac_world.specs.World.{Copy, Note, is_deliverable}
 use Rattle.bac_simulate.specs.Happenings.{Happening}
-use Rattle.bac_simulate.specs.Happenings.Happening.{Ask, Deliver, Noise, Tick, Advance, Change, Restart}
+use Rattle.bac_simulate.specs.Happenings.Happening.{Ask, Deliver, Noise, Tick, Advance, Change, Restart, Stranger, AskStranger}
+use Rattle.bac_text.specs.Peers.{link_text, peer_text}
 
 -- ---- copies
 
@@ -47,6 +49,10 @@ delivered_mark w number None = None
 delivered_mark w number (Some c) =
     Some (coming_mark (is_deliverable w.overtake (life_in w) w.time.moment number w.copies c) w.time.moment number c)
 
+-- octets of a stranger: from which link, and what they are
+abbrev pub stranger_words : (from octets : List ℕ) → List ℕ
+stranger_words from octets = (codes "from " ++ (link_text from ++ codes " ")) ++ datagram_words octets
+
 -- what comes to a node in an event
 abbrev pub coming_in : WorldView → Happening → Option Mark
 coming_in w (Ask client server limits request) = None
@@ -56,6 +62,8 @@ coming_in w (Tick node) = None
 coming_in w (Advance by) = None
 coming_in w (Change node change) = None
 coming_in w (Restart node store) = None
+coming_in w (Stranger node from octets) = Some (marks.Note w.time.moment node (stranger_words from octets))
+coming_in w (AskStranger client peer limits request) = None
 
 -- ---- facts
 
@@ -74,16 +82,23 @@ abbrev pub ended_mark : (now ask : ℕ) → Ending → (client : Option ℕ) →
 ended_mark now ask how None = None
 ended_mark now ask how (Some client) = Some (marks.Note now client (ended_words ask how))
 
--- a fact, where these notes are of the accepted asks, oldest first; strangers are not drawn
+-- a request of a stranger was performed, and a stranger was asked
+abbrev pub served_words : PeerView → List ℕ
+served_words peer = codes "served " ++ peer_text peer
+
+abbrev pub asked_away_words : (ask : ℕ) → PeerView → List ℕ
+asked_away_words ask peer = codes "asked " ++ (decimal ask ++ (codes " " ++ peer_text peer))
+
+-- a fact, where these notes are of the accepted asks, oldest first
 abbrev pub fact_mark : (now : ℕ) → List Note → Fact → Option Mark
 fact_mark now notes (Asked ask client server request) = Some (marks.Note now client (codes "asked " ++ decimal ask))
 fact_mark now notes (Performed ask request reply) = performed_mark now ask (slice_get notes ask)
 fact_mark now notes (Ended ask how) = ended_mark now ask how (client_in notes ask)
 fact_mark now notes (Changed node change) = Some (marks.Note now node (codes "changed"))
 fact_mark now notes (Restarted node store) = Some (marks.Note now node (codes "restarted"))
-fact_mark now notes (Served peer node invoke_id begin request reply) = None
-fact_mark now notes (AskedAway ask client peer request) = None
-fact_mark now notes (EndedAway ask how) = None
+fact_mark now notes (Served peer node invoke_id begin request reply) = Some (marks.Note now node (served_words peer))
+fact_mark now notes (AskedAway ask client peer request) = Some (marks.Note now client (asked_away_words ask peer))
+fact_mark now notes (EndedAway ask how) = ended_mark now ask how (client_in notes ask)
 
 abbrev pub optional_marks : Option Mark → List Mark
 optional_marks None = []
@@ -109,6 +124,8 @@ place_of (Tick node) = node
 place_of (Advance by) = 0
 place_of (Change node change) = node
 place_of (Restart node store) = node
+place_of (Stranger node from octets) = node
+place_of (AskStranger client peer limits request) = client
 
 abbrev pub refused_mark : (now : ℕ) → Happening → (fault : ℕ) → Mark
 refused_mark now event fault = marks.Note now (place_of event) (codes "refused " ++ decimal fault)

@@ -1,5 +1,6 @@
 -- From each type in code to its plain value.
 use Rattle.bac_apdu.specs.Views.{limits_view}
+use Rattle.bac_npdu.specs.Views.{peer_view}
 use Rattle.bac_network.specs.declared.event.Event.{Event}
 use Rattle.bac_network.specs.declared.event.Event.TheVariants as event
 use Rattle.bac_simulate.specs.Happenings.{Happening}
@@ -22,6 +23,9 @@ happening_view (event.Tick node) = Happening.Tick node
 happening_view (event.Advance by) = Happening.Advance by
 happening_view (event.Change node change) = Happening.Change node (change_view change)
 happening_view (event.Restart node store) = Happening.Restart node store
+happening_view (event.Stranger node from octets) = Happening.Stranger node from octets.items
+happening_view (event.AskStranger node peer limits request) =
+    Happening.AskStranger node (peer_view peer) (limits_view limits) (owned_request_view request)
 
 abbrev pub line_view : ScriptLine → plain.ScriptLine
 line_view (code.Happens event) = plain.ScriptLine.Happens (happening_view event)

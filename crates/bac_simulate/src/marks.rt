@@ -6,9 +6,11 @@ ghost use Rattle.bac_chart.specs.Views.{arrow_view, mark_view};
 ghost use Rattle.bac_journal.specs.Notes.{note_view};
 ghost use Rattle.bac_journal.specs.Views.{copy_view, key_view};
 ghost use Rattle.bac_network.specs.Views.{fact_view};
+ghost use Rattle.bac_npdu.specs.Views.{peer_view};
 ghost use Rattle.bac_simulate.specs.Views.{happening_view};
 ghost use Rattle.bac_protocol.specs.World.{same_key};
-ghost use Rattle.bac_simulate.specs.Traces.{arrow_of, client_in, coming_in, coming_mark, delivered_mark, ended_mark, ended_words, fact_mark, optional_marks, performed_mark, place_of, refused_mark, AddsMarks};
+ghost use Rattle.bac_simulate.specs.Traces.{arrow_of, asked_away_words, client_in, coming_in, coming_mark, delivered_mark, ended_mark, ended_words, fact_mark};
+ghost use Rattle.bac_simulate.specs.Traces.{optional_marks, performed_mark, place_of, refused_mark, served_words, stranger_words, AddsMarks};
 ghost use Rattle.bac_requester.specs.TransactionViews.{ending_view};
 ghost use Rattle.bac_world.specs.World.{count_of};
 
@@ -16,7 +18,9 @@ use bac_chart::{Arrow, Mark, datagram_words};
 use bac_commands::print_ending;
 use bac_journal::{Copy, Note, Transaction};
 use bac_network::{Event, Fact, World};
+use bac_npdu::{LinkAddress, Peer};
 use bac_requester::Ending;
+use bac_text::{link_text, peer_text};
 use std::alloc::{AllocError, Global};
 use std::io;
 
@@ -106,6 +110,17 @@ fn delivered_mark(alloc: Global, world: &World, number: usize) -> Result<Option<
     Ok(Some(mark))
 }
 
+/// Octets of a stranger: from which link, and what they are.
+fn stranger_words(alloc: Global, from: LinkAddress, octets: &[u8]) -> Result<Vec<u8>, AllocError>
+    ensures { IfOk result (λ t. t.items ≡ stranger_words from octets.now) }
+{
+    let link = link_text(alloc, from)?;
+    let datagram = datagram_words(alloc, octets)?;
+    let mut words = format!(in alloc; "from {link} ")?.into_bytes();
+    words.extend_from_slice(datagram.as_slice())?;
+    Ok(words)
+}
+
 /// What comes to a node in an event that is about to happen.
 pub(crate) fn coming_in(
     alloc: Global,
@@ -118,6 +133,10 @@ pub(crate) fn coming_in(
         Event::Deliver { number } => delivered_mark(alloc, world, *number),
         Event::Noise { node, .. } => {
             let words = Vec::from_slice(alloc, b"noise")?;
+            Ok(Some(note(world.now(), *node, words)))
+        }
+        Event::Stranger { node, from, octets } => {
+            let words = stranger_words(alloc, *from, octets)?;
             Ok(Some(note(world.now(), *node, words)))
         }
         _ => Ok(None),
@@ -182,6 +201,28 @@ fn asked_mark(alloc: Global, now: u64, ask: usize, client: usize) -> Result<Mark
     Ok(note(now, client, words.into_bytes()))
 }
 
+fn served_mark(alloc: Global, now: u64, node: usize, peer: Peer) -> Result<Mark, AllocError>
+    ensures { IfOk result (λ m. mark_view m ≡ plain.Note now node (served_words (peer_view peer))) }
+{
+    let peer = peer_text(alloc, peer)?;
+    let words = format!(in alloc; "served {peer}")?;
+    Ok(note(now, node, words.into_bytes()))
+}
+
+fn asked_away_mark(
+    alloc: Global,
+    now: u64,
+    ask: usize,
+    client: usize,
+    peer: Peer,
+) -> Result<Mark, AllocError>
+    ensures { IfOk result (λ m. mark_view m ≡ plain.Note now client (asked_away_words ask (peer_view peer))) }
+{
+    let peer = peer_text(alloc, peer)?;
+    let words = format!(in alloc; "asked {ask} {peer}")?;
+    Ok(note(now, client, words.into_bytes()))
+}
+
 fn plain_mark(alloc: Global, now: u64, node: usize, words: &[u8]) -> Result<Mark, AllocError>
     ensures { IfOk result (λ m. mark_view m ≡ plain.Note now node words.now) }
 {
@@ -202,10 +243,17 @@ pub(crate) fn fact_mark(
         Fact::Performed { number, .. } => {
             return Ok(performed_mark(alloc, now, *number, asks.get(*number))?);
         }
-        Fact::Ended { number, how } => {
+        Fact::Ended { number, how } | Fact::EndedAway { number, how } => {
             return Ok(ended_mark(alloc, now, asks, *number, how)?);
         }
         Fact::Changed { node, .. } => plain_mark(alloc, now, *node, b"changed")?,
+        Fact::Served { peer, node, .. } => served_mark(alloc, now, *node, *peer)?,
+        Fact::AskedAway {
+            number,
+            client,
+            peer,
+            ..
+        } => asked_away_mark(alloc, now, *number, *client, *peer)?,
         Fact::Restarted { node, .. } => plain_mark(alloc, now, *node, b"restarted")?,
     };
     Ok(Some(mark))
@@ -220,6 +268,8 @@ fn place_of(event: &Event) -> usize
     match event {
         Event::Ask { client, .. } => *client,
         Event::Noise { node, .. }
+        | Event::Stranger { node, .. }
+        | Event::AskStranger { node, .. }
         | Event::Tick { node }
         | Event::Change { node, .. }
         | Event::Restart { node, .. } => *node,

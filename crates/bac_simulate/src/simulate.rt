@@ -26,6 +26,7 @@ pub(crate) fn change_fault_in(fault: WorldFault) -> Option<ChangeFault>
         WorldFault::BadChange(why) => Some(why),
         WorldFault::NoSuchNode
         | WorldFault::NoSuchDatagram
+        | WorldFault::NodeLink
         | WorldFault::ClockEnd
         | WorldFault::NoMemory => None,
     }

@@ -24,4 +24,4 @@ pub returns : goal.returns
 returns g c =
     let told = c.in-Err.ensures in
     fault_told c.args.line c.args.event.now c.in-Err.fault c.args.world.now c.step.new.self _ _ _ (sym c.change_fault_in.ensures ∙ c.in-None.is)
-    told.node told.datagram told.clock told.change told.memory told.err c.number-in-None.ensures c.in_ok-print_fault-in-None.ensures
+    told.node told.datagram told.link told.clock told.change told.memory told.err c.number-in-None.ensures c.in_ok-print_fault-in-None.ensures
