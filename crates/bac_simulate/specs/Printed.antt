@@ -1,5 +1,5 @@
 -- What is printed of an event in a network of nodes.
-use Rattle.std.specs.Prelude.{ℕ, codes, decimal, ◌+◌, Bool, true, false, ◌&&◌, nat_eq, List, [], ◌∷◌, ◌++◌, length, drop}
+use Rattle.std.specs.Prelude.{ℕ, codes, decimal, ◌+◌, ◌-◌, Bool, true, false, ◌&&◌, nat_eq, nat_le, if◌then◌else◌, List, [], ◌∷◌, ◌++◌, length, drop}
 use Rattle.std.specs.Prelude.{reverse, Option, Some, None, slice_get}
 use Rattle.bac_npdu.specs.Peers.{PeerView}
 use Rattle.bac_requester.specs.Faults.{ask_fault_number}
@@ -64,6 +64,14 @@ news_text false facts copies w = facts_text (reverse w.notes) (drop facts (rever
 -- a copy that counts as lost
 abbrev pub lost_line : (copy : ℕ) → List ℕ
 lost_line copy = (codes "lost " ++ decimal copy) ++ line_end
+
+-- by how many parts in a million a clock is fast, or slow after a minus, which goes on by so many while a million of real time pass
+abbrev pub pace_text : (rate : ℕ) → List ℕ
+pace_text rate = if nat_le 1000000 rate then decimal (rate - 1000000) else codes "-" ++ decimal (1000000 - rate)
+
+-- from now on a node's clock goes so fast
+abbrev pub paced_line : (node rate : ℕ) → List ℕ
+paced_line node rate = (codes "paced " ++ (decimal node ++ codes " ")) ++ (pace_text rate ++ line_end)
 
 -- a refused ask, by the number of its fault; or what is new in a world that had so many facts and copies
 abbrev pub outcome_text : Option AskFault → (facts copies : ℕ) → WorldView → List ℕ

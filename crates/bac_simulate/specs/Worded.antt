@@ -24,8 +24,9 @@ use Rattle.bac_world.specs.Once.Fact.{Asked, Performed, Ended, Changed, Restarte
 use Rattle.bac_world.specs.World.{Copy, later}
 use Rattle.bac_simulate.specs.Happenings.{Happening}
 use Rattle.bac_simulate.specs.Happenings.Happening.{Ask, Deliver, Noise, Tick, Advance, Change, Restart, Stranger, AskStranger}
+use Rattle.bac_simulate.specs.Moments.{ms_now}
 use Rattle.bac_simulate.specs.Runs.{Printing}
-use Rattle.bac_simulate.specs.Printed.{is_as_before}
+use Rattle.bac_simulate.specs.Printed.{is_as_before, pace_text}
 use Rattle.bac_simulate.specs.Traces.{life_in}
 use Rattle.bac_simulate.specs.declared.nothing.Why.{Why}
 use Rattle.bac_simulate.specs.declared.nothing.Why.TheVariants as why
@@ -169,7 +170,7 @@ IsOutcome None reason facts copies w text = AreNewsOrWhy (is_as_before facts cop
 
 pub record IsEventText (told : Option AskFault) (event : Happening) (old new : WorldView) (text : List ℕ) : Type 0 where
   pub head : List ℕ
-  pub is_head : IsEventLine old.time.moment event head
+  pub is_head : IsEventLine (ms_now old) event head
   pub outcome : List ℕ
   pub is_outcome : IsOutcome told (why_nothing old event) (length old.log) (length old.copies) new outcome
   pub is : text ≡ head ++ outcome
@@ -177,12 +178,17 @@ pub record IsEventText (told : Option AskFault) (event : Happening) (old new : W
 -- a change that its node's store refused
 pub record IsRefusedText (fault : ChangeFault) (event : Happening) (old : WorldView) (text : List ℕ) : Type 0 where
   pub head : List ℕ
-  pub is_head : IsEventLine old.time.moment event head
+  pub is_head : IsEventLine (ms_now old) event head
   pub is : text ≡ head ++ refused_news (change_fault_number fault)
 
 -- a copy that counts as lost
 abbrev pub lose_text : (now copy : ℕ) → List ℕ
 lose_text now copy = decimal now ++ (codes " lose " ++ (decimal copy ++ codes "\n  lost: the script says so\n"))
+
+-- a clock that goes so fast from then on
+abbrev pub pace_line_text : (now node rate : ℕ) → List ℕ
+pace_line_text now node rate =
+    (decimal now ++ (codes " pace " ++ (decimal node ++ codes " "))) ++ (pace_text rate ++ codes "\n  paced\n")
 
 -- ---- runs
 
@@ -191,7 +197,8 @@ in_words =
     record {
       went = IsEventText;
       refused = IsRefusedText;
-      lost = λ old copy text. text ≡ lose_text old.time.moment copy;
+      lost = λ old copy text. text ≡ lose_text (ms_now old) copy;
+      clock = λ old node rate text. text ≡ pace_line_text (ms_now old) node rate;
       ended = λ line fault text. text ≡ fault_line line fault;
     }
 

@@ -1,5 +1,5 @@
 //! What came of an event, line by line.
-ghost use Rattle.std.specs.Prelude.{◌≡◌, false, drop, length, map, slice_get, OnOk};
+ghost use Rattle.std.specs.Prelude.{◌≡◌, false, drop, length, map, slice_get, string_bytes, IfOk, OnOk};
 ghost use Rattle.std.specs.Io.KnownBytes.{Appends};
 ghost use Rattle.bac_journal.specs.Notes.{note_view};
 ghost use Rattle.bac_journal.specs.Views.{copy_view};
@@ -8,7 +8,7 @@ ghost use Rattle.bac_npdu.specs.Views.{peer_view};
 ghost use Rattle.bac_service.specs.Views.{owned_reply_view};
 ghost use Rattle.bac_commands.specs.Facts.{sent_line};
 ghost use Rattle.bac_simulate.specs.Printed.{asked_away_line, asked_text, copies_text, fact_text, facts_text, is_as_before, lost_line, news_text, outcome_text};
-ghost use Rattle.bac_simulate.specs.Printed.{restarted_line, served_line};
+ghost use Rattle.bac_simulate.specs.Printed.{pace_text, paced_line, restarted_line, served_line};
 
 use bac_commands::{
     print_asked, print_changed, print_ended, print_nothing, print_performed, print_refused,
@@ -21,7 +21,7 @@ use bac_requester::AskFault;
 use bac_service::OwnedReply;
 use bac_service_text::print_reply;
 use bac_text::peer_text;
-use std::alloc::Global;
+use std::alloc::{AllocError, Global};
 use std::io;
 use std::io::Write;
 
@@ -82,6 +82,32 @@ fn print_asked_away<W: Write>(alloc: Global, number: u64, peer: Peer, out: &mut 
 {
     let peer = peer_text(alloc, peer)?;
     writeln!(out, "asked {number} {peer}")
+}
+
+/// By how many parts in a million a clock is fast, or slow after a minus.
+pub(crate) fn pace_text(alloc: Global, rate: u32) -> Result<String, AllocError>
+    ensures { IfOk result (λ t. string_bytes t ≡ pace_text rate) }
+{
+    if rate >= 1_000_000 {
+        let parts = rate - 1_000_000;
+        format!(in alloc; "{parts}")
+    } else {
+        let parts = 1_000_000 - rate;
+        format!(in alloc; "-{parts}")
+    }
+}
+
+/// Prints that a node's clock goes so fast from now on.
+pub(crate) fn print_paced<W: Write>(
+    alloc: Global,
+    node: u64,
+    rate: u32,
+    out: &mut W,
+) -> io::Result<()>
+    ensures { OnOk result (Appends (W.contents out.old) (W.contents out.new) (paced_line node rate)) }
+{
+    let pace = pace_text(alloc, rate)?;
+    writeln!(out, "paced {node} {pace}")
 }
 
 fn print_fact<W: Write>(alloc: Global, asks: &[Note], fact: &Fact, out: &mut W) -> io::Result<()>
