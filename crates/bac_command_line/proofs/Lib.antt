@@ -1,3 +1,4 @@
+pub mod ClientPairs
 pub mod CheckedFiles
 pub mod Statuses
 pub mod StoresOfFiles

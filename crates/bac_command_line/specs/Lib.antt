@@ -5,6 +5,7 @@ pub mod Asking
 pub mod Given
 pub mod FileWords
 pub mod Rounds
+pub mod ClientPairs
 pub mod Online
 pub mod AskedLines
 pub mod InFlight

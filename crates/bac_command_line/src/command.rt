@@ -82,7 +82,7 @@ pub fn run<F: OpenFiles, M: Machine, O: Write, E: Write>(
         machine,
     };
     match task_of(&matches, machine.shows_progress()) {
-        Some(task) => perform(&environment, task, out, err),
+        Some(task) => perform(&environment, task.from_source(machine), out, err),
         None => complain(err, fault_of(&matches), Status::CommandLine),
     }
 }

@@ -5,6 +5,7 @@ mod address;
 mod asking;
 mod asking_lines;
 mod bad_words;
+mod client_pair;
 mod command;
 mod ends;
 mod environment;
@@ -25,6 +26,7 @@ mod task;
 mod window;
 mod words;
 
+pub use client_pair::{ClientPair, pair_at, pairs_come_late};
 pub use command::run;
 pub use files::OpenFiles;
 pub use online::Machine;

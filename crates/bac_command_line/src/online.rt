@@ -11,6 +11,7 @@ ghost use Rattle.bac_driver.specs.Views.{question_view};
 use crate::address::LOCAL_HOST;
 use crate::asking::Asking;
 use crate::bad_words::print_bad_words;
+use crate::client_pair::ClientPair;
 use crate::rounds::{Asked, ask_by_client};
 use crate::serving::{Serving, print_listening, print_not_bound, serve_from};
 use crate::station::Station;
@@ -46,8 +47,12 @@ pub trait Machine {
     fn timer(&self) -> Option<Self::Timer>
         ensures { IfSome result Self.is_made };
 
-    /// The invoke ID at which a new client begins, one that differs from run to run where the machine has one; None where its clock can't be read.
-    fn first_id(&self) -> Option<u8>;
+    /// The port and the invoke ID at which a new client begins now; None where the time of day can't be read. It is asked again where the port is taken, and then
+    /// tells a later pair.
+    fn pair(&self) -> Option<ClientPair>;
+
+    /// The IPv4 address of this machine from which the system sends to a link; None where it tells none.
+    fn source_towards(&self, link: LinkAddress) -> Option<[u8; 4]>;
 
     /// Whether standard error is a terminal, which shows the progress of an ask.
     fn shows_progress(&self) -> bool;

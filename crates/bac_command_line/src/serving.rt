@@ -166,7 +166,7 @@ pub(crate) fn serve_from<L: Link, C: Clock, O: Write, E: Write>(
 fn slots_without_word(turns: Option<u64>) -> usize {
     match turns {
         Some(_) => 64,
-        None => 1_024,
+        None => 65_536,
     }
 }
 

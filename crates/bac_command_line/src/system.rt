@@ -3,11 +3,12 @@ ghost use Rattle.std.specs.Prelude.{◌≡◌, ⊤};
 ghost use Rattle.bac_driver.specs.Clocks.{latest_told};
 ghost use Rattle.bac_driver.specs.Udp.{bound_host, bound_port, udp_address};
 
+use crate::client_pair::{ClientPair, pair_at};
 use crate::files::OpenFiles;
 use crate::online::Machine;
 use bac_driver::{MonotonicClock, UdpLink};
 use bac_npdu::LinkAddress;
-use std::net::Net;
+use std::net::{Ipv4Addr, Net, SocketAddr, UdpSocket};
 use std::rt::Files;
 use std::time::{SystemTime, UNIX_EPOCH};
 use std::{fs, io};
@@ -62,11 +63,29 @@ impl<'a, R: Net + std::time::Clock> Machine for System<'a, R> {
         MonotonicClock::new(self.runtime).ok()
     }
 
-    /// The microseconds of the time of day, up to 255.
-    fn first_id(&self) -> Option<u8> {
+    /// That of the time of day.
+    fn pair(&self) -> Option<ClientPair> {
         let now = SystemTime::now(self.runtime).ok()?;
         let passed = now.duration_since(UNIX_EPOCH).ok()?;
-        Some(passed.as_micros().to_le_bytes()[0])
+        let moment = u64::try_from(passed.as_micros()).ok()?;
+        Some(pair_at(moment))
+    }
+
+    /// That of a socket that is connected to the link, which sends nothing.
+    fn source_towards(&self, link: LinkAddress) -> Option<[u8; 4]> {
+        let [a, b, c, d, high, low] = link;
+        let port = u16::from_be_bytes([high, low]);
+        let socket = UdpSocket::bind(
+            self.runtime,
+            SocketAddr::from((Ipv4Addr::UNSPECIFIED, 0)),
+        ).ok()?;
+        socket
+            .connect(SocketAddr::from((Ipv4Addr::new(a, b, c, d), port)))
+            .ok()?;
+        match socket.local_addr().ok()? {
+            SocketAddr::V4(address) => Some(address.ip().octets()),
+            SocketAddr::V6(_) => None,
+        }
     }
 
     fn shows_progress(&self) -> bool {

@@ -1,6 +1,7 @@
 //! What a command line asks for.
 use crate::asking::{Asking, asking_of};
 use crate::files::{CaptureFile, ScriptFile};
+use crate::online::Machine;
 use crate::serving::{Serving, serving_of};
 use bac_explain_report::ChartFormat;
 use bac_simulate::View;
@@ -89,6 +90,23 @@ fn capture_of<'a>(given: &ArgMatches<'a>) -> Option<CaptureFile<'a>> {
     let path = given.get_str("FILE")?;
     let port = given.get_one("port");
     Some(CaptureFile { path, port })
+}
+
+impl<'m, 'a> Task<'m, 'a> {
+    /// The same; a client asks from the address of this machine that the node sees, where the machine tells it.
+    pub(crate) fn from_source<M: Machine>(self, machine: &M) -> Task<'m, 'a> {
+        match self {
+            Task::Ask { asking, words } => Task::Ask {
+                asking: asking.from_source(machine),
+                words,
+            },
+            Task::AskLines { asking, path } => Task::AskLines {
+                asking: asking.from_source(machine),
+                path,
+            },
+            task => task,
+        }
+    }
 }
 
 /// None where there is no subcommand, or its word is missing; clap refuses such words itself. Also where an address is none of IPv4. The progress of asks is

@@ -267,10 +267,10 @@ const SERVE: &[Word] = &[
     },
     Word {
         name: "slots",
-        form: WordForm::Number("N", 1_024),
+        form: WordForm::Number("N", 65_536),
         need: Need::Never,
         against: &[],
-        help: "How many requests it can remember at once, 1 to 1024; by default 1024, or 64 with --turns",
+        help: "How many requests it can remember at once, 1 to 65536; by default 65536, or 64 with --turns",
     },
     Word {
         name: "restarted",

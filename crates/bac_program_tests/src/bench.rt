@@ -3,7 +3,7 @@ ghost use Rattle.std.specs.Prelude.{◌≡◌, ◌≤◌, length, is_ok, if◌th
 ghost use Rattle.bac_driver.specs.Calls.{one_more};
 
 use crate::text_file::copy_front;
-use bac_command_line::Machine;
+use bac_command_line::{ClientPair, Machine};
 use bac_commands::answer_datagram;
 use bac_driver::{Clock, Link, LinkFault};
 use std::alloc::Global;
@@ -283,10 +283,17 @@ impl Machine for BenchMachine {
         self.bench.clock
     }
 
-    /// The moment at which the clock begins, up to 255.
-    fn first_id(&self) -> Option<u8> {
-        let clock = self.bench.clock?;
-        Some(clock.moment.to_le_bytes()[0])
+    /// Any free port, and the moment at which the clock begins, up to 255; where there is no clock, 0.
+    fn pair(&self) -> Option<ClientPair> {
+        let first_id = match self.bench.clock {
+            Some(clock) => clock.moment.to_le_bytes()[0],
+            None => 0,
+        };
+        Some(ClientPair { port: 0, first_id })
+    }
+
+    fn source_towards(&self, _link: [u8; 6]) -> Option<[u8; 4]> {
+        None
     }
 
     fn shows_progress(&self) -> bool {

@@ -10,6 +10,7 @@ mod answers;
 mod asked_lines;
 mod asked_rounds;
 mod asked_window;
+mod client_pairs;
 mod decoded;
 mod files;
 mod help;

@@ -24,8 +24,8 @@ const WORDS: &[(&str, &str)] = &[
     ("check x --text --notes", "--notes"),
     ("serve", "--port <P>"),
     ("serve --turns 2", "--port <P>"),
-    ("serve --port 47899 --slots 0", "0 is not in 1..=1024"),
-    ("serve --port 47899 --slots 1025", "1025"),
+    ("serve --port 47899 --slots 0", "0 is not in 1..=65536"),
+    ("serve --port 47899 --slots 65537", "65537"),
     (
         "serve --port 47899 --seconds 0",
         "0 is not in 1..=1000000000",

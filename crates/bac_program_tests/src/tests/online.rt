@@ -575,7 +575,7 @@ const SERVED: &[BenchRow] = &[
         "serve --port 47808 --seconds 1",
         (
             "served 5\n",
-            "listening 127.0.0.1:47808, 5 objects, 1024 slots\n",
+            "listening 127.0.0.1:47808, 5 objects, 65536 slots\n",
             0,
         ),
     ),

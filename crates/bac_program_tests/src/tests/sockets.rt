@@ -52,7 +52,7 @@ fn runs_on_this_machine(rt: HostRuntime) -> Result<(), Fail> {
 }
 
 /// What a server says, before the moment from which it takes new requests.
-const RESTARTED: &str = "listening 127.0.0.1:47898, 5 objects, 1024 slots\nserving from ";
+const RESTARTED: &str = "listening 127.0.0.1:47898, 5 objects, 65536 slots\nserving from ";
 
 /// The moment that a server that restarted says, and nothing else; None where it is something else.
 fn moment_of(err: &[u8]) -> Option<u64> {
