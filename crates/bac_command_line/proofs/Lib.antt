@@ -1,3 +1,4 @@
+pub mod Told
 pub mod CheckedFiles
 pub mod Statuses
 pub mod StoresOfFiles

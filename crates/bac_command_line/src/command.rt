@@ -7,13 +7,14 @@ use crate::asking_lines::ask_lines;
 use crate::environment::Environment;
 use crate::files::{OpenFiles, chart, check, explain, show, simulate};
 use crate::grammar::matches;
+use crate::help::tell;
 use crate::lines::{check_lines, decode};
 use crate::objects::{answer, serve};
 use crate::online::Machine;
+use crate::reasons::print_no_task;
 use crate::task::{Task, task_of};
 use crate::{file_words, online};
-use bac_text::{Status, complain, no_memory};
-use clap::ArgMatches;
+use bac_text::{Status, no_memory};
 use clap::error::ErrorKind;
 use std::alloc::Global;
 use std::io::Write;
@@ -45,14 +46,7 @@ fn perform<F: OpenFiles, M: Machine, O: Write, E: Write>(
         Task::Ask { asking, words } => { file_words::ask(environment, &asking, words, out, err) }
         Task::AskLines { asking, path } => { ask_lines(environment, &asking, path, out, err) }
         Task::Pair => online::pair(alloc, environment.machine, out, err),
-    }
-}
-
-/// Why there is nothing to be done.
-fn fault_of(matches: &ArgMatches<'_>) -> &'static str {
-    match matches.subcommand() {
-        Some(("serve" | "ask", _)) => "bad address",
-        _ => "no command",
+        Task::Tell(telling) => tell(telling, out, err),
     }
 }
 
@@ -83,6 +77,6 @@ pub fn run<F: OpenFiles, M: Machine, O: Write, E: Write>(
     };
     match task_of(&matches, machine.shows_progress()) {
         Some(task) => perform(&environment, task, out, err),
-        None => complain(err, fault_of(&matches), Status::CommandLine),
+        None => print_no_task(&matches, err),
     }
 }

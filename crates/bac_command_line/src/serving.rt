@@ -5,7 +5,7 @@ ghost use Rattle.bac_commands.specs.Reports.{ReportsServing};
 ghost use Rattle.bac_text.specs.declared.status.Status.TheVariants as status;
 ghost use Rattle.bac_command_line.specs.Serving.{patience_of, restart_of, turns_of};
 
-use crate::address::{LOCAL_HOST, read_host};
+use crate::address::{BACNET_PORT, LOCAL_HOST, read_host};
 use crate::station::Station;
 use bac_commands::{ServeCommand, link_fault};
 use bac_driver::{Clock, Link, NoObserver, RunLimit, WaitLimit};
@@ -170,7 +170,7 @@ fn slots_without_word(turns: Option<u64>) -> usize {
     }
 }
 
-/// None where there is no port, or what is given is no address.
+/// None where what is given is no address.
 pub(crate) fn serving_of(given: &ArgMatches<'_>) -> Option<Serving> {
     let host = match given.get_str("at") {
         Some(text) => read_host(text)?,
@@ -180,7 +180,7 @@ pub(crate) fn serving_of(given: &ArgMatches<'_>) -> Option<Serving> {
     let slots: Option<usize> = given.get_one("slots");
     Some(Serving {
         host,
-        port: given.get_one("port")?,
+        port: given.get_one("port").unwrap_or(BACNET_PORT),
         turns,
         seconds: given.get_one("seconds"),
         slots: slots.unwrap_or(slots_without_word(turns)),

@@ -1,6 +1,7 @@
 //! What a command line asks for.
 use crate::asking::{Asking, asking_of};
 use crate::files::{CaptureFile, ScriptFile};
+use crate::help::Telling;
 use crate::serving::{Serving, serving_of};
 use bac_explain_report::ChartFormat;
 use bac_simulate::View;
@@ -56,6 +57,8 @@ pub(crate) enum Task<'m, 'a> {
     },
     /// Two nodes.
     Pair,
+    /// What is told of the program.
+    Tell(Telling<'a>),
 }
 
 /// What the run of a script is to be shown as; None where each event is printed.
@@ -146,6 +149,10 @@ pub(crate) fn task_of<'m, 'a>(
             Some(Task::Ask { asking, words })
         }
         ("pair", _) => Some(Task::Pair),
+        ("help", given) if given.get_flag("man") => Some(Task::Tell(Telling::Manual)),
+        ("help", given) => Some(Task::Tell(Telling::Help(given.get_str("COMMAND")))),
+        ("version", _) => Some(Task::Tell(Telling::Version)),
+        ("completion", _) => Some(Task::Tell(Telling::Completion)),
         _ => None,
     }
 }

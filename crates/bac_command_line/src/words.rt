@@ -240,9 +240,9 @@ const SERVE: &[Word] = &[
     Word {
         name: "port",
         form: WordForm::Number("P", 65_535),
-        need: Need::Always,
+        need: Need::Never,
         against: &[],
-        help: "The UDP port to listen on, 1 to 65535",
+        help: "The UDP port to listen on, 1 to 65535; 47808 by default",
     },
     Word {
         name: "turns",

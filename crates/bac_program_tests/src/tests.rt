@@ -21,6 +21,7 @@ mod progress;
 mod restarts;
 mod served_documents;
 mod sockets;
+mod told;
 mod wrong;
 
 /// What is printed, what is complained of, and the exit status.
