@@ -1,3 +1,6 @@
 pub mod Counts
 pub mod Turned
 pub mod Loops
+pub mod HeldTurns
+pub mod ChangesOfTurns
+pub mod RoundsTaken

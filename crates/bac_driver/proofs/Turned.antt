@@ -1,13 +1,15 @@
 -- A turn, of its two parts.
-use Rattle.std.proofs.Common.{◌≡◌, ℕ, ◌+◌, ◌≤◌, min, Bool, true, false, inl, inr, List, ◌++◌, map, length, ap, sym, subst, ◌∙◌, arith, length-append}
-use Rattle.std.proofs.lemmas.List.{map-append}
+use Rattle.std.proofs.Common.{◌≡◌, ℕ, ◌+◌, ◌<◌, ◌≤◌, min, Bool, true, false, inl, inr, List, [], ◌∷◌, ◌++◌, map, take, length, get_or}
+use Rattle.std.proofs.Common.{refl, ap, sym, subst, ◌∙◌, arith, append_assoc, length-append}
+use Rattle.std.proofs.lemmas.List.{append-nil, map-append, take_more}
 use Rattle.bac_protocol.specs.Service.{Octets}
 use Rattle.bac_protocol.specs.Wire.{is_from_client}
 use Rattle.bac_world.specs.Node.{IsHeardBy, Node, NodeOn, Outcome}
 use Rattle.bac_transaction.specs.Sends.{Datagram}
 use Rattle.bac_driver.specs.Calls.{Calls, MOST}
 use Rattle.bac_driver.specs.BoundNodes.{BoundNode}
-use Rattle.bac_driver.specs.Turns.{Acts, Hears, IsCarried, Ticks, Turn, call_of, counted, sends_of, with_calls}
+use Rattle.bac_driver.specs.Rounds.{IsTaken, sends_in, sends_of_all}
+use Rattle.bac_driver.specs.Turns.{Acts, Hears, Ticks, Turn, call_of, counted, with_calls}
 use Rattle.bac_driver.proofs.Counts.{counted_both, with_more}
 
 -- a datagram that comes at a moment leaves the latest one of the node no later
@@ -25,37 +27,79 @@ pub record IsSentBy (sends : List Datagram) (lost : ℕ) (failures after : ℕ) 
   pub order : calls_after ≡ with_calls calls (map call_of sends)
   pub most : lost ≤ length sends
 
--- what two steps send, one after the other
-pub carried : (a b : List Datagram) (x y lost g : ℕ) (m : Calls) (old new : BoundNode)
-    → IsSentBy a x old.failures g old.calls m → IsSentBy b y g new.failures m new.calls → lost ≡ min (x + y) MOST → IsCarried (a ++ b) lost old new
-carried a b x y lost g m old new sends more sum =
+-- what is sent, and then more
+sent_more : (a b : List Datagram) (x y lost f g h : ℕ) (l m n : Calls) → IsSentBy a x f g l m → IsSentBy b y g h m n → lost ≡ min (x + y) MOST
+    → IsSentBy (a ++ b) lost f h l n
+sent_more a b x y lost f g h l m n sends more sum =
     record {
+      count = counted_both f x y lost g h sends.count more.count sum;
       order =
           more.order
           ∙ ap (λ calls. with_calls calls (map call_of b)) sends.order
-          ∙ with_more old.calls (map call_of a) (map call_of b)
-          ∙ ap (with_calls old.calls) (sym (map-append call_of a b));
-      count = counted_both old.failures x y lost g new.failures sends.count more.count sum;
+          ∙ with_more l (map call_of a) (map call_of b)
+          ∙ ap (with_calls l) (sym (map-append call_of a b));
       most = let both = length-append a b in omega (arith, sends.most, more.most);
     }
 
 -- the same of lists that are those
-pub carried_of : (a b all more : List Datagram) (lost : ℕ) (old new : BoundNode) → a ≡ all → b ≡ more → IsCarried (a ++ b) lost old new
-    → IsCarried (all ++ more) lost old new
-carried_of a b all more lost old new is is_more sent =
-    subst (λ (x : List Datagram). IsCarried (all ++ x) lost old new) is_more (subst (λ (x : List Datagram). IsCarried (x ++ b) lost old new) is sent)
+pub sent_both : (a b all more : List Datagram) (x y lost f g h : ℕ) (l m n : Calls) → a ≡ all → b ≡ more → IsSentBy a x f g l m → IsSentBy b y g h m n
+    → lost ≡ min (x + y) MOST → IsSentBy (all ++ more) lost f h l n
+sent_both a b all more x y lost f g h l m n is is_more sends after sum =
+    subst (λ (z : List Datagram). IsSentBy (all ++ z) lost f h l n) is_more
+    (subst (λ (z : List Datagram). IsSentBy (z ++ b) lost f h l n) is (sent_more a b x y lost f g h l m n sends after sum))
 
--- both steps of a bound node that was so before them, over the octets that it had in its buffer
-pub acted : (now : ℕ) (seen : Octets) (before old new : BoundNode) (middle : Node) (turn : Turn) → before ≡ old → seen ≡ before.buffer → turn.at ≡ now
-    → new.buffer ≡ before.buffer → Hears now seen turn.received before.node middle turn.heard → Ticks now middle new.node turn.ticked
-    → IsCarried (sends_of turn.heard ++ sends_of turn.ticked) turn.lost before new → Acts now old turn new
-acted now seen before old new middle turn is seen_is at same hears ticks sent =
-    subst (λ (o : BoundNode). Acts now o turn new) is
+-- of turns after others
+sends_of_more : (xs : List Turn) (turn : Turn) → sends_of_all (xs ++ turn ∷ []) ≡ sends_of_all xs ++ sends_in turn
+sends_of_more [] turn = append-nil (sends_in turn)
+sends_of_more (x ∷ xs) turn = ap (λ (z : List Datagram). sends_in x ++ z) (sends_of_more xs turn) ∙ sym (append_assoc (sends_in x) (sends_of_all xs) (sends_in turn))
+
+-- one more turn than so many of a list
+pub one_more_sent : {A : Type 0} (view : A → Turn) (turns : List A) (i : ℕ) (turn : A) (lost more now f g h : ℕ) (l m n : Calls) → i < length turns
+    → turn ≡ get_or turns i turn → IsSentBy (sends_of_all (map view (take i turns))) lost f g l m → IsSentBy (sends_in (view turn)) more g h m n
+    → now ≡ min (lost + more) MOST → IsSentBy (sends_of_all (map view (take (i + 1) turns))) now f h l n
+one_more_sent view turns i turn lost more now f g h l m n within is sends after sum =
+    subst (λ (z : List Datagram). IsSentBy z now f h l n) (sym (ap sends_of_all front ∙ sends_of_more (map view (take i turns)) (view turn)))
+    (sent_more _ _ lost more now f g h l m n sends after sum) where
+      front : map view (take (i + 1) turns) ≡ map view (take i turns) ++ view turn ∷ []
+      front =
+          ap (map view) (take_more turns i turn within ∙ ap (λ x. take i turns ++ x ∷ []) (sym is)) ∙ map-append view (take i turns) (turn ∷ [])
+
+-- ---- both steps
+
+-- what the node makes of what had come, over the octets that the bound node had in its buffer
+pub taken : (now : ℕ) (seen : Octets) (before old new : BoundNode) (middle : Node) (turn : Turn) → before ≡ old → seen ≡ before.buffer → turn.at ≡ now
+    → turn.lost ≡ 0 → new.calls ≡ before.calls → new.failures ≡ before.failures → new.buffer ≡ before.buffer
+    → Hears now seen turn.received before.node middle turn.heard → Ticks now middle new.node turn.ticked → IsTaken now old turn new
+taken now seen before old new middle turn is seen_is at none calls failures same hears ticks =
+    subst (λ (o : BoundNode). IsTaken now o turn new) is
     (record {
       at = at;
       middle = middle;
       hears = subst (λ (b : Octets). Hears now b turn.received before.node middle turn.heard) seen_is hears;
       ticks = ticks;
-      carried = sent;
+      lost = none;
+      calls = calls;
+      failures = failures;
       buffer = same;
+    })
+
+-- a turn that sends then what it sends, from a bound node that is so after both steps
+pub acted : (now : ℕ) (old middle before new : BoundNode) (turn sent : Turn) (lost : ℕ) → before ≡ middle → IsTaken now old turn middle
+    → sent ≡ record turn { lost = lost } → new.node ≡ before.node → new.buffer ≡ before.buffer
+    → IsSentBy (sends_in turn) lost before.failures new.failures before.calls new.calls → Acts now old sent new
+acted now old middle before new turn sent lost same taken is node buffer sends =
+    let takes = subst (λ (m : BoundNode). IsTaken now old turn m) (sym same) taken in
+    subst (λ (t : Turn). Acts now old t new) (sym is)
+    (record {
+      at = takes.at;
+      middle = takes.middle;
+      hears = takes.hears;
+      ticks = subst (λ (n : Node). Ticks now takes.middle n turn.ticked) (sym node) takes.ticks;
+      carried =
+          record {
+            order = sends.order ∙ ap (λ (c : Calls). with_calls c (map call_of (sends_in turn))) takes.calls;
+            count = sends.count ∙ ap (λ (f : ℕ). counted f lost) takes.failures;
+            most = sends.most;
+          };
+      buffer = buffer ∙ takes.buffer;
     })

@@ -7,6 +7,8 @@ pub mod Serving
 pub mod Seen
 pub mod Asking
 pub mod Observed
+pub mod Rounds
+pub mod Kept
 pub mod Pairs
 pub mod Views
 pub mod Calls

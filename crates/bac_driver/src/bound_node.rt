@@ -1,12 +1,13 @@
 //! A bound node: a node on its link, with a buffer for what comes, and one turn of it.
 //!
 //! Programs, `serving`, `asking` and `pairing` call it. The methods and their contracts are the interface; the fields and the private methods may change.
-ghost use Rattle.std.specs.Prelude.{◌≡◌, ◌↔◌, ◌<◌, ◌≤◌, length, IfOk, IfErr, IfSome, IsErrOf, OnErr};
+ghost use Rattle.std.specs.Prelude.{◌≡◌, ◌↔◌, ◌<◌, ◌≤◌, length, map, IfOk, IfErr, IfSome, IsErrOf, OnErr};
 ghost use Rattle.bac_driver.specs.Calls.{one_more, with_call};
 ghost use Rattle.bac_driver.specs.Calls.Call.{FailedReceive};
 ghost use Rattle.bac_node.specs.Calls.{Refuses};
 ghost use Rattle.bac_driver.specs.BoundNodes.{BUFFER};
-ghost use Rattle.bac_driver.specs.Turns.{Acts, IsTurn, Receives};
+ghost use Rattle.bac_driver.specs.Rounds.{IsTaken, OnlyReceives, sends_of_all};
+ghost use Rattle.bac_driver.specs.Turns.{Acts, IsCarried, IsTurn, Receives};
 ghost use Rattle.bac_driver.specs.Runs.{TakesTurnFrom, timed};
 ghost use Rattle.bac_driver.specs.Waits.{BRIEF, IsWait};
 ghost use Rattle.bac_driver.specs.Asking.{IsBegun};
@@ -14,9 +15,9 @@ ghost use Rattle.bac_driver.specs.Views.{question_view, turn_view};
 
 use crate::fault::TurnFault;
 use crate::question::Question;
-use crate::sending::send_all;
+use crate::sending::{send_all, send_turn, send_turns};
 use crate::step::{on_due, on_received};
-use crate::turn::{Received, Turn, sends_of};
+use crate::turn::{Received, Turn};
 use crate::wait_limit::{WaitLimit, wait_until};
 use crate::{Clock, Link};
 use bac_node::Node;
@@ -95,7 +96,11 @@ impl<L: Link> BoundNode<L> {
     }
 
     /// One call to receive into the buffer, at a moment that is not before the node's latest one. The node is as before.
-    fn receive(&mut self, now: u64, wait_limit: &WaitLimit) -> Result<Received, TurnFault>
+    pub(crate) fn receive(
+        &mut self,
+        now: u64,
+        wait_limit: &WaitLimit,
+    ) -> Result<Received, TurnFault>
         ensures received { IfOk result (λ r. Receives wait_limit.now now self.old r self.new) }
         ensures timely { IfOk result (λ _. self.old.node.latest ≤ now) }
         ensures size { length self.new.buffer ≡ BUFFER }
@@ -103,6 +108,7 @@ impl<L: Link> BoundNode<L> {
         ensures unheard { IsErrOf result TurnFault.ClockBack → self.new ≡ self.old }
         ensures failed { IsErrOf result TurnFault.Link → self.new.failures ≡ one_more self.old.failures }
         ensures told { IsErrOf result TurnFault.Link → self.new.calls ≡ with_call self.old.calls FailedReceive }
+        ensures unsent { OnlyReceives self.old.calls self.new.calls }
         ensures err { OnErr result (self.new.node ≡ self.old.node) }
     {
         if now < self.node.latest() {
@@ -112,6 +118,33 @@ impl<L: Link> BoundNode<L> {
         Ok(self.link.recv(&mut self.buffer, wait)?)
     }
 
+    /// The node takes what came, and then does all that is due, at a moment that is not before its latest one. Nothing is sent yet.
+    pub(crate) fn take(&mut self, now: u64, received: Received) -> Turn
+        requires within { IfSome received (λ d. d.1 ≤ length self.old.buffer) }
+        requires timely { self.old.node.latest ≤ now }
+        ensures taken { IsTaken now self.old (turn_view result) self.new }
+        ensures received { result.received ≡ received }
+    {
+        let heard = on_received(&mut self.node, now, received, &self.buffer);
+        let ticked = on_due(&mut self.node, now);
+        Turn {
+            at: now,
+            received,
+            heard,
+            ticked,
+            lost: 0,
+        }
+    }
+
+    /// What turns send goes to the link, in order. Returns how many sends failed.
+    pub(crate) fn send(&mut self, turns: &[Turn]) -> u64
+        ensures carried { IsCarried (sends_of_all (map turn_view turns.now)) result self.old self.new }
+        ensures node { self.new.node ≡ self.old.node }
+        ensures buffer { self.new.buffer ≡ self.old.buffer }
+    {
+        send_turns(&mut self.link, turns)
+    }
+
     /// The node takes what came, and then does all that is due, at a moment that is not before its latest one; what it sends goes to the link.
     fn act(&mut self, now: u64, received: Received) -> Turn
         requires within { IfSome received (λ d. d.1 ≤ length self.old.buffer) }
@@ -119,17 +152,9 @@ impl<L: Link> BoundNode<L> {
         ensures acted { Acts now self.old (turn_view result) self.new }
         ensures received { result.received ≡ received }
     {
-        let heard = on_received(&mut self.node, now, received, &self.buffer);
-        let first_lost = send_all(&mut self.link, sends_of(&heard));
-        let ticked = on_due(&mut self.node, now);
-        let second_lost = send_all(&mut self.link, sends_of(&ticked));
-        Turn {
-            at: now,
-            received,
-            heard,
-            ticked,
-            lost: first_lost.saturating_add(second_lost),
-        }
+        let mut turn = self.take(now, received);
+        turn.lost = send_turn(&mut self.link, &turn);
+        turn
     }
 
     /// Takes one turn at a moment in milliseconds: it receives once; the node takes the datagram, if one came; then the node does all that is due. It is for

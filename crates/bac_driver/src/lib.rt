@@ -6,13 +6,17 @@
 
 mod asking;
 mod bound_node;
+mod changing;
 mod clock;
 mod endings;
 mod fault;
+mod holding;
 mod link;
 mod observer;
 mod pairing;
 mod question;
+mod round;
+mod rounds;
 mod sending;
 mod serving;
 mod step;
@@ -22,11 +26,12 @@ mod wait_limit;
 
 pub use bound_node::BoundNode;
 pub use clock::{Clock, MonotonicClock};
-pub use fault::TurnFault;
+pub use fault::{RoundFault, TurnFault};
 pub use link::{Link, LinkFault};
 pub use observer::{NoObserver, Observer};
 pub use pairing::pair;
 pub use question::{AskEnd, Question};
+pub use round::Round;
 pub use turn::{Turn, sends_of};
 pub use udp::UdpLink;
 pub use wait_limit::{RunLimit, WaitLimit};

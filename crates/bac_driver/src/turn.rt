@@ -1,7 +1,8 @@
 //! What a turn returns. Observers and programs read the fields: a change of them is a change of the interface.
-ghost use Rattle.std.specs.Prelude.{◌≡◌};
+ghost use Rattle.std.specs.Prelude.{◌≡◌, ◌≤◌};
 ghost use Rattle.std.specs.Option.{option_map};
 ghost use Rattle.bac_node.specs.Views.{cause_view, outcome_view, performed_view};
+ghost use Rattle.bac_driver.specs.Serving.{count_of};
 ghost use Rattle.bac_driver.specs.Turns.{dropped_of, performed_of, sends_of, skipped_in};
 ghost use Rattle.bac_driver.specs.Views.{turn_view};
 
@@ -13,7 +14,7 @@ use bac_transaction::Datagram;
 /// The sender of the datagram that came, and how many octets it has: they are the first of `BoundNode::buffer`. None where no datagram came.
 pub(crate) type Received = Option<(LinkAddress, usize)>;
 
-/// What a turn of a bound node returns. All that it sends has been handed to the link.
+/// What a turn of a bound node returns. All that it sends has been handed to the link; in a round it is handed over when the round is kept.
 #[derive(Drop)]
 pub struct Turn {
     /// The moment at which the node acted, in milliseconds.
@@ -23,9 +24,10 @@ pub struct Turn {
     /// What the node returned for the datagram. None where no datagram came, or where taking it failed to allocate: then it changed nothing, and the datagram
     /// is lost.
     pub heard: Option<Outcome>,
-    /// What its tick returned. None where the tick failed to allocate: then it changed nothing, and the next turn ticks again.
+    /// What its tick returned. None where the tick failed to allocate: then it changed nothing, and the next turn ticks again. A node that gets no memory may
+    /// report that in each turn, for ever.
     pub ticked: Option<Outcome>,
-    /// How many sends failed, at most 2^64 - 1.
+    /// How many sends failed, at most 2^64 - 1. 0 in a round, whose sends come later.
     pub lost: u64,
 }
 
@@ -47,6 +49,17 @@ impl Turn {
         match &self.heard {
             Some(outcome) => outcome.effect.as_ref(),
             None => None,
+        }
+    }
+
+    /// How many requests the node performed: 0 or 1.
+    pub(crate) fn effects(&self) -> u64
+        ensures number { result ≡ count_of (performed_of (turn_view self.now).heard) }
+        ensures few { result ≤ 1 }
+    {
+        match self.effect() {
+            Some(_) => 1,
+            None => 0,
         }
     }
 

@@ -1,0 +1,47 @@
+-- A world in which the power of nodes is cut at any moment, and each starts again with the store that its file gives.
+use Rattle.std.specs.Prelude.{◌≡◌, ◌⊎◌, ℕ, List, [], ◌∷◌, Option, Some, None, slice_get}
+use Rattle.bac_protocol.specs.Pace.{clock_at}
+use Rattle.bac_store.specs.Stores.{Store}
+use Rattle.bac_world.specs.Node.{Node, restarted}
+use Rattle.bac_world.specs.Once.Fact.{Restarted}
+use Rattle.bac_world.specs.World.{World, Event, WorldStep, WorldRun, IsWithNode, stores_of, with_clock}
+use Rattle.bac_world.specs.World.Event.{Restart}
+
+-- an event as it was; a cut while the node does nothing; a cut in the midst of what the node does at an event. The clock of the node begins anew, at that real
+-- time.
+pub data CutEvent : Type 0 where
+  Goes : (event : Event) → CutEvent
+  Cut : (node exact : ℕ) → CutEvent
+  CutIn : (node exact : ℕ) (event : Event) → CutEvent
+
+-- the node starts with that store: both its tables are lost, and both its ends wait
+pub record Starts (old : World) (i exact : ℕ) (s : Store) (new : World) : Type 0 where
+  pub before : Node
+  pub at : slice_get old.nodes i ≡ Some before
+  pub nodes : IsWithNode old.nodes i (restarted (clock_at old.time.pace exact).shows s before) new.nodes
+  pub time : new.time ≡ with_clock old.time i exact
+  pub copies : new.copies ≡ old.copies
+  pub notes : new.notes ≡ old.notes
+  pub log : new.log ≡ Restarted i None ∷ old.log
+
+-- it starts with the store that it had, since its file gives that
+pub record StartsAgain (old : World) (i exact : ℕ) (new : World) : Type 0 where
+  pub store : Store
+  pub found : stores_of old.nodes i ≡ Some store
+  pub starts : Starts old i exact store new
+
+-- in the midst of an event the file gives the store before it, where nothing has left yet, or the one after it
+abbrev pub CutStep : (overtake : ℕ) → World → CutEvent → World → Type 0
+CutStep overtake old (Goes event) new = WorldStep overtake old event new
+CutStep overtake old (Cut i exact) new = StartsAgain old i exact new
+CutStep overtake old (CutIn i exact event) new =
+    StartsAgain old i exact new ⊎ ((u : World) × WorldStep overtake old event u × StartsAgain u i exact new)
+
+abbrev pub CutRun : (overtake : ℕ) → World → List CutEvent → World → Type 0
+CutRun overtake old [] new = new ≡ old
+CutRun overtake old (e ∷ es) new = (u : World) × CutStep overtake old e u × CutRun overtake u es new
+
+-- there are events that lead from the one to the other; a cut is a restart with the store kept
+pub record IsRunOfRestarts (overtake : ℕ) (old new : World) : Type 0 where
+  pub events : List Event
+  pub run : WorldRun overtake old events new

@@ -1,0 +1,14 @@
+//! Power cuts of nodes whose stores are kept, as restarts of a world.
+#![tactic(auto)]
+
+ghost use Rattle.std.specs.Prelude.{ℕ, List};
+ghost use Rattle.bac_world.specs.World.{World};
+ghost use Rattle.bac_cuts.specs.Cuts.{CutEvent, CutRun, IsRunOfRestarts};
+
+/// A law: a run of nodes with power cuts at any moments, between events or in the midst of one, after each of which the node starts with the store that
+/// its file gives, the one before the event or the one after it, is a run of the world in which nodes restart with the stores that they have. So what is
+/// proved of runs holds over power cuts. It does nothing.
+#[tactic(auto, using(crate::proofs::Runs::runs))]
+pub fn power_cuts_are_restarts()
+    ensures { (overtake : ℕ) (old new : World) (events : List CutEvent) → CutRun overtake old events new → IsRunOfRestarts overtake old new }
+{}

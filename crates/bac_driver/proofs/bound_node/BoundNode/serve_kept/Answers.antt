@@ -1,0 +1,29 @@
+-- One more round.
+use Rattle.std.proofs.Common.{inr, rules}
+use Rattle.bac_driver.proofs.RoundsTaken.{one_more_round, over_once, stops_early, taken_once, whatever}
+use Rattle.bac_driver.proofs.bound_node.BoundNode.serve_kept.Goals as goal
+
+pub loop-preserved : goal.loop-preserved
+loop-preserved g c =
+    record {
+      taken =
+          one_more_round g.O.Observer.Sees _ c.loop.counter c.loop.effects c.in-Some.more _ _ _ _ c.loop.invariant.taken
+          (taken_once _ _ c.in-Some.more c.in-Some.is c.in_ok-once.ensures.taken) c.saturating_add-effects.ensures;
+      kept = c.in_ok-once.ensures.kept;
+      honest = λ honest. c.loop.invariant.honest (c.in_ok-once.ensures.honest honest);
+    }
+
+pub returns-in_default-clause-served : goal.returns-in_default-clause-served
+returns-in_default-clause-served g c =
+    inr (stops_early g.O.Observer.Sees c.args.limit.now.wait_limit c.loop.counter c.args.limit.now.turns c.loop.effects _ _ _ _ (search rules)
+    c.loop.invariant.taken (over_once _ _ _ c.in_default.is c.in_ok-once.ensures.over))
+
+pub returns-in_err-once-clause-broken_off : goal.returns-in_err-once-clause-broken_off
+returns-in_err-once-clause-broken_off g c =
+    whatever _ _
+    (record {
+      effects = c.loop.effects;
+      stops =
+          stops_early g.O.Observer.Sees c.args.limit.now.wait_limit c.loop.counter c.args.limit.now.turns c.loop.effects _ _ _ _ (search rules)
+          c.loop.invariant.taken (record { unsent = c.in_err-once.ensures.unsent; finds = c.in_err-once.ensures.crash });
+    })
