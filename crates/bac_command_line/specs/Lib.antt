@@ -11,3 +11,4 @@ pub mod InFlight
 pub mod Asked
 pub mod Stores
 pub mod Tasks
+pub mod Keeping

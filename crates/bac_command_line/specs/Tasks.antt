@@ -4,6 +4,7 @@ use Rattle.std.specs.Option.{option_map}
 use Rattle.bac_text.specs.declared.status.Status.{Status}
 use Rattle.bac_command_line.specs.Asked.{AreAskedFrom}
 use Rattle.bac_command_line.specs.Files.{IsChartedFile, IsCheckedFile, IsExplainedFile, IsShownFile, IsSimulatedFile}
+use Rattle.bac_command_line.specs.Keeping.{IsListed, IsServedKept}
 use Rattle.bac_command_line.specs.Lines.{AreCheckedLines, IsDecodedFrom}
 use Rattle.bac_command_line.specs.Stores.{IsAnsweredFrom, IsServedFrom}
 use Rattle.bac_command_line.specs.Online.{Clocks, IsAskedFrom, IsPair, Links}
@@ -24,6 +25,8 @@ IsPerformed IsAt IsOn IsClock (task.Simulate script) s old new = IsSimulatedFile
 IsPerformed IsAt IsOn IsClock (task.Show view script) s old new = IsShownFile IsAt view script.notes script.path.now s old new
 IsPerformed IsAt IsOn IsClock (task.Serve serving objects) s old new =
     IsServedFrom IsAt (option_map (λ p. p.now) objects) IsOn IsClock s serving old new
+IsPerformed IsAt IsOn IsClock (task.ServeKept serving objects path) s old new = IsServedKept s old new
+IsPerformed IsAt IsOn IsClock (task.Keep path) s old new = IsListed s old new
 IsPerformed IsAt IsOn IsClock (task.Ask asking words) s old new = IsAskedFrom IsAt IsOn IsClock s asking (map (λ w. w.now) words.now) old new
 IsPerformed IsAt IsOn IsClock (task.AskLines asking path) s old new = AreAskedFrom IsAt IsOn IsClock s asking path.now old new
 IsPerformed IsAt IsOn IsClock task.Pair s old new = IsPair IsOn IsClock s old new

@@ -7,7 +7,9 @@ use crate::asking_lines::ask_lines;
 use crate::environment::Environment;
 use crate::files::{OpenFiles, chart, check, explain, show, simulate};
 use crate::grammar::matches;
+use crate::keeping::serve_kept;
 use crate::lines::{check_lines, decode};
+use crate::listing::list_kept;
 use crate::objects::{answer, serve};
 use crate::online::Machine;
 use crate::task::{Task, task_of};
@@ -42,6 +44,12 @@ fn perform<F: OpenFiles, M: Machine, O: Write, E: Write>(
         Task::Simulate(script) => simulate(alloc, files, &script, out, err),
         Task::Show { view, script } => show(alloc, files, view, &script, out, err),
         Task::Serve { serving, objects } => { serve(environment, &serving, objects, out, err) }
+        Task::ServeKept {
+            serving,
+            objects,
+            path,
+        } => serve_kept(environment, &serving, objects, path, out, err),
+        Task::Keep(path) => list_kept(environment, path, out, err),
         Task::Ask { asking, words } => { file_words::ask(environment, &asking, words, out, err) }
         Task::AskLines { asking, path } => { ask_lines(environment, &asking, path, out, err) }
         Task::Pair => online::pair(alloc, environment.machine, out, err),

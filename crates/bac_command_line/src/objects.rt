@@ -140,6 +140,24 @@ fn serve_house<M: Machine, O: Write, E: Write>(
     }
 }
 
+/// The house, or the store that a file means.
+pub(crate) fn document_of<F: OpenFiles, M: Machine, E: Write>(
+    environment: &Environment<'_, F, M>,
+    objects: Option<&str>,
+    err: &mut E,
+) -> Result<Store, Status>
+    ensures told { IfErr result IsStop }
+{
+    let alloc = environment.alloc;
+    match objects {
+        Some(path) => store_of(alloc, environment.files, path, err),
+        None => match house(alloc) {
+            Ok(store) => Ok(store),
+            Err(_) => Err(no_memory(err)),
+        },
+    }
+}
+
 /// A node serves so. A file is reported as by [`answer`].
 pub(crate) fn serve<F: OpenFiles, M: Machine, O: Write, E: Write>(
     environment: &Environment<'_, F, M>,

@@ -18,11 +18,13 @@ use bac_commands::{
     AskCommand, Style, bound_house, bound_server, clock_fault, link_fault, read_question,
 };
 use bac_driver::{Clock, Link, Question};
+use bac_keep_file::OpenFault;
 use bac_node::NewNodeFault;
 use bac_npdu::{LinkAddress, Peer};
 use bac_service_text::{FormFault, reads_file};
 use bac_store::Store;
 use bac_text::{Status, complain, no_memory};
+use sqlite_trees::store::Store as Database;
 use std::alloc::Global;
 use std::io;
 use std::io::Write;
@@ -32,6 +34,8 @@ pub trait Machine {
     type Link: Link + Drop;
 
     type Timer: Clock + Drop;
+
+    type Database: Database + Drop;
 
     ghost is_bound: { (host : Octets) → (port : ℕ) → Self.Link → (address : Octets) → Type 0 };
 
@@ -48,6 +52,10 @@ pub trait Machine {
 
     /// The invoke ID at which a new client begins, one that differs from run to run where the machine has one; None where its clock can't be read.
     fn first_id(&self) -> Option<u8>;
+
+    /// The database of the file at a path, which is made if it is missing, and whether it is new: it had no tables. While it is open, no other process can
+    /// open it. The faults are those of `bac_keep_file::open`.
+    fn open_database(&self, path: &str) -> Result<(Self::Database, bool), OpenFault>;
 
     /// Whether standard error is a terminal, which shows the progress of an ask.
     fn shows_progress(&self) -> bool;

@@ -1,17 +1,22 @@
 //! How a node is to serve.
 ghost use Rattle.std.specs.Prelude.{◌≡◌};
+ghost use Rattle.bac_driver.specs.Kept.{keeper_of};
+ghost use Rattle.bac_driver.specs.Rounds.{IsKept};
 ghost use Rattle.bac_driver.specs.Runs.{timed};
 ghost use Rattle.bac_commands.specs.Reports.{ReportsServing};
 ghost use Rattle.bac_text.specs.declared.status.Status.TheVariants as status;
+ghost use Rattle.bac_command_line.specs.Keeping.{IsServedKept};
 ghost use Rattle.bac_command_line.specs.Serving.{patience_of, restart_of, turns_of};
 
 use crate::address::{LOCAL_HOST, read_host};
 use crate::station::Station;
-use bac_commands::{ServeCommand, link_fault};
+use bac_commands::{KeptServer, ServeCommand, link_fault, serve_kept_logged};
 use bac_driver::{Clock, Link, NoObserver, RunLimit, WaitLimit};
+use bac_keep::Keeper;
 use bac_npdu::LinkAddress;
 use bac_text::Status;
 use clap::ArgMatches;
+use std::alloc::Global;
 use std::io;
 use std::io::Write;
 
@@ -155,6 +160,37 @@ pub(crate) fn serve_from<L: Link, C: Clock, O: Write, E: Write>(
         out,
         err,
     );
+    if !logged.whole {
+        // if that fails too, nothing is printed
+        let _ = err.writeln("log fault");
+    }
+    logged.status
+}
+
+/// The same for a node whose store is kept, in rounds.
+pub(crate) fn serve_kept_from<L: Link, C: Clock, K: Keeper, O: Write, E: Write>(
+    alloc: Global,
+    serving: &Serving,
+    start: u64,
+    server: &mut KeptServer<L, C, K>,
+    out: &mut O,
+    err: &mut E,
+) -> Status
+    requires { K.IsHonest (keeper_of server.old.round) → IsKept K.IsOpen K.kept K.noted (keeper_of server.old.round) server.old.bound_node.node.store }
+    ensures { IsServedKept result (O.contents out.old) (O.contents out.new) }
+{
+    let limit = RunLimit {
+        turns: serving.most_turns(),
+        wait_limit: serving.wait_limit(start),
+    };
+    if !serving.log {
+        return bac_commands::serve_kept(server, &limit, &mut NoObserver, out, err);
+    }
+    let command = ServeCommand {
+        limit,
+        serves_from: serving.serves_from(start),
+    };
+    let logged = serve_kept_logged(alloc, server, &command, out, err);
     if !logged.whole {
         // if that fails too, nothing is printed
         let _ = err.writeln("log fault");

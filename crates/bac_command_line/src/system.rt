@@ -6,8 +6,8 @@ ghost use Rattle.bac_driver.specs.Udp.{bound_host, bound_port, udp_address};
 use crate::files::OpenFiles;
 use crate::online::Machine;
 use bac_driver::{MonotonicClock, UdpLink};
+use bac_keep_file::{KeptFile, OpenFault};
 use bac_npdu::LinkAddress;
-use std::net::Net;
 use std::rt::Files;
 use std::time::{SystemTime, UNIX_EPOCH};
 use std::{fs, io};
@@ -43,10 +43,12 @@ impl<R: Files> OpenFiles for System<'_, R> {
     }
 }
 
-impl<'a, R: Net + std::time::Clock> Machine for System<'a, R> {
+impl<'a> Machine for System<'a, HostRuntime> {
     type Link = UdpLink;
 
-    type Timer = MonotonicClock<'a, R>;
+    type Timer = MonotonicClock<'a, HostRuntime>;
+
+    type Database = KeptFile;
 
     ghost is_bound = { λ host port l address. (bound_host l ≡ host) × (bound_port l ≡ port) × (udp_address l ≡ address) };
 
@@ -58,7 +60,7 @@ impl<'a, R: Net + std::time::Clock> Machine for System<'a, R> {
         Ok((link, address))
     }
 
-    fn timer(&self) -> Option<MonotonicClock<'a, R>> {
+    fn timer(&self) -> Option<MonotonicClock<'a, HostRuntime>> {
         MonotonicClock::new(self.runtime).ok()
     }
 
@@ -67,6 +69,10 @@ impl<'a, R: Net + std::time::Clock> Machine for System<'a, R> {
         let now = SystemTime::now(self.runtime).ok()?;
         let passed = now.duration_since(UNIX_EPOCH).ok()?;
         Some(passed.as_micros().to_le_bytes()[0])
+    }
+
+    fn open_database(&self, path: &str) -> Result<(KeptFile, bool), OpenFault> {
+        bac_keep_file::open(self.runtime, path)
     }
 
     fn shows_progress(&self) -> bool {

@@ -44,6 +44,14 @@ pub(crate) enum Task<'m, 'a> {
         serving: Serving,
         objects: Option<&'a str>,
     },
+    /// The same, and the file at that path keeps its store.
+    ServeKept {
+        serving: Serving,
+        objects: Option<&'a str>,
+        path: &'a str,
+    },
+    /// What the file at this path keeps.
+    Keep(&'a str),
     /// The request that some words are.
     Ask {
         asking: Asking,
@@ -135,8 +143,16 @@ pub(crate) fn task_of<'m, 'a>(
         ("serve", given) => {
             let serving = serving_of(given)?;
             let objects = given.get_str("objects");
+            if let Some(path) = given.get_str("keep") {
+                return Some(Task::ServeKept {
+                    serving,
+                    objects,
+                    path,
+                });
+            }
             Some(Task::Serve { serving, objects })
         }
+        ("keep", given) => Some(Task::Keep(given.get_str("FILE")?)),
         ("ask", given) => {
             let asking = asking_of(given, shows_progress)?;
             if let Some(path) = given.get_str("lines") {

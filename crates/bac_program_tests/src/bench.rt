@@ -2,10 +2,13 @@
 ghost use Rattle.std.specs.Prelude.{◌≡◌, ◌≤◌, length, is_ok, if◌then◌else◌, None, ⊤};
 ghost use Rattle.bac_driver.specs.Calls.{one_more};
 
+use crate::kept_files::database_at;
 use crate::text_file::copy_front;
 use bac_command_line::Machine;
 use bac_commands::answer_datagram;
 use bac_driver::{Clock, Link, LinkFault};
+use bac_keep_file::OpenFault;
+use sqlite_trees::memory::MemStore;
 use std::alloc::Global;
 use std::cell::Cell;
 use std::io;
@@ -266,6 +269,8 @@ impl Machine for BenchMachine {
 
     type Timer = BenchClock;
 
+    type Database = MemStore;
+
     ghost is_bound = { λ _ _ _ _. ⊤ };
 
     ghost is_made = { λ _. ⊤ };
@@ -287,6 +292,10 @@ impl Machine for BenchMachine {
     fn first_id(&self) -> Option<u8> {
         let clock = self.bench.clock?;
         Some(clock.moment.to_le_bytes()[0])
+    }
+
+    fn open_database(&self, path: &str) -> Result<(MemStore, bool), OpenFault> {
+        database_at(self.alloc, path)
     }
 
     fn shows_progress(&self) -> bool {

@@ -13,6 +13,7 @@ mod asked_window;
 mod decoded;
 mod files;
 mod help;
+mod kept;
 mod logged;
 mod not_asked;
 mod online;
