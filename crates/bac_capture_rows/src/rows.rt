@@ -2,7 +2,7 @@
 use crate::printing::{Print, print_end_of_chart, print_octets, print_seen};
 use crate::words::first;
 use crate::{failing, frames, transactions, worlds};
-use bac_explain_report::ChartFormat;
+use bac_explain_report::{ChartFormat, ReportForm, Showing};
 use std::alloc::Global;
 use std::io;
 use std::io::Write;
@@ -25,17 +25,58 @@ enum Kind {
     Output(Print),
 }
 
+/// As objects of JSON.
+const IN_JSON: Showing = Showing {
+    form: ReportForm::Json,
+    ..Showing::ALL
+};
+
+/// Transactions that were not answered.
+const UNANSWERED: Showing = Showing {
+    unanswered: true,
+    ..Showing::ALL
+};
+
+/// Transactions that took more than 100 ms.
+const SLOWER: Showing = Showing {
+    slower: Some(100),
+    ..Showing::ALL
+};
+
+/// Transactions of 10.0.0.5:47808.
+const OF_PEER: Showing = Showing {
+    peer: Some([10, 0, 0, 5, 0xBA, 0xC0]),
+    ..Showing::ALL
+};
+
+const FINDINGS: Showing = Showing {
+    findings: true,
+    ..Showing::ALL
+};
+
+/// The status is 1 where a transaction was not answered.
+const FAILS: Showing = Showing {
+    fails: true,
+    ..Showing::ALL
+};
+
 const KINDS: &[(&str, Kind)] = &[
     ("frames", Kind::Frames),
     ("transaction", Kind::Transaction),
     ("worlds", Kind::Worlds),
-    ("explain", Kind::Seen(Print::Explain)),
+    ("explain", Kind::Seen(Print::Explain(Showing::ALL))),
+    ("explain-json", Kind::Seen(Print::Explain(IN_JSON))),
+    ("explain-unanswered", Kind::Seen(Print::Explain(UNANSWERED))),
+    ("explain-slower", Kind::Seen(Print::Explain(SLOWER))),
+    ("explain-peer", Kind::Seen(Print::Explain(OF_PEER))),
+    ("explain-findings", Kind::Seen(Print::Explain(FINDINGS))),
+    ("explain-fail", Kind::Seen(Print::Explain(FAILS))),
     ("chart", Kind::Seen(Print::Chart(ChartFormat::Chart))),
     ("mermaid", Kind::Seen(Print::Chart(ChartFormat::Mermaid))),
     ("end", Kind::End),
     ("check", Kind::File(Print::Check)),
     ("named", Kind::File(Print::Named)),
-    ("explain-file", Kind::File(Print::Explain)),
+    ("explain-file", Kind::File(Print::Explain(Showing::ALL))),
     ("chart-file", Kind::File(Print::Chart(ChartFormat::Chart))),
     (
         "mermaid-file",

@@ -1,11 +1,11 @@
 //! Lines of what `bac decode` and `bac check` print on standard output, on standard error after `! `, and their exit status where it is not 0.
 //!
-//! `decode` and `told` take a datagram, `lines` one on each line, `check` and `notes` a capture, without notes and with them; `wrapped` and `told-wrapped` take
+//! `decode`, `told` and `json` take a datagram, `array`, `escaped` and `base64` one in those forms, `lines` and `json-lines` one on each line, `check` and `notes` a capture, without notes and with them; `wrapped`, `told-wrapped` and `json-wrapped` take
 //! an NPDU and put it into its BVLL, and so does `longest`. `captured` reads a line of a capture.
 use crate::words::{print_octets, print_text};
 use bac_text::{
-    Status, check_lines_over, check_over, decode_lines_over, decode_over, decode_text_over,
-    read_capture_line,
+    InputForm, LineForm, Status, check_lines_over, check_over, decode_form_over,
+    decode_lines_form_over, decode_lines_over, decode_over, decode_text_over, read_capture_line,
 };
 use std::alloc::Global;
 use std::io::Write;
@@ -45,10 +45,36 @@ fn longest(alloc: Global, npdu: &str, out: &mut Vec<u8>) -> Option<()> {
     print_text(&told, out)
 }
 
-fn lines(alloc: Global, text: &str, out: &mut Vec<u8>) -> Option<()> {
+/// The same in another form.
+fn decode_form(
+    alloc: Global,
+    form: LineForm,
+    input: InputForm,
+    text: &str,
+    out: &mut Vec<u8>,
+) -> Option<()> {
+    let mut err = Vec::new(alloc);
+    let status = decode_form_over(alloc, form, input, text, out, &mut err);
+    print_end(status, &err, out)
+}
+
+fn decode_npdu_json(alloc: Global, npdu: &str, out: &mut Vec<u8>) -> Option<()> {
+    let len = npdu.len() / 2 % 65_536 + 4;
+    let text = format!(in alloc; "810A{len:04X}{npdu}").ok()?;
+    decode_form(alloc, LineForm::Json, InputForm::Hexadecimal, &text, out)
+}
+
+fn plain_lines(alloc: Global, text: &str, out: &mut Vec<u8>) -> Option<()> {
     let mut err = Vec::new(alloc);
     let mut input = text.as_bytes();
     let status = decode_lines_over(alloc, false, &mut input, out, &mut err);
+    print_end(status, &err, out)
+}
+
+fn lines(alloc: Global, form: LineForm, text: &str, out: &mut Vec<u8>) -> Option<()> {
+    let mut err = Vec::new(alloc);
+    let mut input = text.as_bytes();
+    let status = decode_lines_form_over(alloc, form, &mut input, out, &mut err);
     print_end(status, &err, out)
 }
 
@@ -81,7 +107,13 @@ pub(crate) fn show(alloc: Global, verb: &str, text: &str, out: &mut Vec<u8>) -> 
         b"wrapped" => decode_npdu(alloc, false, text, out),
         b"told-wrapped" => decode_npdu(alloc, true, text, out),
         b"longest" => longest(alloc, text, out),
-        b"lines" => lines(alloc, text, out),
+        b"lines" => plain_lines(alloc, text, out),
+        b"json" => decode_form(alloc, LineForm::Json, InputForm::Hexadecimal, text, out),
+        b"array" => decode_form(alloc, LineForm::Words, InputForm::Array, text, out),
+        b"escaped" => decode_form(alloc, LineForm::Numbers, InputForm::Escaped, text, out),
+        b"base64" => decode_form(alloc, LineForm::Numbers, InputForm::Base64, text, out),
+        b"json-wrapped" => decode_npdu_json(alloc, text, out),
+        b"json-lines" => lines(alloc, LineForm::Json, text, out),
         b"check" => check(alloc, false, text, out),
         b"notes" => check(alloc, true, text, out),
         b"captured" => captured(alloc, text, out),

@@ -24,10 +24,10 @@ abbrev pub IsPerformed : (IsAt : (path : List ℕ) → (content : Option (List �
     → Links → Clocks → Task → Status → (old new : Option (List ℕ)) → Type 0
 IsPerformed IsAt IsOn IsClock (task.Answer datagram objects) s old new =
     IsAnsweredFrom IsAt (option_map (λ p. p.now) objects) datagram.now s old new
-IsPerformed IsAt IsOn IsClock (task.Decode in_words datagram) s old new = IsDecodedFrom IsAt in_words datagram.now s old new
+IsPerformed IsAt IsOn IsClock (task.Decode decoding datagram) s old new = IsDecodedFrom IsAt decoding.form decoding.input datagram.now s old new
 IsPerformed IsAt IsOn IsClock (task.Check named capture) s old new = IsCheckedFile IsAt named capture.path.now capture.port s old new
 IsPerformed IsAt IsOn IsClock (task.CheckLines path) s old new = AreCheckedLines IsAt path.now s old new
-IsPerformed IsAt IsOn IsClock (task.Explain capture) s old new = IsExplainedFile IsAt capture.path.now capture.port s old new
+IsPerformed IsAt IsOn IsClock (task.Explain showing capture) s old new = IsExplainedFile IsAt showing capture.path.now capture.port s old new
 IsPerformed IsAt IsOn IsClock (task.Chart form capture) s old new = IsChartedFile IsAt form capture.path.now capture.port s old new
 IsPerformed IsAt IsOn IsClock (task.Simulate script) s old new = IsSimulatedFile IsAt script.notes script.path.now s old new
 IsPerformed IsAt IsOn IsClock (task.Show view script) s old new = IsShownFile IsAt view script.notes script.path.now s old new

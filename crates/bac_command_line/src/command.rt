@@ -35,12 +35,14 @@ fn perform<F: OpenFiles, M: Machine, O: Write, E: Write>(
     let files = environment.files;
     match task {
         Task::Answer { datagram, objects } => { answer(alloc, files, datagram, objects, out, err) }
-        Task::Decode { in_words, datagram } => {
-            decode(alloc, files, in_words, datagram, out, err)
+        Task::Decode { decoding, datagram } => {
+            decode(alloc, files, decoding, datagram, out, err)
         }
         Task::Check { named, capture } => check(alloc, files, named, &capture, out, err),
         Task::CheckLines(path) => check_lines(alloc, files, path, out, err),
-        Task::Explain(capture) => explain(alloc, files, &capture, out, err),
+        Task::Explain { showing, capture } => {
+            explain(alloc, files, showing, &capture, out, err)
+        }
         Task::Chart { form, capture } => chart(alloc, files, form, &capture, out, err),
         Task::Simulate(script) => simulate(alloc, files, &script, out, err),
         Task::Show { view, script } => show(alloc, files, view, &script, out, err),

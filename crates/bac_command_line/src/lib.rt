@@ -15,6 +15,7 @@ mod file_task;
 mod file_words;
 mod files;
 mod flights;
+mod forms;
 mod grammar;
 mod help;
 mod help_words;

@@ -5,7 +5,9 @@ ghost use Rattle.bac_command_line.specs.Lines.{AreCheckedLines, AreDecodedLines,
 
 use crate::files::{OpenFiles, reader_of};
 use crate::reasons::print_bad_digit;
-use bac_text::{Status, check_lines_over, decode_lines_over, decode_text_over};
+use bac_text::{
+    InputForm, LineForm, Status, check_lines_over, decode_form_over, decode_lines_form_over,
+};
 use std::alloc::Global;
 use std::io::Write;
 
@@ -15,39 +17,49 @@ const STANDARD_INPUT: &str = "-";
 /// What may be between the digits of a datagram: white space, colons, and `0x` before a group.
 const SEPARATORS: &str = " \t:xX";
 
-/// The layers of the datagrams in a file, one on each line, in words or not. A file that cannot be opened: `cannot read` on `err`.
+/// How a datagram is given and printed.
+#[derive(Clone, Copy)]
+pub(crate) struct Decoding {
+    pub form: LineForm,
+    pub input: InputForm,
+}
+
+/// The layers of the datagrams in a file, one on each line, in a form. A file that cannot be opened: `cannot read` on `err`.
 fn decode_lines<F: OpenFiles, O: Write, E: Write>(
     alloc: Global,
     files: &F,
-    in_words: bool,
+    form: LineForm,
     path: &str,
     out: &mut O,
     err: &mut E,
 ) -> Status
-    ensures { AreDecodedLines (OnFile F.is_file F.File.remaining) in_words path.now result (O.contents out.old) (O.contents out.new) }
+    ensures { AreDecodedLines (OnFile F.is_file F.File.remaining) form path.now result (O.contents out.old) (O.contents out.new) }
 {
     match reader_of(alloc, files, path, err) {
-        Ok(mut input) => decode_lines_over(alloc, in_words, &mut input, out, err),
+        Ok(mut input) => decode_lines_form_over(alloc, form, &mut input, out, err),
         Err(status) => status,
     }
 }
 
-/// The layers of a datagram, or where `-` stands in its place of those on standard input, one on each line; in words or not.
+/// The layers of a datagram, or where `-` stands in its place of those on standard input, one on each line; in a form.
 pub(crate) fn decode<F: OpenFiles, O: Write, E: Write>(
     alloc: Global,
     files: &F,
-    in_words: bool,
+    decoding: Decoding,
     datagram: &str,
     out: &mut O,
     err: &mut E,
 ) -> Status
-    ensures { IsDecodedFrom (OnFile F.is_file F.File.remaining) in_words datagram.now result (O.contents out.old) (O.contents out.new) }
+    ensures { IsDecodedFrom (OnFile F.is_file F.File.remaining) decoding.form decoding.input datagram.now result (O.contents out.old) (O.contents out.new) }
 {
     if datagram == STANDARD_INPUT {
-        decode_lines(alloc, files, in_words, datagram, out, err)
+        decode_lines(alloc, files, decoding.form, datagram, out, err)
     } else {
-        let status = decode_text_over(alloc, in_words, datagram, out, err);
-        print_bad_digit(status, datagram, SEPARATORS, err)
+        let status = decode_form_over(alloc, decoding.form, decoding.input, datagram, out, err);
+        match decoding.input {
+            InputForm::Hexadecimal => print_bad_digit(status, datagram, SEPARATORS, err),
+            InputForm::Array | InputForm::Escaped | InputForm::Base64 => status,
+        }
     }
 }
 

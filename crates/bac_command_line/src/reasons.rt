@@ -49,6 +49,9 @@ fn bad_address<'a>(command: &str, given: &ArgMatches<'a>) -> Option<(&'a str, &'
             None => Some((at, "A.B.C.D")),
         };
     }
+    if command == "explain" {
+        return Some((given.get_str("peer")?, "A.B.C.D or A.B.C.D:P"));
+    }
     if let Some(to) = given.get_str("to") {
         if read_link(to).is_none() {
             return Some((to, "A.B.C.D or A.B.C.D:P"));
@@ -65,7 +68,9 @@ fn bad_address<'a>(command: &str, given: &ArgMatches<'a>) -> Option<(&'a str, &'
 pub(crate) fn print_no_task<E: Write>(matches: &ArgMatches<'_>, err: &mut E) -> Status
     ensures { result ≡ status.CommandLine }
 {
-    let Some((command @ ("serve" | "ask" | "backup" | "restore"), given)) = matches.subcommand() else {
+    let Some((command @ ("serve" | "ask" | "backup" | "restore" | "explain"), given)) =
+        matches.subcommand()
+    else {
         return complain(err, "no command", Status::CommandLine);
     };
     let status = complain(err, "bad address", Status::CommandLine);

@@ -3,9 +3,11 @@ use crate::asking::{Asking, asking_of};
 use crate::backup::BackupTask;
 use crate::file_task::FileTask;
 use crate::files::{CaptureFile, ScriptFile};
+use crate::forms::{decoding_of, showing_of};
+use crate::lines::Decoding;
 use crate::help::Telling;
 use crate::serving::{Serving, serving_of};
-use bac_explain_report::ChartFormat;
+use bac_explain_report::{ChartFormat, Showing};
 use bac_simulate::View;
 use clap::ArgMatches;
 
@@ -16,9 +18,9 @@ pub(crate) enum Task<'m, 'a> {
         datagram: &'a str,
         objects: Option<&'a str>,
     },
-    /// The layers of this datagram, or of those on standard input; in words or not.
+    /// The layers of this datagram, or of those on standard input, given and printed so.
     Decode {
-        in_words: bool,
+        decoding: Decoding,
         datagram: &'a str,
     },
     /// What is bad of this capture; other functions are counted by name or not.
@@ -28,8 +30,11 @@ pub(crate) enum Task<'m, 'a> {
     },
     /// The bad lines of the capture in this file, which has notes.
     CheckLines(&'a str),
-    /// The transactions of this capture.
-    Explain(CaptureFile<'a>),
+    /// The transactions of this capture, as far as they are to be printed.
+    Explain {
+        showing: Showing,
+        capture: CaptureFile<'a>,
+    },
     /// The datagrams of this capture, drawn as that.
     Chart {
         form: ChartFormat,
@@ -120,8 +125,8 @@ pub(crate) fn task_of<'m, 'a>(
         }
         ("decode", given) => {
             let datagram = given.get_str("HEX")?;
-            let in_words = given.get_flag("text");
-            Some(Task::Decode { in_words, datagram })
+            let decoding = decoding_of(given);
+            Some(Task::Decode { decoding, datagram })
         }
         ("check", given) if given.get_flag("notes") => {
             Some(Task::CheckLines(given.get_str("FILE")?))
@@ -135,7 +140,10 @@ pub(crate) fn task_of<'m, 'a>(
             let capture = capture_of(given)?;
             match form_of(given) {
                 Some(form) => Some(Task::Chart { form, capture }),
-                None => Some(Task::Explain(capture)),
+                None => Some(Task::Explain {
+                    showing: showing_of(given)?,
+                    capture,
+                }),
             }
         }
         ("simulate", given) => {

@@ -70,7 +70,8 @@ const ANSWER: &[Word] = &[
 const DECODE_EXAMPLES: &str = "\
 Example: bac decode 810A000801001013
 Example: bac decode --text '81 0a 00 11 01 04 00 05 01 0c 0c 00 00 00 05 19 55'
-Example: bac decode --text - < datagrams.txt";
+Example: bac decode --text - < datagrams.txt
+Example: bac decode --json 810A000801001013";
 
 /// What `decode` takes.
 const DECODE: &[Word] = &[
@@ -87,6 +88,34 @@ const DECODE: &[Word] = &[
         need: Need::Never,
         against: &[],
         help: "Prints objects, properties, errors, reasons and faults by their names, and values by their kinds",
+    },
+    Word {
+        name: "json",
+        form: WordForm::Flag,
+        need: Need::Never,
+        against: &["text"],
+        help: "Prints each datagram as one object of JSON",
+    },
+    Word {
+        name: "array",
+        form: WordForm::Flag,
+        need: Need::Never,
+        against: &[],
+        help: "HEX is an array of C, as Wireshark copies it: `0x81, 0x0a`, with braces or without",
+    },
+    Word {
+        name: "escaped",
+        form: WordForm::Flag,
+        need: Need::Never,
+        against: &["array"],
+        help: "HEX is an escaped string, as Wireshark copies it: `\\x81\\x0a`",
+    },
+    Word {
+        name: "base64",
+        form: WordForm::Flag,
+        need: Need::Never,
+        against: &["array", "escaped"],
+        help: "HEX is Base64",
     },
 ];
 
@@ -130,7 +159,8 @@ const CHECK: &[Word] = &[
 /// Examples for `explain`.
 const EXPLAIN_EXAMPLES: &str = "\
 Example: bac explain capture.pcapng
-Example: bac explain --chart capture.pcapng";
+Example: bac explain --chart capture.pcapng
+Example: bac explain --json --unanswered capture.pcapng";
 
 /// What `explain` takes.
 const EXPLAIN: &[Word] = &[
@@ -161,6 +191,48 @@ const EXPLAIN: &[Word] = &[
         need: Need::Never,
         against: &["chart"],
         help: "Prints that chart as a Mermaid `sequenceDiagram`",
+    },
+    Word {
+        name: "json",
+        form: WordForm::Flag,
+        need: Need::Never,
+        against: &["chart", "mermaid"],
+        help: "Prints each transaction, each finding and the summary as one object of JSON",
+    },
+    Word {
+        name: "peer",
+        form: WordForm::Text("A.B.C.D[:P]"),
+        need: Need::Never,
+        against: &["chart", "mermaid"],
+        help: "Only the transactions of this client or server; the summary counts all",
+    },
+    Word {
+        name: "unanswered",
+        form: WordForm::Flag,
+        need: Need::Never,
+        against: &["chart", "mermaid"],
+        help: "Only the transactions that were not answered",
+    },
+    Word {
+        name: "slower",
+        form: WordForm::Number("MS", 1_000_000_000),
+        need: Need::Never,
+        against: &["chart", "mermaid"],
+        help: "Only the transactions that were answered later than MS milliseconds after the request",
+    },
+    Word {
+        name: "findings",
+        form: WordForm::Flag,
+        need: Need::Never,
+        against: &["chart", "mermaid", "unanswered", "slower", "peer"],
+        help: "Only the findings and the summary, and no transactions",
+    },
+    Word {
+        name: "fail",
+        form: WordForm::Flag,
+        need: Need::Never,
+        against: &["chart", "mermaid"],
+        help: "The status is 1 also where a transaction was not answered",
     },
 ];
 

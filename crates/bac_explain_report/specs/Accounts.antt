@@ -8,17 +8,19 @@ use Rattle.bac_explain.specs.Tables.{Transactions, ClosedView, Heard, heard, ove
 use Rattle.bac_explain.specs.declared.finding.Finding.{Finding}
 use Rattle.bac_explain_report.specs.Seen.{seen_of}
 use Rattle.bac_explain_report.specs.Tallies.{no_frames, with_blocks, with_finding, with_frame, with_unread}
+use Rattle.bac_explain_report.specs.declared.showing.Showing.{Showing}
 use Rattle.bac_explain_report.specs.declared.tally.Tally.{Tally}
 use Rattle.bac_explain_report.specs.declared.unread.Unread.{Unread}
 use Rattle.bac_explain_report.specs.declared.unread.Unread.TheVariants.{File}
 
--- the open transactions, and the counts
+-- what is printed, the open transactions, and the counts
 pub record Account : Type 0 where
+  pub showing : Showing
   pub slots : Transactions
   pub tally : Tally
 
-abbrev pub fresh : Account
-fresh = record { slots = []; tally = no_frames }
+abbrev pub fresh : Showing → Account
+fresh showing = record { showing = showing; slots = []; tally = no_frames }
 
 -- the report on an APDU: its transaction, one that is over by then, one that it closes, and what is wrong with it
 pub record HearingView : Type 0 where
@@ -36,18 +38,18 @@ pub data FrameReportView : Type 0 where
 abbrev pub heard_tally : (over : Option ClosedView) → Heard → Tally → Tally
 heard_tally over h t = with_finding h.finding (with_blocks h.closed (with_blocks over t))
 
-abbrev pub hearing : Key → (over : Option ClosedView) → Heard → Tally → FrameReportView × Account
-hearing key over h t = (
+abbrev pub hearing : Showing → Key → (over : Option ClosedView) → Heard → Tally → FrameReportView × Account
+hearing showing key over h t = (
   HeardReported (record { key = key; over = over; closed = h.closed; finding = h.finding }),
-  record { slots = h.slots; tally = heard_tally over h t },
+  record { showing = showing; slots = h.slots; tally = heard_tally over h t },
 )
 
 -- the transaction that began first is closed if it is over; then the APDU is handled
 abbrev pub sighting_heard : ℕ → SightingView → Account → FrameReportView × Account
-sighting_heard now s a = hearing s.key (over_out now a.slots).0 (heard now s.key s.role s.octets (over_out now a.slots).1) a.tally
+sighting_heard now s a = hearing a.showing s.key (over_out now a.slots).0 (heard now s.key s.role s.octets (over_out now a.slots).1) a.tally
 
 abbrev pub unheard : Unread → Account → FrameReportView × Account
-unheard why a = (UnreadReported why, record { slots = a.slots; tally = with_unread a.tally })
+unheard why a = (UnreadReported why, record { showing = a.showing; slots = a.slots; tally = with_unread a.tally })
 
 abbrev pub found_heard : Result (Option (ℕ × SightingView)) Unread → Account → FrameReportView × Account
 found_heard (Err why) a = unheard why a
@@ -55,7 +57,7 @@ found_heard (Ok None) a = (NothingReported, a)
 found_heard (Ok (Some s)) a = sighting_heard s.0 s.1 a
 
 abbrev pub one_frame : Account → Account
-one_frame a = record { slots = a.slots; tally = with_frame a.tally }
+one_frame a = record { showing = a.showing; slots = a.slots; tally = with_frame a.tally }
 
 -- a frame is handled; `also` is a port in addition to the sixteen
 abbrev pub frame_heard : (also : Option ℕ) → FrameView → Account → FrameReportView × Account

@@ -11,6 +11,11 @@ pub mod AccountViews
 pub mod FrameReports
 pub mod Rest
 pub mod Explained
+pub mod FrameLines
+pub mod JsonTexts
+pub mod Showings
+pub mod Shown
+pub mod Summaries
 pub mod Columns
 pub mod EndViews
 pub mod Copies

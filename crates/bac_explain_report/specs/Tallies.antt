@@ -1,5 +1,5 @@
 -- Counts of frames and transactions.
-use Rattle.std.specs.Prelude.{ℕ, ◌+◌, ◌-◌, ◌^◌, ◌==◌, ◌&&◌, min, max, Option, Some, None, if◌then◌else◌}
+use Rattle.std.specs.Prelude.{ℕ, Bool, not, ◌+◌, ◌-◌, ◌^◌, ◌==◌, ◌&&◌, ◌||◌, min, max, Option, Some, None, if◌then◌else◌}
 use Rattle.bac_explain.specs.Sent.{SentView}
 use Rattle.bac_explain.specs.Tables.{ClosedView}
 use Rattle.bac_explain.specs.Transactions.{TransactionView}
@@ -69,6 +69,6 @@ abbrev pub with_blocks : Option ClosedView → Tally → Tally
 with_blocks None t = t
 with_blocks (Some c) t = with_block c t
 
--- whether there is no finding, and every frame could be read
-abbrev pub status_of : Tally → Status
-status_of t = if (t.findings == 0) && (t.unread == 0) then Done else Faulty
+-- whether there is no finding, and every frame could be read; and where that was asked, every transaction was answered
+abbrev pub status_of : (fails : Bool) → Tally → Status
+status_of fails t = if ((t.findings == 0) && (t.unread == 0)) && (not fails || (t.unanswered == 0)) then Done else Faulty

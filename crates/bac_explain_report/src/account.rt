@@ -8,6 +8,7 @@ ghost use Rattle.bac_explain_report.specs.AccountViews.{account_view, report_vie
 
 use crate::frame_report::{FrameReport, Hearing};
 use crate::seeing::seen_of;
+use crate::showing::Showing;
 use crate::tally::Tally;
 use crate::unread::Unread;
 use bac_capture::{FileFault, Frame, Ports};
@@ -18,18 +19,21 @@ use std::alloc::{AllocError, Global};
 #[derive(Drop)]
 pub(crate) struct Account {
     pub alloc: Global,
+    /// What is printed.
+    pub showing: Showing,
     pub explainer: Explainer,
     pub tally: Tally,
 }
 
 impl Account {
     /// The state before the first frame. Returns an Err if the allocation of the table of transactions fails.
-    pub(crate) fn new(alloc: Global) -> Result<Account, AllocError>
-        ensures { IfOk result (λ a. account_view a ≡ fresh) }
+    pub(crate) fn new(alloc: Global, showing: Showing) -> Result<Account, AllocError>
+        ensures { IfOk result (λ a. account_view a ≡ fresh showing) }
     {
         let explainer = Explainer::new(alloc)?;
         Ok(Account {
             alloc,
+            showing,
             explainer,
             tally: Tally::NONE,
         })

@@ -7,9 +7,12 @@ ghost use Rattle.bac_explain.specs.SentViews.{sent_view};
 ghost use Rattle.bac_explain.specs.Views.{transaction_view};
 ghost use Rattle.bac_explain_report.specs.Blocks.{answer_name, asked_front, answered_front, counts_text, end_text, head_text, naks_text, part_text, rest_text, tail_text};
 ghost use Rattle.bac_explain_report.specs.Blocks.{IsAnsweredLine, IsAnswerLine, IsAskedLine, IsBlock};
+ghost use Rattle.bac_explain_report.specs.Shown.{IsBlockIf, IsBlockIn, IsBlockShown};
 
 use crate::ending::answer_ending;
+use crate::json_text::block_json;
 use crate::keys::key_text;
+use crate::showing::{ReportForm, Showing};
 use crate::{answer_words, request_words};
 use bac_explain::{Closed, Sent, Transaction, TransactionKey};
 use bac_value::NoMemory;
@@ -49,7 +52,7 @@ fn asked_line(alloc: Global, sent: &Sent) -> Result<Vec<u8>, NoMemory>
 }
 
 /// The first word of a reply: whether it is whole, or only its beginning was seen.
-fn answer_name(sent: &Sent) -> &'static str
+pub(crate) fn answer_name(sent: &Sent) -> &'static str
     ensures { result.now ≡ answer_name (sent_view sent.now) }
 {
     if sent.whole {
@@ -151,7 +154,7 @@ fn head_text(alloc: Global, key: TransactionKey) -> Result<Vec<u8>, AllocError>
 }
 
 /// The lines of a transaction.
-pub(crate) fn block(alloc: Global, closed: &Closed) -> Result<Vec<u8>, NoMemory>
+fn block_lines(alloc: Global, closed: &Closed) -> Result<Vec<u8>, NoMemory>
     ensures { IfOk result (λ t. IsBlock (closed_view closed.now) t.items) }
 {
     let asked = asked_line(alloc, &closed.transaction.request)?;
@@ -162,4 +165,42 @@ pub(crate) fn block(alloc: Global, closed: &Closed) -> Result<Vec<u8>, NoMemory>
     text.extend_from_slice(answer.as_slice())?;
     text.extend_from_slice(tail.as_slice())?;
     Ok(text)
+}
+
+/// A transaction in a form.
+fn block_in(alloc: Global, form: ReportForm, closed: &Closed) -> Result<Vec<u8>, NoMemory>
+    ensures { IfOk result (λ t. IsBlockIn form (closed_view closed.now) t.items) }
+{
+    match form {
+        ReportForm::Lines => block_lines(alloc, closed),
+        ReportForm::Json => block_json(alloc, closed),
+    }
+}
+
+/// A transaction in a form where it is wanted, and else nothing.
+fn block_if(
+    alloc: Global,
+    wanted: bool,
+    form: ReportForm,
+    closed: &Closed,
+) -> Result<Vec<u8>, NoMemory>
+    ensures { IfOk result (λ t. IsBlockIf wanted form (closed_view closed.now) t.items) }
+{
+    if wanted {
+        block_in(alloc, form, closed)
+    } else {
+        Ok(Vec::new(alloc))
+    }
+}
+
+/// What is printed of a transaction; nothing where it was not asked for.
+pub(crate) fn block(
+    alloc: Global,
+    showing: Showing,
+    closed: &Closed,
+) -> Result<Vec<u8>, NoMemory>
+    ensures { IfOk result (λ t. IsBlockShown showing (closed_view closed.now) t.items) }
+{
+    let wanted = showing.is_wanted(closed);
+    block_if(alloc, wanted, showing.form, closed)
 }

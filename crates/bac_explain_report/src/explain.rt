@@ -1,8 +1,8 @@
 //! `bac explain`: the transactions of a capture file, in words.
 ghost use Rattle.std.specs.Prelude.{◌≡◌, IfOk, OnOk};
-ghost use Rattle.std.specs.Io.KnownBytes.{Appends};
 ghost use Rattle.bac_explain_report.specs.AccountViews.{account_view, report_view};
-ghost use Rattle.bac_explain_report.specs.Explained.{summary_text, IsReportOf};
+ghost use Rattle.bac_explain_report.specs.Explained.{IsReportAs, IsReportOf};
+ghost use Rattle.bac_explain_report.specs.Shown.{IsSummary};
 ghost use Rattle.bac_explain_report.specs.Rest.{ArePrinted, IsStep};
 ghost use Rattle.bac_explain_report.specs.FrameReports.{IsFrameReport};
 ghost use Rattle.bac_text.specs.Texts.{AppendsText};
@@ -10,7 +10,8 @@ ghost use Rattle.bac_text.specs.Texts.{AppendsText};
 use crate::account::Account;
 use crate::block::block;
 use crate::frame_report::{FrameReport, report_text};
-use crate::summary::summary_text;
+use crate::showing::{ReportForm, Showing};
+use crate::summary::summary_in;
 use crate::tally::Tally;
 use bac_capture::{FileFault, FileReport, Frame, Ports, print_text, report_over};
 use bac_text::{CheckError, Status, complain, stopped};
@@ -21,13 +22,14 @@ use std::io::{BufRead, ErrorKind, Write};
 /// Prints the report on the frame with this number.
 fn print_report<W: Write>(
     alloc: Global,
+    showing: Showing,
     number: u64,
     told: &FrameReport,
     out: &mut W,
 ) -> Result<(), CheckError>
-    ensures { OnOk result (AppendsText (W.contents out.old) (W.contents out.new) (IsFrameReport number (report_view told.now))) }
+    ensures { OnOk result (AppendsText (W.contents out.old) (W.contents out.new) (IsFrameReport showing number (report_view told.now))) }
 {
-    match report_text(alloc, number, told) {
+    match report_text(alloc, showing, number, told) {
         Ok(text) => print_text(text.as_slice(), out),
         Err(_) => Err(CheckError::Memory),
     }
@@ -41,7 +43,7 @@ fn print_next<W: Write>(account: &mut Account, out: &mut W) -> Result<bool, Chec
         return Ok(false);
     };
     account.tally = account.tally.with_block(&closed);
-    match block(account.alloc, &closed) {
+    match block(account.alloc, account.showing, &closed) {
         Ok(text) => {
             print_text(text.as_slice(), out)?;
             Ok(true)
@@ -62,13 +64,18 @@ fn print_rest<W: Write>(account: &mut Account, out: &mut W) -> Result<(), CheckE
     Err(CheckError::Input(io::Error::from(ErrorKind::TimedOut)))
 }
 
-fn print_summary<W: Write>(alloc: Global, tally: Tally, out: &mut W) -> Result<(), CheckError>
-    ensures { OnOk result (Appends (W.contents out.old) (W.contents out.new) (summary_text tally)) }
+fn print_summary<W: Write>(
+    alloc: Global,
+    form: ReportForm,
+    tally: Tally,
+    out: &mut W,
+) -> Result<(), CheckError>
+    ensures { OnOk result (AppendsText (W.contents out.old) (W.contents out.new) (IsSummary form tally)) }
 {
-    let Ok(text) = summary_text(alloc, tally) else {
+    let Ok(text) = summary_in(alloc, form, tally) else {
         return Err(CheckError::Memory);
     };
-    print_text(text.as_bytes(), out)?;
+    print_text(&text, out)?;
     match out.flush() {
         Ok(()) => Ok(()),
         Err(error) => Err(CheckError::Output(error)),
@@ -103,14 +110,14 @@ impl<W: Write> FileReport<W> for Account {
         out: &mut W,
     ) -> Result<(), CheckError> {
         match self.hear_frame(frame, ports) {
-            Ok(told) => print_report(self.alloc, self.tally.frames, &told, out),
+            Ok(told) => print_report(self.alloc, self.showing, self.tally.frames, &told, out),
             Err(_) => Err(CheckError::Memory),
         }
     }
 
     fn break_off(&mut self, fault: FileFault, out: &mut W) -> Result<(), CheckError> {
         let told = self.break_off(fault);
-        print_report(self.alloc, self.tally.frames, &told, out)
+        print_report(self.alloc, self.showing, self.tally.frames, &told, out)
     }
 
     fn heading_text(&self) -> &'static str {
@@ -118,9 +125,10 @@ impl<W: Write> FileReport<W> for Account {
     }
 
     fn end(&mut self, out: &mut W) -> Result<Status, CheckError> {
+        let showing = self.showing;
         print_rest(self, out)?;
-        print_summary(self.alloc, self.tally, out)?;
-        Ok(self.tally.status())
+        print_summary(self.alloc, showing.form, self.tally, out)?;
+        Ok(self.tally.status(showing.fails))
     }
 
     fn report_other<R: BufRead, E: Write>(
@@ -131,6 +139,26 @@ impl<W: Write> FileReport<W> for Account {
         err: &mut E,
     ) -> Status {
         complain(err, "no capture file", Status::CommandLine)
+    }
+}
+
+/// Explains a file of pcap or pcapng, as [`explain_over`] does, as far as is asked and in the form that is asked for.
+///
+/// `showing` says which transactions are printed, and whether in words or as objects of JSON, one a line, whose members docs/COMMANDS.md ("JSON")
+/// lists; all are counted. Returns `Faulty` if there is a finding or an unread frame, or where that was asked an unanswered transaction.
+pub fn explain_as_over<R: BufRead, O: Write, E: Write>(
+    alloc: Global,
+    showing: Showing,
+    input: &mut R,
+    ports: Ports,
+    out: &mut O,
+    err: &mut E,
+) -> Status
+    ensures { IsReportAs showing ports.also (R.remaining input.old) (O.contents out.old) (O.contents out.new) result }
+{
+    match Account::new(alloc, showing) {
+        Ok(mut account) => report_over(alloc, input, ports, &mut account, out, err),
+        Err(_) => stopped(CheckError::Memory, out, err),
     }
 }
 
@@ -152,8 +180,5 @@ pub fn explain_over<R: BufRead, O: Write, E: Write>(
 ) -> Status
     ensures { IsReportOf ports.also (R.remaining input.old) (O.contents out.old) (O.contents out.new) result }
 {
-    match Account::new(alloc) {
-        Ok(mut account) => report_over(alloc, input, ports, &mut account, out, err),
-        Err(_) => stopped(CheckError::Memory, out, err),
-    }
+    explain_as_over(alloc, Showing::ALL, input, ports, out, err)
 }

@@ -4,10 +4,13 @@ ghost use Rattle.std.specs.Option.{option_map};
 ghost use Rattle.bac_explain.specs.Closings.{closed_view};
 ghost use Rattle.bac_explain.specs.KeyViews.{key_view};
 ghost use Rattle.bac_explain_report.specs.AccountViews.{hearing_view, report_view};
-ghost use Rattle.bac_explain_report.specs.FrameReports.{finding_line, unread_line, IsHearing, IsOptionalBlock, IsFrameReport};
+ghost use Rattle.bac_explain_report.specs.FrameReports.{IsFrameReport, IsHearing, IsOptionalBlock, IsOptionalFinding};
+ghost use Rattle.bac_explain_report.specs.Shown.{IsFindingLine, IsUnreadLine};
 
 use crate::block::block;
+use crate::json_text::{finding_json, unread_json};
 use crate::keys::key_text;
+use crate::showing::{ReportForm, Showing};
 use crate::unread::Unread;
 use bac_explain::{Closed, Finding, TransactionKey};
 use bac_value::NoMemory;
@@ -36,45 +39,88 @@ pub(crate) enum FrameReport {
     Heard(Hearing),
 }
 
-fn unread_line(alloc: Global, number: u64, why: Unread) -> Result<Vec<u8>, AllocError>
-    ensures { IfOk result (λ t. t.items ≡ unread_line number why) }
+fn unread_line(
+    alloc: Global,
+    form: ReportForm,
+    number: u64,
+    why: Unread,
+) -> Result<Vec<u8>, AllocError>
+    ensures { IfOk result (λ t. IsUnreadLine form number why t.items) }
 {
-    let text = format!(in alloc; "frame {number}: {why}\n")?;
-    Ok(text.into_bytes())
+    match form {
+        ReportForm::Lines => {
+            let text = format!(in alloc; "frame {number}: {why}\n")?;
+            Ok(text.into_bytes())
+        }
+        ReportForm::Json => unread_json(alloc, number, why),
+    }
 }
 
 /// The line of a finding: the number of the frame, what is wrong, and the transaction.
 fn finding_line(
     alloc: Global,
+    form: ReportForm,
+    number: u64,
+    key: TransactionKey,
+    finding: Finding,
+) -> Result<Vec<u8>, AllocError>
+    ensures { IfOk result (λ t. IsFindingLine form number (key_view key) finding t.items) }
+{
+    match form {
+        ReportForm::Lines => {
+            let key = key_text(alloc, key)?;
+            let text = format!(in alloc; "frame {number}: {finding}, {key}\n")?;
+            Ok(text.into_bytes())
+        }
+        ReportForm::Json => finding_json(alloc, number, key, finding),
+    }
+}
+
+fn optional_finding(
+    alloc: Global,
+    form: ReportForm,
     number: u64,
     key: TransactionKey,
     finding: Option<Finding>,
 ) -> Result<Vec<u8>, AllocError>
-    ensures { IfOk result (λ t. t.items ≡ finding_line number (key_view key) finding) }
+    ensures { IfOk result (λ t. IsOptionalFinding form number (key_view key) finding t.items) }
 {
-    let Some(finding) = finding else {
-        return Ok(Vec::new(alloc));
-    };
-    let key = key_text(alloc, key)?;
-    let text = format!(in alloc; "frame {number}: {finding}, {key}\n")?;
-    Ok(text.into_bytes())
-}
-
-fn optional_block(alloc: Global, closed: &Option<Closed>) -> Result<Vec<u8>, NoMemory>
-    ensures { IfOk result (λ t. IsOptionalBlock (option_map closed_view closed.now) t.items) }
-{
-    match closed {
-        Some(closed) => block(alloc, closed),
+    match finding {
+        Some(finding) => finding_line(alloc, form, number, key, finding),
         None => Ok(Vec::new(alloc)),
     }
 }
 
-fn hearing_text(alloc: Global, number: u64, hearing: &Hearing) -> Result<Vec<u8>, NoMemory>
-    ensures { IfOk result (λ t. IsHearing number (hearing_view hearing.now) t.items) }
+fn optional_block(
+    alloc: Global,
+    showing: Showing,
+    closed: &Option<Closed>,
+) -> Result<Vec<u8>, NoMemory>
+    ensures { IfOk result (λ t. IsOptionalBlock showing (option_map closed_view closed.now) t.items) }
 {
-    let closed = optional_block(alloc, &hearing.closed)?;
-    let finding = finding_line(alloc, number, hearing.key, hearing.finding)?;
-    let mut text = optional_block(alloc, &hearing.over)?;
+    match closed {
+        Some(closed) => block(alloc, showing, closed),
+        None => Ok(Vec::new(alloc)),
+    }
+}
+
+fn hearing_text(
+    alloc: Global,
+    showing: Showing,
+    number: u64,
+    hearing: &Hearing,
+) -> Result<Vec<u8>, NoMemory>
+    ensures { IfOk result (λ t. IsHearing showing number (hearing_view hearing.now) t.items) }
+{
+    let closed = optional_block(alloc, showing, &hearing.closed)?;
+    let finding = optional_finding(
+        alloc,
+        showing.form,
+        number,
+        hearing.key,
+        hearing.finding,
+    )?;
+    let mut text = optional_block(alloc, showing, &hearing.over)?;
     text.extend_from_slice(closed.as_slice())?;
     text.extend_from_slice(finding.as_slice())?;
     Ok(text)
@@ -83,14 +129,15 @@ fn hearing_text(alloc: Global, number: u64, hearing: &Hearing) -> Result<Vec<u8>
 /// The text for the frame with this number, from 1.
 pub(crate) fn report_text(
     alloc: Global,
+    showing: Showing,
     number: u64,
     told: &FrameReport,
 ) -> Result<Vec<u8>, NoMemory>
-    ensures { IfOk result (λ t. IsFrameReport number (report_view told.now) t.items) }
+    ensures { IfOk result (λ t. IsFrameReport showing number (report_view told.now) t.items) }
 {
     match told {
         FrameReport::Nothing => Ok(Vec::new(alloc)),
-        FrameReport::Unread(why) => Ok(unread_line(alloc, number, *why)?),
-        FrameReport::Heard(hearing) => hearing_text(alloc, number, hearing),
+        FrameReport::Unread(why) => Ok(unread_line(alloc, showing.form, number, *why)?),
+        FrameReport::Heard(hearing) => hearing_text(alloc, showing, number, hearing),
     }
 }

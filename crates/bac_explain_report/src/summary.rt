@@ -1,7 +1,10 @@
 //! The summary at the end.
 ghost use Rattle.std.specs.Prelude.{◌≡◌, IfOk, string_bytes};
-ghost use Rattle.bac_explain_report.specs.Explained.{endings_text, slowest_text, summary_text};
+ghost use Rattle.bac_explain_report.specs.Shown.{IsSummary};
+ghost use Rattle.bac_explain_report.specs.Summaries.{endings_text, slowest_text, summary_text};
 
+use crate::json_text::summary_json;
+use crate::showing::ReportForm;
 use crate::tally::Tally;
 use std::alloc::{AllocError, Global};
 
@@ -30,7 +33,7 @@ fn endings_text(alloc: Global, tally: Tally) -> Result<String, AllocError>
 }
 
 /// The summary: how many transactions there are and how they ended, the slowest reply, and the numbers of findings, frames and unread frames.
-pub(crate) fn summary_text(alloc: Global, tally: Tally) -> Result<String, AllocError>
+fn summary_text(alloc: Global, tally: Tally) -> Result<String, AllocError>
     ensures { IfOk result (λ t. string_bytes t ≡ summary_text tally) }
 {
     let endings = endings_text(alloc, tally)?;
@@ -41,4 +44,18 @@ pub(crate) fn summary_text(alloc: Global, tally: Tally) -> Result<String, AllocE
     format!(in alloc;
         "{endings} slowest={slowest} findings={findings} frames={frames} unread={unread}\n"
     )
+}
+
+/// The summary in a form.
+pub(crate) fn summary_in(
+    alloc: Global,
+    form: ReportForm,
+    tally: Tally,
+) -> Result<Vec<u8>, AllocError>
+    ensures { IfOk result (λ t. IsSummary form tally t.items) }
+{
+    match form {
+        ReportForm::Lines => Ok(summary_text(alloc, tally)?.into_bytes()),
+        ReportForm::Json => summary_json(alloc, tally),
+    }
 }

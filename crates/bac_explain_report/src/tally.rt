@@ -42,7 +42,7 @@ fn later(slowest: Option<u64>, delay: u64) -> Option<u64>
 }
 
 /// The delay of the reply of a transaction, in milliseconds.
-fn delay_of(transaction: &Transaction) -> Option<u64>
+pub(crate) fn delay_of(transaction: &Transaction) -> Option<u64>
     ensures { result ≡ delay_of (transaction_view transaction.now) }
 {
     match &transaction.answer {
@@ -151,11 +151,12 @@ impl Tally {
         }
     }
 
-    /// `Done` if there is no finding and every frame could be read, otherwise `Faulty`.
-    pub(crate) fn status(self) -> Status
-        ensures { result ≡ status_of self }
+    /// `Done` if there is no finding and every frame could be read, otherwise `Faulty`; where that was asked, `Faulty` also if a transaction was
+    /// not answered.
+    pub(crate) fn status(self, fails: bool) -> Status
+        ensures { result ≡ status_of fails self }
     {
-        if self.findings == 0 && self.unread == 0 {
+        if self.findings == 0 && self.unread == 0 && (!fails || self.unanswered == 0) {
             Status::Done
         } else {
             Status::Faulty

@@ -4,11 +4,15 @@ use Rattle.std.specs.Option.{option_map}
 use Rattle.std.specs.Io.KnownBytes.{Appends, Keeps}
 use Rattle.bac_text.specs.declared.decode_lines.Shown.{Shown}
 use Rattle.bac_text.specs.declared.fault.LayerFault.{LayerFault}
+use Rattle.bac_text.specs.declared.line_form.LineForm.{LineForm}
+use Rattle.bac_text.specs.declared.line_form.LineForm.TheVariants as line_form
 use Rattle.bac_text.specs.declared.status.Status.{Status}
 use Rattle.bac_text.specs.declared.status.Status.TheVariants as status
 use Rattle.bac_text.specs.Decoded.{AreLines}
 use Rattle.bac_text.specs.Groups.{octets_in}
+use Rattle.bac_text.specs.JsonLines.{IsJsonShown, IsLineOf, bad_line_form}
 use Rattle.bac_text.specs.Layers.{IsFine, IsAtFault}
+use Rattle.bac_text.specs.LineForms.{form_of_layers}
 use Rattle.bac_text.specs.Lines.{lines_of, unless_long}
 use Rattle.bac_text.specs.Notes.{read_of}
 use Rattle.bac_text.specs.Texts.{line_end, AppendsText}
@@ -25,15 +29,25 @@ datagram_line_at line = unless_long line (Some None) (option_map octets_in (read
 abbrev pub bad_line : (number : ℕ) → List ℕ
 bad_line number = (codes "line " ++ (decimal number ++ codes ": bad hex")) ++ line_end
 
--- whether it has no fault
-abbrev pub IsDatagramText : (in_words fine : Bool) → (datagram text : List ℕ) → Type 0
-IsDatagramText in_words true datagram text = IsFine datagram × AreLines in_words datagram None text
-IsDatagramText in_words false datagram text = (fault : LayerFault) × (IsAtFault datagram fault × AreLines in_words datagram (Some fault) text)
+abbrev pub IsBadLine : LineForm → (number : ℕ) → (text : List ℕ) → Type 0
+IsBadLine line_form.Json number text = IsLineOf (λ d. d ≡ bad_line_form number) text
+IsBadLine _ number text = text ≡ bad_line number
 
-abbrev pub IsLineText : (in_words : Bool) → (before : ℕ) → DatagramLine → (fine : Bool) → (text : List ℕ) → Type 0
-IsLineText in_words before None fine text = (fine ≡ true) × (text ≡ [])
-IsLineText in_words before (Some None) fine text = (fine ≡ false) × (text ≡ bad_line (before + 1))
-IsLineText in_words before (Some (Some datagram)) fine text = IsDatagramText in_words fine datagram text
+-- its layers, one a line, in words or not; whether it has no fault
+abbrev pub AreLayers : (in_words fine : Bool) → (datagram text : List ℕ) → Type 0
+AreLayers in_words true datagram text = IsFine datagram × AreLines in_words datagram None text
+AreLayers in_words false datagram text = (fault : LayerFault) × (IsAtFault datagram fault × AreLines in_words datagram (Some fault) text)
+
+-- in a form, with the number of its line
+abbrev pub IsDatagramText : LineForm → (number : ℕ) → (fine : Bool) → (datagram text : List ℕ) → Type 0
+IsDatagramText line_form.Numbers number fine datagram text = AreLayers false fine datagram text
+IsDatagramText line_form.Words number fine datagram text = AreLayers true fine datagram text
+IsDatagramText line_form.Json number fine datagram text = IsJsonShown number fine datagram text
+
+abbrev pub IsLineText : (form : LineForm) → (before : ℕ) → DatagramLine → (fine : Bool) → (text : List ℕ) → Type 0
+IsLineText form before None fine text = (fine ≡ true) × (text ≡ [])
+IsLineText form before (Some None) fine text = (fine ≡ false) × IsBadLine form (before + 1) text
+IsLineText form before (Some (Some datagram)) fine text = IsDatagramText form (before + 1) fine datagram text
 
 -- the text of a line, and then that of others; all of them are fine, or one is not
 pub record IsFirstText (IsFirst AreOthers : (fine : Bool) → (text : List ℕ) → Type 0) (fine : Bool) (text : List ℕ) : Type 0 where
@@ -46,58 +60,62 @@ pub record IsFirstText (IsFirst AreOthers : (fine : Bool) → (text : List ℕ) 
   pub all : fine ≡ here && there
   pub is : text ≡ front ++ back
 
-abbrev pub AreLineTexts : (in_words : Bool) → (before : ℕ) → List (List ℕ) → (fine : Bool) → (text : List ℕ) → Type 0
-AreLineTexts in_words before [] fine text = (fine ≡ true) × (text ≡ [])
-AreLineTexts in_words before (line ∷ lines) fine text =
-    IsFirstText (IsLineText in_words before (datagram_line_at line)) (AreLineTexts in_words (before + 1) lines) fine text
+abbrev pub AreLineTexts : (form : LineForm) → (before : ℕ) → List (List ℕ) → (fine : Bool) → (text : List ℕ) → Type 0
+AreLineTexts form before [] fine text = (fine ≡ true) × (text ≡ [])
+AreLineTexts form before (line ∷ lines) fine text =
+    IsFirstText (IsLineText form before (datagram_line_at line)) (AreLineTexts form (before + 1) lines) fine text
 
 -- where the octets of the input are known
-abbrev pub ArePrinted : (in_words fine : Bool) → (input : Option (List ℕ)) → (old new : Option (List ℕ)) → Type 0
-ArePrinted in_words fine None old new = ⊤
-ArePrinted in_words fine (Some input) old new = AppendsText old new (AreLineTexts in_words 0 (lines_of input) fine)
+abbrev pub ArePrinted : (form : LineForm) → (fine : Bool) → (input : Option (List ℕ)) → (old new : Option (List ℕ)) → Type 0
+ArePrinted form fine None old new = ⊤
+ArePrinted form fine (Some input) old new = AppendsText old new (AreLineTexts form 0 (lines_of input) fine)
 
 -- where the command ends with 0 or 1, each line was printed; the other statuses say nothing of it
+abbrev pub AreDecodedForm : (form : LineForm) → (input : Option (List ℕ)) → (old new : Option (List ℕ)) → Status → Type 0
+AreDecodedForm form input old new status.Done = ArePrinted form true input old new
+AreDecodedForm form input old new status.Faulty = ArePrinted form false input old new
+AreDecodedForm form input old new status.CommandLine = ⊤
+AreDecodedForm form input old new status.Output = ⊤
+AreDecodedForm form input old new status.Memory = ⊤
+
+-- with a line for each layer, in words or not
 abbrev pub AreDecoded : (in_words : Bool) → (input : Option (List ℕ)) → (old new : Option (List ℕ)) → Status → Type 0
-AreDecoded in_words input old new status.Done = ArePrinted in_words true input old new
-AreDecoded in_words input old new status.Faulty = ArePrinted in_words false input old new
-AreDecoded in_words input old new status.CommandLine = ⊤
-AreDecoded in_words input old new status.Output = ⊤
-AreDecoded in_words input old new status.Memory = ⊤
+AreDecoded in_words input old new status = AreDecodedForm (form_of_layers in_words) input old new status
 
 -- ---- the steps
 
 -- a line was printed
-pub record IsLinePrinted (in_words : Bool) (line : List ℕ) (old new : Option (List ℕ)) (before after : Shown) : Type 0 where
+pub record IsLinePrinted (form : LineForm) (line : List ℕ) (old new : Option (List ℕ)) (before after : Shown) : Type 0 where
   pub fine : Bool
   pub text : List ℕ
-  pub text_of : IsLineText in_words before.lines (datagram_line_at line) fine text
+  pub text_of : IsLineText form before.lines (datagram_line_at line) fine text
   pub printed : Appends old new text
   pub lines : after.lines ≡ before.lines + 1
   pub all : after.fine ≡ before.fine && fine
 
 -- the first line was taken and printed
-pub record IsNextPrinted (in_words : Bool) (octets : List ℕ) (left old new : Option (List ℕ)) (before after : Shown) : Type 0 where
+pub record IsNextPrinted (form : LineForm) (octets : List ℕ) (left old new : Option (List ℕ)) (before after : Shown) : Type 0 where
   pub line : List ℕ
   pub rest : List ℕ
   pub lines : lines_of octets ≡ line ∷ lines_of rest
   pub is : left ≡ Some rest
-  pub told : IsLinePrinted in_words line old new before after
+  pub told : IsLinePrinted form line old new before after
 
 -- the input goes from the first to the second, the output from the third to the fourth
-abbrev pub IsTaken : (in_words : Bool) → (input left old new : Option (List ℕ)) → Shown → Option Shown → Type 0
-IsTaken in_words None left old new before after = ⊤
-IsTaken in_words (Some octets) left old new before None = (octets ≡ []) × Keeps old new
-IsTaken in_words (Some octets) left old new before (Some after) = IsNextPrinted in_words octets left old new before after
+abbrev pub IsTaken : (form : LineForm) → (input left old new : Option (List ℕ)) → Shown → Option Shown → Type 0
+IsTaken form None left old new before after = ⊤
+IsTaken form (Some octets) left old new before None = (octets ≡ []) × Keeps old new
+IsTaken form (Some octets) left old new before (Some after) = IsNextPrinted form octets left old new before after
 
 -- some lines were printed, and the others stand before
-pub record IsFrontPrinted (in_words : Bool) (octets : List ℕ) (left old new : Option (List ℕ)) (shown : Shown) : Type 0 where
+pub record IsFrontPrinted (form : LineForm) (octets : List ℕ) (left old new : Option (List ℕ)) (shown : Shown) : Type 0 where
   pub text : List ℕ
   pub rest : List ℕ
   pub is : left ≡ Some rest
   pub printed : Appends old new text
-  pub told : (there : Bool) (back : List ℕ) → AreLineTexts in_words shown.lines (lines_of rest) there back
-      → AreLineTexts in_words 0 (lines_of octets) (shown.fine && there) (text ++ back)
+  pub told : (there : Bool) (back : List ℕ) → AreLineTexts form shown.lines (lines_of rest) there back
+      → AreLineTexts form 0 (lines_of octets) (shown.fine && there) (text ++ back)
 
-abbrev pub AreFrontPrinted : (in_words : Bool) → (input left old new : Option (List ℕ)) → Shown → Type 0
-AreFrontPrinted in_words None left old new shown = ⊤
-AreFrontPrinted in_words (Some octets) left old new shown = IsFrontPrinted in_words octets left old new shown
+abbrev pub AreFrontPrinted : (form : LineForm) → (input left old new : Option (List ℕ)) → Shown → Type 0
+AreFrontPrinted form None left old new shown = ⊤
+AreFrontPrinted form (Some octets) left old new shown = IsFrontPrinted form octets left old new shown

@@ -3,10 +3,14 @@ pub mod Checked
 pub mod Checking
 pub mod Decoded
 pub mod DecodedLines
+pub mod DecodedForms
 pub mod Digits
 pub mod Faults
 pub mod Groups
+pub mod InputForms
+pub mod JsonLines
 pub mod Layers
+pub mod LineForms
 pub mod Lines
 pub mod NextLine
 pub mod Notes

@@ -1,8 +1,7 @@
 //! `bac decode -`: the layers of the datagrams of an input, one on each line.
 ghost use Rattle.std.specs.Prelude.{◌≡◌, ◌+◌, ◌-◌, ◌^◌, ◌<◌, true, IfOk, IfSome, OnOk};
 ghost use Rattle.std.specs.Option.{option_map};
-ghost use Rattle.std.specs.Io.KnownBytes.{Appends};
-ghost use Rattle.bac_text.specs.DecodedLines.{AreDecoded, ArePrinted, IsLineText, IsLinePrinted, IsTaken, bad_line, datagram_line_at};
+ghost use Rattle.bac_text.specs.DecodedLines.{AreDecoded, AreDecodedForm, ArePrinted, IsBadLine, IsDatagramText, IsLineText, IsLinePrinted, IsTaken, datagram_line_at};
 ghost use Rattle.bac_text.specs.Groups.{octets_in};
 ghost use Rattle.bac_text.specs.Notes.{read_of};
 ghost use Rattle.bac_text.specs.Texts.{AppendsText};
@@ -10,6 +9,8 @@ ghost use Rattle.bac_text.specs.Texts.{AppendsText};
 use crate::decode::{show_datagram, shown_status};
 use crate::error::{CheckError, stopped};
 use crate::groups::octets_in;
+use crate::json_line::{print_bad_json, show_json};
+use crate::line_form::LineForm;
 use crate::lines::{LINE_LIMIT, next_line};
 use crate::notes::read_of;
 use crate::status::Status;
@@ -25,23 +26,48 @@ pub(crate) struct Shown {
     pub(crate) fine: bool,
 }
 
-fn print_bad_line<W: Write>(number: u64, out: &mut W) -> io::Result<()>
-    ensures { OnOk result (Appends (W.contents out.old) (W.contents out.new) (bad_line number)) }
+fn print_bad_line<W: Write>(
+    alloc: Global,
+    form: LineForm,
+    number: u64,
+    out: &mut W,
+) -> io::Result<()>
+    ensures { OnOk result (AppendsText (W.contents out.old) (W.contents out.new) (IsBadLine form number)) }
 {
-    writeln!(out, "line {number}: bad hex")
+    match form {
+        LineForm::Numbers | LineForm::Words => writeln!(out, "line {number}: bad hex"),
+        LineForm::Json => print_bad_json(alloc, number, out),
+    }
+}
+
+/// Prints a datagram in a form, with the number of its line where the form has it. Answers whether it has no fault.
+pub(crate) fn show_as<W: Write>(
+    alloc: Global,
+    form: LineForm,
+    number: u64,
+    datagram: &[u8],
+    out: &mut W,
+) -> io::Result<bool>
+    ensures { IfOk result (λ fine. AppendsText (W.contents out.old) (W.contents out.new) (IsDatagramText form number fine datagram.now)) }
+{
+    match form {
+        LineForm::Numbers => show_datagram(alloc, false, datagram, out),
+        LineForm::Words => show_datagram(alloc, true, datagram, out),
+        LineForm::Json => show_json(alloc, number, datagram, out),
+    }
 }
 
 /// Prints what is to be read of a line whose octets are not too many. Answers whether it has no fault.
 fn show_short<W: Write>(
     alloc: Global,
-    in_words: bool,
+    form: LineForm,
     before: u64,
     line: &[u8],
     out: &mut W,
 ) -> io::Result<bool>
     requires { before < 2 ^ 64 - 1 }
     ensures { IfOk result (λ fine. AppendsText (W.contents out.old) (W.contents out.new)
-        (IsLineText in_words before (option_map octets_in (read_of true line.now)) fine)) }
+        (IsLineText form before (option_map octets_in (read_of true line.now)) fine)) }
 {
     let Some(text) = read_of(true, line) else {
         return Ok(true);
@@ -50,45 +76,45 @@ fn show_short<W: Write>(
         return Err(io::Error::from(ErrorKind::OutOfMemory));
     };
     let Some(datagram) = octets else {
-        print_bad_line(before + 1, out)?;
+        print_bad_line(alloc, form, before + 1, out)?;
         return Ok(false);
     };
-    show_datagram(alloc, in_words, &datagram, out)
+    show_as(alloc, form, before + 1, &datagram, out)
 }
 
 /// Prints a line. Answers whether it has no fault.
 fn show_line<W: Write>(
     alloc: Global,
-    in_words: bool,
+    form: LineForm,
     before: u64,
     line: &[u8],
     out: &mut W,
 ) -> io::Result<bool>
     requires { before < 2 ^ 64 - 1 }
     ensures { IfOk result (λ fine. AppendsText (W.contents out.old) (W.contents out.new)
-        (IsLineText in_words before (datagram_line_at line.now) fine)) }
+        (IsLineText form before (datagram_line_at line.now) fine)) }
 {
     if line.len() > LINE_LIMIT {
-        print_bad_line(before + 1, out)?;
+        print_bad_line(alloc, form, before + 1, out)?;
         return Ok(false);
     }
-    show_short(alloc, in_words, before, line, out)
+    show_short(alloc, form, before, line, out)
 }
 
 fn decode_line<W: Write>(
     alloc: Global,
-    in_words: bool,
+    form: LineForm,
     line: &[u8],
     shown: Shown,
     out: &mut W,
 ) -> Result<Shown, CheckError>
-    ensures told { IfOk result (λ s. IsLinePrinted in_words line.now (W.contents out.old) (W.contents out.new) shown s) }
+    ensures told { IfOk result (λ s. IsLinePrinted form line.now (W.contents out.old) (W.contents out.new) shown s) }
     ensures fits { OnOk result (shown.lines < 2 ^ 64 - 1) }
 {
     if shown.lines == u64::MAX {
         return Err(CheckError::Input(io::Error::from(ErrorKind::FileTooLarge)));
     }
-    match show_line(alloc, in_words, shown.lines, line, out) {
+    match show_line(alloc, form, shown.lines, line, out) {
         Ok(fine) => Ok(Shown {
             lines: shown.lines + 1,
             fine: shown.fine && fine,
@@ -100,17 +126,17 @@ fn decode_line<W: Write>(
 /// Takes the next line and prints it; None at the end of the input.
 fn decode_next<R: BufRead, W: Write>(
     alloc: Global,
-    in_words: bool,
+    form: LineForm,
     input: &mut R,
     line: &mut Vec<u8>,
     shown: Shown,
     out: &mut W,
 ) -> Result<Option<Shown>, CheckError>
-    ensures taken { IfOk result (λ s. IsTaken in_words (R.remaining input.old) (R.remaining input.new) (W.contents out.old) (W.contents out.new) shown s) }
+    ensures taken { IfOk result (λ s. IsTaken form (R.remaining input.old) (R.remaining input.new) (W.contents out.old) (W.contents out.new) shown s) }
     ensures more { IfOk result (λ r. IfSome r (λ s. (s.lines ≡ shown.lines + 1) × (shown.lines < 2 ^ 64 - 1))) }
 {
     match next_line(input, line) {
-        Ok(true) => match decode_line(alloc, in_words, line, shown, out) {
+        Ok(true) => match decode_line(alloc, form, line, shown, out) {
             Ok(next) => Ok(Some(next)),
             Err(error) => Err(error),
         },
@@ -122,18 +148,18 @@ fn decode_next<R: BufRead, W: Write>(
 /// Prints all lines. Answers whether none of them has a fault.
 fn decode_lines<R: BufRead, W: Write>(
     alloc: Global,
-    in_words: bool,
+    form: LineForm,
     input: &mut R,
     out: &mut W,
 ) -> Result<bool, CheckError>
-    ensures { IfOk result (λ fine. ArePrinted in_words fine (R.remaining input.old) (W.contents out.old) (W.contents out.new)) }
+    ensures { IfOk result (λ fine. ArePrinted form fine (R.remaining input.old) (W.contents out.old) (W.contents out.new)) }
 {
     let mut shown = Shown {
         lines: 0,
         fine: true,
     };
     let mut line = Vec::new(alloc);
-    while let Some(next) = decode_next(alloc, in_words, input, &mut line, shown, out)? {
+    while let Some(next) = decode_next(alloc, form, input, &mut line, shown, out)? {
         shown = next;
     }
     Ok(shown.fine)
@@ -141,16 +167,33 @@ fn decode_lines<R: BufRead, W: Write>(
 
 fn decode_all<R: BufRead, W: Write>(
     alloc: Global,
-    in_words: bool,
+    form: LineForm,
     input: &mut R,
     out: &mut W,
 ) -> Result<Status, CheckError>
-    ensures { IfOk result (AreDecoded in_words (R.remaining input.old) (W.contents out.old) (W.contents out.new)) }
+    ensures { IfOk result (AreDecodedForm form (R.remaining input.old) (W.contents out.old) (W.contents out.new)) }
 {
-    let fine = decode_lines(alloc, in_words, input, out)?;
+    let fine = decode_lines(alloc, form, input, out)?;
     match out.flush() {
         Ok(()) => Ok(shown_status(fine)),
         Err(error) => Err(CheckError::Output(error)),
+    }
+}
+
+/// Prints the datagrams of an input, one on each line, in a form, as `decode_form_over` does each; a line that is not hexadecimal, or has more than
+/// 132,000 octets, is printed in that form too. Lines, notes, statuses and messages are those of [`decode_lines_over`].
+pub fn decode_lines_form_over<R: BufRead, O: Write, E: Write>(
+    alloc: Global,
+    form: LineForm,
+    input: &mut R,
+    out: &mut O,
+    err: &mut E,
+) -> Status
+    ensures { AreDecodedForm form (R.remaining input.old) (O.contents out.old) (O.contents out.new) result }
+{
+    match decode_all(alloc, form, input, out) {
+        Ok(status) => status,
+        Err(error) => stopped(error, out, err),
     }
 }
 
@@ -169,8 +212,6 @@ pub fn decode_lines_over<R: BufRead, O: Write, E: Write>(
 ) -> Status
     ensures { AreDecoded in_words (R.remaining input.old) (O.contents out.old) (O.contents out.new) result }
 {
-    match decode_all(alloc, in_words, input, out) {
-        Ok(status) => status,
-        Err(error) => stopped(error, out, err),
-    }
+    let form = LineForm::of_layers(in_words);
+    decode_lines_form_over(alloc, form, input, out, err)
 }

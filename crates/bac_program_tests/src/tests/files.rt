@@ -191,6 +191,39 @@ transactions=0 answered=0 rejected=0 aborted=0 unanswered=0 slowest=- findings=0
     ),
     (
         NO_FRAME,
+        "explain --json --peer 10.0.0.5 --slower 100 --unanswered --fail capture",
+        (
+            "\
+{\"aborted\":0,\"answered\":0,\"findings\":0,\"frames\":0,\"rejected\":0,\"slowest\":null,\
+\"transactions\":0,\"type\":\"summary\",\"unanswered\":0,\"unread\":0}
+",
+            "",
+            0,
+        ),
+    ),
+    (
+        "\n\r\r\n\0\0",
+        "explain --json --findings capture",
+        (
+            "\
+{\"frame\":1,\"type\":\"unread\",\"why\":\"file ends early\"}
+{\"aborted\":0,\"answered\":0,\"findings\":0,\"frames\":1,\"rejected\":0,\"slowest\":null,\"transactions\":0,\"type\":\"summary\",\"unanswered\":0,\"unread\":1}
+",
+            "",
+            1,
+        ),
+    ),
+    (
+        NO_FRAME,
+        "explain --peer 10.0.0 capture",
+        (
+            "",
+            "bad address\n\"10.0.0\" is no A.B.C.D or A.B.C.D:P\n",
+            2,
+        ),
+    ),
+    (
+        NO_FRAME,
         "check capture --port 47824",
         ("frames=0 good=0 bad=0 other=0\n", "", 0),
     ),

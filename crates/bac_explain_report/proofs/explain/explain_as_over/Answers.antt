@@ -3,7 +3,7 @@ use Rattle.std.proofs.Common.{subst}
 use Rattle.bac_capture.specs.FileReports.{IsReportOf, no_heading, no_report}
 use Rattle.bac_explain_report.specs.Accounts.{Account}
 use Rattle.bac_explain_report.specs.Explained.{BreaksFile, EndsFile, SeesFrame}
-use Rattle.bac_explain_report.proofs.explain.explain_over.Goals as goal
+use Rattle.bac_explain_report.proofs.explain.explain_as_over.Goals as goal
 
 pub returns-in-Ok : goal.returns-in-Ok
 returns-in-Ok g c =

@@ -1,0 +1,7 @@
+pub mod Lines
+pub mod Forms
+pub mod Values
+pub mod Requests
+pub mod Replies
+pub mod Layers
+pub mod Datagrams
