@@ -1,5 +1,5 @@
 -- Limits of the last of some properties.
-use Rattle.std.proofs.Common.{◌≡◌, Bool, true, false, ℕ, List, [], ◌∷◌, ◌++◌, refl, sym, ap, ◌∙◌}
+use Rattle.std.proofs.Common.{◌≡◌, true, false, ℕ, List, [], ◌∷◌, ◌++◌, refl, sym, ap, ◌∙◌}
 use Rattle.std.specs.Prelude.{map}
 use Rattle.std.proofs.lemmas.List.{map-append}
 use Rattle.bac_store.specs.Allowing.{Allowed}
@@ -28,9 +28,10 @@ pub last_limited : (l g : List ℕ) (old front new : List code.Property) (x y : 
     → (has_some (map property_view old) ≡ true) × (map property_view new ≡ with_limits l g (map property_view old))
 last_limited l g old front new x y was is same =
     let before = property_added front old x was in
-    let after = property_added front new y is in
-    (ap has_some before ∙ some_behind (map property_view front) (property_view x),
-    after ∙ ap (λ p. map property_view front ++ p ∷ []) same ∙ sym (ap (with_limits l g) before ∙ limits_behind l g (map property_view front) (property_view x)))
+    let after = property_added front new y is in (
+      ap has_some before ∙ some_behind (map property_view front) (property_view x),
+      after ∙ ap (λ p. map property_view front ++ p ∷ []) same ∙ sym (ap (with_limits l g) before ∙ limits_behind l g (map property_view front) (property_view x)),
+    )
 
 pub none_limited : (old : List code.Property) → old ≡ [] → has_some (map property_view old) ≡ false
 none_limited old none = ap (λ ps. has_some (map property_view ps)) none

@@ -170,7 +170,11 @@ fn start_by(alloc: Global, handle: &mut Handle, settings: &Settings, restart: Op
 
 /// Starts the node, which never ran before, with the objects that are listed, of any type.
 #[unsafe(no_mangle)]
-pub extern "C" fn bac_start_described(alloc: Global, handle: &mut Handle, settings: &Settings) -> u32
+pub extern "C" fn bac_start_described(
+    alloc: Global,
+    handle: &mut Handle,
+    settings: &Settings,
+) -> u32
     ensures went { result ≡ DONE → HasDescribed settings.now None handle.old.parked.device handle.new.parked.device }
     ensures quiet { result ≡ DONE → Holds IsQuiet handle.new.parked.device }
     ensures unlisted { result ≡ DONE → Holds (λ d. d.listed.items ≡ []) handle.new.parked.device }

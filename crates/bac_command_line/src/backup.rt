@@ -209,7 +209,10 @@ impl<F: OpenFiles, L: Link, C: Clock> Keeping<'_, '_, F, L, C> {
         let octets = self.read(name, err)?;
         if digest_text(alloc, &octets)?.as_str() != digest {
             // if that fails too, only the status is left
-            let _ = writeln!(err, "{name}: its octets are not those of its digest; it is not restored");
+            let _ = writeln!(
+                err,
+                "{name}: its octets are not those of its digest; it is not restored"
+            );
             return Ok(false);
         }
         let Some(instance) = name.strip_prefix("file-") else {
@@ -264,7 +267,10 @@ impl<F: OpenFiles, L: Link, C: Clock> Keeping<'_, '_, F, L, C> {
         for line in text.lines() {
             let Some((digest, name)) = line.split_once("  ") else {
                 // if that fails too, only the status is left
-                let _ = writeln!(err, "digests: a digest, two spaces and a name wanted: {line}");
+                let _ = writeln!(
+                    err,
+                    "digests: a digest, two spaces and a name wanted: {line}"
+                );
                 all = false;
                 continue;
             };

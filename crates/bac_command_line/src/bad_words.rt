@@ -17,11 +17,7 @@ fn whole_reason(words: &[&[u8]]) -> &'static str {
 }
 
 /// `bad words`, and which is bad and what was wanted: behind a colon, or on a line of its own.
-fn bad_words_text(
-    alloc: Global,
-    in_line: bool,
-    words: &[&[u8]],
-) -> Result<Vec<u8>, AllocError> {
+fn bad_words_text(alloc: Global, in_line: bool, words: &[&[u8]]) -> Result<Vec<u8>, AllocError> {
     let mut text = Vec::from_slice(alloc, b"bad words")?;
     match bad_word(alloc, words)? {
         Some(bad) => {

@@ -23,7 +23,10 @@ pub(crate) enum FileTask<'a> {
         path: Option<&'a str>,
     },
     /// The octets of the file at that path are written to it.
-    Put { object: &'a str, path: &'a str },
+    Put {
+        object: &'a str,
+        path: &'a str,
+    },
 }
 
 impl<'a> FileTask<'a> {
@@ -172,7 +175,10 @@ fn print_longer<L: Link, C: Clock, E: Write>(
     if let Some(size) = size_of(asking, station, object)? {
         if size > put as u64 {
             // if that fails too, only the status is left
-            let _ = writeln!(err, "{object} stays longer: {size} octets, of which the first {put} were put");
+            let _ = writeln!(
+                err,
+                "{object} stays longer: {size} octets, of which the first {put} were put"
+            );
         }
     }
     Ok(())

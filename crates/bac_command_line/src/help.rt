@@ -1,8 +1,8 @@
 //! What `bac help`, `bac version` and `bac completion` print, by the table of commands.
 ghost use Rattle.bac_command_line.specs.Tasks.{IsTold};
 
-use crate::completion::write_completion;
 use crate::backup_words::backups;
+use crate::completion::write_completion;
 use crate::help_words::{about, command_named, more_example, offline, online};
 use crate::manual::write_manual;
 use crate::words::{Grammar, Need, Word, WordForm};
@@ -117,11 +117,7 @@ fn write_telling<O: Write>(out: &mut O, telling: Telling<'_>) -> io::Result<bool
 }
 
 /// Tells of the program. A name of no command: `no command`, and that name, on `err`.
-pub(crate) fn tell<O: Write, E: Write>(
-    telling: Telling<'_>,
-    out: &mut O,
-    err: &mut E,
-) -> Status
+pub(crate) fn tell<O: Write, E: Write>(telling: Telling<'_>, out: &mut O, err: &mut E) -> Status
     ensures { IsTold result }
 {
     match write_telling(out, telling) {

@@ -45,7 +45,9 @@ pub(crate) const ABOUT: &[Grammar] = &[
 /// One more example of a command that has no second one of its own.
 pub(crate) fn more_example(name: &str) -> Option<&'static str> {
     match name {
-        "answer" => Some("Example: bac answer --objects plant.toml 810A001101040005010C0C000000051955"),
+        "answer" => Some(
+            "Example: bac answer --objects plant.toml 810A001101040005010C0C000000051955",
+        ),
         "pair" => Some("Example: bac pair && echo both were answered"),
         "version" => Some("Example: bac version | cut -d ' ' -f 2"),
         "completion" => Some("Example: source <(bac completion)"),

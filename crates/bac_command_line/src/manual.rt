@@ -1,6 +1,6 @@
 //! The page of the manual.
-use crate::help::write_form;
 use crate::backup_words::backups;
+use crate::help::write_form;
 use crate::help_words::{about, more_example, offline, online};
 use crate::words::{Grammar, Word};
 use std::io;

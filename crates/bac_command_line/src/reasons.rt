@@ -65,7 +65,8 @@ fn bad_address<'a>(command: &str, given: &ArgMatches<'a>) -> Option<(&'a str, &'
 pub(crate) fn print_no_task<E: Write>(matches: &ArgMatches<'_>, err: &mut E) -> Status
     ensures { result ≡ status.CommandLine }
 {
-    let Some((command @ ("serve" | "ask" | "backup" | "restore"), given)) = matches.subcommand() else {
+    let Some((command @ ("serve" | "ask" | "backup" | "restore"), given)) = matches.subcommand()
+    else {
         return complain(err, "no command", Status::CommandLine);
     };
     let status = complain(err, "bad address", Status::CommandLine);
@@ -87,7 +88,12 @@ fn no_digit(text: &str, others: &str) -> Option<(usize, char)> {
 }
 
 /// Where the status of a command says that a text is no hexadecimal, tells why. These characters may be between the digits.
-pub(crate) fn print_bad_digit<E: Write>(status: Status, text: &str, others: &str, err: &mut E) -> Status
+pub(crate) fn print_bad_digit<E: Write>(
+    status: Status,
+    text: &str,
+    others: &str,
+    err: &mut E,
+) -> Status
     ensures { result ≡ status }
 {
     if status != Status::CommandLine {
@@ -96,9 +102,15 @@ pub(crate) fn print_bad_digit<E: Write>(status: Status, text: &str, others: &str
     // if that fails too, only the status is left
     let _ = match no_digit(text, others) {
         Some((place, character)) => {
-            writeln!(err, "character {place}: '{character}' is no hexadecimal digit")
+            writeln!(
+                err,
+                "character {place}: '{character}' is no hexadecimal digit"
+            )
         }
-        None => writeln!(err, "the digits are no whole octets: an even number of them wanted"),
+        None => writeln!(
+            err,
+            "the digits are no whole octets: an even number of them wanted"
+        ),
     };
     status
 }

@@ -34,8 +34,6 @@ pub(crate) struct Serving {
     pub slots: usize,
     /// Whether it served before, and lost what it remembered.
     pub restarted: bool,
-    /// Whether it lets clients use an invoke ID again as soon as its transaction is over.
-    pub reuse: bool,
     /// Which of its turns are logged; None for none.
     pub log: Option<LogLevel>,
 }
@@ -242,7 +240,6 @@ pub(crate) fn serving_of(given: &ArgMatches<'_>) -> Option<Serving> {
         seconds: given.get_one("seconds"),
         slots: slots.unwrap_or(slots_without_word(turns)),
         restarted: given.get_flag("restarted"),
-        reuse: given.get_flag("reuse"),
         log: log_of(given),
     })
 }

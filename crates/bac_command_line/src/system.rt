@@ -7,9 +7,9 @@ use crate::files::OpenFiles;
 use crate::online::Machine;
 use bac_driver::{MonotonicClock, UdpLink};
 use bac_npdu::LinkAddress;
+use std::io::Write;
 use std::net::Net;
 use std::rt::Files;
-use std::io::Write;
 use std::time::{SystemTime, UNIX_EPOCH};
 use std::{fs, io};
 

@@ -85,7 +85,10 @@ pub(crate) fn ask_words<L: Link, C: Clock>(
         turns: TURNS,
         wait_limit: asking.wait_limit(station.clock.now()),
     };
-    match station.bound_node.ask(&mut station.clock, &question, &limit) {
+    match station
+        .bound_node
+        .ask(&mut station.clock, &question, &limit)
+    {
         Ok(end) => Ok(end),
         Err(fault) => Err(Unasked::Command(CommandError::from(fault))),
     }
@@ -144,7 +147,11 @@ fn ask_part<L: Link, C: Clock>(
     let alloc = station.alloc;
     let position = format!(in alloc; "{position}")?;
     let count = format!(in alloc; "{count}")?;
-    ask_words(asking, station, &["get", object, position.as_str(), count.as_str()])
+    ask_words(
+        asking,
+        station,
+        &["get", object, position.as_str(), count.as_str()],
+    )
 }
 
 /// A client reads a file as a whole. Where a peer aborts a read, it is asked for half as many octets, down to 32.
@@ -196,7 +203,11 @@ pub(crate) fn put_whole<L: Link, C: Clock>(
         let Ok(digits) = hex::encode_upper(alloc, part) else {
             return Err(Unasked::Command(CommandError::Memory));
         };
-        let end = ask_words(asking, station, &["put", object, place.as_str(), digits.as_str()])?;
+        let end = ask_words(
+            asking,
+            station,
+            &["put", object, place.as_str(), digits.as_str()],
+        )?;
         if !is_written(&end) {
             return Ok(Some(end));
         }

@@ -283,13 +283,6 @@ const SERVE: &[Word] = &[
         help: "The server ran before and has lost what it remembered: it refuses new requests for 65 seconds, until no repeat of an old one should arrive",
     },
     Word {
-        name: "reuse",
-        form: WordForm::Flag,
-        need: Need::Never,
-        against: &[],
-        help: "Lets a client use an invoke ID again as soon as its transaction is over: reads always tell the present value, and another request than the one answered is performed",
-    },
-    Word {
         name: "objects",
         form: WordForm::Text("FILE"),
         need: Need::Never,

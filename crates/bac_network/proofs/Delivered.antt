@@ -1,7 +1,7 @@
 -- A copy is delivered, a node ticks, or hears noise.
-use Rattle.std.proofs.Common.{◌≡◌, ℕ, zero, suc, ◌+◌, ◌<◌, ◌≤◌, ◌⊎◌, Bool, true, false, List, [], ◌∷◌, length, Option, Some, None, slice_get}
+use Rattle.std.proofs.Common.{◌≡◌, ◌≢◌, ℕ, zero, suc, ◌+◌, ◌<◌, ◌≤◌, ◌⊎◌, Bool, true, false, List, [], ◌∷◌, length, get_or, Option, Some, None, slice_get}
 use Rattle.std.proofs.Common.{refl, sym, ap, subst, inl, inr, ◌∙◌, arith}
-use Rattle.std.proofs.lemmas.Option.{slice_get_within}
+use Rattle.std.proofs.lemmas.Option.{slice_get_read, slice_get_within}
 use Rattle.std.specs.Option.{option_map}
 use Rattle.bac_protocol.specs.Service.{Octets}
 use Rattle.bac_node.specs.Calls.{ticked}
@@ -20,7 +20,7 @@ use Rattle.bac_network.specs.Clocks.{instant, time_at, told_at}
 use Rattle.bac_network.specs.Entries.{CanBeEntered, IsEntered, performances}
 use Rattle.bac_network.specs.Goings.{Arrives, Goes, IsBetween, IsDue, IsHeardCopy}
 use Rattle.bac_network.specs.Networks.{told_in, world_of, AreAlike, IsReady}
-use Rattle.bac_network.specs.Steps.{TakesMemory}
+use Rattle.bac_network.specs.Steps.{IsOfSome, IsThere, TakesMemory}
 use Rattle.bac_network.specs.Views.{log_view}
 use Rattle.bac_network.specs.declared.network.Network.{Network}
 use Rattle.bac_network.proofs.Entered.{acts_as, can_be_entered}
@@ -95,6 +95,17 @@ pub record HeardEnters (W : ℕ) (n : Network) (to : ℕ) (after : Node) (o : Ou
   pub sends : length o.sends ≤ W + 1
   pub facts : length o.ended + performances o.performed ≤ 2
 
+-- what `nodes[i]` reads after a call that changed nodes
+pub node_read : (ws items : List Node) → items ≡ ws → (i : ℕ) (x : Node) → i < length ws → x ≡ get_or items i x → slice_get ws i ≡ Some x
+node_read ws items same i x within read = slice_get_read ws (length ws) i x refl within (read ∙ ap (λ (l : List Node). get_or l i x) same)
+
+-- what `nodes[i]` reads after that node went on
+pub gone_read : (n' : Network) (node : ℕ) (how : Node → Node → Type 0) (nodes new : List Node) → n'.nodes.items ≡ new → Goes nodes node how new
+    → (x : Node) → x ≡ get_or n'.nodes.items node x → slice_get n'.nodes.items node ≡ Some x
+gone_read n' node how nodes new fits went x read =
+    let there : slice_get n'.nodes.items node ≡ Some went.after = subst (λ l. slice_get l node ≡ Some went.after) (sym fits) (went.nodes).here in
+    node_read n'.nodes.items n'.nodes.items refl node x (slice_get_within n'.nodes.items node went.after there) read
+
 -- the node after it is the one that is there now
 is_after : (old : List Node) (i : ℕ) (how : Node → Node → Type 0) (new : List Node) (g : Goes old i how new) (x : Node) → slice_get new i ≡ Some x
     → g.after ≡ x
@@ -126,6 +137,11 @@ module _ (W overtake : ℕ) (n : Network) (r : IsReady W overtake n) where
         (subst (λ (b : Node). HeardEnters W n h.copy.to b o) (is_after n.nodes.items h.copy.to _ new k x here)
         (heard_enters h.copy.to _ new k o
         (r.can.hears number h.copy h.there (young h.copy h.there) h.link h.sender k.before k.after o k.at k.goes)))
+
+    pub receiver_there : (nodes : List Node) (to : ℕ) (o : Outcome) (new : List Node)
+        → IsHeardCopy nodes (told_in n) n.journal.copies number to o new → to < length new
+    receiver_there nodes to o new h =
+        subst (λ (i : ℕ). i < length new) (sym h.receiver) (slice_get_within new h.copy.to h.goes.after (h.goes.nodes).here)
 
     pub copy_enters : (nodes : List Node) → nodes ≡ n.nodes.items → (to : ℕ) (o : Outcome) (new : List Node)
         → IsHeardCopy nodes (told_in n) n.journal.copies number to o new → (x : Node) → slice_get new to ≡ Some x → HeardEnters W n to x o
@@ -298,6 +314,15 @@ noise_heard n n' node from octets o noise nodes are now is new fits went journal
         };
       };
     }
+
+-- a link that is no node's in the journal is no node's, and one that is some node's is
+pub of_none : (W overtake : ℕ) (n : Network) → IsReady W overtake n → (link : Octets) → ((node : ℕ) → slice_get n.journal.links node ≢ Some link)
+    → IsOfNone n.nodes.items link
+of_none W overtake n r link none = λ j at. none j (sym (r.linked j) ∙ at)
+
+pub of_some : (W overtake : ℕ) (n : Network) → IsReady W overtake n → (node : ℕ) → node < length n.nodes.items → (link : Octets) (j : ℕ)
+    → slice_get n.journal.links j ≡ Some link → IsThere (world_of n) node × IsOfSome n.nodes.items link
+of_some W overtake n r node within link j at = (there_is n.nodes.items node within, (j, r.linked j ∙ at))
 
 module _ (n n' : Network) (node : ℕ) (from octets : Octets) (o : Outcome) (none : IsOfNone n.nodes.items from) (nodes : List Node)
     (are : nodes ≡ n.nodes.items) (now : ℕ) (is : now ≡ told_in n node) (new : List Node) (fits : n'.nodes.items ≡ new)

@@ -44,11 +44,13 @@ impl Network {
         if client >= self.nodes.len() {
             return Err(WorldFault::NoSuchNode);
         }
-        if self.journal.node_of(peer.link).is_some() {
-            return Err(WorldFault::NodeLink);
+        match self.journal.node_of(peer.link) {
+            Some(_node) => Err(WorldFault::NodeLink),
+            None => {
+                let copied = self.make_away_room(alloc, client, request)?;
+                self.ask_away(client, peer, limits, request, copied)
+            }
         }
-        let copied = self.make_away_room(alloc, client, request)?;
-        self.ask_away(client, peer, limits, request, copied)
     }
 
     /// Makes room for all that comes of an ask of a stranger, and copies its request for the log. Nothing else changes, after an Err neither.
@@ -88,7 +90,14 @@ impl Network {
         let now = self.journal.told(client);
         match ask(&mut self.nodes, client, now, peer, limits, request) {
             Ok(asked) => {
-                note_away(&mut self.journal, &mut self.log, client, *peer, copied, asked);
+                note_away(
+                    &mut self.journal,
+                    &mut self.log,
+                    client,
+                    *peer,
+                    copied,
+                    asked,
+                );
                 Ok(None)
             }
             Err(fault) => told(fault),

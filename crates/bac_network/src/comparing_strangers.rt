@@ -1,15 +1,23 @@
 //! Whether two facts of strangers are the same.
 ghost use Rattle.std.specs.Prelude.{◌≡◌, ◌↔◌, IsTrue};
-ghost use Rattle.bac_network.specs.Strangers.{IsOfStranger};
+ghost use Rattle.bac_npdu.specs.Views.{peer_view};
+ghost use Rattle.bac_network.specs.Strangers.{IsAskedAwayFact, IsEndedAwayFact, IsServedFact};
 ghost use Rattle.bac_network.specs.Views.{fact_view};
 
 use crate::fact::Fact;
 use crate::same_ending;
+use bac_npdu::Peer;
 use bac_service::{same_reply, same_request};
 
-/// Whether contracts see one fact of a stranger in both.
-pub(crate) fn same_of_stranger(one: &Fact, other: &Fact) -> bool
-    requires { IsOfStranger (fact_view one.now) }
+fn is_same_peer(one: &Peer, other: &Peer) -> bool
+    ensures { IsTrue result ↔ (peer_view one.now ≡ peer_view other.now) }
+{
+    one == other
+}
+
+/// Whether another fact is the same request of a stranger that was performed.
+pub(crate) fn same_served(one: &Fact, other: &Fact) -> bool
+    requires { IsServedFact (fact_view one.now) }
     ensures { IsTrue result ↔ (fact_view one.now ≡ fact_view other.now) }
 {
     match one {
@@ -29,7 +37,7 @@ pub(crate) fn same_of_stranger(one: &Fact, other: &Fact) -> bool
                 request: service,
                 reply: answer,
             } => {
-                peer == stranger
+                is_same_peer(peer, stranger)
                     && node == server
                     && invoke_id == number
                     && begin == start
@@ -38,6 +46,16 @@ pub(crate) fn same_of_stranger(one: &Fact, other: &Fact) -> bool
             }
             _ => false,
         },
+        _ => false,
+    }
+}
+
+/// Whether another fact is the same ask of a stranger.
+pub(crate) fn same_asked_away(one: &Fact, other: &Fact) -> bool
+    requires { IsAskedAwayFact (fact_view one.now) }
+    ensures { IsTrue result ↔ (fact_view one.now ≡ fact_view other.now) }
+{
+    match one {
         Fact::AskedAway {
             number,
             client,
@@ -52,11 +70,21 @@ pub(crate) fn same_of_stranger(one: &Fact, other: &Fact) -> bool
             } => {
                 number == place
                     && client == asking
-                    && peer == stranger
+                    && is_same_peer(peer, stranger)
                     && same_request(request, service)
             }
             _ => false,
         },
+        _ => false,
+    }
+}
+
+/// Whether another fact is the same ending of an ask of a stranger.
+pub(crate) fn same_ended_away(one: &Fact, other: &Fact) -> bool
+    requires { IsEndedAwayFact (fact_view one.now) }
+    ensures { IsTrue result ↔ (fact_view one.now ≡ fact_view other.now) }
+{
+    match one {
         Fact::EndedAway { number, how } => match other {
             Fact::EndedAway {
                 number: place,

@@ -1,7 +1,7 @@
 //! What is logged.
 ghost use Rattle.std.specs.Prelude.{◌≡◌, ◌↔◌, IsTrue};
 
-use crate::comparing_strangers::same_of_stranger;
+use crate::comparing_strangers::{same_asked_away, same_ended_away, same_served};
 use crate::{Alike, same_change, same_ending};
 use bac_npdu::Peer;
 use bac_requester::Ending;
@@ -163,9 +163,9 @@ impl Alike for Fact {
                 } => node == place && same_start(store, opening),
                 _ => false,
             },
-            Fact::Served { .. } | Fact::AskedAway { .. } | Fact::EndedAway { .. } => {
-                same_of_stranger(self, other)
-            }
+            Fact::Served { .. } => same_served(self, other),
+            Fact::AskedAway { .. } => same_asked_away(self, other),
+            Fact::EndedAway { .. } => same_ended_away(self, other),
         }
     }
 }

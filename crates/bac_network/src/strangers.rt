@@ -30,10 +30,10 @@ impl Network {
         if node >= self.nodes.len() {
             return Err(WorldFault::NoSuchNode);
         }
-        if self.journal.node_of(from).is_some() {
-            return Err(WorldFault::NodeLink);
+        match self.journal.node_of(from) {
+            Some(_node) => Err(WorldFault::NodeLink),
+            None => Ok(self.hear_from_outside(window, node, from, octets)?),
         }
-        Ok(self.hear_from_outside(window, node, from, octets)?)
     }
 
     /// Octets from a link of no node come to a node that there is. All room is made before it hears them.
@@ -74,7 +74,13 @@ impl Network {
         ensures stays { instant self.new.journal ≡ instant self.old.journal }
     {
         let outcome = hear(&mut self.nodes, node, self.journal.told(node), from, octets)?;
-        enter(&self.nodes[node], &mut self.journal, &mut self.log, node, outcome);
+        enter(
+            &self.nodes[node],
+            &mut self.journal,
+            &mut self.log,
+            node,
+            outcome,
+        );
         Ok(())
     }
 }

@@ -42,14 +42,14 @@ struct Collecting<'t> {
 }
 
 impl Collecting<'_> {
-    /// Notes what is wrong at a place.
-    fn note(&mut self, at: At<'_>, wrong: Wrong) -> Result<(), NoMemory> {
+    /// Notes what is wrong at a place, which stands on the line of that key.
+    fn note(&mut self, at: At<'_>, line_key: &str, wrong: Wrong) -> Result<(), NoMemory> {
         let place = Place {
             object: at.object,
             id: at.id,
             key: String::from_str(self.alloc, at.key)?,
         };
-        let line = self.outline.line(self.text, at.object, at.key);
+        let line = self.outline.line(self.text, at.object, line_key);
         Ok(self.findings.push(Finding { line, place, wrong })?)
     }
 
@@ -60,8 +60,9 @@ impl Collecting<'_> {
         key: &str,
         near: Option<&'static str>,
     ) -> Result<(), NoMemory> {
+        let line_key = if at.key.is_empty() { key } else { at.key };
         let key = String::from_str(self.alloc, key)?;
-        self.note(at, Wrong::UnknownKey { key, near })
+        self.note(at, line_key, Wrong::UnknownKey { key, near })
     }
 
     /// Notes a value that is not allowed, or the unknown key in its table that is the reason.
@@ -77,7 +78,7 @@ impl Collecting<'_> {
         }
         let found = found_words(self.alloc, value, problem)?;
         let wanted = problem.wanted;
-        self.note(at, Wrong::Value { wanted, found })
+        self.note(at, at.key, Wrong::Value { wanted, found })
     }
 
     /// Notes the fault of a value, unless it is that memory was refused.
@@ -143,7 +144,11 @@ impl Collecting<'_> {
         let Some(id) = ObjectIdentifier::new(kind, instance) else {
             return Ok(None);
         };
-        if self.ids.iter().any(|i| i.kind == id.kind && i.instance == id.instance) {
+        if self
+            .ids
+            .iter()
+            .any(|i| i.kind == id.kind && i.instance == id.instance)
+        {
             let at = At {
                 object,
                 id: Some(id),

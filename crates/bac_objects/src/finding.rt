@@ -12,7 +12,10 @@ pub enum Wrong {
         near: Option<&'static str>,
     },
     /// A value that is not allowed: what is wanted, and what is there, in words or as TOML writes it.
-    Value { wanted: Wanted, found: String },
+    Value {
+        wanted: Wanted,
+        found: String,
+    },
     /// Each key and value is allowed, but the objects together are no store.
     Refused(Refusal),
 }

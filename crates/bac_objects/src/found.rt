@@ -19,6 +19,10 @@ pub(crate) fn unknown_key(value: Option<&Value>, problem: Problem) -> Option<&st
         Problem {
             wanted: Wanted::LimitedValue,
             given: Given::More,
+        }
+        | Problem {
+            wanted: Wanted::Limits,
+            given: Given::Other,
         } => true,
         _ => return None,
     };

@@ -47,11 +47,7 @@ const VALUE_KEYS: &[&str] = &["writable", "min", "max", "one-of"];
 const MOST_EDITS: usize = 2;
 
 /// How like a known key is, where it is like enough: how many edits lead there.
-fn edits_to(
-    alloc: Global,
-    key: &str,
-    known: &'static str,
-) -> Result<Option<usize>, AllocError> {
+fn edits_to(alloc: Global, key: &str, known: &'static str) -> Result<Option<usize>, AllocError> {
     let edits = strsim::osa_distance(alloc, key, known)?;
     if edits <= MOST_EDITS && edits < known.len() {
         Ok(Some(edits))

@@ -98,14 +98,22 @@ impl Outline {
     /// Reads the head of a table or of a list's table; what follows its line.
     fn read_head<'t>(&mut self, alloc: Global, before: usize, rest: &'t str) -> Option<&'t str> {
         let inner = behind(rest);
-        let inner = if first(inner) == b'[' { behind(inner) } else { inner };
+        let inner = if first(inner) == b'[' {
+            behind(inner)
+        } else {
+            inner
+        };
         let (name, after) = key_in(alloc, skip_ws(inner))?;
         let is_direct = name.path.is_empty() && name.last.as_str() == OBJECTS;
         if is_direct {
             self.objects = self.objects.saturating_add(1);
             self.note(self.objects, "", alloc, before)?;
         } else if let Some(table) = name.path.first() {
-            let object = if table.as_str() == OBJECTS { self.objects } else { 0 };
+            let object = if table.as_str() == OBJECTS {
+                self.objects
+            } else {
+                0
+            };
             let key = name.path.get(1).unwrap_or(&name.last);
             self.note(object, key.as_str(), alloc, before)?;
         } else {

@@ -10,4 +10,3 @@ pub mod Copies
 pub mod Same
 pub mod Begun
 pub mod Rests
-pub mod Reused

@@ -8,5 +8,4 @@ pub mod Reactions
 pub mod Reading
 pub mod Preparing
 pub mod Segments
-pub mod Reuse
 pub mod Timers

@@ -110,8 +110,10 @@ pub stopped : (line : ℕ) (e : Event) (f : WorldFault) (old new : WorldView) (n
     → new ≡ old → number ≡ fault_number f → Appends a b (fault_line line number) → AppendsText a b (IsStep line false (Happens (happening_view e)) old new)
 stopped line e f old new number a b ends node copy link clock change memory same is printed = (
   fault_line line (fault_number f),
-  (fails in_text line e f old new (fault_line line (fault_number f)) ends node copy link clock change memory same refl,
-  subst (λ (n : ℕ). Appends a b (fault_line line n)) is printed),
+  (
+    fails in_text line e f old new (fault_line line (fault_number f)) ends node copy link clock change memory same refl,
+    subst (λ (n : ℕ). Appends a b (fault_line line n)) is printed,
+  ),
 )
 
 bad_change : (f : WorldFault) (why : ChangeFault) → change_fault_in f ≡ Some why → the_err f ≡ the_err (fault.BadChange why)

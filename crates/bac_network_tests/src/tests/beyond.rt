@@ -33,7 +33,12 @@ fn hear(node: &mut Node, from: LinkAddress, outcome: &Outcome) -> Option<Outcome
 }
 
 /// How many requests of a client are performed, and how many are answered: it asks for one, and the datagrams go straight.
-fn is_done(alloc: Global, client: &mut Node, server: &mut Node, words: &str) -> Option<(bool, bool)> {
+fn is_done(
+    alloc: Global,
+    client: &mut Node,
+    server: &mut Node,
+    words: &str,
+) -> Option<(bool, bool)> {
     let asked = ask(alloc, client, words)?;
     let Some(first) = asked.sends.first() else {
         return None;
@@ -51,7 +56,12 @@ fn is_done(alloc: Global, client: &mut Node, server: &mut Node, words: &str) -> 
 fn second_done(alloc: Global, second: u8) -> Option<(bool, bool)> {
     let mut server = node(alloc, 1)?;
     is_done(alloc, &mut node(alloc, 0)?, &mut server, "append 10:1 AB")?;
-    is_done(alloc, &mut node(alloc, second)?, &mut server, "append 10:1 CD")
+    is_done(
+        alloc,
+        &mut node(alloc, second)?,
+        &mut server,
+        "append 10:1 CD",
+    )
 }
 
 /// At a link of its own a node's ask is performed and answered; at the link of another one it is answered with the reply to that one's, and not performed.

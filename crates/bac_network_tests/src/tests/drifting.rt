@@ -173,7 +173,9 @@ fn away(alloc: Global, chance: &mut Chance) -> Option<Event> {
 /// A clock is faster or slower from now on.
 fn drift(world: &mut World, chance: &mut Chance) -> Option<()> {
     let rate = chance.below(2_001).saturating_add(999_000);
-    world.set_pace(chance.below(3), (rate % 2_000_000) as u32).ok()
+    world
+        .set_pace(chance.below(3), (rate % 2_000_000) as u32)
+        .ok()
 }
 
 fn step(alloc: Global, world: &mut World, chance: &mut Chance) -> Option<()> {

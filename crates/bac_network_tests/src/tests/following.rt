@@ -288,7 +288,9 @@ impl Followed {
     /// An ask of a node ends; where it is answered, with the reply with which it was performed.
     fn ends(&mut self, log: &[Fact], number: usize, how: &Ending) -> Option<()> {
         let Deed {
-            server, performed, ..
+            server,
+            performed,
+            ..
         } = self.closes(number)?;
         must(server.is_some())?;
         let Ending::Answered(answer) = how else {

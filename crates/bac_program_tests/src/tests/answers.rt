@@ -260,8 +260,14 @@ const NO_HEXADECIMAL: &[(&str, &str)] = &[
         "bad hex\nthe digits are no whole octets: an even number of them wanted\n",
     ),
     ("8G", "bad hex\ncharacter 2: 'G' is no hexadecimal digit\n"),
-    ("81 0A", "bad hex\ncharacter 3: ' ' is no hexadecimal digit\n"),
-    ("0x81", "bad hex\ncharacter 2: 'x' is no hexadecimal digit\n"),
+    (
+        "81 0A",
+        "bad hex\ncharacter 3: ' ' is no hexadecimal digit\n",
+    ),
+    (
+        "0x81",
+        "bad hex\ncharacter 2: 'x' is no hexadecimal digit\n",
+    ),
 ];
 
 #[test]
@@ -334,7 +340,10 @@ const WORDS: &[(&str, Ending)] = &[
         ),
     ),
     ("answer 810A000801001013", ("none\n", "", 0)),
-    ("answer 8G", ("", "bad hex\ncharacter 2: 'G' is no hexadecimal digit\n", 2)),
+    (
+        "answer 8G",
+        ("", "bad hex\ncharacter 2: 'G' is no hexadecimal digit\n", 2),
+    ),
 ];
 
 #[test]

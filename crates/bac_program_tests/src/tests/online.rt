@@ -214,7 +214,11 @@ const BEHIND_A_ROUTER: &[BenchRow] = &[
     (
         NOBODY,
         "ask --port 47808 --route 5:010203040506070809 read 0:5 85",
-        ("", "bad address\n\"5:010203040506070809\" is no NET:MAC, as 5:2A\n", 2),
+        (
+            "",
+            "bad address\n\"5:010203040506070809\" is no NET:MAC, as 5:2A\n",
+            2,
+        ),
     ),
     (
         NOBODY,
@@ -279,7 +283,11 @@ const OCTETS: &[BenchRow] = &[
     (
         NO_LINKS,
         "ask --port 47808 --raw read 0:5 85",
-        ("", "bad words\n--raw writes the octets of a file: a `get` wanted\n", 2),
+        (
+            "",
+            "bad words\n--raw writes the octets of a file: a `get` wanted\n",
+            2,
+        ),
     ),
 ];
 
@@ -303,7 +311,11 @@ const OF_A_FILE: &[FileRow] = &[
         "zz",
         NO_LINKS,
         "ask --port 47808 write 2:1 85 @capture",
-        ("", "bad words\nvalues from \"7A7A\" on are no whole data\n", 2),
+        (
+            "",
+            "bad words\nvalues from \"7A7A\" on are no whole data\n",
+            2,
+        ),
     ),
     (
         "AB",
@@ -748,17 +760,29 @@ const NO_REQUEST: &[BenchRow] = &[
     (
         HOUSES,
         "ask --to 127.0.0.1: read 0:5 85",
-        ("", "bad address\n\"127.0.0.1:\" is no A.B.C.D or A.B.C.D:P\n", 2),
+        (
+            "",
+            "bad address\n\"127.0.0.1:\" is no A.B.C.D or A.B.C.D:P\n",
+            2,
+        ),
     ),
     (
         HOUSES,
         "ask --to 127.0.0.1:0 read 0:5 85",
-        ("", "bad address\n\"127.0.0.1:0\" is no A.B.C.D or A.B.C.D:P\n", 2),
+        (
+            "",
+            "bad address\n\"127.0.0.1:0\" is no A.B.C.D or A.B.C.D:P\n",
+            2,
+        ),
     ),
     (
         HOUSES,
         "ask --to 127.0.0.256 read 0:5 85",
-        ("", "bad address\n\"127.0.0.256\" is no A.B.C.D or A.B.C.D:P\n", 2),
+        (
+            "",
+            "bad address\n\"127.0.0.256\" is no A.B.C.D or A.B.C.D:P\n",
+            2,
+        ),
     ),
     (
         HOUSES,

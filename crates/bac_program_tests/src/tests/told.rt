@@ -28,8 +28,14 @@ const PARTS: &[(&str, &[&str])] = &[
             "Example: bac answer 810A001101040005010C0C000000051955\nExample: bac answer --objects plant.toml",
         ],
     ),
-    ("help simulate", &["\n  restart N        node N restarts with its store\n"]),
-    ("help help", &["\n  --man\n", "Example: bac help --man > bac.1\n"]),
+    (
+        "help simulate",
+        &["\n  restart N        node N restarts with its store\n"],
+    ),
+    (
+        "help help",
+        &["\n  --man\n", "Example: bac help --man > bac.1\n"],
+    ),
     (
         "help --man",
         &[

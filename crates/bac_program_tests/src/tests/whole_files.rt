@@ -8,11 +8,7 @@ const ROWS: &[(Bench, &str, Ending)] = &[
         "ask --port 47808 get file:1",
         ("answered file 1 0 4F4B\n", "", 0),
     ),
-    (
-        HOUSES,
-        "ask --port 47808 --raw get file:1",
-        ("OK", "", 0),
-    ),
+    (HOUSES, "ask --port 47808 --raw get file:1", ("OK", "", 0)),
     (
         HOUSES,
         "ask --port 47808 get file:2",
@@ -49,11 +45,7 @@ const ROWS: &[(Bench, &str, Ending)] = &[
     (
         HOUSES,
         "backup --to house saved",
-        (
-            "",
-            "bad address\n\"house\" is no A.B.C.D or A.B.C.D:P\n",
-            2,
-        ),
+        ("", "bad address\n\"house\" is no A.B.C.D or A.B.C.D:P\n", 2),
     ),
     (
         HOUSES,
@@ -70,7 +62,10 @@ const ROWS: &[(Bench, &str, Ending)] = &[
 #[test]
 fn reads_and_writes_whole_files(rt: HostRuntime) -> Result<(), Fail> {
     for (bench, line, ending) in ROWS {
-        holds(run_on(rt.alloc(), "8 octets", *bench, line)?.is(ending), line)?;
+        holds(
+            run_on(rt.alloc(), "8 octets", *bench, line)?.is(ending),
+            line,
+        )?;
     }
     Ok(())
 }

@@ -1,0 +1,5 @@
+pub mod Lines
+pub mod Forms
+pub mod Values
+pub mod Requests
+pub mod Replies
