@@ -1,12 +1,14 @@
 /* bac.h: a proved BACnet/IP node (ReadProperty, WriteProperty, AtomicReadFile, AtomicWriteFile, with segmentation in both directions; ANSI/ASHRAE 135) inside
  * a program of your own. You keep the socket, the clock and the objects; the node answers and asks. docs/C.md begins with an example.
  *
- * Link libbac_c.a and a heap (examples/c/heap.c). C99 and C++.
+ * Link libbac_c.a. C99 and C++, on x86-64 (of level x86-64-v2) and aarch64 Linux. The library has no target of 32 bits.
  *
  * Rules of every call
  * - A bac_node begins as BAC_NODE_EMPTY, is never copied, and its members are never touched. Used before bac_open, opened twice, used after bac_close or closed
  *   twice, it does no harm: the call answers BAC_NOT_OPEN or BAC_ALREADY_OPEN, or 0 where it counts (bac_next_due: UINT64_MAX).
- * - After a status that is not BAC_OK the node is as it was, and no ticket or length is put out; after BAC_NO_MEMORY the same call may be made again.
+ * - After a status that is not BAC_OK the node is as it was, and no ticket or length is put out. After BAC_NO_MEMORY the same call may be made again: wait
+ *   before that, as what was due stays due, and bac_next_due stays in the past. A datagram that is not heard is lost, and its sender repeats it.
+ * - A call whose node is const leaves the node as it was. It counts as a call all the same: see below.
  * - Moments are milliseconds of one clock that never goes back, from any start.
  * - A link is four octets of IPv4 address and two of UDP port, the high one first, as sockaddr_in has them.
  * - Octets are given by address and number, and stay the caller's. A call that copies octets out returns how many there are; where they are more than there is
@@ -14,8 +16,8 @@
  * - What came of a call (bac_sends to bac_cause) is there to be read until the next bac_on, bac_tick, bac_ask_.., bac_start.. or bac_close that succeeds.
  *
  * What the program promises (nothing checks it)
- * - Each pointer is valid for the call, never null, also where the number is 0, and no two of one call overlap. A bool is 0 or 1.
- * - One call at a time for a node, from the thread that opened it, and none from a signal handler.
+ * - Each pointer is valid for the call, never null (but that of bac_close), also where the number is 0, and no two of one call overlap. A bool is 0 or 1.
+ * - One call at a time for a node: from any thread, under one lock, and none from a signal handler. Two nodes share nothing but the heap.
  */
 #ifndef BAC_H
 #define BAC_H
@@ -23,10 +25,18 @@
 #include <stdbool.h>
 #include <stddef.h>
 #include <stdint.h>
+#include <string.h>
 
 #ifdef __cplusplus
 extern "C" {
 #endif
+
+/* The version of this header: 10,000 times the major number, 100 times the minor one, and the patch. A library of the same major number and of this or a later
+ * minor one has all that is declared here: see docs/C.md, "What stays". */
+#define BAC_VERSION 10100
+
+/* The version of the library that is linked. */
+uint32_t bac_version(void);
 
 /* A node. Its memory is the library's from bac_open to bac_close. */
 typedef struct bac_node {
@@ -37,9 +47,7 @@ typedef struct bac_node {
 #define BAC_NODE_EMPTY \
     { 0, 0 }
 
-typedef uint32_t bac_status;
-
-enum {
+typedef enum bac_status {
     BAC_OK = 0,
     BAC_CLOCK_BACK = 1,       /* the moment is before the latest one that the node was told */
     BAC_NO_MEMORY = 2,        /* memory was refused */
@@ -59,22 +67,26 @@ enum {
     BAC_NO_SUCH_OBJECT = 16,
     BAC_NO_SUCH_PROPERTY = 17,
     BAC_BAD_VALUE = 18        /* a value that the property cannot have */
-};
+} bac_status;
 
-/* What a node is made of. */
+/* What a node is made of. Set it by BAC_SETTINGS, and then the members that are to be others. */
 typedef struct bac_settings {
+    size_t size;           /* sizeof(bac_settings): by this the library knows a program of another version, and refuses its settings */
     uint8_t link[6];       /* its own link */
     uint8_t max_apdu;      /* the longest APDU that it takes: 0 to 5 for 50, 128, 206, 480, 1024 and 1476 octets */
     bool takes_segments;   /* whether it takes replies in segments */
     uint8_t max_segments;  /* how many: 0 to 7 for unspecified, 2, 4, 8, 16, 32, 64 and more */
     uint8_t window;        /* the greatest window that it proposes or grants: 1 to 64 segments */
     size_t client_slots;   /* how many asks it holds, each until 135,000 ms after it was first sent, also once it has ended: 1 to 1024 */
-    size_t reply_slots;    /* how many requests it remembers, reads too, each for 65,000 ms: 1 to 1024; where all are, a new one is answered by Abort 0 */
+    size_t reply_slots;    /* how many requests it remembers, reads too, each for 65,000 ms: 1 to 1024. A request that is equal to a remembered one, of the same
+                              peer and under the same invoke ID, gets the old answer and is not performed. Where all slots are held, a new one is answered by
+                              Abort 0 */
+    uint64_t later;        /* 0: room for members of later versions */
 } bac_settings;
 
 /* APDUs of 1476 octets, any number of segments, windows of 32, 64 slots at each end (64 asks in 135,000 ms, 64 requests in 65,000), at that link. */
 #define BAC_SETTINGS(a, b, c, d, port_high, port_low) \
-    { { (uint8_t)(a), (uint8_t)(b), (uint8_t)(c), (uint8_t)(d), (uint8_t)(port_high), (uint8_t)(port_low) }, 5, true, 7, 32, 64, 64 }
+    { sizeof(bac_settings), { (uint8_t)(a), (uint8_t)(b), (uint8_t)(c), (uint8_t)(d), (uint8_t)(port_high), (uint8_t)(port_low) }, 5, true, 7, 32, 64, 64, 0 }
 
 /* Whom a node asks, and what that takes; codes as above. */
 typedef struct bac_target {
@@ -94,7 +106,7 @@ typedef struct bac_reference {
     uint32_t index;       /* an element of an array, or BAC_WHOLE */
 } bac_reference;
 
-enum {
+typedef enum bac_how {
     BAC_VALUES = 0,    /* a property was read: the octets are its values */
     BAC_DONE = 1,      /* a property was written */
     BAC_ERROR = 2,     /* class and code */
@@ -104,28 +116,55 @@ enum {
     BAC_EXPIRED = 6,   /* no end came within 60,000 ms */
     BAC_CONTENT = 7,   /* a file was read: the octets from position on; code is 1 where they reach its end */
     BAC_PLACED = 8     /* a file was written from position on */
-};
+} bac_how;
 
 /* How an ask ended. */
 typedef struct bac_ending {
     uint64_t ticket;
-    uint32_t how;
+    bac_how how;
     uint32_t class_;
     uint32_t code;
     int64_t position;
 } bac_ending;
 
-/* A request that the node performed; its priority, if it had one, is not told. */
+/* A request that the node performed. */
 typedef struct bac_act {
     uint8_t link[6];      /* the peer's link, or that of the router it is behind */
     uint8_t service;      /* 6 AtomicReadFile, 7 AtomicWriteFile, 12 ReadProperty, 15 WriteProperty; 0: none was performed */
     bool done;            /* false where it was answered with an Error, and changed nothing */
     uint16_t object_type;
+    uint8_t priority;     /* of a write of a property, 1 to 16; 0 where it has none, and of all else */
     uint32_t instance;
     uint32_t property;    /* 0 of a file */
     uint32_t index;       /* an element, or BAC_WHOLE; 0 of a file */
     int64_t position;     /* in the file, -1 its end (where done is false it may be the number of a record); 0 of a property */
 } bac_act;
+
+#define BAC_NO_OBJECT UINT64_MAX
+
+/* What is wrong with the objects that are listed. */
+typedef enum bac_flaw {
+    BAC_FLAW_NONE = 0,
+    BAC_FLAW_INSTANCE = 1,        /* instance 4,194,303, the wildcard */
+    BAC_FLAW_NAME = 2,            /* a name of more than 4,091 octets */
+    BAC_FLAW_FILE = 3,            /* a file without octets, octets without a file, or more than 60,000 of them */
+    BAC_FLAW_NUMBER = 4,          /* a property that is computed, or a number above 4,194,303 */
+    BAC_FLAW_TWICE = 5,           /* a property that the object lists twice */
+    BAC_FLAW_VALUES = 6,          /* values that this property cannot have, or more than 4,096 octets */
+    BAC_FLAW_LIMITS = 7,          /* limits that do not allow the values, or are of another kind */
+    BAC_FLAW_SAME_IDENTIFIER = 8, /* an earlier object has the same type and instance */
+    BAC_FLAW_SAME_NAME = 9,       /* an earlier object has the same name */
+    BAC_FLAW_SECOND_DEVICE = 10,  /* an earlier object is the device */
+    BAC_FLAW_TOO_MANY = 11,       /* more than 819 objects */
+    BAC_FLAW_NO_DEVICE = 12       /* no object is a device */
+} bac_flaw;
+
+/* The first object that bac_start_described refuses. */
+typedef struct bac_refused {
+    uint64_t object;   /* its place in the order in which the objects were listed, from 0; BAC_NO_OBJECT where no single one is refused */
+    uint32_t property; /* the property that is refused; BAC_WHOLE where the object is, for another reason */
+    bac_flaw flaw;
+} bac_refused;
 
 /* ---- opening and closing */
 
@@ -133,20 +172,36 @@ typedef struct bac_act {
 bac_status bac_open(bac_node *node);
 
 /* Frees all that the node has. */
-void bac_close(bac_node *node);
+void bac_release(bac_node *node);
+
+/* The same, and nothing where there is no node (NULL). */
+static inline void bac_close(bac_node *node)
+{
+    if (node != NULL) {
+        bac_release(node);
+    }
+}
 
 /* ---- objects: between bac_open and bac_start */
 
-/* Lists an object: type 0 analog-input, 2 analog-value, 5 binary-value, 8 device, 10 file, or 128 to 1,023; instance 0 to 4,194,302; name in UTF-8.
+/* Lists an object: its type (bac_start takes 0 analog-input, 2 analog-value, 5 binary-value, 8 device, 10 file and 128 to 1,023, bac_start_described all),
+ * its instance, 0 to 4,194,302, and its name in UTF-8.
  * BAC_BAD_OBJECT exactly where the type is above 1,023, the instance above 4,194,303, or the name no UTF-8; all else is looked at by bac_start.
  * BAC_NOT_OPEN, BAC_ALREADY_STARTED, BAC_NO_MEMORY. */
 bac_status bac_add_object(bac_node *node, uint16_t object_type, uint32_t instance, const uint8_t *name, size_t name_len);
 
 /* Lists a property of the object that was listed last: its values as octets of data (clause 20.2), and whether the network may write them. Number 28 is a
  * description, a CharacterString; 85 a present-value, a Real of the analog types, Enumerated 0 or 1 of a binary-value, any values of the others; 512 to
- * 4,194,303 are a vendor's own, with any values. An object's identifier, name and type, and a file's size and access method, come of themselves.
+ * 4,194,303 are a vendor's own, with any values. bac_start takes these alone; for bac_start_described see there. An object's identifier, name and type, and a
+ * file's size and access method, come of themselves.
  * BAC_BAD_OBJECT exactly where no object is listed, or the octets are no data; all else is looked at by bac_start. Otherwise as bac_add_object. */
 bac_status bac_add_property(bac_node *node, uint32_t number, const uint8_t *octets, size_t len, bool writable);
+
+/* Gives the property that was listed last limits, for what the network writes: the least and the greatest value, as octets of data, of the kind of its values
+ * (Real, Unsigned, Signed or Enumerated). A write outside is answered by Error 2:37, value-out-of-range, and changes nothing; bac_set_value has no limits.
+ * BAC_BAD_OBJECT exactly where the object that was listed last has no property, or the octets are no data; whether the limits fit the values is looked at by
+ * bac_start. Otherwise as bac_add_object. */
+bac_status bac_limit(bac_node *node, const uint8_t *least, size_t least_len, const uint8_t *greatest, size_t greatest_len);
 
 /* Gives the object that was listed last, a file, its octets. BAC_BAD_OBJECT exactly where no object is listed. Otherwise as bac_add_object. */
 bac_status bac_add_file(bac_node *node, const uint8_t *octets, size_t len, bool writable);
@@ -162,6 +217,19 @@ bac_status bac_start(bac_node *node, const bac_settings *settings);
  * ask is refused (BAC_NO_INVOKE_ID). */
 bac_status bac_start_restarted(bac_node *node, const bac_settings *settings, uint64_t now);
 
+/* Starts the node as bac_start does, with objects of any type and any properties: those that a document with `described = true` has. The object-list of the
+ * device is computed too. Present-values of the types 0, 1 and 2 are a Real, of 3, 4 and 5 Enumerated 0 or 1, of 13, 14 and 19 an Unsigned from 1 on. There is
+ * exactly one device, no two objects have one name, and there are at most 819. BAC_NOT_OPEN; BAC_ALREADY_STARTED; BAC_BAD_SETTINGS; BAC_NO_MEMORY;
+ * BAC_BAD_OBJECT: bac_problem says which, and why. */
+bac_status bac_start_described(bac_node *node, const bac_settings *settings);
+
+/* The same for a node that ran before, as bac_start_restarted. */
+bac_status bac_start_described_restarted(bac_node *node, const bac_settings *settings, uint64_t now);
+
+/* Puts out the first object that bac_start_described refuses; BAC_FLAW_NONE where it takes all that are listed. The node stays as it was. BAC_NOT_OPEN;
+ * BAC_ALREADY_STARTED; BAC_NO_MEMORY. */
+bac_status bac_problem(const bac_node *node, bac_refused *refused);
+
 /* Starts it with the house of `bac serve` instead: device 1, analog-input 5, analog-value 1, binary-value 1, file 1. BAC_NOT_OPEN, BAC_ALREADY_STARTED,
  * BAC_BAD_SETTINGS, BAC_NO_MEMORY. */
 bac_status bac_start_house(bac_node *node, const bac_settings *settings);
@@ -171,11 +239,12 @@ bac_status bac_start_house(bac_node *node, const bac_settings *settings);
 /* A datagram came. BAC_NOT_OPEN, BAC_NOT_STARTED, BAC_CLOCK_BACK; BAC_NO_MEMORY, never where the datagram is dropped. */
 bac_status bac_on(bac_node *node, uint64_t now, const uint8_t from[6], const uint8_t *octets, size_t len);
 
-/* Does what is due: repeats, and asks that end. BAC_NOT_OPEN, BAC_NOT_STARTED, BAC_CLOCK_BACK, BAC_NO_MEMORY. */
+/* Does all that is due, or nothing: repeats, and asks that end. BAC_NOT_OPEN, BAC_NOT_STARTED, BAC_CLOCK_BACK, BAC_NO_MEMORY: then wait, as all stays due. */
 bac_status bac_tick(bac_node *node, uint64_t now);
 
-/* The first moment at which bac_tick does anything; UINT64_MAX: none, or no node that is started. */
-uint64_t bac_next_due(bac_node *node);
+/* The first moment at which bac_tick does anything; UINT64_MAX: none, or no node that is started. It stays in the past while ticks are refused memory: a loop
+ * that waits until then has to wait some milliseconds more after BAC_NO_MEMORY, or it spins. */
+uint64_t bac_next_due(const bac_node *node);
 
 /* ---- asks: each puts out a ticket, which bac_end names later
  *
@@ -193,24 +262,32 @@ bac_status bac_ask_write(bac_node *node, uint64_t now, const bac_target *target,
 bac_status bac_ask_put(bac_node *node, uint64_t now, const bac_target *target, uint32_t file, int64_t position, const uint8_t *octets, size_t len,
                        uint64_t *ticket);
 
+/* Puts the octets at the end of the file. */
+static inline bac_status bac_ask_append(bac_node *node, uint64_t now, const bac_target *target, uint32_t file, const uint8_t *octets, size_t len,
+                                        uint64_t *ticket)
+{
+    return bac_ask_put(node, now, target, file, -1, octets, len, ticket);
+}
+
 bac_status bac_ask_get(bac_node *node, uint64_t now, const bac_target *target, uint32_t file, int64_t position, uint64_t count, uint64_t *ticket);
 
 /* ---- what came of the last call */
 
 /* How many datagrams are to be sent, and each, in order: where it goes, and its octets (at most 1,514). At an index that is not below bac_sends 0, and nothing
  * is put out. */
-size_t bac_sends(bac_node *node);
-size_t bac_send(bac_node *node, size_t index, uint8_t to[6], uint8_t *out, size_t room);
+size_t bac_sends(const bac_node *node);
+size_t bac_send(const bac_node *node, size_t index, uint8_t to[6], uint8_t *out, size_t room);
 
 /* How many asks have ended, and how each did, with the octets that came. At an index that is not below bac_ends 0, and nothing is put out. */
-size_t bac_ends(bac_node *node);
-size_t bac_end(bac_node *node, size_t index, bac_ending *ending, uint8_t *out, size_t room);
+size_t bac_ends(const bac_node *node);
+size_t bac_end(const bac_node *node, size_t index, bac_ending *ending, uint8_t *out, size_t room);
 
 /* The request that was performed, with the octets that it asks to write: where act->service is 7 or 15 and act->done holds, they were written: act on it. */
-size_t bac_performed(bac_node *node, bac_act *act, uint8_t *out, size_t room);
+size_t bac_performed(const bac_node *node, bac_act *act, uint8_t *out, size_t room);
 
-/* Why the last datagram was dropped: 0 it was not, 1 no BVLL, 2 no NPDU, 3 routed elsewhere, 4 a network message, 5 no APDU, 6 from the node's own link. */
-uint32_t bac_cause(bac_node *node);
+/* Why the last datagram was dropped: 0 it was not, 1 no BVLL that the node hears (also a broadcast or a forwarded NPDU), 2 no NPDU, 3 routed elsewhere, 4 a
+ * network message, 5 no APDU, 6 from the node's own link. */
+uint32_t bac_cause(const bac_node *node);
 
 /* ---- the node's own store: a change and a read take no time, send nothing, and leave what is there to be read of the last call
  *
@@ -223,20 +300,94 @@ bac_status bac_set_value(bac_node *node, uint16_t object_type, uint32_t instance
 
 /* Copies the values of a property out, computed ones too, and puts out how many octets they are. BAC_NO_SUCH_OBJECT; BAC_NO_SUCH_PROPERTY, also where an
  * element is meant: no property is an array. */
-bac_status bac_get_value(bac_node *node, const bac_reference *reference, uint8_t *out, size_t room, size_t *len);
+bac_status bac_get_value(const bac_node *node, const bac_reference *reference, uint8_t *out, size_t room, size_t *len);
 
 /* Sets all octets of a file, whether or not the network may write it. BAC_NO_SUCH_OBJECT, also where the object is no file; BAC_TOO_LONG (more than 60,000). */
 bac_status bac_set_file(bac_node *node, uint32_t file, const uint8_t *octets, size_t len);
 
 /* Copies all octets of a file out, and puts out how many they are. BAC_NO_SUCH_OBJECT, also where the object is no file. */
-bac_status bac_get_file(bac_node *node, uint32_t file, uint8_t *out, size_t room, size_t *len);
+bac_status bac_get_file(const bac_node *node, uint32_t file, uint8_t *out, size_t room, size_t *len);
+
+/* Adds octets to the end of a file, by way of memory that has room for all its octets and these: BAC_TOO_LONG where the room is less, or as bac_set_file. */
+static inline bac_status bac_append_file(bac_node *node, uint32_t file, const uint8_t *octets, size_t len, uint8_t *scratch, size_t room)
+{
+    size_t old = 0;
+    bac_status status = bac_get_file(node, file, scratch, room, &old);
+    if (status != BAC_OK) {
+        return status;
+    }
+    if (old > room || len > room - old) {
+        return BAC_TOO_LONG;
+    }
+    memcpy(scratch + old, octets, len);
+    return bac_set_file(node, file, scratch, old + len);
+}
 
 /* ---- how full the node is, at a moment: client slots that are held, and requests that are remembered */
 
-size_t bac_held(bac_node *node, uint64_t now);
-size_t bac_live(bac_node *node, uint64_t now);
+size_t bac_held(const bac_node *node, uint64_t now);
+size_t bac_live(const bac_node *node, uint64_t now);
 
 /* ---- texts */
+
+/* The names of the standard's numbers, as `bac` prints them. */
+typedef enum bac_kind {
+    BAC_OBJECT_TYPE = 0,
+    BAC_PROPERTY = 1,
+    BAC_ERROR_CLASS = 2,
+    BAC_ERROR_CODE = 3,
+    BAC_REJECT_REASON = 4,
+    BAC_ABORT_REASON = 5
+} bac_kind;
+
+/* Copies the name of a number out, as `present-value`, without a zero at its end: how many octets it has, at most 64; 0 where the standard has no such
+ * number. */
+size_t bac_name(uint32_t kind, uint32_t number, uint8_t *out, size_t room);
+
+/* The number of the name of an object type or a property; BAC_WHOLE where the standard has none. */
+uint32_t bac_number(uint32_t kind, const uint8_t *name, size_t name_len);
+
+/* The name, or else the decimal number, with a zero at its end; it is cut off where the room, at least 1, is too small. It returns out. */
+static inline char *bac_name_text(bac_kind kind, uint32_t number, char *out, size_t room)
+{
+    uint8_t name[64];
+    size_t len = bac_name((uint32_t)kind, number, name, sizeof name);
+    if (len == 0 || len > sizeof name) {
+        uint32_t rest = number;
+        uint8_t digits[10];
+        size_t count = 0;
+        do {
+            digits[count++] = (uint8_t)('0' + rest % 10);
+            rest /= 10;
+        } while (rest > 0);
+        for (len = 0; len < count; len++) {
+            name[len] = digits[count - 1 - len];
+        }
+    }
+    len = len < room ? len : room - 1;
+    memcpy(out, name, len);
+    out[len] = 0;
+    return out;
+}
+
+/* The text of how an ask ended. */
+static inline const char *bac_how_text(bac_how how)
+{
+    static const char *const texts[] = { "values", "done", "error", "reject", "abort", "timed out", "expired", "content", "placed" };
+    return (unsigned)how < sizeof texts / sizeof texts[0] ? texts[how] : "unknown ending";
+}
+
+/* The text of what is wrong with an object. */
+static inline const char *bac_flaw_text(bac_flaw flaw)
+{
+    static const char *const texts[] = {
+        "nothing is wrong", "instance 4194303 is the wildcard", "a name that is too long", "contents of a file that don't fit",
+        "a property that can't be listed",
+        "a property that is listed twice", "values that don't fit the property", "limits that don't fit the values",
+        "an identifier that an earlier object has", "a name that an earlier object has", "a second device", "too many objects", "no device"
+    };
+    return (unsigned)flaw < sizeof texts / sizeof texts[0] ? texts[flaw] : "unknown flaw";
+}
 
 /* The text of a status. */
 static inline const char *bac_text(bac_status status)
@@ -246,10 +397,11 @@ static inline const char *bac_text(bac_status status)
         "two objects of one type and instance", "bad request", "the peer is the node itself", "too long", "the peer takes too few segments",
         "no invoke ID is free", "no slot is free", "no such object", "no such property", "bad value"
     };
-    return status < sizeof texts / sizeof texts[0] ? texts[status] : "unknown status";
+    return (unsigned)status < sizeof texts / sizeof texts[0] ? texts[status] : "unknown status";
 }
 
-/* ---- values as octets of data (clause 20.2), and back. These are C, and no proof covers them: octets that are no data are refused by each call that takes them. */
+/* ---- values as octets of data (clause 20.2), and back. These are C, and no proof covers them: octets that are no data are refused by each call that takes
+ * them. */
 
 /* A Real, from the bits of an IEEE 754 single: five octets. */
 static inline void bac_put_real(uint8_t out[5], uint32_t bits)
@@ -261,6 +413,14 @@ static inline void bac_put_real(uint8_t out[5], uint32_t bits)
     out[4] = (uint8_t)bits;
 }
 
+/* A Real, from a float, which has to be an IEEE 754 single. */
+static inline void bac_put_float(uint8_t out[5], float value)
+{
+    uint32_t bits;
+    memcpy(&bits, &value, sizeof bits);
+    bac_put_real(out, bits);
+}
+
 /* Whether the octets are a Real, and its bits. */
 static inline bool bac_take_real(const uint8_t *octets, size_t len, uint32_t *bits)
 {
@@ -269,6 +429,26 @@ static inline bool bac_take_real(const uint8_t *octets, size_t len, uint32_t *bi
     }
     *bits = (uint32_t)octets[1] << 24 | (uint32_t)octets[2] << 16 | (uint32_t)octets[3] << 8 | octets[4];
     return true;
+}
+
+/* Whether the octets are a Real, and its value. */
+static inline bool bac_take_float(const uint8_t *octets, size_t len, float *value)
+{
+    uint32_t bits;
+    if (!bac_take_real(octets, len, &bits)) {
+        return false;
+    }
+    memcpy(value, &bits, sizeof bits);
+    return true;
+}
+
+/* Gives the property that was listed last, a Real, limits: as bac_limit. */
+static inline bac_status bac_limit_float(bac_node *node, float least, float greatest)
+{
+    uint8_t from[5], to[5];
+    bac_put_float(from, least);
+    bac_put_float(to, greatest);
+    return bac_limit(node, from, sizeof from, to, sizeof to);
 }
 
 /* An Unsigned (kind 2) or an Enumerated (kind 9; 0 and 1 are the states of a binary-value), in the fewest octets: how many they are. */

@@ -54,8 +54,15 @@ static int print_end(bac_node *node)
     case BAC_ERROR:
         printf("answered error %u:%u\n", (unsigned)end.class_, (unsigned)end.code);
         return 1;
+    case BAC_REJECT:
+    case BAC_ABORT: {
+        char reason[64];
+        bac_kind kind = end.how == BAC_REJECT ? BAC_REJECT_REASON : BAC_ABORT_REASON;
+        printf("ended %s %s\n", bac_how_text(end.how), bac_name_text(kind, end.code, reason, sizeof reason));
+        return 1;
+    }
     default:
-        printf("ended %u, code %u\n", (unsigned)end.how, (unsigned)end.code);
+        printf("ended %s\n", bac_how_text(end.how));
         return 1;
     }
 }
@@ -118,6 +125,7 @@ int main(int argc, char **argv)
                 continue;
             }
         } else if (bac_tick(&node, moment()) != BAC_OK) {
+            poll(NULL, 0, 50); /* no memory: what is due stays due, and would be tried again at once */
             continue;
         }
         send_all(&node, s);

@@ -1,6 +1,9 @@
-/* The heap that the library asks of the program: three functions over one allocator, aligned to 16. A heap of your own has the same three; where it
- * refuses to make a block longer, the old block stays. The library sees ok = false as a refusal, and answers BAC_NO_MEMORY. With -DHEAP_REFUSES the
- * allocation of number heap_refused (from 1) is refused, for tests. */
+/* The heap that the library asks of the program: three functions over malloc. The installed archive has them (include/Makefile) as weak symbols, so a program
+ * that defines the three itself uses its own.
+ *
+ * A heap of your own: a block begins at a multiple of align (a power of two, at most 16, as malloc's do) and has at least size octets; where it refuses to make
+ * a block longer, the old block stays. The library sees ok = false as a refusal, and answers BAC_NO_MEMORY. With -DHEAP_REFUSES the allocation of number
+ * heap_refused (from 1) is refused, for tests. */
 #include <stdbool.h>
 #include <stddef.h>
 #include <stdlib.h>
@@ -24,9 +27,15 @@ static heap_block block(void *at)
     return answer;
 }
 
-heap_block rattle_alloc(size_t size, size_t align);
-heap_block rattle_realloc(void *at, size_t kept, size_t size, size_t align);
-void rattle_dealloc(void *at);
+#if defined(__GNUC__) && !defined(HEAP_REFUSES)
+#define WEAK __attribute__((weak))
+#else
+#define WEAK
+#endif
+
+WEAK heap_block rattle_alloc(size_t size, size_t align);
+WEAK heap_block rattle_realloc(void *at, size_t kept, size_t size, size_t align);
+WEAK void rattle_dealloc(void *at);
 
 heap_block rattle_alloc(size_t size, size_t align)
 {

@@ -22,13 +22,6 @@ static uint64_t moment(void)
     return (uint64_t)t.tv_sec * 1000 + (uint64_t)t.tv_nsec / 1000000;
 }
 
-static void real(uint8_t out[5], float value)
-{
-    uint32_t bits;
-    memcpy(&bits, &value, sizeof bits);
-    bac_put_real(out, bits);
-}
-
 static void link_of(uint8_t link[6], const struct sockaddr_in *a)
 {
     memcpy(link, &a->sin_addr, 4);
@@ -72,7 +65,7 @@ static bac_status begin(bac_node *node, const bac_settings *settings)
     static const uint8_t controller[] = "controller", temperature[] = "temperature", setpoint[] = "setpoint", log[] = "log";
     uint8_t value[5];
     bac_status s = bac_open(node);
-    real(value, 20.0f);
+    bac_put_float(value, 20.0f);
     if (s == BAC_OK) { s = bac_add_object(node, DEVICE, 77, controller, sizeof controller - 1); }
     if (s == BAC_OK) { s = bac_add_object(node, ANALOG_INPUT, 1, temperature, sizeof temperature - 1); }
     if (s == BAC_OK) { s = bac_add_property(node, PRESENT_VALUE, value, sizeof value, false); }
@@ -110,9 +103,11 @@ int main(int argc, char **argv)
     fflush(stdout);
 
     uint64_t last = moment() + 1000 * (uint64_t)(argc > 3 ? atol(argv[3]) : 60), moves = moment() + 1000;
+    uint64_t back_off = 0; /* after a tick that was refused memory, none before that moment: what is due stays due */
     float degrees = 20.0f;
     while (left > 0 && moment() < last) {
         uint64_t due = bac_next_due(&node), now = moment();
+        if (due < back_off) { due = back_off; }
         uint64_t until = due < moves ? due : moves;
         struct pollfd p = { s, POLLIN, 0 };
         if (poll(&p, 1, until <= now ? 0 : (int)(until - now)) > 0) {
@@ -130,14 +125,16 @@ int main(int argc, char **argv)
             }
         }
         now = moment();
-        if (now >= due && bac_tick(&node, now) == BAC_OK) {
-            send_all(&node, s);
+        if (now >= due) {
+            bac_status ticked = bac_tick(&node, now);
+            if (ticked == BAC_OK) { send_all(&node, s); }
+            if (ticked == BAC_NO_MEMORY) { back_off = now + 50; }
         }
         if (now >= moves) {
             uint8_t value[5];
             moves += 1000;
             degrees += 0.5f;
-            real(value, degrees);
+            bac_put_float(value, degrees);
             if (bac_set_value(&node, ANALOG_INPUT, 1, PRESENT_VALUE, value, sizeof value) != BAC_OK) {
                 fprintf(stderr, "the temperature stays\n");
             }

@@ -59,10 +59,16 @@ static int closed_rows(bac_node *node)
     bac_reference r = { 0, 5, 85, BAC_WHOLE };
     bac_ending e;
     bac_act a;
+    bac_refused wrong = { 7, 7, BAC_FLAW_NONE };
     uint64_t ticket = 0;
+    bac_close(NULL);
     CALL(BAC_NOT_OPEN, bac_add_object(node, 8, 1, out, 1));
     CALL(BAC_NOT_OPEN, bac_add_property(node, 85, REAL_10, 5, true));
     CALL(BAC_NOT_OPEN, bac_add_file(node, out, 1, true));
+    CALL(BAC_NOT_OPEN, bac_limit(node, REAL_10, 5, REAL_20, 5));
+    CALL(BAC_NOT_OPEN, bac_problem(node, &wrong));
+    CALL(BAC_NOT_OPEN, bac_start_described(node, &s));
+    CALL(BAC_NOT_OPEN, bac_start_described_restarted(node, &s, 0));
     CALL(BAC_NOT_OPEN, bac_start(node, &s));
     CALL(BAC_NOT_OPEN, bac_start_restarted(node, &s, 0));
     CALL(BAC_NOT_OPEN, bac_start_house(node, &s));
@@ -76,6 +82,9 @@ static int closed_rows(bac_node *node)
     CALL(BAC_NOT_OPEN, bac_set_file(node, 1, out, 1));
     CALL(BAC_NOT_OPEN, bac_get_value(node, &r, out, sizeof out, &n));
     CALL(BAC_NOT_OPEN, bac_get_file(node, 1, out, sizeof out, &n));
+    CALL(BAC_NOT_OPEN, bac_append_file(node, 1, out, 1, many, sizeof many));
+    CALL(BAC_NOT_OPEN, bac_ask_append(node, 0, &t, 1, out, 1, &ticket));
+    HOLDS(wrong.object == 7 && wrong.property == 7);
     HOLDS(bac_next_due(node) == UINT64_MAX && bac_sends(node) == 0 && bac_ends(node) == 0 && bac_cause(node) == 0);
     HOLDS(bac_send(node, 0, to, out, sizeof out) == 0 && bac_end(node, 0, &e, out, sizeof out) == 0);
     HOLDS(bac_performed(node, &a, out, sizeof out) == 0 && a.service == 0);
@@ -163,6 +172,10 @@ static int own_rows(bac_node *node)
     HOLDS(n == 2 && out[0] == 'x');
     CALL(BAC_OK, bac_get_file(node, 1, out, sizeof out, &n));
     HOLDS(n == 2 && memcmp(out, "se", 2) == 0);
+    CALL(BAC_OK, bac_append_file(node, 1, name + 2, 1, out, 3));
+    CALL(BAC_TOO_LONG, bac_append_file(node, 1, name, 1, out, 3));
+    CALL(BAC_OK, bac_get_file(node, 1, out, sizeof out, &n));
+    HOLDS(n == 3 && memcmp(out, name, 3) == 0);
     n = 99;
     CALL(BAC_NO_SUCH_OBJECT, bac_get_file(node, 2, out, sizeof out, &n));
     CALL(BAC_BAD_REQUEST, bac_get_file(node, 4194304, out, sizeof out, &n));
@@ -197,11 +210,203 @@ static int edge_rows(bac_node *node)
     return 0;
 }
 
+/* what is wrong with the objects that are listed, as it is told, is this */
+static int tells(bac_node *node, uint64_t object, uint32_t property, bac_flaw flaw)
+{
+    bac_settings s = BAC_SETTINGS(127, 0, 0, 1, 0xBA, 0xC0);
+    bac_refused wrong = { 7, 7, BAC_FLAW_NONE };
+    CALL(BAC_OK, bac_problem(node, &wrong));
+    HOLDS(wrong.object == object && wrong.property == property && wrong.flaw == flaw);
+    if (flaw != BAC_FLAW_NONE) { CALL(BAC_BAD_OBJECT, bac_start_described(node, &s)); }
+    return 0;
+}
+
+/* objects of any type and property: each flaw, and a device with a state, units and its object-list */
+static int described_rows(bac_node *node)
+{
+    static const uint8_t two[] = { 0x21, 2 }, zero[] = { 0x21, 0 }, percent[] = { 0x91, 98 }, no[] = { 0x10 };
+    static const uint8_t list[] = { 0xC4, 2, 0, 0, 1, 0xC4, 3, 0x40, 0, 1 };
+    bac_settings s = BAC_SETTINGS(127, 0, 0, 1, 0xBA, 0xC0), old = s, grown = s;
+    bac_reference r = { 8, 1, 76, BAC_WHOLE };
+    bac_refused wrong;
+    old.size = sizeof s - 8;
+    grown.later = 1;
+    CALL(BAC_OK, bac_open(node));
+    if (tells(node, BAC_NO_OBJECT, BAC_WHOLE, BAC_FLAW_NO_DEVICE)) { return 1; }
+    CALL(BAC_OK, bac_add_object(node, 13, 1, (const uint8_t *)"fan", 3));
+    CALL(BAC_OK, bac_add_property(node, 85, two, 2, true));
+    CALL(BAC_OK, bac_add_property(node, 117, percent, 2, false));
+    CALL(BAC_OK, bac_add_property(node, 81, no, 1, true));
+    CALL(BAC_BAD_OBJECT, bac_start(node, &s));
+    CALL(BAC_OK, bac_add_object(node, 8, 1, (const uint8_t *)"device", 6));
+    if (tells(node, BAC_NO_OBJECT, BAC_WHOLE, BAC_FLAW_NONE)) { return 1; }
+    CALL(BAC_BAD_SETTINGS, bac_start_described(node, &old));
+    CALL(BAC_BAD_SETTINGS, bac_start_described(node, &grown));
+    CALL(BAC_OK, bac_start_described(node, &s));
+    CALL(BAC_ALREADY_STARTED, bac_start_described(node, &s));
+    CALL(BAC_ALREADY_STARTED, bac_limit(node, two, 2, two, 2));
+    CALL(BAC_ALREADY_STARTED, bac_problem(node, &wrong));
+    CALL(BAC_OK, bac_get_value(node, &r, out, sizeof out, &n));
+    HOLDS(n == sizeof list && memcmp(out, list, n) == 0);
+    CALL(BAC_BAD_VALUE, bac_set_value(node, 13, 1, 85, zero, 2));
+    CALL(BAC_OK, bac_set_value(node, 13, 1, 85, two, 2));
+    bac_close(node);
+
+    CALL(BAC_OK, bac_open(node));
+    CALL(BAC_OK, bac_add_object(node, 8, 1, (const uint8_t *)"device", 6));
+    CALL(BAC_OK, bac_start_described_restarted(node, &s, 1000));
+    CALL(BAC_CLOCK_BACK, bac_tick(node, 999));
+    bac_close(node);
+
+    CALL(BAC_OK, bac_open(node));
+    CALL(BAC_OK, bac_add_object(node, 8, 1, (const uint8_t *)"device", 6));
+    CALL(BAC_OK, bac_add_object(node, 13, 1, (const uint8_t *)"fan", 3));
+    CALL(BAC_OK, bac_add_property(node, 85, zero, 2, true));
+    if (tells(node, 1, 85, BAC_FLAW_VALUES)) { return 1; }
+    bac_close(node);
+
+    struct { uint16_t type; uint32_t instance; size_t name_len; uint32_t property, twice; bac_flaw flaw; } flaws[] = {
+        { 0, 4194303, 1, 512, 513, BAC_FLAW_INSTANCE }, { 0, 1, 4092, 512, 513, BAC_FLAW_NAME }, { 10, 1, 1, 512, 513, BAC_FLAW_FILE },
+        { 0, 1, 1, 76, 513, BAC_FLAW_NUMBER }, { 0, 1, 1, 512, 512, BAC_FLAW_TWICE }, { 8, 1, 1, 512, 513, BAC_FLAW_SAME_IDENTIFIER },
+        { 0, 1, 2, 512, 513, BAC_FLAW_SAME_NAME }, { 8, 2, 1, 512, 513, BAC_FLAW_SECOND_DEVICE }, { 0, 1, 1, 512, 513, BAC_FLAW_NONE }
+    };
+    for (size_t i = 0; i < sizeof flaws / sizeof flaws[0]; i++) {
+        bool of_property = flaws[i].flaw == BAC_FLAW_NUMBER || flaws[i].flaw == BAC_FLAW_TWICE, none = flaws[i].flaw == BAC_FLAW_NONE;
+        CALL(BAC_OK, bac_open(node));
+        CALL(BAC_OK, bac_add_object(node, 8, 1, many, 2));
+        CALL(BAC_OK, bac_add_object(node, flaws[i].type, flaws[i].instance, many, flaws[i].name_len));
+        CALL(BAC_OK, bac_add_property(node, flaws[i].property, two, 2, true));
+        CALL(BAC_OK, bac_add_property(node, flaws[i].twice, two, 2, true));
+        if (tells(node, none ? BAC_NO_OBJECT : 1, of_property ? flaws[i].property : BAC_WHOLE, flaws[i].flaw)) { return 1; }
+        bac_close(node);
+    }
+    for (unsigned i = 0; i < 13; i++) { HOLDS(strcmp(bac_flaw_text((bac_flaw)i), "unknown flaw") != 0); }
+    return 0;
+}
+
+/* a write of a set-point that is to be from 5.0 to 35.0: what is answered, and whether it is performed with that priority */
+static int writes(bac_node *node, uint8_t invoke, const uint8_t *value, uint8_t priority, const uint8_t *wanted, size_t wanted_len)
+{
+    uint8_t request[26] = { 0x81, 0x0A, 0, 24, 1, 4, 0, 5, 0, 15, 0x0C, 0, 0x80, 0, 1, 0x19, 85, 0x3E };
+    bac_act a;
+    request[8] = invoke;
+    memcpy(request + 18, value, 5);
+    request[23] = 0x3F;
+    if (priority != 0) {
+        request[3] = 26;
+        request[24] = 0x49;
+        request[25] = priority;
+    }
+    CALL(BAC_OK, bac_on(node, 1, THERE, request, request[3]));
+    n = bac_send(node, 0, to, out, sizeof out);
+    HOLDS(bac_sends(node) == 1 && n == wanted_len && out[8] == invoke);
+    out[8] = 0;
+    HOLDS(memcmp(out, wanted, n) == 0);
+    HOLDS(bac_performed(node, &a, out, sizeof out) == 5 && a.service == 15 && a.priority == priority && a.done == (wanted_len == 9));
+    return 0;
+}
+
+/* limits of a property: at them and one beyond */
+static int limited_rows(bac_node *node)
+{
+    static const uint8_t done[] = { 0x81, 0x0A, 0, 9, 1, 0, 0x20, 0, 15 }, outside[] = { 0x81, 0x0A, 0, 13, 1, 0, 0x50, 0, 15, 0x91, 2, 0x91, 37 };
+    static const uint32_t taken[] = { 0x40A00000, 0x41A00000, 0x420C0000 }, refused[] = { 0x409FFFFF, 0x420C0001, 0x7FC00000, 0xFF800000 };
+    static const uint8_t one[] = { 0x21, 1 };
+    bac_settings s = BAC_SETTINGS(127, 0, 0, 1, 0xBA, 0xC0);
+    uint8_t value[5];
+    for (unsigned described = 0; described < 2; described++) {
+        CALL(BAC_OK, bac_open(node));
+        CALL(BAC_BAD_OBJECT, bac_limit(node, REAL_10, 5, REAL_20, 5));
+        CALL(BAC_OK, bac_add_object(node, 8, 1, (const uint8_t *)"device", 6));
+        CALL(BAC_OK, bac_add_object(node, 2, 1, (const uint8_t *)"set", 3));
+        CALL(BAC_BAD_OBJECT, bac_limit(node, REAL_10, 5, REAL_20, 5));
+        CALL(BAC_OK, bac_add_property(node, 512, one, 2, true));
+        CALL(BAC_OK, bac_add_property(node, 85, REAL_20, 5, true));
+        CALL(BAC_BAD_OBJECT, bac_limit(node, REAL_10, 4, REAL_20, 5));
+        CALL(BAC_BAD_OBJECT, bac_limit(node, REAL_10, 5, REAL_20, 4));
+        CALL(BAC_OK, bac_limit(node, REAL_10, 5, REAL_10, 5));
+        if (tells(node, 1, 85, BAC_FLAW_LIMITS)) { return 1; }
+        CALL(BAC_BAD_OBJECT, bac_start(node, &s));
+        CALL(BAC_OK, bac_limit_float(node, 5.0f, 35.0f));
+        CALL(BAC_OK, described ? bac_start_described(node, &s) : bac_start(node, &s));
+        for (uint8_t i = 0; i < 3; i++) {
+            bac_put_real(value, taken[i]);
+            if (writes(node, i, value, (uint8_t)(i * 8), done, sizeof done)) { return 1; }
+        }
+        for (uint8_t i = 0; i < 4; i++) {
+            bac_put_real(value, refused[i]);
+            if (writes(node, (uint8_t)(3 + i), value, 0, outside, sizeof outside)) { return 1; }
+        }
+        bac_put_real(value, refused[0]);
+        CALL(BAC_OK, bac_set_value(node, 2, 1, 85, value, 5)); /* the node itself has no limits */
+        bac_close(node);
+    }
+    return 0;
+}
+
+/* docs/C.md, "Through a power cut": what a write changed is kept before its answer goes out, and is there at the next start */
+static int kept_rows(bac_node *node)
+{
+    static const uint8_t done[] = { 0x81, 0x0A, 0, 9, 1, 0, 0x20, 0, 15 };
+    bac_settings s = BAC_SETTINGS(127, 0, 0, 1, 0xBA, 0xC0);
+    bac_reference r = { 2, 1, 85, BAC_WHOLE };
+    uint8_t kept[4096];
+    size_t kept_len = 0;
+    memcpy(kept, REAL_20, kept_len = 5);
+    for (uint64_t life = 0; life < 2; life++) {
+        CALL(BAC_OK, bac_open(node));
+        CALL(BAC_OK, bac_add_object(node, 8, 1, (const uint8_t *)"device", 6));
+        CALL(BAC_OK, bac_add_object(node, 2, 1, (const uint8_t *)"set", 3));
+        CALL(BAC_OK, bac_add_property(node, 85, kept, kept_len, true));
+        CALL(BAC_OK, life == 0 ? bac_start_described(node, &s) : bac_start_described_restarted(node, &s, 0));
+        CALL(BAC_OK, bac_get_value(node, &r, out, sizeof out, &n));
+        HOLDS(n == 5 && memcmp(out, life == 0 ? REAL_20 : REAL_10, 5) == 0);
+        if (life == 0) {
+            if (writes(node, 7, REAL_10, 0, done, sizeof done)) { return 1; }
+            CALL(BAC_OK, bac_get_value(node, &r, kept, sizeof kept, &kept_len));
+        }
+        bac_close(node); /* the power is cut */
+    }
+    return 0;
+}
+
+/* names of the standard, both ways, and the texts of the header */
+static int name_rows(void)
+{
+    char text[64];
+    float value = 0;
+    uint8_t octets[5];
+    HOLDS(bac_version() == BAC_VERSION);
+    HOLDS(strcmp(bac_name_text(BAC_OBJECT_TYPE, 0, text, sizeof text), "analog-input") == 0);
+    HOLDS(strcmp(bac_name_text(BAC_PROPERTY, 85, text, sizeof text), "present-value") == 0);
+    HOLDS(strcmp(bac_name_text(BAC_ERROR_CLASS, 2, text, sizeof text), "property") == 0);
+    HOLDS(strcmp(bac_name_text(BAC_ERROR_CODE, 37, text, sizeof text), "value-out-of-range") == 0);
+    HOLDS(strcmp(bac_name_text(BAC_REJECT_REASON, 9, text, sizeof text), "unrecognized-service") == 0);
+    HOLDS(strcmp(bac_name_text(BAC_ABORT_REASON, 4, text, sizeof text), "segmentation-not-supported") == 0);
+    HOLDS(strcmp(bac_name_text(BAC_OBJECT_TYPE, 1023, text, sizeof text), "1023") == 0);
+    HOLDS(strcmp(bac_name_text(BAC_PROPERTY, 4294967295u, text, sizeof text), "4294967295") == 0);
+    HOLDS(strcmp(bac_name_text(BAC_PROPERTY, 85, text, 8), "present") == 0 && strcmp(bac_name_text(BAC_PROPERTY, 600, text, 1), "") == 0);
+    HOLDS(bac_name(6, 0, out, sizeof out) == 0 && bac_name(BAC_OBJECT_TYPE, 0, out, 3) == 12);
+    HOLDS(bac_number(BAC_OBJECT_TYPE, (const uint8_t *)"analog-value", 12) == 2 && bac_number(BAC_PROPERTY, (const uint8_t *)"units", 5) == 117);
+    HOLDS(bac_number(BAC_PROPERTY, (const uint8_t *)"unit", 4) == BAC_WHOLE && bac_number(BAC_ERROR_CODE, (const uint8_t *)"other", 5) == BAC_WHOLE);
+    for (uint32_t i = 0; i < 1024; i++) { /* none is longer than bac_name_text has room for */
+        HOLDS(bac_name(BAC_PROPERTY, i, out, sizeof out) <= 64 && bac_name(BAC_ERROR_CODE, i, out, sizeof out) <= 64);
+        n = bac_name(BAC_PROPERTY, i, out, sizeof out);
+        HOLDS(n == 0 || bac_number(BAC_PROPERTY, out, n) == i);
+    }
+    HOLDS(strcmp(bac_how_text(BAC_TIMED_OUT), "timed out") == 0 && strcmp(bac_text(BAC_BAD_VALUE), "bad value") == 0);
+    HOLDS(strcmp(bac_flaw_text(BAC_FLAW_NO_DEVICE), "no device") == 0 && strcmp(bac_flaw_text((bac_flaw)13), "unknown flaw") == 0);
+    bac_put_float(octets, 10.0f);
+    HOLDS(memcmp(octets, REAL_10, 5) == 0 && bac_take_float(REAL_20, 5, &value) && value == 20.0f && !bac_take_float(REAL_20, 4, &value));
+    return 0;
+}
+
 /* values as octets: each is data that the node takes, and is read back */
 static int value_rows(bac_node *node)
 {
     static const uint32_t numbers[] = { 0, 1, 255, 256, 65535, 65536, 16777215, 16777216, 4294967295u };
-    static const uint8_t three_hundred[] = { 0x22, 0x01, 0x2C }, active[] = { 0x91, 0x01 }, abc[] = { 0x74, 0, 'a', 'b', 'c' }, abcd[] = { 0x75, 5, 0, 'a', 'b', 'c', 'd' };
+    static const uint8_t three_hundred[] = { 0x22, 0x01, 0x2C }, active[] = { 0x91, 0x01 };
+    static const uint8_t abc[] = { 0x74, 0, 'a', 'b', 'c' }, abcd[] = { 0x75, 5, 0, 'a', 'b', 'c', 'd' };
     static char text[4001];
     static uint8_t data[4096];
     bac_settings s = BAC_SETTINGS(127, 0, 0, 1, 0xBA, 0xC0);
@@ -362,9 +567,9 @@ static int ask_rows(bac_node *client, bac_node *server)
     if (carry(client, server, 111)) { return 1; }
     HOLDS(bac_end(client, 0, &e, out, sizeof out) == 0 && e.ticket == 1 && e.how == BAC_DONE);
     n = bac_performed(server, &a, out, sizeof out);
-    HOLDS(a.service == 15 && a.done && a.property == 85 && n == 5 && memcmp(out, REAL_10, 5) == 0);
+    HOLDS(a.service == 15 && a.done && a.priority == 16 && a.property == 85 && n == 5 && memcmp(out, REAL_10, 5) == 0);
 
-    CALL(BAC_OK, bac_ask_put(client, 120, &t, 1, -1, more, 2, &ticket));
+    CALL(BAC_OK, bac_ask_append(client, 120, &t, 1, more, 2, &ticket));
     if (carry(client, server, 121)) { return 1; }
     HOLDS(bac_end(client, 0, &e, out, sizeof out) == 0 && e.how == BAC_PLACED && e.position == 2);
     n = bac_performed(server, &a, out, sizeof out);
@@ -395,6 +600,7 @@ static int ask_rows(bac_node *client, bac_node *server)
 
 static int rows(bac_node *client, bac_node *server)
 {
+    if (name_rows() || described_rows(client) || limited_rows(client) || kept_rows(client)) { return 1; }
     if (edge_rows(client) || value_rows(client) || restarted_rows(client) || limit_rows(client)) { return 1; }
     if (closed_rows(client) || house_rows(client) || own_rows(server) || ask_rows(client, server)) { return 1; }
     bac_close(client);
@@ -410,8 +616,35 @@ static int run(void)
     return failed;
 }
 
+/* as many objects as can be described, and one more */
+static int most_rows(bac_node *node)
+{
+    bac_settings s = BAC_SETTINGS(127, 0, 0, 1, 0xBA, 0xC0);
+    bac_reference r = { 8, 1, 76, BAC_WHOLE };
+    char name[16];
+    for (unsigned count = 819; count <= 820; count++) {
+        CALL(BAC_OK, bac_open(node));
+        CALL(BAC_OK, bac_add_object(node, 8, 1, (const uint8_t *)"device", 6));
+        for (unsigned i = 1; i < count; i++) {
+            CALL(BAC_OK, bac_add_object(node, 0, i, (const uint8_t *)name, (size_t)snprintf(name, sizeof name, "%u", i)));
+        }
+        if (tells(node, BAC_NO_OBJECT, BAC_WHOLE, count == 819 ? BAC_FLAW_NONE : BAC_FLAW_TOO_MANY)) { return 1; }
+        CALL(count == 819 ? BAC_OK : BAC_BAD_OBJECT, bac_start_described(node, &s));
+        if (count == 819) {
+            CALL(BAC_OK, bac_get_value(node, &r, many, sizeof many, &n));
+            HOLDS(n == 819 * 5);
+            memset(many, 0, sizeof many);
+        }
+        bac_close(node);
+    }
+    return 0;
+}
+
 int main(void)
 {
+    bac_node node = BAC_NODE_EMPTY;
+    if (most_rows(&node)) { return 1; }
+    heap_count = 0;
     if (run()) { return 1; }
     unsigned long all = heap_count;
     for (heap_refused = 1; heap_refused <= all; heap_refused++) {

@@ -1,5 +1,6 @@
 #!/usr/bin/env python3
-"""Holds include/bac.h against crates/bac_c: the same calls with the same parameters, the same members, the same numbers of statuses, a text for each.
+"""Holds include/bac.h against crates/bac_c: the same calls with the same parameters, the same members, the same version, the same numbers of statuses, a text
+for each number of an enum. A call may take a const node only where its contract says that it leaves the node as it was.
 
 header.py TOP [LIB]: TOP of the repository; of LIB, an archive, each call has to be there, and no other name that begins with bac_.
 """
@@ -13,7 +14,11 @@ header = re.sub(r"/\*.*?\*/", " ", (top / "include/bac.h").read_text(), flags=re
 code = "\n".join(p.read_text() for p in sorted((top / "crates/bac_c/src").glob("*.rt")))
 code = re.sub(r"//[^\n]*", "", code)
 
-NAMES = {"Handle": "bac_node", "Settings": "bac_settings", "Target": "bac_target", "Reference": "bac_reference", "End": "bac_ending", "Performed": "bac_act"}
+NAMES = {"Handle": "bac_node", "Settings": "bac_settings", "Target": "bac_target", "Reference": "bac_reference", "End": "bac_ending", "Performed": "bac_act",
+         "Refused": "bac_refused"}
+# enums of C are as wide as the numbers of the library
+ENUMS = {"bac_status": "uint32_t", "bac_how": "uint32_t", "bac_flaw": "uint32_t"}
+SAME = "handle.new.parked.device ≡ handle.old.parked.device"
 NUMBERS = {"u8": "uint8_t", "u16": "uint16_t", "u32": "uint32_t", "u64": "uint64_t", "i64": "int64_t", "usize": "size_t", "bool": "bool"}
 
 
@@ -34,8 +39,11 @@ def c_types(rust):
 
 def exports():
     calls = {}
-    for name, params, result in re.findall(r'pub extern "C" fn (\w+)\((.*?)\)(?: -> (\w+))?\s', code, flags=re.S):
-        types = [t for p in re.split(r",\s*(?![^\[]*\])", params.strip().rstrip(",")) for t in c_types(p.split(":", 1)[1].strip())]
+    for name, params, result, clauses in re.findall(r'pub extern "C" fn (\w+)\((.*?)\)(?: -> (\w+))?\s(.*?)\n\{', code, flags=re.S):
+        if re.search(r"ensures \w+ \{ " + re.escape(SAME) + r" \}", clauses):
+            params = params.replace("handle: &mut Handle", "handle: &Handle")
+        listed = [p for p in re.split(r",\s*(?![^\[]*\])", params.strip().rstrip(",")) if p]
+        types = [t for p in listed for t in c_types(p.split(":", 1)[1].strip())]
         calls[name] = (NUMBERS.get(result, "void"), types)
     return calls
 
@@ -44,13 +52,13 @@ def prototypes():
     calls = {}
     for result, name, params in re.findall(r"^(bac_status|void|uint64_t|uint32_t|size_t) (bac_\w+)\(([^)]*)\);", header, flags=re.M):
         types = []
-        for p in re.split(r",\s*", " ".join(params.split())):
+        for p in re.split(r",\s*", " ".join(params.split())) if params != "void" else []:
             array = "[6]" in p
             p = p.replace("[6]", "")
             kind = re.sub(r"\w+$", "", p).strip()
             kind = kind.replace(" *", "*").replace("*", " *")
             types.append(kind + " [6]" if array else kind)
-        calls[name] = ("uint32_t" if result == "bac_status" else result, types)
+        calls[name] = (ENUMS.get(result, result), types)
     return calls
 
 
@@ -67,7 +75,7 @@ def c_structs():
     structs = {}
     for body, name in re.findall(r"typedef struct \w+ \{(.*?)\} (\w+);", header, flags=re.S):
         members = re.findall(r"(\w+) (\w+)(\[6\])?;", body)
-        structs[name] = [(m.rstrip("_"), t + a) for t, m, a in members]
+        structs[name] = [(m.rstrip("_"), ENUMS.get(t, t) + a) for t, m, a in members]
     structs.pop("bac_node", None)
     return structs
 
@@ -78,21 +86,47 @@ def rust_statuses():
 
 
 def c_statuses():
-    body = re.search(r"enum \{\s*(BAC_OK.*?)\};", header, flags=re.S).group(1)
+    return members("bac_status")
+
+
+def members(enum):
+    """The members of an enum of the header, and their numbers."""
+    body = re.search(r"typedef enum " + enum + r" \{(.*?)\} " + enum + ";", header, flags=re.S).group(1)
     return {n: int(v) for n, v in re.findall(r"BAC_(\w+) = (\d+)", body)}
 
 
-def texts():
-    """How many statuses bac_text has a text for."""
-    body = re.search(r"texts\[\] = \{(.*?)\};", header, flags=re.S).group(1)
+def texts(function):
+    """How many numbers a function of the header has a text for."""
+    body = re.search(r"static inline const char \*" + function + r"\(.*?texts\[\] = \{(.*?)\};", header, flags=re.S).group(1)
     return len(re.findall(r'"[^"]+"', body))
 
 
+def versions():
+    """The versions of the code and of the header."""
+    ours = re.search(r"const VERSION: u32 = ([\d_]+);", code).group(1)
+    theirs = re.search(r"#define BAC_VERSION (\d+)", header).group(1)
+    return int(ours.replace("_", "")), int(theirs)
+
+
+def rust_flaws():
+    """The numbers of the flaws, which bac_c gives to those of bac_store."""
+    found = re.findall(r"DescriptionFlaw::(\w+) => (\d+),", code)
+    named = {"TooManyObjects": "TOO_MANY"}
+    flaws = {"FLAW_" + named.get(n, re.sub(r"(?<!^)(?=[A-Z])", "_", n).upper()): int(v) for n, v in found if n != "NoMemory"}
+    return flaws | {"FLAW_NONE": 0}
+
+
 wrong = 0
-if texts() != len(c_statuses()):
+for function, enum in (("bac_text", "bac_status"), ("bac_how_text", "bac_how"), ("bac_flaw_text", "bac_flaw")):
+    if texts(function) != len(members(enum)):
+        wrong += 1
+        print(f"{function}: {texts(function)} texts for {len(members(enum))} numbers")
+if versions()[0] != versions()[1]:
     wrong += 1
-    print(f"bac_text: {texts()} texts for {len(c_statuses())} statuses")
-for what, ours, theirs in [("calls", exports(), prototypes()), ("structs", rust_structs(), c_structs()), ("statuses", rust_statuses(), c_statuses())]:
+    print("version: code {}, header {}".format(*versions()))
+PAIRS = [("calls", exports(), prototypes()), ("structs", rust_structs(), c_structs()), ("statuses", rust_statuses(), c_statuses()),
+         ("flaws", rust_flaws(), members("bac_flaw"))]
+for what, ours, theirs in PAIRS:
     for name in sorted(ours.keys() | theirs.keys()):
         if ours.get(name) != theirs.get(name):
             wrong += 1

@@ -3,12 +3,13 @@
 #define _XOPEN_SOURCE 700
 #include "bac.h"
 
+#include <malloc.h>
 #include <stdio.h>
 #include <string.h>
 #include <time.h>
 #include <ucontext.h>
 
-enum { STACK = 1 << 20, PAINT = 0xA5, READS = 100000, FILE_LEN = 60000, TEXT_LEN = 4000, WIRE = 256 };
+enum { STACK = 1 << 20, STACK_LIMIT = 12 * 1024, PAINT = 0xA5, READS = 100000, FILE_LEN = 60000, TEXT_LEN = 4000, WIRE = 256 };
 
 extern unsigned long heap_count;
 
@@ -174,7 +175,8 @@ static int row(const char *name, void (*what)(void))
     size_t deep = on_stack(what);
     printf("%-36s %6lu allocations %6lu octets of stack\n", name, heap_count, (unsigned long)deep);
     if (status != BAC_OK) { printf("%s: %s\n", name, bac_text(status)); }
-    return status != BAC_OK;
+    if (deep > STACK_LIMIT) { printf("%s: more stack than docs/C.md says\n", name); }
+    return status != BAC_OK || deep > STACK_LIMIT;
 }
 
 static int single_rows(void)
@@ -211,6 +213,32 @@ static int segment_rows(uint8_t max_apdu, unsigned lost)
     return failed;
 }
 
+#if defined __GLIBC__ && __GLIBC_PREREQ(2, 33)
+/* the octets of the heap that a node takes that was started with so many slots, and no objects */
+static size_t heap_of(size_t client_slots, size_t reply_slots)
+{
+    bac_settings s = BAC_SETTINGS(127, 0, 0, 1, 0xBA, 0xC0);
+    size_t before = mallinfo2().uordblks, taken;
+    s.client_slots = client_slots;
+    s.reply_slots = reply_slots;
+    status = bac_open(&client);
+    if (!status) { status = bac_start(&client, &s); }
+    taken = mallinfo2().uordblks - before;
+    bac_close(&client);
+    return taken;
+}
+
+static void print_slots(void)
+{
+    size_t one = heap_of(1, 1);
+    printf("%lu octets of heap for a node of one slot at each end\n", (unsigned long)one);
+    printf("%lu octets a client slot, %lu a reply slot, at first\n", (unsigned long)((heap_of(1024, 1) - one) / 1023),
+           (unsigned long)((heap_of(1, 1024) - one) / 1023));
+}
+#else
+static void print_slots(void) {}
+#endif
+
 /* the least time of a read that is answered and copied out, of ten batches, in nanoseconds */
 static double fastest(void)
 {
@@ -234,6 +262,7 @@ int main(void)
 {
     int failed = single_rows();
     failed |= segment_rows(5, 0) | segment_rows(5, 7) | segment_rows(3, 0) | segment_rows(3, 7) | segment_rows(0, 0) | segment_rows(0, 7);
+    print_slots();
     start();
     printf("%.1f microseconds for a read that is answered and copied out\n", fastest() / 1000);
     stop();

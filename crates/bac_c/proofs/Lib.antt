@@ -1,7 +1,9 @@
 pub mod Copies
+pub mod Describes
 pub mod Files
 pub mod Heap
 pub mod LetsGo
+pub mod Limits
 pub mod Lists
 pub mod Numbers
 pub mod Refusals

@@ -1,8 +1,10 @@
 pub mod Asking
 pub mod Changing
+pub mod Describing
 pub mod Devices
 pub mod Endings
 pub mod Listing
+pub mod Names
 pub mod Parking
 pub mod Performing
 pub mod Ranges

@@ -1,15 +1,19 @@
 -- What is listed for a node that is to be started.
-use Rattle.std.specs.Prelude.{◌≡◌, ℕ, Bool, false, List, [], ◌∷◌, ◌++◌, Option, Some, None, MatchOption}
+use Rattle.std.specs.Prelude.{◌≡◌, ℕ, Bool, true, false, ◌&&◌, List, [], ◌∷◌, ◌++◌, Option, Some, None, MatchOption}
 use Rattle.bac_store.specs.AtNode.{is_data}
 use Rattle.bac_store.specs.Allowing.{Allowed}
 use Rattle.bac_store.specs.Kinds.{kind_of}
-use Rattle.bac_store.specs.Stores.{Object}
+use Rattle.bac_store.specs.Stores.{Object, Property}
 use Rattle.bac_c.specs.declared.device.Device.{Device}
 use Rattle.bac_c.specs.Starting.{listed_in}
 
 -- an object without properties and without a file
 abbrev pub bare : (object_type instance : ℕ) → (name : List ℕ) → Object
 bare t i name = record { id = record { kind = t; instance = i }; name = name; properties = []; file = None }
+
+abbrev pub has_some : List Property → Bool
+has_some [] = false
+has_some (p ∷ ps) = true
 
 -- an object with one more property
 abbrev pub with_property : (number : ℕ) → (values : List ℕ) → (writable : Bool) → Object → Object
@@ -23,6 +27,28 @@ with_property n values writable o =
 abbrev pub can_add : (values : List ℕ) → List Object → Bool
 can_add values [] = false
 can_add values (o ∷ os) = is_data values
+
+-- limits from a least to a greatest value, for the last of some properties
+abbrev pub with_limits : (least greatest : List ℕ) → List Property → List Property
+with_limits least greatest [] = []
+with_limits least greatest (p ∷ []) = record p { allowed = Allowed.Between least greatest } ∷ []
+with_limits least greatest (p ∷ q ∷ ps) = p ∷ with_limits least greatest (q ∷ ps)
+
+abbrev pub limited : (least greatest : List ℕ) → Object → Object
+limited least greatest o = record o { properties = with_limits least greatest o.properties }
+
+abbrev pub lists_property : Object → Bool
+lists_property o = has_some o.properties
+
+-- the object that was listed last has a property
+abbrev pub last_lists : List Object → Bool
+last_lists [] = false
+last_lists (o ∷ []) = lists_property o
+last_lists (o ∷ p ∷ os) = last_lists (p ∷ os)
+
+-- there is a property that can have limits, and the octets are data
+abbrev pub can_limit : (least greatest : List ℕ) → List Object → Bool
+can_limit least greatest os = is_data least && is_data greatest && last_lists os
 
 -- an object with octets of a file
 abbrev pub with_file : (octets : List ℕ) → (writable : Bool) → Object → Object

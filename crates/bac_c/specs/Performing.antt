@@ -21,13 +21,19 @@ abbrev pub is_done : reply.Reply → Bool
 is_done (reply.Reply.Error class code) = false
 is_done _ = true
 
-abbrev pub of_property : (service : ℕ) → (link : List ℕ) → (done : Bool) → Reference → Performed
-of_property service link done r =
+-- 0 stands for no priority
+abbrev pub priority_told : Option ℕ → ℕ
+priority_told None = 0
+priority_told (Some n) = n
+
+abbrev pub of_property : (service : ℕ) → (link : List ℕ) → (done : Bool) → Reference → (priority : ℕ) → Performed
+of_property service link done r priority =
     record {
       link = link;
       service = service;
       done = done;
       object_type = r.object.kind;
+      priority = priority;
       instance = r.object.instance;
       property = r.property;
       index = index_told r.index;
@@ -36,7 +42,7 @@ of_property service link done r =
 
 abbrev pub of_file : (service : ℕ) → (link : List ℕ) → (done : Bool) → ObjectId → (position : ℤ) → Performed
 of_file service link done f position =
-    record { link = link; service = service; done = done; object_type = f.kind; instance = f.instance; property = 0; index = 0; position = position }
+    record { link = link; service = service; done = done; object_type = f.kind; priority = 0; instance = f.instance; property = 0; index = 0; position = position }
 
 abbrev read_start : ReadAccess → ℤ
 read_start (ReadStream start count) = start
@@ -49,15 +55,15 @@ write_start (WriteRecords start count run) = start
 abbrev pub request_told : (link : List ℕ) → (done : Bool) → Request → Performed
 request_told link done (ReadFile f access) = of_file 6 link done f (read_start access)
 request_told link done (WriteFile f access) = of_file 7 link done f (write_start access)
-request_told link done (ReadProperty r) = of_property 12 link done r
-request_told link done (WriteProperty r values priority) = of_property 15 link done r
+request_told link done (ReadProperty r) = of_property 12 link done r 0
+request_told link done (WriteProperty r values priority) = of_property 15 link done r (priority_told priority)
 
 abbrev pub performed_told : world.Performed → Performed
 performed_told p = request_told p.key.peer.link (is_done p.reply) p.request
 
 abbrev pub nothing_performed : Performed
 nothing_performed =
-    record { link = 0 ∷ 0 ∷ 0 ∷ 0 ∷ 0 ∷ 0 ∷ []; service = 0; done = false; object_type = 0; instance = 0; property = 0; index = 0; position = pos 0 }
+    record { link = 0 ∷ 0 ∷ 0 ∷ 0 ∷ 0 ∷ 0 ∷ []; service = 0; done = false; object_type = 0; priority = 0; instance = 0; property = 0; index = 0; position = pos 0 }
 
 -- the request that was performed last is told, or that none was
 abbrev pub TellsAct : Option Device → Performed → Type 0

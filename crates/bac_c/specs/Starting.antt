@@ -1,6 +1,7 @@
 -- How a node is started.
-use Rattle.std.specs.Prelude.{◌≡◌, ℕ, Bool, ◌&&◌, IsTrue, List, Option, Some, MatchOption, map}
+use Rattle.std.specs.Prelude.{◌≡◌, ℕ, Bool, ◌==◌, ◌&&◌, IsTrue, List, Option, Some, MatchOption, map}
 use Rattle.bac_apdu.specs.Spelling.{codes_fit}
+use Rattle.bac_store.specs.Described.{IsDescribedBy}
 use Rattle.bac_store.specs.Made.{IsMadeOf, IsRefused}
 use Rattle.bac_store.specs.declared.store_fault.StoreFault.TheVariants as store_fault
 use Rattle.bac_store.specs.House.{house}
@@ -12,14 +13,15 @@ use Rattle.bac_node.specs.declared.config.Config.{Config}
 use Rattle.bac_c.specs.Devices.{IsIdle}
 use Rattle.bac_c.specs.declared.device.Device.{Device}
 use Rattle.bac_c.specs.declared.records.Settings.{Settings}
+use Rattle.bac_c.specs.declared.settings.TheConstants as settings
 
 -- the objects are no store, though no two have one identifier
 abbrev pub IsBad : List Object → Type 0
 IsBad objects = IsRefused objects store_fault.BadObject
 
--- each number is in its range
+-- the settings are of this version, and each number is in its range
 abbrev pub is_right : Settings → Bool
-is_right s = window_fits s.window && slots_fit s.client_slots && slots_fit s.reply_slots && codes_fit s.max_segments s.max_apdu
+is_right s = (s.size == settings.SETTINGS_SIZE) && (s.later == 0) && window_fits s.window && slots_fit s.client_slots && slots_fit s.reply_slots && codes_fit s.max_segments s.max_apdu
 
 -- the configuration says what the settings say
 pub record IsConfigOf (s : Settings) (c : Config) : Type 0 where
@@ -49,6 +51,17 @@ pub record IsStartedWith (s : Settings) (restart : Option ℕ) (objects : List O
   pub says : IsConfigOf s config
   pub started : IsStartedOf restart objects config node
 
+-- the same of a described store
+pub record IsDescribedWith (s : Settings) (restart : Option ℕ) (objects : List Object) (node : Node) : Type 0 where
+  pub config : Config
+  pub says : IsConfigOf s config
+  pub store : Store
+  pub described : IsDescribedBy objects store
+  pub fresh : node ≡ made_node config store restart
+
+abbrev pub IsDescribedNode : Settings → (restart : Option ℕ) → List Object → Option Node → Type 0
+IsDescribedNode s restart objects node = MatchOption node ⊥ (IsDescribedWith s restart objects)
+
 pub record IsHouseWith (s : Settings) (node : Option Node) : Type 0 where
   pub config : Config
   pub says : IsConfigOf s config
@@ -61,6 +74,9 @@ IsReady s d = IsIdle d × IsTrue (is_right s)
 -- the node runs with the listed objects, as the settings say
 abbrev pub HasStarted : Settings → (restart : Option ℕ) → (old new : Option Device) → Type 0
 HasStarted s restart old new = MatchOption old ⊥ (λ d. MatchOption new ⊥ (λ e. IsStartedWith s restart (listed_in d) e.node))
+
+abbrev pub HasDescribed : Settings → (restart : Option ℕ) → (old new : Option Device) → Type 0
+HasDescribed s restart old new = MatchOption old ⊥ (λ d. MatchOption new ⊥ (λ e. IsDescribedNode s restart (listed_in d) e.node))
 
 abbrev pub HasHouse : Settings → (new : Option Device) → Type 0
 HasHouse s new = MatchOption new ⊥ (λ e. IsHouseWith s e.node)

@@ -29,7 +29,7 @@ pub extern "C" fn bac_open(alloc: Global, handle: &mut Handle) -> u32
 
 /// Frees what a handle holds, if anything: it holds nothing from then on.
 #[unsafe(no_mangle)]
-pub extern "C" fn bac_close(alloc: Global, handle: &mut Handle)
+pub extern "C" fn bac_release(alloc: Global, handle: &mut Handle)
     ensures { handle.new.parked.device ≡ None }
 {
     let _device = handle.take(alloc);

@@ -2,9 +2,9 @@
 ghost use Rattle.std.specs.Prelude.{◌≡◌};
 ghost use Rattle.bac_node.specs.Views.{performed_view};
 ghost use Rattle.bac_service.specs.Values.{held};
-ghost use Rattle.bac_service.specs.Views.{owned_reply_view, owned_request_view, property_reference_view};
+ghost use Rattle.bac_service.specs.Views.{priority_view, owned_reply_view, owned_request_view, property_reference_view};
 ghost use Rattle.bac_value.specs.Views.{object_identifier_view};
-ghost use Rattle.bac_c.specs.Performing.{is_done, nothing_performed, octets_written, of_file as plain_file, of_property as plain_property, performed_told, request_told, TellsAct};
+ghost use Rattle.bac_c.specs.Performing.{is_done, nothing_performed, octets_written, of_file as plain_file, of_property as plain_property, performed_told, priority_told, request_told, TellsAct};
 ghost use Rattle.bac_c.specs.Results.{IsCopied};
 
 use crate::copying::copy_out;
@@ -12,7 +12,8 @@ use crate::handle::Handle;
 use crate::records::Performed;
 use bac_responder::Act;
 use bac_service::{
-    AnyReply, AnyRequest, OwnedReply, OwnedRequest, PropertyReference, ReadAccess, WriteAccess,
+    AnyReply, AnyRequest, OwnedReply, OwnedRequest, Priority, PropertyReference, ReadAccess,
+    WriteAccess,
 };
 use bac_value::ObjectIdentifier;
 use std::alloc::Global;
@@ -26,6 +27,7 @@ fn nothing() -> Performed
         service: 0,
         done: false,
         object_type: 0,
+        priority: 0,
         instance: 0,
         property: 0,
         index: 0,
@@ -33,14 +35,31 @@ fn nothing() -> Performed
     }
 }
 
-fn of_property(service: u8, link: [u8; 6], done: bool, reference: &PropertyReference) -> Performed
-    ensures { result ≡ plain_property service link done (property_reference_view reference.now) }
+/// The number of a priority; 0 where there is none.
+fn level(priority: &Option<Priority>) -> u8
+    ensures { result ≡ priority_told (priority_view priority.now) }
+{
+    match priority {
+        Some(priority) => priority.number,
+        None => 0,
+    }
+}
+
+fn of_property(
+    service: u8,
+    link: [u8; 6],
+    done: bool,
+    reference: &PropertyReference,
+    priority: u8,
+) -> Performed
+    ensures { result ≡ plain_property service link done (property_reference_view reference.now) priority }
 {
     Performed {
         link,
         service,
         done,
         object_type: reference.object.kind,
+        priority,
         instance: reference.object.instance,
         property: reference.property,
         index: reference.index.unwrap_or(u32::MAX),
@@ -62,6 +81,7 @@ fn of_file(
         service,
         done,
         object_type: file.kind,
+        priority: 0,
         instance: file.instance,
         property: 0,
         index: 0,
@@ -93,8 +113,10 @@ fn told(link: [u8; 6], done: bool, request: &OwnedRequest) -> Performed
             WriteAccess::Stream(stream) => of_file(7, link, done, &write.file, stream.start),
             WriteAccess::Records(records) => of_file(7, link, done, &write.file, records.start),
         },
-        AnyRequest::ReadProperty(reference) => of_property(12, link, done, reference),
-        AnyRequest::WriteProperty(write) => of_property(15, link, done, &write.reference),
+        AnyRequest::ReadProperty(reference) => of_property(12, link, done, reference, 0),
+        AnyRequest::WriteProperty(write) => {
+            of_property(15, link, done, &write.reference, level(&write.priority))
+        }
     }
 }
 

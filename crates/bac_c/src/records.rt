@@ -4,6 +4,8 @@
 #[repr(C)]
 #[derive(Clone, Copy, Debug, PartialEq, Eq)]
 pub struct Settings {
+    /// How many octets the settings have: [`SETTINGS_SIZE`](crate::settings::SETTINGS_SIZE).
+    pub size: usize,
     /// The node's own link: four octets of IPv4 address, and two of UDP port, the high one first.
     pub link: [u8; 6],
     /// The code of the longest APDU that it takes: 0 to 5 (50, 128, 206, 480, 1,024 and 1,476 octets).
@@ -18,6 +20,8 @@ pub struct Settings {
     pub client_slots: usize,
     /// How many entries the reply table has: 1 to 1,024.
     pub reply_slots: usize,
+    /// Zero: room for members of later versions.
+    pub later: u64,
 }
 
 /// How an ask ended.
@@ -76,6 +80,8 @@ pub struct Performed {
     pub done: bool,
     /// The object's type.
     pub object_type: u16,
+    /// The priority of a write of a property, 1 to 16; 0 where it has none, and of all other requests.
+    pub priority: u8,
     /// The object's instance.
     pub instance: u32,
     /// The property's number; 0 of a file.
@@ -84,4 +90,16 @@ pub struct Performed {
     pub index: u32,
     /// The position that was asked for in a file, -1 its end; 0 of a property.
     pub position: i64,
+}
+
+/// Why the objects that are listed can't be described.
+#[repr(C)]
+#[derive(Clone, Copy, Debug, PartialEq, Eq)]
+pub struct Refused {
+    /// The place of the first object that is refused, in the order in which they are listed, from 0; 2^64 - 1 where no single one is.
+    pub object: u64,
+    /// The number of the refused property; 2^32 - 1 where the object is refused for another reason.
+    pub property: u32,
+    /// What is wrong, 1 to 12 in the order of bac_store's `DescriptionFlaw`; 0 where nothing is.
+    pub flaw: u32,
 }

@@ -8,6 +8,9 @@ use crate::records::Settings;
 use bac_apdu::Limits;
 use bac_node::Config;
 
+/// How many octets the settings of this version have.
+pub const SETTINGS_SIZE: usize = 48;
+
 /// The configuration of a node; `BadSettings` exactly where one is outside its range.
 pub fn config_of(settings: &Settings) -> Result<Config, Fault>
     ensures says { IfOk result (IsConfigOf settings.now) }
@@ -17,6 +20,9 @@ pub fn config_of(settings: &Settings) -> Result<Config, Fault>
     ensures wrong { OnErr result (IsTrue (is_right settings.now) → ⊥) }
     ensures bad { OnErr result (IsErrOf result Fault.BadSettings) }
 {
+    if settings.size != SETTINGS_SIZE || settings.later != 0 {
+        return Err(Fault::BadSettings);
+    }
     if settings.window < 1 || settings.window > 64 {
         return Err(Fault::BadSettings);
     }

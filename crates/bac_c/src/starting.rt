@@ -55,7 +55,12 @@ fn made(
 }
 
 /// A node of a configuration whose numbers are right.
-fn node_of(alloc: Global, config: Config, store: Store, restart: Option<u64>) -> Result<Node, Fault>
+pub(crate) fn node_of(
+    alloc: Global,
+    config: Config,
+    store: Store,
+    restart: Option<u64>,
+) -> Result<Node, Fault>
     requires slots { has_slots config ≡ true }
     requires window { window_fits config.window ≡ true }
     ensures made { IfOk result (λ n. n ≡ made_node config store restart) }

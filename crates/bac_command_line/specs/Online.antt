@@ -95,6 +95,7 @@ pub record Serves (store : Store) (IsOn : Links) (IsClock : Clocks) (serving : S
   pub after : Timed
   pub node :
       IsAt IsOn serving.host serving.port (λ address. server_node serving.slots (restart_of serving.restarted start) address store) before.bound_node
+  pub reuse : before.bound_node.reuse ≡ serving.reuse
   pub clock : HasTold IsClock start before.told
   pub text : ServedText (patience_of serving start) (turns_of serving.turns) before after old new
 

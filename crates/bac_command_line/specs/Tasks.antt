@@ -1,7 +1,8 @@
 -- What a command line asks for, and what the status of doing it says.
-use Rattle.std.specs.Prelude.{ℕ, List, Option, map}
+use Rattle.std.specs.Prelude.{⊤, ℕ, List, Option, map}
 use Rattle.std.specs.Option.{option_map}
 use Rattle.bac_text.specs.declared.status.Status.{Status}
+use Rattle.bac_text.specs.declared.status.Status.TheVariants as status
 use Rattle.bac_command_line.specs.Asked.{AreAskedFrom}
 use Rattle.bac_command_line.specs.Files.{IsChartedFile, IsCheckedFile, IsExplainedFile, IsShownFile, IsSimulatedFile}
 use Rattle.bac_command_line.specs.Lines.{AreCheckedLines, IsDecodedFrom}
@@ -10,7 +11,15 @@ use Rattle.bac_command_line.specs.Online.{Clocks, IsAskedFrom, IsPair, Links}
 use Rattle.bac_command_line.specs.declared.task.Task.{Task}
 use Rattle.bac_command_line.specs.declared.task.Task.TheVariants as task
 
--- that very command was done: of that datagram, file, port or request
+-- what is told of the program has no fault: all of it was printed, or the status says why not
+abbrev pub IsTold : Status → Type 0
+IsTold status.Done = ⊤
+IsTold status.Faulty = ⊥
+IsTold status.CommandLine = ⊤
+IsTold status.Output = ⊤
+IsTold status.Memory = ⊤
+
+-- that very command was done; of files as a whole nothing more is said: of that datagram, file, port or request
 abbrev pub IsPerformed : (IsAt : (path : List ℕ) → (content : Option (List ℕ)) → Type 0)
     → Links → Clocks → Task → Status → (old new : Option (List ℕ)) → Type 0
 IsPerformed IsAt IsOn IsClock (task.Answer datagram objects) s old new =
@@ -27,3 +36,6 @@ IsPerformed IsAt IsOn IsClock (task.Serve serving objects) s old new =
 IsPerformed IsAt IsOn IsClock (task.Ask asking words) s old new = IsAskedFrom IsAt IsOn IsClock s asking (map (λ w. w.now) words.now) old new
 IsPerformed IsAt IsOn IsClock (task.AskLines asking path) s old new = AreAskedFrom IsAt IsOn IsClock s asking path.now old new
 IsPerformed IsAt IsOn IsClock task.Pair s old new = IsPair IsOn IsClock s old new
+IsPerformed IsAt IsOn IsClock (task.File asking file) s old new = ⊤
+IsPerformed IsAt IsOn IsClock (task.Backup asking backup) s old new = ⊤
+IsPerformed IsAt IsOn IsClock (task.Tell telling) s old new = IsTold s

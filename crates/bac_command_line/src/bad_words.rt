@@ -6,36 +6,50 @@ use bac_text::{Status, no_memory};
 use std::alloc::{AllocError, Global};
 use std::io::Write;
 
-/// `bad words`, and which is bad and what was wanted.
-fn bad_words_text(alloc: Global, words: &[&[u8]]) -> Result<Vec<u8>, AllocError> {
+/// Why words are refused of which each alone is good.
+fn whole_reason(words: &[&[u8]]) -> &'static str {
+    match words.first() {
+        Some(verb) if *verb == b"put".as_slice() || *verb == b"append".as_slice() => {
+            "the octets are too many for a file, or --raw is given, which wants a `get`"
+        }
+        _ => "--raw writes the octets of a file: a `get` wanted",
+    }
+}
+
+/// `bad words`, and which is bad and what was wanted: behind a colon, or on a line of its own.
+fn bad_words_text(alloc: Global, in_line: bool, words: &[&[u8]]) -> Result<Vec<u8>, AllocError> {
     let mut text = Vec::from_slice(alloc, b"bad words")?;
-    if let Some(bad) = bad_word(alloc, words)? {
-        text.extend_from_slice(b": ")?;
-        text.extend_from_slice(bad.text(alloc)?.as_slice())?;
+    match bad_word(alloc, words)? {
+        Some(bad) => {
+            let reason = bad.text(alloc)?;
+            let separator = if in_line { ": " } else { "\n" };
+            text.extend_from_slice(separator.as_bytes())?;
+            text.extend_from_slice(reason.as_slice())?;
+        }
+        None => {
+            text.push(b'\n')?;
+            text.extend_from_slice(whole_reason(words).as_bytes())?;
+        }
     }
     text.push(b'\n')?;
     Ok(text)
 }
 
-/// Complains of words that are no request: `bad words`, and where the text is wanted in words which is bad and what was wanted. An Err says that memory
-/// was refused.
+/// Complains of words that are no request: `bad words`, and which is bad and what was wanted, behind that where the text is wanted in words, otherwise on a line
+/// of its own. An Err says that memory was refused.
 pub(crate) fn print_bad_words<E: Write>(
     alloc: Global,
     in_words: bool,
     words: &[&str],
     err: &mut E,
 ) -> Result<(), AllocError> {
-    if in_words {
-        let mut octets = Vec::new(alloc);
-        for word in words {
-            octets.push(word.as_bytes())?;
-        }
-        let text = bad_words_text(alloc, &octets)?;
-        // if that fails too, only the status is left
-        let _ = err.write_all(&text);
-    } else {
-        let _ = err.writeln("bad words");
+    let mut octets = Vec::new(alloc);
+    for word in words {
+        octets.push(word.as_bytes())?;
     }
+    let text = bad_words_text(alloc, in_words, &octets)?;
+    // if that fails too, only the status is left
+    let _ = err.write_all(&text);
     Ok(())
 }
 
@@ -48,7 +62,7 @@ pub(crate) fn print_bad_line<E: Write>(
 ) -> Status
     ensures { IsStop result }
 {
-    let Ok(text) = bad_words_text(alloc, words) else {
+    let Ok(text) = bad_words_text(alloc, true, words) else {
         return no_memory(err);
     };
     // if that fails too, only the status is left

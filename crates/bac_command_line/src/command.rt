@@ -4,16 +4,19 @@ ghost use Rattle.bac_command_line.specs.Online.{OnClock, OnPort};
 ghost use Rattle.bac_command_line.specs.Tasks.{IsPerformed};
 
 use crate::asking_lines::ask_lines;
+use crate::backup::do_backup;
 use crate::environment::Environment;
+use crate::file_task::do_file_task;
 use crate::files::{OpenFiles, chart, check, explain, show, simulate};
 use crate::grammar::matches;
+use crate::help::tell;
 use crate::lines::{check_lines, decode};
 use crate::objects::{answer, serve};
 use crate::online::Machine;
+use crate::reasons::print_no_task;
 use crate::task::{Task, task_of};
 use crate::{file_words, online};
-use bac_text::{Status, complain, no_memory};
-use clap::ArgMatches;
+use bac_text::{Status, no_memory};
 use clap::error::ErrorKind;
 use std::alloc::Global;
 use std::io::Write;
@@ -45,14 +48,9 @@ fn perform<F: OpenFiles, M: Machine, O: Write, E: Write>(
         Task::Ask { asking, words } => { file_words::ask(environment, &asking, words, out, err) }
         Task::AskLines { asking, path } => { ask_lines(environment, &asking, path, out, err) }
         Task::Pair => online::pair(alloc, environment.machine, out, err),
-    }
-}
-
-/// Why there is nothing to be done.
-fn fault_of(matches: &ArgMatches<'_>) -> &'static str {
-    match matches.subcommand() {
-        Some(("serve" | "ask", _)) => "bad address",
-        _ => "no command",
+        Task::File { asking, file } => do_file_task(environment, &asking, file, out, err),
+        Task::Backup { asking, backup } => do_backup(environment, &asking, backup, out, err),
+        Task::Tell(telling) => tell(telling, out, err),
     }
 }
 
@@ -83,6 +81,6 @@ pub fn run<F: OpenFiles, M: Machine, O: Write, E: Write>(
     };
     match task_of(&matches, machine.shows_progress()) {
         Some(task) => perform(&environment, task, out, err),
-        None => complain(err, fault_of(&matches), Status::CommandLine),
+        None => print_no_task(&matches, err),
     }
 }

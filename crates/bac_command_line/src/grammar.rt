@@ -1,4 +1,6 @@
 //! Command lines, read by the table of commands.
+use crate::backup_words::backups;
+use crate::help_words::about;
 use crate::words::{Grammar, Need, OFFLINE, ONLINE, Word, WordForm};
 use clap::builder::ValueParser;
 use clap::{Arg, ArgAction, ArgMatches, Command};
@@ -19,6 +21,10 @@ fn formed<'a>(arg: Arg<'a>, name: &'a str, form: WordForm) -> Arg<'a> {
             .allow_negative_numbers(true),
         WordForm::Flag => arg.long(name).action(ArgAction::SetTrue),
         WordForm::Text(value) => text(arg, name, value),
+        WordForm::Choice(value, alone, choices) => text(arg, name, value)
+            .num_args(0..=1)
+            .default_missing_value(alone)
+            .value_parser(choices),
         WordForm::Number(value, most) => {
             let parser = ValueParser::unsigned(1, most);
             text(arg, name, value).value_parser(parser)
@@ -74,13 +80,21 @@ fn with_commands<'a>(
 fn offline<'a>(alloc: Global) -> Result<Command<'a>, clap::Error> {
     let bac = Command::new(alloc, "bac")
         .about("BACnet confirmed services, proved")
-        .subcommand_required(true);
+        .subcommand_required(true)
+        .disable_help_subcommand(true);
     with_commands(alloc, bac, OFFLINE)
+}
+
+/// The program with those and the commands that need a link.
+fn online<'a>(alloc: Global) -> Result<Command<'a>, clap::Error> {
+    with_commands(alloc, offline(alloc)?, ONLINE)
 }
 
 /// The program with all of its commands: a table a function, since the prover writes out what a function names.
 fn commands<'a>(alloc: Global) -> Result<Command<'a>, clap::Error> {
-    with_commands(alloc, offline(alloc)?, ONLINE)
+    let online = online(alloc)?;
+    let kept = with_commands(alloc, online, backups())?;
+    with_commands(alloc, kept, about())
 }
 
 /// What the words of a command line give. An Err is out of memory, or has the text for who wrote them.

@@ -4,12 +4,16 @@ ghost use Rattle.bac_command_line.specs.Files.{OnFile};
 ghost use Rattle.bac_command_line.specs.Lines.{AreCheckedLines, AreDecodedLines, IsDecodedFrom};
 
 use crate::files::{OpenFiles, reader_of};
+use crate::reasons::print_bad_digit;
 use bac_text::{Status, check_lines_over, decode_lines_over, decode_text_over};
 use std::alloc::Global;
 use std::io::Write;
 
 /// What stands for standard input in the place of a datagram.
 const STANDARD_INPUT: &str = "-";
+
+/// What may be between the digits of a datagram: white space, colons, and `0x` before a group.
+const SEPARATORS: &str = " \t:xX";
 
 /// The layers of the datagrams in a file, one on each line, in words or not. A file that cannot be opened: `cannot read` on `err`.
 fn decode_lines<F: OpenFiles, O: Write, E: Write>(
@@ -42,7 +46,8 @@ pub(crate) fn decode<F: OpenFiles, O: Write, E: Write>(
     if datagram == STANDARD_INPUT {
         decode_lines(alloc, files, in_words, datagram, out, err)
     } else {
-        decode_text_over(alloc, in_words, datagram, out, err)
+        let status = decode_text_over(alloc, in_words, datagram, out, err);
+        print_bad_digit(status, datagram, SEPARATORS, err)
     }
 }
 

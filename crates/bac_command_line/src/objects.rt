@@ -12,11 +12,12 @@ use crate::environment::Environment;
 use crate::files::{OpenFiles, opened};
 use crate::online;
 use crate::online::Machine;
+use crate::reasons::{print_bad_digit, print_document_fault, print_unread};
 use crate::serving::Serving;
 use bac_commands::answer_over;
 use bac_objects::{DocumentFault, read_objects};
 use bac_store::{Store, house};
-use bac_text::{Status, complain, no_memory};
+use bac_text::{Status, no_memory};
 use std::alloc::Global;
 use std::io;
 use std::io::{Read, Write};
@@ -24,6 +25,7 @@ use std::io::{Read, Write};
 /// All octets of a file. Where it cannot be read, `err` and the status say so.
 pub(crate) fn octets_of<F: Read + Drop, E: Write>(
     alloc: Global,
+    path: &str,
     file: F,
     err: &mut E,
 ) -> Result<Vec<u8>, Status>
@@ -35,7 +37,7 @@ pub(crate) fn octets_of<F: Read + Drop, E: Write>(
     match file.read_to_end(&mut octets) {
         Ok(_) => Ok(octets),
         Err(error) if error.kind() == io::ErrorKind::OutOfMemory => Err(no_memory(err)),
-        Err(_) => Err(complain(err, "cannot read", Status::CommandLine)),
+        Err(error) => Err(print_unread(path, &error, err)),
     }
 }
 
@@ -52,11 +54,7 @@ fn store_in<E: Write>(
     match read_objects(alloc, octets) {
         Ok(store) => Ok(store),
         Err(DocumentFault::NoMemory) => Err(no_memory(err)),
-        Err(fault) => {
-            // if that fails too, only the status is left
-            let _ = writeln!(err, "{path}: {fault}");
-            Err(Status::CommandLine)
-        }
+        Err(fault) => Err(print_document_fault(alloc, path, octets, &fault, err)),
     }
 }
 
@@ -71,7 +69,7 @@ fn store_from<F: Read + Drop, E: Write>(
     ensures store { IfOk result (λ s. MeansStore (F.remaining file) s) }
     ensures told { IfErr result IsStop }
 {
-    let octets = octets_of(alloc, file, err)?;
+    let octets = octets_of(alloc, path, file, err)?;
     store_in(alloc, path, &octets, err)
 }
 
@@ -103,8 +101,7 @@ fn answer_house<O: Write, E: Write>(
     }
 }
 
-/// What answers a datagram. A file that cannot be opened or read: `cannot read` on `err`; one that means no store: its path and why.
-pub(crate) fn answer<F: OpenFiles, O: Write, E: Write>(
+fn answer_from<F: OpenFiles, O: Write, E: Write>(
     alloc: Global,
     files: &F,
     datagram: &str,
@@ -122,6 +119,22 @@ pub(crate) fn answer<F: OpenFiles, O: Write, E: Write>(
         Ok(store) => answer_over(alloc, store, datagram, out, err),
         Err(status) => status,
     }
+}
+
+/// What answers a datagram. A file that cannot be opened or read: `cannot read` on `err`; one that means no store: its path and why.
+pub(crate) fn answer<F: OpenFiles, O: Write, E: Write>(
+    alloc: Global,
+    files: &F,
+    datagram: &str,
+    objects: Option<&str>,
+    out: &mut O,
+    err: &mut E,
+) -> Status
+    ensures { IsAnsweredFrom (OnFile F.is_file F.File.remaining) (option_map (λ p. p.now) objects.entry) datagram.now result
+        (O.contents out.old) (O.contents out.new) }
+{
+    let status = answer_from(alloc, files, datagram, objects, out, err);
+    print_bad_digit(status, datagram, "", err)
 }
 
 fn serve_house<M: Machine, O: Write, E: Write>(

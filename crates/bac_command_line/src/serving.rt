@@ -5,7 +5,8 @@ ghost use Rattle.bac_commands.specs.Reports.{ReportsServing};
 ghost use Rattle.bac_text.specs.declared.status.Status.TheVariants as status;
 ghost use Rattle.bac_command_line.specs.Serving.{patience_of, restart_of, turns_of};
 
-use crate::address::{LOCAL_HOST, read_host};
+use crate::address::{BACNET_PORT, LOCAL_HOST, read_host};
+use crate::log_level::{LevelLog, LogLevel};
 use crate::station::Station;
 use bac_commands::{ServeCommand, link_fault};
 use bac_driver::{Clock, Link, NoObserver, RunLimit, WaitLimit};
@@ -33,8 +34,10 @@ pub(crate) struct Serving {
     pub slots: usize,
     /// Whether it served before, and lost what it remembered.
     pub restarted: bool,
-    /// Whether its turns are logged.
-    pub log: bool,
+    /// Whether it lets clients use an invoke ID again as soon as its transaction is over.
+    pub reuse: bool,
+    /// Which of its turns are logged; None for none.
+    pub log: Option<LogLevel>,
 }
 
 impl Serving {
@@ -118,6 +121,62 @@ pub(crate) fn print_listening<E: Write>(
     }
 }
 
+/// Tells that a log is not whole, where it is not.
+fn print_log_fault<E: Write>(is_whole: bool, err: &mut E) {
+    if !is_whole {
+        // if that fails too, nothing is printed
+        let _ = err.writeln("log fault");
+    }
+}
+
+/// A node serves, and each turn is logged on `err`.
+fn serve_lines<L: Link, C: Clock, O: Write, E: Write>(
+    serves_from: u64,
+    limit: RunLimit,
+    station: &mut Station<L, C>,
+    out: &mut O,
+    err: &mut E,
+) -> Status
+    ensures { ReportsServing result limit.wait_limit limit.turns (timed station.old.bound_node (C.told station.old.clock))
+        (timed station.new.bound_node (C.told station.new.clock)) (O.contents out.old) (O.contents out.new) }
+{
+    let command = ServeCommand { limit, serves_from };
+    let logged = bac_commands::serve_logged(
+        station.alloc,
+        &mut station.bound_node,
+        &mut station.clock,
+        &command,
+        out,
+        err,
+    );
+    print_log_fault(logged.whole, err);
+    logged.status
+}
+
+/// A node serves, and the turns of a level are logged on `err`.
+fn serve_by_level<L: Link, C: Clock, O: Write, E: Write>(
+    log: LevelLog,
+    limit: RunLimit,
+    station: &mut Station<L, C>,
+    out: &mut O,
+    err: &mut E,
+) -> Status
+    ensures { ReportsServing result limit.wait_limit limit.turns (timed station.old.bound_node (C.told station.old.clock))
+        (timed station.new.bound_node (C.told station.new.clock)) (O.contents out.old) (O.contents out.new) }
+{
+    let mut log = log;
+    let status = bac_commands::serve(
+        &mut station.bound_node,
+        &mut station.clock,
+        &limit,
+        &mut log,
+        out,
+        err,
+    );
+    print_log_fault(log.whole, err);
+    status
+}
+
 /// A node serves from that moment on, and its turns are logged on `err` where that is wanted; where a line of the log could not be written, `log fault` ends it.
 pub(crate) fn serve_from<L: Link, C: Clock, O: Write, E: Write>(
     serving: &Serving,
@@ -133,35 +192,27 @@ pub(crate) fn serve_from<L: Link, C: Clock, O: Write, E: Write>(
         turns: serving.most_turns(),
         wait_limit: serving.wait_limit(start),
     };
-    if !serving.log {
-        return bac_commands::serve(
+    match serving.log {
+        None => bac_commands::serve(
             &mut station.bound_node,
             &mut station.clock,
             &limit,
             &mut NoObserver,
             out,
             err,
-        );
+        ),
+        Some(LogLevel::Lines) => serve_lines(serving.serves_from(start), limit, station, out, err),
+        Some(level) => {
+            let log = LevelLog {
+                alloc: station.alloc,
+                level,
+                serves_from: serving.serves_from(start),
+                whole: true,
+            };
+            serve_by_level(log, limit, station, out, err)
+        }
     }
-    let command = ServeCommand {
-        limit,
-        serves_from: serving.serves_from(start),
-    };
-    let logged = bac_commands::serve_logged(
-        station.alloc,
-        &mut station.bound_node,
-        &mut station.clock,
-        &command,
-        out,
-        err,
-    );
-    if !logged.whole {
-        // if that fails too, nothing is printed
-        let _ = err.writeln("log fault");
-    }
-    logged.status
 }
-
 /// How many slots each end has where nothing is said: 64 of a run of so many turns, otherwise all that there can be.
 fn slots_without_word(turns: Option<u64>) -> usize {
     match turns {
@@ -170,7 +221,13 @@ fn slots_without_word(turns: Option<u64>) -> usize {
     }
 }
 
-/// None where there is no port, or what is given is no address.
+/// Which turns are to be logged, if any.
+fn log_of(given: &ArgMatches<'_>) -> Option<LogLevel> {
+    let word = given.get_str("log")?;
+    Some(LogLevel::of(word))
+}
+
+/// None where what is given is no address.
 pub(crate) fn serving_of(given: &ArgMatches<'_>) -> Option<Serving> {
     let host = match given.get_str("at") {
         Some(text) => read_host(text)?,
@@ -180,11 +237,12 @@ pub(crate) fn serving_of(given: &ArgMatches<'_>) -> Option<Serving> {
     let slots: Option<usize> = given.get_one("slots");
     Some(Serving {
         host,
-        port: given.get_one("port")?,
+        port: given.get_one("port").unwrap_or(BACNET_PORT),
         turns,
         seconds: given.get_one("seconds"),
         slots: slots.unwrap_or(slots_without_word(turns)),
         restarted: given.get_flag("restarted"),
-        log: given.get_flag("log"),
+        reuse: given.get_flag("reuse"),
+        log: log_of(given),
     })
 }

@@ -7,6 +7,7 @@ use crate::files::OpenFiles;
 use crate::online::Machine;
 use bac_driver::{MonotonicClock, UdpLink};
 use bac_npdu::LinkAddress;
+use std::io::Write;
 use std::net::Net;
 use std::rt::Files;
 use std::time::{SystemTime, UNIX_EPOCH};
@@ -40,6 +41,15 @@ impl<R: Files> OpenFiles for System<'_, R> {
     fn open(&self, path: &str) -> io::Result<R::File> {
         let path = if path == "-" { STANDARD_INPUT } else { path };
         fs::open(self.runtime, path)
+    }
+
+    fn write(&self, path: &str, octets: &[u8]) -> io::Result<()> {
+        let mut file = fs::create(self.runtime, path)?;
+        file.write_all(octets)
+    }
+
+    fn make_folder(&self, path: &str) -> io::Result<()> {
+        fs::create_dir_all(self.runtime, path)
     }
 }
 

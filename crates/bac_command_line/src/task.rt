@@ -1,6 +1,9 @@
 //! What a command line asks for.
 use crate::asking::{Asking, asking_of};
+use crate::backup::BackupTask;
+use crate::file_task::FileTask;
 use crate::files::{CaptureFile, ScriptFile};
+use crate::help::Telling;
 use crate::serving::{Serving, serving_of};
 use bac_explain_report::ChartFormat;
 use bac_simulate::View;
@@ -54,8 +57,20 @@ pub(crate) enum Task<'m, 'a> {
         asking: Asking,
         path: &'a str,
     },
+    /// A file of a node as a whole.
+    File {
+        asking: Asking,
+        file: FileTask<'a>,
+    },
+    /// All files of a node, kept in a folder or brought back from it.
+    Backup {
+        asking: Asking,
+        backup: BackupTask<'a>,
+    },
     /// Two nodes.
     Pair,
+    /// What is told of the program.
+    Tell(Telling<'a>),
 }
 
 /// What the run of a script is to be shown as; None where each event is printed.
@@ -143,9 +158,24 @@ pub(crate) fn task_of<'m, 'a>(
                 return Some(Task::AskLines { asking, path });
             }
             let words = given.get_strs("WORDS")?;
-            Some(Task::Ask { asking, words })
+            match FileTask::of(words, given.get_str("out")) {
+                Some(file) => Some(Task::File { asking, file }),
+                None => Some(Task::Ask { asking, words }),
+            }
         }
+        ("backup", given) => Some(Task::Backup {
+            asking: asking_of(given, shows_progress)?,
+            backup: BackupTask::Backup(given.get_str("FOLDER")?),
+        }),
+        ("restore", given) => Some(Task::Backup {
+            asking: asking_of(given, shows_progress)?,
+            backup: BackupTask::Restore(given.get_str("FOLDER")?),
+        }),
         ("pair", _) => Some(Task::Pair),
+        ("help", given) if given.get_flag("man") => Some(Task::Tell(Telling::Manual)),
+        ("help", given) => Some(Task::Tell(Telling::Help(given.get_str("COMMAND")))),
+        ("version", _) => Some(Task::Tell(Telling::Version)),
+        ("completion", _) => Some(Task::Tell(Telling::Completion)),
         _ => None,
     }
 }

@@ -1,4 +1,5 @@
 //! The commands, what each takes, and their help.
+use crate::log_level::LEVELS;
 
 /// How a word of a command is given.
 #[derive(Clone, Copy)]
@@ -11,6 +12,8 @@ pub(crate) enum WordForm {
     Flag,
     /// By its name, with a text after it; this is what help calls that text.
     Text(&'static str),
+    /// By its name, alone or with one of these words after it; this is what help calls that word, and the word that it means alone.
+    Choice(&'static str, &'static str, &'static [&'static str]),
     /// By its name, with a number after it, from 1 to the one given here.
     Number(&'static str, u64),
 }
@@ -240,9 +243,9 @@ const SERVE: &[Word] = &[
     Word {
         name: "port",
         form: WordForm::Number("P", 65_535),
-        need: Need::Always,
+        need: Need::Never,
         against: &[],
-        help: "The UDP port to listen on, 1 to 65535",
+        help: "The UDP port to listen on, 1 to 65535; 47808 by default",
     },
     Word {
         name: "turns",
@@ -280,6 +283,13 @@ const SERVE: &[Word] = &[
         help: "The server ran before and has lost what it remembered: it refuses new requests for 65 seconds, until no repeat of an old one should arrive",
     },
     Word {
+        name: "reuse",
+        form: WordForm::Flag,
+        need: Need::Never,
+        against: &[],
+        help: "Lets a client use an invoke ID again as soon as its transaction is over: reads always tell the present value, and another request than the one answered is performed",
+    },
+    Word {
         name: "objects",
         form: WordForm::Text("FILE"),
         need: Need::Never,
@@ -288,16 +298,16 @@ const SERVE: &[Word] = &[
     },
     Word {
         name: "log",
-        form: WordForm::Flag,
+        form: WordForm::Choice("LEVEL", "lines", LEVELS),
         need: Need::Never,
         against: &[],
-        help: "Logs each datagram that arrives, and what was done for it, on standard error",
+        help: "Logs each datagram that arrives, and what was done for it, on standard error. With `changes` only the requests that changed something, with `requests` those that were performed, with `all` everything; of long octets these levels show the first 32, and how many there are",
     },
 ];
 
 /// The requests of `ask`.
 const WORDS_HELP: &str =
-    "The request: `read T:I P`, `write T:I P VALUE..`, `append T:I HEX`, `put T:I POS HEX` or `get T:I POS COUNT`";
+    "The request: `read T:I P`, `write T:I P VALUE..`, `append T:I HEX`, `put T:I POS HEX` or `get T:I POS COUNT`; or a file as a whole: `get T:I` or `put T:I @FILE`";
 
 /// The parts of a request, and examples for `ask`.
 const ASK_EXAMPLES: &str = "\
@@ -366,6 +376,13 @@ const ASK: &[Word] = &[
         need: Need::Never,
         against: &["text"],
         help: "For `get`: writes only the octets of the file; if there are none, standard error says how the ask ended, and the status is 1",
+    },
+    Word {
+        name: "out",
+        form: WordForm::Text("FILE"),
+        need: Need::Beside("WORDS"),
+        against: &["lines", "raw", "every"],
+        help: "For `get T:I`: writes the octets to FILE, and prints how many they are",
     },
     Word {
         name: "lines",

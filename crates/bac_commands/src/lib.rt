@@ -21,6 +21,7 @@ pub use facts::{
     ending_words, print_asked, print_changed, print_ended, print_ending, print_ending_line,
     print_fault, print_nothing, print_performed, print_refused, print_sent,
 };
+pub use lines::turn_lines;
 pub use online::{
     AskCommand, CommandError, OutputFormat, Style, TURNS, ask, bound_client, bound_house,
     bound_server, clock_fault, link_fault, pair, print_ask_end, read_question, serve,

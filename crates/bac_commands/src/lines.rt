@@ -195,8 +195,11 @@ fn rest_text(alloc: Global, turn: &Turn) -> Result<Vec<u8>, AllocError>
     Ok(text)
 }
 
-/// All lines of a turn, of a server that serves from a moment on.
-pub(crate) fn turn_lines(
+/// The lines of a turn, each with a line feed, as `serve --log` prints them: of the datagram that came with what was done, and of each thing else that the turn
+/// gave; none where it did nothing. They are those of a server that performs requests from the moment `serves_from` on, in milliseconds.
+///
+/// An Err says that an allocation failed.
+pub fn turn_lines(
     alloc: Global,
     serves_from: u64,
     node: &Node,

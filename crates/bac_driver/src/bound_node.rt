@@ -1,7 +1,7 @@
 //! A bound node: a node on its link, with a buffer for what comes, and one turn of it.
 //!
 //! Programs, `serving`, `asking` and `pairing` call it. The methods and their contracts are the interface; the fields and the private methods may change.
-ghost use Rattle.std.specs.Prelude.{◌≡◌, ◌↔◌, ◌<◌, ◌≤◌, length, IfOk, IfErr, IfSome, IsErrOf, OnErr};
+ghost use Rattle.std.specs.Prelude.{◌≡◌, ◌↔◌, false, ◌<◌, ◌≤◌, length, IfOk, IfErr, IfSome, IsErrOf, OnErr};
 ghost use Rattle.bac_driver.specs.Calls.{one_more, with_call};
 ghost use Rattle.bac_driver.specs.Calls.Call.{FailedReceive};
 ghost use Rattle.bac_node.specs.Calls.{Refuses};
@@ -38,6 +38,7 @@ pub struct BoundNode<L: Link> {
     node: Node,
     link: L,
     buffer: Vec<u8>,
+    reuse: bool,
 }
 
 impl<L: Link> Model for BoundNode<L> {
@@ -46,21 +47,42 @@ impl<L: Link> Model for BoundNode<L> {
 
     ghost Value = { stations.BoundNode };
 
-    ghost view = { λ s. record { node = s.node; failures = L.failures s.link; calls = L.calls s.link; buffer = s.buffer.items } };
+    ghost view = { λ s. record { node = s.node; failures = L.failures s.link; calls = L.calls s.link; buffer = s.buffer.items; reuse = s.reuse } };
 
     ghost invariant = { λ s. length s.buffer.items ≡ stations.BUFFER };
 }
 
 impl<L: Link> BoundNode<L> {
-    /// Binds a node to a link. `NoMemory` where the buffer can't be allocated.
+    /// Binds a node to a link. It does not let clients use invoke IDs again (`set_reuse`). `NoMemory` where the buffer can't be allocated.
     pub fn new(alloc: Global, node: Node, link: L) -> Result<BoundNode<L>, NoMemory>
         ensures node { IfOk result (λ s. s.node ≡ node) }
         ensures failures { IfOk result (λ s. s.failures ≡ L.failures link) }
         ensures calls { IfOk result (λ s. s.calls ≡ L.calls link) }
+        ensures reuse { IfOk result (λ s. s.reuse ≡ false) }
     {
         let mut buffer = Vec::new(alloc);
         buffer.resize(BUFFER, 0)?;
-        Ok(BoundNode { node, link, buffer })
+        Ok(BoundNode {
+            node,
+            link,
+            buffer,
+            reuse: false,
+        })
+    }
+
+    /// Sets whether its node lets clients use an invoke ID again as soon as its transaction is over (clause 5.4): it then takes datagrams by
+    /// [`Node::on_reusing`](bac_node::Node::on_reusing), otherwise by [`Node::on`](bac_node::Node::on). Call it before the first turn.
+    pub fn set_reuse(&mut self, reuse: bool)
+        ensures { self.new ≡ record self.old { reuse = reuse } }
+    {
+        self.reuse = reuse;
+    }
+
+    /// Whether its node lets clients use invoke IDs again.
+    pub fn reuse(&self) -> bool
+        ensures { result ≡ self.now.reuse }
+    {
+        self.reuse
     }
 
     /// Its node.
@@ -104,6 +126,7 @@ impl<L: Link> BoundNode<L> {
         ensures failed { IsErrOf result TurnFault.Link → self.new.failures ≡ one_more self.old.failures }
         ensures told { IsErrOf result TurnFault.Link → self.new.calls ≡ with_call self.old.calls FailedReceive }
         ensures err { OnErr result (self.new.node ≡ self.old.node) }
+        ensures reuse { self.new.reuse ≡ self.old.reuse }
     {
         if now < self.node.latest() {
             return Err(TurnFault::ClockBack);
@@ -118,8 +141,9 @@ impl<L: Link> BoundNode<L> {
         requires timely { self.old.node.latest ≤ now }
         ensures acted { Acts now self.old (turn_view result) self.new }
         ensures received { result.received ≡ received }
+        ensures reuse { self.new.reuse ≡ self.old.reuse }
     {
-        let heard = on_received(&mut self.node, now, received, &self.buffer);
+        let heard = on_received(&mut self.node, self.reuse, now, received, &self.buffer);
         let first_lost = send_all(&mut self.link, sends_of(&heard));
         let ticked = on_due(&mut self.node, now);
         let second_lost = send_all(&mut self.link, sends_of(&ticked));
@@ -148,6 +172,7 @@ impl<L: Link> BoundNode<L> {
         ensures failed { IsErrOf result TurnFault.Link → self.new.failures ≡ one_more self.old.failures }
         ensures told { IsErrOf result TurnFault.Link → self.new.calls ≡ with_call self.old.calls FailedReceive }
         ensures err { OnErr result (self.new.node ≡ self.old.node) }
+        ensures reuse { self.new.reuse ≡ self.old.reuse }
     {
         let received = self.receive(now, &WaitLimit::BRIEF)?;
         Ok(self.act(now, received))
@@ -168,6 +193,7 @@ impl<L: Link> BoundNode<L> {
         ensures failed { IsErrOf result TurnFault.Link → self.new.failures ≡ one_more self.old.failures }
         ensures told { IsErrOf result TurnFault.Link → self.new.calls ≡ with_call self.old.calls FailedReceive }
         ensures err { OnErr result (self.new.node ≡ self.old.node) }
+        ensures reuse { self.new.reuse ≡ self.old.reuse }
         ensures clock { OnErr result (C.told clock.new ≡ C.told clock.old) }
     {
         let received = self.receive(began, wait_limit)?;

@@ -29,7 +29,7 @@ pub struct CellKeeper<S: Store> {
 }
 
 /// Makes a database ready: what no commit has finished is rolled back.
-fn make_ready<S: Store>(database: &mut S) -> Result<(), KeepFault>
+pub(crate) fn make_ready<S: Store>(database: &mut S) -> Result<(), KeepFault>
     ensures clean { doubt (S.view database.old).is_clean ≤ doubt (S.view database.new).is_clean }
     ensures ready { OnOk result (IsClean (S.view database.new) → IsReady (S.view database.new)) }
     ensures trees { OnOk result (IsClean (S.view database.new) → (S.view database.new).trees ≡ (S.view database.old).committed) }

@@ -4,8 +4,10 @@
 mod cell;
 mod cells;
 mod fault;
+mod idle;
 mod keeper;
 mod laws;
+mod listing;
 mod made;
 mod noting;
 mod part;
@@ -19,6 +21,7 @@ pub use cells::CellKeeper;
 pub use fault::KeepFault;
 pub use keeper::{Keeper, KeepsNothing};
 pub use laws::cells_are_writes;
+pub use listing::kept_cells;
 pub use made::Made;
 pub use part::Part;
 pub use performed::note_request;

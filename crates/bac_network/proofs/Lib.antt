@@ -6,6 +6,7 @@ pub mod Changed
 pub mod Restarted
 pub mod Compared
 pub mod Asked
+pub mod AskedAway
 pub mod Makers
 pub mod WorldRunning
 pub mod Endings

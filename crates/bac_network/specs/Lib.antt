@@ -1,6 +1,7 @@
 pub mod Clocks
 pub mod Faults
 pub mod Views
+pub mod Strangers
 pub mod Networks
 pub mod Goings
 pub mod Entries

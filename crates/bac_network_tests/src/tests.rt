@@ -9,7 +9,9 @@ use std::alloc::Global;
 use std::test::Fail;
 
 mod alone;
+mod beyond;
 mod chance;
+mod drifting;
 mod failing;
 mod faults;
 mod following;
@@ -21,6 +23,7 @@ mod links;
 mod memory;
 mod scene;
 mod sleeping;
+mod strangers;
 mod turns;
 mod twins;
 

@@ -5,12 +5,26 @@ use Rattle.bac_world.specs.Node.{Node, restarted}
 use Rattle.bac_node.specs.Views.{settings_of}
 use Rattle.bac_node.specs.declared.config.Config.{Config}
 
+-- a table has 1 to that many slots
+abbrev pub slots_within : (most slots : ℕ) → Bool
+slots_within most n = nat_le 1 n && nat_le n most
+
+abbrev pub has_slots_within : (most : ℕ) → Config → Bool
+has_slots_within most c = slots_within most c.client_slots && slots_within most c.reply_slots
+
 -- a table has 1 to 1,024 slots (own limit of this profile)
 abbrev pub slots_fit : ℕ → Bool
-slots_fit n = nat_le 1 n && nat_le n 1024
+slots_fit n = slots_within 1024 n
 
 abbrev pub has_slots : Config → Bool
-has_slots c = slots_fit c.client_slots && slots_fit c.reply_slots
+has_slots c = has_slots_within 1024 c
+
+-- a large table has 1 to 65,536 slots (own limit of this profile)
+abbrev pub large_slots_fit : ℕ → Bool
+large_slots_fit n = slots_within 65536 n
+
+abbrev pub has_large_slots : Config → Bool
+has_large_slots c = has_slots_within 65536 c
 
 -- windows are 1 to 64 (own limit of this profile)
 abbrev pub window_fits : ℕ → Bool

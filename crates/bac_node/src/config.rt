@@ -11,8 +11,8 @@ pub struct Config {
     pub limits: Limits,
     /// The largest window that it proposes or grants: 1 to 64 segments (clause 5.3).
     pub window: u8,
-    /// How many transactions of the client it has room for: 1 to 1,024.
+    /// How many transactions of the client it has room for: 1 to 1,024, or to 65,536 of a node with large tables.
     pub client_slots: usize,
-    /// How many transactions of the server it has room for: 1 to 1,024.
+    /// How many transactions of the server it has room for: 1 to 1,024, or to 65,536 of a node with large tables.
     pub reply_slots: usize,
 }

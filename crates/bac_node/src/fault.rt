@@ -10,7 +10,7 @@ use thiserror::Error;
 /// Why a node can't be made: the first of these that holds.
 #[derive(Clone, Copy, Debug, PartialEq, Eq, Error)]
 pub enum NewNodeFault {
-    /// A number of slots is not 1 to 1,024.
+    /// A number of slots is not 1 to 1,024; of a node with large tables, 1 to 65,536.
     #[error("a number of slots is out of range")]
     BadSlots,
     /// The window is not 1 to 64.

@@ -5,6 +5,7 @@
 //! interface; the fields and the private methods may change.
 ghost use Rattle.std.specs.Prelude.{◌≡◌, ◌≢◌, ◌↔◌, ℕ, ◌<◌, ◌≤◌, [], true, false, max, count_by};
 ghost use Rattle.std.specs.Prelude.{IfErr, IfOk, IsErr, IsErrOf, IsSome, IfSome, IsTrue, OnErr, OnOk, MatchOption, None};
+ghost use Rattle.std.specs.Option.{option_map};
 ghost use Rattle.bac_apdu.specs.Views.{apdu_view, limits_view};
 ghost use Rattle.bac_npdu.specs.Views.{peer_view};
 ghost use Rattle.bac_service.specs.Values.{Request};
@@ -13,9 +14,11 @@ ghost use Rattle.bac_store.specs.AtNode.{change_fault, IsFaultOf};
 ghost use Rattle.bac_store.specs.Replies.{reply_to};
 ghost use Rattle.bac_store.specs.ReplyLengths.{DATA_LIMIT, reply_length};
 ghost use Rattle.bac_store.specs.Views.{change_view};
+ghost use Rattle.bac_slots.specs.Slots.{value_at};
+ghost use Rattle.bac_transaction.specs.Keys.{same_key};
 ghost use Rattle.bac_transaction.specs.Ends.{first_after, key_of, is_slot_held, is_slot_live, requester_tick, responder_tick};
 ghost use Rattle.bac_transaction.specs.Tables.{IsOrderlyClient, IsOrderlyServer};
-ghost use Rattle.bac_transaction.specs.Views.{settings_view};
+ghost use Rattle.bac_transaction.specs.Views.{peer_key_view, settings_view};
 ghost use Rattle.bac_protocol.specs.Context.{Settings as Set};
 ghost use Rattle.bac_protocol.specs.declared.times.TheConstants.{KEEP as KEPT_FOR, REST as REST_TIME};
 ghost use Rattle.bac_protocol.specs.Wire.{is_from_client};
@@ -25,7 +28,8 @@ ghost use Rattle.bac_responder.specs.Short.{AreRequestsShort};
 ghost use Rattle.bac_world.specs.Keys.{HasKeysApart};
 ghost use Rattle.bac_world.specs.Node.{NodeOn, NodeTick, IsHeardBy, restarted, store_after_restart, with_change};
 ghost use Rattle.bac_node.specs.Calls.{Dispatches, IsAsked, IsForNoneOpen, IsNotHeard, IsTickOfBoth, Refuses, ticked};
-ghost use Rattle.bac_node.specs.Fresh.{fresh_node, has_slots, made_node, slots_fit, window_fits, with_first_id};
+ghost use Rattle.bac_node.specs.Fresh.{fresh_node, has_large_slots, has_slots, has_slots_within, made_node, slots_within, window_fits, with_first_id};
+ghost use Rattle.bac_node.specs.Reuse.{DispatchesReusing, IsHeardReusingBy, NodeHears, NodeReusing};
 ghost use Rattle.bac_node.specs.Views.{outcome_view, settings_of};
 ghost use Rattle.bac_node.specs.Waiting.{IsDueBy, MovesAt, RestsUntil};
 ghost use Rattle.bac_requester.specs.Timers.{LAST_MOMENT};
@@ -70,11 +74,17 @@ impl Model for Node {
     ghost view = { λ n. record { link = n.link; settings = settings_view n.settings; latest = n.latest; clients = n.clients; servers = n.servers; store = n.store } };
 }
 
-/// Whether a table may have so many slots.
-fn slots_fit(slots: usize) -> bool
-    ensures { result ≡ slots_fit slots }
+/// How many slots each table of a node has at the most.
+const MOST_SLOTS: usize = 1_024;
+
+/// How many slots each table of a node with large tables has at the most.
+const MOST_LARGE_SLOTS: usize = 65_536;
+
+/// Whether a table may have so many slots, where it may have that many at the most.
+fn slots_within(most: usize, slots: usize) -> bool
+    ensures { result ≡ slots_within most slots }
 {
-    slots >= 1 && slots <= 1_024
+    slots >= 1 && slots <= most
 }
 
 /// The settings of a node; None where its window is not 1 to 64.
@@ -132,7 +142,7 @@ impl Node {
         ensures slots { IsErrOf result NewNodeFault.BadSlots ↔ (has_slots config ≡ false) }
         ensures window { IsErrOf result NewNodeFault.BadWindow ↔ ((has_slots config ≡ true) × (window_fits config.window ≡ false)) }
     {
-        Node::made(alloc, config, store, None)
+        Node::made(alloc, config, store, None, MOST_SLOTS)
     }
 
     /// A node that restarts at a moment, in milliseconds, after it has lost its transactions: its process was started again, or its power came back. Use it in
@@ -151,21 +161,52 @@ impl Node {
         ensures slots { IsErrOf result NewNodeFault.BadSlots ↔ (has_slots config ≡ false) }
         ensures window { IsErrOf result NewNodeFault.BadWindow ↔ ((has_slots config ≡ true) × (window_fits config.window ≡ false)) }
     {
-        Node::made(alloc, config, store, Some(now))
+        Node::made(alloc, config, store, Some(now), MOST_SLOTS)
     }
 
-    /// A node without asks and entries, which restarts at that moment if there is one.
+    /// A new node as one of `new`, with up to 65,536 slots in each table: for one that many ask, or that asks many, at once. Its memory is used as its slots are.
+    ///
+    /// `BadSlots` where a number of slots is not 1 to 65,536; the other faults are those of `new`.
+    pub fn with_large_tables(
+        alloc: Global,
+        config: Config,
+        store: Store,
+    ) -> Result<Node, NewNodeFault>
+        ensures fresh { IfOk result (λ n. n ≡ fresh_node config store) }
+        ensures slots { IsErrOf result NewNodeFault.BadSlots ↔ (has_large_slots config ≡ false) }
+        ensures window { IsErrOf result NewNodeFault.BadWindow ↔ ((has_large_slots config ≡ true) × (window_fits config.window ≡ false)) }
+    {
+        Node::made(alloc, config, store, None, MOST_LARGE_SLOTS)
+    }
+
+    /// A node that restarts at a moment, in milliseconds, as one of `restarted`, with up to 65,536 slots in each table. The faults are those of
+    /// `with_large_tables`.
+    pub fn restarted_with_large_tables(
+        alloc: Global,
+        config: Config,
+        store: Store,
+        now: u64,
+    ) -> Result<Node, NewNodeFault>
+        ensures restarted { IfOk result (λ n. n ≡ restarted now store (fresh_node config store)) }
+        ensures slots { IsErrOf result NewNodeFault.BadSlots ↔ (has_large_slots config ≡ false) }
+        ensures window { IsErrOf result NewNodeFault.BadWindow ↔ ((has_large_slots config ≡ true) × (window_fits config.window ≡ false)) }
+    {
+        Node::made(alloc, config, store, Some(now), MOST_LARGE_SLOTS)
+    }
+
+    /// A node without asks and entries, which restarts at that moment if there is one; its tables have so many slots at the most.
     fn made(
         alloc: Global,
         config: Config,
         store: Store,
         restart: Option<u64>,
+        most: usize,
     ) -> Result<Node, NewNodeFault>
         ensures made { IfOk result (λ n. n ≡ made_node config store restart) }
-        ensures slots { IsErrOf result NewNodeFault.BadSlots ↔ (has_slots config ≡ false) }
-        ensures window { IsErrOf result NewNodeFault.BadWindow ↔ ((has_slots config ≡ true) × (window_fits config.window ≡ false)) }
+        ensures slots { IsErrOf result NewNodeFault.BadSlots ↔ (has_slots_within most config ≡ false) }
+        ensures window { IsErrOf result NewNodeFault.BadWindow ↔ ((has_slots_within most config ≡ true) × (window_fits config.window ≡ false)) }
     {
-        if !slots_fit(config.client_slots) || !slots_fit(config.reply_slots) {
+        if !slots_within(most, config.client_slots) || !slots_within(most, config.reply_slots) {
             return Err(NewNodeFault::BadSlots);
         }
         let Some(settings) = settings_of(&config) else {
@@ -250,6 +291,14 @@ impl Node {
         self.servers.live(now)
     }
 
+    /// When the entry of its reply table for a request began, in milliseconds, by the peer that asked and the invoke ID; None where it keeps none for them. Call
+    /// it to tell one performance for a peer from the next under the same invoke ID: their entries began more than 65,000 ms apart.
+    pub fn entry_begin(&self, key: &PeerKey) -> Option<u64>
+        ensures { result ≡ option_map (λ e. e.begin) (value_at same_key (peer_key_view key.now) self.now.servers.slots) }
+    {
+        self.servers.begin_of(key)
+    }
+
     /// A law of each node, for a caller that was handed one: in each of its tables the slots have different keys. It goes over both tables, and changes
     /// nothing.
     pub fn keys_are_apart(&self)
@@ -313,6 +362,57 @@ impl Node {
         }
     }
 
+    /// As `on`, of a node that lets clients use an invoke ID again as soon as its transaction is over (clause 5.4). Call one of both for all datagrams.
+    ///
+    /// ReadProperty and AtomicReadFile are performed each time that they come, from the store as it then is, unless their reply is under way in segments; they
+    /// take a slot only while such a reply is under way. A kept reply of another request goes again to that request alone: another one ends it and is performed.
+    ///
+    /// The faults are those of `on`.
+    pub fn on_reusing(
+        &mut self,
+        now: u64,
+        from: LinkAddress,
+        octets: &[u8],
+    ) -> Result<Outcome, NodeFault>
+        ensures went { IfOk result (λ o. NodeReusing now from octets.now self.old self.new (outcome_view o)) }
+        ensures early { IsErrOf result NodeFault.ClockBack ↔ (now < self.old.latest) }
+        ensures dropped { IsNotHeard self.old.link from octets.now → IsErrOf result NodeFault.NoMemory → ⊥ }
+        ensures none_open { IsForNoneOpen from octets.now self.old.clients → IsErrOf result NodeFault.NoMemory → ⊥ }
+        ensures err { OnErr result (self.new ≡ self.old) }
+    {
+        if self.is_before(now) {
+            return Err(NodeFault::ClockBack);
+        }
+        match read_from(self.link, from, octets) {
+            Err(why) => {
+                self.latest = now;
+                Ok(Outcome::dropped(self.alloc, why))
+            }
+            Ok((peer, apdu)) => Ok(self.dispatch_reusing(now, &peer, &apdu)?),
+        }
+    }
+
+    /// A datagram comes to a node of either setting: as `on_reusing` where `reuse` is true, otherwise as `on`.
+    pub fn hear(
+        &mut self,
+        reuse: bool,
+        now: u64,
+        from: LinkAddress,
+        octets: &[u8],
+    ) -> Result<Outcome, NodeFault>
+        ensures went { IfOk result (λ o. NodeHears reuse now from octets.now self.old self.new (outcome_view o)) }
+        ensures early { IsErrOf result NodeFault.ClockBack ↔ (now < self.old.latest) }
+        ensures dropped { IsNotHeard self.old.link from octets.now → IsErrOf result NodeFault.NoMemory → ⊥ }
+        ensures none_open { IsForNoneOpen from octets.now self.old.clients → IsErrOf result NodeFault.NoMemory → ⊥ }
+        ensures err { OnErr result (self.new ≡ self.old) }
+    {
+        if reuse {
+            self.on_reusing(now, from, octets)
+        } else {
+            self.on(now, from, octets)
+        }
+    }
+
     /// Gives an APDU to the end that it is for: to the server's where the client of a transaction sends such, otherwise to the client's.
     fn dispatch(&mut self, now: u64, peer: &Peer, apdu: &Apdu<'_>) -> Result<Outcome, NoMemory>
         ensures dispatches { Dispatches now (peer_view peer.now) (apdu_view apdu.now) self.old result self.new }
@@ -321,6 +421,24 @@ impl Node {
     {
         if is_from_client(apdu) {
             self.responder_on_apdu(now, peer, apdu)
+        } else {
+            self.requester_on_apdu(now, peer, apdu)
+        }
+    }
+
+    /// As `dispatch`, where invoke IDs may be used again.
+    fn dispatch_reusing(
+        &mut self,
+        now: u64,
+        peer: &Peer,
+        apdu: &Apdu<'_>,
+    ) -> Result<Outcome, NoMemory>
+        ensures dispatches { DispatchesReusing now (peer_view peer.now) (apdu_view apdu.now) self.old result self.new }
+        ensures none_open { is_from_client (apdu_view apdu.now) ≡ false
+            → HasNoneOpen self.old.clients (key_of (peer_view peer.now) (apdu_view apdu.now)) → IsErr result → ⊥ }
+    {
+        if is_from_client(apdu) {
+            self.responder_reusing(now, peer, apdu)
         } else {
             self.requester_on_apdu(now, peer, apdu)
         }
@@ -337,6 +455,33 @@ impl Node {
         ensures err { OnErr result (self.new ≡ self.old) }
     {
         let Served { sends, act } = self.servers.on(
+            self.alloc,
+            &self.settings,
+            now,
+            peer,
+            apdu,
+            &mut self.store,
+        )?;
+        self.latest = now;
+        Ok(Outcome {
+            sends,
+            effect: act,
+            ended: Vec::new(self.alloc),
+            dropped: None,
+        })
+    }
+
+    /// An APDU for the server's end, where invoke IDs may be used again.
+    fn responder_reusing(
+        &mut self,
+        now: u64,
+        peer: &Peer,
+        apdu: &Apdu<'_>,
+    ) -> Result<Outcome, NoMemory>
+        ensures heard { IfOk result (λ o. IsHeardReusingBy true (peer_view peer.now) (apdu_view apdu.now) now self.old self.new (outcome_view o)) }
+        ensures err { OnErr result (self.new ≡ self.old) }
+    {
+        let Served { sends, act } = self.servers.on_reusing(
             self.alloc,
             &self.settings,
             now,

@@ -1,9 +1,11 @@
 -- The values in a document, and the results of readers in code.
 use Rattle.std.specs.Prelude.{ℕ, ℤ, pos, negsuc, nat_le, Float, Bool, true, false, List, Option, Some, None, Result, Ok, Err, if◌then◌else◌}
+use Rattle.std.specs.Float.{binary64}
+use lib.Ieee.{of_int}
 use Rattle.bac_value.specs.Steps.{◌>>=◌}
 use Rattle.bac_value.specs.Value.{Datum}
 use Rattle.toml_datetime.specs.declared.datetime.Datetime.{Datetime}
-use Rattle.toml.specs.Data.{Data, string, integer, float, boolean, datetime, array, table, Items, Members, as_str, as_integer, as_float, as_bool, as_datetime, as_array, as_table}
+use Rattle.toml.specs.Data.{Data, string, integer, float, boolean, datetime, array, table, Items, Members, as_str, as_integer, as_bool, as_datetime, as_array, as_table}
 use Rattle.bac_objects.specs.declared.problem.Problem.{Problem}
 use Rattle.bac_objects.specs.declared.problem.Wanted.{Wanted}
 use Rattle.bac_objects.specs.declared.problem.Wanted.TheVariants as wanted
@@ -37,8 +39,18 @@ text_of w d = or_in_place w d (as_str d)
 abbrev pub integer_of : Wanted → Data → Result ℤ Problem
 integer_of w d = or_in_place w d (as_integer d)
 
-abbrev pub float_of : Wanted → Data → Result Float Problem
-float_of w d = or_in_place w d (as_float d)
+-- a float, or the float of 64 bits that is nearest to an integer
+abbrev pub as_number : Data → Option Float
+as_number (float x) = Some x
+as_number (integer z) = Some (of_int binary64 z)
+as_number (string s) = None
+as_number (boolean b) = None
+as_number (datetime dt) = None
+as_number (array ds) = None
+as_number (table ms) = None
+
+abbrev pub number_of : Wanted → Data → Result Float Problem
+number_of w d = or_in_place w d (as_number d)
 
 abbrev pub boolean_of : Wanted → Data → Result Bool Problem
 boolean_of w d = or_in_place w d (as_bool d)

@@ -11,7 +11,7 @@ use Rattle.bac_value.specs.Value.{Datum, null, boolean, unsigned, signed, real, 
 use Rattle.toml.specs.Data.{Data}
 use Rattle.bac_objects.specs.Bits.{bits_of}
 use Rattle.bac_objects.specs.Identifiers.{identifier_of}
-use Rattle.bac_objects.specs.Reading.{boolean_of, datetime_of, fitting, float_of, integer_of, number_up_to, other, text_of}
+use Rattle.bac_objects.specs.Reading.{boolean_of, datetime_of, fitting, integer_of, number_of, number_up_to, other, text_of}
 use Rattle.bac_objects.specs.declared.form.Kind.{Kind}
 use Rattle.bac_objects.specs.declared.form.Kind.TheVariants as kind
 use Rattle.bac_objects.specs.declared.problem.Problem.{Problem}
@@ -40,7 +40,7 @@ signed_of d = integer_of wanted.Integer d >>= (λ z. Ok (signed z))
 abbrev pub enumerated_of : Data → Result Datum Problem
 enumerated_of d = number_up_to (2 ^ 32 - 1) wanted.Enumerated d >>= (λ n. Ok (enumerated n))
 
--- clause 20.2.6: the float of 32 bits that is nearest to TOML's of 64 bits, which itself is nearest to the number in the text
+-- clause 20.2.6: the float of 32 bits that is nearest to TOML's number as one of 64 bits, which itself is nearest to the number in the text
 abbrev pub single : Float → Float
 single x = round_to_format binary32 x
 
@@ -52,10 +52,10 @@ abbrev pub real_with : Float → Result Datum Problem
 real_with x = if is_beyond x then Err (other wanted.Single) else Ok (real (to_be_bytes w32 (to_bits binary32 (single x))))
 
 abbrev pub real_of : Data → Result Datum Problem
-real_of d = float_of wanted.Float d >>= real_with
+real_of d = number_of wanted.Float d >>= real_with
 
 abbrev pub double_of : Data → Result Datum Problem
-double_of d = float_of wanted.Float d >>= (λ x. Ok (double (to_be_bytes w64 (to_bits binary64 x))))
+double_of d = number_of wanted.Float d >>= (λ x. Ok (double (to_be_bytes w64 (to_bits binary64 x))))
 
 -- ---- octets and texts
 

@@ -12,6 +12,7 @@ use crate::described::{described_store, is_described};
 use crate::fault::{DocumentFault, Flaw, ObjectFault, Place};
 use crate::held::{count, member};
 use crate::object::object_in;
+use crate::outline::line_behind;
 use crate::problem::{Given, Problem, Wanted};
 use crate::scalars::array;
 use bac_store::{Object, Store, StoreFault};
@@ -133,17 +134,10 @@ fn store_in(alloc: Global, table: &Table) -> Result<Store, DocumentFault>
 
 /// The number of the line, from 1 on, that contains an error.
 fn line_of(text: &[u8], error: &Error) -> usize {
-    let place = match error.span() {
-        Some(span) => span.start.min(text.len()),
-        None => 0,
-    };
-    let mut line: usize = 1;
-    for octet in &text[..place] {
-        if *octet == b'\n' {
-            line = line.saturating_add(1);
-        }
+    match error.span() {
+        Some(span) => line_behind(text, span.start),
+        None => 1,
     }
-    line
 }
 
 /// Reads a store from a document: TOML in UTF-8. A document with `described = true` before its objects describes a store

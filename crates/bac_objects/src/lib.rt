@@ -2,22 +2,29 @@
 #![tactic(auto)]
 
 mod bits;
+mod collecting;
 mod described;
 mod described_property;
 mod document;
 mod fault;
+mod finding;
 mod form;
+mod found;
 mod given;
 mod held;
 mod identifier;
+mod known_keys;
 mod object;
+mod outline;
 mod packing;
 mod problem;
 mod property;
 mod scalars;
 mod values;
 
+pub use collecting::document_findings;
 pub use document::read_objects;
 pub use fault::{DocumentFault, Place, Refusal};
+pub use finding::{Finding, Wrong};
 pub use form::{Kind, ValueForm};
 pub use problem::{Given, Problem, Wanted};

@@ -61,7 +61,7 @@ fn served(kind: u64) -> Result<u16, Problem>
 }
 
 /// Reads the type of an object.
-fn kind_in(table: &Table) -> Result<u16, Problem>
+pub(crate) fn kind_in(table: &Table) -> Result<u16, Problem>
     ensures is { result ≡ kind_of (table_view table.now) }
     ensures within { IfOk result (λ k. k < 1024) }
     ensures right { IfOk result (λ k. IsTrue (is_right_type k)) }

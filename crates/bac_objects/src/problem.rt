@@ -51,7 +51,7 @@ pub enum Wanted {
     Unsigned,
     /// An integer.
     Integer,
-    /// A number with a point or an exponent, or inf or nan.
+    /// A number: an integer, one with a point or an exponent, or inf or nan.
     Float,
     /// A number that is finite in 32 bits.
     Single,
@@ -112,7 +112,7 @@ pub struct Problem {
 }
 
 impl Wanted {
-    fn words(self) -> &'static str {
+    pub(crate) fn words(self) -> &'static str {
         match self {
             Wanted::Objects => "tables [[object]] alone",
             Wanted::DescribedObjects => "described and tables [[object]] alone",

@@ -2,10 +2,11 @@
 ghost use Rattle.std.specs.Prelude.{◌≡◌, ◌≤◌, IfOk};
 ghost use Rattle.bac_value.specs.Steps.{ReadsAll};
 ghost use Rattle.toml.specs.View.{view, array_view, table_view};
-ghost use Rattle.bac_objects.specs.Reading.{text_of, integer_of, float_of, boolean_of, datetime_of, array_of, table_of, number_up_to};
+ghost use Rattle.bac_objects.specs.Reading.{text_of, integer_of, number_of, boolean_of, datetime_of, array_of, table_of, number_up_to};
 
 use crate::given::in_place;
 use crate::problem::{Given, Problem, Wanted};
+use std::num::nearest_i64_to_f64;
 use toml::value::{Array, Datetime};
 use toml::{Table, Value};
 
@@ -27,12 +28,14 @@ pub(crate) fn integer(wanted: Wanted, value: &Value) -> Result<i64, Problem>
     }
 }
 
-pub(crate) fn float(wanted: Wanted, value: &Value) -> Result<f64, Problem>
-    ensures { result ≡ float_of wanted (view value.now) }
+/// A number: a float, or the float of 64 bits that is nearest to an integer.
+pub(crate) fn number(wanted: Wanted, value: &Value) -> Result<f64, Problem>
+    ensures { result ≡ number_of wanted (view value.now) }
 {
-    match value.as_float() {
-        Some(number) => Ok(number),
-        None => Err(in_place(wanted, value)),
+    match value {
+        Value::Float(number) => Ok(*number),
+        Value::Integer(number) => Ok(nearest_i64_to_f64(*number)),
+        _ => Err(in_place(wanted, value)),
     }
 }
 

@@ -12,7 +12,7 @@ use crate::fault::ValueFault;
 use crate::form::Kind;
 use crate::identifier::identifier_in;
 use crate::problem::{Given, Problem, Wanted};
-use crate::scalars::{boolean, datetime, float, integer, number_up_to, text};
+use crate::scalars::{boolean, datetime, integer, number, number_up_to, text};
 use bac_value::{CharacterString, OctetString, Value};
 use hex::FromHexError;
 use std::alloc::Global;
@@ -70,11 +70,11 @@ fn enumerated(value: &toml::Value) -> Result<Value, Problem>
     Ok(Value::Enumerated(number as u32))
 }
 
-/// The float of 32 bits that is nearest to TOML's of 64 bits, with one pattern for all NaN. A finite number must not become infinite.
+/// The float of 32 bits that is nearest to TOML's number as one of 64 bits, with one pattern for all NaN. A finite number must not become infinite.
 fn real(value: &toml::Value) -> Result<Value, Problem>
     ensures { ReadsAll value_view result (real_of (view value.now)) }
 {
-    let number = float(Wanted::Float, value)?;
+    let number = number(Wanted::Float, value)?;
     let nearest = nearest_f64_to_f32_with_nan(number);
     if number.is_finite() && !nearest.is_finite() {
         return Err(other(Wanted::Single));
@@ -86,7 +86,7 @@ fn real(value: &toml::Value) -> Result<Value, Problem>
 fn double(value: &toml::Value) -> Result<Value, Problem>
     ensures { ReadsAll value_view result (double_of (view value.now)) }
 {
-    let number = float(Wanted::Float, value)?;
+    let number = number(Wanted::Float, value)?;
     let bits = f64_to_bits_with_nan(number);
     Ok(Value::Double(bits.to_be_bytes()))
 }

@@ -56,7 +56,7 @@ asked_due = record { rests = asked_rests; moves = asked_moves }
 -- The ask.
 
 abbrev ASKED : BoundNode
-ASKED = record { node = ASKED_NODE; failures = 0; calls = with_calls (Some []) (map call_of (datagram (link 1) ASK ∷ [])); buffer = [] }
+ASKED = record { node = ASKED_NODE; failures = 0; calls = with_calls (Some []) (map call_of (datagram (link 1) ASK ∷ [])); buffer = []; reuse = false }
 
 abbrev begun : IsBegun 0 (question (peer_at (link 1)) LIMITS REQUEST) (station 0) 0 ASKED
 begun = record {
@@ -67,6 +67,7 @@ begun = record {
   lost = 0;
   carried = record { order = refl; count = refl; most = omega arith };
   buffer = refl;
+  reuse = refl;
 }
 
 abbrev FIRST : Plant
@@ -153,12 +154,12 @@ answered_turns = record {
       so_far = record {
         middle = FIRST;
         so_far = record { middle = OPENING; so_far = refl; last = asked };
-        last = idle_step 253 FIRST 0 ASKED refl (Some T_OUT) asked_due asked_calm;
+        last = idle_step 253 FIRST 0 ASKED refl refl (Some T_OUT) asked_due asked_calm;
       };
-      last = hearing_step 253 IDLE 1 (station 1) refl None fresh_due 0 (link 0) (copy 0 1 ASK).octets request_comes THIRD served_hears
+      last = hearing_step 253 IDLE 1 (station 1) refl refl None fresh_due 0 (link 0) (copy 0 1 ASK).octets request_comes THIRD served_hears
           (node_in THIRD 1) served_is served_calm;
     };
-    last = hearing_step 253 SERVED 0 waiting refl (Some T_OUT) asked_due 1 (link 1) (copy 1 0 ANSWER).octets answer_comes LAST answered_hears (node_in LAST 0)
+    last = hearing_step 253 SERVED 0 waiting refl refl (Some T_OUT) asked_due 1 (link 1) (copy 1 0 ANSWER).octets answer_comes LAST answered_hears (node_in LAST 0)
         answered_is answered_calm;
   };
   log = refl;

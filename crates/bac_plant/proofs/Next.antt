@@ -1,5 +1,5 @@
 -- Whatever a call promises after a run can be the next step.
-use Rattle.std.proofs.Common.{◌≡◌, ℕ, List, [], ◌∷◌, ◌++◌, ◌⊎◌, length, take, Option, Some, None, slice_get, slice_set, refl, sym, subst, inl, inr}
+use Rattle.std.proofs.Common.{◌≡◌, ℕ, false, List, [], ◌∷◌, ◌++◌, ◌⊎◌, length, take, Option, Some, None, slice_get, slice_set, refl, sym, subst, inl, inr}
 use Rattle.std.proofs.lemmas.Option.{slice_get_within}
 use Rattle.bac_apdu.specs.Apdu.{Limits}
 use Rattle.bac_service.specs.Values.{Request}
@@ -104,7 +104,7 @@ module _ (W overtake : ℕ) (p : Plant) (on : CanGoOn W overtake (world_of p)) (
       (on.outside i sender sent outside a b o at
       (subst (λ l. NodeOn (shows p i) l sent a b o) link_is (subst (λ os. NodeOn (shows p i) from os a b o) whole h))).0
 
-  came_enters : (source : Source) (d : Octets × ℕ) (buffer : Octets) (heard : Option Outcome) → turns.HearsOne (shows p i) d.0 (take d.1 buffer) a b heard
+  came_enters : (source : Source) (d : Octets × ℕ) (buffer : Octets) (heard : Option Outcome) → turns.HearsOne false (shows p i) d.0 (take d.1 buffer) a b heard
       → HandsOver overtake p i source (Some d) buffer → MayEnter (world_of p) i b heard
   came_enters source d buffer None h from = tt
   came_enters Nowhere d buffer (Some o) h from = absurd from
@@ -114,7 +114,7 @@ module _ (W overtake : ℕ) (p : Plant) (on : CanGoOn W overtake (world_of p)) (
   came_enters (Noise sender octets) d buffer (Some o) h from =
       outside_enters sender octets d.0 (take d.1 buffer) o from.link_is from.whole (inr from.meaningless) h
 
-  heard_enters : (source : Source) (came : Option (Octets × ℕ)) (buffer : Octets) (heard : Option Outcome) → turns.Hears (shows p i) buffer came a b heard
+  heard_enters : (source : Source) (came : Option (Octets × ℕ)) (buffer : Octets) (heard : Option Outcome) → turns.Hears false (shows p i) buffer came a b heard
       → HandsOver overtake p i source came buffer → MayEnter (world_of p) i b heard
   heard_enters source (Some d) buffer heard h from = came_enters source d buffer heard h from
   heard_enters source None buffer None h from = tt
@@ -143,13 +143,13 @@ module _ (W overtake : ℕ) (p : Plant) (r : IsReached W overtake p) (i : ℕ) (
   stands : (after : BoundNode) → slice_get (slice_set p.stations i after) i ≡ Some after
   stands after = get_set p.stations i after (slice_get_within p.stations i before at)
 
-  module _ (turn : Turn) (after : BoundNode) (t : IsSomeTurn (shows p i) before turn after) (source : Source)
+  module _ (off : before.reuse ≡ false) (turn : Turn) (after : BoundNode) (t : IsSomeTurn (shows p i) before turn after) (source : Source)
       (from : HandsOver overtake p i source turn.received after.buffer) where
     abbrev middle : Node
     middle = t.is.acts.middle
 
-    hears : turns.Hears (shows p i) after.buffer turn.received before.node middle turn.heard
-    hears = turn_hears (shows p i) before turn after t
+    hears : turns.Hears false (shows p i) after.buffer turn.received before.node middle turn.heard
+    hears = turn_hears (shows p i) before turn after t off
 
     first : MayEnter (world_of p) i middle turn.heard
     first = heard_enters W overtake p goes_on i before.node middle first_at source turn.received after.buffer turn.heard hears from
@@ -193,6 +193,7 @@ module _ (W overtake : ℕ) (p : Plant) (r : IsReached W overtake p) (i : ℕ) (
       goes = record {
         before = before;
         at = at;
+        off = off;
         after = after;
         takes = t;
         comes = from;
@@ -234,7 +235,7 @@ module _ (W overtake : ℕ) (p : Plant) (r : IsReached W overtake p) (i : ℕ) (
       }
 
 pub turns_go_on : (W overtake : ℕ) (p : Plant) → IsReached W overtake p → TurnsGoOn overtake p
-turns_go_on W overtake p r i before at turn after t source from = turn_leads W overtake p r i before at turn after t source from
+turns_go_on W overtake p r i before at off turn after t source from = turn_leads W overtake p r i before at off turn after t source from
 
 pub asks_go_on : (W overtake : ℕ) (p : Plant) → IsReached W overtake p → AsksGoOn overtake p
 asks_go_on W overtake p r i server before at link there limits request ticket after b =

@@ -1,5 +1,5 @@
 -- When a node rests, so that its link waits; and turns at whose tick nothing is due.
-use Rattle.std.proofs.Common.{◌≡◌, ℕ, [], ◌++◌, length, map, slice_get, Option, Some, None, Ok, refl, sym, ap, subst, ◌∙◌, arith}
+use Rattle.std.proofs.Common.{◌≡◌, ℕ, false, [], ◌++◌, length, map, slice_get, Option, Some, None, Ok, refl, sym, ap, subst, ◌∙◌, arith}
 use Rattle.std.proofs.Math.Seq.{take-length}
 use Rattle.bac_protocol.specs.Service.{Octets}
 use Rattle.bac_slots.specs.Slots.{EachSlot, in_order}
@@ -13,6 +13,7 @@ use Rattle.bac_protocol.specs.Context.{Settings}
 use Rattle.bac_world.specs.Node.{Node, NodeOn, NodeTick, Outcome}
 use Rattle.bac_world.specs.World.{AreLogged, Hears, World}
 use Rattle.bac_world.proofs.Pairs.{append_none, pairwise_none}
+use Rattle.bac_node.specs.Reuse.{NodeHears}
 use Rattle.bac_node.specs.Waiting.{RestsUntil}
 use Rattle.bac_driver.specs.BoundNodes.{BoundNode}
 use Rattle.bac_driver.specs.Calls.{received, with_call}
@@ -91,23 +92,26 @@ after_turn now b from octets n o =
       failures = b.failures;
       calls = with_calls (with_call b.calls (received 0 octets (Ok (Some (from, length octets))))) (map call_of (o.sends ++ []));
       buffer = octets;
+      reuse = b.reuse;
     }
 
-takes_turn : (now : ℕ) (b : BoundNode) (due : Option ℕ) → IsDue b.node due → (from octets : Octets) (n : Node) (o : Outcome) → NodeOn now from octets b.node n o
+takes_turn : (now : ℕ) (b : BoundNode) → b.reuse ≡ false → (due : Option ℕ) → IsDue b.node due → (from octets : Octets) (n : Node) (o : Outcome) → NodeOn now from octets b.node n o
     → IsCalm now n → IsSomeTurn now b (turn_by now from octets o) (after_turn now b from octets n o)
-takes_turn now b due is from octets n o on calm = record {
+takes_turn now b off due is from octets n o on calm = record {
   limit = AT_ONCE;
   began = now;
   is = record {
     middle = record b { calls = with_call b.calls (received 0 octets (Ok (Some (from, length octets)))); buffer = octets };
-    receives = record { within = omega arith; wait = 0; waits = waits_not now b.node due is; told = refl; count = refl; node = refl };
+    receives = record { within = omega arith; wait = 0; waits = waits_not now b.node due is; told = refl; count = refl; node = refl; reuse = refl };
     acts = record {
       at = refl;
       middle = n;
-      hears = subst (λ os. NodeOn now from os b.node n o) (sym (take-length octets)) on;
+      hears = subst (λ r. NodeHears r now from (take (length octets) octets) b.node n o) (sym off)
+          (subst (λ os. NodeOn now from os b.node n o) (sym (take-length octets)) on);
       ticks = ticks now n calm;
       carried = record { order = refl; count = refl; most = omega arith };
       buffer = refl;
+      reuse = refl;
     };
   };
 }
@@ -124,7 +128,7 @@ takes_none now b due is calm = record {
   began = now;
   is = record {
     middle = record b { calls = with_call b.calls (received 0 b.buffer (Ok None)) };
-    receives = record { within = tt; wait = 0; waits = waits_not now b.node due is; told = refl; count = refl; node = refl };
+    receives = record { within = tt; wait = 0; waits = waits_not now b.node due is; told = refl; count = refl; node = refl; reuse = refl };
     acts = record {
       at = refl;
       middle = b.node;
@@ -132,6 +136,7 @@ takes_none now b due is calm = record {
       ticks = ticks now b.node calm;
       carried = record { order = refl; count = refl; most = omega arith };
       buffer = refl;
+      reuse = refl;
     };
   };
 }
@@ -142,7 +147,8 @@ abbrev pub next_plant : Plant → ℕ → BoundNode → World → Plant
 next_plant p i b w = record (with_station p i b) { copies = w.copies; log = w.log }
 
 -- what a node hears in the world is a turn of its station
-module _ (overtake : ℕ) (old : Plant) (i : ℕ) (b : BoundNode) (at : slice_get old.stations i ≡ Some b) (due : Option ℕ) (is : IsDue b.node due) where
+module _ (overtake : ℕ) (old : Plant) (i : ℕ) (b : BoundNode) (at : slice_get old.stations i ≡ Some b) (off : b.reuse ≡ false) (due : Option ℕ)
+    (is : IsDue b.node due) where
   pub hearing_step : (number : ℕ) (from octets : Octets) → IsOfStation overtake old i number from octets
       → (w : World) (h : Hears (world_of old) i from octets w) (n : Node) → h.after ≡ n → IsCalm (shows old i) n
       → TakesTurnAt overtake old i (Station number) (turn_by (shows old i) from octets h.outcome)
@@ -151,8 +157,9 @@ module _ (overtake : ℕ) (old : Plant) (i : ℕ) (b : BoundNode) (at : slice_ge
   hearing_step number from octets comes w h n same calm = record {
     before = b;
     at = at;
+    off = off;
     after = after_turn (shows old i) b from octets n h.outcome;
-    takes = takes_turn (shows old i) b due is from octets n h.outcome on calm;
+    takes = takes_turn (shows old i) b off due is from octets n h.outcome on calm;
     comes = subst (λ os. IsOfStation overtake old i number from os) (sym (take-length octets)) comes;
     sent = h.acts.sent ++ [];
     copied = copied_join (nodes_of old.stations) old.time.now i h.outcome.sends [] h.acts.sent [] h.acts.copied refl;
@@ -179,6 +186,7 @@ module _ (overtake : ℕ) (old : Plant) (i : ℕ) (b : BoundNode) (at : slice_ge
   idle_step calm = record {
     before = b;
     at = at;
+    off = off;
     after = after_none (shows old i) b;
     takes = takes_none (shows old i) b due is calm;
     comes = refl;

@@ -60,7 +60,7 @@ on_link now from octets a b o (inr d) = go (is_from_client d.apdu) d.heard
     go true t = ap (λ (n : Node). n.link) t.node
     go false t = ap (λ (n : Node). n.link) t.node
 
-pub hears_link : (now : ℕ) (buffer : Octets) (came : Option (Octets × ℕ)) (a b : Node) (heard : Option Outcome) → turns.Hears now buffer came a b heard
+pub hears_link : (now : ℕ) (buffer : Octets) (came : Option (Octets × ℕ)) (a b : Node) (heard : Option Outcome) → turns.Hears false now buffer came a b heard
     → b.link ≡ a.link
 hears_link now buffer None a b heard h = ap (λ (n : Node). n.link) h.1
 hears_link now buffer (Some d) a b None h = ap (λ (n : Node). n.link) h.same
@@ -198,7 +198,7 @@ module _ (overtake : ℕ) (p : Plant) (i : ℕ) (a b : Node) (at : slice_get (no
   heard_as sender sent from octets link_is whole h =
       subst (λ l. Hears (world_of p) i l sent After) link_is (subst (λ os. Hears (world_of p) i from os After) whole h)
 
-  came_run : (source : Source) (d : Octets × ℕ) (buffer : Octets) (heard : Option Outcome) → turns.HearsOne (shows p i) d.0 (take d.1 buffer) a b heard
+  came_run : (source : Source) (d : Octets × ℕ) (buffer : Octets) (heard : Option Outcome) → turns.HearsOne false (shows p i) d.0 (take d.1 buffer) a b heard
       → HandsOver overtake p i source (Some d) buffer → AreCopied (nodes_of p.stations) p.time.now i (sends_of heard) cs
       → AreEnded p.notes i (ended_of heard) p.log between → AreLogged (nodes_of p.stations) p.notes i b (performed_of heard) between log
       → WorldRun overtake (world_of p) (heard_events i source heard) After
@@ -225,7 +225,7 @@ module _ (overtake : ℕ) (p : Plant) (i : ℕ) (a b : Node) (at : slice_get (no
     refl,
   )
 
-  pub heard_run : (source : Source) (came : Option (Octets × ℕ)) (buffer : Octets) (heard : Option Outcome) → turns.Hears (shows p i) buffer came a b heard
+  pub heard_run : (source : Source) (came : Option (Octets × ℕ)) (buffer : Octets) (heard : Option Outcome) → turns.Hears false (shows p i) buffer came a b heard
       → HandsOver overtake p i source came buffer → AreCopied (nodes_of p.stations) p.time.now i (sends_of heard) cs
       → AreEnded p.notes i (ended_of heard) p.log between → AreLogged (nodes_of p.stations) p.notes i b (performed_of heard) between log
       → WorldRun overtake (world_of p) (heard_events i source heard) After
@@ -262,11 +262,12 @@ run_join overtake (e ∷ es) fs u v w h k = (h.0, h.1, run_join overtake es fs h
 -- The turn.
 
 -- what its node hears, by the buffer that the turn leaves
-pub turn_hears : (now : ℕ) (before : BoundNode) (turn : turns.Turn) (after : BoundNode) (t : IsSomeTurn now before turn after)
-    → turns.Hears now after.buffer turn.received before.node t.is.acts.middle turn.heard
-turn_hears now before turn after t =
-    subst (λ n. turns.Hears now after.buffer turn.received n t.is.acts.middle turn.heard) t.is.receives.node
-    (subst (λ l. turns.Hears now l turn.received t.is.middle.node t.is.acts.middle turn.heard) (sym t.is.acts.buffer) t.is.acts.hears)
+pub turn_hears : (now : ℕ) (before : BoundNode) (turn : turns.Turn) (after : BoundNode) (t : IsSomeTurn now before turn after) → before.reuse ≡ false
+    → turns.Hears false now after.buffer turn.received before.node t.is.acts.middle turn.heard
+turn_hears now before turn after t off =
+    subst (λ n. turns.Hears false now after.buffer turn.received n t.is.acts.middle turn.heard) t.is.receives.node
+    (subst (λ l. turns.Hears false now l turn.received t.is.middle.node t.is.acts.middle turn.heard) (sym t.is.acts.buffer)
+    (subst (λ b. turns.Hears b now t.is.middle.buffer turn.received t.is.middle.node t.is.acts.middle turn.heard) (t.is.receives.reuse ∙ off) t.is.acts.hears))
 
 module _ (overtake : ℕ) (old : Plant) (i : ℕ) (source : Source) (turn : turns.Turn) (new : Plant) (t : TakesTurnAt overtake old i source turn new) where
   abbrev acts : turns.Acts (shows old i) t.takes.is.middle turn t.after
@@ -275,8 +276,8 @@ module _ (overtake : ℕ) (old : Plant) (i : ℕ) (source : Source) (turn : turn
   first_at : slice_get (nodes_of old.stations) i ≡ Some t.before.node
   first_at = node_at old.stations i t.before t.at
 
-  hears : turns.Hears (shows old i) t.after.buffer turn.received t.before.node acts.middle turn.heard
-  hears = turn_hears (shows old i) t.before turn t.after t.takes
+  hears : turns.Hears false (shows old i) t.after.buffer turn.received t.before.node acts.middle turn.heard
+  hears = turn_hears (shows old i) t.before turn t.after t.takes t.off
 
   abbrev split : AreParted (nodes_of old.stations) old.time.now i (sends_of turn.heard) (sends_of turn.ticked) t.sent
   split = copied_split (nodes_of old.stations) old.time.now i (sends_of turn.heard) (sends_of turn.ticked) t.sent t.copied

@@ -1,5 +1,5 @@
 -- After each run of a plant, whatever a call promises can be its next step.
-use Rattle.std.specs.Prelude.{◌≡◌, ℕ, List, Option, Some, None, slice_get}
+use Rattle.std.specs.Prelude.{◌≡◌, ℕ, false, List, Option, Some, None, slice_get}
 use Rattle.bac_apdu.specs.Apdu.{Limits}
 use Rattle.bac_npdu.specs.Peers.{PeerView}
 use Rattle.bac_service.specs.Values.{Request}
@@ -33,10 +33,11 @@ pub record LeadsTo (overtake : ℕ) (p : Plant) (step : Step) (station : ℕ) (a
   pub goes : PlantStep overtake p step new
   pub there : slice_get new.stations station ≡ Some after
 
--- each turn of a station at the moment of its clock, by a datagram that the network may hand over
+-- each turn of a station at the moment of its clock, by a datagram that the network may hand over, where it lets no client use an invoke ID again
 abbrev pub TurnsGoOn : (overtake : ℕ) → Plant → Type 0
 TurnsGoOn overtake p =
-    (i : ℕ) (before : BoundNode) → slice_get p.stations i ≡ Some before → (turn : Turn) (after : BoundNode) → IsSomeTurn (shows p i) before turn after
+    (i : ℕ) (before : BoundNode) → slice_get p.stations i ≡ Some before → before.reuse ≡ false → (turn : Turn) (after : BoundNode)
+    → IsSomeTurn (shows p i) before turn after
     → (source : Source) → HandsOver overtake p i source turn.received after.buffer → LeadsTo overtake p (Takes i source turn) i after
 
 -- each ask of another station that its node accepts

@@ -1,5 +1,5 @@
 -- What happens in a plant: time passes, and a station does what a call of bac_driver promises, at the moment that its clock shows.
-use Rattle.std.specs.Prelude.{◌≡◌, ℕ, List, ◌∷◌, ◌++◌, length, Option, Some, None, slice_get, slice_set}
+use Rattle.std.specs.Prelude.{◌≡◌, ℕ, false, List, ◌∷◌, ◌++◌, length, Option, Some, None, slice_get, slice_set}
 use Rattle.bac_apdu.specs.Apdu.{Limits}
 use Rattle.bac_npdu.specs.Peers.{PeerView}
 use Rattle.bac_service.specs.Values.{Request}
@@ -60,10 +60,12 @@ pub record AreEntered (p : Plant) (i : ℕ) (middle : Node) (turn : Turn) (log :
   pub performs : AreLogged (nodes_of p.stations) p.notes i middle (performed_of turn.heard) ended performed
   pub gives_up : AreEnded p.notes i (ended_of turn.ticked) performed log
 
--- a station takes a turn: what it received comes from there, what it sends becomes copies, and what it ended and performed enters the log
+-- a station takes a turn: what it received comes from there, what it sends becomes copies, and what it ended and performed enters the log. It lets no client
+-- use an invoke ID again before the life of its entry is over.
 pub record TakesTurnAt (overtake : ℕ) (old : Plant) (i : ℕ) (source : Source) (turn : Turn) (new : Plant) : Type 0 where
   pub before : BoundNode
   pub at : slice_get old.stations i ≡ Some before
+  pub off : before.reuse ≡ false
   pub after : BoundNode
   pub takes : IsSomeTurn (shows old i) before turn after
   pub comes : HandsOver overtake old i source turn.received after.buffer

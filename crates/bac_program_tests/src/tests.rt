@@ -21,6 +21,8 @@ mod progress;
 mod restarts;
 mod served_documents;
 mod sockets;
+mod told;
+mod whole_files;
 mod wrong;
 
 /// What is printed, what is complained of, and the exit status.

@@ -8,4 +8,5 @@ pub mod Values
 pub mod SlotAges
 pub mod Numbers
 pub mod Aging
+pub mod Removed
 pub mod Fronts

@@ -17,6 +17,7 @@ mod index_slots;
 mod laws;
 mod places;
 mod plain_slots;
+mod removing;
 mod slot;
 mod slot_table;
 mod sweeping;
@@ -34,6 +35,7 @@ pub use laws::{
     setting_again, slots_in_order, sweeping_slots,
 };
 pub use plain_slots::PlainSlots;
+pub use removing::remove;
 pub use slot::Slot;
 pub use slot_table::{Count, SlotTable};
 pub use sweeping::{Test, count_passing, has_room_once_swept, sweep, sweep_oldest};

@@ -3,7 +3,7 @@ use Rattle.std.proofs.Common.{◌≡◌, Bool, true, false, List, [], ◌∷◌,
 use Rattle.std.proofs.Common.{if◌then◌else◌, refl, ap, ◌∙◌}
 use Rattle.std.specs.Ordering.{is_gt}
 use Rattle.bac_slots.specs.declared.slot.Slot.{Slot}
-use Rattle.bac_slots.specs.Slots.{value_at, with_value, inserted, in_order}
+use Rattle.bac_slots.specs.Slots.{value_at, with_value, without, inserted, in_order}
 use Rattle.bac_transaction.specs.Keys.{peer_key_cmp, same_key}
 use Rattle.bac_transaction.specs.Views.{peer_key_view, slot_view, slots_view, code_key_cmp, code_same_key}
 use Rattle.bac_transaction.specs.declared.peer_key.PeerKey.{PeerKey}
@@ -24,6 +24,17 @@ module _ (T : Type 0) where
       go : (b : Bool) → slots_view (with_value code_same_key key v slots) ≡ with_value same_key (peer_key_view key) v (slots_view slots)
           → slots_view (if b then record s { value = v } ∷ slots else s ∷ with_value code_same_key key v slots)
           ≡ (if b then record (slot_view s) { value = v } ∷ slots_view slots else slot_view s ∷ with_value same_key (peer_key_view key) v (slots_view slots))
+      go true e = refl
+      go false e = ap (λ l. slot_view s ∷ l) e
+
+  pub without_viewed : (key : PeerKey) (slots : List Item)
+      → slots_view (without code_same_key key slots) ≡ without same_key (peer_key_view key) (slots_view slots)
+  without_viewed key [] = refl
+  without_viewed key (s ∷ slots) = go (code_same_key s.key key) (without_viewed key slots)
+    where
+      go : (b : Bool) → slots_view (without code_same_key key slots) ≡ without same_key (peer_key_view key) (slots_view slots)
+          → slots_view (if b then slots else s ∷ without code_same_key key slots)
+          ≡ (if b then slots_view slots else slot_view s ∷ without same_key (peer_key_view key) (slots_view slots))
       go true e = refl
       go false e = ap (λ l. slot_view s ∷ l) e
 

@@ -3,6 +3,7 @@ pub mod Short
 pub mod Pieces
 pub mod Keyed
 pub mod Computed
+pub mod ReuseComputed
 pub mod KeyOrder
 pub mod Holding
 pub mod KeyedSlots

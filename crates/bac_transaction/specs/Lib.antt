@@ -8,3 +8,5 @@ pub mod Tables
 pub mod Meanings
 pub mod Examples
 pub mod Services
+pub mod Reuse
+pub mod ReuseExamples

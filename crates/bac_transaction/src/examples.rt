@@ -1,5 +1,6 @@
 //! Ends that are computed: they show that the definitions do what the protocol's tables say.
 ghost use Rattle.bac_transaction.specs.Examples.{LeastInvokeId, LeastAround, HeldFor, SlotHeldFor, TickOrder, KeptReply, FullTable, WaitsToAsk, WaitsToServe};
+ghost use Rattle.bac_transaction.specs.ReuseExamples.{InSegments, UsedAgain, WithoutRoom};
 
 /// Which invoke ID an ask takes, and how long a slot is held.
 #[tactic(auto, using(crate::proofs::Computed::least_invoke_id, crate::proofs::Computed::least_around, crate::proofs::Computed::held_for, crate::proofs::Computed::slot_held_for))]
@@ -28,4 +29,12 @@ pub fn reply_table()
 pub fn waits()
     ensures asks { WaitsToAsk }
     ensures serves { WaitsToServe }
+{}
+
+/// What becomes of an invoke ID that is used again, where the server's end lets it.
+#[tactic(auto, using(crate::proofs::ReuseComputed::used_again, crate::proofs::ReuseComputed::without_room, crate::proofs::ReuseComputed::in_segments))]
+pub fn invoke_ids_again()
+    ensures again { UsedAgain }
+    ensures room { WithoutRoom }
+    ensures segments { InSegments }
 {}

@@ -99,13 +99,18 @@ impl Member {
 }
 
 impl Scene {
-    /// A new world.
-    pub(super) fn world(&self, alloc: Global) -> Option<World> {
+    /// What its nodes are made of.
+    pub(super) fn made(&self, alloc: Global) -> Option<Vec<(Config, Store)>> {
         let mut nodes = Vec::new(alloc);
         for (number, member) in self.members.iter().enumerate() {
             put(&mut nodes, member.made(alloc, (number % 256) as u8)?)?;
         }
-        match World::new(alloc, nodes, self.overtake) {
+        Some(nodes)
+    }
+
+    /// A new world.
+    pub(super) fn world(&self, alloc: Global) -> Option<World> {
+        match World::new(alloc, self.made(alloc)?, self.overtake) {
             Ok(world) => Some(world),
             Err(_) => None,
         }

@@ -22,8 +22,8 @@ const WORDS: &[(&str, &str)] = &[
     ("explain x --port 65536", "65536"),
     ("check x --port 0", "0 is not in 1..=65535"),
     ("check x --text --notes", "--notes"),
-    ("serve", "--port <P>"),
-    ("serve --turns 2", "--port <P>"),
+    ("serve --port", "--port <P>"),
+    ("serve --log loud", "loud"),
     ("serve --port 47899 --slots 0", "0 is not in 1..=1024"),
     ("serve --port 47899 --slots 1025", "1025"),
     (

@@ -173,6 +173,67 @@ serving from 65501
             0,
         ),
     ),
+    // by levels
+    (
+        Behind::Datagrams(REQUESTS),
+        "serve --turns 8 --log lines",
+        ("served 4\n", REQUEST_LINES, 0),
+    ),
+    (
+        Behind::Datagrams(REQUESTS),
+        "serve --turns 8 --log requests",
+        (
+            "served 4\n",
+            "\
+1500 127.0.0.1:47809 id 1 read analog-input:5 present-value: answered real 72.3
+4500 127.0.0.1:47810 id 1 read analog-input:9 present-value: answered error object unknown-object (1:31)
+5500 127.0.0.1:47809/5:2A id 2 read analog-input:5 present-value: answered real 72.3
+8500 127.0.0.1:47809 id 5 write analog-value:1 present-value real 180.0: answered written
+",
+            0,
+        ),
+    ),
+    (
+        Behind::Datagrams(REQUESTS),
+        "serve --turns 8 --log changes",
+        (
+            "served 4\n",
+            "\
+8500 127.0.0.1:47809 id 5 write analog-value:1 present-value real 180.0: answered written
+",
+            0,
+        ),
+    ),
+    (
+        Behind::Datagrams(SEGMENTS),
+        "serve --turns 8 --log all",
+        (
+            "served 3\n",
+            "\
+1500 127.0.0.1:47809 id 6 service 7 segment 0: segment-ack 0
+2500 127.0.0.1:47809 id 6 append file:1 AABBCC: answered position 2
+3500 127.0.0.1:47809 id 7 put file:1 0 0000000000000000000000000000000000000000000000000000000000000000.. (60 octets): answered position 0
+4500 127.0.0.1:47809 id 8 get file:1 0 100: answered file 1 0 0000000000000000000000000000000000000000000000000000000000000000.. (60 octets)
+5500 127.0.0.1:47809 unconfirmed-request 8: nothing
+6500 127.0.0.1:47809 unconfirmed-request 8: nothing
+6500 timer: 1 sent again
+7500 127.0.0.1:47809 id 8 segment-ack 0: segment 1
+",
+            0,
+        ),
+    ),
+    (
+        Behind::Datagrams(SEGMENTS),
+        "serve --turns 8 --log changes",
+        (
+            "served 3\n",
+            "\
+2500 127.0.0.1:47809 id 6 append file:1 AABBCC: answered position 2
+3500 127.0.0.1:47809 id 7 put file:1 0 0000000000000000000000000000000000000000000000000000000000000000.. (60 octets): answered position 0
+",
+            0,
+        ),
+    ),
 ];
 
 fn bench_of(behind: Behind) -> Bench {

@@ -33,8 +33,8 @@ const ROWS: &[(&str, Ending)] = &[
         "ask --to 127.0.0.9:47896 --timeout 1 --every 1 --times 2 read 0:5 85",
         ("no ending\nno ending\n", "", 1),
     ),
-    ("check no/such/capture", ("", "cannot read\n", 2)),
-    ("simulate no/such/script", ("", "cannot read\n", 2)),
+    ("check no/such/capture", ("", "cannot read\nno/such/capture: No such file or directory (os error 2)\n", 2)),
+    ("simulate no/such/script", ("", "cannot read\nno/such/script: No such file or directory (os error 2)\n", 2)),
 ];
 
 #[test]

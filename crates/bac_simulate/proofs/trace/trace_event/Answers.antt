@@ -41,8 +41,8 @@ returns-in-Some g c =
     let b = c.add_refused-in-Some.new.marks.items in
     let told = c.in-Err.ensures in
     let added : AddsMarks a b (change_marks why (happening_view e) old) =
-    subst (λ (now : ℕ). AddsMarks a b (refused_mark now (happening_view e) (change_fault_number why) ∷ [])) c.now-now.ensures
-    (subst (λ (fault : ℕ). AddsMarks a b (refused_mark c.now-now.result (happening_view e) fault ∷ [])) c.number-in-Some.ensures
+    subst (λ (now : ℕ). AddsMarks a b (refused_mark now (happening_view e) (change_fault_number why) ∷ [])) c.ms_now-now.ensures
+    (subst (λ (fault : ℕ). AddsMarks a b (refused_mark c.ms_now-now.result (happening_view e) fault ∷ [])) c.number-in-Some.ensures
     c.in_ok-add_refused-in-Some.ensures) in (
       change_marks why (happening_view e) old,
       (
@@ -60,7 +60,7 @@ returns g c =
       (
         subst (λ (b : Bool). Steps in_marks c.args.line b (Happens (happening_view e)) c.args.world.now c.step.new.self []) (sym c.stops.ensures)
             (fails in_marks c.args.line e c.in-Err.fault c.args.world.now c.step.new.self [] (sym c.change_fault_in.ensures ∙ c.in-None.is) told.node
-            told.datagram told.clock told.change told.memory told.err refl),
+            told.datagram told.link told.clock told.change told.memory told.err refl),
         sym (append-nil (map mark_view c.args.marks.now.items)),
       ),
     )

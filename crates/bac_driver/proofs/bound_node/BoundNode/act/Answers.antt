@@ -4,7 +4,7 @@ use Rattle.bac_driver.proofs.bound_node.BoundNode.act.Goals as goal
 
 pub returns-clause-acted : goal.returns-clause-acted
 returns-clause-acted g c =
-    acted _ c.deref.result.now _ _ _ c.on_received-heard.new.node _ c.self.view_is c.deref.ensures.value refl refl c.on_received-heard.ensures.heard
+    acted _ c.deref.result.now _ _ _ c.on_received-heard.new.node _ c.self.view_is c.deref.ensures.value refl refl refl c.on_received-heard.ensures.heard
     c.on_due-ticked.ensures
     (carried_of _ _ _ _ _ _ _ c.sends_of.ensures c.sends_of-2.ensures
     (carried _ _ c.send_all-first_lost.result c.send_all-second_lost.result _ _ _ _ _

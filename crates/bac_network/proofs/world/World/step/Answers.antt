@@ -5,7 +5,7 @@ use Rattle.bac_network.specs.Clocks.{instant}
 use Rattle.bac_network.specs.Histories.{WorldView, view_of}
 use Rattle.bac_network.specs.Networks.{world_of}
 use Rattle.bac_network.specs.Views.{event_view}
-use Rattle.bac_network.proofs.Happening.{node_exactly, copy_exactly, clock_exactly, change_exactly, memory_only, step_is, told_is, same_seen}
+use Rattle.bac_network.proofs.Happening.{node_exactly, copy_exactly, link_exactly, clock_exactly, change_exactly, memory_only, step_is, told_is, same_seen}
 use Rattle.bac_network.proofs.Histories.{alone_after, ended_now, kept_after, once_now, performed_now, permitted_now, ready_now, replayed_now, requests_now}
 use Rattle.bac_network.proofs.world.World.step.Goals as goal
 
@@ -69,6 +69,13 @@ pub returns-clause-datagram : goal.returns-clause-datagram
 returns-clause-datagram c =
     rw (← c.self.view_is)
     (copy_exactly c.self.inside.overtake (world_of c.self.inside.network) (world_of c.step.new.self) (event_view (instant c.self.inside.network.journal)
+    c.args.event.now) c.step.result
+    c.step.ensures.happens)
+
+pub returns-clause-link : goal.returns-clause-link
+returns-clause-link c =
+    rw (← c.self.view_is)
+    (link_exactly c.self.inside.overtake (world_of c.self.inside.network) (world_of c.step.new.self) (event_view (instant c.self.inside.network.journal)
     c.args.event.now) c.step.result
     c.step.ensures.happens)
 

@@ -1,0 +1,61 @@
+//! The faults of a document, each with its line.
+use crate::fault::{Place, Refusal};
+use crate::problem::Wanted;
+use std::fmt;
+
+/// What is wrong at a place of a document.
+#[derive(Debug, Drop)]
+pub enum Wrong {
+    /// A key that has no meaning there, and the known key that is most like it, where one is.
+    UnknownKey {
+        key: String,
+        near: Option<&'static str>,
+    },
+    /// A value that is not allowed: what is wanted, and what is there, in words or as TOML writes it.
+    Value {
+        wanted: Wanted,
+        found: String,
+    },
+    /// Each key and value is allowed, but the objects together are no store.
+    Refused(Refusal),
+}
+
+/// A fault of a document, and where it is.
+#[derive(Debug, Drop)]
+pub struct Finding {
+    /// The number of the line, from 1 on: of the key, or of the head of its object where the key is missing. None where the document has no such line.
+    pub line: Option<usize>,
+    pub place: Place,
+    pub wrong: Wrong,
+}
+
+impl fmt::Display for Wrong {
+    fn fmt<W: fmt::Write>(&self, f: &mut fmt::Formatter<W>) -> fmt::Result {
+        match self {
+            Wrong::UnknownKey {
+                key,
+                near: Some(near),
+            } => write!(f, "unknown key \"{key}\", did you mean {near}"),
+            Wrong::UnknownKey { key, near: None } => write!(f, "unknown key \"{key}\""),
+            Wrong::Value { wanted, found } => {
+                let wanted = match wanted {
+                    Wanted::Float => "number",
+                    _ => wanted.words(),
+                };
+                write!(f, "{wanted} wanted, {found} given")
+            }
+            Wrong::Refused(refusal) => write!(f, "{refusal}"),
+        }
+    }
+}
+
+impl fmt::Display for Finding {
+    fn fmt<W: fmt::Write>(&self, f: &mut fmt::Formatter<W>) -> fmt::Result {
+        if let Some(line) = self.line {
+            write!(f, "line {line}: ")?;
+        }
+        let place = &self.place;
+        let wrong = &self.wrong;
+        write!(f, "{place}{wrong}")
+    }
+}

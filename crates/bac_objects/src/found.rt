@@ -1,0 +1,84 @@
+//! What a document has in place of what is wanted, in words.
+use crate::held::{forms, found};
+use crate::known_keys::unknown_in;
+use crate::problem::{Given, Problem, Wanted};
+use bac_value::NoMemory;
+use std::alloc::Global;
+use toml::{Table, Value};
+
+/// How many octets of a value are shown.
+const MOST_SHOWN: usize = 60;
+
+/// The key of a value's table that has no meaning there, where that is what is wrong.
+pub(crate) fn unknown_key(value: Option<&Value>, problem: Problem) -> Option<&str> {
+    let has_limits = match problem {
+        Problem {
+            wanted: Wanted::OneValue,
+            given: Given::More | Given::Nothing,
+        } => false,
+        Problem {
+            wanted: Wanted::LimitedValue,
+            given: Given::More,
+        }
+        | Problem {
+            wanted: Wanted::Limits,
+            given: Given::Other,
+        } => true,
+        _ => return None,
+    };
+    match value? {
+        Value::Table(table) => unknown_in(table, has_limits),
+        _ => None,
+    }
+}
+
+/// The value of a table that a problem is about: that under the word of its kind, or the flag.
+fn inner(table: &Table, problem: Problem) -> Option<&Value> {
+    match problem.wanted {
+        Wanted::Mark => table.get("writable"),
+        Wanted::Value | Wanted::OneValue | Wanted::LimitedValue | Wanted::Limits => None,
+        Wanted::Identifier | Wanted::ObjectType | Wanted::AnyInstance => None,
+        _ => match found(forms(), table) {
+            Ok((_, value)) => Some(value),
+            Err(_) => None,
+        },
+    }
+}
+
+/// The value that a problem is about: one in a table, or the value itself.
+fn at_fault<'a>(value: &'a Value, problem: Problem) -> &'a Value {
+    match value {
+        Value::Table(table) => inner(table, problem).unwrap_or(value),
+        _ => value,
+    }
+}
+
+/// A value as TOML writes it, or the beginning of a long one.
+fn shown(alloc: Global, value: &Value) -> Result<String, NoMemory> {
+    let text = format!(in alloc; "{value}")?;
+    if text.len() <= MOST_SHOWN {
+        return Ok(text);
+    }
+    let octets = text.len();
+    match text.as_str().get(..MOST_SHOWN) {
+        Some(front) => Ok(format!(in alloc; "{front} .. ({octets} octets)")?),
+        None => Ok(format!(in alloc; "a value of {octets} octets")?),
+    }
+}
+
+/// What is given in place of what is wanted: the value as TOML writes it, or words where there is none or it does not tell.
+pub(crate) fn found_words(
+    alloc: Global,
+    value: Option<&Value>,
+    problem: Problem,
+) -> Result<String, NoMemory> {
+    let words = match problem.given {
+        Given::Nothing => "nothing",
+        Given::Again => "the same again",
+        _ => "another one",
+    };
+    match (problem.given, value) {
+        (Given::Nothing | Given::Again, _) | (_, None) => Ok(String::from_str(alloc, words)?),
+        (_, Some(value)) => shown(alloc, at_fault(value, problem)),
+    }
+}

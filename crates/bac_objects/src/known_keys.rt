@@ -1,0 +1,110 @@
+//! The keys that have a meaning in a document, and which of them is most like an unknown one.
+use crate::form::FORMS;
+use std::alloc::{AllocError, Global};
+use toml::Table;
+
+/// The keys of a document.
+pub(crate) const DOCUMENT_KEYS: &[&str] = &["object", "described"];
+
+/// The keys of an object.
+pub(crate) const OBJECT_KEYS: &[&str] = &[
+    "type",
+    "instance",
+    "name",
+    "file",
+    "description",
+    "present-value",
+];
+
+/// The same, and properties that many objects have, in a document that describes its objects.
+pub(crate) const DESCRIBED_KEYS: &[&str] = &[
+    "type",
+    "instance",
+    "name",
+    "file",
+    "description",
+    "present-value",
+    "units",
+    "status-flags",
+    "event-state",
+    "out-of-service",
+    "reliability",
+    "number-of-states",
+    "state-text",
+    "relinquish-default",
+    "priority-array",
+    "vendor-name",
+    "vendor-identifier",
+    "model-name",
+    "location",
+    "system-status",
+];
+
+/// The keys of the table of a value, without the words for its kind.
+const VALUE_KEYS: &[&str] = &["writable", "min", "max", "one-of"];
+
+/// How many letters may be missing, wrong or swapped in a key that is like another one.
+const MOST_EDITS: usize = 2;
+
+/// How like a known key is, where it is like enough: how many edits lead there.
+fn edits_to(alloc: Global, key: &str, known: &'static str) -> Result<Option<usize>, AllocError> {
+    let edits = strsim::osa_distance(alloc, key, known)?;
+    if edits <= MOST_EDITS && edits < known.len() {
+        Ok(Some(edits))
+    } else {
+        Ok(None)
+    }
+}
+
+/// The known key that is most like a key, where one is like it.
+pub(crate) fn nearest(
+    alloc: Global,
+    key: &str,
+    all: &[&'static str],
+) -> Result<Option<&'static str>, AllocError> {
+    let mut best: Option<&'static str> = None;
+    let mut fewest = MOST_EDITS.saturating_add(1);
+    for known in all {
+        if let Some(edits) = edits_to(alloc, key, *known)? {
+            if edits < fewest {
+                fewest = edits;
+                best = Some(*known);
+            }
+        }
+    }
+    Ok(best)
+}
+
+/// The known key of the table of a value that is most like a key: a word for a kind, or another key.
+pub(crate) fn nearest_of_value(
+    alloc: Global,
+    key: &str,
+) -> Result<Option<&'static str>, AllocError> {
+    if let Some(near) = nearest(alloc, key, VALUE_KEYS)? {
+        return Ok(Some(near));
+    }
+    let mut words = Vec::new(alloc);
+    for row in FORMS {
+        words.push(row.0)?;
+    }
+    nearest(alloc, key, &words)
+}
+
+/// Whether a key has a meaning in the table of a value.
+fn is_of_value(key: &str, has_limits: bool) -> bool {
+    match key {
+        "writable" => true,
+        "min" | "max" | "one-of" => has_limits,
+        _ => FORMS.iter().any(|row| row.0 == key),
+    }
+}
+
+/// The first key of the table of a value that has no meaning there.
+pub(crate) fn unknown_in(table: &Table, has_limits: bool) -> Option<&str> {
+    for (key, _) in table.iter() {
+        if !is_of_value(key.as_str(), has_limits) {
+            return Some(key.as_str());
+        }
+    }
+    None
+}

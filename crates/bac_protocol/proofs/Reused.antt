@@ -1,0 +1,125 @@
+-- Laws of the machine that lets invoke IDs be used again.
+use Rattle.std.proofs.Common.{◌≡◌, ℕ, ◌⊎◌, Bool, true, false, ◌&&◌, ◌||◌, not, [], ◌∷◌, Option, Some, None, if◌then◌else◌, refl, ap, sym, inl, inr, ◌∙◌, nat_eq}
+use Rattle.std.specs.Prelude.{is_some}
+use Rattle.bac_apdu.specs.Apdu.{Apdu, Limits, Segment}
+use Rattle.bac_apdu.specs.Apdu.Apdu.{ConfirmedRequest}
+use Rattle.bac_protocol.specs.Context.{Context}
+use Rattle.bac_protocol.specs.Reuse.{Reads, ends_entry, entry_left, idle_on_read, idle_reusing, is_ended_by, is_over, left_on_apdu, reads_so, reusing_on_apdu}
+use Rattle.bac_protocol.specs.ReuseLaws.{GoesOnAsEver, PerformsWhereEnded, ReadsAreFresh, fresh_read}
+use Rattle.bac_protocol.specs.Server.{Effect, Reaction, ServerTransaction, Service, begins, idle_on_request, is_kept, is_live, is_none_live, performs_so, sends_reply}
+use Rattle.bac_protocol.specs.Server.{server_on_apdu}
+use Rattle.bac_protocol.specs.Service.{Octets, Outcome, Reply}
+use Rattle.bac_protocol.specs.Service.Outcome.{Replies}
+use Rattle.bac_protocol.specs.Sizes.{Way, reply_way_of}
+use Rattle.bac_protocol.specs.Sizes.Way.{InOne}
+use Rattle.bac_protocol.specs.Steps.{MayPerform}
+use Rattle.bac_protocol.proofs.Served.{effects_are_kept}
+
+module _ (c : Context) (service : Service) (reads : Reads) (e : ServerTransaction) (free : Bool) (live : is_live c.now e ≡ true) where
+  ended_as : (a : Apdu) (b : Bool) → is_ended_by reads e a ≡ b → ends_entry reads c.now (Some e) a ≡ b
+  ended_as a b is = ap (λ x. x && is_ended_by reads e a) live ∙ is
+
+  pub goes_on_where : (a : Apdu) → is_ended_by reads e a ≡ false → reusing_on_apdu c service reads (Some e) free a ≡ server_on_apdu c service (Some e) free a
+  goes_on_where a stays =
+      ap (λ x. left_on_apdu c service reads (if x then None else Some e) free a) (ended_as a false stays)
+      ∙ ap (λ x. if (if x then false else true) then idle_reusing c service reads (Some e) free a else server_on_apdu c service (Some e) free a) live
+
+not_over : (reads : Reads) (e : ServerTransaction) (a : Apdu) → is_over e.state ≡ false → is_ended_by reads e a ≡ false
+not_over reads e (ConfirmedRequest limits id None choice octets) over = ap (λ x. x && (reads choice || not (is_kept e e.request choice octets))) over
+not_over reads e (ConfirmedRequest limits id (Some segment) choice octets) over = ap (λ x. x && (nat_eq segment.number 0 && is_some e.request)) over
+not_over reads e _ over = refl
+
+and_false : (b : Bool) → b && false ≡ false
+and_false true = refl
+and_false false = refl
+
+kept_stays : (reads : Reads) (e : ServerTransaction) (limits : Limits) (id choice : ℕ) (octets : Octets) → reads choice ≡ false
+    → is_kept e e.request choice octets ≡ true → is_ended_by reads e (ConfirmedRequest limits id None choice octets) ≡ false
+kept_stays reads e limits id choice octets no_read kept =
+    ap (λ x. is_over e.state && (x || not (is_kept e e.request choice octets))) no_read ∙ ap (λ x. is_over e.state && not x) kept ∙ and_false (is_over e.state)
+
+segment_stays : (reads : Reads) (e : ServerTransaction) (limits : Limits) (id choice : ℕ) (segment : Segment) (octets : Octets) → e.request ≡ None
+    → is_ended_by reads e (ConfirmedRequest limits id (Some segment) choice octets) ≡ false
+segment_stays reads e limits id choice segment octets none =
+    ap (λ o. is_over e.state && (nat_eq segment.number 0 && is_some o)) none ∙ ap (λ x. is_over e.state && x) (and_false (nat_eq segment.number 0))
+    ∙ and_false (is_over e.state)
+
+pub goes_on_as_ever : GoesOnAsEver
+goes_on_as_ever = record {
+  off = λ c service reads entry free a. refl;
+  going = λ c service reads e free a live over. goes_on_where c service reads e free live a (not_over reads e a over);
+  kept = λ c service reads e free limits id choice octets live no_read kept.
+      goes_on_where c service reads e free live (ConfirmedRequest limits id None choice octets) (kept_stays reads e limits id choice octets no_read kept);
+  segments = λ c service reads e free limits id choice segment octets live none.
+      goes_on_where c service reads e free live (ConfirmedRequest limits id (Some segment) choice octets)
+      (segment_stays reads e limits id choice segment octets none);
+}
+
+-- Where a request is performed.
+
+performs_at : (c : Context) (service : Service) (reads : Reads) (o : Option ServerTransaction) (free : Bool) (a : Apdu) (x : Effect)
+    → (left_on_apdu c service reads o free a).effect ≡ Some x → MayPerform c.now o
+performs_at c service reads None free a x is = tt
+performs_at c service reads (Some e) free a x is = go (is_live c.now e) refl
+  where
+    go : (b : Bool) → is_live c.now e ≡ b → MayPerform c.now (Some e)
+    go false dead = inl dead
+    go true live =
+        let same = ap (λ y. (if (if y then false else true) then idle_reusing c service reads (Some e) free a else server_on_apdu c service (Some e) free a).effect) live in
+        (effects_are_kept.gets c service (Some e) free a x (sym same ∙ is)).before
+
+pub performs_where_ended : PerformsWhereEnded
+performs_where_ended c service reads o free a x is = go (ends_entry reads c.now o a) refl
+  where
+    go : (b : Bool) → ends_entry reads c.now o a ≡ b → MayPerform c.now o ⊎ (ends_entry reads c.now o a ≡ true)
+    go true ends = inr ends
+    go false stays =
+        let same = ap (λ y. (left_on_apdu c service reads (if y then None else o) free a).effect) stays in
+        inl (performs_at c service reads o free a x (sym same ∙ is))
+
+-- Reads.
+
+module _ (c : Context) (service : Service) (reads : Reads) (free : Bool) (limits : Limits) (id choice : ℕ) (octets : Octets) (reply : Reply)
+    (read : reads choice ≡ true) (outcome : service choice octets ≡ Replies reply) (way : reply_way_of c.settings limits reply ≡ InOne) where
+  abbrev begun : ServerTransaction
+  begun = begins c choice limits (Some octets)
+
+  passes : (o : Option ServerTransaction) → idle_on_read c service o free choice limits octets ≡ fresh_read c o choice octets reply
+  passes o =
+      ap (λ (y : Outcome). reads_so c o free (performs_so c begun [] octets y)) outcome
+      ∙ ap (λ (y : Way ℕ). reads_so c o free (sends_reply c begun [] octets reply y)) way
+
+  read_at : (o : Option ServerTransaction) → is_none_live c.now o ≡ true
+      → left_on_apdu c service reads o free (ConfirmedRequest limits id None choice octets) ≡ fresh_read c o choice octets reply
+  read_at o none =
+      let a : Apdu = ConfirmedRequest limits id None choice octets in
+      ap (λ y. if y then idle_reusing c service reads o free a else server_on_apdu c service o free a) none
+      ∙ ap (λ y. if y then idle_on_read c service o free choice limits octets else idle_on_request c service o free choice limits octets) read ∙ passes o
+
+  fresh_none : (o : Option ServerTransaction) → is_none_live c.now o ≡ true
+      → reusing_on_apdu c service reads o free (ConfirmedRequest limits id None choice octets) ≡ fresh_read c o choice octets reply
+  fresh_none None none = read_at None none
+  fresh_none (Some e) none = go (is_live c.now e) refl
+    where
+      a : Apdu
+      a = ConfirmedRequest limits id None choice octets
+
+      go : (b : Bool) → is_live c.now e ≡ b → reusing_on_apdu c service reads (Some e) free a ≡ fresh_read c (Some e) choice octets reply
+      go false dead = ap (λ y. left_on_apdu c service reads (if y && is_ended_by reads e a then None else Some e) free a) dead ∙ read_at (Some e) none
+      go true live = absurd (let no : false ≡ true = sym (ap (λ y. if y then false else true) live) ∙ none in cc)
+
+  fresh_over : (e : ServerTransaction) → is_live c.now e ≡ true → is_over e.state ≡ true
+      → reusing_on_apdu c service reads (Some e) free (ConfirmedRequest limits id None choice octets) ≡ fresh_read c None choice octets reply
+  fresh_over e live over =
+      let a : Apdu = ConfirmedRequest limits id None choice octets in
+      let ends : is_ended_by reads e a ≡ true =
+      ap (λ y. y && (reads choice || not (is_kept e e.request choice octets))) over ∙ ap (λ y. y || not (is_kept e e.request choice octets)) read in
+      ap (λ y. left_on_apdu c service reads (if y then None else Some e) free a) (ended_as c service reads e free live a true ends) ∙ read_at None refl
+
+pub reads_are_fresh : ReadsAreFresh
+reads_are_fresh = record {
+  none = λ c service reads entry free limits id choice octets reply dead read outcome way.
+      fresh_none c service reads free limits id choice octets reply read outcome way entry dead;
+  over = λ c service reads e free limits id choice octets reply live over read outcome way.
+      fresh_over c service reads free limits id choice octets reply read outcome way e live over;
+}

@@ -1,0 +1,33 @@
+-- The server's end of a node that lets clients use an invoke ID again as soon as its transaction is over.
+use Rattle.std.specs.Prelude.{ℕ, Bool, ◌||◌, if◌then◌else◌, nat_eq, List}
+use Rattle.bac_apdu.specs.Apdu.{Apdu}
+use Rattle.bac_npdu.specs.Peers.{PeerView}
+use Rattle.bac_slots.specs.Slots.{value_at, without}
+use Rattle.bac_service.specs.declared.service.TheConstants.{ATOMIC_READ_FILE, READ_PROPERTY}
+use Rattle.bac_protocol.specs.Context.{Settings}
+use Rattle.bac_protocol.specs.Reuse.{ends_entry, reusing_on_apdu}
+use Rattle.bac_protocol.specs.Server.{Service}
+use Rattle.bac_transaction.specs.Keys.{PeerKey, same_key}
+use Rattle.bac_transaction.specs.Ends.{ServerEnd, ServerSlot, ServerTurn, context_of, is_free, key_of, responder_on_apdu, server_goes}
+
+-- the requests that change no store: ReadProperty and AtomicReadFile (clauses 15.5 and 14.1)
+abbrev pub is_read : (choice : ℕ) → Bool
+is_read choice = nat_eq choice READ_PROPERTY || nat_eq choice ATOMIC_READ_FILE
+
+-- the slots without the entry of that key, if it ends
+abbrev pub slots_left : (ends : Bool) → PeerKey → List ServerSlot → List ServerSlot
+slots_left ends key slots = if ends then without same_key key slots else slots
+
+-- the end without the entry that the APDU of that key ends, if any
+abbrev pub end_left : (now : ℕ) → PeerKey → Apdu → ServerEnd → ServerEnd
+end_left now key a e = record e { slots = slots_left (ends_entry is_read now (value_at same_key key e.slots) a) key e.slots }
+
+-- the turn that an APDU of that key makes of an end
+abbrev pub reusing_turn : Settings → (now : ℕ) → Service → PeerKey → Apdu → ServerEnd → ServerTurn
+reusing_turn c now service key a e =
+    server_goes now (end_left now key a e) key
+    (reusing_on_apdu (context_of c now key) service is_read (value_at same_key key e.slots) (is_free now (end_left now key a e)) a)
+
+-- an APDU comes from a peer
+abbrev pub responder_reusing : Settings → (now : ℕ) → Service → PeerView → Apdu → ServerEnd → ServerTurn
+responder_reusing c now service peer a e = reusing_turn c now service (key_of peer a) a e
