@@ -19,3 +19,4 @@ pub mod WriteLaws
 pub mod GrantLaws
 pub mod Viewed
 pub mod ObjectLists
+pub mod Flaws

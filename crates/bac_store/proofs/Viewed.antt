@@ -33,6 +33,12 @@ module _ {A B : Type 0} (f : A → B) (xs : List A) where
       let there : get_or (map f xs) at d ≡ f x = get_or-map f xs at x d within ∙ ap f (sym is) in
       subst (Q (map f (take at xs))) there (subst (λ ys. Q ys (get_or (map f xs) at d)) (take-map f at xs) q)
 
+  pub at_viewed : (Q : List B → B → Type 0) → (at : ℕ) (x : A) (d : B) → at < length xs → x ≡ get_or xs at x → Q (map f (take at xs)) (f x)
+      → Q (take at (map f xs)) (get_or (map f xs) at d)
+  at_viewed Q at x d within is q =
+      let there : f x ≡ get_or (map f xs) at d = ap f is ∙ sym (get_or-map f xs at x d within) in
+      subst (λ ys. Q ys (get_or (map f xs) at d)) (sym (take-map f at xs)) (subst (Q (map f (take at xs))) there q)
+
   pub non_decreasing_viewed : (key : B → ℕ) → IsNonDecreasingBy (λ a. key (f a)) xs → IsNonDecreasingBy key (map f xs)
   non_decreasing_viewed key up i j d l within =
       let inside : j < length xs = omega (arith, length-map xs f) in

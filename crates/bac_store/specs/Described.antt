@@ -1,6 +1,6 @@
 -- Which objects a store is described by, and which store that is.
 use Rattle.std.specs.Prelude.{◌≡◌, ◌<◌, ◌≤◌, ℕ, Bool, false, not, ◌==◌, IsTrue, List, [], ◌∷◌, ◌++◌, length, map, take, slice_index_or}
-use Rattle.std.specs.Prelude.{Option, Some, None, if◌then◌else◌}
+use Rattle.std.specs.Prelude.{Option, Some, None, if◌then◌else◌, nat_le, ◌&&◌}
 use Rattle.std.specs.List.{All}
 use Rattle.std.specs.List.Sorted.{IsNonDecreasingBy, IsPermutation}
 use Rattle.bac_value.specs.Value.{ObjectId, characters, object}
@@ -9,11 +9,11 @@ use Rattle.bac_store.specs.declared.description_fault.DescriptionFault.{Descript
 use Rattle.bac_store.specs.declared.description_fault.DescriptionFlaw.{DescriptionFlaw}
 use Rattle.bac_store.specs.declared.description_fault.DescriptionFlaw.TheVariants as flaw
 use Rattle.bac_store.specs.declared.rule.Rule.TheVariants as rule
-use Rattle.bac_store.specs.Allowing.{Allowed, are_same}
+use Rattle.bac_store.specs.Allowing.{Allowed, are_right_limits, are_same}
 use Rattle.bac_store.specs.Kept.{object_number}
 use Rattle.bac_store.specs.Kinds.{kind_of}
 use Rattle.bac_store.specs.Limits.{DEVICE, OBJECT_LIST, OBJECTS_LIMIT, VALUE_LIMIT}
-use Rattle.bac_store.specs.Objects.{IsStoreOf, is_id_by, is_property_by, is_right_file}
+use Rattle.bac_store.specs.Objects.{IsStoreOf, are_right_values, is_id_by, is_property_by, is_right_file, is_stored_number}
 use Rattle.bac_store.specs.Stores.{Store, Object, Property, is_number, is_same}
 
 -- ---- the object-list of the device (clause 12.11), which is computed at construction
@@ -123,3 +123,48 @@ IsFaultAt os None why = IsFlawOfAll os why
 
 abbrev pub IsDescriptionFault : List Object → DescriptionFault → Type 0
 IsDescriptionFault os e = IsFaultAt os e.object e.why
+
+-- ---- what is wrong with the refused object, and with which of its properties
+
+-- the values are short enough, and this property of an object of this type can have them
+abbrev pub can_hold : (kind : ℕ) → Property → Bool
+can_hold kind p = nat_le (length p.values) VALUE_LIMIT && are_right_values kind p.number p.values
+
+abbrev pub IsFlawOfProperty : DescriptionFlaw → (kind : ℕ) → (before : List Property) → Property → Type 0
+IsFlawOfProperty flaw.Number kind before p = IsTrue (not (is_stored_number p.number && not (p.number == OBJECT_LIST)))
+IsFlawOfProperty flaw.Values kind before p = IsTrue (not (can_hold kind p))
+IsFlawOfProperty flaw.Limits kind before p = IsTrue (not (are_right_limits p.allowed p.values))
+IsFlawOfProperty flaw.Twice kind before p = All (λ q. IsTrue (not (is_number p.number q))) before → ⊥
+IsFlawOfProperty _ kind before p = ⊥
+
+pub record IsRefusedProperty (kind number : ℕ) (why : DescriptionFlaw) (before : List Property) (p : Property) : Type 0 where
+  pub number_is : p.number ≡ number
+  pub flaw_is : IsFlawOfProperty why kind before p
+
+-- the first property that is refused has this number and this flaw
+pub record IsFirstRefused (kind number : ℕ) (why : DescriptionFlaw) (ps : List Property) : Type 0 where
+  pub at : ℕ
+  pub within : at < length ps
+  pub before : (i : ℕ) (d : Property) → i < at → IsNextProperty kind (take i ps) (slice_index_or ps i d)
+  pub refused : (d : Property) → IsRefusedProperty kind number why (take at ps) (slice_index_or ps at d)
+
+abbrev pub IsFlawWithoutProperty : DescriptionFlaw → (before : List Object) → Object → Type 0
+IsFlawWithoutProperty flaw.Instance before o = IsTrue (not (is_id_by rule.Described o.id))
+IsFlawWithoutProperty flaw.Name before o = VALUE_LIMIT < length (value_spelling (characters 0 o.name))
+IsFlawWithoutProperty flaw.File before o = IsTrue (not (is_right_file o.id.kind o.file))
+IsFlawWithoutProperty flaw.SameIdentifier before o = All (IsOther o) before → ⊥
+IsFlawWithoutProperty flaw.SameName before o = All (IsNamedOther o) before → ⊥
+IsFlawWithoutProperty flaw.SecondDevice before o = IsTrue (is_device o) × (All IsNoDevice before → ⊥)
+IsFlawWithoutProperty _ before o = ⊥
+
+abbrev pub IsFlawOfObject : (property : Option ℕ) → DescriptionFlaw → (before : List Object) → Object → Type 0
+IsFlawOfObject (Some number) why before o = IsFirstRefused o.id.kind number why o.properties
+IsFlawOfObject None why before o = IsFlawWithoutProperty why before o
+
+abbrev pub IsFlawAt : List Object → (object property : Option ℕ) → DescriptionFlaw → Type 0
+IsFlawAt os (Some at) property why = (d : Object) → IsFlawOfObject property why (take at os) (slice_index_or os at d)
+IsFlawAt os None property why = property ≡ None
+
+-- the fault names the property and the flaw of the object that it names
+abbrev pub HasItsFlaw : List Object → DescriptionFault → Type 0
+HasItsFlaw os e = IsFlawAt os e.object e.property e.why

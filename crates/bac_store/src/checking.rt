@@ -11,7 +11,6 @@ ghost use Rattle.bac_store.specs.Objects.{is_number_by as number_in, is_property
 ghost use Rattle.bac_store.specs.Views.{property_view, file_view};
 
 use crate::allowing::are_right_limits;
-use crate::description_fault::DescriptionFlaw;
 use crate::kind::{is_of_kind, is_state_of};
 use crate::limits::{
     ANALOG_INPUT, ANALOG_OUTPUT, ANALOG_VALUE, ANY_INSTANCE, BINARY_VALUE, DESCRIPTION, DEVICE,
@@ -71,7 +70,7 @@ pub fn are_right_values(kind: u16, number: u32, values: &[u8]) -> bool
 }
 
 /// Whether a property with this number can be listed, or is computed at construction.
-fn is_right_number(rule: Rule, number: u32) -> bool
+pub(crate) fn is_right_number(rule: Rule, number: u32) -> bool
     ensures { result ≡ number_in rule number }
 {
     match rule {
@@ -113,17 +112,5 @@ pub(crate) fn is_right_file(kind: u16, file: &Option<File>) -> bool
     match file {
         None => kind != FILE,
         Some(file) => kind == FILE && file.octets.len() <= FILE_LIMIT,
-    }
-}
-
-/// What is wrong with a property that an object of this type can't have.
-pub(crate) fn flaw_of(kind: u16, property: &Property) -> DescriptionFlaw {
-    let values = property.values.octets.as_slice();
-    if !is_right_number(Rule::Described, property.number) {
-        DescriptionFlaw::Number
-    } else if values.len() > VALUE_LIMIT || !are_right_values(kind, property.number, values) {
-        DescriptionFlaw::Values
-    } else {
-        DescriptionFlaw::Limits
     }
 }

@@ -1,14 +1,16 @@
 //! Which objects describe a store.
-ghost use Rattle.std.specs.Prelude.{◌≡◌, ◌↔◌, not, None, Some, IsTrue, MatchOption, MatchResult, map};
+ghost use Rattle.std.specs.Prelude.{◌≡◌, ◌↔◌, not, None, Some, IfErr, IfSome, IsTrue, MatchResult, map};
+ghost use Rattle.std.specs.Prelude.{List};
 ghost use Rattle.std.specs.List.{All};
-ghost use Rattle.bac_store.specs.Described.{AreDescribed, AreRightProperties, IsDescriptionFault, IsNamedOther, IsNext, IsNextProperty, IsNoDevice, IsOther, IsRightAlone};
-ghost use Rattle.bac_store.specs.Stores.{is_number};
+ghost use Rattle.bac_store.specs.Described.{AreDescribed, AreRightProperties, HasItsFlaw, IsDescriptionFault, IsFirstRefused, IsFlawOfObject, IsFlawOfProperty};
+ghost use Rattle.bac_store.specs.Described.{IsNamedOther, IsNext, IsNextProperty, IsNoDevice, IsOther, IsRightAlone};
+ghost use Rattle.bac_store.specs.Stores.{is_number, Object as ObjectView};
 ghost use Rattle.bac_store.specs.Views.{object_view, property_view};
 
-use crate::allowing::are_same;
-use crate::checking::{flaw_of, is_right_file, is_right_id, is_right_name, is_right_property};
+use crate::allowing::{are_right_limits, are_same};
+use crate::checking::{are_right_values, is_right_file, is_right_id, is_right_name, is_right_number};
 use crate::description_fault::{DescriptionFault, DescriptionFlaw, of_all};
-use crate::limits::{DEVICE, OBJECT_LIST, OBJECTS_LIMIT};
+use crate::limits::{DEVICE, OBJECT_LIST, OBJECTS_LIMIT, VALUE_LIMIT};
 use crate::object::{Object, Property};
 use crate::rule::Rule;
 
@@ -21,16 +23,21 @@ fn is_new_number(before: &[Property], number: u32) -> bool
 
 /// What is wrong with a property of an object of this type, if anything is.
 fn property_flaw(kind: u16, before: &[Property], property: &Property) -> Option<DescriptionFlaw>
-    ensures { MatchOption result (IsNextProperty kind (map property_view before.now) (property_view property.now))
-        (λ _. IsNextProperty kind (map property_view before.now) (property_view property.now) → ⊥) }
+    ensures next { result ≡ None → IsNextProperty kind (map property_view before.now) (property_view property.now) }
+    ensures flaw { IfSome result (λ why. IsFlawOfProperty why kind (map property_view before.now) (property_view property.now)) }
 {
-    if property.number == OBJECT_LIST {
+    let number = property.number;
+    let values = property.values.octets.as_slice();
+    if number == OBJECT_LIST || !is_right_number(Rule::Described, number) {
         return Some(DescriptionFlaw::Number);
     }
-    if !is_right_property(Rule::Described, kind, property) {
-        return Some(flaw_of(kind, property));
+    if values.len() > VALUE_LIMIT || !are_right_values(kind, number, values) {
+        return Some(DescriptionFlaw::Values);
     }
-    if !is_new_number(before, property.number) {
+    if !are_right_limits(&property.allowed, values) {
+        return Some(DescriptionFlaw::Limits);
+    }
+    if !is_new_number(before, number) {
         return Some(DescriptionFlaw::Twice);
     }
     None
@@ -38,8 +45,8 @@ fn property_flaw(kind: u16, before: &[Property], property: &Property) -> Option<
 
 /// The number of the first property that is refused, and what is wrong with it.
 fn properties_flaw(kind: u16, properties: &[Property]) -> Option<(u32, DescriptionFlaw)>
-    ensures { MatchOption result (AreRightProperties kind (map property_view properties.now))
-        (λ _. AreRightProperties kind (map property_view properties.now) → ⊥) }
+    ensures right { result ≡ None → AreRightProperties kind (map property_view properties.now) }
+    ensures flaw { IfSome result (λ f. IsFirstRefused kind f.0 f.1 (map property_view properties.now)) }
 {
     for at in 0..properties.len() {
         if let Some(flaw) = property_flaw(kind, &properties[..at], &properties[at]) {
@@ -76,7 +83,8 @@ fn is_without_device(objects: &[Object]) -> bool
 
 /// What is wrong with an object by itself, if anything is: the number of a property, and the flaw.
 fn own_flaw(object: &Object) -> Option<(Option<u32>, DescriptionFlaw)>
-    ensures { MatchOption result (IsRightAlone (object_view object.now)) (λ _. IsRightAlone (object_view object.now) → ⊥) }
+    ensures right { result ≡ None → IsRightAlone (object_view object.now) }
+    ensures flaw { (before : List ObjectView) → IfSome result (λ f. IsFlawOfObject f.0 f.1 before (object_view object.now)) }
 {
     if !is_right_id(Rule::Described, object.id) {
         return Some((None, DescriptionFlaw::Instance));
@@ -95,8 +103,8 @@ fn own_flaw(object: &Object) -> Option<(Option<u32>, DescriptionFlaw)>
 
 /// What is wrong with the next object, if anything is: the number of a property, and the flaw.
 fn object_flaw(before: &[Object], object: &Object) -> Option<(Option<u32>, DescriptionFlaw)>
-    ensures { MatchOption result (IsNext (map object_view before.now) (object_view object.now))
-        (λ _. IsNext (map object_view before.now) (object_view object.now) → ⊥) }
+    ensures next { result ≡ None → IsNext (map object_view before.now) (object_view object.now) }
+    ensures flaw { IfSome result (λ f. IsFlawOfObject f.0 f.1 (map object_view before.now) (object_view object.now)) }
 {
     if let Some(flaw) = own_flaw(object) {
         return Some(flaw);
@@ -118,7 +126,8 @@ fn object_flaw(before: &[Object], object: &Object) -> Option<(Option<u32>, Descr
 
 /// Whether the objects describe a store, or why not.
 pub(crate) fn check_described(objects: &[Object]) -> Result<(), DescriptionFault>
-    ensures { MatchResult result (λ _. AreDescribed (map object_view objects.now)) (λ e. IsDescriptionFault (map object_view objects.now) e) }
+    ensures described { MatchResult result (λ _. AreDescribed (map object_view objects.now)) (λ e. IsDescriptionFault (map object_view objects.now) e) }
+    ensures flaw { IfErr result (HasItsFlaw (map object_view objects.now)) }
 {
     for at in 0..objects.len() {
         if let Some((property, why)) = object_flaw(&objects[..at], &objects[at]) {

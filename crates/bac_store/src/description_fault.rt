@@ -63,7 +63,7 @@ pub struct DescriptionFault {
 }
 
 impl From<NoMemory> for DescriptionFault {
-    ghost from_gives = { λ _ e. (e.object ≡ None) × (e.why ≡ flaw.NoMemory) };
+    ghost from_gives = { λ _ e. (e.object ≡ None) × (e.property ≡ None) × (e.why ≡ flaw.NoMemory) };
 
     fn from(_error: NoMemory) -> DescriptionFault {
         of_all(DescriptionFlaw::NoMemory)
@@ -73,6 +73,7 @@ impl From<NoMemory> for DescriptionFault {
 /// A flaw of no single object.
 pub(crate) fn of_all(why: DescriptionFlaw) -> DescriptionFault
     ensures object { result.object ≡ None }
+    ensures property { result.property ≡ None }
     ensures why { result.why ≡ why }
 {
     DescriptionFault {

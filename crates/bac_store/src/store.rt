@@ -4,7 +4,7 @@ ghost use Rattle.bac_service.specs.Values.{Request as RequestView};
 ghost use Rattle.bac_service.specs.Views.{owned_reply_view, request_view};
 ghost use Rattle.bac_store.specs.AtNode.{change_fault, changed, IsFaultOf, Change as ChangeView};
 ghost use Rattle.bac_store.specs.Changes.{after, HoldsOctets, IsGranted};
-ghost use Rattle.bac_store.specs.Described.{IsDescribedBy, IsDescriptionFault};
+ghost use Rattle.bac_store.specs.Described.{HasItsFlaw, IsDescribedBy, IsDescriptionFault};
 ghost use Rattle.bac_store.specs.Kept.{Fits, IsInOrder};
 ghost use Rattle.bac_store.specs.Made.{IsMadeBy, IsMadeOf, IsRefused, IsRefusedBy};
 ghost use Rattle.bac_store.specs.Plans.{with_effect, IsPlanFor, IsPlanOn};
@@ -93,7 +93,8 @@ impl Store {
     ///
     /// Returns `NoMemory` if the objects are valid and an allocation fails.
     pub fn describing(alloc: Global, objects: Vec<Object>) -> Result<Store, DescriptionFault>
-        ensures { MatchResult result (λ s. IsDescribedBy (map object_view objects.items) s) (λ e. IsDescriptionFault (map object_view objects.items) e) }
+        ensures store { MatchResult result (λ s. IsDescribedBy (map object_view objects.items) s) (λ e. IsDescriptionFault (map object_view objects.items) e) }
+        ensures flaw { IfErr result (HasItsFlaw (map object_view objects.items)) }
     {
         check_described(&objects)?;
         let list = object_list(alloc, &objects)?;

@@ -6,35 +6,36 @@ use Rattle.bac_store.specs.Views.{object_view}
 use Rattle.bac_store.proofs.Distinct.{All-unmap}
 use Rattle.bac_store.proofs.describing.object_flaw.Goals as goal
 
-pub returns-then-not-is_other : goal.returns-then-not-is_other
-returns-then-not-is_other c = λ next.
+pub returns-then-not-is_other-clause-flaw : goal.returns-then-not-is_other-clause-flaw
+returns-then-not-is_other-clause-flaw c = λ all.
     let t : false ≡ true = c.if-not-is_other.ensures.1
-    (All-unmap object_view (IsOther (object_view c.args.object.now)) c.args.before.now next.other) in
+    (All-unmap object_view (IsOther (object_view c.args.object.now)) c.args.before.now all) in
     cc
 
-pub returns-then-not-is_named_other : goal.returns-then-not-is_named_other
-returns-then-not-is_named_other c = λ next.
+pub returns-then-not-is_named_other-clause-flaw : goal.returns-then-not-is_named_other-clause-flaw
+returns-then-not-is_named_other-clause-flaw c = λ all.
     let t : false ≡ true = c.if-not-is_named_other.ensures.1
-    (All-unmap object_view (IsNamedOther (object_view c.args.object.now)) c.args.before.now next.named) in
+    (All-unmap object_view (IsNamedOther (object_view c.args.object.now)) c.args.before.now all) in
     cc
 
-pub returns-then-not-is_without_device : goal.returns-then-not-is_without_device
-returns-then-not-is_without_device c = λ next.
+pub returns-then-not-is_without_device-clause-flaw : goal.returns-then-not-is_without_device-clause-flaw
+returns-then-not-is_without_device-clause-flaw c =
     let here : is_device (object_view c.args.object.now) ≡ true = grind (arith, nat_tests) in
-    let t : false ≡ true = c.if-not-is_without_device.ensures.1 (All-unmap object_view IsNoDevice c.args.before.now (next.device here)) in
-    cc
+    (here, λ all.
+    let t : false ≡ true = c.if-not-is_without_device.ensures.1 (All-unmap object_view IsNoDevice c.args.before.now all) in
+    cc)
 
-pub returns-then-object-ne-DEVICE : goal.returns-then-object-ne-DEVICE
-returns-then-object-ne-DEVICE c = record {
-  alone = c.in_default.ensures;
+pub returns-then-object-ne-DEVICE-clause-next : goal.returns-then-object-ne-DEVICE-clause-next
+returns-then-object-ne-DEVICE-clause-next c = λ none. record {
+  alone = c.in_default.ensures.right c.in_default.is;
   other = All-map (IsOther (object_view c.args.object.now)) object_view c.args.before.now (c.if-not-is_other.ensures.0 refl);
   named = All-map (IsNamedOther (object_view c.args.object.now)) object_view c.args.before.now (c.if-not-is_named_other.ensures.0 refl);
   device = λ here. absurd (let no : is_device (object_view c.args.object.now) ≡ false = grind (arith, nat_tests) in cc);
 }
 
-pub returns : goal.returns
-returns c = record {
-  alone = c.in_default.ensures;
+pub returns-clause-next : goal.returns-clause-next
+returns-clause-next c = λ none. record {
+  alone = c.in_default.ensures.right c.in_default.is;
   other = All-map (IsOther (object_view c.args.object.now)) object_view c.args.before.now (c.if-not-is_other.ensures.0 refl);
   named = All-map (IsNamedOther (object_view c.args.object.now)) object_view c.args.before.now (c.if-not-is_named_other.ensures.0 refl);
   device = λ here. All-map IsNoDevice object_view c.args.before.now (c.if-not-is_without_device.ensures.0 refl);
