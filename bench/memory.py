@@ -41,7 +41,7 @@ def main(words):
         print('usage: memory.py PROGRAM', file=sys.stderr)
         return 2
     bac = str(Path(words[0]).resolve())
-    for slots in (1, 64, 256, 1_024):
+    for slots in (1, 64, 256, 1_024, 65_536):
         print(f'bac serve, {slots} slots at each end: {of_server(bac, slots)} KiB of its own')
     with tempfile.TemporaryDirectory() as folder:
         for nodes in (1, 2, 4, 8, 16):

@@ -1,7 +1,8 @@
 /* bac.h: a proved BACnet/IP node (ReadProperty, WriteProperty, AtomicReadFile, AtomicWriteFile, with segmentation in both directions; ANSI/ASHRAE 135) inside
  * a program of your own. You keep the socket, the clock and the objects; the node answers and asks. docs/C.md begins with an example.
  *
- * Link libbac_c.a. C99 and C++, on x86-64 (of level x86-64-v2) and aarch64 Linux. The library has no target of 32 bits.
+ * Link libbac_c.a and a heap (examples/c/heap.c), or the archive of `make install`, which has one. C99 and C++, on x86-64 (of level x86-64-v2) and aarch64
+ * Linux. The library has no target of 32 bits.
  *
  * Rules of every call
  * - A bac_node begins as BAC_NODE_EMPTY, is never copied, and its members are never touched. Used before bac_open, opened twice, used after bac_close or closed
@@ -33,7 +34,7 @@ extern "C" {
 
 /* The version of this header: 10,000 times the major number, 100 times the minor one, and the patch. A library of the same major number and of this or a later
  * minor one has all that is declared here: see docs/C.md, "What stays". */
-#define BAC_VERSION 10100
+#define BAC_VERSION 10200
 
 /* The version of the library that is linked. */
 uint32_t bac_version(void);
@@ -77,10 +78,12 @@ typedef struct bac_settings {
     bool takes_segments;   /* whether it takes replies in segments */
     uint8_t max_segments;  /* how many: 0 to 7 for unspecified, 2, 4, 8, 16, 32, 64 and more */
     uint8_t window;        /* the greatest window that it proposes or grants: 1 to 64 segments */
-    size_t client_slots;   /* how many asks it holds, each until 135,000 ms after it was first sent, also once it has ended: 1 to 1024 */
-    size_t reply_slots;    /* how many requests it remembers, reads too, each for 65,000 ms: 1 to 1024. A request that is equal to a remembered one, of the same
-                              peer and under the same invoke ID, gets the old answer and is not performed. Where all slots are held, a new one is answered by
-                              Abort 0 */
+    size_t client_slots;   /* how many asks it holds, each until 135,000 ms after it was first sent, also once it has ended: 1 to 65,536. docs/C.md says what
+                              memory a slot takes */
+    size_t reply_slots;    /* how many requests it remembers, reads too, each for 65,000 ms: 1 to 65,536. A request that is equal to a remembered one, of the same
+                              peer and under the same invoke ID, gets the old answer and is not performed, a read too; another one under that invoke ID is
+                              answered by Abort 0. So a peer gets at most 256 new requests in 65,000 ms. Where all slots are held, a new one is answered by
+                              Abort 0 too */
     uint64_t later;        /* 0: room for members of later versions */
 } bac_settings;
 
@@ -135,7 +138,7 @@ typedef struct bac_act {
     uint16_t object_type;
     uint8_t priority;     /* of a write of a property, 1 to 16; 0 where it has none, and of all else */
     uint32_t instance;
-    uint32_t property;    /* 0 of a file */
+    uint32_t property;    /* 0 of a file; 0 is also the property acked-transitions, so look at service first */
     uint32_t index;       /* an element, or BAC_WHOLE; 0 of a file */
     int64_t position;     /* in the file, -1 its end (where done is false it may be the number of a record); 0 of a property */
 } bac_act;
@@ -144,14 +147,14 @@ typedef struct bac_act {
 
 /* What is wrong with the objects that are listed. */
 typedef enum bac_flaw {
-    BAC_FLAW_NONE = 0,
+    BAC_FLAW_NONE = 0,            /* nothing: the object is BAC_NO_OBJECT and the property BAC_WHOLE */
     BAC_FLAW_INSTANCE = 1,        /* instance 4,194,303, the wildcard */
     BAC_FLAW_NAME = 2,            /* a name of more than 4,091 octets */
     BAC_FLAW_FILE = 3,            /* a file without octets, octets without a file, or more than 60,000 of them */
     BAC_FLAW_NUMBER = 4,          /* a property that is computed, or a number above 4,194,303 */
     BAC_FLAW_TWICE = 5,           /* a property that the object lists twice */
     BAC_FLAW_VALUES = 6,          /* values that this property cannot have, or more than 4,096 octets */
-    BAC_FLAW_LIMITS = 7,          /* limits that do not allow the values, or are of another kind */
+    BAC_FLAW_LIMITS = 7,          /* limits that are reversed, do not allow the values, or are of another kind */
     BAC_FLAW_SAME_IDENTIFIER = 8, /* an earlier object has the same type and instance */
     BAC_FLAW_SAME_NAME = 9,       /* an earlier object has the same name */
     BAC_FLAW_SECOND_DEVICE = 10,  /* an earlier object is the device */
@@ -203,6 +206,12 @@ bac_status bac_add_property(bac_node *node, uint32_t number, const uint8_t *octe
  * bac_start. Otherwise as bac_add_object. */
 bac_status bac_limit(bac_node *node, const uint8_t *least, size_t least_len, const uint8_t *greatest, size_t greatest_len);
 
+/* Adds one value, as octets of data of the kind of its values, to the list of those that the network may write to the property that was listed last; the first
+ * one begins the list, and takes the place of limits. A write of octets that the list does not have is answered by Error 2:37, and changes nothing. The first
+ * values of the property have to be in its list. BAC_BAD_OBJECT exactly where the object that was listed last has no property, or the octets are no data.
+ * Otherwise as bac_limit. */
+bac_status bac_allow(bac_node *node, const uint8_t *octets, size_t len);
+
 /* Gives the object that was listed last, a file, its octets. BAC_BAD_OBJECT exactly where no object is listed. Otherwise as bac_add_object. */
 bac_status bac_add_file(bac_node *node, const uint8_t *octets, size_t len, bool writable);
 
@@ -219,8 +228,8 @@ bac_status bac_start_restarted(bac_node *node, const bac_settings *settings, uin
 
 /* Starts the node as bac_start does, with objects of any type and any properties: those that a document with `described = true` has. The object-list of the
  * device is computed too. Present-values of the types 0, 1 and 2 are a Real, of 3, 4 and 5 Enumerated 0 or 1, of 13, 14 and 19 an Unsigned from 1 on. There is
- * exactly one device, no two objects have one name, and there are at most 819. BAC_NOT_OPEN; BAC_ALREADY_STARTED; BAC_BAD_SETTINGS; BAC_NO_MEMORY;
- * BAC_BAD_OBJECT: bac_problem says which, and why. */
+ * exactly one device, no two objects have one name, and there are at most 819. Other properties may have any values, and no other is required.
+ * BAC_NOT_OPEN; BAC_ALREADY_STARTED; BAC_BAD_SETTINGS; BAC_NO_MEMORY; BAC_BAD_OBJECT: bac_problem says which, and why. */
 bac_status bac_start_described(bac_node *node, const bac_settings *settings);
 
 /* The same for a node that ran before, as bac_start_restarted. */
@@ -295,7 +304,8 @@ uint32_t bac_cause(const bac_node *node);
  * BAC_NO_MEMORY only where there are octets to copy. */
 
 /* Sets the values of a listed property, whether or not the network may write it. The first of BAC_NO_SUCH_OBJECT, BAC_NO_SUCH_PROPERTY (also a computed one),
- * BAC_BAD_VALUE (no data, of another kind than the property was listed with, or no state of a binary-value) and BAC_TOO_LONG (more than 4,096 octets). */
+ * BAC_BAD_VALUE (no data, of another kind than the property was listed with, no state of a binary type, or 0 of a multi-state type) and BAC_TOO_LONG (more
+ * than 4,096 octets). The limits and lists of bac_limit and bac_allow do not hold here: they are for writes of the network. */
 bac_status bac_set_value(bac_node *node, uint16_t object_type, uint32_t instance, uint32_t property, const uint8_t *octets, size_t len);
 
 /* Copies the values of a property out, computed ones too, and puts out how many octets they are. BAC_NO_SUCH_OBJECT; BAC_NO_SUCH_PROPERTY, also where an

@@ -30,7 +30,7 @@ class Asking:
 
 KEPT_FEW = Asking('kept answers, 2 live entries', 2, 1, 200_000, 5)
 KEPT_MANY = Asking('kept answers, 64 live entries', 2, 32, 200_000, 5)
-# as many as the slots of `serve` take
+# within the slots of `serve`
 NEW = Asking('new reads, until 1,024 live entries', 4, 256, 1_024, 40)
 
 

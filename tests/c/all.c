@@ -66,6 +66,7 @@ static int closed_rows(bac_node *node)
     CALL(BAC_NOT_OPEN, bac_add_property(node, 85, REAL_10, 5, true));
     CALL(BAC_NOT_OPEN, bac_add_file(node, out, 1, true));
     CALL(BAC_NOT_OPEN, bac_limit(node, REAL_10, 5, REAL_20, 5));
+    CALL(BAC_NOT_OPEN, bac_allow(node, REAL_10, 5));
     CALL(BAC_NOT_OPEN, bac_problem(node, &wrong));
     CALL(BAC_NOT_OPEN, bac_start_described(node, &s));
     CALL(BAC_NOT_OPEN, bac_start_described_restarted(node, &s, 0));
@@ -345,6 +346,40 @@ static int limited_rows(bac_node *node)
     return 0;
 }
 
+/* a list of values that a property takes: it begins with the first, takes the place of limits, and gives way to them */
+static int allowed_rows(bac_node *node)
+{
+    static const uint8_t done[] = { 0x81, 0x0A, 0, 9, 1, 0, 0x20, 0, 15 }, outside[] = { 0x81, 0x0A, 0, 13, 1, 0, 0x50, 0, 15, 0x91, 2, 0x91, 37 };
+    static const uint8_t one[] = { 0x21, 1 }, real_15[] = { 0x44, 0x41, 0x70, 0, 0 };
+    bac_settings s = BAC_SETTINGS(127, 0, 0, 1, 0xBA, 0xC0);
+    for (unsigned described = 0; described < 2; described++) {
+        CALL(BAC_OK, bac_open(node));
+        CALL(BAC_BAD_OBJECT, bac_allow(node, REAL_10, 5));
+        CALL(BAC_OK, bac_add_object(node, 8, 1, (const uint8_t *)"device", 6));
+        CALL(BAC_OK, bac_add_object(node, 2, 1, (const uint8_t *)"set", 3));
+        CALL(BAC_BAD_OBJECT, bac_allow(node, REAL_10, 5));
+        CALL(BAC_OK, bac_add_property(node, 512, one, 2, true));
+        CALL(BAC_OK, bac_add_property(node, 85, REAL_20, 5, true));
+        CALL(BAC_BAD_OBJECT, bac_allow(node, REAL_10, 4));
+        CALL(BAC_OK, bac_limit_float(node, 0.0f, 100.0f));
+        CALL(BAC_OK, bac_allow(node, REAL_10, 5));
+        if (tells(node, 1, 85, BAC_FLAW_LIMITS)) { return 1; } /* 20.0 is not in the list */
+        CALL(BAC_OK, bac_allow(node, one, 2));
+        CALL(BAC_OK, bac_allow(node, REAL_20, 5));
+        if (tells(node, 1, 85, BAC_FLAW_LIMITS)) { return 1; } /* 1 is no Real */
+        CALL(BAC_OK, bac_limit_float(node, 0.0f, 100.0f));
+        CALL(BAC_OK, bac_allow(node, REAL_10, 5));
+        CALL(BAC_OK, bac_allow(node, REAL_20, 5));
+        CALL(BAC_OK, described ? bac_start_described(node, &s) : bac_start(node, &s));
+        CALL(BAC_ALREADY_STARTED, bac_allow(node, REAL_10, 5));
+        if (writes(node, 0, REAL_10, 0, done, sizeof done) || writes(node, 1, REAL_20, 0, done, sizeof done)) { return 1; }
+        if (writes(node, 2, real_15, 0, outside, sizeof outside)) { return 1; }
+        CALL(BAC_OK, bac_set_value(node, 2, 1, 85, real_15, 5)); /* the node itself has no list */
+        bac_close(node);
+    }
+    return 0;
+}
+
 /* docs/C.md, "Through a power cut": what a write changed is kept before its answer goes out, and is there at the next start */
 static int kept_rows(bac_node *node)
 {
@@ -448,7 +483,7 @@ static int restarted_rows(bac_node *node)
     bac_reference r = { 0, 5, 85, BAC_WHOLE };
     bac_act a;
     uint64_t ticket;
-    bad.reply_slots = 1025;
+    bad.reply_slots = 65537;
     CALL(BAC_OK, bac_open(node));
     CALL(BAC_OK, bac_add_object(node, 0, 5, many, 0));
     CALL(BAC_OK, bac_add_property(node, 85, FLOW + 17, 5, false));
@@ -601,7 +636,8 @@ static int ask_rows(bac_node *client, bac_node *server)
 
 static int rows(bac_node *client, bac_node *server)
 {
-    if (name_rows() || described_rows(client) || limited_rows(client) || kept_rows(client)) { return 1; }
+    if (name_rows() || described_rows(client) || limited_rows(client)) { return 1; }
+    if (allowed_rows(client) || kept_rows(client)) { return 1; }
     if (edge_rows(client) || value_rows(client) || restarted_rows(client) || limit_rows(client)) { return 1; }
     if (closed_rows(client) || house_rows(client) || own_rows(server) || ask_rows(client, server)) { return 1; }
     bac_close(client);
@@ -641,10 +677,56 @@ static int most_rows(bac_node *node)
     return 0;
 }
 
+/* 1 to 65,536 slots at each end */
+static int slot_rows(bac_node *node)
+{
+    static const size_t numbers[] = { 0, 1, 1024, 1025, 65536, 65537, SIZE_MAX };
+    for (unsigned i = 0; i < 14; i++) {
+        size_t slots = numbers[i / 2];
+        bac_status wanted = slots < 1 || slots > 65536 ? BAC_BAD_SETTINGS : BAC_OK;
+        for (unsigned start = 0; start < 5; start++) {
+            bac_settings s = BAC_SETTINGS(127, 0, 0, 1, 0xBA, 0xC0);
+            *(i % 2 != 0 ? &s.client_slots : &s.reply_slots) = slots;
+            CALL(BAC_OK, bac_open(node));
+            CALL(BAC_OK, bac_add_object(node, 8, 1, (const uint8_t *)"device", 6));
+            switch (start) {
+            case 0: CALL(wanted, bac_start(node, &s)); break;
+            case 1: CALL(wanted, bac_start_restarted(node, &s, 0)); break;
+            case 2: CALL(wanted, bac_start_described(node, &s)); break;
+            case 3: CALL(wanted, bac_start_described_restarted(node, &s, 0)); break;
+            default: CALL(wanted, bac_start_house(node, &s));
+            }
+            bac_close(node);
+        }
+    }
+    return 0;
+}
+
+/* a node remembers as many requests as it has slots, and aborts the next */
+static int full_rows(bac_node *node, size_t slots)
+{
+    bac_settings s = BAC_SETTINGS(127, 0, 0, 1, 0xBA, 0xC0);
+    uint8_t from[6] = { 10, 0, 0, 0, 0, 0 };
+    s.reply_slots = slots;
+    CALL(BAC_OK, bac_open(node));
+    CALL(BAC_OK, bac_start_house(node, &s));
+    for (size_t i = 0; i <= slots; i++) {
+        from[3] = (uint8_t)(i >> 16);
+        from[4] = (uint8_t)(i >> 8);
+        from[5] = (uint8_t)i;
+        CALL(BAC_OK, bac_on(node, 1, from, QUESTION, sizeof QUESTION));
+        n = bac_send(node, 0, to, out, sizeof out);
+        HOLDS(bac_sends(node) == 1 && n == (i < slots ? sizeof FLOW : sizeof ABORTED) && memcmp(out, i < slots ? FLOW : ABORTED, n) == 0);
+    }
+    HOLDS(bac_live(node, 1) == slots);
+    bac_close(node);
+    return 0;
+}
+
 int main(void)
 {
     bac_node node = BAC_NODE_EMPTY;
-    if (most_rows(&node)) { return 1; }
+    if (most_rows(&node) || slot_rows(&node) || full_rows(&node, 1) || full_rows(&node, 1025) || full_rows(&node, 65536)) { return 1; }
     heap_count = 0;
     if (run()) { return 1; }
     unsigned long all = heap_count;

@@ -22,14 +22,14 @@ flaw_number flaw.SameName = 9
 flaw_number flaw.SecondDevice = 10
 flaw_number flaw.TooManyObjects = 11
 flaw_number flaw.NoDevice = 12
-flaw_number flaw.NoMemory = 13
+flaw_number flaw.NoMemory = 0
 
 -- 2^64 - 1 stands for no single object, and 2^32 - 1 for no property
 abbrev object_told : Option ℕ → ℕ
 object_told None = 18446744073709551615
 object_told (Some n) = n
 
-abbrev property_told : Option ℕ → ℕ
+abbrev pub property_told : Option ℕ → ℕ
 property_told None = 4294967295
 property_told (Some n) = n
 

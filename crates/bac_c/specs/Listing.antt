@@ -28,14 +28,23 @@ abbrev pub can_add : (values : List ℕ) → List Object → Bool
 can_add values [] = false
 can_add values (o ∷ os) = is_data values
 
--- limits from a least to a greatest value, for the last of some properties
-abbrev pub with_limits : (least greatest : List ℕ) → List Property → List Property
-with_limits least greatest [] = []
-with_limits least greatest (p ∷ []) = record p { allowed = Allowed.Between least greatest } ∷ []
-with_limits least greatest (p ∷ q ∷ ps) = p ∷ with_limits least greatest (q ∷ ps)
+-- other limits for the last of some properties
+abbrev pub with_allowed : (Allowed → Allowed) → List Property → List Property
+with_allowed f [] = []
+with_allowed f (p ∷ []) = record p { allowed = f p.allowed } ∷ []
+with_allowed f (p ∷ q ∷ ps) = p ∷ with_allowed f (q ∷ ps)
 
+-- limits from a least to a greatest value
 abbrev pub limited : (least greatest : List ℕ) → Object → Object
-limited least greatest o = record o { properties = with_limits least greatest o.properties }
+limited least greatest o = record o { properties = with_allowed (λ a. Allowed.Between least greatest) o.properties }
+
+-- a list with one more value; other limits give way to a list of this one
+abbrev pub one_more : (value : List ℕ) → Allowed → Allowed
+one_more value (Allowed.OneOf listed) = Allowed.OneOf (listed ++ value ∷ [])
+one_more value _ = Allowed.OneOf (value ∷ [])
+
+abbrev pub allowing : (value : List ℕ) → Object → Object
+allowing value o = record o { properties = with_allowed (one_more value) o.properties }
 
 abbrev pub lists_property : Object → Bool
 lists_property o = has_some o.properties
@@ -49,6 +58,9 @@ last_lists (o ∷ p ∷ os) = last_lists (p ∷ os)
 -- there is a property that can have limits, and the octets are data
 abbrev pub can_limit : (least greatest : List ℕ) → List Object → Bool
 can_limit least greatest os = is_data least && is_data greatest && last_lists os
+
+abbrev pub can_allow : (value : List ℕ) → List Object → Bool
+can_allow value os = is_data value && last_lists os
 
 -- an object with octets of a file
 abbrev pub with_file : (octets : List ℕ) → (writable : Bool) → Object → Object

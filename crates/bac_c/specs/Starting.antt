@@ -8,7 +8,7 @@ use Rattle.bac_store.specs.House.{house}
 use Rattle.bac_store.specs.Stores.{Object, Store}
 use Rattle.bac_store.specs.Views.{object_view}
 use Rattle.bac_world.specs.Node.{Node}
-use Rattle.bac_node.specs.Fresh.{fresh_node, made_node, slots_fit, window_fits}
+use Rattle.bac_node.specs.Fresh.{fresh_node, large_slots_fit, made_node, window_fits}
 use Rattle.bac_node.specs.declared.config.Config.{Config}
 use Rattle.bac_c.specs.Devices.{IsIdle}
 use Rattle.bac_c.specs.declared.device.Device.{Device}
@@ -21,7 +21,7 @@ IsBad objects = IsRefused objects store_fault.BadObject
 
 -- the settings are of this version, and each number is in its range
 abbrev pub is_right : Settings → Bool
-is_right s = (s.size == settings.SETTINGS_SIZE) && (s.later == 0) && window_fits s.window && slots_fit s.client_slots && slots_fit s.reply_slots && codes_fit s.max_segments s.max_apdu
+is_right s = (s.size == settings.SETTINGS_SIZE) && (s.later == 0) && window_fits s.window && large_slots_fit s.client_slots && large_slots_fit s.reply_slots && codes_fit s.max_segments s.max_apdu
 
 -- the configuration says what the settings say
 pub record IsConfigOf (s : Settings) (c : Config) : Type 0 where

@@ -52,7 +52,7 @@ fn fault_of(alloc: Global, objects: Vec<Object>) -> Result<Option<DescriptionFau
     }
 }
 
-/// The number of a flaw, 1 to 12; 13 is a refused allocation.
+/// The number of a flaw, 1 to 12; 0 where memory was refused, as nothing is wrong with the objects then.
 fn number_of(flaw: DescriptionFlaw) -> u32
     ensures { result ≡ flaw_number flaw }
 {
@@ -69,7 +69,7 @@ fn number_of(flaw: DescriptionFlaw) -> u32
         DescriptionFlaw::SecondDevice => 10,
         DescriptionFlaw::TooManyObjects => 11,
         DescriptionFlaw::NoDevice => 12,
-        DescriptionFlaw::NoMemory => 13,
+        DescriptionFlaw::NoMemory => 0,
     }
 }
 

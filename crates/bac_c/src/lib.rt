@@ -4,6 +4,7 @@
 //! requires anything of what a handle holds: each answers a status.
 #![tactic(auto)]
 
+mod allowing;
 mod asking;
 mod changing;
 mod copying;

@@ -16,7 +16,7 @@ use bac_value::DataBuf;
 use std::alloc::Global;
 
 /// An object whose last property has these limits, and whether it has a property.
-#[tactic(auto, using(crate::proofs::Limits::last_limited, crate::proofs::Limits::none_limited))]
+#[tactic(auto, using(crate::proofs::Limits::last_some, crate::proofs::Limits::none_limited))]
 fn limited(object: Object, least: DataBuf, greatest: DataBuf) -> (Object, bool)
     ensures done { result.1 ≡ lists_property (object_view object) }
     ensures limits { IsTrue result.1 → object_view result.0 ≡ limited_object least.octets.items greatest.octets.items (object_view object) }

@@ -16,9 +16,9 @@ pub struct Settings {
     pub max_segments: u8,
     /// The greatest window that it proposes or grants: 1 to 64 segments.
     pub window: u8,
-    /// How many asks can be open at once: 1 to 1,024.
+    /// How many asks can be open at once: 1 to 65,536.
     pub client_slots: usize,
-    /// How many entries the reply table has: 1 to 1,024.
+    /// How many entries the reply table has: 1 to 65,536.
     pub reply_slots: usize,
     /// Zero: room for members of later versions.
     pub later: u64,

@@ -1,6 +1,6 @@
 //! The settings of a node, as a C program says them.
 ghost use Rattle.std.specs.Prelude.{◌≡◌, true, IfOk, IsErrOf, IsTrue, OnErr};
-ghost use Rattle.bac_node.specs.Fresh.{has_slots, window_fits};
+ghost use Rattle.bac_node.specs.Fresh.{has_large_slots, window_fits};
 ghost use Rattle.bac_c.specs.Starting.{IsConfigOf, is_right};
 
 use crate::fault::Fault;
@@ -11,10 +11,13 @@ use bac_node::Config;
 /// How many octets the settings of this version have.
 pub const SETTINGS_SIZE: usize = 48;
 
+/// How many slots a table has at the most.
+const MOST_SLOTS: usize = 65_536;
+
 /// The configuration of a node; `BadSettings` exactly where one is outside its range.
 pub fn config_of(settings: &Settings) -> Result<Config, Fault>
     ensures says { IfOk result (IsConfigOf settings.now) }
-    ensures slots { IfOk result (λ c. has_slots c ≡ true) }
+    ensures slots { IfOk result (λ c. has_large_slots c ≡ true) }
     ensures window { IfOk result (λ c. window_fits c.window ≡ true) }
     ensures right { IfOk result (λ c. IsTrue (is_right settings.now)) }
     ensures wrong { OnErr result (IsTrue (is_right settings.now) → ⊥) }
@@ -26,10 +29,10 @@ pub fn config_of(settings: &Settings) -> Result<Config, Fault>
     if settings.window < 1 || settings.window > 64 {
         return Err(Fault::BadSettings);
     }
-    if settings.client_slots < 1 || settings.client_slots > 1_024 {
+    if settings.client_slots < 1 || settings.client_slots > MOST_SLOTS {
         return Err(Fault::BadSettings);
     }
-    if settings.reply_slots < 1 || settings.reply_slots > 1_024 {
+    if settings.reply_slots < 1 || settings.reply_slots > MOST_SLOTS {
         return Err(Fault::BadSettings);
     }
     let Some(limits) = Limits::new(

@@ -1,6 +1,6 @@
 //! Start.
 ghost use Rattle.std.specs.Prelude.{◌≡◌, ◌≢◌, ◌↔◌, [], false, map, true, IfOk, IsErrOf, IsTrue, None, OnErr, OnOk, Some};
-ghost use Rattle.bac_node.specs.Fresh.{has_slots, made_node, window_fits};
+ghost use Rattle.bac_node.specs.Fresh.{has_large_slots, made_node, window_fits};
 ghost use Rattle.bac_store.specs.Made.{IsMadeOf};
 ghost use Rattle.bac_store.specs.Objects.{AreDistinct};
 ghost use Rattle.bac_store.specs.Views.{object_view};
@@ -45,12 +45,12 @@ fn made(
     restart: Option<u64>,
 ) -> Result<Node, NewNodeFault>
     ensures made { IfOk result (λ n. n ≡ made_node config store restart) }
-    ensures slots { IsErrOf result NewNodeFault.BadSlots ↔ (has_slots config ≡ false) }
-    ensures window { IsErrOf result NewNodeFault.BadWindow ↔ ((has_slots config ≡ true) × (window_fits config.window ≡ false)) }
+    ensures slots { IsErrOf result NewNodeFault.BadSlots ↔ (has_large_slots config ≡ false) }
+    ensures window { IsErrOf result NewNodeFault.BadWindow ↔ ((has_large_slots config ≡ true) × (window_fits config.window ≡ false)) }
 {
     match restart {
-        None => Node::new(alloc, config, store),
-        Some(now) => Node::restarted(alloc, config, store, now),
+        None => Node::with_large_tables(alloc, config, store),
+        Some(now) => Node::restarted_with_large_tables(alloc, config, store, now),
     }
 }
 
@@ -61,7 +61,7 @@ pub(crate) fn node_of(
     store: Store,
     restart: Option<u64>,
 ) -> Result<Node, Fault>
-    requires slots { has_slots config ≡ true }
+    requires slots { has_large_slots config ≡ true }
     requires window { window_fits config.window ≡ true }
     ensures made { IfOk result (λ n. n ≡ made_node config store restart) }
     ensures memory { OnErr result (IsErrOf result Fault.NoMemory) }

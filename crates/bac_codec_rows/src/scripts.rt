@@ -3,7 +3,10 @@
 use crate::words::print_octets;
 use bac_service::{OwnedRequest, write_request};
 use bac_service_text::{FormFault, bad_word, read_request_words};
-use bac_simulate::{Ask, Noise, Setting, Statement, read_setting, read_statement};
+use bac_simulate::{
+    Ask, AskStranger, ClockPace, ClockStart, Noise, Setting, Statement, Stranger, read_setting,
+    read_statement,
+};
 use std::alloc::Global;
 use std::io::Write;
 
@@ -47,6 +50,26 @@ fn print_noise(noise: &Noise, out: &mut Vec<u8>) -> Option<()> {
     print_octets(&noise.octets, out)
 }
 
+fn print_ask_stranger(alloc: Global, ask: &AskStranger, out: &mut Vec<u8>) -> Option<()> {
+    write!(out, "ask {} at ", ask.client).ok()?;
+    print_octets(&ask.link, out)?;
+    print_request(alloc, &ask.request, out)
+}
+
+fn print_stranger(stranger: &Stranger, out: &mut Vec<u8>) -> Option<()> {
+    write!(out, "stranger {} at ", stranger.node).ok()?;
+    print_octets(&stranger.link, out)?;
+    print_octets(&stranger.octets, out)
+}
+
+fn print_clock(clock: &ClockStart, out: &mut Vec<u8>) -> Option<()> {
+    writeln!(out, "clock {} {}", clock.node, clock.start).ok()
+}
+
+fn print_pace(clock: &ClockPace, out: &mut Vec<u8>) -> Option<()> {
+    writeln!(out, "pace {} {}", clock.node, clock.rate).ok()
+}
+
 fn print_step(alloc: Global, step: &Statement, out: &mut Vec<u8>) -> Option<()> {
     match step {
         Statement::Ask(ask) => print_ask(alloc, ask, out),
@@ -55,6 +78,10 @@ fn print_step(alloc: Global, step: &Statement, out: &mut Vec<u8>) -> Option<()> 
         Statement::Lose(copy) => writeln!(out, "lose {copy}").ok(),
         Statement::Tick(node) => writeln!(out, "tick {node}").ok(),
         Statement::Advance(time) => writeln!(out, "advance {time}").ok(),
+        Statement::AskStranger(ask) => print_ask_stranger(alloc, ask, out),
+        Statement::Stranger(stranger) => print_stranger(stranger, out),
+        Statement::Clock(clock) => print_clock(clock, out),
+        Statement::Pace(clock) => print_pace(clock, out),
         _ => None,
     }
 }

@@ -2,10 +2,10 @@
 //!
 //! `house`, `document TEXT`, `objects OBJECT ..` and `many COUNT` make another store, or print why there is none; `copy` continues with a copy, and `same` compares
 //! with the house, or with the store of a document. `ask CHOICE HEX` performs a request and prints the reply. `change OBJECT PROPERTY HEX` and `fill FILE HEX`
-//! are changes at the node. `find COUNT` looks up so many objects, and `faults` prints all faults of changes.
+//! are changes at the node. `findings TEXT` prints all faults of a document, each with its line. `find COUNT` looks up so many objects, and `faults` prints all faults of changes.
 use crate::objects::{bare, identifier, objects_of};
 use crate::words::{first, number, octets_of, print_octets, put, small, spelled};
-use bac_objects::read_objects;
+use bac_objects::{document_findings, read_objects};
 use bac_service::{AnyReply, Complex, Reply, read_request, write_reply};
 use bac_store::{Change, ChangeFault, Object, Store, house};
 use bac_value::ObjectIdentifier;
@@ -212,6 +212,7 @@ impl Playing {
         match verb.as_bytes() {
             b"house" => self.make_house(),
             b"document" => self.read_document(words, out),
+            b"findings" => print_findings(self.alloc, words, out),
             b"objects" => self.make_objects(words, out),
             b"many" => self.make_many(words.parse::<u32>().ok()?, out),
             b"find" => self.find(words.parse::<u32>().ok()?, out),
@@ -240,6 +241,15 @@ impl Playing {
         }
         Some(())
     }
+}
+
+/// Prints all faults of a document.
+fn print_findings(alloc: Global, text: &str, out: &mut Vec<u8>) -> Option<()> {
+    let findings = document_findings(alloc, text.as_bytes()).ok()?;
+    for finding in findings.iter() {
+        writeln!(out, "{finding}").ok()?;
+    }
+    Some(())
 }
 
 const FAULTS: &[ChangeFault] = &[

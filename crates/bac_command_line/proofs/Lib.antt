@@ -1,7 +1,11 @@
+pub mod Told
+pub mod ClientPairs
 pub mod CheckedFiles
 pub mod Statuses
 pub mod StoresOfFiles
 pub mod Served
+pub mod KeptServed
+pub mod Opened
 pub mod InRounds
 pub mod Asked
 pub mod LastWords

@@ -5,9 +5,11 @@ pub mod Asking
 pub mod Given
 pub mod FileWords
 pub mod Rounds
+pub mod ClientPairs
 pub mod Online
 pub mod AskedLines
 pub mod InFlight
 pub mod Asked
 pub mod Stores
 pub mod Tasks
+pub mod Keeping

@@ -6,7 +6,7 @@ use Rattle.bac_protocol.specs.Service.{Octets}
 use Rattle.bac_driver.specs.Calls.{Calls}
 use Rattle.bac_driver.specs.Moments.{Told, with_moment}
 use Rattle.bac_driver.specs.Udp.{LOCAL_HOST}
-use Rattle.bac_node.specs.Fresh.{slots_fit}
+use Rattle.bac_node.specs.Fresh.{large_slots_fit}
 use Rattle.bac_npdu.specs.Peers.{PeerView}
 use Rattle.bac_npdu.specs.Views.{peer_view}
 use Rattle.bac_service.specs.Values.{Request}
@@ -77,8 +77,9 @@ abbrev pub IsHouseAt : Links → (host : Octets) → (first_id : ℕ) → BoundN
 IsHouseAt IsOn host first_id bound_node = IsAt IsOn host FREE (house_node first_id) bound_node
 
 -- one with a slot for each invoke ID of a peer
-abbrev pub IsClientAt : Links → (host : Octets) → (first_id : ℕ) → BoundNode → Type 0
-IsClientAt IsOn host first_id bound_node = IsAt IsOn host FREE (client_node first_id) bound_node
+pub record IsClientAt (IsOn : Links) (host : Octets) (first_id : ℕ) (bound_node : BoundNode) : Type 0 where
+  pub port : ℕ
+  pub at : IsAt IsOn host port (client_node first_id) bound_node
 
 -- ---- serving
 
@@ -100,7 +101,7 @@ pub record Serves (store : Store) (IsOn : Links) (IsClock : Clocks) (serving : S
 
 -- there can't be so many slots, and nothing was printed
 pub record IsRefused (serving : Serving) (old new : Option (List ℕ)) : Type 0 where
-  pub slots : slots_fit serving.slots ≡ false
+  pub slots : large_slots_fit serving.slots ≡ false
   pub keeps : Keeps old new
 
 abbrev pub IsServedBy : Store → Links → Clocks → Status → Serving → (old new : Option (List ℕ)) → Type 0
@@ -130,7 +131,7 @@ pub record AsksOnce (asking : Asking) (q : Question) (succeeded : Bool) (before 
   pub asked :
       Asked asking.output_format succeeded q (patience_for asking.timeout start) (timed before.bound_node (with_moment before.told start)) after old new
 
--- a client at any free port, whose invoke IDs began anywhere, did that, in rounds where they are wanted
+-- a client at any port, whose invoke IDs began anywhere, did that, in rounds where they are wanted
 pub record ByClient (IsOn : Links) (IsClock : Clocks) (asking : Asking) (Round : Doing) (all : Bool) (old new : Option (List ℕ)) : Type 0 where
   pub before : Timed
   pub after : Timed

@@ -1,29 +1,43 @@
 -- What a command line asks for, and what the status of doing it says.
-use Rattle.std.specs.Prelude.{ℕ, List, Option, map}
+use Rattle.std.specs.Prelude.{⊤, ℕ, List, Option, map}
 use Rattle.std.specs.Option.{option_map}
 use Rattle.bac_text.specs.declared.status.Status.{Status}
+use Rattle.bac_text.specs.declared.status.Status.TheVariants as status
 use Rattle.bac_command_line.specs.Asked.{AreAskedFrom}
 use Rattle.bac_command_line.specs.Files.{IsChartedFile, IsCheckedFile, IsExplainedFile, IsShownFile, IsSimulatedFile}
+use Rattle.bac_command_line.specs.Keeping.{Databases, IsListed, IsServedKept}
 use Rattle.bac_command_line.specs.Lines.{AreCheckedLines, IsDecodedFrom}
 use Rattle.bac_command_line.specs.Stores.{IsAnsweredFrom, IsServedFrom}
 use Rattle.bac_command_line.specs.Online.{Clocks, IsAskedFrom, IsPair, Links}
 use Rattle.bac_command_line.specs.declared.task.Task.{Task}
 use Rattle.bac_command_line.specs.declared.task.Task.TheVariants as task
 
+-- what is told of the program has no fault: all of it was printed, or the status says why not
+abbrev pub IsTold : Status → Type 0
+IsTold status.Done = ⊤
+IsTold status.Faulty = ⊥
+IsTold status.CommandLine = ⊤
+IsTold status.Output = ⊤
+IsTold status.Memory = ⊤
+
 -- that very command was done: of that datagram, file, port or request
 abbrev pub IsPerformed : (IsAt : (path : List ℕ) → (content : Option (List ℕ)) → Type 0)
-    → Links → Clocks → Task → Status → (old new : Option (List ℕ)) → Type 0
-IsPerformed IsAt IsOn IsClock (task.Answer datagram objects) s old new =
+    → Links → Clocks → Databases → Task → Status → (old new : Option (List ℕ)) → Type 0
+IsPerformed IsAt IsOn IsClock IsOnDatabase (task.Answer datagram objects) s old new =
     IsAnsweredFrom IsAt (option_map (λ p. p.now) objects) datagram.now s old new
-IsPerformed IsAt IsOn IsClock (task.Decode in_words datagram) s old new = IsDecodedFrom IsAt in_words datagram.now s old new
-IsPerformed IsAt IsOn IsClock (task.Check named capture) s old new = IsCheckedFile IsAt named capture.path.now capture.port s old new
-IsPerformed IsAt IsOn IsClock (task.CheckLines path) s old new = AreCheckedLines IsAt path.now s old new
-IsPerformed IsAt IsOn IsClock (task.Explain capture) s old new = IsExplainedFile IsAt capture.path.now capture.port s old new
-IsPerformed IsAt IsOn IsClock (task.Chart form capture) s old new = IsChartedFile IsAt form capture.path.now capture.port s old new
-IsPerformed IsAt IsOn IsClock (task.Simulate script) s old new = IsSimulatedFile IsAt script.notes script.path.now s old new
-IsPerformed IsAt IsOn IsClock (task.Show view script) s old new = IsShownFile IsAt view script.notes script.path.now s old new
-IsPerformed IsAt IsOn IsClock (task.Serve serving objects) s old new =
+IsPerformed IsAt IsOn IsClock IsOnDatabase (task.Decode in_words datagram) s old new = IsDecodedFrom IsAt in_words datagram.now s old new
+IsPerformed IsAt IsOn IsClock IsOnDatabase (task.Check named capture) s old new = IsCheckedFile IsAt named capture.path.now capture.port s old new
+IsPerformed IsAt IsOn IsClock IsOnDatabase (task.CheckLines path) s old new = AreCheckedLines IsAt path.now s old new
+IsPerformed IsAt IsOn IsClock IsOnDatabase (task.Explain capture) s old new = IsExplainedFile IsAt capture.path.now capture.port s old new
+IsPerformed IsAt IsOn IsClock IsOnDatabase (task.Chart form capture) s old new = IsChartedFile IsAt form capture.path.now capture.port s old new
+IsPerformed IsAt IsOn IsClock IsOnDatabase (task.Simulate script) s old new = IsSimulatedFile IsAt script.notes script.path.now s old new
+IsPerformed IsAt IsOn IsClock IsOnDatabase (task.Show view script) s old new = IsShownFile IsAt view script.notes script.path.now s old new
+IsPerformed IsAt IsOn IsClock IsOnDatabase (task.Serve serving objects) s old new =
     IsServedFrom IsAt (option_map (λ p. p.now) objects) IsOn IsClock s serving old new
-IsPerformed IsAt IsOn IsClock (task.Ask asking words) s old new = IsAskedFrom IsAt IsOn IsClock s asking (map (λ w. w.now) words.now) old new
-IsPerformed IsAt IsOn IsClock (task.AskLines asking path) s old new = AreAskedFrom IsAt IsOn IsClock s asking path.now old new
-IsPerformed IsAt IsOn IsClock task.Pair s old new = IsPair IsOn IsClock s old new
+IsPerformed IsAt IsOn IsClock IsOnDatabase (task.ServeKept serving objects path) s old new =
+    IsServedKept IsAt (option_map (λ p. p.now) objects) IsOnDatabase IsOn IsClock s serving path.now old new
+IsPerformed IsAt IsOn IsClock IsOnDatabase (task.Keep path) s old new = IsListed s old new
+IsPerformed IsAt IsOn IsClock IsOnDatabase (task.Ask asking words) s old new = IsAskedFrom IsAt IsOn IsClock s asking (map (λ w. w.now) words.now) old new
+IsPerformed IsAt IsOn IsClock IsOnDatabase (task.AskLines asking path) s old new = AreAskedFrom IsAt IsOn IsClock s asking path.now old new
+IsPerformed IsAt IsOn IsClock IsOnDatabase task.Pair s old new = IsPair IsOn IsClock s old new
+IsPerformed IsAt IsOn IsClock IsOnDatabase (task.Tell telling) s old new = IsTold s

@@ -6,10 +6,10 @@ use std::net::Ipv4Addr;
 pub(crate) const LOCAL_HOST: [u8; 4] = [127, 0, 0, 1];
 
 /// Each address of this machine.
-const EVERY_HOST: [u8; 4] = [0, 0, 0, 0];
+pub(crate) const EVERY_HOST: [u8; 4] = [0, 0, 0, 0];
 
 /// The port of BACnet/IP, BAC0 (clause J.1.2).
-const BACNET_PORT: u16 = 47_808;
+pub(crate) const BACNET_PORT: u16 = 47_808;
 
 /// The address that a text as `192.168.1.20` is.
 pub(crate) fn read_host(text: &str) -> Option<[u8; 4]> {

@@ -5,7 +5,8 @@ ghost use Rattle.bac_command_line.specs.Given.{AreRoundsOf, IsFlag, IsGiven, IsM
 ghost use Rattle.bac_command_line.specs.Rounds.{next_from};
 ghost use Rattle.bac_command_line.specs.Serving.{turns_of};
 
-use crate::address::{LOCAL_HOST, host_towards, link_at, read_link, read_route};
+use crate::address::{EVERY_HOST, LOCAL_HOST, host_towards, link_at, read_link, read_route};
+use crate::online::Machine;
 use bac_commands::{OutputFormat, Style};
 use bac_driver::WaitLimit;
 use bac_npdu::{LinkAddress, Peer, Route};
@@ -59,6 +60,19 @@ pub(crate) struct Asking {
 }
 
 impl Asking {
+    /// The same, asked from the address of this machine that the node sees, where that could be any and the machine tells it.
+    pub(crate) fn from_source<M: Machine>(self, machine: &M) -> Asking
+        ensures { result ≡ record self { host = result.host } }
+    {
+        if self.host != EVERY_HOST {
+            return self;
+        }
+        match machine.source_towards(self.peer.link) {
+            Some(host) => Asking { host, ..self },
+            None => self,
+        }
+    }
+
     /// How long its turns wait, where it begins at that moment: until something is due, and when it waits no longer.
     pub(crate) fn wait_limit(&self, start: u64) -> WaitLimit
         ensures { result ≡ patience_for self.now.timeout start }

@@ -99,7 +99,7 @@ fn text_at<F: OpenFiles, E: Write>(
     ensures told { IfErr result IsStop }
 {
     let file = opened(files, path, err)?;
-    octets_of(alloc, file, err)
+    octets_of(alloc, path, file, err)
 }
 
 /// What the lines of a file ask. Where it cannot be read, or a line is bad, `err` says so.

@@ -1,41 +1,61 @@
 //! What is printed of words that are no request.
 ghost use Rattle.bac_text.specs.Statuses.{IsStop};
 
+use bac_commands::Style;
 use bac_service_text::bad_word;
 use bac_text::{Status, no_memory};
 use std::alloc::{AllocError, Global};
 use std::io::Write;
 
+/// Why words are refused of which each alone is good, where the answer is to be printed so.
+fn whole_reason(style: Style) -> &'static str {
+    match style {
+        Style::Octets => "--raw writes the octets of a file: a `get` wanted",
+        Style::Numbers | Style::Words => "the octets are too many for a file",
+    }
+}
+
+/// What stands between `bad words` and which is bad, where the answer is to be printed so: in words, both are on one line.
+fn separator_of(style: Style) -> &'static str {
+    match style {
+        Style::Words => ": ",
+        Style::Numbers | Style::Octets => "\n",
+    }
+}
+
 /// `bad words`, and which is bad and what was wanted.
-fn bad_words_text(alloc: Global, words: &[&[u8]]) -> Result<Vec<u8>, AllocError> {
+fn bad_words_text(alloc: Global, style: Style, words: &[&[u8]]) -> Result<Vec<u8>, AllocError> {
     let mut text = Vec::from_slice(alloc, b"bad words")?;
-    if let Some(bad) = bad_word(alloc, words)? {
-        text.extend_from_slice(b": ")?;
-        text.extend_from_slice(bad.text(alloc)?.as_slice())?;
+    match bad_word(alloc, words)? {
+        Some(bad) => {
+            let reason = bad.text(alloc)?;
+            text.extend_from_slice(separator_of(style).as_bytes())?;
+            text.extend_from_slice(reason.as_slice())?;
+        }
+        None => {
+            text.push(b'\n')?;
+            text.extend_from_slice(whole_reason(style).as_bytes())?;
+        }
     }
     text.push(b'\n')?;
     Ok(text)
 }
 
-/// Complains of words that are no request: `bad words`, and where the text is wanted in words which is bad and what was wanted. An Err says that memory
-/// was refused.
+/// Complains of words that are no request, or none that can be printed so: `bad words`, and which is bad and what was wanted, behind that in words, otherwise
+/// on a line of its own. An Err says that memory was refused.
 pub(crate) fn print_bad_words<E: Write>(
     alloc: Global,
-    in_words: bool,
+    style: Style,
     words: &[&str],
     err: &mut E,
 ) -> Result<(), AllocError> {
-    if in_words {
-        let mut octets = Vec::new(alloc);
-        for word in words {
-            octets.push(word.as_bytes())?;
-        }
-        let text = bad_words_text(alloc, &octets)?;
-        // if that fails too, only the status is left
-        let _ = err.write_all(&text);
-    } else {
-        let _ = err.writeln("bad words");
+    let mut octets = Vec::new(alloc);
+    for word in words {
+        octets.push(word.as_bytes())?;
     }
+    let text = bad_words_text(alloc, style, &octets)?;
+    // if that fails too, only the status is left
+    let _ = err.write_all(&text);
     Ok(())
 }
 
@@ -48,7 +68,7 @@ pub(crate) fn print_bad_line<E: Write>(
 ) -> Status
     ensures { IsStop result }
 {
-    let Ok(text) = bad_words_text(alloc, words) else {
+    let Ok(text) = bad_words_text(alloc, Style::Words, words) else {
         return no_memory(err);
     };
     // if that fails too, only the status is left

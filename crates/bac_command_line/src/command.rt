@@ -1,5 +1,6 @@
 //! Doing what a command line asks for: over any files, links and writers.
 ghost use Rattle.bac_command_line.specs.Files.{OnFile};
+ghost use Rattle.bac_command_line.specs.Keeping.{OnDatabase};
 ghost use Rattle.bac_command_line.specs.Online.{OnClock, OnPort};
 ghost use Rattle.bac_command_line.specs.Tasks.{IsPerformed};
 
@@ -7,13 +8,16 @@ use crate::asking_lines::ask_lines;
 use crate::environment::Environment;
 use crate::files::{OpenFiles, chart, check, explain, show, simulate};
 use crate::grammar::matches;
+use crate::help::tell;
+use crate::keeping::serve_kept;
 use crate::lines::{check_lines, decode};
+use crate::listing::list_kept;
 use crate::objects::{answer, serve};
 use crate::online::Machine;
+use crate::reasons::print_no_task;
 use crate::task::{Task, task_of};
 use crate::{file_words, online};
-use bac_text::{Status, complain, no_memory};
-use clap::ArgMatches;
+use bac_text::{Status, no_memory};
 use clap::error::ErrorKind;
 use std::alloc::Global;
 use std::io::Write;
@@ -26,7 +30,7 @@ fn perform<F: OpenFiles, M: Machine, O: Write, E: Write>(
     err: &mut E,
 ) -> Status
     ensures { IsPerformed (OnFile F.is_file F.File.remaining) (OnPort M.is_bound M.Link.failures M.Link.calls) (OnClock M.is_made M.Timer.told)
-        task.entry result (O.contents out.old) (O.contents out.new) }
+        (OnDatabase M.is_database M.Database.view M.Database.recovers) task.entry result (O.contents out.old) (O.contents out.new) }
 {
     let alloc = environment.alloc;
     let files = environment.files;
@@ -42,17 +46,16 @@ fn perform<F: OpenFiles, M: Machine, O: Write, E: Write>(
         Task::Simulate(script) => simulate(alloc, files, &script, out, err),
         Task::Show { view, script } => show(alloc, files, view, &script, out, err),
         Task::Serve { serving, objects } => { serve(environment, &serving, objects, out, err) }
+        Task::ServeKept {
+            serving,
+            objects,
+            path,
+        } => serve_kept(environment, &serving, objects, path, out, err),
+        Task::Keep(path) => list_kept(environment, path, out, err),
         Task::Ask { asking, words } => { file_words::ask(environment, &asking, words, out, err) }
         Task::AskLines { asking, path } => { ask_lines(environment, &asking, path, out, err) }
         Task::Pair => online::pair(alloc, environment.machine, out, err),
-    }
-}
-
-/// Why there is nothing to be done.
-fn fault_of(matches: &ArgMatches<'_>) -> &'static str {
-    match matches.subcommand() {
-        Some(("serve" | "ask", _)) => "bad address",
-        _ => "no command",
+        Task::Tell(telling) => tell(telling, out, err),
     }
 }
 
@@ -82,7 +85,7 @@ pub fn run<F: OpenFiles, M: Machine, O: Write, E: Write>(
         machine,
     };
     match task_of(&matches, machine.shows_progress()) {
-        Some(task) => perform(&environment, task, out, err),
-        None => complain(err, fault_of(&matches), Status::CommandLine),
+        Some(task) => perform(&environment, task.from_source(machine), out, err),
+        None => print_no_task(&matches, err),
     }
 }

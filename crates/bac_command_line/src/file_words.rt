@@ -44,7 +44,7 @@ fn digits_of<F: OpenFiles, E: Write>(
     ensures told { IfErr result IsStop }
 {
     let file = opened(files, path, err)?;
-    let octets = octets_of(alloc, file, err)?;
+    let octets = octets_of(alloc, path, file, err)?;
     match hex::encode_upper(alloc, &octets) {
         Ok(digits) => Ok(digits),
         Err(_) => Err(no_memory(err)),

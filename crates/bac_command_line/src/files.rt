@@ -4,10 +4,11 @@ ghost use Rattle.std.specs.Io.Buffered.{reader_remaining};
 ghost use Rattle.bac_text.specs.Statuses.{IsStop};
 ghost use Rattle.bac_command_line.specs.Files.{IsChartedFile, IsCheckedFile, IsExplainedFile, IsShownFile, IsSimulatedFile, OnFile};
 
+use crate::reasons::print_unread;
 use bac_capture::{Ports, check_capture_over};
 use bac_explain_report::{ChartFormat, chart_over, explain_over};
 use bac_simulate::{View, show_over, simulate_lines_over};
-use bac_text::{Status, complain, no_memory};
+use bac_text::{Status, no_memory};
 use std::alloc::Global;
 use std::io;
 use std::io::{BufReader, Read, Write};
@@ -38,7 +39,7 @@ pub(crate) fn opened<F: OpenFiles, E: Write>(
     match files.open(path) {
         Ok(file) => Ok(file),
         Err(error) if error.kind() == io::ErrorKind::OutOfMemory => Err(no_memory(err)),
-        Err(_) => Err(complain(err, "cannot read", Status::CommandLine)),
+        Err(error) => Err(print_unread(path, &error, err)),
     }
 }
 

@@ -1,4 +1,5 @@
 //! Command lines, read by the table of commands.
+use crate::help_words::about;
 use crate::words::{Grammar, Need, OFFLINE, ONLINE, Word, WordForm};
 use clap::builder::ValueParser;
 use clap::{Arg, ArgAction, ArgMatches, Command};
@@ -74,13 +75,19 @@ fn with_commands<'a>(
 fn offline<'a>(alloc: Global) -> Result<Command<'a>, clap::Error> {
     let bac = Command::new(alloc, "bac")
         .about("BACnet confirmed services, proved")
-        .subcommand_required(true);
+        .subcommand_required(true)
+        .disable_help_subcommand(true);
     with_commands(alloc, bac, OFFLINE)
+}
+
+/// The program with those and the commands that need a link.
+fn online<'a>(alloc: Global) -> Result<Command<'a>, clap::Error> {
+    with_commands(alloc, offline(alloc)?, ONLINE)
 }
 
 /// The program with all of its commands: a table a function, since the prover writes out what a function names.
 fn commands<'a>(alloc: Global) -> Result<Command<'a>, clap::Error> {
-    with_commands(alloc, offline(alloc)?, ONLINE)
+    with_commands(alloc, online(alloc)?, about())
 }
 
 /// What the words of a command line give. An Err is out of memory, or has the text for who wrote them.

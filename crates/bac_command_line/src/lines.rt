@@ -4,6 +4,7 @@ ghost use Rattle.bac_command_line.specs.Files.{OnFile};
 ghost use Rattle.bac_command_line.specs.Lines.{AreCheckedLines, AreDecodedLines, IsDecodedFrom};
 
 use crate::files::{OpenFiles, reader_of};
+use crate::reasons::{Digits, print_bad_digit};
 use bac_text::{Status, check_lines_over, decode_lines_over, decode_text_over};
 use std::alloc::Global;
 use std::io::Write;
@@ -42,7 +43,9 @@ pub(crate) fn decode<F: OpenFiles, O: Write, E: Write>(
     if datagram == STANDARD_INPUT {
         decode_lines(alloc, files, in_words, datagram, out, err)
     } else {
-        decode_text_over(alloc, in_words, datagram, out, err)
+        let status = decode_text_over(alloc, in_words, datagram, out, err);
+        print_bad_digit(status, datagram, Digits::Grouped, err);
+        status
     }
 }
 

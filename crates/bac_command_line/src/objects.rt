@@ -1,9 +1,10 @@
 //! Commands of a node with objects: those of the house, or those that a file means.
 ghost use Rattle.std.specs.Prelude.{◌≡◌, IfErr, IfOk, IfSome};
 ghost use Rattle.std.specs.Option.{option_map};
-ghost use Rattle.bac_commands.specs.AnswerTexts.{IsAnswered};
+ghost use Rattle.bac_commands.specs.AnswerTexts.{IsAnswered, IsAnsweredBy};
 ghost use Rattle.bac_text.specs.Statuses.{IsStop};
 ghost use Rattle.bac_command_line.specs.Files.{OfFile, OnFile};
+ghost use Rattle.bac_command_line.specs.Keeping.{IsDocument};
 ghost use Rattle.bac_command_line.specs.Online.{IsServedBy, OnClock, OnPort};
 ghost use Rattle.bac_store.specs.House.{house as spec_house};
 ghost use Rattle.bac_command_line.specs.Stores.{IsAnsweredFrom, IsServedFrom, MeansStore};
@@ -12,11 +13,12 @@ use crate::environment::Environment;
 use crate::files::{OpenFiles, opened};
 use crate::online;
 use crate::online::Machine;
+use crate::reasons::{Digits, print_bad_digit, print_document_fault, print_unread};
 use crate::serving::Serving;
 use bac_commands::answer_over;
 use bac_objects::{DocumentFault, read_objects};
 use bac_store::{Store, house};
-use bac_text::{Status, complain, no_memory};
+use bac_text::{Status, no_memory};
 use std::alloc::Global;
 use std::io;
 use std::io::{Read, Write};
@@ -24,6 +26,7 @@ use std::io::{Read, Write};
 /// All octets of a file. Where it cannot be read, `err` and the status say so.
 pub(crate) fn octets_of<F: Read + Drop, E: Write>(
     alloc: Global,
+    path: &str,
     file: F,
     err: &mut E,
 ) -> Result<Vec<u8>, Status>
@@ -35,7 +38,7 @@ pub(crate) fn octets_of<F: Read + Drop, E: Write>(
     match file.read_to_end(&mut octets) {
         Ok(_) => Ok(octets),
         Err(error) if error.kind() == io::ErrorKind::OutOfMemory => Err(no_memory(err)),
-        Err(_) => Err(complain(err, "cannot read", Status::CommandLine)),
+        Err(error) => Err(print_unread(path, &error, err)),
     }
 }
 
@@ -52,11 +55,7 @@ fn store_in<E: Write>(
     match read_objects(alloc, octets) {
         Ok(store) => Ok(store),
         Err(DocumentFault::NoMemory) => Err(no_memory(err)),
-        Err(fault) => {
-            // if that fails too, only the status is left
-            let _ = writeln!(err, "{path}: {fault}");
-            Err(Status::CommandLine)
-        }
+        Err(fault) => Err(print_document_fault(alloc, path, octets, &fault, err)),
     }
 }
 
@@ -71,7 +70,7 @@ fn store_from<F: Read + Drop, E: Write>(
     ensures store { IfOk result (λ s. MeansStore (F.remaining file) s) }
     ensures told { IfErr result IsStop }
 {
-    let octets = octets_of(alloc, file, err)?;
+    let octets = octets_of(alloc, path, file, err)?;
     store_in(alloc, path, &octets, err)
 }
 
@@ -89,6 +88,21 @@ fn store_of<F: OpenFiles, E: Write>(
     store_from(alloc, path, file, err)
 }
 
+/// What answers a datagram, of a node of that store. Text that is no hexadecimal: `bad hex` on `err`, and why.
+fn answer_of_store<O: Write, E: Write>(
+    alloc: Global,
+    store: Store,
+    datagram: &str,
+    out: &mut O,
+    err: &mut E,
+) -> Status
+    ensures { IsAnsweredBy store datagram.now (O.contents out.old) (O.contents out.new) result }
+{
+    let status = answer_over(alloc, store, datagram, out, err);
+    print_bad_digit(status, datagram, Digits::Alone, err);
+    status
+}
+
 fn answer_house<O: Write, E: Write>(
     alloc: Global,
     datagram: &str,
@@ -98,7 +112,7 @@ fn answer_house<O: Write, E: Write>(
     ensures { IsAnswered datagram.now (O.contents out.old) (O.contents out.new) result }
 {
     match house(alloc) {
-        Ok(store) => answer_over(alloc, store, datagram, out, err),
+        Ok(store) => answer_of_store(alloc, store, datagram, out, err),
         Err(_) => no_memory(err),
     }
 }
@@ -119,7 +133,7 @@ pub(crate) fn answer<F: OpenFiles, O: Write, E: Write>(
         return answer_house(alloc, datagram, out, err);
     };
     match store_of(alloc, files, path, err) {
-        Ok(store) => answer_over(alloc, store, datagram, out, err),
+        Ok(store) => answer_of_store(alloc, store, datagram, out, err),
         Err(status) => status,
     }
 }
@@ -137,6 +151,25 @@ fn serve_house<M: Machine, O: Write, E: Write>(
     match house(alloc) {
         Ok(store) => online::serve(alloc, machine, store, serving, out, err),
         Err(_) => no_memory(err),
+    }
+}
+
+/// The house, or the store that a file means.
+pub(crate) fn document_of<F: OpenFiles, M: Machine, E: Write>(
+    environment: &Environment<'_, F, M>,
+    objects: Option<&str>,
+    err: &mut E,
+) -> Result<Store, Status>
+    ensures document { IfOk result (λ s. IsDocument (OnFile F.is_file F.File.remaining) (option_map (λ p. p.now) objects.entry) s) }
+    ensures told { IfErr result IsStop }
+{
+    let alloc = environment.alloc;
+    match objects {
+        Some(path) => store_of(alloc, environment.files, path, err),
+        None => match house(alloc) {
+            Ok(store) => Ok(store),
+            Err(_) => Err(no_memory(err)),
+        },
     }
 }
 

@@ -1,5 +1,5 @@
 //! Nodes on links of the machine: what `serve`, `ask` and `pair` do.
-ghost use Rattle.std.specs.Prelude.{◌≡◌, ℕ, map, IfErr, IfOk, IfSome};
+ghost use Rattle.std.specs.Prelude.{◌≡◌, ℕ, Bool, List, map, IfErr, IfOk, IfSome};
 ghost use Rattle.bac_npdu.specs.Views.{peer_view};
 ghost use Rattle.bac_protocol.specs.Service.{Octets};
 ghost use Rattle.bac_commands.specs.Questions.{ReadsQuestion};
@@ -11,6 +11,7 @@ ghost use Rattle.bac_driver.specs.Views.{question_view};
 use crate::address::LOCAL_HOST;
 use crate::asking::Asking;
 use crate::bad_words::print_bad_words;
+use crate::client_pair::ClientPair;
 use crate::rounds::{Asked, ask_by_client};
 use crate::serving::{Serving, print_listening, print_not_bound, serve_from};
 use crate::station::Station;
@@ -18,11 +19,13 @@ use bac_commands::{
     AskCommand, Style, bound_house, bound_server, clock_fault, link_fault, read_question,
 };
 use bac_driver::{Clock, Link, Question};
+use bac_keep_file::OpenFault;
 use bac_node::NewNodeFault;
 use bac_npdu::{LinkAddress, Peer};
 use bac_service_text::{FormFault, reads_file};
 use bac_store::Store;
 use bac_text::{Status, complain, no_memory};
+use sqlite_trees::store::Store as Trees;
 use std::alloc::Global;
 use std::io;
 use std::io::Write;
@@ -33,9 +36,13 @@ pub trait Machine {
 
     type Timer: Clock + Drop;
 
+    type Database: Trees + Drop;
+
     ghost is_bound: { (host : Octets) → (port : ℕ) → Self.Link → (address : Octets) → Type 0 };
 
     ghost is_made: { Self.Timer → Type 0 };
+
+    ghost is_database: { (path : List ℕ) → (is_new : Bool) → Self.Database → Type 0 };
 
     /// A link at that port of an IPv4 address of this machine, and its own address: 0.0.0.0 is each of them, port 0 any free one. An Err where the system
     /// refuses it.
@@ -46,8 +53,17 @@ pub trait Machine {
     fn timer(&self) -> Option<Self::Timer>
         ensures { IfSome result Self.is_made };
 
-    /// The invoke ID at which a new client begins, one that differs from run to run where the machine has one; None where its clock can't be read.
-    fn first_id(&self) -> Option<u8>;
+    /// The port and the invoke ID at which a new client begins now; None where the time of day can't be read. It is asked again where the port is taken, and then
+    /// tells a later pair.
+    fn pair(&self) -> Option<ClientPair>;
+
+    /// The IPv4 address of this machine from which the system sends to a link; None where it tells none.
+    fn source_towards(&self, link: LinkAddress) -> Option<[u8; 4]>;
+
+    /// The database of the file at a path, which is made if it is missing, and whether it is new: it had no tables. While it is open, no other process can
+    /// open it. The faults are those of `bac_keep_file::open`.
+    fn open_database(&self, path: &str) -> Result<(Self::Database, bool), OpenFault>
+        ensures { IfOk result (λ r. Self.is_database path.now r.1 r.0) };
 
     /// Whether standard error is a terminal, which shows the progress of an ask.
     fn shows_progress(&self) -> bool;
@@ -175,11 +191,11 @@ pub(crate) fn ask<M: Machine, O: Write, E: Write>(
     ensures { IsAsked (OnPort M.is_bound M.Link.failures M.Link.calls) (OnClock M.is_made M.Timer.told) result asking.now (map (λ w. w.now) words.now)
         (O.contents out.old) (O.contents out.new) }
 {
-    let in_words = asking.output_format.style == Style::Words;
+    let style = asking.output_format.style;
     let question = match asked_in(alloc, asking, words) {
         Ok(question) => question,
         Err(FormFault::NoForm) => {
-            return match print_bad_words(alloc, in_words, words, err) {
+            return match print_bad_words(alloc, style, words, err) {
                 Ok(()) => Status::CommandLine,
                 Err(_) => no_memory(err),
             };

@@ -11,15 +11,17 @@ ghost use Rattle.bac_command_line.specs.Serving.{turns_of};
 
 use crate::asking::{Asking, Rounds};
 use crate::asking_lines::{ask_each, both};
+use crate::client_pair::ClientPair;
 use crate::online::{Machine, ask_once};
 use crate::question_lines::LineQuestion;
 use crate::station::Station;
 use crate::window::ask_ahead;
 use bac_commands::{CommandError, bound_client, clock_fault, link_fault};
 use bac_driver::{Clock, Link, Question, RunLimit, WaitLimit};
+use bac_npdu::LinkAddress;
 use bac_text::{Status, no_memory};
 use std::alloc::Global;
-use std::io::Write;
+use std::io::{ErrorKind, Write};
 
 /// What a client asks.
 #[derive(Drop)]
@@ -184,7 +186,50 @@ fn ask_and_report<L: Link, C: Clock, O: Write, E: Write>(
     }
 }
 
-/// A client at any free port, whose invoke IDs begin where the machine says, asks all that, in rounds where they are wanted.
+/// A link of a new client, its own address, and the pair with which the client begins.
+#[derive(Drop)]
+struct NewClient<L> {
+    link: L,
+    address: LinkAddress,
+    pair: ClientPair,
+}
+
+/// Why there is no link of a new client.
+#[derive(Clone, Copy, Debug, PartialEq, Eq)]
+enum NoClient {
+    /// The time of day can't be read.
+    NoClock,
+    /// The system refuses the link, or so many ports are taken.
+    NoLink,
+}
+
+/// How many pairs a client tries at the most, where their ports are taken.
+const MOST_TRIES: u32 = 4_096;
+
+/// A link of a new client at an IPv4 address of this machine, with the machine's pair. Where that port is taken, it is that of a later pair.
+fn bind_client<M: Machine>(machine: &M, host: [u8; 4]) -> Result<NewClient<M::Link>, NoClient>
+    ensures { IfOk result (λ c. M.is_bound host c.pair.port c.link c.address) }
+{
+    for _ in 0..MOST_TRIES {
+        let Some(pair) = machine.pair() else {
+            return Err(NoClient::NoClock);
+        };
+        match machine.bind(host, pair.port) {
+            Ok(bound) => {
+                return Ok(NewClient {
+                    link: bound.0,
+                    address: bound.1,
+                    pair,
+                });
+            }
+            Err(error) if error.kind() == ErrorKind::AddrInUse => {}
+            Err(_) => return Err(NoClient::NoLink),
+        }
+    }
+    Err(NoClient::NoLink)
+}
+
+/// A new client, at the port and with the first invoke ID that the machine says, asks all that, in rounds where they are wanted.
 pub(crate) fn ask_by_client<M: Machine, O: Write, E: Write>(
     alloc: Global,
     machine: &M,
@@ -196,17 +241,17 @@ pub(crate) fn ask_by_client<M: Machine, O: Write, E: Write>(
     ensures { ReportsClient (OnPort M.is_bound M.Link.failures M.Link.calls) (OnClock M.is_made M.Timer.told) result asking.now asked.now
         (O.contents out.old) (O.contents out.new) }
 {
-    let Ok(bound) = machine.bind(asking.host, 0) else {
-        return link_fault(err);
+    let client = match bind_client(machine, asking.host) {
+        Ok(client) => client,
+        Err(NoClient::NoClock) => return clock_fault(err),
+        Err(NoClient::NoLink) => return link_fault(err),
     };
     let Some(timer) = machine.timer() else {
         return clock_fault(err);
     };
-    let Some(first_id) = machine.first_id() else {
-        return clock_fault(err);
-    };
-    let address = bound.1;
-    let Ok(bound_node) = bound_client(alloc, bound.0, address, first_id) else {
+    let address = client.address;
+    let first_id = client.pair.first_id;
+    let Ok(bound_node) = bound_client(alloc, client.link, address, first_id) else {
         return no_memory(err);
     };
     let mut station = Station {

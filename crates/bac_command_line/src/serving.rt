@@ -1,17 +1,24 @@
 //! How a node is to serve.
 ghost use Rattle.std.specs.Prelude.{◌≡◌};
+ghost use Rattle.bac_driver.specs.Kept.{keeper_of};
+ghost use Rattle.bac_driver.specs.Rounds.{IsKept};
 ghost use Rattle.bac_driver.specs.Runs.{timed};
 ghost use Rattle.bac_commands.specs.Reports.{ReportsServing};
 ghost use Rattle.bac_text.specs.declared.status.Status.TheVariants as status;
+ghost use Rattle.bac_commands.specs.Kept.{EndsKept, IsKeptByStatus, RoundsText, Unseen, unwatched};
+ghost use Rattle.bac_commands.specs.Statuses.{ByStatus};
+ghost use Rattle.bac_command_line.specs.Keeping.{restarted_by};
 ghost use Rattle.bac_command_line.specs.Serving.{patience_of, restart_of, turns_of};
 
-use crate::address::{LOCAL_HOST, read_host};
+use crate::address::{BACNET_PORT, LOCAL_HOST, read_host};
 use crate::station::Station;
-use bac_commands::{ServeCommand, link_fault};
+use bac_commands::{KeptServer, ServeCommand, link_fault, serve_kept_logged};
 use bac_driver::{Clock, Link, NoObserver, RunLimit, WaitLimit};
+use bac_keep::Keeper;
 use bac_npdu::LinkAddress;
 use bac_text::Status;
 use clap::ArgMatches;
+use std::alloc::Global;
 use std::io;
 use std::io::Write;
 
@@ -68,6 +75,16 @@ impl Serving {
         ensures { result ≡ restart_of self.now.restarted start }
     {
         if self.restarted { Some(start) } else { None }
+    }
+
+    /// The same, which restarts where its database is not new.
+    pub(crate) fn restarted_by(&self, is_new: bool) -> Serving
+        ensures { result ≡ restarted_by is_new self.now }
+    {
+        Serving {
+            restarted: self.restarted || !is_new,
+            ..*self
+        }
     }
 
     /// The first moment at which it performs requests, where it begins at that one.
@@ -162,15 +179,52 @@ pub(crate) fn serve_from<L: Link, C: Clock, O: Write, E: Write>(
     logged.status
 }
 
+/// The same for a node whose store is kept, in rounds.
+pub(crate) fn serve_kept_from<L: Link, C: Clock, K: Keeper, O: Write, E: Write>(
+    alloc: Global,
+    serving: &Serving,
+    start: u64,
+    server: &mut KeptServer<L, C, K>,
+    out: &mut O,
+    err: &mut E,
+) -> Status
+    requires { K.IsHonest (keeper_of server.old.round) → IsKept K.IsOpen K.kept K.noted (keeper_of server.old.round) server.old.bound_node.node.store }
+    ensures printed { ByStatus result (RoundsText (patience_of serving.now start) (turns_of serving.now.turns) (timed server.old.bound_node (C.told server.old.clock))
+        (timed server.new.bound_node (C.told server.new.clock)) (O.contents out.old) (O.contents out.new)) ⊥ ⊥ }
+    ensures all { IsKeptByStatus result K.IsHonest K.IsOpen K.kept K.noted (keeper_of server.new.round) server.new.bound_node.node.store }
+    ensures honest { K.IsHonest (keeper_of server.new.round) → K.IsHonest (keeper_of server.old.round) }
+    ensures kept { EndsKept Unseen (patience_of serving.now start) (turns_of serving.now.turns) K.IsHonest K.IsOpen K.kept K.noted K.may_find
+        (keeper_of server.new.round) (unwatched (timed server.old.bound_node (C.told server.old.clock)))
+        (unwatched (timed server.new.bound_node (C.told server.new.clock))) }
+{
+    let limit = RunLimit {
+        turns: serving.most_turns(),
+        wait_limit: serving.wait_limit(start),
+    };
+    if !serving.log {
+        return bac_commands::serve_kept(server, &limit, &mut NoObserver, out, err);
+    }
+    let command = ServeCommand {
+        limit,
+        serves_from: serving.serves_from(start),
+    };
+    let logged = serve_kept_logged(alloc, server, &command, out, err);
+    if !logged.whole {
+        // if that fails too, nothing is printed
+        let _ = err.writeln("log fault");
+    }
+    logged.status
+}
+
 /// How many slots each end has where nothing is said: 64 of a run of so many turns, otherwise all that there can be.
 fn slots_without_word(turns: Option<u64>) -> usize {
     match turns {
         Some(_) => 64,
-        None => 1_024,
+        None => 65_536,
     }
 }
 
-/// None where there is no port, or what is given is no address.
+/// None where what is given is no address.
 pub(crate) fn serving_of(given: &ArgMatches<'_>) -> Option<Serving> {
     let host = match given.get_str("at") {
         Some(text) => read_host(text)?,
@@ -180,7 +234,7 @@ pub(crate) fn serving_of(given: &ArgMatches<'_>) -> Option<Serving> {
     let slots: Option<usize> = given.get_one("slots");
     Some(Serving {
         host,
-        port: given.get_one("port")?,
+        port: given.get_one("port").unwrap_or(BACNET_PORT),
         turns,
         seconds: given.get_one("seconds"),
         slots: slots.unwrap_or(slots_without_word(turns)),

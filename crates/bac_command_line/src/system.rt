@@ -3,11 +3,13 @@ ghost use Rattle.std.specs.Prelude.{◌≡◌, ⊤};
 ghost use Rattle.bac_driver.specs.Clocks.{latest_told};
 ghost use Rattle.bac_driver.specs.Udp.{bound_host, bound_port, udp_address};
 
+use crate::client_pair::{ClientPair, pair_at};
 use crate::files::OpenFiles;
 use crate::online::Machine;
 use bac_driver::{MonotonicClock, UdpLink};
+use bac_keep_file::{KeptFile, OpenFault};
 use bac_npdu::LinkAddress;
-use std::net::Net;
+use std::net::{Ipv4Addr, Net, SocketAddr, UdpSocket};
 use std::rt::Files;
 use std::time::{SystemTime, UNIX_EPOCH};
 use std::{fs, io};
@@ -43,14 +45,18 @@ impl<R: Files> OpenFiles for System<'_, R> {
     }
 }
 
-impl<'a, R: Net + std::time::Clock> Machine for System<'a, R> {
+impl<'a> Machine for System<'a, HostRuntime> {
     type Link = UdpLink;
 
-    type Timer = MonotonicClock<'a, R>;
+    type Timer = MonotonicClock<'a, HostRuntime>;
+
+    type Database = KeptFile;
 
     ghost is_bound = { λ host port l address. (bound_host l ≡ host) × (bound_port l ≡ port) × (udp_address l ≡ address) };
 
     ghost is_made = { λ c. latest_told c ≡ 0 };
+
+    ghost is_database = { λ _ _ _. ⊤ };
 
     fn bind(&self, host: [u8; 4], port: u16) -> io::Result<(UdpLink, LinkAddress)> {
         let link = UdpLink::bind_at(self.runtime, host, port)?;
@@ -58,15 +64,37 @@ impl<'a, R: Net + std::time::Clock> Machine for System<'a, R> {
         Ok((link, address))
     }
 
-    fn timer(&self) -> Option<MonotonicClock<'a, R>> {
+    fn timer(&self) -> Option<MonotonicClock<'a, HostRuntime>> {
         MonotonicClock::new(self.runtime).ok()
     }
 
-    /// The microseconds of the time of day, up to 255.
-    fn first_id(&self) -> Option<u8> {
+    /// That of the time of day.
+    fn pair(&self) -> Option<ClientPair> {
         let now = SystemTime::now(self.runtime).ok()?;
         let passed = now.duration_since(UNIX_EPOCH).ok()?;
-        Some(passed.as_micros().to_le_bytes()[0])
+        let moment = u64::try_from(passed.as_micros()).ok()?;
+        Some(pair_at(moment))
+    }
+
+    /// That of a socket that is connected to the link, which sends nothing.
+    fn source_towards(&self, link: LinkAddress) -> Option<[u8; 4]> {
+        let [a, b, c, d, high, low] = link;
+        let port = u16::from_be_bytes([high, low]);
+        let socket = UdpSocket::bind(
+            self.runtime,
+            SocketAddr::from((Ipv4Addr::UNSPECIFIED, 0)),
+        ).ok()?;
+        socket
+            .connect(SocketAddr::from((Ipv4Addr::new(a, b, c, d), port)))
+            .ok()?;
+        match socket.local_addr().ok()? {
+            SocketAddr::V4(address) => Some(address.ip().octets()),
+            SocketAddr::V6(_) => None,
+        }
+    }
+
+    fn open_database(&self, path: &str) -> Result<(KeptFile, bool), OpenFault> {
+        bac_keep_file::open(self.runtime, path)
     }
 
     fn shows_progress(&self) -> bool {

@@ -1,6 +1,8 @@
 //! What a command line asks for.
 use crate::asking::{Asking, asking_of};
 use crate::files::{CaptureFile, ScriptFile};
+use crate::help::Telling;
+use crate::online::Machine;
 use crate::serving::{Serving, serving_of};
 use bac_explain_report::ChartFormat;
 use bac_simulate::View;
@@ -44,6 +46,14 @@ pub(crate) enum Task<'m, 'a> {
         serving: Serving,
         objects: Option<&'a str>,
     },
+    /// The same, and the file at that path keeps its store.
+    ServeKept {
+        serving: Serving,
+        objects: Option<&'a str>,
+        path: &'a str,
+    },
+    /// What the file at this path keeps.
+    Keep(&'a str),
     /// The request that some words are.
     Ask {
         asking: Asking,
@@ -56,6 +66,8 @@ pub(crate) enum Task<'m, 'a> {
     },
     /// Two nodes.
     Pair,
+    /// What is told of the program.
+    Tell(Telling<'a>),
 }
 
 /// What the run of a script is to be shown as; None where each event is printed.
@@ -89,6 +101,23 @@ fn capture_of<'a>(given: &ArgMatches<'a>) -> Option<CaptureFile<'a>> {
     let path = given.get_str("FILE")?;
     let port = given.get_one("port");
     Some(CaptureFile { path, port })
+}
+
+impl<'m, 'a> Task<'m, 'a> {
+    /// The same; a client asks from the address of this machine that the node sees, where the machine tells it.
+    pub(crate) fn from_source<M: Machine>(self, machine: &M) -> Task<'m, 'a> {
+        match self {
+            Task::Ask { asking, words } => Task::Ask {
+                asking: asking.from_source(machine),
+                words,
+            },
+            Task::AskLines { asking, path } => Task::AskLines {
+                asking: asking.from_source(machine),
+                path,
+            },
+            task => task,
+        }
+    }
 }
 
 /// None where there is no subcommand, or its word is missing; clap refuses such words itself. Also where an address is none of IPv4. The progress of asks is
@@ -135,8 +164,16 @@ pub(crate) fn task_of<'m, 'a>(
         ("serve", given) => {
             let serving = serving_of(given)?;
             let objects = given.get_str("objects");
+            if let Some(path) = given.get_str("keep") {
+                return Some(Task::ServeKept {
+                    serving,
+                    objects,
+                    path,
+                });
+            }
             Some(Task::Serve { serving, objects })
         }
+        ("keep", given) => Some(Task::Keep(given.get_str("FILE")?)),
         ("ask", given) => {
             let asking = asking_of(given, shows_progress)?;
             if let Some(path) = given.get_str("lines") {
@@ -146,6 +183,10 @@ pub(crate) fn task_of<'m, 'a>(
             Some(Task::Ask { asking, words })
         }
         ("pair", _) => Some(Task::Pair),
+        ("help", given) if given.get_flag("man") => Some(Task::Tell(Telling::Manual)),
+        ("help", given) => Some(Task::Tell(Telling::Help(given.get_str("COMMAND")))),
+        ("version", _) => Some(Task::Tell(Telling::Version)),
+        ("completion", _) => Some(Task::Tell(Telling::Completion)),
         _ => None,
     }
 }

@@ -232,6 +232,7 @@ const SIMULATE: &[Word] = &[
 const SERVE_EXAMPLES: &str = "\
 Example: bac serve --port 47808
 Example: bac serve --port 47808 --seconds 3600 --objects plant.toml
+Example: bac serve --port 47808 --objects plant.toml --keep plant.db
 Example: bac serve --port 47808 --at 192.168.1.20 --restarted
 Example: bac serve --port 47808 --turns 600";
 
@@ -240,9 +241,9 @@ const SERVE: &[Word] = &[
     Word {
         name: "port",
         form: WordForm::Number("P", 65_535),
-        need: Need::Always,
+        need: Need::Never,
         against: &[],
-        help: "The UDP port to listen on, 1 to 65535",
+        help: "The UDP port to listen on, 1 to 65535; 47808 by default",
     },
     Word {
         name: "turns",
@@ -267,10 +268,10 @@ const SERVE: &[Word] = &[
     },
     Word {
         name: "slots",
-        form: WordForm::Number("N", 1_024),
+        form: WordForm::Number("N", 65_536),
         need: Need::Never,
         against: &[],
-        help: "How many requests it can remember at once, 1 to 1024; by default 1024, or 64 with --turns",
+        help: "How many requests it can remember at once, 1 to 65536; by default 65536, or 64 with --turns",
     },
     Word {
         name: "restarted",
@@ -287,6 +288,13 @@ const SERVE: &[Word] = &[
         help: "The node's objects, as a TOML document; by default those of the house",
     },
     Word {
+        name: "keep",
+        form: WordForm::Text("FILE"),
+        need: Need::Never,
+        against: &[],
+        help: "Keeps what is written in FILE, a database, before it is answered; a server that is started with it again finds it, and begins as with --restarted",
+    },
+    Word {
         name: "log",
         form: WordForm::Flag,
         need: Need::Never,
@@ -294,6 +302,15 @@ const SERVE: &[Word] = &[
         help: "Logs each datagram that arrives, and what was done for it, on standard error",
     },
 ];
+
+/// What `keep` takes.
+const KEEP: &[Word] = &[Word {
+    name: "FILE",
+    form: WordForm::Bare,
+    need: Need::Always,
+    against: &[],
+    help: "The file that a server was given with --keep, and which no server has open",
+}];
 
 /// The requests of `ask`.
 const WORDS_HELP: &str =
@@ -445,6 +462,12 @@ pub(crate) const ONLINE: &[Grammar] = &[
         about: "Serves a house over UDP, and prints how many requests it performed",
         after: SERVE_EXAMPLES,
         words: SERVE,
+    },
+    Grammar {
+        name: "keep",
+        about: "Prints what the file of a server keeps, a property or a file a line",
+        after: "Example: bac keep plant.db",
+        words: KEEP,
     },
     Grammar {
         name: "ask",

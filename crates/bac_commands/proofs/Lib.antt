@@ -6,3 +6,4 @@ pub mod OneReply
 pub mod PrintedAnswers
 pub mod Reported
 pub mod Logging
+pub mod Unwatched

@@ -15,3 +15,4 @@ pub mod Frames
 pub mod LogWords
 pub mod Lines
 pub mod Logs
+pub mod Kept

@@ -1,6 +1,6 @@
 //! The node that each command makes.
 ghost use Rattle.std.specs.Prelude.{◌≡◌, true, false, IfOk, IsErrOf};
-ghost use Rattle.bac_node.specs.Fresh.{slots_fit};
+ghost use Rattle.bac_node.specs.Fresh.{large_slots_fit};
 ghost use Rattle.bac_commands.specs.Houses.{node_of, node_with, server_node};
 
 use bac_apdu::Limits;
@@ -22,7 +22,7 @@ const SLOTS: usize = 64;
 
 /// A node of that link with a store, windows of 32 segments, and so many slots at each end, which restarts at that moment, if there is one.
 ///
-/// `BadSlots` where the slots are not 1 to 1,024; otherwise an Err says that memory was refused.
+/// `BadSlots` where the slots are not 1 to 65,536; otherwise an Err says that memory was refused.
 pub(crate) fn server_node(
     alloc: Global,
     slots: usize,
@@ -31,7 +31,7 @@ pub(crate) fn server_node(
     store: Store,
 ) -> Result<Node, NewNodeFault>
     ensures node { IfOk result (λ n. n ≡ server_node slots restart link store) }
-    ensures slots { IsErrOf result NewNodeFault.BadSlots → slots_fit slots ≡ false }
+    ensures slots { IsErrOf result NewNodeFault.BadSlots → large_slots_fit slots ≡ false }
     ensures window { IsErrOf result NewNodeFault.BadWindow → ⊥ }
 {
     let config = Config {
@@ -42,19 +42,19 @@ pub(crate) fn server_node(
         reply_slots: slots,
     };
     match restart {
-        Some(now) => Node::restarted(alloc, config, store, now),
-        None => Node::new(alloc, config, store),
+        Some(now) => Node::restarted_with_large_tables(alloc, config, store, now),
+        None => Node::with_large_tables(alloc, config, store),
     }
 }
 
-/// A node of that link with a store, windows of 32 segments, and so many slots at each end, 1 to 1,024.
+/// A node of that link with a store, windows of 32 segments, and so many slots at each end, 1 to 65,536.
 pub(crate) fn node_of(
     alloc: Global,
     slots: usize,
     link: LinkAddress,
     store: Store,
 ) -> Result<Node, NoMemory>
-    requires { slots_fit slots ≡ true }
+    requires { large_slots_fit slots ≡ true }
     ensures { IfOk result (λ n. n ≡ node_of slots link store) }
 {
     match server_node(alloc, slots, None, link, store) {

@@ -1,11 +1,16 @@
 //! A node that serves, and whose turns are logged.
 ghost use Rattle.std.specs.Prelude.{IsTrue};
+ghost use Rattle.bac_driver.specs.Kept.{keeper_of};
+ghost use Rattle.bac_driver.specs.Rounds.{IsKept};
 ghost use Rattle.bac_driver.specs.Runs.{timed};
+ghost use Rattle.bac_commands.specs.Kept.{IsLogged};
 ghost use Rattle.bac_commands.specs.Reports.{ReportsServing, ServingIsWatched};
 ghost use Rattle.bac_commands.specs.Logs.{Prints};
 
 use crate::log::Log;
+use crate::online::KeptServer;
 use bac_driver::{BoundNode, Clock, Link, RunLimit};
+use bac_keep::Keeper;
 use bac_text::Status;
 use std::alloc::Global;
 use std::io::Write;
@@ -50,6 +55,33 @@ pub fn serve_logged<L: Link, C: Clock, O: Write, E: Write>(
         whole: true,
     };
     let status = crate::serve(bound_node, clock, &command.limit, &mut log, out, err);
+    Logged {
+        status,
+        whole: log.whole,
+    }
+}
+
+/// Serves as `serve_kept` of bac_commands does, and logs each turn on `err` as [`serve_logged`] does, before anything of its round is sent.
+pub fn serve_kept_logged<L: Link, C: Clock, K: Keeper, O: Write, E: Write>(
+    alloc: Global,
+    server: &mut KeptServer<L, C, K>,
+    command: &ServeCommand,
+    out: &mut O,
+    err: &mut E,
+) -> Logged
+    requires { K.IsHonest (keeper_of server.old.round) → IsKept K.IsOpen K.kept K.noted (keeper_of server.old.round) server.old.bound_node.node.store }
+    ensures honest { K.IsHonest (keeper_of server.new.round) → K.IsHonest (keeper_of server.old.round) }
+    ensures logged { IsLogged result.status result.whole command.now.serves_from command.now.limit.wait_limit command.now.limit.turns
+        K.IsHonest K.IsOpen K.kept K.noted K.may_find (keeper_of server.new.round)
+        (timed server.old.bound_node (C.told server.old.clock)) (timed server.new.bound_node (C.told server.new.clock))
+        (E.contents err.old) (E.contents err.new) (O.contents out.old) (O.contents out.new) }
+{
+    let mut log = Log {
+        alloc,
+        serves_from: command.serves_from,
+        whole: true,
+    };
+    let status = crate::serve_kept(server, &command.limit, &mut log, out, err);
     Logged {
         status,
         whole: log.whole,

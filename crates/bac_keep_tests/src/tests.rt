@@ -2,3 +2,4 @@
 mod cuts;
 mod documents;
 mod playing;
+mod rounds;

@@ -2,6 +2,7 @@
 use Rattle.std.proofs.Common.{◌≡◌, ℕ, ◌+◌, ◌≤◌, List, [], ◌∷◌, length, Option, Some, None, Result, Ok, slice_get, refl, sym, ap, subst, inl, inr, ◌∙◌, arith}
 use Rattle.std.specs.Option.{option_map}
 use Rattle.bac_apdu.specs.Apdu.{Limits}
+use Rattle.bac_npdu.specs.Peers.{PeerView}
 use Rattle.bac_transaction.specs.Ends.{Accepted}
 use Rattle.bac_transaction.specs.Sends.{Datagram, Pairwise}
 use Rattle.bac_protocol.specs.Service.{Octets}
@@ -32,10 +33,10 @@ use Rattle.bac_network.proofs.Delivered.{link_within}
 
 -- An ask that was accepted.
 
-ticket_is : (now : ℕ) (link : Octets) (limits : Limits) (r : Request) (a b : Node) (accepted : Accepted) (sends : List Datagram)
-    → NodeAsks now (peer_at link) limits r a b accepted sends → accepted.ticket ≡ a.clients.asked
-ticket_is now link limits r a b accepted sends k =
-    ap (λ (y : Accepted). y.ticket) (accepted_is a.settings now (peer_at link) (choice_of r) k.octets a.clients accepted limits k.accepted).is
+pub ticket_is : (now : ℕ) (peer : PeerView) (limits : Limits) (r : Request) (a b : Node) (accepted : Accepted) (sends : List Datagram)
+    → NodeAsks now peer limits r a b accepted sends → accepted.ticket ≡ a.clients.asked
+ticket_is now peer limits r a b accepted sends k =
+    ap (λ (y : Accepted). y.ticket) (accepted_is a.settings now peer (choice_of r) k.octets a.clients accepted limits k.accepted).is
 
 -- each datagram of an ask of a node becomes a copy
 module _ (nodes : List Node) (notes : List Note) (now sender : ℕ) where
@@ -85,7 +86,7 @@ module _ (n : Network) (client server : ℕ) (can : CanAsk client server n) (b :
           client_there = link_within n.nodes.items n.journal.links can.ready.linked client g.before g.at;
           room = can.note;
           counted =
-              let same = k.ticket ∙ ticket_is (told_in n client) b.link limits r g.before g.after k.accepted x.sends.items k.asks in
+              let same = k.ticket ∙ ticket_is (told_in n client) (peer_at b.link) limits r g.before g.after k.accepted x.sends.items k.asks in
               let few = can.ready.can.counted client g.before g.at in
               omega arith;
         };
@@ -167,7 +168,7 @@ module _ (overtake : ℕ) (n n' : Network) (client server : ℕ) (can : CanAsk c
   tells f refusal of why q is =
       let k = refused_for refusal why in
       subst (λ (p : Result (Option AskFault) WorldFault). HappensTelling overtake (world_of n) event p (world_of n')) (sym is)
-      (inr k, (k, of), λ x. x)
+      (inr k, (k, of), λ x. x, λ x. x)
 
   no_none : (m : ℕ) → (c : Node) → slice_get n.nodes.items m ≡ Some c → slice_get n.nodes.items m ≡ None → ⊥
   no_none m c some none = let e : None ≡ Some c = sym none ∙ some in cc

@@ -1,19 +1,14 @@
 -- A copy is delivered, a node ticks, or hears noise.
-use Rattle.std.proofs.Common.{◌≡◌, ℕ, zero, suc, ◌+◌, ◌<◌, ◌≤◌, ◌⊎◌, Bool, true, false, List, [], ◌∷◌, length, Option, Some, None, slice_get}
+use Rattle.std.proofs.Common.{◌≡◌, ◌≢◌, ℕ, zero, suc, ◌+◌, ◌<◌, ◌≤◌, ◌⊎◌, Bool, true, false, List, [], ◌∷◌, length, get_or, Option, Some, None, slice_get}
 use Rattle.std.proofs.Common.{refl, sym, ap, subst, inl, inr, ◌∙◌, arith}
-use Rattle.std.proofs.lemmas.Option.{slice_get_within}
+use Rattle.std.proofs.lemmas.Option.{slice_get_read, slice_get_within}
 use Rattle.std.specs.Option.{option_map}
-use Rattle.bac_protocol.specs.Server.{Effect}
 use Rattle.bac_protocol.specs.Service.{Octets}
-use Rattle.bac_protocol.specs.Wire.{is_from_client}
-use Rattle.bac_store.specs.Stores.{Store}
-use Rattle.bac_transaction.specs.Keys.{PeerKey}
-use Rattle.bac_transaction.specs.Ends.{act_at, key_of}
 use Rattle.bac_node.specs.Calls.{ticked}
 use Rattle.bac_world.specs.Laws.{IsMeaningless}
-use Rattle.bac_world.specs.Node.{Node, Outcome, NodeOn, NodeTick, IsDropped, IsHeardBy, dropped_for}
-use Rattle.bac_world.specs.Services.{ArePerformed, Performed}
-use Rattle.bac_world.specs.World.{World, Copy, DeliversIf, IsDelivered, HearsNoise, Ticks}
+use Rattle.bac_world.specs.Node.{Node, Outcome, NodeOn, NodeTick, IsDropped, dropped_for}
+use Rattle.bac_world.specs.Services.{Performed}
+use Rattle.bac_world.specs.World.{World, Copy, DeliversIf, HearsNoise, HearsStranger, IsDelivered, IsOfNone, Ticks}
 use Rattle.bac_world.specs.World.{is_deliverable}
 use Rattle.bac_world.specs.World.Event.{Deliver}
 use Rattle.bac_world.proofs.Pairs.{append_none}
@@ -24,11 +19,11 @@ use Rattle.bac_journal.specs.Clocks.{pace_of}
 use Rattle.bac_network.specs.Clocks.{instant, time_at, told_at}
 use Rattle.bac_network.specs.Entries.{CanBeEntered, IsEntered, performances}
 use Rattle.bac_network.specs.Goings.{Arrives, Goes, IsBetween, IsDue, IsHeardCopy}
-use Rattle.bac_network.specs.Networks.{told_in, world_of, world_with, AreAlike, AreNear, IsReady}
-use Rattle.bac_network.specs.Steps.{TakesMemory}
+use Rattle.bac_network.specs.Networks.{told_in, world_of, AreAlike, IsReady}
+use Rattle.bac_network.specs.Steps.{IsOfSome, IsThere, TakesMemory}
 use Rattle.bac_network.specs.Views.{log_view}
 use Rattle.bac_network.specs.declared.network.Network.{Network}
-use Rattle.bac_network.proofs.Entered.{acts_as, can_be_entered, IsOfNode}
+use Rattle.bac_network.proofs.Entered.{acts_as, can_be_entered}
 
 -- More room changes nothing.
 
@@ -52,7 +47,6 @@ ready_alike W overtake m n a r = record {
   can = subst (λ w. CanGoOn W overtake w) (sym (world_alike m n a)) r.can;
   linked = subst (λ nodes. AreLinks nodes.items n.journal.links) (sym a.nodes) (subst (λ links. AreLinks m.nodes.items links) (sym a.links) r.linked);
   apart = subst (λ links. (i j : ℕ) (l : Octets) → slice_get links i ≡ Some l → slice_get links j ≡ Some l → i ≡ j) (sym a.links) r.apart;
-  near = subst AreNear (sym a.notes) r.near;
 }
 
 -- The journal's links are as many as the nodes.
@@ -94,61 +88,70 @@ few_facts : (ended : ℕ) (p : Option Performed) → ended ≤ 1 → ended + per
 few_facts ended None h = omega arith
 few_facts ended (Some p) h = omega arith
 
--- what a node performs as it hears a datagram is of a peer at the link from which that comes
-performed_for : (store : Store) (p : PeerKey) (e : Option Effect) (d : Option Performed) → ArePerformed store (act_at p e) d → (q : Performed)
-    → d ≡ Some q → q.key ≡ p
-performed_for store p None None done q is = absurd cc
-performed_for store p None (Some d) done q is = absurd done
-performed_for store p (Some e) None done q is = absurd done
-performed_for store p (Some e) (Some d) done q is = let same : d ≡ q = cc in ap (λ (y : Performed). y.key) (sym same) ∙ done.key
-
-from_link : (now : ℕ) (from octets : Octets) (a b : Node) (o : Outcome) → NodeOn now from octets a b o → (q : Performed) → o.performed ≡ Some q
-    → q.key.peer.link ≡ from
-from_link now from octets a b o (inl d) q is = absurd (let none : o.performed ≡ None = ap (λ (y : Outcome). y.performed) d.outcome in cc)
-from_link now from octets a b o (inr z) q is = go (is_from_client z.apdu) z.heard
-  where
-    go : (up : Bool) → IsHeardBy up z.peer z.apdu now a b o → q.key.peer.link ≡ from
-    go true turn = ap (λ (y : PeerKey). y.peer.link) (performed_for a.store (key_of z.peer z.apdu) _ o.performed turn.performed q is)
-        ∙ ap (λ y. y.link) z.means.carries.sender
-    go false turn = absurd (let none : o.performed ≡ None = turn.performed in cc)
-
-pub record CopyEnters (W : ℕ) (n : Network) (to : ℕ) (o : Outcome) : Type 0 where
-  pub can : CanBeEntered n.journal to o
+-- what comes of a datagram that a node heard, after which it is that one, can enter, and there is room for it
+pub record HeardEnters (W : ℕ) (n : Network) (to : ℕ) (after : Node) (o : Outcome) : Type 0 where
+  pub can : CanBeEntered n.journal to after o
   pub sender : to < length n.journal.links
   pub sends : length o.sends ≤ W + 1
   pub facts : length o.ended + performances o.performed ≤ 2
 
-module _ (W overtake : ℕ) (n : Network) (r : IsReady W overtake n) (number : ℕ) (m : TakesMemory overtake (world_of n) (Deliver number)) where
-  young : (c : Copy) → slice_get n.journal.copies number ≡ Some c → is_deliverable overtake (pace_of n.journal.own).life n.journal.moment number n.journal.copies c ≡ true
-  young c at =
-      let same : m.0 ≡ c = let e : Some m.0 ≡ Some c = sym m.1 ∙ at in cc in
-      subst (λ (d : Copy). is_deliverable overtake (pace_of n.journal.own).life n.journal.moment number n.journal.copies d ≡ true) same m.2
+-- what `nodes[i]` reads after a call that changed nodes
+pub node_read : (ws items : List Node) → items ≡ ws → (i : ℕ) (x : Node) → i < length ws → x ≡ get_or items i x → slice_get ws i ≡ Some x
+node_read ws items same i x within read = slice_get_read ws (length ws) i x refl within (read ∙ ap (λ (l : List Node). get_or l i x) same)
 
-  entering : (to : ℕ) (o : Outcome) (new : List Node) → IsHeardCopy n.nodes.items (told_in n) n.journal.copies number to o new
-      → CopyEnters W n to o
-  entering to o new h = subst (λ (i : ℕ). CopyEnters W n i o) (sym h.receiver) (record {
-    can = can_be_entered W overtake n r h.copy.to h.goes.after o near enters.0;
-    sender = link_within n.nodes.items n.journal.links r.linked h.copy.to h.goes.before h.goes.at;
+-- what `nodes[i]` reads after that node went on
+pub gone_read : (n' : Network) (node : ℕ) (how : Node → Node → Type 0) (nodes new : List Node) → n'.nodes.items ≡ new → Goes nodes node how new
+    → (x : Node) → x ≡ get_or n'.nodes.items node x → slice_get n'.nodes.items node ≡ Some x
+gone_read n' node how nodes new fits went x read =
+    let there : slice_get n'.nodes.items node ≡ Some went.after = subst (λ l. slice_get l node ≡ Some went.after) (sym fits) (went.nodes).here in
+    node_read n'.nodes.items n'.nodes.items refl node x (slice_get_within n'.nodes.items node went.after there) read
+
+-- the node after it is the one that is there now
+is_after : (old : List Node) (i : ℕ) (how : Node → Node → Type 0) (new : List Node) (g : Goes old i how new) (x : Node) → slice_get new i ≡ Some x
+    → g.after ≡ x
+is_after old i how new g x at = let same : Some g.after ≡ Some x = sym (g.nodes).here ∙ at in cc
+
+module _ (W overtake : ℕ) (n : Network) (r : IsReady W overtake n) where
+  heard_enters : (i : ℕ) (how : Node → Node → Type 0) (new : List Node) (g : Goes n.nodes.items i how new) (o : Outcome)
+      → CanEnter (world_of n) i g.after o × (length o.sends ≤ W + 1) × (length o.ended ≤ 1) → HeardEnters W n i g.after o
+  heard_enters i how new g o enters = record {
+    can = can_be_entered W overtake n r i g.after o enters.0;
+    sender = link_within n.nodes.items n.journal.links r.linked i g.before g.at;
     sends = enters.1;
     facts = few_facts (length o.ended) o.performed enters.2;
-  })
-    where
-      near : IsOfNode n.nodes.items o.performed
-      near q is none = none h.copy.from (h.sender
-          ∙ ap Some (sym (from_link (told_in n h.copy.to) h.link h.copy.octets h.goes.before h.goes.after o h.goes.goes q is)))
+  }
 
-      enters : CanEnter (world_of n) h.copy.to h.goes.after o × (length o.sends ≤ W + 1) × (length o.ended ≤ 1)
-      enters = r.can.hears number h.copy h.there (young h.copy h.there) h.link h.sender h.goes.before h.goes.after o h.goes.at h.goes.goes
+  module _ (number : ℕ) (m : TakesMemory overtake (world_of n) (Deliver number)) where
+    young : (c : Copy) → slice_get n.journal.copies number ≡ Some c
+        → is_deliverable overtake (pace_of n.journal.own).life n.journal.moment number n.journal.copies c ≡ true
+    young c at =
+        let same : m.0 ≡ c = let e : Some m.0 ≡ Some c = sym m.1 ∙ at in cc in
+        subst (λ (d : Copy). is_deliverable overtake (pace_of n.journal.own).life n.journal.moment number n.journal.copies d ≡ true) same m.2
 
-  pub copy_enters : (nodes : List Node) → nodes ≡ n.nodes.items → (to : ℕ) (o : Outcome) (new : List Node)
-      → IsHeardCopy nodes (told_in n) n.journal.copies number to o new → CopyEnters W n to o
-  copy_enters nodes are to o new h =
-      entering to o new (subst (λ l. IsHeardCopy l (told_in n) n.journal.copies number to o new) are h)
+    entering : (to : ℕ) (o : Outcome) (new : List Node) → IsHeardCopy n.nodes.items (told_in n) n.journal.copies number to o new
+        → (x : Node) → slice_get new to ≡ Some x → HeardEnters W n to x o
+    entering to o new h x at =
+        let here : slice_get new h.copy.to ≡ Some x = subst (λ (i : ℕ). slice_get new i ≡ Some x) h.receiver at in
+        let k = h.goes in
+        subst (λ (i : ℕ). HeardEnters W n i x o) (sym h.receiver)
+        (subst (λ (b : Node). HeardEnters W n h.copy.to b o) (is_after n.nodes.items h.copy.to _ new k x here)
+        (heard_enters h.copy.to _ new k o
+        (r.can.hears number h.copy h.there (young h.copy h.there) h.link h.sender k.before k.after o k.at k.goes)))
+
+    pub receiver_there : (nodes : List Node) (to : ℕ) (o : Outcome) (new : List Node)
+        → IsHeardCopy nodes (told_in n) n.journal.copies number to o new → to < length new
+    receiver_there nodes to o new h =
+        subst (λ (i : ℕ). i < length new) (sym h.receiver) (slice_get_within new h.copy.to h.goes.after (h.goes.nodes).here)
+
+    pub copy_enters : (nodes : List Node) → nodes ≡ n.nodes.items → (to : ℕ) (o : Outcome) (new : List Node)
+        → IsHeardCopy nodes (told_in n) n.journal.copies number to o new → (x : Node) → slice_get new to ≡ Some x → HeardEnters W n to x o
+    copy_enters nodes are to o new h =
+        entering to o new (subst (λ l. IsHeardCopy l (told_in n) n.journal.copies number to o new) are h)
 
 arrives_so : (n n' : Network) (number to : ℕ) (o : Outcome) → IsHeardCopy n.nodes.items (told_in n) n.journal.copies number to o n'.nodes.items
-    → ((after : Node) → IsEntered n.nodes.items to after o n.journal n'.journal (log_view n.log.items) (log_view n'.log.items))
-    → time_at (instant n'.journal) ≡ time_at (instant n.journal) → n'.journal.notes ≡ n.journal.notes → Arrives (world_of n) number (world_of n')
-arrives_so n n' number to o h entered moment notes = record {
+    → (x : Node) → slice_get n'.nodes.items to ≡ Some x
+    → IsEntered n.nodes.items to x o n.journal n'.journal (log_view n.log.items) (log_view n'.log.items) → time_at (instant n'.journal) ≡ time_at (instant n.journal) → n'.journal.notes ≡ n.journal.notes → Arrives (world_of n) number (world_of n')
+arrives_so n n' number to o h x at entered moment notes = record {
   copy = h.copy;
   there = h.there;
   delivers = record {
@@ -162,8 +165,10 @@ arrives_so n n' number to o h entered moment notes = record {
       on = h.goes.goes;
       acts = acts_as n.nodes.items n'.nodes.items n.journal n'.journal (log_view n.log.items) (log_view n'.log.items) h.copy.to h.goes.after o
           h.goes.nodes
-          (subst (λ (i : ℕ). IsEntered n.nodes.items i h.goes.after o n.journal n'.journal (log_view n.log.items) (log_view n'.log.items)) h.receiver
-          (entered h.goes.after))
+          (subst (λ (b : Node). IsEntered n.nodes.items h.copy.to b o n.journal n'.journal (log_view n.log.items) (log_view n'.log.items))
+          (sym (is_after n.nodes.items h.copy.to _ n'.nodes.items h.goes x
+          (subst (λ (i : ℕ). slice_get n'.nodes.items i ≡ Some x) h.receiver at)))
+          (subst (λ (i : ℕ). IsEntered n.nodes.items i x o n.journal n'.journal (log_view n.log.items) (log_view n'.log.items)) h.receiver entered))
           moment notes;
     };
   };
@@ -171,12 +176,12 @@ arrives_so n n' number to o h entered moment notes = record {
 
 pub arrives : (n n' : Network) (number to : ℕ) (o : Outcome) (nodes : List Node) → nodes ≡ n.nodes.items
     → (after : List Node) → n'.nodes.items ≡ after → IsHeardCopy nodes (told_in n) n.journal.copies number to o after
-    → ((after : Node) → IsEntered n.nodes.items to after o n.journal n'.journal (log_view n.log.items) (log_view n'.log.items))
-    → time_at (instant n'.journal) ≡ time_at (instant n.journal) → n'.journal.notes ≡ n.journal.notes → Arrives (world_of n) number (world_of n')
-arrives n n' number to o nodes are after fits h entered moment notes =
+    → (x : Node) → slice_get n'.nodes.items to ≡ Some x
+    → IsEntered n.nodes.items to x o n.journal n'.journal (log_view n.log.items) (log_view n'.log.items) → time_at (instant n'.journal) ≡ time_at (instant n.journal) → n'.journal.notes ≡ n.journal.notes → Arrives (world_of n) number (world_of n')
+arrives n n' number to o nodes are after fits h x at entered moment notes =
     arrives_so n n' number to o
     (subst (λ l. IsHeardCopy n.nodes.items (told_in n) n.journal.copies number to o l) (sym fits)
-    (subst (λ l. IsHeardCopy l (told_in n) n.journal.copies number to o after) are h)) entered moment notes
+    (subst (λ l. IsHeardCopy l (told_in n) n.journal.copies number to o after) are h)) x at entered moment notes
 
 -- the copy that arrived is the one that is deliverable
 pub delivered : (overtake : ℕ) (old new : World) (number : ℕ) → TakesMemory overtake old (Deliver number) → Arrives old number new
@@ -203,42 +208,59 @@ lost overtake old number c at old_or_overtaken = record {
 no_facts : (ended : ℕ) (p : Option Performed) → p ≡ None → ended + performances p ≤ ended
 no_facts ended p is = subst (λ (q : Option Performed). ended + performances q ≤ ended) (sym is) (omega arith)
 
-none_performed : (nodes : List Node) (p : Option Performed) → p ≡ None → IsOfNode nodes p
-none_performed nodes p is q at none = let e : None ≡ Some q = sym is ∙ at in cc
-
-pub record TickEnters (n : Network) (node : ℕ) (o : Outcome) : Type 0 where
-  pub can : CanBeEntered n.journal node o
+pub record TickEnters (n : Network) (node : ℕ) (after : Node) (o : Outcome) : Type 0 where
+  pub can : CanBeEntered n.journal node after o
   pub sender : node < length n.journal.links
   pub facts : length o.ended + performances o.performed ≤ length o.ended
 
-pub tick_enters : (W overtake : ℕ) (n : Network) → IsReady W overtake n → (node : ℕ) (o : Outcome) → IsDue n.nodes.items (told_in n node) node o
-    → TickEnters n node o
-tick_enters W overtake n r node o d = record {
-  can = can_be_entered W overtake n r node (ticked (told_in n node) d.before) o (none_performed n.nodes.items o.performed d.due.performed)
-      (r.can.ticks node d.before (ticked (told_in n node) d.before) o d.at d.due);
-  sender = link_within n.nodes.items n.journal.links r.linked node d.before d.at;
-  facts = no_facts (length o.ended) o.performed d.due.performed;
-}
+-- a tick at that moment is one of the network's node
+ticks_here : (n n' : Network) (node : ℕ) (nodes : List Node) → nodes ≡ n.nodes.items → (now : ℕ) → now ≡ told_in n node
+    → (new : List Node) → n'.nodes.items ≡ new → Goes nodes node (λ a b. b ≡ ticked now a) new
+    → Goes n.nodes.items node (λ a b. b ≡ ticked (told_in n node) a) n'.nodes.items
+ticks_here n n' node nodes are now is new fits went =
+    subst (λ l. Goes n.nodes.items node (λ a b. b ≡ ticked (told_in n node) a) l) (sym fits)
+    (subst (λ l. Goes l node (λ a b. b ≡ ticked (told_in n node) a) new) are
+    (subst (λ (t : ℕ). Goes nodes node (λ a b. b ≡ ticked t a) new) is went))
+
+-- the node after a tick
+ticked_is : (n : Network) (node : ℕ) (o : Outcome) (d : IsDue n.nodes.items (told_in n node) node o) (new : List Node)
+    (g : Goes n.nodes.items node (λ a b. b ≡ ticked (told_in n node) a) new) → g.after ≡ ticked (told_in n node) d.before
+ticked_is n node o d new g =
+    let same : d.before ≡ g.before = let e : Some d.before ≡ Some g.before = sym d.at ∙ g.at in cc in
+    g.goes ∙ ap (ticked (told_in n node)) (sym same)
+
+pub tick_enters : (W overtake : ℕ) (n n' : Network) → IsReady W overtake n → (node : ℕ) (o : Outcome) → IsDue n.nodes.items (told_in n node) node o
+    → (nodes : List Node) → nodes ≡ n.nodes.items → (now : ℕ) → now ≡ told_in n node
+    → (new : List Node) → n'.nodes.items ≡ new → Goes nodes node (λ a b. b ≡ ticked now a) new
+    → (x : Node) → slice_get n'.nodes.items node ≡ Some x → TickEnters n node x o
+tick_enters W overtake n n' r node o d nodes are now is new fits went x at =
+    let g = ticks_here n n' node nodes are now is new fits went in
+    let tick_is = sym (ticked_is n node o d n'.nodes.items g) ∙ is_after n.nodes.items node _ n'.nodes.items g x at in
+    record {
+      can = can_be_entered W overtake n r node x o
+          (subst (λ (b : Node). CanEnter (world_of n) node b o) tick_is
+          (r.can.ticks node d.before (ticked (told_in n node) d.before) o d.at d.due));
+      sender = link_within n.nodes.items n.journal.links r.linked node d.before d.at;
+      facts = no_facts (length o.ended) o.performed d.due.performed;
+    }
 
 pub ticks : (n n' : Network) (node : ℕ) (o : Outcome) → IsDue n.nodes.items (told_in n node) node o
     → (nodes : List Node) → nodes ≡ n.nodes.items → (now : ℕ) → now ≡ told_in n node
     → (new : List Node) → n'.nodes.items ≡ new → Goes nodes node (λ a b. b ≡ ticked now a) new
-    → ((after : Node) → IsEntered n.nodes.items node after o n.journal n'.journal (log_view n.log.items) (log_view n'.log.items))
+    → (x : Node) → slice_get n'.nodes.items node ≡ Some x
+    → IsEntered n.nodes.items node x o n.journal n'.journal (log_view n.log.items) (log_view n'.log.items)
     → time_at (instant n'.journal) ≡ time_at (instant n.journal) → n'.journal.notes ≡ n.journal.notes → Ticks (world_of n) node (world_of n')
-ticks n n' node o d nodes are now is new fits went entered moment notes =
-    let g : Goes n.nodes.items node (λ a b. b ≡ ticked (told_in n node) a) n'.nodes.items =
-    subst (λ l. Goes n.nodes.items node (λ a b. b ≡ ticked (told_in n node) a) l) (sym fits)
-    (subst (λ l. Goes l node (λ a b. b ≡ ticked (told_in n node) a) new) are
-    (subst (λ (t : ℕ). Goes nodes node (λ a b. b ≡ ticked t a) new) is went)) in
-    let same : d.before ≡ g.before = let e : Some d.before ≡ Some g.before = sym d.at ∙ g.at in cc in
-    let tick_is : g.after ≡ ticked (told_in n node) d.before = g.goes ∙ ap (ticked (told_in n node)) (sym same) in
+ticks n n' node o d nodes are now is new fits went x at entered moment notes =
+    let g = ticks_here n n' node nodes are now is new fits went in
     record {
       before = d.before;
       at = d.at;
       after = g.after;
       outcome = o;
-      tick = subst (λ (b : Node). NodeTick (told_in n node) d.before b o) (sym tick_is) d.due;
-      acts = acts_as n.nodes.items n'.nodes.items n.journal n'.journal (log_view n.log.items) (log_view n'.log.items) node g.after o g.nodes (entered g.after)
+      tick = subst (λ (b : Node). NodeTick (told_in n node) d.before b o) (sym (ticked_is n node o d n'.nodes.items g)) d.due;
+      acts = acts_as n.nodes.items n'.nodes.items n.journal n'.journal (log_view n.log.items) (log_view n'.log.items) node g.after o g.nodes
+          (subst (λ (b : Node). IsEntered n.nodes.items node b o n.journal n'.journal (log_view n.log.items) (log_view n'.log.items))
+          (sym (is_after n.nodes.items node _ n'.nodes.items g x at)) entered)
           moment notes;
     }
 
@@ -248,7 +270,16 @@ due_alike m n same node now is a at o due =
     subst (λ v. IsDue v.items (told_in n node) node o) (sym same.nodes)
     (subst (λ (t : ℕ). IsDue m.nodes.items t node o) (is ∙ sym (told_alike m n same node)) (record { before = a; at = at; due = due }))
 
--- Noise.
+-- Octets from outside.
+
+-- they are heard by the network's node
+heard_here : (n n' : Network) (node : ℕ) (from octets : Octets) (o : Outcome) (nodes : List Node) → nodes ≡ n.nodes.items → (now : ℕ)
+    → now ≡ told_in n node → (new : List Node) → n'.nodes.items ≡ new → Goes nodes node (λ a b. NodeOn now from octets a b o) new
+    → Goes n.nodes.items node (λ a b. NodeOn (told_in n node) from octets a b o) n'.nodes.items
+heard_here n n' node from octets o nodes are now is new fits went =
+    subst (λ l. Goes n.nodes.items node (λ a b. NodeOn (told_in n node) from octets a b o) l) (sym fits)
+    (subst (λ l. Goes l node (λ a b. NodeOn (told_in n node) from octets a b o) new) are
+    (subst (λ (t : ℕ). Goes nodes node (λ a b. NodeOn t from octets a b o) new) is went))
 
 dropped_is : (now : ℕ) (from octets : Octets) (a b : Node) (o : Outcome) → IsMeaningless from octets → NodeOn now from octets a b o
     → IsDropped now from octets a b o
@@ -260,10 +291,7 @@ pub noise_heard : (n n' : Network) (node : ℕ) (from octets : Octets) (o : Outc
     → (new : List Node) → n'.nodes.items ≡ new → Goes nodes node (λ a b. NodeOn now from octets a b o) new → n'.journal ≡ n.journal → n'.log ≡ n.log
     → HearsNoise (world_of n) node from octets (world_of n')
 noise_heard n n' node from octets o noise nodes are now is new fits went journal log =
-    let g : Goes n.nodes.items node (λ a b. NodeOn (told_in n node) from octets a b o) n'.nodes.items =
-    subst (λ l. Goes n.nodes.items node (λ a b. NodeOn (told_in n node) from octets a b o) l) (sym fits)
-    (subst (λ l. Goes l node (λ a b. NodeOn (told_in n node) from octets a b o) new) are
-    (subst (λ (t : ℕ). Goes nodes node (λ a b. NodeOn t from octets a b o) new) is went)) in
+    let g = heard_here n n' node from octets o nodes are now is new fits went in
     let d = dropped_is (told_in n node) from octets g.before g.after o noise g.goes in
     record {
       meaningless = noise;
@@ -286,3 +314,42 @@ noise_heard n n' node from octets o noise nodes are now is new fits went journal
         };
       };
     }
+
+-- a link that is no node's in the journal is no node's, and one that is some node's is
+pub of_none : (W overtake : ℕ) (n : Network) → IsReady W overtake n → (link : Octets) → ((node : ℕ) → slice_get n.journal.links node ≢ Some link)
+    → IsOfNone n.nodes.items link
+of_none W overtake n r link none = λ j at. none j (sym (r.linked j) ∙ at)
+
+pub of_some : (W overtake : ℕ) (n : Network) → IsReady W overtake n → (node : ℕ) → node < length n.nodes.items → (link : Octets) (j : ℕ)
+    → slice_get n.journal.links j ≡ Some link → IsThere (world_of n) node × IsOfSome n.nodes.items link
+of_some W overtake n r node within link j at = (there_is n.nodes.items node within, (j, r.linked j ∙ at))
+
+module _ (n n' : Network) (node : ℕ) (from octets : Octets) (o : Outcome) (none : IsOfNone n.nodes.items from) (nodes : List Node)
+    (are : nodes ≡ n.nodes.items) (now : ℕ) (is : now ≡ told_in n node) (new : List Node) (fits : n'.nodes.items ≡ new)
+    (went : Goes nodes node (λ a b. NodeOn now from octets a b o) new) (x : Node) (at : slice_get n'.nodes.items node ≡ Some x) where
+  heard : Goes n.nodes.items node (λ a b. NodeOn (told_in n node) from octets a b o) n'.nodes.items
+  heard = heard_here n n' node from octets o nodes are now is new fits went
+
+  pub stranger_enters : (W overtake : ℕ) → IsReady W overtake n → HeardEnters W n node x o
+  stranger_enters W overtake r =
+      subst (λ (b : Node). HeardEnters W n node b o) (is_after n.nodes.items node _ n'.nodes.items heard x at)
+      (heard_enters W overtake n r node _ n'.nodes.items heard o
+      (r.can.outside node from octets (inl none) heard.before heard.after o heard.at heard.goes))
+
+  pub stranger_heard : IsEntered n.nodes.items node x o n.journal n'.journal (log_view n.log.items) (log_view n'.log.items)
+      → time_at (instant n'.journal) ≡ time_at (instant n.journal) → n'.journal.notes ≡ n.journal.notes
+      → HearsStranger (world_of n) node from octets (world_of n')
+  stranger_heard entered moment notes = record {
+    stranger = none;
+    hears = record {
+      before = heard.before;
+      at = heard.at;
+      after = heard.after;
+      outcome = o;
+      on = heard.goes;
+      acts = acts_as n.nodes.items n'.nodes.items n.journal n'.journal (log_view n.log.items) (log_view n'.log.items) node heard.after o heard.nodes
+          (subst (λ (b : Node). IsEntered n.nodes.items node b o n.journal n'.journal (log_view n.log.items) (log_view n'.log.items))
+          (sym (is_after n.nodes.items node _ n'.nodes.items heard x at)) entered)
+          moment notes;
+    };
+  }

@@ -1,20 +1,19 @@
 -- What comes of a node's call enters the world.
-use Rattle.std.proofs.Common.{◌≡◌, ℕ, Bool, false, List, [], ◌∷◌, ◌++◌, length, map, reverse, Option, Some, None, slice_get, refl, sym, ap, subst}
+use Rattle.std.proofs.Common.{◌≡◌, ℕ, List, [], ◌∷◌, ◌++◌, length, map, reverse, Option, Some, None, slice_get, refl, sym, ap, subst}
 use Rattle.std.proofs.Common.{inl, inr, ◌∙◌, arith}
 use Rattle.std.proofs.lemmas.List.{length-map, length-reverse, map-append, reverse-append}
 use Rattle.bac_transaction.specs.Meanings.{EndedView}
 use Rattle.bac_world.specs.Node.{Node, Outcome}
 use Rattle.bac_world.specs.Once as once
-use Rattle.bac_world.specs.Once.Fact.{Ended}
 use Rattle.bac_world.specs.Services.{Performed}
-use Rattle.bac_world.specs.World.{Note, Acts, AreEnded, IsOfNone, IsWithNode, ask_of, ending_fact, is_away, newest}
-use Rattle.bac_journal.specs.Entering.{AreOfPeer, CanEnter, Every}
+use Rattle.bac_world.specs.World.{Note, Acts, AreEnded, IsWithNode, ask_of, ending_fact, is_away, newest}
+use Rattle.bac_journal.specs.Entering.{AreOfPeer, CanEnter}
 use Rattle.bac_journal.specs.Journals.{JournalView}
 use Rattle.bac_journal.specs.Notes.{note_view, notes_view}
 use Rattle.bac_journal.specs.declared.noting.Note as code
 use Rattle.bac_network.specs.Clocks.{instant, time_at}
-use Rattle.bac_network.specs.Entries.{AreNoted, CanBeEntered, HaveClient, IsEntered}
-use Rattle.bac_network.specs.Networks.{world_of, world_with, AreNear, IsReady}
+use Rattle.bac_network.specs.Entries.{AreNoted, CanBeEntered, HavePeer, IsEntered}
+use Rattle.bac_network.specs.Networks.{world_of, world_with, IsReady}
 use Rattle.bac_network.specs.Views.{fact_view, log_view}
 use Rattle.bac_network.specs.declared.fact.Fact.{Fact}
 use Rattle.bac_network.specs.declared.network.Network.{Network}
@@ -40,20 +39,10 @@ pub tail_noted : (notes : List Note) (node : ℕ) (fs : List EndedView) (f : End
     → AreNoted notes node rest
 tail_noted notes node fs f rest is h = let k : AreNoted notes node (f ∷ rest) = subst (AreNoted notes node) is h in k.1
 
--- the ending of an ask of a node is logged as one
-pub ending_logged : (notes : List Note) (node : ℕ) (f : EndedView) → AreNoted notes node (f ∷ []) → (number : ℕ) → ask_of node f.ticket notes ≡ Some number
-    → (old new : List once.Fact) → new ≡ Ended number f.how ∷ old → AreEnded notes node (f ∷ []) old new
-ending_logged notes node f noted number at old new is =
-    let same : Some (noted.0).0 ≡ Some number = sym (noted.0).1 ∙ at in
-    let number_is : (noted.0).0 ≡ number = cc in
-    let near : is_away number notes ≡ false = subst (λ (k : ℕ). is_away k notes ≡ false) number_is (noted.0).2 in
-    (number, at, is ∙ ap (λ (b : Bool). ending_fact b number f.how ∷ old) (sym near))
-
--- where no ask of a stranger is noted
-noted_near : (notes : List Note) → AreNear notes → (node : ℕ) (fs : List EndedView)
-    → Every (λ (f : EndedView). (number : ℕ) × (ask_of node f.ticket notes ≡ Some number)) fs → AreNoted notes node fs
-noted_near notes near node [] h = tt
-noted_near notes near node (f ∷ fs) h = (((h.0).0, (h.0).1, near (h.0).0), noted_near notes near node fs h.1)
+-- the ending of an ask is logged as a node's or a stranger's
+pub ending_logged : (notes : List Note) (node : ℕ) (f : EndedView) (number : ℕ) → ask_of node f.ticket notes ≡ Some number → (old new : List once.Fact)
+    → new ≡ ending_fact (is_away number notes) number f.how ∷ old → AreEnded notes node (f ∷ []) old new
+ending_logged notes node f number at old new is = (number, at, is)
 
 pub nothing_left : {X : Type 0} (l : List X) → length l ≡ 0 → l ≡ []
 nothing_left [] h = refl
@@ -61,34 +50,32 @@ nothing_left (x ∷ xs) h = absurd (omega arith)
 
 -- The world.
 
--- what was performed was asked by no stranger
-abbrev pub IsOfNode : List Node → Option Performed → Type 0
-IsOfNode nodes performed = (p : Performed) → performed ≡ Some p → IsOfNone nodes p.key.peer.link → ⊥
-
-clients_known : (W overtake : ℕ) (n : Network) → IsReady W overtake n → (i : ℕ) (b : Node) (p : Option Performed) → IsOfNode n.nodes.items p
-    → AreOfPeer (world_of n) i b p → HaveClient n.journal i p
-clients_known W overtake n r i b None near h = tt
-clients_known W overtake n r i b (Some p) near (inr h) = absurd (near p refl h.stranger)
-clients_known W overtake n r i b (Some p) near (inl h) =
+peers_known : (W overtake : ℕ) (n : Network) → IsReady W overtake n → (i : ℕ) (b : Node) (p : Option Performed) → AreOfPeer (world_of n) i b p
+    → HavePeer n.journal i b p
+peers_known W overtake n r i b None h = tt
+peers_known W overtake n r i b (Some p) (inr h) = record {
+  client = λ k there. absurd (h.stranger k (r.linked k ∙ there));
+  stranger = λ none. (h.entry, h.kept);
+}
+peers_known W overtake n r i b (Some p) (inl h) =
     let at : slice_get n.journal.links h.client ≡ Some p.key.peer.link = sym (r.linked h.client) ∙ h.link in
     record {
-      client = h.client;
-      link = at;
-      noted = λ k there. (
+      client = λ k there. (
         h.number,
         subst (λ (c : ℕ). newest (record { client = c; server = i; invoke_id = p.key.invoke_id }) n.journal.notes ≡ Some h.number)
             (r.apart h.client k p.key.peer.link at there) h.noted,
       );
+      stranger = λ none. absurd (none h.client at);
     }
 
-pub can_be_entered : (W overtake : ℕ) (n : Network) → IsReady W overtake n → (i : ℕ) (b : Node) (o : Outcome)
-    → IsOfNode n.nodes.items o.performed → CanEnter (world_of n) i b o → CanBeEntered n.journal i o
-can_be_entered W overtake n r i b o near h = record {
+pub can_be_entered : (W overtake : ℕ) (n : Network) → IsReady W overtake n → (i : ℕ) (b : Node) (o : Outcome) → CanEnter (world_of n) i b o
+    → CanBeEntered n.journal i b o
+can_be_entered W overtake n r i b o h = record {
   nodes = n.nodes.items;
   linked = r.linked;
   sends = h.sends;
-  ended = noted_near n.journal.notes r.near i o.ended h.ended;
-  performed = clients_known W overtake n r i b o.performed near h.performed;
+  ended = h.ended;
+  performed = peers_known W overtake n r i b o.performed h.performed;
 }
 
 pub acts_as : (nodes nodes' : List Node) (j j' : JournalView) (log log' : List once.Fact) (i : ℕ) (b : Node) (o : Outcome) → IsWithNode nodes i b nodes'

@@ -12,7 +12,7 @@ use Rattle.bac_requester.specs.declared.ask_fault.AskFault.{AskFault}
 use Rattle.bac_world.specs.Node.{Node}
 use Rattle.bac_world.specs.World.{World, Event, Copy, WorldStep, link_at, is_deliverable}
 use Rattle.bac_world.specs.World.Event.{Ask, AskAway, Deliver, Noise, Stray, Tick, Advance, Change, Restart}
-use Rattle.bac_network.specs.Steps.{NamesNoNode, NamesNoCopy, PassesClock, RefusesChange, TakesMemory, Happens, HappensTelling, Tells, Untells}
+use Rattle.bac_network.specs.Steps.{NamesNoNode, NamesNoCopy, NamesNodeLink, PassesClock, RefusesChange, TakesMemory, Happens, HappensTelling, Tells, Untells}
 use Rattle.bac_network.specs.declared.fault.WorldFault.{WorldFault}
 use Rattle.bac_network.specs.declared.fault.WorldFault.TheVariants as fault
 
@@ -186,6 +186,31 @@ module _ (overtake : ℕ) (old new : World) where
   one_refusal (Restart node exact store) why other r s = absurd r
   one_refusal (Advance by own) why other r s = absurd r
 
+  -- a stranger's link that is a node's excludes all other faults
+  link_alone : (e : Event) → NamesNodeLink old e → (NamesNoNode old e → ⊥) × (NamesNoCopy old e → ⊥) × (PassesClock old e → ⊥)
+      × ((why : ChangeFault) → RefusesChange old e why → ⊥) × (TakesMemory overtake old e → ⊥)
+  link_alone (Stray node from octets) l = (
+    λ n. none_some (slice_get old.nodes node) (l.0).0 n (l.0).1,
+    λ n. n,
+    λ n. n,
+    λ why n. n,
+    λ none. none (l.1).0 (l.1).1,
+  )
+  link_alone (AskAway client peer limits q) l = (
+    λ n. none_some (slice_get old.nodes client) (l.0).0 n (l.0).1,
+    λ n. n,
+    λ n. n,
+    λ why n. n,
+    λ none. none (l.1).0 (l.1).1,
+  )
+  link_alone (Ask client server limits q) l = absurd l
+  link_alone (Deliver number) l = absurd l
+  link_alone (Noise node from octets) l = absurd l
+  link_alone (Tick node) l = absurd l
+  link_alone (Restart node exact store) l = absurd l
+  link_alone (Advance by own) l = absurd l
+  link_alone (Change node c) l = absurd l
+
   -- Each fault comes exactly where it says.
 
   module _ (e : Event) where
@@ -196,6 +221,7 @@ module _ (overtake : ℕ) (old new : World) where
     fails_node (Ok told) h n = absurd (no_node e h.0 n)
     fails_node (Err fault.NoSuchNode) h n = refl
     fails_node (Err fault.NoSuchDatagram) h n = absurd (node_or_copy e n h.0)
+    fails_node (Err fault.NodeLink) h n = absurd ((link_alone e h.0).0 n)
     fails_node (Err fault.ClockEnd) h n = absurd (node_or_clock e n h.0)
     fails_node (Err fault.NoMemory) h n = absurd ((h.0).1 n)
     fails_node (Err (fault.BadChange why)) h n = absurd (node_or_refusal e n why h.0)
@@ -204,12 +230,14 @@ module _ (overtake : ℕ) (old new : World) where
     fails_copy (Ok told) h n = absurd (no_copy e h.0 n)
     fails_copy (Err fault.NoSuchNode) h n = absurd (node_or_copy e h.0 n)
     fails_copy (Err fault.NoSuchDatagram) h n = refl
+    fails_copy (Err fault.NodeLink) h n = absurd ((link_alone e h.0).1 n)
     fails_copy (Err fault.ClockEnd) h n = absurd (copy_or_clock e n h.0)
     fails_copy (Err fault.NoMemory) h n = absurd (copy_or_memory e n (h.0).0)
     fails_copy (Err (fault.BadChange why)) h n = absurd (copy_or_refusal e n why h.0)
 
     fails_clock : (r : Result (Option AskFault) WorldFault) → How r → PassesClock old e → r ≡ Err fault.ClockEnd
     fails_clock (Ok told) h n = absurd (h.2 n)
+    fails_clock (Err fault.NodeLink) h n = absurd ((link_alone e h.0).2 n)
     fails_clock (Err fault.NoSuchNode) h n = absurd (node_or_clock e h.0 n)
     fails_clock (Err fault.NoSuchDatagram) h n = absurd (copy_or_clock e h.0 n)
     fails_clock (Err fault.ClockEnd) h n = refl
@@ -220,15 +248,28 @@ module _ (overtake : ℕ) (old new : World) where
     fails_change (Ok told) h why n = absurd (no_refusal e h.0 why n)
     fails_change (Err fault.NoSuchNode) h why n = absurd (node_or_refusal e h.0 why n)
     fails_change (Err fault.NoSuchDatagram) h why n = absurd (copy_or_refusal e h.0 why n)
+    fails_change (Err fault.NodeLink) h why n = absurd ((link_alone e h.0).3 why n)
     fails_change (Err fault.ClockEnd) h why n = absurd (clock_or_refusal e h.0 why n)
     fails_change (Err fault.NoMemory) h why n = absurd (memory_or_refusal e (h.0).0 why n)
     fails_change (Err (fault.BadChange other)) h why n = ap (λ (w : ChangeFault). Err (fault.BadChange w)) (one_refusal e other why h.0 n)
+
+    fails_link : (r : Result (Option AskFault) WorldFault) → How r → NamesNodeLink old e → r ≡ Err fault.NodeLink
+    fails_link (Ok told) h n = absurd (h.3 n)
+    fails_link (Err fault.NoSuchNode) h n = absurd ((link_alone e n).0 h.0)
+    fails_link (Err fault.NoSuchDatagram) h n = absurd ((link_alone e n).1 h.0)
+    fails_link (Err fault.NodeLink) h n = refl
+    fails_link (Err fault.ClockEnd) h n = absurd ((link_alone e n).2 h.0)
+    fails_link (Err fault.NoMemory) h n = absurd ((link_alone e n).4 (h.0).0)
+    fails_link (Err (fault.BadChange why)) h n = absurd ((link_alone e n).3 why h.0)
 
     pub node_exactly : (r : Result (Option AskFault) WorldFault) → How r → (IsErrOf r fault.NoSuchNode ↔ NamesNoNode old e)
     node_exactly r h = (λ is. (let k : How (Err fault.NoSuchNode) = subst How is h in k.0), fails_node r h)
 
     pub copy_exactly : (r : Result (Option AskFault) WorldFault) → How r → (IsErrOf r fault.NoSuchDatagram ↔ NamesNoCopy old e)
     copy_exactly r h = (λ is. (let k : How (Err fault.NoSuchDatagram) = subst How is h in k.0), fails_copy r h)
+
+    pub link_exactly : (r : Result (Option AskFault) WorldFault) → How r → (IsErrOf r fault.NodeLink ↔ NamesNodeLink old e)
+    link_exactly r h = (λ is. (let k : How (Err fault.NodeLink) = subst How is h in k.0), fails_link r h)
 
     pub clock_exactly : (r : Result (Option AskFault) WorldFault) → How r → (IsErrOf r fault.ClockEnd ↔ PassesClock old e)
     clock_exactly r h = (λ is. (let k : How (Err fault.ClockEnd) = subst How is h in k.0), fails_clock r h)
@@ -301,7 +342,7 @@ tells_none old new (Change node c) n = tt
 pub told_nothing : {A : Type 0} (overtake : ℕ) (old new : World) (e : Event) → IsNoAsk e → (done : Result A WorldFault)
     → (r : Result (Option AskFault) WorldFault) → Happens overtake old e done new → Untells done r → HappensTelling overtake old e r new
 told_nothing overtake old new e n (Ok x) r h is =
-    subst (λ (q : Result (Option AskFault) WorldFault). HappensTelling overtake old e q new) (sym is) (h.0, tells_none old new e n, h.1)
+    subst (λ (q : Result (Option AskFault) WorldFault). HappensTelling overtake old e q new) (sym is) (h.0, tells_none old new e n, h.1, h.2)
 told_nothing overtake old new e n (Err f) r h is =
     subst (λ (q : Result (Option AskFault) WorldFault). HappensTelling overtake old e q new) (sym is) h
 

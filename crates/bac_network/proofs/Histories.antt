@@ -1,29 +1,25 @@
 -- What is known of a world from how it came to be.
-use Rattle.std.proofs.Common.{◌≡◌, ℕ, Bool, true, false, List, [], ◌∷◌, ◌++◌, length, Option, None, Result, Ok, Err, if◌then◌else◌, nat_eq, refl, sym, subst}
-use Rattle.std.proofs.Common.{inl, inr, ◌∙◌}
-use Rattle.std.specs.Prelude.{is_some}
+use Rattle.std.proofs.Common.{◌≡◌, ℕ, List, [], ◌∷◌, ◌++◌, Option, Result, Ok, Err, refl, sym, subst, ◌∙◌}
 use Rattle.bac_protocol.specs.Pace.{IsTimely}
 use Rattle.bac_protocol.specs.World.{net_start}
 use Rattle.bac_store.specs.Stores.{Store}
 use Rattle.bac_requester.specs.declared.ask_fault.AskFault.{AskFault}
 use Rattle.bac_world.specs.Once.{Fact, Stores, IsOnce, HasRequestsAlone}
-use Rattle.bac_world.specs.World.{World, Event, Copy, Note, WorldStep, WorldRun, DeliversIf, IsFresh, IsBounded, MakeNoStray, MakeRequestsAlone}
-use Rattle.bac_world.specs.World.{is_away, is_deliverable, link_at, stores_of}
-use Rattle.bac_world.specs.World.Event.{Ask, AskAway, Deliver, Noise, Stray, Tick, Advance, Change, Restart}
-use Rattle.bac_world.proofs.Claims.{by_requests_alone, changes_permitted, ended_once, performed_once, replayed}
+use Rattle.bac_world.specs.World.{World, Event, WorldStep, WorldRun, IsFresh, IsBounded, MakeRequestsAlone, link_at, stores_of}
+use Rattle.bac_world.proofs.Claims.{among_nodes, by_requests_alone, changes_permitted, ended_once, performed_once, replayed}
 use Rattle.bac_world.proofs.Quiet.{alone_after_step}
-use Rattle.bac_world.proofs.Headline.{run_over, rules_of, rules_bounded, fresh_over, headline}
+use Rattle.bac_world.proofs.Headline.{apart_in_run, run_over, rules_of, rules_bounded, fresh_over, headline}
 use Rattle.bac_journal.specs.Views.{AreLinks}
 use Rattle.bac_journal.proofs.GoingOn.{runs_can_go_on}
 use Rattle.bac_network.specs.Clocks.{Instant}
 use Rattle.bac_network.specs.Histories.{WorldView, HasRun, IsKept, IsOnceNow, ArePerformedOnceNow, AreEndedOnceNow, AreReplayedNow}
+use Rattle.bac_network.specs.Histories.{AreServedApartNow, HasNoStrangerNow, IsOnceAmongNodesNow}
 use Rattle.bac_network.specs.Histories.{AreChangesPermittedNow, HasRequestsAloneNow, IsOnceByRequestsAloneNow}
 use Rattle.bac_network.specs.Histories.{as_world, opening_stores, view_of}
-use Rattle.bac_network.specs.Networks.{world_of, AreNear, IsReady}
+use Rattle.bac_network.specs.Networks.{world_of, IsReady}
 use Rattle.bac_network.specs.Steps.{HappensTelling}
 use Rattle.bac_network.specs.Views.{event_view}
 use Rattle.bac_network.specs.declared.event.Event as code
-use Rattle.bac_network.specs.declared.event.Event.TheVariants as event
 use Rattle.bac_network.specs.declared.fault.WorldFault.{WorldFault}
 use Rattle.bac_network.specs.declared.network.Network.{Network}
 
@@ -34,7 +30,7 @@ pub run_more : (overtake : ℕ) (events : List Event) (e : Event) (w u v : World
 run_more overtake [] e w u v run step = (v, subst (λ (x : World). WorldStep overtake x e v) run step, refl)
 run_more overtake (d ∷ events) e w u v run step = (run.0, run.1, run_more overtake events e run.0 u v run.2 step)
 
-links_stay : (W overtake : ℕ) (w w' : World) → IsFresh w → IsTimely w.time.pace → IsBounded W overtake w → (events : List Event) → WorldRun overtake w events w'
+pub links_stay : (W overtake : ℕ) (w w' : World) → IsFresh w → IsTimely w.time.pace → IsBounded W overtake w → (events : List Event) → WorldRun overtake w events w'
     → (i : ℕ) → link_at w'.nodes i ≡ link_at w.nodes i
 links_stay W overtake w w' f timely b events run =
     (run_over (link_at w.nodes) f.apart W (rules_of overtake w) (rules_bounded W overtake w b) refl (stores_of w.nodes) events w w'
@@ -53,6 +49,9 @@ pub once_now : (W : ℕ) (w : WorldView) → HasRun W w → IsOnceNow w
 once_now W w h = once_from (stores_of h.first.nodes) (opening_stores w) w.log (stores_of w.nodes) h.opening
     (headline W w.overtake h.first (as_world w) h.fresh h.timely h.bounded h.events h.run)
 
+pub apart_now : (W : ℕ) (w : WorldView) → HasRun W w → AreServedApartNow w
+apart_now W w h = apart_in_run W w.overtake h.first (as_world w) h.fresh h.timely h.bounded h.events h.run
+
 -- claim by claim
 module _ (w : WorldView) (once : IsOnceNow w) where
   pub performed_now : ArePerformedOnceNow w
@@ -67,6 +66,10 @@ module _ (w : WorldView) (once : IsOnceNow w) where
   pub replayed_now : AreReplayedNow w
   replayed_now = replayed (opening_stores w) w.log (stores_of w.nodes) once
 
+  -- where there is nothing of strangers
+  pub among_now : HasNoStrangerNow w → IsOnceAmongNodesNow w
+  among_now none = among_nodes (opening_stores w) w.log (stores_of w.nodes) none once
+
   -- where no node changed its own store or restarted
   pub requests_now : HasRequestsAloneNow w → IsOnceByRequestsAloneNow w
   requests_now alone = by_requests_alone (opening_stores w) w.log (stores_of w.nodes) alone once
@@ -79,7 +82,6 @@ ready_now window overtake opening n k =
       can = runs_can_go_on window overtake h.first (world_of n) h.fresh h.timely h.bounded h.events h.run;
       linked = λ i. links_stay window overtake h.first (world_of n) h.fresh h.timely h.bounded h.events h.run i ∙ k.linked i;
       apart = λ i j l a b. h.fresh.apart i j l (k.linked i ∙ a) (k.linked j ∙ b);
-      near = k.near;
     }
 
 -- After a step.
@@ -89,49 +91,10 @@ pub alone_after : (overtake : ℕ) (w w' : World) (e : Event) (result : Result (
 alone_after overtake w w' e (Ok told) h alone p = alone_after_step overtake w w' e alone h.0 p
 alone_after overtake w w' e (Err f) h alone p = subst (λ (u : World). HasRequestsAlone u.log) (sym h.1) p
 
-near_more : (note : Note) (notes : List Note) → is_some note.away ≡ false → AreNear notes → AreNear (note ∷ notes)
-near_more note notes near all n = go (nat_eq n (length notes))
-  where
-    go : (b : Bool) → (if b then is_some note.away else is_away n notes) ≡ false
-    go true = near
-    go false = all n
-
-near_delivered : (b : Bool) (w : World) (c : Copy) (w' : World) → DeliversIf b w c w' → AreNear w.notes → AreNear w'.notes
-near_delivered true w c w' d near = subst AreNear (sym d.hears.acts.notes) near
-near_delivered false w c w' same near = subst (λ (u : World). AreNear u.notes) (sym same) near
-
--- no ask of a stranger is noted where no event is a stranger's
-near_after : (overtake : ℕ) (w w' : World) (e : Event) → MakeNoStray (e ∷ []) → WorldStep overtake w e w' → AreNear w.notes → AreNear w'.notes
-near_after overtake w w' (Ask client server limits r) calm (inl s) near = subst AreNear (sym s.notes)
-    (near_more (record { key = record { client = client; server = server; invoke_id = s.accepted.invoke_id }; ticket = s.accepted.ticket; away = None }) w.notes
-    refl near)
-near_after overtake w w' (Ask client server limits r) calm (inr s) near = subst (λ (u : World). AreNear u.notes) (sym s.same) near
-near_after overtake w w' (AskAway client peer limits r) calm s near = absurd calm
-near_after overtake w w' (Deliver number) calm s near =
-    near_delivered (is_deliverable overtake w.time.pace.life w.time.now number w.copies s.copy) w s.copy w' s.goes near
-near_after overtake w w' (Noise node from octets) calm (inl s) near = subst AreNear (sym s.hears.acts.notes) near
-near_after overtake w w' (Noise node from octets) calm (inr s) near = subst (λ (u : World). AreNear u.notes) (sym s.same) near
-near_after overtake w w' (Stray node from octets) calm s near = absurd calm
-near_after overtake w w' (Tick node) calm s near = subst AreNear (sym s.acts.notes) near
-near_after overtake w w' (Advance by own) calm s near = subst (λ (u : World). AreNear u.notes) (sym s) near
-near_after overtake w w' (Change node c) calm s near = subst AreNear (sym s.notes) near
-near_after overtake w w' (Restart node exact store) calm s near = subst AreNear (sym s.notes) near
-
--- no event in code is a stranger's
-no_stray : (t : Instant) (e : code.Event) → MakeNoStray (event_view t e ∷ [])
-no_stray t (event.Ask client server limits request) = tt
-no_stray t (event.Deliver number) = tt
-no_stray t (event.Noise node from octets) = tt
-no_stray t (event.Tick node) = tt
-no_stray t (event.Advance by) = tt
-no_stray t (event.Change node change) = tt
-no_stray t (event.Restart node store) = tt
-
 module _ (window overtake : ℕ) (opening : List Store) (m n : Network) (links : n.journal.links ≡ m.journal.links)
     (k : IsKept window m.journal.links (view_of overtake opening m)) where
-  kept_more : (events : List Event) → WorldRun overtake k.history.first events (world_of n) → AreNear n.journal.notes
-      → IsKept window n.journal.links (view_of overtake opening n)
-  kept_more events run near = record {
+  kept_more : (events : List Event) → WorldRun overtake k.history.first events (world_of n) → IsKept window n.journal.links (view_of overtake opening n)
+  kept_more events run = record {
     history = record {
       first = k.history.first;
       events = events;
@@ -142,18 +105,14 @@ module _ (window overtake : ℕ) (opening : List Store) (m n : Network) (links :
       run = run;
     };
     linked = subst (AreLinks k.history.first.nodes) (sym links) k.linked;
-    near = near;
   }
 
   pub kept_after : (t : Instant) (e : code.Event) (result : Result (Option AskFault) WorldFault)
       → HappensTelling overtake (world_of m) (event_view t e) result (world_of n) → IsKept window n.journal.links (view_of overtake opening n)
   kept_after t e (Ok told) h = kept_more (k.history.events ++ event_view t e ∷ [])
       (run_more overtake k.history.events (event_view t e) k.history.first (world_of m) (world_of n) k.history.run h.0)
-      (near_after overtake (world_of m) (world_of n) (event_view t e) (no_stray t e) h.0 k.near)
   kept_after t e (Err f) h = kept_more k.history.events (subst (WorldRun overtake k.history.first k.history.events) (sym h.1) k.history.run)
-      (subst (λ (u : World). AreNear u.notes) (sym h.1) k.near)
 
   -- where the world is the same
   pub kept_same : world_of n ≡ world_of m → IsKept window n.journal.links (view_of overtake opening n)
   kept_same same = kept_more k.history.events (subst (WorldRun overtake k.history.first k.history.events) (sym same) k.history.run)
-      (subst (λ (u : World). AreNear u.notes) (sym same) k.near)

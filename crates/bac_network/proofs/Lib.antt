@@ -1,4 +1,6 @@
 pub mod Histories
+pub mod OfNone
+pub mod StrangerLogs
 pub mod Entered
 pub mod Happening
 pub mod Delivered
@@ -6,6 +8,7 @@ pub mod Changed
 pub mod Restarted
 pub mod Compared
 pub mod Asked
+pub mod AskedAway
 pub mod Makers
 pub mod WorldRunning
 pub mod Endings

@@ -162,7 +162,6 @@ module _ (t : Instant) (zero : t.moment ≡ 0) (timely : IsTimely (pace_of t.own
       run = refl;
     };
     linked = linked_fresh makers;
-    near = λ number. refl;
   }
 
   pub kept_first : (window : ℕ) (links : List Octets) (v : WorldView) → window ≡ greatest_window makers → links ≡ links_of makers

@@ -32,12 +32,12 @@ use Rattle.bac_network.proofs.Grown.{since_grows, delivered_grows}
 use Rattle.bac_network.proofs.Tells.{log_tells}
 
 pub gone_none : (ask since first : ℕ) (w : WorldView) → IsSince since ask w.log → HasGone ask since first w w (first - first)
-gone_none ask since first w h = record { each = none_yet w.overtake ask first (as_world w); since_is = h; overtake = refl; opening = refl }
+gone_none ask since first w h = record { each = none_yet w.overtake ask first (as_world w); since_is = h; overtake = refl; opening = refl; passed = refl }
 
 pub gone_more : (ask since first number : ℕ) (w u v : WorldView) → first ≤ number → HasGone ask since first w u (number - first)
     → ending_in ask u.log ≡ None → WorldStep u.overtake (as_world u) (Deliver number) (as_world v) → v.overtake ≡ u.overtake → v.opening ≡ u.opening
-    → HasGone ask since first w v (number + 1 - first)
-gone_more ask since first number w u v le h none step overtake opening =
+    → v.time ≡ u.time → HasGone ask since first w v (number + 1 - first)
+gone_more ask since first number w u v le h none step overtake opening passed =
     let did : WorldStep w.overtake (as_world u) (Deliver number) (as_world v) = subst (λ k. WorldStep k (as_world u) (Deliver number) (as_world v)) h.overtake
     step in
     record {
@@ -45,6 +45,7 @@ gone_more ask since first number w u v le h none step overtake opening =
       since_is = since_grows since ask u.log v.log (delivered_grows w.overtake number (as_world u) (as_world v) did) h.since_is;
       overtake = overtake ∙ h.overtake;
       opening = opening ∙ h.opening;
+      passed = passed ∙ h.passed;
     }
 
 pub stopped_at : (ask since first number : ℕ) (w u : WorldView) → first ≤ number → HasGone ask since first w u (number - first) → Stops ask number (as_world u)

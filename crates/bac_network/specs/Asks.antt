@@ -1,15 +1,17 @@
 -- An ask that was accepted enters the journal and the log.
 use Rattle.std.specs.Prelude.{◌≡◌, ◌<◌, ◌≤◌, ◌+◌, ℕ, List, ◌∷◌, length, Option, Some, Result, Ok, Err}
+use Rattle.bac_npdu.specs.Peers.{PeerView}
 use Rattle.bac_transaction.specs.Sends.{Datagram}
 use Rattle.bac_requester.specs.declared.ask_fault.AskFault.{AskFault}
 use Rattle.bac_requester.specs.declared.ask_fault.AskFault.TheVariants as ask_fault
 use Rattle.bac_service.specs.Values.{Request}
 use Rattle.bac_world.specs.Node.{Node}
 use Rattle.bac_world.specs.Once.{Fact}
-use Rattle.bac_world.specs.Once.Fact.{Asked}
+use Rattle.bac_world.specs.Once.Fact.{Asked, AskedAway}
+use Rattle.bac_world.specs.World.{Note, IsOfNone}
 use Rattle.bac_journal.specs.Entering.{note_of, tickets_of}
 use Rattle.bac_journal.specs.Growing.{BecomeCopies, CanBecome}
-use Rattle.bac_journal.specs.Journals.{HasNoteRoom, JournalView}
+use Rattle.bac_journal.specs.Journals.{HasNoteRoom, HasStrangerRoom, JournalView}
 use Rattle.bac_journal.specs.Views.{AreLinks}
 use Rattle.bac_network.specs.Networks.{HasRoom, IsReady}
 use Rattle.bac_network.specs.declared.fault.WorldFault.{WorldFault}
@@ -54,3 +56,25 @@ TellsFault ask_fault.NeedsSegments r = r ≡ Ok (Some ask_fault.NeedsSegments)
 TellsFault ask_fault.NoInvokeId r = r ≡ Ok (Some ask_fault.NoInvokeId)
 TellsFault ask_fault.NoSlot r = r ≡ Ok (Some ask_fault.NoSlot)
 TellsFault ask_fault.NoMemory r = r ≡ Err fault.NoMemory
+
+-- Asks of strangers.
+
+-- a node can ask a stranger, and there is room for what comes of it
+pub record CanAskAway (client : ℕ) (peer : PeerView) (n : Network) : Type 0 where
+  pub window : ℕ
+  pub overtake : ℕ
+  pub ready : IsReady window overtake n
+  pub client_there : client < length n.nodes.items
+  pub stranger : IsOfNone n.nodes.items peer.link
+  pub note : HasStrangerRoom n.journal client
+  pub room : HasRoom 1 0 n
+
+-- the note of an ask of a stranger
+abbrev pub away_note : (client invoke_id ticket : ℕ) → PeerView → Note
+away_note client invoke_id ticket peer =
+    record { key = record { client = client; server = 0; invoke_id = invoke_id }; ticket = ticket; away = Some peer }
+
+-- it is noted, and enters the log with the next number; nothing becomes a copy
+pub record IsNotedAway (client : ℕ) (peer : PeerView) (r : Request) (invoke_id ticket : ℕ) (old new : JournalView) (facts facts' : List Fact) : Type 0 where
+  pub same : new ≡ record old { notes = away_note client invoke_id ticket peer ∷ old.notes; note_room = new.note_room }
+  pub log : facts' ≡ AskedAway (length old.notes) client peer r ∷ facts

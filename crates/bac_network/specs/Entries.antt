@@ -1,37 +1,47 @@
 -- What comes of a node's call enters the journal and the log.
-use Rattle.std.specs.Prelude.{◌≡◌, ℕ, false, List, Option, Some, None, slice_get}
+use Rattle.std.specs.Prelude.{◌≡◌, ℕ, List, Option, Some, None, slice_get}
 use Rattle.bac_world.specs.Node.{Node, Outcome}
 use Rattle.bac_world.specs.Once.{Fact}
 use Rattle.bac_world.specs.Services.{Performed}
-use Rattle.bac_world.specs.World.{Note, newest, ask_of, is_away, AreEnded, AreLogged}
+use Rattle.bac_slots.specs.Slots.{value_at}
+use Rattle.bac_protocol.specs.Server.{ServerTransaction}
+use Rattle.bac_transaction.specs.Keys.{same_key}
+use Rattle.bac_world.specs.World.{Note, newest, ask_of, AreEnded, AreLogged}
 use Rattle.bac_transaction.specs.Meanings.{EndedView}
 use Rattle.bac_journal.specs.Entering.{Every}
 use Rattle.bac_journal.specs.Growing.{BecomeCopies, CanBecome}
 use Rattle.bac_journal.specs.Journals.{JournalView}
 use Rattle.bac_journal.specs.Views.{AreLinks}
 
--- the endings of a node's tickets have the numbers of asks of nodes
+-- the endings of a node's tickets have the numbers of asks
 abbrev pub AreNoted : List Note → (node : ℕ) → List EndedView → Type 0
-AreNoted notes node ended = Every (λ f. (number : ℕ) × (ask_of node f.ticket notes ≡ Some number) × (is_away number notes ≡ false)) ended
+AreNoted notes node ended = Every (λ f. (number : ℕ) × (ask_of node f.ticket notes ≡ Some number)) ended
 
--- what was performed has a client, whose newest ask is known
-pub record HasClient (j : JournalView) (node : ℕ) (p : Performed) : Type 0 where
-  pub client : ℕ
-  pub link : slice_get j.links client ≡ Some p.key.peer.link
-  pub noted : (i : ℕ) → slice_get j.links i ≡ Some p.key.peer.link
-      → (number : ℕ) × (newest (record { client = i; server = node; invoke_id = p.key.invoke_id }) j.notes ≡ Some number)
+-- the newest ask of that client, of the node and with its invoke ID, is known
+abbrev pub IsAskOf : List Note → (client node : ℕ) → Performed → Type 0
+IsAskOf notes client node p =
+    (number : ℕ) × (newest (record { client = client; server = node; invoke_id = p.key.invoke_id }) notes ≡ Some number)
 
-abbrev pub HaveClient : JournalView → (node : ℕ) → Option Performed → Type 0
-HaveClient j node None = Unit {0}
-HaveClient j node (Some p) = HasClient j node p
+-- the node keeps the entry in which it was performed
+abbrev pub IsKeptFor : (after : Node) → Performed → Type 0
+IsKeptFor after p = (entry : ServerTransaction) × (value_at same_key p.key after.servers.slots ≡ Some entry)
 
--- what comes of a node's call can enter
-pub record CanBeEntered (j : JournalView) (node : ℕ) (o : Outcome) : Type 0 where
+-- what was performed has a client among the nodes, or was asked by a stranger and is kept
+pub record HasPeer (j : JournalView) (node : ℕ) (after : Node) (p : Performed) : Type 0 where
+  pub client : (i : ℕ) → slice_get j.links i ≡ Some p.key.peer.link → IsAskOf j.notes i node p
+  pub stranger : ((i : ℕ) → slice_get j.links i ≡ Some p.key.peer.link → ⊥) → IsKeptFor after p
+
+abbrev pub HavePeer : JournalView → (node : ℕ) → (after : Node) → Option Performed → Type 0
+HavePeer j node after None = Unit {0}
+HavePeer j node after (Some p) = HasPeer j node after p
+
+-- what comes of a node's call, after which it is that one, can enter
+pub record CanBeEntered (j : JournalView) (node : ℕ) (after : Node) (o : Outcome) : Type 0 where
   pub nodes : List Node
   pub linked : AreLinks nodes j.links
   pub sends : CanBecome nodes j.notes j.moment node o.sends
   pub ended : AreNoted j.notes node o.ended
-  pub performed : HaveClient j node o.performed
+  pub performed : HavePeer j node after o.performed
 
 -- how many entries of the log are made of what was performed
 abbrev pub performances : Option Performed → ℕ

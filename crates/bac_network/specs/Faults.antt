@@ -8,6 +8,7 @@ use Rattle.bac_network.specs.declared.fault.WorldFault.TheVariants as fault
 abbrev pub fault_number : WorldFault → ℕ
 fault_number fault.NoSuchNode = 1
 fault_number fault.NoSuchDatagram = 2
+fault_number fault.NodeLink = 10
 fault_number fault.ClockEnd = 3
 fault_number (fault.BadChange why) = 9
 fault_number fault.NoMemory = 4

@@ -13,6 +13,7 @@ pub record HasGone (ask since first : ℕ) (old new : WorldView) (count : ℕ) :
   pub since_is : IsSince since ask new.log
   pub overtake : new.overtake ≡ old.overtake
   pub opening : new.opening ≡ old.opening
+  pub passed : new.time ≡ old.time
 
 -- and that was all
 pub record HasStopped (ask since first : ℕ) (old new : WorldView) (count : ℕ) : Type 0 where

@@ -3,13 +3,12 @@ use Rattle.std.specs.Prelude.{◌≡◌, ℕ, List, slice_get}
 use Rattle.bac_protocol.specs.Pace.{IsTimely}
 use Rattle.bac_protocol.specs.Service.{Octets}
 use Rattle.bac_store.specs.Stores.{Store}
-use Rattle.bac_world.specs.Claims.{AreChangesPermitted, AreEndedOnce, ArePerformedOnce, AreReplayed}
+use Rattle.bac_world.specs.Claims.{AreChangesPermitted, AreEndedOnce, ArePerformedOnce, AreReplayed, AreServedApart}
 use Rattle.bac_world.specs.Node.{Node}
-use Rattle.bac_world.specs.Once.{Fact, Stores, IsOnce, IsOnceByRequestsAlone, HasRequestsAlone}
+use Rattle.bac_world.specs.Once.{Fact, Stores, HasNoStranger, HasRequestsAlone, IsOnce, IsOnceAmongNodes, IsOnceByRequestsAlone}
 use Rattle.bac_world.specs.World.{World, Copy, Note, Event, WorldRun, IsFresh, IsBounded, stores_of}
 use Rattle.bac_network.specs.Clocks.{Instant, instant, time_at}
 use Rattle.bac_journal.specs.Views.{AreLinks}
-use Rattle.bac_network.specs.Networks.{AreNear}
 use Rattle.bac_network.specs.Views.{log_view}
 use Rattle.bac_network.specs.declared.network.Network.{Network}
 
@@ -73,6 +72,18 @@ HasRequestsAloneNow w = HasRequestsAlone w.log
 abbrev pub IsOnceByRequestsAloneNow : WorldView → Type 0
 IsOnceByRequestsAloneNow w = IsOnceByRequestsAlone (opening_stores w) w.log (stores_of w.nodes)
 
+-- what a node performed for one stranger under one invoke ID, between two of its restarts, is of entries that began more than KEEP apart, by its clock
+abbrev pub AreServedApartNow : WorldView → Type 0
+AreServedApartNow w = AreServedApart (as_world w)
+
+-- so far there is nothing of strangers: none was asked, and none had a request performed
+abbrev pub HasNoStrangerNow : WorldView → Type 0
+HasNoStrangerNow w = HasNoStranger w.log
+
+-- what is said of nodes alone
+abbrev pub IsOnceAmongNodesNow : WorldView → Type 0
+IsOnceAmongNodesNow w = IsOnceAmongNodes (opening_stores w) w.log (stores_of w.nodes)
+
 -- a run of a fresh world with those stores, whose windows are at most W, led to it
 pub record HasRun (W : ℕ) (w : WorldView) : Type 0 where
   pub first : World
@@ -87,8 +98,7 @@ pub record HasRun (W : ℕ) (w : WorldView) : Type 0 where
 abbrev pub HasHistory : WorldView → Type 0
 HasHistory w = (W : ℕ) × HasRun W w
 
--- what is kept of it: the greatest window, the nodes' links, and that no stranger was asked
+-- what is kept of it: the greatest window, and the nodes' links
 pub record IsKept (window : ℕ) (links : List Octets) (w : WorldView) : Type 0 where
   pub history : HasRun window w
   pub linked : AreLinks history.first.nodes links
-  pub near : AreNear w.notes

@@ -1,12 +1,15 @@
 pub mod Clocks
 pub mod Faults
 pub mod Views
+pub mod Strangers
 pub mod Networks
 pub mod Goings
 pub mod Entries
 pub mod Asks
 pub mod Steps
 pub mod Histories
+pub mod OfNone
+pub mod StrangerLogs
 pub mod Fresh
 pub mod Runs
 pub mod Open

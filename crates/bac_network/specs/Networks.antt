@@ -1,9 +1,9 @@
 -- A network in code as a world of bac_world.
-use Rattle.std.specs.Prelude.{◌≡◌, ◌+◌, ◌≤◌, ℕ, false, List, Some, length, slice_get, vec_capacity}
+use Rattle.std.specs.Prelude.{◌≡◌, ◌+◌, ◌≤◌, ℕ, List, Some, length, slice_get, vec_capacity}
 use Rattle.bac_protocol.specs.Service.{Octets}
 use Rattle.bac_world.specs.Node.{Node}
 use Rattle.bac_world.specs.Once.{Fact}
-use Rattle.bac_world.specs.World.{World, Note, is_away}
+use Rattle.bac_world.specs.World.{World}
 use Rattle.bac_network.specs.Clocks.{instant, time_at, told_at}
 use Rattle.bac_journal.specs.Entering.{CanGoOn}
 use Rattle.bac_journal.specs.Journals.{JournalView}
@@ -22,16 +22,11 @@ world_of n = world_with n.nodes.items n.journal (log_view n.log.items)
 abbrev pub told_in : Network → (node : ℕ) → ℕ
 told_in n node = told_at (instant n.journal) node
 
--- no ask of a stranger is noted
-abbrev pub AreNear : List Note → Type 0
-AreNear notes = (number : ℕ) → is_away number notes ≡ false
-
--- what comes of a node's call can enter it; the journal has the nodes' links, no two nodes have one, and no stranger was asked
+-- what comes of a node's call can enter it; the journal has the nodes' links, and no two nodes have one
 pub record IsReady (window overtake : ℕ) (n : Network) : Type 0 where
   pub can : CanGoOn window overtake (world_of n)
   pub linked : AreLinks n.nodes.items n.journal.links
   pub apart : (i j : ℕ) (l : Octets) → slice_get n.journal.links i ≡ Some l → slice_get n.journal.links j ≡ Some l → i ≡ j
-  pub near : AreNear n.journal.notes
 
 -- both are one, but for their room
 pub record AreAlike (old new : Network) : Type 0 where

@@ -1,16 +1,28 @@
 -- Whether an event happens, and why not.
-use Rattle.std.specs.Prelude.{◌≡◌, ◌⊎◌, ◌<◌, ◌+◌, ◌-◌, ◌^◌, ℕ, true, Option, Some, None, Result, Ok, Err, slice_get}
+use Rattle.std.specs.Prelude.{◌≡◌, ◌⊎◌, ◌<◌, ◌+◌, ◌-◌, ◌^◌, ℕ, true, List, Option, Some, None, Result, Ok, Err, slice_get}
+use Rattle.bac_apdu.specs.Apdu.{Limits}
+use Rattle.bac_npdu.specs.Peers.{PeerView}
+use Rattle.bac_service.specs.Values.{Request}
+use Rattle.bac_protocol.specs.Service.{Octets}
 use Rattle.bac_protocol.specs.Sizes.{RequestFault}
 use Rattle.bac_transaction.specs.Ends.{AskRefusal, CannotGo}
 use Rattle.bac_requester.specs.declared.ask_fault.AskFault.{AskFault}
 use Rattle.bac_requester.specs.declared.ask_fault.AskFault.TheVariants as ask_fault
 use Rattle.bac_store.specs.AtNode.{change_fault}
 use Rattle.bac_store.specs.declared.change_fault.ChangeFault.{ChangeFault}
-use Rattle.bac_world.specs.Node.{Node, Refusal}
-use Rattle.bac_world.specs.World.{World, Copy, Event, WorldStep, IsAsked, IsAskedAway, IsOfNone, IsRefused, IsRefusedAway, is_deliverable}
+use Rattle.bac_world.specs.Node.{Node, Refusal, NodeRefuses}
+use Rattle.bac_world.specs.World.{World, Copy, Event, WorldStep, IsAsked, IsAskedAway, IsOfNone, IsRefused, is_deliverable, link_at, told}
 use Rattle.bac_world.specs.World.Event.{Ask, AskAway, Deliver, Noise, Stray, Tick, Advance, Change, Restart}
 use Rattle.bac_network.specs.declared.fault.WorldFault.{WorldFault}
 use Rattle.bac_network.specs.declared.fault.WorldFault.TheVariants as fault
+
+-- that node is there
+abbrev pub IsThere : World → (node : ℕ) → Type 0
+IsThere w node = (a : Node) × (slice_get w.nodes node ≡ Some a)
+
+-- some node has that link
+abbrev pub IsOfSome : List Node → (link : Octets) → Type 0
+IsOfSome nodes link = (j : ℕ) × (link_at nodes j ≡ Some link)
 
 -- the event names a node that there is not
 abbrev pub NamesNoNode : World → Event → Type 0
@@ -36,6 +48,12 @@ NamesNoCopy w (Restart node exact store) = ⊥
 NamesNoCopy w (Advance by own) = ⊥
 NamesNoCopy w (Change node c) = ⊥
 
+-- it is a stranger's, its node is there, and the stranger's link is a node's
+abbrev pub NamesNodeLink : World → Event → Type 0
+NamesNodeLink w (Stray node from octets) = IsThere w node × IsOfSome w.nodes from
+NamesNodeLink w (AskAway client peer limits q) = IsThere w client × IsOfSome w.nodes peer.link
+NamesNodeLink w e = ⊥
+
 -- the moment would pass 64 bits
 abbrev pub PassesClock : World → Event → Type 0
 PassesClock w (Advance by own) = 2 ^ 64 - 1 < w.time.now + by
@@ -53,14 +71,14 @@ abbrev pub RefusesChange : World → Event → ChangeFault → Type 0
 RefusesChange w (Change node c) why = (a : Node) × (slice_get w.nodes node ≡ Some a) × (change_fault a.store c ≡ Some why)
 RefusesChange w e why = ⊥
 
--- it takes memory: an ask, a tick, a restart, a copy that is deliverable, octets of a stranger, and a change without a fault
+-- it takes memory: an ask, a tick, a restart, a copy that is deliverable, octets of a stranger, an ask of one, and a change without a fault
 abbrev pub TakesMemory : (overtake : ℕ) → World → Event → Type 0
 TakesMemory overtake w (Ask client server limits r) = Unit {0}
 TakesMemory overtake w (Deliver number) =
     (c : Copy) × (slice_get w.copies number ≡ Some c) × (is_deliverable overtake w.time.pace.life w.time.now number w.copies c ≡ true)
 TakesMemory overtake w (Noise node from octets) = ⊥
 TakesMemory overtake w (Stray node from octets) = IsOfNone w.nodes from
-TakesMemory overtake w (AskAway client peer limits q) = Unit {0}
+TakesMemory overtake w (AskAway client peer limits q) = IsOfNone w.nodes peer.link
 TakesMemory overtake w (Tick node) = Unit {0}
 TakesMemory overtake w (Restart node exact store) = Unit {0}
 TakesMemory overtake w (Advance by own) = ⊥
@@ -70,13 +88,14 @@ TakesMemory overtake w (Change node c) = (why : ChangeFault) → RefusesChange w
 abbrev pub IsFault : WorldFault → (overtake : ℕ) → World → Event → Type 0
 IsFault fault.NoSuchNode overtake w e = NamesNoNode w e
 IsFault fault.NoSuchDatagram overtake w e = NamesNoCopy w e
+IsFault fault.NodeLink overtake w e = NamesNodeLink w e
 IsFault fault.ClockEnd overtake w e = PassesClock w e
 IsFault (fault.BadChange why) overtake w e = RefusesChange w e why
 IsFault fault.NoMemory overtake w e = TakesMemory overtake w e × (NamesNoNode w e → ⊥)
 
 -- an event happens, or a fault says why not, and nothing changes
 abbrev pub Happens : {A : Type 0} → (overtake : ℕ) → World → Event → Result A WorldFault → World → Type 0
-Happens overtake old e (Ok x) new = WorldStep overtake old e new × (PassesClock old e → ⊥)
+Happens overtake old e (Ok x) new = WorldStep overtake old e new × (PassesClock old e → ⊥) × (NamesNodeLink old e → ⊥)
 Happens overtake old e (Err f) new = IsFault f overtake old e × (new ≡ old)
 
 -- Asks.
@@ -90,6 +109,15 @@ refusal_of ask_fault.NeedsSegments = Some (Refusal.CannotAsk (CannotGo RequestFa
 refusal_of ask_fault.NoInvokeId = Some (Refusal.CannotAsk AskRefusal.NoInvokeId)
 refusal_of ask_fault.NoSlot = Some (Refusal.CannotAsk AskRefusal.NoSlot)
 refusal_of ask_fault.NoMemory = None
+
+-- an ask of a stranger is refused for that, and nothing changes
+pub record IsRefusedFor (f : AskFault) (old : World) (client : ℕ) (peer : PeerView) (limits : Limits) (r : Request) (new : World) : Type 0 where
+  pub node : Node
+  pub at : slice_get old.nodes client ≡ Some node
+  pub refusal : Refusal
+  pub why : NodeRefuses (told old client) peer limits r node refusal
+  pub told_is : refusal_of f ≡ Some refusal
+  pub same : new ≡ old
 
 -- the fault of a refused ask is told, and no other event tells one
 abbrev pub Tells : Option AskFault → World → Event → World → Type 0
@@ -106,7 +134,7 @@ Tells None old (Change node c) new = Unit {0}
 Tells (Some f) old (Deliver number) new = ⊥
 Tells (Some f) old (Noise node from octets) new = ⊥
 Tells (Some f) old (Stray node from octets) new = ⊥
-Tells (Some f) old (AskAway client peer limits q) new = IsRefusedAway old client peer limits q new
+Tells (Some f) old (AskAway client peer limits q) new = IsRefusedFor f old client peer limits q new
 Tells (Some f) old (Tick node) new = ⊥
 Tells (Some f) old (Restart node exact store) new = ⊥
 Tells (Some f) old (Advance by own) new = ⊥
@@ -114,7 +142,7 @@ Tells (Some f) old (Change node c) new = ⊥
 
 -- it happens, and tells that
 abbrev pub HappensTelling : (overtake : ℕ) → World → Event → Result (Option AskFault) WorldFault → World → Type 0
-HappensTelling overtake old e (Ok told) new = WorldStep overtake old e new × Tells told old e new × (PassesClock old e → ⊥)
+HappensTelling overtake old e (Ok told) new = WorldStep overtake old e new × Tells told old e new × (PassesClock old e → ⊥) × (NamesNodeLink old e → ⊥)
 HappensTelling overtake old e (Err f) new = IsFault f overtake old e × (new ≡ old)
 
 -- where nothing is told

@@ -1,6 +1,7 @@
 -- What contracts see of facts and events.
 use Rattle.std.specs.Prelude.{◌+◌, ◌*◌, List, [], ◌∷◌, map, reverse}
 use Rattle.bac_apdu.specs.Views.{limits_view}
+use Rattle.bac_npdu.specs.Views.{peer_view}
 use Rattle.bac_service.specs.Views.{owned_request_view, owned_reply_view}
 use Rattle.bac_store.specs.Views.{change_view}
 use Rattle.bac_requester.specs.TransactionViews.{ending_view}
@@ -19,6 +20,10 @@ fact_view (fact.Performed number request reply) = once.Fact.Performed number (ow
 fact_view (fact.Ended number how) = once.Fact.Ended number (ending_view how)
 fact_view (fact.Changed node change) = once.Fact.Changed node (change_view change)
 fact_view (fact.Restarted node store) = once.Fact.Restarted node store
+fact_view (fact.Served peer node invoke_id begin request reply) =
+    once.Fact.Served (peer_view peer) node invoke_id begin (owned_request_view request) (owned_reply_view reply)
+fact_view (fact.AskedAway number client peer request) = once.Fact.AskedAway number client (peer_view peer) (owned_request_view request)
+fact_view (fact.EndedAway number how) = once.Fact.EndedAway number (ending_view how)
 
 -- contracts see the newest fact first
 abbrev pub log_view : List Fact → List once.Fact
@@ -29,6 +34,9 @@ abbrev pub event_view : Instant → Event → world.Event
 event_view t (event.Ask client server limits request) = world.Event.Ask client server (limits_view limits) (owned_request_view request)
 event_view t (event.Deliver number) = world.Event.Deliver number
 event_view t (event.Noise node from octets) = world.Event.Noise node from octets.items
+event_view t (event.Stranger node from octets) = world.Event.Stray node from octets.items
+event_view t (event.AskStranger node peer limits request) =
+    world.Event.AskAway node (peer_view peer) (limits_view limits) (owned_request_view request)
 event_view t (event.Tick node) = world.Event.Tick node
 event_view t (event.Advance by) = world.Event.Advance (parts_of t.own * by) (steps_of t.own by)
 event_view t (event.Change node change) = world.Event.Change node (change_view change)

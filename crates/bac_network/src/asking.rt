@@ -111,7 +111,7 @@ impl Network {
 }
 
 /// The fault of a refused ask is told, but for `NoMemory`, which is the event's.
-fn told(fault: AskFault) -> Result<Option<AskFault>, WorldFault>
+pub(crate) fn told(fault: AskFault) -> Result<Option<AskFault>, WorldFault>
     ensures { TellsFault fault result }
 {
     match fault {

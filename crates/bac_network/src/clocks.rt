@@ -77,7 +77,8 @@ impl World {
     }
 
     /// From now on a node's clock goes on by so many parts while a million parts of real time pass: it is fast or slow by no more than the drift of the
-    /// world's clocks. No time passes. Errors: `NoSuchNode`; `BadPace`, exactly where it would be faster or slower. After an error nothing has changed.
+    /// world's clocks. No time passes. In a world of `new`, where all nodes have one clock, the drift is 0: a rate of 1,000,000 is taken and changes nothing.
+    /// Errors: `NoSuchNode`; `BadPace`, exactly where it would be faster or slower. After an error nothing has changed.
     pub fn set_pace(&mut self, node: usize, rate: u32) -> Result<(), PaceFault>
         ensures same { as_world self.new ≡ as_world self.old }
         ensures paced { OnOk result (self.new.time ≡ record (self.old.time) { own = paced node rate self.old.time.own }) }

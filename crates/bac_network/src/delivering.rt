@@ -55,7 +55,13 @@ impl Network {
         ensures stays { instant self.new.journal ≡ instant self.old.journal }
     {
         let (to, outcome) = hear_copy(&mut self.nodes, &self.journal, number)?;
-        enter(&mut self.journal, &mut self.log, to, outcome);
+        enter(
+            &self.nodes[to],
+            &mut self.journal,
+            &mut self.log,
+            to,
+            outcome,
+        );
         Ok(())
     }
 }

@@ -22,6 +22,9 @@ fn ending_by<'a>(found: Option<&'a Ending>, fact: &'a Fact, ask: usize) -> Optio
         Fact::Performed { .. } => found,
         Fact::Changed { .. } => found,
         Fact::Restarted { .. } => found,
+        Fact::Served { .. } => found,
+        Fact::AskedAway { .. } => found,
+        Fact::EndedAway { .. } => found,
     }
 }
 

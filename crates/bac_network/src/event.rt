@@ -1,6 +1,6 @@
 //! What can happen in a simulated network.
 use bac_apdu::Limits;
-use bac_npdu::LinkAddress;
+use bac_npdu::{LinkAddress, Peer};
 use bac_service::OwnedRequest;
 use bac_store::{Change, Store};
 
@@ -31,6 +31,27 @@ pub enum Event {
         from: LinkAddress,
         /// The octets.
         octets: Vec<u8>,
+    },
+    /// Octets of a stranger arrive at a node, at any moment: any octets, from a link of no node. A stranger is whoever is on the network and no node of the
+    /// world, as a device of another make.
+    Stranger {
+        /// The node.
+        node: usize,
+        /// Their source, which is no node's link: four octets of IPv4 address and two of UDP port (clause J.1.2).
+        from: LinkAddress,
+        /// The octets.
+        octets: Vec<u8>,
+    },
+    /// A node asks a stranger. What it sends to the stranger is not followed: what comes back are octets of a stranger.
+    AskStranger {
+        /// The node that asks.
+        node: usize,
+        /// The stranger, whose link is no node's.
+        peer: Peer,
+        /// What the node takes the stranger to accept of APDUs.
+        limits: Limits,
+        /// What is asked.
+        request: OwnedRequest,
     },
     /// A node's timers run: it sends again, or gives up, what is due.
     Tick {

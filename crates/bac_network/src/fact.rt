@@ -1,12 +1,15 @@
 //! What is logged.
 ghost use Rattle.std.specs.Prelude.{◌≡◌, ◌↔◌, IsTrue};
 
+use crate::comparing_strangers::{same_asked_away, same_ended_away, same_served};
 use crate::{Alike, same_change, same_ending};
+use bac_npdu::Peer;
 use bac_requester::Ending;
 use bac_service::{OwnedReply, OwnedRequest, same_reply, same_request};
 use bac_store::{Change, Store};
 
-/// What was asked, performed, ended, changed or restarted. Asks are numbered from 0; clients and servers are numbered among the nodes.
+/// What was asked, performed, ended, changed or restarted. Asks are numbered from 0, those of strangers with the others; clients and servers are numbered
+/// among the nodes. A stranger is a peer whose link is no node's.
 #[derive(Drop)]
 pub enum Fact {
     /// An ask was accepted.
@@ -49,6 +52,39 @@ pub enum Fact {
         node: usize,
         /// The store with which it started again; None where it was the one that it had.
         store: Option<Store>,
+    },
+    /// A request of a stranger was performed on a node's store.
+    Served {
+        /// The stranger.
+        peer: Peer,
+        /// The node.
+        node: usize,
+        /// The invoke ID of the request.
+        invoke_id: u8,
+        /// When the node's entry for that request began, in milliseconds by the node's clock.
+        begin: u64,
+        /// The request.
+        request: OwnedRequest,
+        /// The reply of the store.
+        reply: OwnedReply,
+    },
+    /// An ask of a stranger was accepted.
+    AskedAway {
+        /// Its number.
+        number: usize,
+        /// The node that asks.
+        client: usize,
+        /// The stranger that is asked.
+        peer: Peer,
+        /// What is asked.
+        request: OwnedRequest,
+    },
+    /// An ask of a stranger has ended.
+    EndedAway {
+        /// Its number.
+        number: usize,
+        /// How it ended.
+        how: Ending,
     },
 }
 
@@ -127,6 +163,9 @@ impl Alike for Fact {
                 } => node == place && same_start(store, opening),
                 _ => false,
             },
+            Fact::Served { .. } => same_served(self, other),
+            Fact::AskedAway { .. } => same_asked_away(self, other),
+            Fact::EndedAway { .. } => same_ended_away(self, other),
         }
     }
 }

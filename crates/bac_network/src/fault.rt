@@ -12,12 +12,15 @@ use thiserror::Error;
 /// Why an event did not happen: the world is as before.
 #[derive(Clone, Copy, Debug, PartialEq, Eq, Error)]
 pub enum WorldFault {
-    /// The event names a node that there is not.
+    /// The event names a node that there is not. It is told before all else.
     #[error("no such node")]
     NoSuchNode,
     /// The event names a copy that there is not.
     #[error("no such datagram")]
     NoSuchDatagram,
+    /// A stranger's event has a link that is a node's: what comes from there is from that node, and an ask of it is `Event::Ask`.
+    #[error("the link is a node's")]
+    NodeLink,
     /// The moment would pass 64 bits.
     #[error("the clock is at its end")]
     ClockEnd,
@@ -31,13 +34,14 @@ pub enum WorldFault {
 
 impl WorldFault {
     /// The number of the fault (own numbers of this profile): 1 `NoSuchNode`, 2 `NoSuchDatagram`, 3 `ClockEnd`, 4 `NoMemory`, 9
-    /// `BadChange`.
+    /// `BadChange`, 10 `NodeLink`.
     pub fn number(self) -> u8
         ensures { result ≡ fault_number self }
     {
         match self {
             WorldFault::NoSuchNode => 1,
             WorldFault::NoSuchDatagram => 2,
+            WorldFault::NodeLink => 10,
             WorldFault::ClockEnd => 3,
             WorldFault::BadChange(_) => 9,
             WorldFault::NoMemory => 4,
@@ -124,7 +128,7 @@ pub enum PaceFault {
     /// There is no such node.
     #[error("no such node")]
     NoSuchNode,
-    /// The clock would be faster or slower than those of the world may be.
+    /// The clock would be faster or slower than those of the world may be; where all nodes have one clock, any rate but 1,000,000.
     #[error("a clock may not be so fast or slow")]
     BadPace,
 }

@@ -1,18 +1,32 @@
 //! How facts come into the log.
-ghost use Rattle.std.specs.Prelude.{◌≡◌, ◌+◌, ◌≤◌, List, [], ◌∷◌, length, map, vec_capacity};
+ghost use Rattle.std.specs.Prelude.{◌≡◌, ◌+◌, ◌≤◌, List, [], ◌∷◌, Some, length, map, slice_get, vec_capacity};
 ghost use Rattle.std.specs.Option.{option_map};
 ghost use Rattle.bac_node.specs.Views.{performed_view};
+ghost use Rattle.bac_requester.specs.TransactionViews.{ending_view};
 ghost use Rattle.bac_requester.specs.Views.{ended_view};
-ghost use Rattle.bac_world.specs.Node.{Node};
-ghost use Rattle.bac_world.specs.World.{AreEnded, AreLogged, IsLogged};
+ghost use Rattle.bac_world.specs.Node as world;
+ghost use Rattle.bac_world.specs.Once as once;
+ghost use Rattle.bac_world.specs.World.{AreEnded, AreLogged, IsLogged, IsOfNone, IsServedTo, ending_fact};
 ghost use Rattle.bac_journal.specs.Views.{AreLinks};
-ghost use Rattle.bac_network.specs.Entries.{AreNoted, HasClient, HaveClient, performances};
-ghost use Rattle.bac_network.specs.Views.{log_view};
+ghost use Rattle.bac_network.specs.Entries.{AreNoted, HasPeer, HavePeer, IsAskOf, IsKeptFor, performances};
+ghost use Rattle.bac_network.specs.Views.{fact_view, log_view};
 
 use crate::fact::Fact;
 use bac_journal::{Journal, Transaction};
-use bac_requester::Ended;
+use bac_node::Node;
+use bac_requester::{Ended, Ending};
 use bac_responder::{Act, Effect};
+
+/// The ending of an ask of that number, of a node or of a stranger.
+fn ending_fact(away: bool, number: usize, how: Ending) -> Fact
+    ensures { fact_view result ≡ ending_fact away number (ending_view how) }
+{
+    if away {
+        Fact::EndedAway { number, how }
+    } else {
+        Fact::Ended { number, how }
+    }
+}
 
 /// The ending of a node's ticket comes into the log, which has room for it.
 fn log_ending(log: &mut Vec<Fact>, journal: &Journal, node: usize, finish: Ended)
@@ -26,10 +40,7 @@ fn log_ending(log: &mut Vec<Fact>, journal: &Journal, node: usize, finish: Ended
     let Some(number) = journal.ask_of(node, ticket) else {
         unreachable!()
     };
-    log.push_reserved(Fact::Ended {
-        number,
-        how: ending,
-    });
+    log.push_reserved(ending_fact(journal.is_away(number), number, ending));
 }
 
 /// The endings of a node's tickets come into the log, which has room for them.
@@ -45,18 +56,15 @@ pub(crate) fn log_endings(log: &mut Vec<Fact>, journal: &Journal, node: usize, e
     }
 }
 
-/// What was performed comes into the log, which has room for it.
-fn log_act(log: &mut Vec<Fact>, journal: &Journal, node: usize, act: Act)
-    requires room { length log.old.items + 1 ≤ vec_capacity log.old }
-    requires client { HasClient journal.now node (performed_view act) }
-    ensures log { (nodes : List Node) → AreLinks nodes journal.now.links
-        → IsLogged nodes journal.now.notes node (performed_view act) (log_view log.old.items) (log_view log.new.items) }
+/// What was performed for a node, which asked it last under that number.
+fn performed_fact(journal: &Journal, client: usize, node: usize, act: Act) -> Fact
+    requires asked { IsAskOf journal.now.notes client node (performed_view act) }
+    requires is { slice_get journal.now.links client ≡ Some act.key.peer.link }
+    ensures { (nodes : List world.Node) → AreLinks nodes journal.now.links → (log : List once.Fact)
+        → IsLogged nodes journal.now.notes node (performed_view act) log (fact_view result ∷ log) }
 {
     let Act { key, effect } = act;
     let Effect { request, reply } = effect;
-    let Some(client) = journal.node_of(key.peer.link) else {
-        unreachable!()
-    };
     let transaction = Transaction {
         client,
         server: node,
@@ -65,21 +73,60 @@ fn log_act(log: &mut Vec<Fact>, journal: &Journal, node: usize, act: Act)
     let Some(number) = journal.newest(&transaction) else {
         unreachable!()
     };
-    log.push_reserved(Fact::Performed {
+    Fact::Performed {
         number,
         request,
         reply,
-    });
+    }
+}
+
+/// What was performed for a stranger, in an entry that the node keeps.
+fn served_fact(after: &Node, node: usize, act: Act) -> Fact
+    requires { IsKeptFor after.now (performed_view act) }
+    ensures { (nodes : List world.Node) → IsOfNone nodes act.key.peer.link → (log : List once.Fact)
+        → IsServedTo nodes node after.now (performed_view act) log (fact_view result ∷ log) }
+{
+    let Act { key, effect } = act;
+    let Effect { request, reply } = effect;
+    let Some(begin) = after.entry_begin(&key) else {
+        unreachable!()
+    };
+    Fact::Served {
+        peer: key.peer,
+        node,
+        invoke_id: key.invoke_id,
+        begin,
+        request,
+        reply,
+    }
+}
+
+/// What was performed, as a fact: for a node or for a stranger.
+fn act_fact(after: &Node, journal: &Journal, node: usize, act: Act) -> Fact
+    requires peer { HasPeer journal.now node after.now (performed_view act) }
+    ensures { (nodes : List world.Node) → AreLinks nodes journal.now.links → (log : List once.Fact)
+        → AreLogged nodes journal.now.notes node after.now (Some (performed_view act)) log (fact_view result ∷ log) }
+{
+    match journal.node_of(act.key.peer.link) {
+        Some(client) => performed_fact(journal, client, node, act),
+        None => served_fact(after, node, act),
+    }
 }
 
 /// What was performed comes into the log, which has room for it, if anything was.
-pub(crate) fn log_performed(log: &mut Vec<Fact>, journal: &Journal, node: usize, act: Option<Act>)
+pub(crate) fn log_performed(
+    after: &Node,
+    log: &mut Vec<Fact>,
+    journal: &Journal,
+    node: usize,
+    act: Option<Act>,
+)
     requires room { length log.old.items + performances (option_map performed_view act) ≤ vec_capacity log.old }
-    requires client { HaveClient journal.now node (option_map performed_view act) }
-    ensures log { (nodes : List Node) → AreLinks nodes journal.now.links → (after : Node)
-        → AreLogged nodes journal.now.notes node after (option_map performed_view act) (log_view log.old.items) (log_view log.new.items) }
+    requires peer { HavePeer journal.now node after.now (option_map performed_view act) }
+    ensures log { (nodes : List world.Node) → AreLinks nodes journal.now.links
+        → AreLogged nodes journal.now.notes node after.now (option_map performed_view act) (log_view log.old.items) (log_view log.new.items) }
 {
     if let Some(act) = act {
-        log_act(log, journal, node, act);
+        log.push_reserved(act_fact(after, journal, node, act));
     }
 }

@@ -55,6 +55,15 @@ impl Network {
             } => self.ask(alloc, window, *client, *server, limits, request),
             Event::Deliver { number } => untold(self.deliver(overtake, window, *number)),
             Event::Noise { node, from, octets } => untold(self.hear_noise(*node, *from, octets)),
+            Event::Stranger { node, from, octets } => {
+                untold(self.hear_stranger(window, *node, *from, octets))
+            }
+            Event::AskStranger {
+                node,
+                peer,
+                limits,
+                request,
+            } => self.ask_stranger(alloc, *node, peer, limits, request),
             Event::Tick { node } => untold(self.tick(*node)),
             Event::Advance { by } => untold(self.advance(*by)),
             Event::Change { node, change } => untold(self.change(alloc, *node, change)),

@@ -8,6 +8,7 @@ ghost use Rattle.bac_world.specs.World.{WorldStep};
 ghost use Rattle.bac_world.specs.World.Event.{Ask, Deliver};
 ghost use Rattle.bac_network.specs.Histories.{AreChangesPermittedNow, AreEndedOnceNow, ArePerformedOnceNow, AreReplayedNow, HasHistory};
 ghost use Rattle.bac_network.specs.Histories.{HasRequestsAloneNow, IsOnceByRequestsAloneNow, IsOnceNow, as_world};
+ghost use Rattle.bac_network.specs.OfNone.{HasStrangersOfNoneNow};
 ghost use Rattle.bac_network.specs.Steps.{IsFault};
 ghost use Rattle.bac_liveness.specs.StraightRuns.{ending_in};
 ghost use Rattle.bac_network.specs.StraightFaults.{Fails, StopsShort};
@@ -86,6 +87,7 @@ fn ask(
     ensures err { OnErr result (world.new ≡ world.old) }
     ensures overtake { world.new.overtake ≡ world.old.overtake }
     ensures opening { world.new.opening ≡ world.old.opening }
+    ensures passed { world.new.time ≡ world.old.time }
 {
     let event = Event::Ask {
         client,
@@ -121,6 +123,7 @@ fn deliver(world: &mut World, number: usize) -> Result<(), WorldFault>
     ensures err { OnErr result (world.new ≡ world.old) }
     ensures overtake { world.new.overtake ≡ world.old.overtake }
     ensures opening { world.new.opening ≡ world.old.opening }
+    ensures passed { world.new.time ≡ world.old.time }
 {
     world.step(&Event::Deliver { number })?;
     Ok(())
@@ -176,6 +179,7 @@ fn ask_and_deliver(
         (λ f. Fails f world.old.overtake (as_world world.old) client server (limits_view limits) (owned_request_view request) (as_world world.new)) }
     ensures overtake { world.new.overtake ≡ world.old.overtake }
     ensures opening { world.new.opening ≡ world.old.opening }
+    ensures passed { world.new.time ≡ world.old.time }
 {
     let number = world.asks().len();
     let since = world.log().len();
@@ -191,7 +195,7 @@ fn ask_and_deliver(
 }
 
 /// A straight run: asks, and delivers each copy that arises once, in order of sending, at one moment, until the ask has ended or no copy is left. The client
-/// goes by the server's limits of APDUs, and sends requests in segments whatever the server's SA bit says. A refused ask changes nothing.
+/// goes by the server's limits of APDUs, and sends requests in segments whatever the server's SA bit says. A refused ask changes nothing. No time passes.
 ///
 /// It stops at the first event that fails, and returns its fault; the events before it have happened. Errors: `NoSuchNode` where the world lacks one of the
 /// nodes, and then nothing has changed; `NoMemory` where an allocation fails. No other: each copy that it delivers is there. It takes no memory of its own.
@@ -210,11 +214,13 @@ pub fn straight(
         (ending_by s.ask world.new.log) s.deliveries (as_world world.new)) }
     ensures overtake { world.new.overtake ≡ world.old.overtake }
     ensures opening { world.new.opening ≡ world.old.opening }
+    ensures passed { world.new.time ≡ world.old.time }
     ensures once { IsOnceNow world.new }
     ensures performed { ArePerformedOnceNow world.new }
     ensures ended { AreEndedOnceNow world.new }
     ensures permitted { AreChangesPermittedNow world.new }
     ensures stores { AreReplayedNow world.new }
+    ensures strangers { HasStrangersOfNoneNow world.new }
     ensures requests_alone { HasRequestsAloneNow world.old → IsOnceByRequestsAloneNow world.new }
 {
     world.is_once();

@@ -55,7 +55,13 @@ impl Network {
         ensures stays { instant self.new.journal ≡ instant self.old.journal }
     {
         commit(&mut self.nodes, node, self.journal.told(node));
-        enter(&mut self.journal, &mut self.log, node, outcome);
+        enter(
+            &self.nodes[node],
+            &mut self.journal,
+            &mut self.log,
+            node,
+            outcome,
+        );
     }
 
     /// The clock goes on. It takes no memory.

@@ -1,15 +1,18 @@
 //! A world.
-ghost use Rattle.std.specs.Prelude.{◌≡◌, ◌↔◌, ◌∷◌, [], ℕ, IsErrOf, IsTrue, IfErr, IfOk, OnErr, OnOk, MatchOption, MatchResult, None, Some};
+ghost use Rattle.std.specs.Prelude.{◌≡◌, ◌≤◌, ◌↔◌, ◌∷◌, [], ℕ, IsErrOf, IsTrue, IfErr, IfOk, OnErr, OnOk, MatchOption, MatchResult, None, Some};
 ghost use Rattle.std.specs.Prelude.{length, map, slice_get, take};
 ghost use Rattle.bac_store.specs.declared.change_fault.ChangeFault.{ChangeFault};
 ghost use Rattle.bac_world.specs.World.{WorldRun, WorldStep, stores_of};
+ghost use Rattle.bac_journal.specs.Clocks.{parts_of};
 ghost use Rattle.bac_journal.specs.Notes.{notes_view};
 ghost use Rattle.bac_journal.specs.Views.{copy_view};
 ghost use Rattle.bac_network.specs.Histories.{AreChangesPermittedNow, AreEndedOnceNow, ArePerformedOnceNow, AreReplayedNow, HasHistory};
-ghost use Rattle.bac_network.specs.Histories.{HasRequestsAloneNow, IsOnceByRequestsAloneNow, IsOnceNow, as_world};
-ghost use Rattle.bac_network.specs.Steps.{NamesNoCopy, NamesNoNode, PassesClock, RefusesChange, TakesMemory, Tells};
+ghost use Rattle.bac_network.specs.Histories.{AreServedApartNow, HasNoStrangerNow, HasRequestsAloneNow, IsOnceAmongNodesNow, IsOnceByRequestsAloneNow};
+ghost use Rattle.bac_network.specs.Histories.{IsOnceNow, as_world};
+ghost use Rattle.bac_network.specs.OfNone.{HasStrangersOfNoneNow};
+ghost use Rattle.bac_network.specs.Steps.{NamesNoCopy, NamesNoNode, NamesNodeLink, PassesClock, RefusesChange, TakesMemory, Tells};
 ghost use Rattle.bac_network.specs.Runs.{RequestsTakeEffectOnce, StopsAt};
-ghost use Rattle.bac_network.specs.Views.{event_view, events_view, instant_after, log_view};
+ghost use Rattle.bac_network.specs.Views.{event_view, events_view, instant_after, instant_after_all, log_view};
 
 use crate::are_alike;
 use crate::event::Event;
@@ -28,7 +31,8 @@ use std::marker::Model;
 ///
 /// Whatever events happen, every accepted ask takes effect at most once, and exactly once where a service answer reached its client; the request performed and
 /// the answer are its own, whole; and each store is that of its node's last start, after what was performed and changed there since, in the log's order. A
-/// restart keeps the store, or the log has the new one.
+/// restart keeps the store, or the log has the new one. Strangers, peers at links of no node, may send any octets and be asked; the log has what they had
+/// performed.
 #[derive(Drop)]
 pub struct World {
     pub(crate) alloc: Global,
@@ -94,6 +98,14 @@ impl World {
         self.network.journal.life()
     }
 
+    /// How many parts of a moment are a millisecond: 1, and 1,000,000 where nodes have clocks of their own.
+    pub fn parts(&self) -> u64
+        ensures is { result ≡ parts_of self.now.time.own }
+        ensures some { 1 ≤ result }
+    {
+        self.network.journal.parts()
+    }
+
     /// The log, oldest first; contracts see the newest fact first.
     pub fn log(&self) -> &[Fact]
         ensures { log_view result.now ≡ self.now.log }
@@ -119,7 +131,9 @@ impl World {
     /// stores (`once`): every accepted ask was performed at most once, as it was asked, with the reply of its server's store as it then was (`performed`); it
     /// ended at most once, and was answered with that reply alone (`ended`); each change that a node made in its own store had no fault for it as it then was
     /// (`permitted`); and performed requests, changes and restarts alone changed the stores (`stores`). Where no node changed its own store or restarted,
-    /// performed requests alone did (`requests_alone`).
+    /// performed requests alone did (`requests_alone`). Where there is nothing of strangers, all of this holds of nodes alone (`among_nodes`). What a node
+    /// performed for one stranger under one invoke ID, between two of its restarts, is of entries that began more than 65,000 ms apart, by the node's clock
+    /// (`apart`). Each peer that the log has as a stranger is at a link of no node (`strangers`).
     pub fn is_once(&self)
         ensures history { HasHistory self.now }
         ensures once { IsOnceNow self.now }
@@ -128,6 +142,9 @@ impl World {
         ensures permitted { AreChangesPermittedNow self.now }
         ensures stores { AreReplayedNow self.now }
         ensures requests_alone { HasRequestsAloneNow self.now → IsOnceByRequestsAloneNow self.now }
+        ensures among_nodes { HasNoStrangerNow self.now → IsOnceAmongNodesNow self.now }
+        ensures apart { AreServedApartNow self.now }
+        ensures strangers { HasStrangersOfNoneNow self.now }
     {
         let _network = &self.network;
     }
@@ -135,13 +152,15 @@ impl World {
     /// Makes an event happen. Returns the fault of an ask that was refused, which changes nothing, and otherwise None.
     ///
     /// Errors: `NoSuchNode` exactly where the world has no node that the event names, `NoSuchDatagram` exactly where it has no copy of that number, `ClockEnd`
-    /// exactly where the moment would pass 64 bits, `BadChange` exactly where a change of a node's own store has that fault, and after these `NoMemory` where
-    /// an allocation fails: never for noise, for a copy that is not deliverable, or for the clock. After an error the world is as before.
+    /// exactly where the moment would pass 64 bits, `BadChange` exactly where a change of a node's own store has that fault, `NodeLink` exactly where the node of
+    /// a stranger's event is there and the stranger's link is a node's, and after these `NoMemory` where an allocation fails: never for noise, for a copy that is
+    /// not deliverable, or for the clock. After an error the world is as before.
     pub fn step(&mut self, event: &Event) -> Result<Option<AskFault>, WorldFault>
         ensures went { OnOk result (WorldStep self.old.overtake (as_world self.old) (event_view self.old.time event.now) (as_world self.new)) }
         ensures told { IfOk result (λ told. Tells told (as_world self.old) (event_view self.old.time event.now) (as_world self.new)) }
         ensures node { IsErrOf result WorldFault.NoSuchNode ↔ NamesNoNode (as_world self.old) (event_view self.old.time event.now) }
         ensures datagram { IsErrOf result WorldFault.NoSuchDatagram ↔ NamesNoCopy (as_world self.old) (event_view self.old.time event.now) }
+        ensures link { IsErrOf result WorldFault.NodeLink ↔ NamesNodeLink (as_world self.old) (event_view self.old.time event.now) }
         ensures clock { IsErrOf result WorldFault.ClockEnd ↔ PassesClock (as_world self.old) (event_view self.old.time event.now) }
         ensures change { (why : ChangeFault)
             → (IsErrOf result (WorldFault.BadChange why) ↔ RefusesChange (as_world self.old) (event_view self.old.time event.now) why) }
@@ -154,6 +173,7 @@ impl World {
         ensures ended { AreEndedOnceNow self.new }
         ensures permitted { AreChangesPermittedNow self.new }
         ensures stores { AreReplayedNow self.new }
+        ensures strangers { HasStrangersOfNoneNow self.new }
         ensures requests_alone { RequestsTakeEffectOnce self.old (event_view self.old.time event.now ∷ []) self.new }
     {
         self.network
@@ -165,15 +185,20 @@ impl World {
     /// For every list of asks, deliveries, losses, repeats, reorderings, noise, ticks and clock steps (`requests_alone`), every accepted ask takes effect at
     /// most once, and exactly once where a service answer reached its client; the request performed and the answer are its own, whole; and each server's store
     /// is its opening store after the performed requests in their order. With changes and restarts of nodes too, the log is right with the stores (`once`).
+    /// Strangers may send any octets and be asked in all of these: what they had performed is in the log, in its place, and counts as performed. The
+    /// log has no peer at a node's link as a stranger (`strangers`). The time is what the events that happened made of it (`passed`).
     pub fn run(&mut self, events: &[Event]) -> Result<(), RunFault>
         ensures went { OnOk result (WorldRun self.old.overtake (as_world self.old) (events_view self.old.time events.now) (as_world self.new)) }
         ensures stopped { IfErr result (λ f. StopsAt f self.old (events_view self.old.time events.now) self.new) }
+        ensures passed { OnOk result (self.new.time ≡ instant_after_all events.now self.old.time) }
+        ensures passed_before { IfErr result (λ f. self.new.time ≡ instant_after_all (take f.place events.now) self.old.time) }
         ensures settings { (self.new.overtake ≡ self.old.overtake) × (self.new.opening ≡ self.old.opening) }
         ensures once { IsOnceNow self.new }
         ensures performed { ArePerformedOnceNow self.new }
         ensures ended { AreEndedOnceNow self.new }
         ensures permitted { AreChangesPermittedNow self.new }
         ensures stores { AreReplayedNow self.new }
+        ensures strangers { HasStrangersOfNoneNow self.new }
         ensures requests_alone { RequestsTakeEffectOnce self.old (events_view self.old.time events.now) self.new }
     {
         for (place, event) in events.iter().enumerate() {

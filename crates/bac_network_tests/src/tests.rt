@@ -9,7 +9,9 @@ use std::alloc::Global;
 use std::test::Fail;
 
 mod alone;
+mod beyond;
 mod chance;
+mod drifting;
 mod failing;
 mod faults;
 mod following;
@@ -19,8 +21,10 @@ mod laws;
 mod limits;
 mod links;
 mod memory;
+mod paces;
 mod scene;
 mod sleeping;
+mod strangers;
 mod turns;
 mod twins;
 

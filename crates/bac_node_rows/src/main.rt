@@ -1,4 +1,5 @@
-//! Plays rows of text from standard input and prints what comes of each: single nodes, worlds, nodes on links in memory, a socket of this machine, and scripts.
+//! Plays rows of text from standard input and prints what comes of each: single nodes, worlds, nodes on links in memory, a socket of this machine, tables
+//! of many slots, and scripts.
 //!
 //! The file stdin beside src/ holds the rows, and stdout what the program has to print. A row begins with `=`, what plays it, and its title. In rows of nodes,
 //! worlds and wires the expected result follows each event: where the result differs, the program prints the event's line after `! `, and the result. Only rows
@@ -19,6 +20,7 @@ mod scene;
 mod scripts;
 mod side;
 mod sockets;
+mod tables;
 mod telling;
 mod turns;
 mod wires;

@@ -3,7 +3,7 @@ use crate::node_rows::play_node;
 use crate::scripts::Way;
 use crate::wires::play_wire;
 use crate::worlds::play_world;
-use crate::{nodes, scripts, sockets, words};
+use crate::{nodes, scripts, sockets, tables, words};
 use bac_simulate::View;
 use std::alloc::Global;
 use std::io;
@@ -21,6 +21,7 @@ enum Kind {
     Wire,
     Nodes,
     Socket,
+    Tables,
     /// One script, or one in each line.
     Script(Way),
     Scripts(Way),
@@ -33,6 +34,7 @@ const KINDS: &[(&str, Kind)] = &[
     ("wire", Kind::Wire),
     ("nodes", Kind::Nodes),
     ("socket", Kind::Socket),
+    ("tables", Kind::Tables),
     ("script", Kind::Script(Way::Plain)),
     ("scripts", Kind::Scripts(Way::Plain)),
     ("noted", Kind::Scripts(Way::Noted)),
@@ -69,6 +71,7 @@ impl<'a, R: Net + Clock> Rows<'a, R> {
             Kind::Wire => play_wire(self.alloc, self.scene, lines, out),
             Kind::Nodes => nodes::play(self.alloc, lines, out),
             Kind::Socket => sockets::play(self.rt, self.alloc, lines, out),
+            Kind::Tables => tables::play(self.alloc, lines, out),
             Kind::Script(way) => scripts::play(self.alloc, way, lines, out),
             Kind::Scripts(way) => scripts::play_lines(self.alloc, way, lines, out),
         }

@@ -31,6 +31,7 @@ fn print_fact(alloc: Global, fact: &Fact, out: &mut Vec<u8>) -> Option<()> {
         } => print_performed(alloc, *number as u64, request, reply, out),
         Fact::Ended { number, how } => print_ended(alloc, *number as u64, how, out).ok(),
         Fact::Changed { .. } | Fact::Restarted { .. } => None,
+        Fact::Served { .. } | Fact::AskedAway { .. } | Fact::EndedAway { .. } => None,
     }
 }
 

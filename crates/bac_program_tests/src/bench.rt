@@ -2,10 +2,13 @@
 ghost use Rattle.std.specs.Prelude.{◌≡◌, ◌≤◌, length, is_ok, if◌then◌else◌, None, ⊤};
 ghost use Rattle.bac_driver.specs.Calls.{one_more};
 
+use crate::kept_files::database_at;
 use crate::text_file::copy_front;
-use bac_command_line::Machine;
+use bac_command_line::{ClientPair, Machine};
 use bac_commands::answer_datagram;
 use bac_driver::{Clock, Link, LinkFault};
+use bac_keep_file::OpenFault;
+use sqlite_trees::memory::MemStore;
 use std::alloc::Global;
 use std::cell::Cell;
 use std::io;
@@ -266,9 +269,13 @@ impl Machine for BenchMachine {
 
     type Timer = BenchClock;
 
+    type Database = MemStore;
+
     ghost is_bound = { λ _ _ _ _. ⊤ };
 
     ghost is_made = { λ _. ⊤ };
+
+    ghost is_database = { λ _ _ _. ⊤ };
 
     fn bind(&self, host: [u8; 4], port: u16) -> io::Result<(BenchLink, [u8; 6])> {
         if matches!(self.bench.behind, Behind::Nothing) {
@@ -283,10 +290,21 @@ impl Machine for BenchMachine {
         self.bench.clock
     }
 
-    /// The moment at which the clock begins, up to 255.
-    fn first_id(&self) -> Option<u8> {
-        let clock = self.bench.clock?;
-        Some(clock.moment.to_le_bytes()[0])
+    /// Any free port, and the moment at which the clock begins, up to 255; where there is no clock, 0.
+    fn pair(&self) -> Option<ClientPair> {
+        let first_id = match self.bench.clock {
+            Some(clock) => clock.moment.to_le_bytes()[0],
+            None => 0,
+        };
+        Some(ClientPair { port: 0, first_id })
+    }
+
+    fn source_towards(&self, _link: [u8; 6]) -> Option<[u8; 4]> {
+        None
+    }
+
+    fn open_database(&self, path: &str) -> Result<(MemStore, bool), OpenFault> {
+        database_at(self.alloc, path)
     }
 
     fn shows_progress(&self) -> bool {

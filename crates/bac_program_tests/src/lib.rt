@@ -6,6 +6,8 @@
 #[cfg(test)]
 mod bench;
 #[cfg(test)]
+mod kept_files;
+#[cfg(test)]
 mod tests;
 #[cfg(test)]
 mod text_file;

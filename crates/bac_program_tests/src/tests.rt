@@ -10,9 +10,11 @@ mod answers;
 mod asked_lines;
 mod asked_rounds;
 mod asked_window;
+mod client_pairs;
 mod decoded;
 mod files;
 mod help;
+mod kept;
 mod logged;
 mod not_asked;
 mod online;
@@ -21,6 +23,7 @@ mod progress;
 mod restarts;
 mod served_documents;
 mod sockets;
+mod told;
 mod wrong;
 
 /// What is printed, what is complained of, and the exit status.

@@ -1,5 +1,6 @@
 -- What is printed in words, one line after the other.
-use Rattle.std.proofs.Common.{◌≡◌, ◌↔◌, ℕ, ◌+◌, ◌-◌, ◌<◌, ◌≤◌, nat_le, true, false, Bool, List, [], ◌++◌, length, map, drop, reverse, Option, Some, None, IsErrOf, inl}
+use Rattle.std.proofs.Common.{◌≡◌, ◌↔◌, ℕ, ◌+◌, ◌-◌, ◌<◌, ◌≤◌, nat_le, true, false, Bool, List, [], ◌++◌, length, map, drop, reverse, Option, Some, None}
+use Rattle.std.proofs.Common.{IsErrOf, ◌⊎◌, inl}
 use Rattle.std.proofs.Common.{refl, sym, ap, subst, ◌∙◌, slice_get, append-nil}
 use Rattle.std.proofs.lemmas.List.{append_assoc, drop_all, length-map, reverse-reverse}
 use Rattle.std.proofs.lemmas.Option.{slice_get-map}
@@ -11,9 +12,12 @@ use Rattle.bac_journal.specs.declared.copies.Copy as copy
 use Rattle.bac_network.specs.Faults.{fault_number}
 use Rattle.bac_network.specs.Histories.{WorldView, as_world}
 use Rattle.bac_network.specs.declared.event.Event.{Event}
-use Rattle.bac_network.specs.Steps.{NamesNoCopy, NamesNoNode, PassesClock, RefusesChange, TakesMemory, Tells}
+use Rattle.bac_network.specs.Steps.{NamesNoCopy, NamesNodeLink, NamesNoNode, PassesClock, RefusesChange, TakesMemory, Tells}
 use Rattle.bac_network.specs.Views.{event_view, fact_view, instant_after, log_view}
 use Rattle.bac_network.specs.declared.fact.Fact as fact
+use Rattle.bac_journal.specs.Clocks.{drift_of, paced}
+use Rattle.bac_network.specs.declared.fault.PaceFault.{PaceFault}
+use Rattle.bac_network.specs.declared.fault.PaceFault.TheVariants as pace_fault
 use Rattle.bac_network.specs.declared.fault.WorldFault.{WorldFault}
 use Rattle.bac_network.specs.declared.fault.WorldFault.TheVariants as fault
 use Rattle.bac_requester.specs.declared.ask_fault.AskFault.{AskFault}
@@ -23,16 +27,18 @@ use Rattle.bac_text.specs.Texts.{AppendsText}
 use Rattle.bac_world.specs.Once as once
 use Rattle.bac_world.specs.World as world
 use Rattle.bac_world.specs.World.{count_of, later, WorldStep}
-use Rattle.bac_simulate.specs.Runs.{Runs, Steps, Printing, change_fault_in}
-use Rattle.bac_simulate.specs.Scripts.{ScriptLine, Happens, Lost}
+use Rattle.bac_simulate.specs.Moments.{ms_now}
+use Rattle.bac_simulate.specs.Runs.{Runs, Steps, Printing, change_fault_in, pace_fault_number}
+use Rattle.bac_simulate.specs.Scripts.{ScriptLine, Happens, Lost, Began, Paced}
 use Rattle.bac_simulate.specs.Happenings.{Happening}
 use Rattle.bac_simulate.specs.Views.{happening_view, line_view}
 use Rattle.bac_simulate.specs.Traces.{life_in}
-use Rattle.bac_simulate.specs.Worded.{Adds, AreFactLines, AreFactWords, AreNews, IsEventLine, IsOutcome, in_words, lose_text, news_line, refused_news, sent_lines, sent_words, why_copy, why_delivered, why_nothing}
+use Rattle.bac_simulate.specs.Worded.{Adds, AreFactLines, AreFactWords, AreNews, IsEventLine, IsOutcome, in_words, lose_text, news_line, pace_line_text}
+use Rattle.bac_simulate.specs.Worded.{refused_news, sent_lines, sent_words, why_copy, why_delivered, why_nothing}
 use Rattle.bac_simulate.specs.declared.nothing.Why.{Why}
 use Rattle.bac_simulate.specs.declared.script.ScriptLine as script
 use Rattle.bac_simulate.proofs.Appending.{drop_seen, nothing_more}
-use Rattle.bac_simulate.proofs.Stepping.{fails, refuses, same_after, same_event, the_err}
+use Rattle.bac_simulate.proofs.Stepping.{clock_began, fails, no_clock, not_paced, paced_so, refuses, same_after, same_event, the_err, the_pace_err}
 use Rattle.bac_simulate.proofs.Tracing.{later_is}
 
 -- ---- one line more
@@ -111,11 +117,11 @@ why_is o life now number more w copies after k is_young few r cs at rest count o
 
 -- ---- one event
 
-head_at : (now : ℕ) (e : Happening) (w : WorldView) (head : List ℕ) → now ≡ w.time.moment → IsEventLine now e head → IsEventLine w.time.moment e head
+head_at : (now : ℕ) (e : Happening) (w : WorldView) (head : List ℕ) → now ≡ ms_now w → IsEventLine now e head → IsEventLine (ms_now w) e head
 head_at now e w head is line = subst (λ (n : ℕ). IsEventLine n e head) is line
 
 pub event_told : (line : ℕ) (e : Event) (told : Option AskFault) (old new : WorldView) (facts copies now : ℕ) (reason : Why) (head text : List ℕ)
-    → (a b : Option (List ℕ)) → facts ≡ length old.log → copies ≡ length old.copies → now ≡ old.time.moment
+    → (a b : Option (List ℕ)) → facts ≡ length old.log → copies ≡ length old.copies → now ≡ ms_now old
     → reason ≡ why_nothing old (happening_view e) → IsEventLine now (happening_view e) head
     → WorldStep old.overtake (as_world old) (event_view old.time e) (as_world new)
     → Tells told (as_world old) (event_view old.time e) (as_world new) → new.overtake ≡ old.overtake → new.time ≡ instant_after e old.time
@@ -149,7 +155,7 @@ event_told line e told old new facts copies now reason head text a b fs cs ns wh
 pub refusal_told : (line : ℕ) (e : Event) (f : WorldFault) (why : ChangeFault) (old new : WorldView) (now number : ℕ) (head text : List ℕ)
     → (a b : Option (List ℕ)) → change_fault_in f ≡ Some why
     → ((w : ChangeFault) → (IsErrOf (the_err f) (fault.BadChange w) ↔ RefusesChange (as_world old) (event_view old.time e) w))
-    → new ≡ old → now ≡ old.time.moment
+    → new ≡ old → now ≡ ms_now old
     → number ≡ change_fault_number why → IsEventLine now (happening_view e) head → text ≡ head ++ refused_news number → Appends a b text
     → AppendsText a b (Steps in_words line true (Happens (happening_view e)) old new)
 refusal_told line e f why old new now number head text a b bad change same ns is is_head added printed = (
@@ -164,19 +170,20 @@ refusal_told line e f why old new now number head text a b bad change same ns is
 pub fault_told : (line : ℕ) (e : Event) (f : WorldFault) (old new : WorldView) (number : ℕ) (a b : Option (List ℕ)) → change_fault_in f ≡ None
     → (IsErrOf (the_err f) fault.NoSuchNode ↔ NamesNoNode (as_world old) (event_view old.time e))
     → (IsErrOf (the_err f) fault.NoSuchDatagram ↔ NamesNoCopy (as_world old) (event_view old.time e))
+    → (IsErrOf (the_err f) fault.NodeLink ↔ NamesNodeLink (as_world old) (event_view old.time e))
     → (IsErrOf (the_err f) fault.ClockEnd ↔ PassesClock (as_world old) (event_view old.time e))
     → ((why : ChangeFault) → (IsErrOf (the_err f) (fault.BadChange why) ↔ RefusesChange (as_world old) (event_view old.time e) why))
     → (IsErrOf (the_err f) fault.NoMemory → TakesMemory old.overtake (as_world old) (event_view old.time e))
     → new ≡ old → number ≡ fault_number f → Appends a b (fault_line line number)
     → AppendsText a b (Steps in_words line false (Happens (happening_view e)) old new)
-fault_told line e f old new number a b ends node copy clock change memory same is printed = (
+fault_told line e f old new number a b ends node copy link clock change memory same is printed = (
   fault_line line number,
-  (fails in_words line e f old new (fault_line line number) ends node copy clock change memory same (ap (λ (n : ℕ). fault_line line n) is), printed),
+  (fails in_words line e f old new (fault_line line number) ends node copy link clock change memory same (ap (λ (n : ℕ). fault_line line n) is), printed),
 )
 
 -- ---- a copy that counts as lost
 
-pub lost_told : (line copy now : ℕ) (w : WorldView) (a b : Option (List ℕ)) → copy < length w.copies → now ≡ w.time.moment
+pub lost_told : (line copy now : ℕ) (w : WorldView) (a b : Option (List ℕ)) → copy < length w.copies → now ≡ ms_now w
     → Appends a b (lose_text now copy) → AppendsText a b (Steps in_words line true (Lost copy) w w)
 lost_told line copy now w a b sent is printed =
     (lose_text now copy, (record { sent = sent; same = refl; is = ap (λ (n : ℕ). lose_text n copy) is }, printed))
@@ -185,6 +192,41 @@ pub no_copy_told : (line copy : ℕ) (w : WorldView) (number : ℕ) (a b : Optio
     → number ≡ fault_number fault.NoSuchDatagram → Appends a b (fault_line line number) → AppendsText a b (Steps in_words line false (Lost copy) w w)
 no_copy_told line copy w number a b none is printed =
     (fault_line line number, (record { none = none; same = refl; is = ap (λ (n : ℕ). fault_line line n) is }, printed))
+
+-- ---- clocks
+
+pub clock_passed_told : (line node start : ℕ) (w : WorldView) (a : Option (List ℕ)) → node < length w.nodes
+    → AppendsText a a (Steps in_words line true (Began node start) w w)
+clock_passed_told line node start w a there = ([], (clock_began in_words line node start w there, nothing_more a))
+
+pub clock_missing_told : (line node start : ℕ) (w : WorldView) (number : ℕ) (a b : Option (List ℕ)) → length w.nodes ≤ node
+    → number ≡ fault_number fault.NoSuchNode → Appends a b (fault_line line number) → AppendsText a b (Steps in_words line false (Began node start) w w)
+clock_missing_told line node start w number a b none is printed = (
+  fault_line line number,
+  (no_clock in_words line node start w (fault_line line number) none (ap (λ (n : ℕ). fault_line line n) is), printed),
+)
+
+pub pace_told : (line node rate now : ℕ) (old new : WorldView) (a b : Option (List ℕ)) → as_world new ≡ as_world old → new.overtake ≡ old.overtake
+    → new.time ≡ record (old.time) { own = paced node rate old.time.own }
+    → (1000000 ≤ rate + drift_of old.time.own) × (rate ≤ 1000000 + drift_of old.time.own) → now ≡ ms_now old
+    → Appends a b (pace_line_text now node rate) → AppendsText a b (Steps in_words line true (Paced node rate) old new)
+pace_told line node rate now old new a b same overtake time within is printed = (
+  pace_line_text now node rate,
+  (
+    paced_so in_words line node rate old new (pace_line_text now node rate) same overtake time within (ap (λ (n : ℕ). pace_line_text n node rate) is),
+    printed,
+  ),
+)
+
+pub pace_refused_told : (line node rate : ℕ) (f : PaceFault) (old new : WorldView) (number : ℕ) (a b : Option (List ℕ))
+    → (IsErrOf (the_pace_err f) pace_fault.NoSuchNode ↔ (slice_get old.nodes node ≡ None))
+    → (IsErrOf (the_pace_err f) pace_fault.BadPace → (rate + drift_of old.time.own < 1000000) ⊎ (1000000 + drift_of old.time.own < rate))
+    → new ≡ old → number ≡ pace_fault_number f → Appends a b (fault_line line number)
+    → AppendsText a b (Steps in_words line false (Paced node rate) old new)
+pace_refused_told line node rate f old new number a b none beyond same is printed = (
+  fault_line line number,
+  (not_paced in_words line node rate f old new (fault_line line number) none beyond same (ap (λ (n : ℕ). fault_line line n) is), printed),
+)
 
 -- ---- no line more
 

@@ -11,3 +11,4 @@ pub mod Settings
 pub mod Stepping
 pub mod Showing
 pub mod Tracing
+pub mod Starting

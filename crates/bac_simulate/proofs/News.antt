@@ -32,12 +32,12 @@ copy_more copies i k at a b c p q =
     subst (λ (l : List world.Copy). Appends a c (copies_text i l)) (sym (drop_seen copy_view copies i k at))
     (joined a b c (sent_line i k.from k.to k.octets.items) (copies_text (i + 1) (drop (i + 1) (map copy_view copies))) p q)
 
-pub record_more : (copies : List copy.Copy) (i : ℕ) (k : copy.Copy) → slice_get copies i ≡ Some k → (a b c : Option (List ℕ))
-    → Appends a b (record_of (copy_view k)) → Appends b c (records_of (drop (i + 1) (map copy_view copies)))
-    → Appends a c (records_of (drop i (map copy_view copies)))
-record_more copies i k at a b c p q =
-    subst (λ (l : List world.Copy). Appends a c (records_of l)) (sym (drop_seen copy_view copies i k at))
-    (joined a b c (record_of (copy_view k)) (records_of (drop (i + 1) (map copy_view copies))) p q)
+pub record_more : (parts : ℕ) (copies : List copy.Copy) (i : ℕ) (k : copy.Copy) → slice_get copies i ≡ Some k → (a b c : Option (List ℕ))
+    → Appends a b (record_of parts (copy_view k)) → Appends b c (records_of parts (drop (i + 1) (map copy_view copies)))
+    → Appends a c (records_of parts (drop i (map copy_view copies)))
+record_more parts copies i k at a b c p q =
+    subst (λ (l : List world.Copy). Appends a c (records_of parts l)) (sym (drop_seen copy_view copies i k at))
+    (joined a b c (record_of parts (copy_view k)) (records_of parts (drop (i + 1) (map copy_view copies))) p q)
 
 -- ---- no more
 
@@ -62,9 +62,10 @@ log_length facts log e = sym (length-map facts fact_view) ∙ (sym (length-rever
 pub copies_length : (copies : List copy.Copy) (all : List world.Copy) → map copy_view copies ≡ all → length copies ≡ length all
 copies_length copies all e = sym (length-map copies copy_view) ∙ ap length e
 
-pub no_record_more : (copies : List copy.Copy) (i : ℕ) → length copies ≤ i → (a : Option (List ℕ)) → Appends a a (records_of (drop i (map copy_view copies)))
-no_record_more copies i h a =
-    subst (λ (l : List world.Copy). Appends a a (records_of l)) (sym (drop_all i (map copy_view copies) (past copy_view copies i h))) (nothing_more a)
+pub no_record_more : (parts : ℕ) (copies : List copy.Copy) (i : ℕ) → length copies ≤ i → (a : Option (List ℕ))
+    → Appends a a (records_of parts (drop i (map copy_view copies)))
+no_record_more parts copies i h a =
+    subst (λ (l : List world.Copy). Appends a a (records_of parts l)) (sym (drop_all i (map copy_view copies) (past copy_view copies i h))) (nothing_more a)
 
 pub news_told : {T E : Type 0} (r : Result T E) (w : WorldView) (notes : List note.Note) (facts : List fact.Fact) (copies : List copy.Copy) (i k : ℕ)
     → (a b c : Option (List ℕ)) → notes_view notes ≡ w.notes → log_view facts ≡ w.log → map copy_view copies ≡ w.copies

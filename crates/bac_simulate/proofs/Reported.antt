@@ -1,19 +1,20 @@
 -- What the status says of lines, of a script, and of the octets of an input.
-use Rattle.std.proofs.Common.{◌≡◌, ℕ, ◌+◌, true, false, Bool, List, Option, Some, None, IfOk, IfSome, Result, Ok, Err, inl, inr, refl, sym, ap, subst, ◌∙◌}
+use Rattle.std.proofs.Common.{◌≡◌, ℕ, ◌+◌, true, false, Bool, List, map, Option, Some, None, IfOk, IfSome, Result, Ok, Err, inl, inr, refl, sym, ap, subst, ◌∙◌}
 use Rattle.std.specs.Io.KnownBytes.{Appends, Keeps}
 use Rattle.bac_network.specs.Histories.{WorldView}
-use Rattle.bac_simulate.specs.Lines.{Setting}
 use Rattle.bac_text.specs.Lines.{lines_of}
 use Rattle.bac_text.specs.Statuses.{IsFailure}
 use Rattle.bac_text.specs.Texts.{AppendsText}
 use Rattle.bac_text.specs.declared.status.Status.{Status}
 use Rattle.bac_text.specs.declared.status.Status.TheVariants as status
-use Rattle.bac_simulate.specs.Houses.{world_set}
+use Rattle.bac_simulate.specs.Drawn.{IsRead}
+use Rattle.bac_simulate.specs.Houses.{script_world}
 use Rattle.bac_simulate.specs.Runs.{Goes, IsEnd, IsRun, IsUnread, Reports, SimulatesAs, status_for, status_of}
-use Rattle.bac_simulate.specs.Scripts.{IsNotRead, Script, ScriptLine, limits_in, most_limits, said_from, script_of, with_setting}
+use Rattle.bac_simulate.specs.Scripts.{IsNotRead, Script, ScriptLine, script_of}
+use Rattle.bac_simulate.specs.Views.{line_view}
+use Rattle.bac_simulate.specs.declared.read_script.ReadScript.{ReadScript}
 use Rattle.bac_simulate.specs.declared.script.ScriptFault.{ScriptFault}
 use Rattle.bac_simulate.specs.declared.script.ScriptFault.TheVariants as fault
-use Rattle.bac_simulate.proofs.Limits.{events_of_houses}
 
 pub kept : (a b c : Option (List ℕ)) (text : List ℕ) → Appends a b text → Keeps b c → Appends a c text
 kept None b c text p q = tt
@@ -66,41 +67,39 @@ pub not_read : (f : ScriptFault) (read : Result (List ScriptLine) ℕ) (line : �
 not_read (fault.Line number) read line w a end bad is = subst (Goes line read w w a a) (sym is) (bad_line_of read number line w a bad)
 not_read fault.NoMemory read line w a end bad is = subst (Goes line read w w a a) (sym is) (starved_of read line w a)
 
--- ---- in the network that a first line sets
+-- ---- in the network of a script
 
-reports : (number : ℕ) (s : Setting) (lines : Result (List ScriptLine) ℕ) (last : WorldView) (a b : Option (List ℕ)) (end : Status)
-    → Goes (number + 1) lines (world_set s) last a b end → Reports (with_setting number (Some s) lines) a b end
-reports number s (Ok lines) last a b status.Done goes = (last, goes)
-reports number s (Ok lines) last a b status.Faulty goes = (last, goes)
-reports number s (Ok lines) last a b status.CommandLine goes = absurd goes
-reports number s (Ok lines) last a b status.Output goes = tt
-reports number s (Ok lines) last a b status.Memory goes = tt
-reports number s (Err bad) last a b status.Done goes = absurd goes
-reports number s (Err bad) last a b status.Faulty goes = absurd goes
-reports number s (Err bad) last a b status.CommandLine goes = goes.0
-reports number s (Err bad) last a b status.Output goes = absurd goes
-reports number s (Err bad) last a b status.Memory goes = goes.0
+reports : (s : Script) (last : WorldView) (a b : Option (List ℕ)) (end : Status)
+    → Goes s.first (Ok s.lines) (script_world s.setting s.lines) last a b end → Reports (Ok s) a b end
+reports s last a b status.Done goes = (last, goes)
+reports s last a b status.Faulty goes = (last, goes)
+reports s last a b status.CommandLine goes = absurd goes
+reports s last a b status.Output goes = tt
+reports s last a b status.Memory goes = tt
 
-pub reported : (notes : Bool) (number : ℕ) (s : Setting) (lines : List (List ℕ)) (first last : WorldView) (a b : Option (List ℕ)) (end : Status)
-    → first ≡ world_set s → Goes (number + 1) (said_from notes (limits_in first.nodes) (number + 1) lines) first last a b end
-    → Reports (with_setting number (Some s) (said_from notes (λ node. most_limits) (number + 1) lines)) a b end
-reported notes number s lines first last a b end is goes =
-    let n = number + 1 in
-    let set = subst (λ (w : WorldView). Goes n (said_from notes (limits_in w.nodes) n lines) w last a b end) is goes in
-    reports number s (said_from notes (λ node. most_limits) n lines) last a b end
-    (subst (λ (r : Result (List ScriptLine) ℕ). Goes n r (world_set s) last a b end) (events_of_houses notes s.window 0 s.nodes n lines) set)
+pub reported : (wanted : Result Script ℕ) (r : ReadScript) (a b : Option (List ℕ)) (end : Status) → IsRead wanted r
+    → (last : WorldView) × Goes (r.before + 1) (Ok (map line_view r.lines.items)) r.world last a b end → Reports wanted a b end
+reported wanted r a b end read goes =
+    let s = read.script in
+    let last = goes.0 in
+    subst (λ (w : Result Script ℕ). Reports w a b end) (sym read.is)
+    (reports s last a b end
+    (subst (λ (w : WorldView). Goes s.first (Ok s.lines) w last a b end) read.world
+    (subst (λ (l : List ScriptLine). Goes s.first (Ok l) r.world last a b end) read.lines
+    (subst (λ (n : ℕ). Goes n (Ok (map line_view r.lines.items)) r.world last a b end) read.first goes.1))))
+
+pub with_lines : (line : ℕ) (lines held : List ScriptLine) (first last : WorldView) (a b : Option (List ℕ)) (end : Status) → held ≡ lines
+    → Goes line (Ok held) first last a b end → (w : WorldView) × Goes line (Ok lines) first w a b end
+with_lines line lines held first last a b end same goes = (last, subst (λ (l : List ScriptLine). Goes line (Ok l) first last a b end) same goes)
 
 -- ---- octets that are no script, and memory that was refused
 
 refused : (read : Result Script ℕ) (bad : ℕ) (a : Option (List ℕ)) → read ≡ Err bad → Reports read a a status.CommandLine
 refused read bad a is = subst (λ (r : Result Script ℕ). Reports r a a status.CommandLine) (sym is) (keeps_itself a)
 
-pub starved : (read : Result Script ℕ) (a : Option (List ℕ)) (end : Status) → end ≡ status.Memory → Reports read a a end
+starved : (read : Result Script ℕ) (a : Option (List ℕ)) (end : Status) → end ≡ status.Memory → Reports read a a end
 starved (Ok s) a end is = subst (Reports (Ok s) a a) (sym is) tt
 starved (Err bad) a end is = subst (Reports (Err bad) a a) (sym is) (keeps_itself a)
-
-pub as_script : (read set : Result Script ℕ) (a b : Option (List ℕ)) (end : Status) → read ≡ set → Reports set a b end → Reports read a b end
-as_script read set a b end is reports = subst (λ (r : Result Script ℕ). Reports r a b end) (sym is) reports
 
 pub no_script : (f : ScriptFault) (read : Result Script ℕ) (a : Option (List ℕ)) (end : Status) → IsNotRead f read → end ≡ status_for f
     → Reports read a a end

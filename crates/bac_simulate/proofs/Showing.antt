@@ -1,5 +1,6 @@
 -- What a status says of a script whose run is shown.
-use Rattle.std.proofs.Common.{◌≡◌, ℕ, ◌+◌, true, false, Bool, List, [], map, Option, Some, None, IfOk, IfSome, Result, Ok, Err, inl, inr, refl, sym, ap, subst, ◌∙◌}
+use Rattle.std.proofs.Common.{◌≡◌, ℕ, ◌+◌, true, false, Bool, List, [], map, Option, Some, None, IfOk, IfSome, Result, Ok, Err, inl, inr, refl, sym, ap}
+use Rattle.std.proofs.Common.{subst, ◌∙◌}
 use Rattle.std.specs.Io.KnownBytes.{Appends, Keeps}
 use Rattle.bac_chart.specs.Views.{mark_view}
 use Rattle.bac_chart.specs.declared.mark.Mark as code
@@ -12,7 +13,7 @@ use Rattle.bac_text.specs.Texts.{AppendsText}
 use Rattle.bac_text.specs.declared.status.Status.{Status}
 use Rattle.bac_text.specs.declared.status.Status.TheVariants as status
 use Rattle.bac_simulate.specs.Drawn.{in_marks, rest_of, shown_text, IsDrawn, IsRead, IsShown, IsWorded, Shows, ShowsAs, ShowsScript}
-use Rattle.bac_simulate.specs.Houses.{world_set}
+use Rattle.bac_simulate.specs.Houses.{script_world, world_set}
 use Rattle.bac_simulate.specs.Runs.{IsEnd, IsUnread, Runs, status_for, status_of}
 use Rattle.bac_simulate.specs.Scripts.{IsNotRead, Script, ScriptLine, limits_in, most_limits, said_from, script_of, with_setting}
 use Rattle.bac_simulate.specs.Traces.{AppendsMarks}
@@ -30,7 +31,7 @@ use Rattle.bac_simulate.proofs.Reported.{kept, keeps_itself}
 
 -- what is shown of it is shown of the script
 same_script : (v : View) (s : Script) (nodes first : ℕ) (lines : List ScriptLine) (all : Bool) (world : WorldView) (text : List ℕ)
-    → nodes ≡ s.setting.nodes → first ≡ s.first → lines ≡ s.lines → world ≡ world_set s.setting
+    → nodes ≡ s.setting.nodes → first ≡ s.first → lines ≡ s.lines → world ≡ script_world s.setting s.lines
     → IsShown v nodes first lines all world text → ShowsScript v s all text
 same_script v s nodes first lines all world text ns fs ls ws shown =
     subst (λ (w : WorldView). IsShown v s.setting.nodes s.first s.lines all w text) ws
@@ -51,7 +52,7 @@ failed v s a c status.Output f = tt
 failed v s a c status.Memory f = tt
 
 went : {A B E : Type 0} (v : View) (s : Script) (r : ReadScript) (run : Result Bool E) (flush : Result A B) (a b c : Option (List ℕ)) (end : Status)
-    → r.nodes ≡ s.setting.nodes → r.before + 1 ≡ s.first → map line_view r.lines.items ≡ s.lines → r.world ≡ world_set s.setting
+    → r.nodes ≡ s.setting.nodes → r.before + 1 ≡ s.first → map line_view r.lines.items ≡ s.lines → r.world ≡ script_world s.setting s.lines
     → IsEnd run flush end → IfOk run (λ all. AppendsText a b (IsShown v r.nodes (r.before + 1) (map line_view r.lines.items) all r.world)) → Keeps b c
     → Shows v (Ok s) a c end
 went v s r (Ok all) (Ok x) a b c end ns fs ls ws ends printed same =
@@ -95,21 +96,22 @@ not_taken v notes (Some octets) a end unread = inr (keeps_itself a, unread)
 
 -- ---- what is read behind the first line
 
-pub rest_read : (notes : Bool) (f : FirstLine) (world : WorldView) (r : ReadScript) → world ≡ world_set (setting_view f.setting)
-    → said_from notes (limits_in world.nodes) (f.number + 1) (lines_of f.rest.now) ≡ Ok (map line_view r.lines.items)
-    → r.nodes ≡ f.setting.nodes → r.world ≡ world → r.before ≡ f.number → IsRead (rest_of notes f) r
-rest_read notes f world r set said nodes same before =
+pub rest_read : (notes : Bool) (f : FirstLine) (world : WorldView) (r : ReadScript) (held : List ScriptLine) → world ≡ world_set (setting_view f.setting)
+    → said_from notes true (limits_in world.nodes) (f.number + 1) (lines_of f.rest.now) ≡ Ok (map line_view r.lines.items)
+    → r.nodes ≡ f.setting.nodes → held ≡ map line_view r.lines.items → r.world ≡ script_world (setting_view f.setting) held → r.before ≡ f.number
+    → IsRead (rest_of notes f) r
+rest_read notes f world r held set said nodes same made before =
     let s : Setting = setting_view f.setting in
     let n = f.number + 1 in
     let lines = lines_of f.rest.now in
-    let read : said_from notes (λ node. most_limits) n lines ≡ Ok (map line_view r.lines.items)
-    = sym (events_of_houses notes s.window 0 s.nodes n lines)
-    ∙ (ap (λ (w : WorldView). said_from notes (limits_in w.nodes) n lines) (sym set) ∙ said) in
+    let read : said_from notes true (λ node. most_limits) n lines ≡ Ok (map line_view r.lines.items)
+    = sym (events_of_houses notes true s.window 0 s.nodes n lines)
+    ∙ (ap (λ (w : WorldView). said_from notes true (limits_in w.nodes) n lines) (sym set) ∙ said) in
     record {
       script = record { setting = s; first = n; lines = map line_view r.lines.items };
       is = ap (with_setting f.number (Some s)) read;
       nodes = nodes;
-      world = same ∙ set;
+      world = made ∙ ap (script_world s) same;
       first = ap (λ (k : ℕ). k + 1) before;
       lines = refl;
     }
@@ -119,14 +121,14 @@ bad_line : (number first : ℕ) (s : Setting) (read : Result (List ScriptLine) �
 bad_line number first s read is = ap (with_setting first (Some s)) is
 
 pub rest_not_read : (notes : Bool) (f : FirstLine) (world : WorldView) (why : ScriptFault) → world ≡ world_set (setting_view f.setting)
-    → IsNotRead why (said_from notes (limits_in world.nodes) (f.number + 1) (lines_of f.rest.now)) → IsNotRead why (rest_of notes f)
+    → IsNotRead why (said_from notes true (limits_in world.nodes) (f.number + 1) (lines_of f.rest.now)) → IsNotRead why (rest_of notes f)
 rest_not_read notes f world (fault.Line number) set bad =
     let s : Setting = setting_view f.setting in
     let n = f.number + 1 in
     let lines = lines_of f.rest.now in
-    bad_line number f.number s (said_from notes (λ node. most_limits) n lines)
-    (sym (events_of_houses notes s.window 0 s.nodes n lines)
-    ∙ (ap (λ (w : WorldView). said_from notes (limits_in w.nodes) n lines) (sym set) ∙ bad))
+    bad_line number f.number s (said_from notes true (λ node. most_limits) n lines)
+    (sym (events_of_houses notes true s.window 0 s.nodes n lines)
+    ∙ (ap (λ (w : WorldView). said_from notes true (limits_in w.nodes) n lines) (sym set) ∙ bad))
 rest_not_read notes f world fault.NoMemory set bad = tt
 
 pub same_read : (wanted other : Result Script ℕ) (r : ReadScript) → wanted ≡ other → IsRead other r → IsRead wanted r
@@ -138,10 +140,10 @@ same_not_read wanted other why is read = subst (IsNotRead why) (sym is) read
 -- ---- a run that is shown
 
 pub run_shown : (v : View) (nodes first : ℕ) (lines : List ScriptLine) (all : Bool) (world last : WorldView) (marks : List code.Mark) (a b : Option (List ℕ))
-    → AppendsMarks [] marks (Runs in_marks first lines all world last) → Appends a b (shown_text v nodes (map mark_view marks) last.copies)
+    → AppendsMarks [] marks (Runs in_marks first lines all world last) → Appends a b (shown_text v nodes (map mark_view marks) last)
     → AppendsText a b (IsDrawn v nodes first lines all world)
 run_shown v nodes first lines all world last marks a b traced printed = (
-  shown_text v nodes (map mark_view marks) last.copies,
+  shown_text v nodes (map mark_view marks) last,
   (
     record {
       last = last;

@@ -1,5 +1,6 @@
 -- Events, one after the other, and what is printed of them.
-use Rattle.std.proofs.Common.{◌≡◌, ◌↔◌, ℕ, ◌+◌, ◌<◌, ◌≤◌, true, false, Bool, List, [], ◌∷◌, ◌++◌, length, map, drop, Option, Some, None, Result, Err, IsErrOf, inl, inr}
+use Rattle.std.proofs.Common.{◌≡◌, ◌↔◌, ℕ, ◌+◌, ◌<◌, ◌≤◌, true, false, Bool, List, [], ◌∷◌, ◌++◌, length, map, drop, Option, Some, None, Result, Err}
+use Rattle.std.proofs.Common.{IsErrOf, ◌⊎◌, inl, inr}
 use Rattle.std.proofs.Common.{refl, sym, ap, subst, ◌∙◌, slice_get}
 use Rattle.std.specs.Io.KnownBytes.{Appends}
 use Rattle.bac_requester.specs.declared.ask_fault.AskFault.{AskFault}
@@ -13,18 +14,21 @@ use Rattle.bac_network.specs.declared.event.Event.{Event}
 use Rattle.bac_network.specs.declared.event.Event.TheVariants as event
 use Rattle.bac_store.specs.AtNode.{change_fault_number}
 use Rattle.bac_store.specs.declared.change_fault.ChangeFault.{ChangeFault}
-use Rattle.bac_network.specs.Steps.{IsFault, NamesNoCopy, NamesNoNode, PassesClock, RefusesChange, TakesMemory, Tells}
+use Rattle.bac_network.specs.Steps.{IsFault, NamesNoCopy, NamesNodeLink, NamesNoNode, PassesClock, RefusesChange, TakesMemory, Tells}
 use Rattle.bac_network.proofs.WorldRunning.{fault_is}
 use Rattle.bac_simulate.specs.declared.script.ScriptLine as code
-use Rattle.bac_simulate.specs.Scripts.{ScriptLine, Happens, Lost, Note}
+use Rattle.bac_simulate.specs.Scripts.{ScriptLine, Happens, Lost, Note, Began, Paced}
 use Rattle.bac_simulate.specs.Happenings.{event_at, time_after}
 use Rattle.bac_simulate.specs.Views.{happening_view, line_view}
+use Rattle.bac_journal.specs.Clocks.{drift_of, paced}
+use Rattle.bac_network.specs.declared.fault.PaceFault.{PaceFault}
+use Rattle.bac_network.specs.declared.fault.PaceFault.TheVariants as pace_fault
 use Rattle.bac_network.specs.declared.fault.WorldFault.{WorldFault}
 use Rattle.bac_network.specs.declared.fault.WorldFault.TheVariants as fault
 use Rattle.bac_commands.specs.Facts.{fault_line, refused_line}
 use Rattle.bac_text.specs.Texts.{AppendsText}
-use Rattle.bac_simulate.specs.Printed.{lost_line, outcome_text}
-use Rattle.bac_simulate.specs.Runs.{IsStep, Passed, Runs, Steps, Printing, change_fault_in, in_text}
+use Rattle.bac_simulate.specs.Printed.{lost_line, outcome_text, paced_line}
+use Rattle.bac_simulate.specs.Runs.{IsPaceFault, IsStep, Passed, Runs, Steps, Printing, change_fault_in, in_text, pace_fault_number}
 use Rattle.bac_simulate.proofs.Appending.{drop_seen, joined, nothing_more}
 
 -- ---- one event
@@ -37,6 +41,8 @@ same_event t (event.Tick node) = refl
 same_event t (event.Advance by) = refl
 same_event t (event.Change node change) = refl
 same_event t (event.Restart node store) = refl
+same_event t (event.Stranger node from octets) = refl
+same_event t (event.AskStranger node peer limits request) = refl
 
 pub same_after : (t : Instant) (e : Event) → instant_after e t ≡ time_after (happening_view e) t
 same_after t (event.Ask client server limits request) = refl
@@ -46,6 +52,8 @@ same_after t (event.Tick node) = refl
 same_after t (event.Advance by) = refl
 same_after t (event.Change node change) = refl
 same_after t (event.Restart node store) = refl
+same_after t (event.Stranger node from octets) = refl
+same_after t (event.AskStranger node peer limits request) = refl
 
 pub happened : (line : ℕ) (e : Event) (told : Option AskFault) (old new : WorldView) (facts copies : ℕ) (a b : Option (List ℕ))
     → facts ≡ length old.log → copies ≡ length old.copies → WorldStep old.overtake (as_world old) (event_view old.time e) (as_world new)
@@ -70,20 +78,24 @@ happened line e told old new facts copies a b fs cs went tells same passed print
 abbrev pub the_err : WorldFault → Result (Option AskFault) WorldFault
 the_err f = Err f
 
+abbrev pub the_pace_err : PaceFault → Result (Unit {0}) PaceFault
+the_pace_err f = Err f
+
 pub fails : {A : Type 0} (t : Printing A) (line : ℕ) (e : Event) (f : WorldFault) (old new : WorldView) (said : List A) → change_fault_in f ≡ None
     → (IsErrOf (the_err f) fault.NoSuchNode ↔ NamesNoNode (as_world old) (event_view old.time e))
     → (IsErrOf (the_err f) fault.NoSuchDatagram ↔ NamesNoCopy (as_world old) (event_view old.time e))
+    → (IsErrOf (the_err f) fault.NodeLink ↔ NamesNodeLink (as_world old) (event_view old.time e))
     → (IsErrOf (the_err f) fault.ClockEnd ↔ PassesClock (as_world old) (event_view old.time e))
     → ((why : ChangeFault) → (IsErrOf (the_err f) (fault.BadChange why) ↔ RefusesChange (as_world old) (event_view old.time e) why))
     → (IsErrOf (the_err f) fault.NoMemory → TakesMemory old.overtake (as_world old) (event_view old.time e))
     → new ≡ old → t.ended line (fault_number f) said → Steps t line false (Happens (happening_view e)) old new said
-fails t line e f old new said ends node copy clock change memory same is =
+fails t line e f old new said ends node copy link clock change memory same is =
     record {
       fault = f;
       ends = ends;
       why =
           subst (IsFault f old.overtake (as_world old)) (same_event old.time e)
-          (fault_is f old.overtake (as_world old) (event_view old.time e) (the_err f) refl node copy clock change memory);
+          (fault_is f old.overtake (as_world old) (event_view old.time e) (the_err f) refl node copy link clock change memory);
       same = same;
       is = is;
     }
@@ -91,18 +103,23 @@ fails t line e f old new said ends node copy clock change memory same is =
 pub stopped : (line : ℕ) (e : Event) (f : WorldFault) (old new : WorldView) (number : ℕ) (a b : Option (List ℕ)) → change_fault_in f ≡ None
     → (IsErrOf (the_err f) fault.NoSuchNode ↔ NamesNoNode (as_world old) (event_view old.time e))
     → (IsErrOf (the_err f) fault.NoSuchDatagram ↔ NamesNoCopy (as_world old) (event_view old.time e))
+    → (IsErrOf (the_err f) fault.NodeLink ↔ NamesNodeLink (as_world old) (event_view old.time e))
     → (IsErrOf (the_err f) fault.ClockEnd ↔ PassesClock (as_world old) (event_view old.time e))
     → ((why : ChangeFault) → (IsErrOf (the_err f) (fault.BadChange why) ↔ RefusesChange (as_world old) (event_view old.time e) why))
     → (IsErrOf (the_err f) fault.NoMemory → TakesMemory old.overtake (as_world old) (event_view old.time e))
     → new ≡ old → number ≡ fault_number f → Appends a b (fault_line line number) → AppendsText a b (IsStep line false (Happens (happening_view e)) old new)
-stopped line e f old new number a b ends node copy clock change memory same is printed = (
+stopped line e f old new number a b ends node copy link clock change memory same is printed = (
   fault_line line (fault_number f),
-  (fails in_text line e f old new (fault_line line (fault_number f)) ends node copy clock change memory same refl, subst (λ (n : ℕ). Appends a b (fault_line line n)) is printed),
+  (
+    fails in_text line e f old new (fault_line line (fault_number f)) ends node copy link clock change memory same refl,
+    subst (λ (n : ℕ). Appends a b (fault_line line n)) is printed,
+  ),
 )
 
 bad_change : (f : WorldFault) (why : ChangeFault) → change_fault_in f ≡ Some why → the_err f ≡ the_err (fault.BadChange why)
 bad_change fault.NoSuchNode why e = absurd cc
 bad_change fault.NoSuchDatagram why e = absurd cc
+bad_change fault.NodeLink why e = absurd cc
 bad_change fault.ClockEnd why e = absurd cc
 bad_change (fault.BadChange other) why e = ap (λ (w : ChangeFault). the_err (fault.BadChange w)) (let same : Some other ≡ Some why = e in cc)
 bad_change fault.NoMemory why e = absurd cc
@@ -136,6 +153,63 @@ not_sent line copy w number a b none is printed =
 
 pub noted : (line : ℕ) (w : WorldView) (a : Option (List ℕ)) → AppendsText a a (IsStep line true Note w w)
 noted line w a = ([], ((refl, refl), nothing_more a))
+
+-- ---- clocks
+
+pub clock_began : {A : Type 0} (t : Printing A) (line node start : ℕ) (w : WorldView) → node < length w.nodes → Steps t line true (Began node start) w w []
+clock_began t line node start w there = record { there = there; same = refl; is = refl }
+
+pub no_clock : {A : Type 0} (t : Printing A) (line node start : ℕ) (w : WorldView) (said : List A) → length w.nodes ≤ node
+    → t.ended line (fault_number fault.NoSuchNode) said → Steps t line false (Began node start) w w said
+no_clock t line node start w said none is = record { none = none; same = refl; is = is }
+
+pub paced_so : {A : Type 0} (t : Printing A) (line node rate : ℕ) (old new : WorldView) (said : List A) → as_world new ≡ as_world old
+    → new.overtake ≡ old.overtake → new.time ≡ record (old.time) { own = paced node rate old.time.own }
+    → (1000000 ≤ rate + drift_of old.time.own) × (rate ≤ 1000000 + drift_of old.time.own) → t.clock old node rate said
+    → Steps t line true (Paced node rate) old new said
+paced_so t line node rate old new said same overtake time within is =
+    record { slow = within.0; fast = within.1; same = same; overtake = overtake; time = time; is = is }
+
+pub pace_fault_is : (f : PaceFault) (node rate : ℕ) (w : WorldView)
+    → (IsErrOf (the_pace_err f) pace_fault.NoSuchNode ↔ (slice_get w.nodes node ≡ None))
+    → (IsErrOf (the_pace_err f) pace_fault.BadPace → (rate + drift_of w.time.own < 1000000) ⊎ (1000000 + drift_of w.time.own < rate))
+    → IsPaceFault f node rate w
+pace_fault_is pace_fault.NoSuchNode node rate w none beyond = none.0 refl
+pace_fault_is pace_fault.BadPace node rate w none beyond = beyond refl
+
+pub not_paced : {A : Type 0} (t : Printing A) (line node rate : ℕ) (f : PaceFault) (old new : WorldView) (said : List A)
+    → (IsErrOf (the_pace_err f) pace_fault.NoSuchNode ↔ (slice_get old.nodes node ≡ None))
+    → (IsErrOf (the_pace_err f) pace_fault.BadPace → (rate + drift_of old.time.own < 1000000) ⊎ (1000000 + drift_of old.time.own < rate))
+    → new ≡ old → t.ended line (pace_fault_number f) said → Steps t line false (Paced node rate) old new said
+not_paced t line node rate f old new said none beyond same is =
+    record { fault = f; why = pace_fault_is f node rate old none beyond; same = same; is = is }
+
+-- in lines of text
+pub clock_passed : (line node start : ℕ) (w : WorldView) (a : Option (List ℕ)) → node < length w.nodes → AppendsText a a (IsStep line true (Began node start) w w)
+clock_passed line node start w a there = ([], (clock_began in_text line node start w there, nothing_more a))
+
+pub clock_missing : (line node start : ℕ) (w : WorldView) (number : ℕ) (a b : Option (List ℕ)) → length w.nodes ≤ node
+    → number ≡ fault_number fault.NoSuchNode → Appends a b (fault_line line number) → AppendsText a b (IsStep line false (Began node start) w w)
+clock_missing line node start w number a b none is printed = (
+  fault_line line number,
+  (no_clock in_text line node start w (fault_line line number) none (ap (λ (n : ℕ). fault_line line n) is), printed),
+)
+
+pub pace_printed : (line node rate : ℕ) (old new : WorldView) (a b : Option (List ℕ)) → as_world new ≡ as_world old → new.overtake ≡ old.overtake
+    → new.time ≡ record (old.time) { own = paced node rate old.time.own }
+    → (1000000 ≤ rate + drift_of old.time.own) × (rate ≤ 1000000 + drift_of old.time.own) → Appends a b (paced_line node rate)
+    → AppendsText a b (IsStep line true (Paced node rate) old new)
+pace_printed line node rate old new a b same overtake time within printed =
+    (paced_line node rate, (paced_so in_text line node rate old new (paced_line node rate) same overtake time within refl, printed))
+
+pub pace_refused : (line node rate : ℕ) (f : PaceFault) (old new : WorldView) (number : ℕ) (a b : Option (List ℕ))
+    → (IsErrOf (the_pace_err f) pace_fault.NoSuchNode ↔ (slice_get old.nodes node ≡ None))
+    → (IsErrOf (the_pace_err f) pace_fault.BadPace → (rate + drift_of old.time.own < 1000000) ⊎ (1000000 + drift_of old.time.own < rate))
+    → new ≡ old → number ≡ pace_fault_number f → Appends a b (fault_line line number) → AppendsText a b (IsStep line false (Paced node rate) old new)
+pace_refused line node rate f old new number a b none beyond same is printed = (
+  fault_line line number,
+  (not_paced in_text line node rate f old new (fault_line line number) none beyond same (ap (λ (n : ℕ). fault_line line n) is), printed),
+)
 
 -- ---- one line more
 

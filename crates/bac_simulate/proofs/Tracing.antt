@@ -1,5 +1,6 @@
 -- What there is to draw, one mark after the other.
-use Rattle.std.proofs.Common.{◌≡◌, ℕ, zero, suc, ◌+◌, ◌-◌, ◌≤◌, ◌&&◌, nat_le, true, false, Bool, if◌then◌else◌, List, [], ◌∷◌, ◌++◌, length, map, drop, Option, Some, inl}
+use Rattle.std.proofs.Common.{◌≡◌, ◌↔◌, ◌⊎◌, ℕ, zero, suc, ◌+◌, ◌-◌, ◌<◌, ◌≤◌, ◌&&◌, nat_le, true, false, Bool, if◌then◌else◌, List, [], ◌∷◌, ◌++◌, length}
+use Rattle.std.proofs.Common.{map, drop, Option, Some, None, IsErrOf, inl}
 use Rattle.std.proofs.Common.{refl, sym, ap, subst, ◌∙◌, slice_get, arith, append-nil}
 use Rattle.std.proofs.lemmas.List.{append_assoc, drop_all, drop-map, length-map, map-append}
 use Rattle.std.proofs.lemmas.Option.{slice_get-map}
@@ -13,7 +14,10 @@ use Rattle.bac_chart.specs.declared.mark.Mark.TheVariants as mark
 use Rattle.bac_journal.specs.Views.{copy_view}
 use Rattle.bac_journal.specs.declared.copies.Copy as copy
 use Rattle.bac_network.specs.Histories.{WorldView, as_world}
+use Rattle.bac_journal.specs.Clocks.{drift_of, paced}
 use Rattle.bac_network.specs.declared.event.Event.{Event}
+use Rattle.bac_network.specs.declared.fault.PaceFault.{PaceFault}
+use Rattle.bac_network.specs.declared.fault.PaceFault.TheVariants as pace_fault
 use Rattle.bac_network.specs.Steps.{Tells}
 use Rattle.bac_network.specs.Views.{event_view, fact_view, instant_after}
 use Rattle.bac_network.specs.declared.fact.Fact as fact
@@ -24,14 +28,16 @@ use Rattle.bac_world.specs.Once as once
 use Rattle.bac_world.specs.World as world
 use Rattle.bac_world.specs.World.{count_of, is_deliverable, later, WorldStep}
 use Rattle.bac_simulate.specs.Drawn.{in_marks}
+use Rattle.bac_simulate.specs.Moments.{ms_now, parts_in}
 use Rattle.bac_simulate.specs.Runs.{Runs, Steps}
-use Rattle.bac_simulate.specs.Scripts.{ScriptLine, Happens}
+use Rattle.bac_simulate.specs.Scripts.{ScriptLine, Happens, Paced}
 use Rattle.bac_simulate.specs.Traces.{life_in}
-use Rattle.bac_simulate.specs.Traces.{arrow_of, coming_mark, delivered_mark, event_marks, fact_mark, facts_marks, news_marks, optional_marks, sent_marks, AddsMarks, AppendsMarks}
+use Rattle.bac_simulate.specs.Traces.{arrow_of, coming_mark, delivered_mark, event_marks, fact_mark, facts_marks, news_marks, optional_marks, paced_mark}
+use Rattle.bac_simulate.specs.Traces.{sent_marks, AddsMarks, AppendsMarks}
 use Rattle.bac_simulate.specs.Views.{happening_view, line_view}
 use Rattle.bac_simulate.specs.declared.script.ScriptLine as script
 use Rattle.bac_simulate.proofs.Appending.{drop_next, drop_seen}
-use Rattle.bac_simulate.proofs.Stepping.{more, same_after, same_event}
+use Rattle.bac_simulate.proofs.Stepping.{more, not_paced, paced_so, same_after, same_event, the_pace_err}
 
 -- ---- later copies of a transaction
 
@@ -51,12 +57,12 @@ pub counted : (key : Key) (copies : List copy.Copy) (i : ℕ) (c : copy.Copy) �
     ≡ (if same_key (copy_view c).key key then suc (count_of key (map copy_view (drop (i + 1) copies))) else count_of key (map copy_view (drop (i + 1) copies)))
 counted key copies i c at = ap (λ (l : List copy.Copy). count_of key (map copy_view l)) (drop_next copies i c at)
 
-pub delivered : (o life now n number more : ℕ) (w : WorldView) (copies after : List copy.Copy) (k : copy.Copy) (comes : Bool) (m : Mark)
+pub delivered : (o life now n parts number more : ℕ) (w : WorldView) (copies after : List copy.Copy) (k : copy.Copy) (comes : Bool) (m : Mark)
     → map copy_view copies ≡ w.copies → slice_get copies number ≡ Some k → after ≡ drop (number + 1) copies
-    → more ≡ count_of (copy_view k).key (map copy_view after) → o ≡ w.overtake → life ≡ life_in w → now ≡ w.time.moment → n ≡ w.time.moment
-    → comes ≡ (nat_le (now - k.moment) life && nat_le more o) → m ≡ coming_mark comes n number (copy_view k)
+    → more ≡ count_of (copy_view k).key (map copy_view after) → o ≡ w.overtake → life ≡ life_in w → now ≡ w.time.moment → n ≡ ms_now w → parts ≡ parts_in w
+    → comes ≡ (nat_le (now - k.moment) life && nat_le more o) → m ≡ coming_mark comes parts n number (copy_view k)
     → Some m ≡ delivered_mark w number (slice_get w.copies number)
-delivered o life now n number more w copies after k comes m cs at rest count os life_is now_is n_is comes_is is =
+delivered o life now n parts number more w copies after k comes m cs at rest count os life_is now_is n_is parts_is comes_is is =
     let c : world.Copy = copy_view k in
     let there : slice_get w.copies number ≡ Some c
     = ap (λ (l : List world.Copy). slice_get l number) (sym cs) ∙ (slice_get-map copy_view copies number ∙ ap (option_map copy_view) at) in
@@ -68,8 +74,9 @@ delivered o life now n number more w copies after k comes m cs at rest count os 
     let may : comes ≡ is_deliverable w.overtake (life_in w) w.time.moment number w.copies c
     = young ∙ (ap (λ (l : ℕ). nat_le (w.time.moment - k.moment) (life_in w) && nat_le l o) many
     ∙ ap (λ (v : ℕ). nat_le (w.time.moment - k.moment) (life_in w) && nat_le (later c.key number w.copies) v) os) in
-    ap Some (is ∙ (ap (λ (b : Bool). coming_mark b n number c) may
-    ∙ ap (λ (t : ℕ). coming_mark (is_deliverable w.overtake (life_in w) w.time.moment number w.copies c) t number c) n_is))
+    let comes_now = is_deliverable w.overtake (life_in w) w.time.moment number w.copies c in
+    ap Some (is ∙ (ap (λ (b : Bool). coming_mark b parts n number c) may
+    ∙ (ap (λ (t : ℕ). coming_mark comes_now parts t number c) n_is ∙ ap (λ (p : ℕ). coming_mark comes_now p (ms_now w) number c) parts_is)))
     ∙ sym (ap (delivered_mark w number) there)
 
 -- ---- marks that are added
@@ -91,14 +98,15 @@ fact_added now notes facts i f at old new added =
 pub pushed : (old new : List code.Mark) (m : code.Mark) → new ≡ old ++ m ∷ [] → AddsMarks old new (mark_view m ∷ [])
 pushed old new m is = ap (map mark_view) is ∙ map-append mark_view old (m ∷ [])
 
-pub copy_added : (copies : List copy.Copy) (i : ℕ) (k : copy.Copy) → slice_get copies i ≡ Some k → (old new : List code.Mark) (a : arrow.Arrow)
-    → arrow_view a ≡ arrow_of i (copy_view k) → new ≡ old ++ mark.Sent a ∷ []
-    → map mark_view new ++ sent_marks (i + 1) (drop (i + 1) (map copy_view copies)) ≡ map mark_view old ++ sent_marks i (drop i (map copy_view copies))
-copy_added copies i k at old new a same is =
-    behind old new (plain.Sent (arrow_of i (copy_view k)) ∷ []) (sent_marks (i + 1) (drop (i + 1) (map copy_view copies)))
-    (sent_marks i (drop i (map copy_view copies)))
+pub copy_added : (parts : ℕ) (copies : List copy.Copy) (i : ℕ) (k : copy.Copy) → slice_get copies i ≡ Some k → (old new : List code.Mark) (a : arrow.Arrow)
+    → arrow_view a ≡ arrow_of parts i (copy_view k) → new ≡ old ++ mark.Sent a ∷ []
+    → map mark_view new ++ sent_marks parts (i + 1) (drop (i + 1) (map copy_view copies))
+    ≡ map mark_view old ++ sent_marks parts i (drop i (map copy_view copies))
+copy_added parts copies i k at old new a same is =
+    behind old new (plain.Sent (arrow_of parts i (copy_view k)) ∷ []) (sent_marks parts (i + 1) (drop (i + 1) (map copy_view copies)))
+    (sent_marks parts i (drop i (map copy_view copies)))
     (pushed old new (mark.Sent a) is ∙ ap (λ (b : plain.Arrow). map mark_view old ++ plain.Sent b ∷ []) same)
-    (ap (sent_marks i) (drop_seen copy_view copies i k at))
+    (ap (sent_marks parts i) (drop_seen copy_view copies i k at))
 
 none_left : {A B : Type 0} (f : A → B) (xs : List A) (n : ℕ) → length xs ≤ n → drop n (map f xs) ≡ []
 none_left f xs n all =
@@ -110,10 +118,10 @@ pub facts_done : (now : ℕ) (notes : List world.Note) (facts : List fact.Fact) 
 facts_done now notes facts n all marks =
     sym (append-nil marks) ∙ ap (λ (l : List once.Fact). marks ++ facts_marks now notes l) (sym (none_left fact_view facts n all))
 
-pub copies_done : (copies : List copy.Copy) (n : ℕ) → length copies ≤ n → (marks : List Mark)
-    → marks ≡ marks ++ sent_marks n (drop n (map copy_view copies))
-copies_done copies n all marks =
-    sym (append-nil marks) ∙ ap (λ (l : List world.Copy). marks ++ sent_marks n l) (sym (none_left copy_view copies n all))
+pub copies_done : (parts : ℕ) (copies : List copy.Copy) (n : ℕ) → length copies ≤ n → (marks : List Mark)
+    → marks ≡ marks ++ sent_marks parts n (drop n (map copy_view copies))
+copies_done parts copies n all marks =
+    sym (append-nil marks) ∙ ap (λ (l : List world.Copy). marks ++ sent_marks parts n l) (sym (none_left copy_view copies n all))
 
 pub both : (a b c : List code.Mark) (x y : List Mark) → AddsMarks a b x → AddsMarks b c y → AddsMarks a c (x ++ y)
 both a b c x y p q = q ∙ (ap (λ (l : List Mark). l ++ y) p ∙ append_assoc (map mark_view a) x y)
@@ -150,6 +158,33 @@ no_line line lines i all w a = (
   [],
   (
     subst (λ (l : List ScriptLine). Runs in_marks line l true w w []) (sym (none_left line_view lines i all)) (refl, refl),
+    sym (append-nil (map mark_view a)),
+  ),
+)
+
+-- ---- clocks
+
+pub pace_drawn : (line node rate now : ℕ) (old new : WorldView) (a b : List code.Mark) (m : code.Mark) → as_world new ≡ as_world old
+    → new.overtake ≡ old.overtake → new.time ≡ record (old.time) { own = paced node rate old.time.own }
+    → (1000000 ≤ rate + drift_of old.time.own) × (rate ≤ 1000000 + drift_of old.time.own) → now ≡ ms_now old → mark_view m ≡ paced_mark now node rate
+    → b ≡ a ++ m ∷ [] → AppendsMarks a b (Steps in_marks line true (Paced node rate) old new)
+pace_drawn line node rate now old new a b m same overtake time within is mark pushes = (
+  mark_view m ∷ [],
+  (
+    paced_so in_marks line node rate old new (mark_view m ∷ []) same overtake time within
+        (ap (λ (x : Mark). x ∷ []) (mark ∙ ap (λ (n : ℕ). paced_mark n node rate) is)),
+    pushed a b m pushes,
+  ),
+)
+
+pub pace_not_drawn : (line node rate : ℕ) (f : PaceFault) (old new : WorldView) (a : List code.Mark) (went : Bool)
+    → (IsErrOf (the_pace_err f) pace_fault.NoSuchNode ↔ (slice_get old.nodes node ≡ None))
+    → (IsErrOf (the_pace_err f) pace_fault.BadPace → (rate + drift_of old.time.own < 1000000) ⊎ (1000000 + drift_of old.time.own < rate))
+    → new ≡ old → went ≡ false → AppendsMarks a a (Steps in_marks line went (Paced node rate) old new)
+pace_not_drawn line node rate f old new a went none beyond same is = (
+  [],
+  (
+    subst (λ (b : Bool). Steps in_marks line b (Paced node rate) old new []) (sym is) (not_paced in_marks line node rate f old new [] none beyond same refl),
     sym (append-nil (map mark_view a)),
   ),
 )

@@ -1,14 +1,14 @@
--- The copies of a world as a capture file, each at the moment of its sending.
-use Rattle.std.specs.Prelude.{ℕ, List, [], ◌∷◌, ◌++◌}
+-- The copies of a world as a capture file, each at the millisecond of its sending, where so many parts of a moment are a millisecond.
+use Rattle.std.specs.Prelude.{ℕ, ◌/◌, List, [], ◌∷◌, ◌++◌}
 use Rattle.bac_capture.specs.Records.{file_head, record_octets}
 use Rattle.bac_world.specs.World.{Copy}
 
-abbrev pub record_of : Copy → List ℕ
-record_of c = record_octets c.moment c.from c.to c.octets
+abbrev pub record_of : (parts : ℕ) → Copy → List ℕ
+record_of parts c = record_octets (c.moment / parts) c.from c.to c.octets
 
-abbrev pub records_of : List Copy → List ℕ
-records_of [] = []
-records_of (c ∷ copies) = record_of c ++ records_of copies
+abbrev pub records_of : (parts : ℕ) → List Copy → List ℕ
+records_of parts [] = []
+records_of parts (c ∷ copies) = record_of parts c ++ records_of parts copies
 
-abbrev pub capture_of : List Copy → List ℕ
-capture_of copies = file_head ++ records_of copies
+abbrev pub capture_of : (parts : ℕ) → List Copy → List ℕ
+capture_of parts copies = file_head ++ records_of parts copies

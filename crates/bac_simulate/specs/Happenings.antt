@@ -1,6 +1,7 @@
 -- What a script says is to happen, and which event that is in a world.
 use Rattle.std.specs.Prelude.{ℕ, ◌+◌, ◌*◌, List, Option}
 use Rattle.bac_apdu.specs.Apdu.{Limits}
+use Rattle.bac_npdu.specs.Peers.{PeerView}
 use Rattle.bac_service.specs.Values.{Request}
 use Rattle.bac_store.specs.AtNode as at_node
 use Rattle.bac_store.specs.Stores.{Store}
@@ -17,6 +18,9 @@ pub data Happening : Type 0 where
   Advance : (by : ℕ) → Happening
   Change : (node : ℕ) (change : at_node.Change) → Happening
   Restart : (node : ℕ) (store : Option Store) → Happening
+  -- octets of a stranger, from a link of no node, and an ask of one
+  Stranger : (node : ℕ) (from octets : List ℕ) → Happening
+  AskStranger : (client : ℕ) (peer : PeerView) (limits : Limits) (request : Request) → Happening
 
 -- at a moment: each clock goes on as its rate says, and one that begins anew begins where such a clock does
 abbrev pub event_at : Instant → Happening → world.Event
@@ -27,6 +31,8 @@ event_at t (Happening.Tick node) = world.Event.Tick node
 event_at t (Happening.Advance by) = world.Event.Advance (parts_of t.own * by) (steps_of t.own by)
 event_at t (Happening.Change node change) = world.Event.Change node change
 event_at t (Happening.Restart node store) = world.Event.Restart node (restart_at t.moment t.own) store
+event_at t (Happening.Stranger node from octets) = world.Event.Stray node from octets
+event_at t (Happening.AskStranger client peer limits request) = world.Event.AskAway client peer limits request
 
 -- the moment after it
 abbrev pub time_after : Happening → Instant → Instant

@@ -1,3 +1,4 @@
+pub mod Moments
 pub mod Captures
 pub mod Happenings
 pub mod Houses

@@ -1,9 +1,9 @@
 -- The lines of a script.
-use Rattle.std.specs.Prelude.{ℕ, ◌+◌, ◌*◌, nat_le, ◌&&◌, List, [], ◌∷◌, codes, if◌then◌else◌, Option, Some, None}
+use Rattle.std.specs.Prelude.{ℕ, ◌+◌, ◌-◌, ◌*◌, ◌/◌, ◌%◌, nat_le, ◌&&◌, List, [], ◌∷◌, ◌++◌, drop, codes, if◌then◌else◌, Option, Some, None}
 use Rattle.std.specs.Str.{bytes_eq}
 use Rattle.bac_value.specs.Value.{ObjectId}
 use Rattle.bac_service.specs.Values.{Request}
-use Rattle.bac_value_text.specs.Numbers.{◌>>=◌, number_of, number_up_to, octets_of}
+use Rattle.bac_value_text.specs.Numbers.{◌>>=◌, is_minus, number_of, number_up_to, octets_of, parts_at}
 use Rattle.bac_value_text.specs.Reading.{object_of, property_of}
 use Rattle.bac_simulate.specs.LineWords.{words_of}
 use Rattle.bac_service_text.specs.Dispatch.{request_of}
@@ -52,8 +52,46 @@ setting_of words = None
 abbrev pub setting_at : List ℕ → Option Setting
 setting_at line = setting_of (words_of line)
 
--- ---- the lines after it: ask CLIENT SERVER REQUEST, deliver COPY, lose COPY, noise NODE HEX, tick NODE, advance MILLISECONDS,
--- ---- set NODE OBJECT PROPERTY HEX, file NODE OBJECT HEX, restart NODE
+-- ---- words of strangers and clocks
+
+-- four octets of an address of IPv4, in decimal with dots between them
+unfoldable pub host_of : (word : List ℕ) → Option (List ℕ)
+host_of word = do
+  first ← parts_at 46 word
+  second ← parts_at 46 first.1
+  third ← parts_at 46 second.1
+  a ← number_up_to 255 first.0
+  b ← number_up_to 255 second.0
+  c ← number_up_to 255 third.0
+  d ← number_up_to 255 third.1
+  Some (a ∷ b ∷ c ∷ d ∷ [])
+
+-- a link: such an address, a colon, and a UDP port, of which the high octet stands first (clause J.1.2)
+unfoldable pub link_of : (word : List ℕ) → Option (List ℕ)
+link_of word = do
+  parts ← parts_at 58 word
+  host ← host_of parts.0
+  port ← number_up_to 65535 parts.1
+  Some (host ++ port / 256 ∷ port % 256 ∷ [])
+
+-- a clock that is fast or slow by so many parts in a million, up to 1,000: so many parts it goes on while a million of real time pass
+unfoldable pub fast_of : (digits : List ℕ) → Option ℕ
+fast_of digits = do
+  parts ← number_up_to 1000 digits
+  Some (1000000 + parts)
+
+unfoldable pub slow_of : (digits : List ℕ) → Option ℕ
+slow_of digits = do
+  number ← number_up_to 1000 digits
+  parts ← not_none number
+  Some (1000000 - parts)
+
+-- slow where a minus stands before the number
+abbrev pub rate_of : (word : List ℕ) → Option ℕ
+rate_of word = if is_minus word then slow_of (drop 1 word) else fast_of word
+
+-- ---- the lines after it: ask CLIENT SERVER REQUEST, ask CLIENT LINK REQUEST, deliver COPY, lose COPY, noise NODE HEX, stranger NODE LINK HEX, tick NODE,
+-- ---- advance MILLISECONDS, clock NODE MILLISECONDS, pace NODE PARTS, set NODE OBJECT PROPERTY HEX, file NODE OBJECT HEX, restart NODE
 
 pub data Statement : Type 0 where
   Ask : (client server : ℕ) (request : Request) → Statement
@@ -65,13 +103,53 @@ pub data Statement : Type 0 where
   SetProperty : (node : ℕ) (object : ObjectId) (property : ℕ) (octets : List ℕ) → Statement
   SetFile : (node : ℕ) (object : ObjectId) (octets : List ℕ) → Statement
   Restart : (node : ℕ) → Statement
+  -- a node asks a stranger, and octets of a stranger come to a node
+  AskStranger : (client : ℕ) (link : List ℕ) (request : Request) → Statement
+  Stranger : (node : ℕ) (link octets : List ℕ) → Statement
+  -- a node's clock begins at so many milliseconds, and goes on by so many parts while a million of real time pass
+  Clock : (node start : ℕ) → Statement
+  Pace : (node rate : ℕ) → Statement
 
-unfoldable pub ask_of : (client server : List ℕ) → (request : List (List ℕ)) → Option Statement
-ask_of client server request = do
+unfoldable pub ask_node_of : (client server : List ℕ) → (request : List (List ℕ)) → Option Statement
+ask_node_of client server request = do
   client ← number_of client
   server ← number_of server
   request ← request_of request
   Some (Ask client server request)
+
+unfoldable pub ask_stranger_of : (client link : List ℕ) → (request : List (List ℕ)) → Option Statement
+ask_stranger_of client link request = do
+  client ← number_of client
+  request ← request_of request
+  Some (AskStranger client link request)
+
+-- a stranger where the word is a link, and a node otherwise
+abbrev pub ask_by : (link : Option (List ℕ)) → (client server : List ℕ) → (request : List (List ℕ)) → Option Statement
+ask_by None client server request = ask_node_of client server request
+ask_by (Some link) client server request = ask_stranger_of client link request
+
+abbrev pub ask_of : (client server : List ℕ) → (request : List (List ℕ)) → Option Statement
+ask_of client server request = ask_by (link_of server) client server request
+
+unfoldable pub stranger_of : (node link octets : List ℕ) → Option Statement
+stranger_of node link octets = do
+  node ← number_of node
+  link ← link_of link
+  octets ← octets_of octets
+  Some (Stranger node link octets)
+
+-- a start of 32 bits
+unfoldable pub clock_of : (node start : List ℕ) → Option Statement
+clock_of node start = do
+  node ← number_of node
+  start ← number_up_to 4294967295 start
+  Some (Clock node start)
+
+unfoldable pub pace_of : (node parts : List ℕ) → Option Statement
+pace_of node parts = do
+  node ← number_of node
+  rate ← rate_of parts
+  Some (Pace node rate)
 
 unfoldable pub noise_of : (node octets : List ℕ) → Option Statement
 noise_of node octets = do
@@ -96,12 +174,27 @@ set_file_of node object octets = do
   octets ← octets_of octets
   Some (SetFile node object octets)
 
--- a change of a node's own store, by the words after the object
+-- octets that come to a node, or go into a file of its own store
+abbrev pub with_octets : (word node place octets : List ℕ) → Option Statement
+with_octets word node place octets =
+    if bytes_eq word (codes "file") then set_file_of node place octets
+    else (if bytes_eq word (codes "stranger") then stranger_of node place octets
+    else None)
+
+-- a change of a node's own store, or octets of a stranger, by the words after the object or the link
 abbrev pub change_of : (word node object : List ℕ) → List (List ℕ) → Option Statement
 change_of word node object [] = None
-change_of word node object (octets ∷ []) = if bytes_eq word (codes "file") then set_file_of node object octets else None
+change_of word node object (octets ∷ []) = with_octets word node object octets
 change_of word node object (property ∷ octets ∷ []) = if bytes_eq word (codes "set") then set_property_of node object property octets else None
 change_of word node object (a ∷ b ∷ c ∷ words) = None
+
+-- a node, and one word more
+abbrev pub of_node : (word node more : List ℕ) → Option Statement
+of_node word node more =
+    if bytes_eq word (codes "noise") then noise_of node more
+    else (if bytes_eq word (codes "clock") then clock_of node more
+    else (if bytes_eq word (codes "pace") then pace_of node more
+    else None))
 
 -- a word and a number
 unfoldable pub numbered : (word number : List ℕ) → Option Statement
@@ -116,7 +209,7 @@ numbered word number = do
 
 abbrev pub statement_of : List (List ℕ) → Option Statement
 statement_of (word ∷ number ∷ []) = numbered word number
-statement_of (word ∷ a ∷ b ∷ []) = if bytes_eq word (codes "noise") then noise_of a b else None
+statement_of (word ∷ a ∷ b ∷ []) = of_node word a b
 statement_of (word ∷ a ∷ b ∷ c ∷ more) = if bytes_eq word (codes "ask") then ask_of a b (c ∷ more) else change_of word a b (c ∷ more)
 statement_of words = None
 

@@ -1,5 +1,7 @@
 -- What is printed of an event in a network of nodes.
-use Rattle.std.specs.Prelude.{ℕ, codes, decimal, ◌+◌, Bool, true, false, ◌&&◌, nat_eq, List, [], ◌∷◌, ◌++◌, length, drop, reverse, Option, Some, None, slice_get}
+use Rattle.std.specs.Prelude.{ℕ, codes, decimal, ◌+◌, ◌-◌, Bool, true, false, ◌&&◌, nat_eq, nat_le, if◌then◌else◌, List, [], ◌∷◌, ◌++◌, length, drop}
+use Rattle.std.specs.Prelude.{reverse, Option, Some, None, slice_get}
+use Rattle.bac_npdu.specs.Peers.{PeerView}
 use Rattle.bac_requester.specs.Faults.{ask_fault_number}
 use Rattle.bac_requester.specs.declared.ask_fault.AskFault.{AskFault}
 use Rattle.bac_world.specs.Once.{Fact}
@@ -7,6 +9,9 @@ use Rattle.bac_world.specs.Once.Fact.{Asked, Performed, Ended, Changed, Restarte
 use Rattle.bac_world.specs.World.{Copy, Note}
 use Rattle.bac_network.specs.Histories.{WorldView}
 use Rattle.bac_commands.specs.Facts.{asked_line, changed_line, ended_line, nothing_line, performed_line, refused_line, sent_line}
+use Rattle.bac_service.specs.Replies.{Reply}
+use Rattle.bac_service_text.specs.Answers.{reply_text}
+use Rattle.bac_text.specs.Peers.{peer_text}
 use Rattle.bac_text.specs.Texts.{line_end}
 
 -- a node restarted
@@ -18,16 +23,27 @@ abbrev pub asked_text : (ask : ℕ) → Option Note → List ℕ
 asked_text ask None = []
 asked_text ask (Some note) = asked_line ask note.key.invoke_id
 
--- a fact, where these notes are of the accepted asks, oldest first; nothing is printed of strangers
+-- a request of a stranger was performed at a node, with that reply
+abbrev pub served_head : (node : ℕ) → PeerView → List ℕ
+served_head node peer = codes "served " ++ (decimal node ++ (codes " " ++ (peer_text peer ++ codes ": ")))
+
+abbrev pub served_line : (node : ℕ) → PeerView → Reply → List ℕ
+served_line node peer reply = served_head node peer ++ (reply_text reply ++ line_end)
+
+-- an ask of a stranger was accepted
+abbrev pub asked_away_line : (ask : ℕ) → PeerView → List ℕ
+asked_away_line ask peer = codes "asked " ++ (decimal ask ++ (codes " " ++ (peer_text peer ++ line_end)))
+
+-- a fact, where these notes are of the accepted asks, oldest first
 abbrev pub fact_text : List Note → Fact → List ℕ
 fact_text notes (Asked ask client server request) = asked_text ask (slice_get notes ask)
 fact_text notes (Performed ask request reply) = performed_line ask
 fact_text notes (Ended ask how) = ended_line ask how
 fact_text notes (Changed node change) = changed_line node
 fact_text notes (Restarted node store) = restarted_line node
-fact_text notes (Served peer node invoke_id begin request reply) = []
-fact_text notes (AskedAway ask client peer request) = []
-fact_text notes (EndedAway ask how) = []
+fact_text notes (Served peer node invoke_id begin request reply) = served_line node peer reply
+fact_text notes (AskedAway ask client peer request) = asked_away_line ask peer
+fact_text notes (EndedAway ask how) = ended_line ask how
 
 abbrev pub facts_text : List Note → List Fact → List ℕ
 facts_text notes [] = []
@@ -50,6 +66,14 @@ news_text false facts copies w = facts_text (reverse w.notes) (drop facts (rever
 -- a copy that counts as lost
 abbrev pub lost_line : (copy : ℕ) → List ℕ
 lost_line copy = (codes "lost " ++ decimal copy) ++ line_end
+
+-- by how many parts in a million a clock is fast, or slow after a minus, which goes on by so many while a million of real time pass
+abbrev pub pace_text : (rate : ℕ) → List ℕ
+pace_text rate = if nat_le 1000000 rate then decimal (rate - 1000000) else codes "-" ++ decimal (1000000 - rate)
+
+-- from now on a node's clock goes so fast
+abbrev pub paced_line : (node rate : ℕ) → List ℕ
+paced_line node rate = (codes "paced " ++ (decimal node ++ codes " ")) ++ (pace_text rate ++ line_end)
 
 -- a refused ask, by the number of its fault; or what is new in a world that had so many facts and copies
 abbrev pub outcome_text : Option AskFault → (facts copies : ℕ) → WorldView → List ℕ

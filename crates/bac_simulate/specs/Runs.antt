@@ -1,11 +1,14 @@
 -- What is printed of a script's events, one after the other, and the status.
-use Rattle.std.specs.Prelude.{◌≡◌, ◌<◌, ◌≤◌, ◌⊎◌, ℕ, ◌+◌, Bool, true, false, List, [], ◌∷◌, ◌++◌, length, ⊤, Option, Some, None, Result, Ok, Err}
+use Rattle.std.specs.Prelude.{◌≡◌, ◌<◌, ◌≤◌, ◌⊎◌, ℕ, ◌+◌, Bool, true, false, List, [], ◌∷◌, ◌++◌, length, ⊤, Option, Some, None, Result, Ok, Err, slice_get}
 use Rattle.std.specs.Io.KnownBytes.{Keeps}
 use Rattle.bac_requester.specs.declared.ask_fault.AskFault.{AskFault}
+use Rattle.bac_journal.specs.Clocks.{drift_of, paced}
 use Rattle.bac_world.specs.World.{WorldStep}
 use Rattle.bac_network.specs.Faults.{fault_number}
 use Rattle.bac_network.specs.Histories.{WorldView, as_world}
 use Rattle.bac_network.specs.Steps.{IsFault, RefusesChange, Tells}
+use Rattle.bac_network.specs.declared.fault.PaceFault.{PaceFault}
+use Rattle.bac_network.specs.declared.fault.PaceFault.TheVariants as pace_fault
 use Rattle.bac_network.specs.declared.fault.WorldFault.{WorldFault}
 use Rattle.bac_network.specs.declared.fault.WorldFault.TheVariants as world_fault
 use Rattle.bac_store.specs.AtNode.{change_fault_number}
@@ -17,20 +20,21 @@ use Rattle.bac_text.specs.Texts.{AppendsText}
 use Rattle.bac_text.specs.declared.status.Status.{Status}
 use Rattle.bac_text.specs.declared.status.Status.TheVariants as status
 use Rattle.bac_simulate.specs.Happenings.{Happening, event_at, time_after}
-use Rattle.bac_simulate.specs.Houses.{world_set}
-use Rattle.bac_simulate.specs.Scripts.{Script, ScriptLine, Happens, Lost, Note, limits_in, said_from, script_of}
-use Rattle.bac_simulate.specs.Printed.{lost_line, outcome_text}
+use Rattle.bac_simulate.specs.Houses.{script_world}
+use Rattle.bac_simulate.specs.Scripts.{Script, ScriptLine, Happens, Lost, Note, Began, Paced, limits_in, said_from, script_of}
+use Rattle.bac_simulate.specs.Printed.{lost_line, outcome_text, paced_line}
 use Rattle.bac_simulate.specs.declared.script.ScriptFault.{ScriptFault}
 use Rattle.bac_simulate.specs.declared.script.ScriptFault.TheVariants as fault
 
 -- ---- events
 
--- which lists say what comes of a line: of an event that happens, of a change that its node's store refuses, of a copy that counts as lost, and of a fault that
--- ends the script at a line
+-- which lists say what comes of a line: of an event that happens, of a change that its node's store refuses, of a copy that counts as lost, of a clock that
+-- goes so fast from then on, and of a fault that ends the script at a line
 pub record Printing (A : Type 0) : Type 1 where
   pub went : Option AskFault → Happening → (old new : WorldView) → List A → Type 0
   pub refused : ChangeFault → Happening → (old : WorldView) → List A → Type 0
   pub lost : (old : WorldView) → (copy : ℕ) → List A → Type 0
+  pub clock : (old : WorldView) → (node rate : ℕ) → List A → Type 0
   pub ended : (line fault : ℕ) → List A → Type 0
 
 -- an event happened, and this is printed of it
@@ -55,16 +59,35 @@ pub record CountedLost {A : Type 0} (t : Printing A) (copy : ℕ) (old new : Wor
   pub same : new ≡ old
   pub is : t.lost old copy said
 
+-- that node's clock began so, with the script: nothing is printed of it, and nothing changed
+pub record ClockBegan {A : Type 0} (node : ℕ) (old new : WorldView) (said : List A) : Type 0 where
+  pub there : node < length old.nodes
+  pub same : new ≡ old
+  pub is : said ≡ []
+
+-- from now on that node's clock goes on by so many parts while a million of real time pass, within the pace of the world's clocks: that is printed, and nothing
+-- else changed
+pub record WasPaced {A : Type 0} (t : Printing A) (node rate : ℕ) (old new : WorldView) (said : List A) : Type 0 where
+  pub slow : 1000000 ≤ rate + drift_of old.time.own
+  pub fast : rate ≤ 1000000 + drift_of old.time.own
+  pub same : as_world new ≡ as_world old
+  pub overtake : new.overtake ≡ old.overtake
+  pub time : new.time ≡ record (old.time) { own = paced node rate old.time.own }
+  pub is : t.clock old node rate said
+
 -- the script goes on after the line
 abbrev pub Passed : {A : Type 0} → Printing A → ScriptLine → (old new : WorldView) → List A → Type 0
 Passed t (Happens event) old new said = Happened t event old new said ⊎ TurnedDown t event old new said
 Passed t (Lost copy) old new said = CountedLost t copy old new said
 Passed t Note old new said = (new ≡ old) × (said ≡ [])
+Passed t (Began node start) old new said = ClockBegan node old new said
+Passed t (Paced node rate) old new said = WasPaced t node rate old new said
 
 -- the fault of a change; any other ends a script
 abbrev pub change_fault_in : WorldFault → Option ChangeFault
 change_fault_in world_fault.NoSuchNode = None
 change_fault_in world_fault.NoSuchDatagram = None
+change_fault_in world_fault.NodeLink = None
 change_fault_in world_fault.ClockEnd = None
 change_fault_in (world_fault.BadChange why) = Some why
 change_fault_in world_fault.NoMemory = None
@@ -83,11 +106,36 @@ pub record NotSent {A : Type 0} (t : Printing A) (line copy : ℕ) (old new : Wo
   pub same : new ≡ old
   pub is : t.ended line (fault_number world_fault.NoSuchDatagram) said
 
+-- there is no such node whose clock could begin
+pub record HasNoClock {A : Type 0} (t : Printing A) (line node : ℕ) (old new : WorldView) (said : List A) : Type 0 where
+  pub none : length old.nodes ≤ node
+  pub same : new ≡ old
+  pub is : t.ended line (fault_number world_fault.NoSuchNode) said
+
+-- the number of the fault of a clock that keeps its pace
+abbrev pub pace_fault_number : PaceFault → ℕ
+pace_fault_number pace_fault.NoSuchNode = 1
+pace_fault_number pace_fault.BadPace = 11
+
+-- there is no such node, or its clock would go faster or slower than the world's clocks may
+abbrev pub IsPaceFault : PaceFault → (node rate : ℕ) → WorldView → Type 0
+IsPaceFault pace_fault.NoSuchNode node rate w = slice_get w.nodes node ≡ None
+IsPaceFault pace_fault.BadPace node rate w = (rate + drift_of w.time.own < 1000000) ⊎ (1000000 + drift_of w.time.own < rate)
+
+-- the clock goes on as it did, nothing changed, and the number of the fault is printed
+pub record NotPaced {A : Type 0} (t : Printing A) (line node rate : ℕ) (old new : WorldView) (said : List A) : Type 0 where
+  pub fault : PaceFault
+  pub why : IsPaceFault fault node rate old
+  pub same : new ≡ old
+  pub is : t.ended line (pace_fault_number fault) said
+
 -- the script ends at that line
 abbrev pub Stopped : {A : Type 0} → Printing A → (line : ℕ) → ScriptLine → (old new : WorldView) → List A → Type 0
 Stopped t line (Happens event) old new said = Failed t line event old new said
 Stopped t line (Lost copy) old new said = NotSent t line copy old new said
 Stopped t line Note old new said = ⊥
+Stopped t line (Began node start) old new said = HasNoClock t line node old new said
+Stopped t line (Paced node rate) old new said = NotPaced t line node rate old new said
 
 abbrev pub Steps : {A : Type 0} → Printing A → (line : ℕ) → (passed : Bool) → ScriptLine → (old new : WorldView) → List A → Type 0
 Steps t line true said old new told = Passed t said old new told
@@ -111,6 +159,7 @@ in_text =
       went = λ told event old new text. text ≡ outcome_text told (length old.log) (length old.copies) new;
       refused = λ why event old text. text ≡ refused_line (change_fault_number why);
       lost = λ old copy text. text ≡ lost_line copy;
+      clock = λ old node rate text. text ≡ paced_line node rate;
       ended = λ line fault text. text ≡ fault_line line fault;
     }
 
@@ -124,7 +173,7 @@ IsRun line lines all old new text = Runs in_text line lines all old new text
 
 -- the events of a script happened in the network that it sets, and that was printed
 abbrev pub Ran : Script → (all : Bool) → (old new : Option (List ℕ)) → Type 0
-Ran s all old new = (last : WorldView) × AppendsText old new (IsRun s.first s.lines all (world_set s.setting) last)
+Ran s all old new = (last : WorldView) × AppendsText old new (IsRun s.first s.lines all (script_world s.setting s.lines) last)
 
 abbrev pub status_of : (all : Bool) → Status
 status_of true = status.Done
@@ -169,7 +218,7 @@ Goes line (Err bad) first last old new status.Memory = Keeps old new × (last �
 
 -- of the octets of lines that are counted from 1
 abbrev pub SimulatesIn : (text : List ℕ) → (first last : WorldView) → (old new : Option (List ℕ)) → Status → Type 0
-SimulatesIn text first last old new end = Goes 1 (said_from false (limits_in first.nodes) 1 (lines_of text)) first last old new end
+SimulatesIn text first last old new end = Goes 1 (said_from false false (limits_in first.nodes) 1 (lines_of text)) first last old new end
 
 -- the input could not be read
 abbrev pub IsUnread : Status → Type 0

@@ -1,5 +1,6 @@
 -- What is drawn of what comes of a script's lines.
-use Rattle.std.specs.Prelude.{◌≡◌, ℕ, codes, decimal, ◌+◌, Bool, true, false, List, [], ◌∷◌, ◌++◌, length, map, drop, reverse, Option, Some, None, slice_get}
+use Rattle.std.specs.Prelude.{◌≡◌, ℕ, codes, decimal, ◌+◌, ◌/◌, Bool, true, false, List, [], ◌∷◌, ◌++◌, length, map, drop, reverse, Option, Some, None}
+use Rattle.std.specs.Prelude.{slice_get}
 use Rattle.std.specs.Option.{option_map}
 use Rattle.bac_chart.specs.Labels.{datagram_words}
 use Rattle.bac_chart.specs.Marks as marks
@@ -9,6 +10,7 @@ use Rattle.bac_chart.specs.declared.mark.Mark as code
 use Rattle.bac_commands.specs.Facts.{ending_text}
 use Rattle.bac_transaction.specs.Meanings.{Ending}
 use Rattle.bac_journal.specs.Clocks.{pace_of}
+use Rattle.bac_npdu.specs.Peers.{PeerView}
 use Rattle.bac_network.specs.Histories.{WorldView}
 use Rattle.bac_requester.specs.Faults.{ask_fault_number}
 use Rattle.bac_requester.specs.declared.ask_fault.AskFault.{AskFault}
@@ -18,25 +20,29 @@ use Rattle.bac_world.specs.Once.{Fact}
 use Rattle.bac_world.specs.Once.Fact.{Asked, Performed, Ended, Changed, Restarted, Served, AskedAway, EndedAway}
 use Rattle.bac_world.specs.World.{Copy, Note, is_deliverable}
 use Rattle.bac_simulate.specs.Happenings.{Happening}
-use Rattle.bac_simulate.specs.Happenings.Happening.{Ask, Deliver, Noise, Tick, Advance, Change, Restart}
+use Rattle.bac_simulate.specs.Happenings.Happening.{Ask, Deliver, Noise, Tick, Advance, Change, Restart, Stranger, AskStranger}
+use Rattle.bac_simulate.specs.Moments.{ms_now, parts_in}
+use Rattle.bac_simulate.specs.Printed.{pace_text}
+use Rattle.bac_text.specs.Peers.{link_text, peer_text}
 
 -- ---- copies
 
-abbrev pub arrow_of : (number : ℕ) → Copy → marks.Arrow
-arrow_of number c = record { number = number; sent = c.moment; from = c.from; to = c.to; words = datagram_words c.octets }
+-- where so many parts of a moment are a millisecond
+abbrev pub arrow_of : (parts number : ℕ) → Copy → marks.Arrow
+arrow_of parts number c = record { number = number; sent = c.moment / parts; from = c.from; to = c.to; words = datagram_words c.octets }
 
 -- copies that were sent, numbered from this number on
-abbrev pub sent_marks : (number : ℕ) → List Copy → List Mark
-sent_marks number [] = []
-sent_marks number (c ∷ copies) = marks.Sent (arrow_of number c) ∷ sent_marks (number + 1) copies
+abbrev pub sent_marks : (parts number : ℕ) → List Copy → List Mark
+sent_marks parts number [] = []
+sent_marks parts number (c ∷ copies) = marks.Sent (arrow_of parts number c) ∷ sent_marks parts (number + 1) copies
 
 abbrev pub late_words : (number : ℕ) → List ℕ
 late_words number = decimal number ++ codes " comes too late"
 
 -- a copy comes to its node, or is too late for that
-abbrev pub coming_mark : (is_deliverable : Bool) → (now number : ℕ) → Copy → Mark
-coming_mark true now number c = marks.Came now (arrow_of number c)
-coming_mark false now number c = marks.Note now c.to (late_words number)
+abbrev pub coming_mark : (is_deliverable : Bool) → (parts now number : ℕ) → Copy → Mark
+coming_mark true parts now number c = marks.Came now (arrow_of parts number c)
+coming_mark false parts now number c = marks.Note now c.to (late_words number)
 
 -- how long a copy may be under way, as moments are counted
 abbrev pub life_in : WorldView → ℕ
@@ -45,17 +51,23 @@ life_in w = (pace_of w.time.own).life
 abbrev pub delivered_mark : WorldView → (number : ℕ) → Option Copy → Option Mark
 delivered_mark w number None = None
 delivered_mark w number (Some c) =
-    Some (coming_mark (is_deliverable w.overtake (life_in w) w.time.moment number w.copies c) w.time.moment number c)
+    Some (coming_mark (is_deliverable w.overtake (life_in w) w.time.moment number w.copies c) (parts_in w) (ms_now w) number c)
+
+-- octets of a stranger: from which link, and what they are
+abbrev pub stranger_words : (from octets : List ℕ) → List ℕ
+stranger_words from octets = (codes "from " ++ (link_text from ++ codes " ")) ++ datagram_words octets
 
 -- what comes to a node in an event
 abbrev pub coming_in : WorldView → Happening → Option Mark
 coming_in w (Ask client server limits request) = None
 coming_in w (Deliver number) = delivered_mark w number (slice_get w.copies number)
-coming_in w (Noise node from octets) = Some (marks.Note w.time.moment node (codes "noise"))
+coming_in w (Noise node from octets) = Some (marks.Note (ms_now w) node (codes "noise"))
 coming_in w (Tick node) = None
 coming_in w (Advance by) = None
 coming_in w (Change node change) = None
 coming_in w (Restart node store) = None
+coming_in w (Stranger node from octets) = Some (marks.Note (ms_now w) node (stranger_words from octets))
+coming_in w (AskStranger client peer limits request) = None
 
 -- ---- facts
 
@@ -74,16 +86,23 @@ abbrev pub ended_mark : (now ask : ℕ) → Ending → (client : Option ℕ) →
 ended_mark now ask how None = None
 ended_mark now ask how (Some client) = Some (marks.Note now client (ended_words ask how))
 
--- a fact, where these notes are of the accepted asks, oldest first; strangers are not drawn
+-- a request of a stranger was performed, and a stranger was asked
+abbrev pub served_words : PeerView → List ℕ
+served_words peer = codes "served " ++ peer_text peer
+
+abbrev pub asked_away_words : (ask : ℕ) → PeerView → List ℕ
+asked_away_words ask peer = codes "asked " ++ (decimal ask ++ (codes " " ++ peer_text peer))
+
+-- a fact, where these notes are of the accepted asks, oldest first
 abbrev pub fact_mark : (now : ℕ) → List Note → Fact → Option Mark
 fact_mark now notes (Asked ask client server request) = Some (marks.Note now client (codes "asked " ++ decimal ask))
 fact_mark now notes (Performed ask request reply) = performed_mark now ask (slice_get notes ask)
 fact_mark now notes (Ended ask how) = ended_mark now ask how (client_in notes ask)
 fact_mark now notes (Changed node change) = Some (marks.Note now node (codes "changed"))
 fact_mark now notes (Restarted node store) = Some (marks.Note now node (codes "restarted"))
-fact_mark now notes (Served peer node invoke_id begin request reply) = None
-fact_mark now notes (AskedAway ask client peer request) = None
-fact_mark now notes (EndedAway ask how) = None
+fact_mark now notes (Served peer node invoke_id begin request reply) = Some (marks.Note now node (served_words peer))
+fact_mark now notes (AskedAway ask client peer request) = Some (marks.Note now client (asked_away_words ask peer))
+fact_mark now notes (EndedAway ask how) = ended_mark now ask how (client_in notes ask)
 
 abbrev pub optional_marks : Option Mark → List Mark
 optional_marks None = []
@@ -98,7 +117,7 @@ facts_marks now notes (f ∷ facts) = optional_marks (fact_mark now notes f) ++ 
 -- the facts after so many, oldest first, and then the copies after so many
 abbrev pub news_marks : (facts copies : ℕ) → WorldView → List Mark
 news_marks facts copies w =
-    facts_marks w.time.moment (reverse w.notes) (drop facts (reverse w.log)) ++ sent_marks copies (drop copies w.copies)
+    facts_marks (ms_now w) (reverse w.notes) (drop facts (reverse w.log)) ++ sent_marks (parts_in w) copies (drop copies w.copies)
 
 -- the node at which an event is refused
 abbrev pub place_of : Happening → ℕ
@@ -109,18 +128,24 @@ place_of (Tick node) = node
 place_of (Advance by) = 0
 place_of (Change node change) = node
 place_of (Restart node store) = node
+place_of (Stranger node from octets) = node
+place_of (AskStranger client peer limits request) = client
 
 abbrev pub refused_mark : (now : ℕ) → Happening → (fault : ℕ) → Mark
 refused_mark now event fault = marks.Note now (place_of event) (codes "refused " ++ decimal fault)
 
 -- what comes to a node, and what is new; or the number of a refused ask's fault
 abbrev pub event_marks : Option AskFault → Happening → (old new : WorldView) → List Mark
-event_marks (Some fault) event old new = refused_mark old.time.moment event (ask_fault_number fault) ∷ []
+event_marks (Some fault) event old new = refused_mark (ms_now old) event (ask_fault_number fault) ∷ []
 event_marks None event old new =
     optional_marks (coming_in old event) ++ news_marks (length old.log) (length old.copies) new
 
 abbrev pub change_marks : ChangeFault → Happening → WorldView → List Mark
-change_marks why event old = refused_mark old.time.moment event (change_fault_number why) ∷ []
+change_marks why event old = refused_mark (ms_now old) event (change_fault_number why) ∷ []
+
+-- a clock that goes so fast from then on
+abbrev pub paced_mark : (now node rate : ℕ) → Mark
+paced_mark now node rate = marks.Note now node (codes "pace " ++ pace_text rate)
 
 -- ---- lists of marks
 

@@ -1,5 +1,6 @@
 -- From each type in code to its plain value.
 use Rattle.bac_apdu.specs.Views.{limits_view}
+use Rattle.bac_npdu.specs.Views.{peer_view}
 use Rattle.bac_network.specs.declared.event.Event.{Event}
 use Rattle.bac_network.specs.declared.event.Event.TheVariants as event
 use Rattle.bac_simulate.specs.Happenings.{Happening}
@@ -22,11 +23,16 @@ happening_view (event.Tick node) = Happening.Tick node
 happening_view (event.Advance by) = Happening.Advance by
 happening_view (event.Change node change) = Happening.Change node (change_view change)
 happening_view (event.Restart node store) = Happening.Restart node store
+happening_view (event.Stranger node from octets) = Happening.Stranger node from octets.items
+happening_view (event.AskStranger node peer limits request) =
+    Happening.AskStranger node (peer_view peer) (limits_view limits) (owned_request_view request)
 
 abbrev pub line_view : ScriptLine → plain.ScriptLine
 line_view (code.Happens event) = plain.ScriptLine.Happens (happening_view event)
 line_view (code.Lost copy) = plain.ScriptLine.Lost copy
 line_view code.Note = plain.ScriptLine.Note
+line_view (code.Began clock) = plain.ScriptLine.Began clock.node clock.start
+line_view (code.Paced clock) = plain.ScriptLine.Paced clock.node clock.rate
 
 abbrev pub setting_view : Setting → plain_line.Setting
 setting_view s = record { nodes = s.nodes; window = s.window; overtake = s.overtake }
@@ -41,3 +47,7 @@ statement_view (step.Advance by) = plain_line.Statement.Advance by
 statement_view (step.SetProperty s) = plain_line.Statement.SetProperty s.node (object_identifier_view s.object) s.property s.octets.items
 statement_view (step.SetFile s) = plain_line.Statement.SetFile s.node (object_identifier_view s.object) s.octets.items
 statement_view (step.Restart node) = plain_line.Statement.Restart node
+statement_view (step.AskStranger a) = plain_line.Statement.AskStranger a.client a.link (owned_request_view a.request)
+statement_view (step.Stranger s) = plain_line.Statement.Stranger s.node s.link s.octets.items
+statement_view (step.Clock c) = plain_line.Statement.Clock c.node c.start
+statement_view (step.Pace p) = plain_line.Statement.Pace p.node p.rate

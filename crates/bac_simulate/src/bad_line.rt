@@ -1,8 +1,10 @@
 //! What is printed in words of a line that is none of a script.
+use crate::clock_words::rate_in;
+use crate::link_words::link_in;
 use crate::script::next_line;
 use bac_service_text::bad_word;
 use bac_text::read_of;
-use bac_value_text::parts_at;
+use bac_value_text::{number_in, number_up_to, parts_at};
 use std::alloc::{AllocError, Global};
 use std::io::Write;
 
@@ -32,18 +34,73 @@ fn words_in(alloc: Global, line: &[u8]) -> Result<Vec<&[u8]>, AllocError> {
     Ok(words)
 }
 
-/// Which word of what a line asks is bad, and what was wanted; None where it asks nothing, or each word of that is right alone.
-fn bad_word_text(alloc: Global, line: &[u8]) -> Result<Option<Vec<u8>>, AllocError> {
-    let words = words_in(alloc, line)?;
-    let [verb, _, _, request @ ..] = words.as_slice() else {
-        return Ok(None);
-    };
-    if *verb != b"ask".as_slice() {
-        return Ok(None);
+/// The text of the fault of a word.
+fn word_text(alloc: Global, role: &str, word: &[u8], fault: &str) -> Result<Vec<u8>, AllocError> {
+    let mut text = format!(in alloc; "{role} \"")?.into_bytes();
+    text.extend_from_slice(word)?;
+    text.extend_from_slice(b"\" ")?;
+    text.extend_from_slice(fault.as_bytes())?;
+    Ok(text)
+}
+
+/// What is wrong with a word that is to be a link; None where it is one.
+fn link_text(alloc: Global, word: &[u8]) -> Result<Option<Vec<u8>>, AllocError> {
+    match link_in(word) {
+        Some(_) => Ok(None),
+        None => {
+            let fault = "is no address of IPv4 and UDP port, as 192.168.1.20:47808";
+            Ok(Some(word_text(alloc, "link", word, fault)?))
+        }
+    }
+}
+
+/// What is wrong with what a line asks: with the link of a stranger, which has a colon, or with a word of the request.
+fn asked_text(
+    alloc: Global,
+    server: &[u8],
+    request: &[&[u8]],
+) -> Result<Option<Vec<u8>>, AllocError> {
+    if parts_at(b':', server).is_some() && link_in(server).is_none() {
+        return link_text(alloc, server);
     }
     match bad_word(alloc, request)? {
         Some(bad) => Ok(Some(bad.text(alloc)?)),
         None => Ok(None),
+    }
+}
+
+/// What is wrong with a clock's start, or with where its line stands.
+fn clock_text(alloc: Global, start: &[u8]) -> Result<Option<Vec<u8>>, AllocError> {
+    match number_up_to(4_294_967_295, start) {
+        Some(_) => {
+            let late = Vec::from_slice(alloc, b"clocks begin before the first event")?;
+            Ok(Some(late))
+        }
+        None => Ok(Some(word_text(alloc, "start", start, "is no number of 32 bits")?)),
+    }
+}
+
+/// What is wrong with how fast a clock is to be.
+fn pace_text(alloc: Global, parts: &[u8]) -> Result<Option<Vec<u8>>, AllocError> {
+    match rate_in(parts) {
+        Some(_) => Ok(None),
+        None => Ok(Some(word_text(alloc, "pace", parts, "is no number from -1000 to 1000")?)),
+    }
+}
+
+/// What is wrong with a line, where that is more than that it has no form: which word is bad, and what was wanted.
+fn bad_word_text(alloc: Global, line: &[u8]) -> Result<Option<Vec<u8>>, AllocError> {
+    let words = words_in(alloc, line)?;
+    match words.as_slice() {
+        [verb, node, start] if *verb == b"clock".as_slice() && number_in(*node).is_some() => {
+            clock_text(alloc, *start)
+        }
+        [verb, _, parts] if *verb == b"pace".as_slice() => pace_text(alloc, *parts),
+        [verb, _, link, _] if *verb == b"stranger".as_slice() => link_text(alloc, *link),
+        [verb, _, server, request @ ..] if *verb == b"ask".as_slice() => {
+            asked_text(alloc, *server, request)
+        }
+        _ => Ok(None),
     }
 }
 

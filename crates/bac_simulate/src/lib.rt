@@ -3,14 +3,18 @@
 
 mod bad_line;
 mod capture;
+mod clock_words;
 mod line;
 mod line_reading;
 mod line_words;
+mod link_words;
 mod marks;
+mod moments;
 mod nothing;
 mod printing;
 mod read_script;
 mod script;
+mod script_reading;
 mod simulate;
 mod trace;
 mod view;
@@ -18,7 +22,10 @@ mod wording;
 mod words;
 mod world_of;
 
-pub use line::{Ask, Noise, SetFile, SetProperty, Setting, Statement};
+pub use line::{
+    Ask, AskStranger, ClockPace, ClockStart, Noise, SetFile, SetProperty, Setting, Statement,
+    Stranger,
+};
 pub use line_reading::{read_setting, read_statement};
 pub use simulate::{simulate_in, simulate_lines_over, simulate_over};
 pub use view::{View, show_over};

@@ -1,4 +1,5 @@
 //! What the lines of a script say.
+use bac_npdu::LinkAddress;
 use bac_service::OwnedRequest;
 use bac_value::ObjectIdentifier;
 
@@ -31,6 +32,46 @@ pub struct Noise {
     pub node: u64,
     /// The octets.
     pub octets: Vec<u8>,
+}
+
+/// A node is to ask a stranger.
+#[derive(Debug, Drop)]
+pub struct AskStranger {
+    /// The number of the node that asks, from 0 on.
+    pub client: u64,
+    /// The stranger's link: four octets of IPv4 address and two of UDP port (clause J.1.2).
+    pub link: LinkAddress,
+    /// What it is asked.
+    pub request: OwnedRequest,
+}
+
+/// Octets of a stranger come to a node.
+#[derive(Debug, Drop)]
+pub struct Stranger {
+    /// The number of the node.
+    pub node: u64,
+    /// The stranger's link: four octets of IPv4 address and two of UDP port (clause J.1.2).
+    pub link: LinkAddress,
+    /// The octets.
+    pub octets: Vec<u8>,
+}
+
+/// A node's clock begins.
+#[derive(Clone, Copy, Debug, PartialEq, Eq)]
+pub struct ClockStart {
+    /// The number of the node.
+    pub node: u64,
+    /// What its clock shows at the run's first moment, in milliseconds.
+    pub start: u32,
+}
+
+/// A node's clock is to be fast or slow.
+#[derive(Clone, Copy, Debug, PartialEq, Eq)]
+pub struct ClockPace {
+    /// The number of the node.
+    pub node: u64,
+    /// So many parts it goes on while a million parts of real time pass: 999,000 to 1,001,000.
+    pub rate: u32,
 }
 
 /// A node gives a property of its own store other values.
@@ -78,4 +119,12 @@ pub enum Statement {
     SetFile(SetFile),
     /// The node of that number restarts, with the store that it has.
     Restart(u64),
+    /// A node asks a stranger.
+    AskStranger(AskStranger),
+    /// Octets of a stranger come to a node.
+    Stranger(Stranger),
+    /// A node's clock begins so. It says so of the whole script, and stands before the first event.
+    Clock(ClockStart),
+    /// A node's clock is fast or slow from then on.
+    Pace(ClockPace),
 }

@@ -3,14 +3,21 @@ ghost use Rattle.std.specs.Prelude.{◌≡◌, ◌&&◌, codes, map};
 ghost use Rattle.std.specs.Str.{bytes_eq};
 ghost use Rattle.std.specs.Option.{option_map};
 ghost use Rattle.bac_service_text.specs.Reading.{Reads};
-ghost use Rattle.bac_value_text.specs.Numbers.{number_of};
+ghost use Rattle.bac_value_text.specs.Numbers.{number_of, number_up_to};
 ghost use Rattle.bac_value_text.specs.Reading.{property_of};
 ghost use Rattle.bac_simulate.specs.Lines.{number_from_one, bounded, setting_with, usual_setting, setting_of};
-ghost use Rattle.bac_simulate.specs.Lines.{setting_at, ask_of, noise_of, numbered, set_property_of, set_file_of, change_of, statement_of, statement_at};
+ghost use Rattle.bac_simulate.specs.Lines.{setting_at, ask_of, ask_node_of, ask_stranger_of, clock_of, link_of, noise_of, numbered, pace_of, rate_of};
+ghost use Rattle.bac_simulate.specs.Lines.{set_property_of, set_file_of, stranger_of, of_node, change_of, with_octets, statement_of, statement_at};
 ghost use Rattle.bac_simulate.specs.Views.{setting_view, statement_view};
 
-use crate::line::{Ask, Noise, SetFile, SetProperty, Setting, Statement};
+use crate::clock_words::rate_in;
+use crate::line::{
+    Ask, AskStranger, ClockPace, ClockStart, Noise, SetFile, SetProperty, Setting, Statement,
+    Stranger,
+};
 use crate::line_words::words_in;
+use crate::link_words::link_in;
+use bac_npdu::LinkAddress;
 use bac_service_text::{FormFault, object_or_fault, octets_or_fault, read_request_words};
 use bac_value_text::{number_in, number_up_to, property_in};
 use std::alloc::Global;
@@ -106,14 +113,14 @@ fn number_or_fault(word: &[u8]) -> Result<u64, FormFault>
     }
 }
 
-#[tactic(auto, unfolding(crate::specs::Lines::ask_of))]
-fn ask(
+#[tactic(auto, unfolding(crate::specs::Lines::ask_node_of))]
+fn ask_node(
     alloc: Global,
     client: &[u8],
     server: &[u8],
     request: &[&[u8]],
 ) -> Result<Statement, FormFault>
-    ensures { Reads statement_view result (ask_of client.now server.now (map (λ w. w.now) request.now)) }
+    ensures { Reads statement_view result (ask_node_of client.now server.now (map (λ w. w.now) request.now)) }
 {
     let client = number_or_fault(client)?;
     let server = number_or_fault(server)?;
@@ -123,6 +130,94 @@ fn ask(
         server,
         request,
     }))
+}
+
+#[tactic(auto, unfolding(crate::specs::Lines::ask_stranger_of))]
+fn ask_stranger(
+    alloc: Global,
+    client: &[u8],
+    link: LinkAddress,
+    request: &[&[u8]],
+) -> Result<Statement, FormFault>
+    ensures { Reads statement_view result (ask_stranger_of client.now link (map (λ w. w.now) request.now)) }
+{
+    let client = number_or_fault(client)?;
+    let request = read_request_words(alloc, request)?;
+    Ok(Statement::AskStranger(AskStranger {
+        client,
+        link,
+        request,
+    }))
+}
+
+/// Who is asked is a stranger where the word is a link.
+fn ask(
+    alloc: Global,
+    client: &[u8],
+    server: &[u8],
+    request: &[&[u8]],
+) -> Result<Statement, FormFault>
+    ensures { Reads statement_view result (ask_of client.now server.now (map (λ w. w.now) request.now)) }
+{
+    match link_in(server) {
+        Some(link) => ask_stranger(alloc, client, link, request),
+        None => ask_node(alloc, client, server, request),
+    }
+}
+
+fn link_or_fault(word: &[u8]) -> Result<LinkAddress, FormFault>
+    ensures { Reads (λ l. l) result (link_of word.now) }
+{
+    match link_in(word) {
+        Some(link) => Ok(link),
+        None => Err(FormFault::NoForm),
+    }
+}
+
+#[tactic(auto, unfolding(crate::specs::Lines::stranger_of))]
+fn stranger(alloc: Global, node: &[u8], link: &[u8], octets: &[u8]) -> Result<Statement, FormFault>
+    ensures { Reads statement_view result (stranger_of node.now link.now octets.now) }
+{
+    let node = number_or_fault(node)?;
+    let link = link_or_fault(link)?;
+    let octets = octets_or_fault(alloc, octets)?;
+    Ok(Statement::Stranger(Stranger { node, link, octets }))
+}
+
+fn start_or_fault(word: &[u8]) -> Result<u32, FormFault>
+    ensures { Reads (λ n. n) result (number_up_to 4294967295 word.now) }
+{
+    match number_up_to(4_294_967_295, word) {
+        Some(start) => Ok(start as u32),
+        None => Err(FormFault::NoForm),
+    }
+}
+
+#[tactic(auto, unfolding(crate::specs::Lines::clock_of))]
+fn clock(node: &[u8], start: &[u8]) -> Result<Statement, FormFault>
+    ensures { Reads statement_view result (clock_of node.now start.now) }
+{
+    let node = number_or_fault(node)?;
+    let start = start_or_fault(start)?;
+    Ok(Statement::Clock(ClockStart { node, start }))
+}
+
+fn rate_or_fault(word: &[u8]) -> Result<u32, FormFault>
+    ensures { Reads (λ n. n) result (rate_of word.now) }
+{
+    match rate_in(word) {
+        Some(rate) => Ok(rate),
+        None => Err(FormFault::NoForm),
+    }
+}
+
+#[tactic(auto, unfolding(crate::specs::Lines::pace_of))]
+fn pace(node: &[u8], parts: &[u8]) -> Result<Statement, FormFault>
+    ensures { Reads statement_view result (pace_of node.now parts.now) }
+{
+    let node = number_or_fault(node)?;
+    let rate = rate_or_fault(parts)?;
+    Ok(Statement::Pace(ClockPace { node, rate }))
 }
 
 #[tactic(auto, unfolding(crate::specs::Lines::noise_of))]
@@ -204,7 +299,26 @@ fn set_file(
     }))
 }
 
-/// A change of a node's own store, by the words after the object.
+/// Octets that come to a node, or go into a file of its own store.
+fn with_octets(
+    alloc: Global,
+    word: &[u8],
+    node: &[u8],
+    place: &[u8],
+    octets: &[u8],
+) -> Result<Statement, FormFault>
+    ensures { Reads statement_view result (with_octets word.now node.now place.now octets.now) }
+{
+    if word == b"file".as_slice() {
+        set_file(alloc, node, place, octets)
+    } else if word == b"stranger".as_slice() {
+        stranger(alloc, node, place, octets)
+    } else {
+        Err(FormFault::NoForm)
+    }
+}
+
+/// A change of a node's own store, or octets of a stranger, by the words after the object or the link.
 fn change(
     alloc: Global,
     word: &[u8],
@@ -215,11 +329,26 @@ fn change(
     ensures { Reads statement_view result (change_of word.now node.now object.now (map (λ w. w.now) words.now)) }
 {
     match words {
-        [octets] if word == b"file".as_slice() => set_file(alloc, node, object, *octets),
+        [octets] => with_octets(alloc, word, node, object, *octets),
         [property, octets] if word == b"set".as_slice() => {
             set_property(alloc, node, object, *property, *octets)
         }
         _ => Err(FormFault::NoForm),
+    }
+}
+
+/// A node, and one word more.
+fn of_node(alloc: Global, word: &[u8], node: &[u8], more: &[u8]) -> Result<Statement, FormFault>
+    ensures { Reads statement_view result (of_node word.now node.now more.now) }
+{
+    if word == b"noise".as_slice() {
+        noise(alloc, node, more)
+    } else if word == b"clock".as_slice() {
+        clock(node, more)
+    } else if word == b"pace".as_slice() {
+        pace(node, more)
+    } else {
+        Err(FormFault::NoForm)
     }
 }
 
@@ -228,7 +357,7 @@ fn statement_in(alloc: Global, words: &[&[u8]]) -> Result<Statement, FormFault>
 {
     match words {
         [word, number] => with_number(*word, *number),
-        [word, a, b] if *word == b"noise".as_slice() => noise(alloc, *a, *b),
+        [word, a, b] => of_node(alloc, *word, *a, *b),
         [word, a, b, request @ ..] if *word == b"ask".as_slice() && !request.is_empty() => {
             ask(alloc, *a, *b, request)
         }
@@ -237,9 +366,10 @@ fn statement_in(alloc: Global, words: &[&[u8]]) -> Result<Statement, FormFault>
     }
 }
 
-/// A line after the first one, without its end: `ask CLIENT SERVER` and the words of a request, `deliver COPY`, `lose COPY`, `noise NODE HEX`,
-/// `tick NODE`, `advance MILLISECONDS`, `set NODE T:I P HEX`, `file NODE T:I HEX` or `restart NODE`, separated by single spaces. `NoForm` for any other
-/// line.
+/// A line after the first one, without its end: `ask CLIENT SERVER` or `ask CLIENT LINK` and the words of a request, `deliver COPY`, `lose COPY`,
+/// `noise NODE HEX`, `stranger NODE LINK HEX`, `tick NODE`, `advance MILLISECONDS`, `clock NODE MILLISECONDS`, `pace NODE PARTS`, `set NODE T:I P HEX`,
+/// `file NODE T:I HEX` or `restart NODE`, separated by single spaces. A LINK is as `192.168.1.20:47808`, and PARTS -1,000 to 1,000 in a million. `NoForm` for
+/// any other line.
 pub fn read_statement(alloc: Global, line: &[u8]) -> Result<Statement, FormFault>
     ensures { Reads statement_view result (statement_at line.now) }
 {

@@ -1,22 +1,28 @@
 //! What there is to draw of a world.
-ghost use Rattle.std.specs.Prelude.{◌≡◌, ◌-◌, ◌&&◌, ◌++◌, nat_le, codes, decimal, map, slice_get, IfOk, OnOk};
+ghost use Rattle.std.specs.Prelude.{◌≡◌, ◌≤◌, ◌-◌, ◌&&◌, ◌++◌, nat_le, codes, decimal, map, slice_get, IfOk, OnOk};
 ghost use Rattle.std.specs.Option.{option_map};
 ghost use Rattle.bac_chart.specs.Marks as plain;
 ghost use Rattle.bac_chart.specs.Views.{arrow_view, mark_view};
 ghost use Rattle.bac_journal.specs.Notes.{note_view};
 ghost use Rattle.bac_journal.specs.Views.{copy_view, key_view};
 ghost use Rattle.bac_network.specs.Views.{fact_view};
+ghost use Rattle.bac_npdu.specs.Views.{peer_view};
 ghost use Rattle.bac_simulate.specs.Views.{happening_view};
 ghost use Rattle.bac_protocol.specs.World.{same_key};
-ghost use Rattle.bac_simulate.specs.Traces.{arrow_of, client_in, coming_in, coming_mark, delivered_mark, ended_mark, ended_words, fact_mark, optional_marks, performed_mark, place_of, refused_mark, AddsMarks};
+ghost use Rattle.bac_simulate.specs.Traces.{arrow_of, asked_away_words, client_in, coming_in, coming_mark, delivered_mark, ended_mark, ended_words, fact_mark};
+ghost use Rattle.bac_simulate.specs.Traces.{optional_marks, paced_mark, performed_mark, place_of, refused_mark, served_words, stranger_words, AddsMarks};
 ghost use Rattle.bac_requester.specs.TransactionViews.{ending_view};
 ghost use Rattle.bac_world.specs.World.{count_of};
 
+use crate::moments::{ms_now, parts_in};
+use crate::printing::pace_text;
 use bac_chart::{Arrow, Mark, datagram_words};
 use bac_commands::print_ending;
 use bac_journal::{Copy, Note, Transaction};
 use bac_network::{Event, Fact, World};
+use bac_npdu::{LinkAddress, Peer};
 use bac_requester::Ending;
+use bac_text::{link_text, peer_text};
 use std::alloc::{AllocError, Global};
 use std::io;
 
@@ -51,12 +57,19 @@ fn may_come(overtake: u8, life: u64, now: u64, later: usize, copy: &Copy) -> boo
     now.saturating_sub(copy.moment) <= life && later <= usize::from(overtake)
 }
 
-pub(crate) fn arrow_of(alloc: Global, number: usize, copy: &Copy) -> Result<Arrow, AllocError>
-    ensures { IfOk result (λ a. arrow_view a ≡ arrow_of number (copy_view copy.now)) }
+/// Where so many parts of a moment are a millisecond.
+pub(crate) fn arrow_of(
+    alloc: Global,
+    parts: u64,
+    number: usize,
+    copy: &Copy,
+) -> Result<Arrow, AllocError>
+    requires { 1 ≤ parts }
+    ensures { IfOk result (λ a. arrow_view a ≡ arrow_of parts number (copy_view copy.now)) }
 {
     Ok(Arrow {
         number: number as u64,
-        sent: copy.moment,
+        sent: copy.moment / parts,
         from: copy.from as u64,
         to: copy.to as u64,
         words: datagram_words(alloc, &copy.octets)?,
@@ -77,14 +90,16 @@ fn note(moment: u64, node: usize, words: Vec<u8>) -> Mark
 fn coming_mark(
     alloc: Global,
     is_deliverable: bool,
+    parts: u64,
     now: u64,
     number: usize,
     copy: &Copy,
 ) -> Result<Mark, AllocError>
-    ensures { IfOk result (λ m. mark_view m ≡ coming_mark is_deliverable now number (copy_view copy.now)) }
+    requires { 1 ≤ parts }
+    ensures { IfOk result (λ m. mark_view m ≡ coming_mark is_deliverable parts now number (copy_view copy.now)) }
 {
     if is_deliverable {
-        let arrow = arrow_of(alloc, number, copy)?;
+        let arrow = arrow_of(alloc, parts, number, copy)?;
         return Ok(Mark::Came { moment: now, arrow });
     }
     let words = format!(in alloc; "{number} comes too late")?;
@@ -102,8 +117,19 @@ fn delivered_mark(alloc: Global, world: &World, number: usize) -> Result<Option<
     let copy = &copies[number];
     let later = count_of(&copy.transaction, &copies[number + 1..]);
     let comes = may_come(world.overtake(), world.life(), world.now(), later, copy);
-    let mark = coming_mark(alloc, comes, world.now(), number, copy)?;
+    let mark = coming_mark(alloc, comes, parts_in(world), ms_now(world), number, copy)?;
     Ok(Some(mark))
+}
+
+/// Octets of a stranger: from which link, and what they are.
+fn stranger_words(alloc: Global, from: LinkAddress, octets: &[u8]) -> Result<Vec<u8>, AllocError>
+    ensures { IfOk result (λ t. t.items ≡ stranger_words from octets.now) }
+{
+    let link = link_text(alloc, from)?;
+    let datagram = datagram_words(alloc, octets)?;
+    let mut words = format!(in alloc; "from {link} ")?.into_bytes();
+    words.extend_from_slice(datagram.as_slice())?;
+    Ok(words)
 }
 
 /// What comes to a node in an event that is about to happen.
@@ -118,7 +144,11 @@ pub(crate) fn coming_in(
         Event::Deliver { number } => delivered_mark(alloc, world, *number),
         Event::Noise { node, .. } => {
             let words = Vec::from_slice(alloc, b"noise")?;
-            Ok(Some(note(world.now(), *node, words)))
+            Ok(Some(note(ms_now(world), *node, words)))
+        }
+        Event::Stranger { node, from, octets } => {
+            let words = stranger_words(alloc, *from, octets)?;
+            Ok(Some(note(ms_now(world), *node, words)))
         }
         _ => Ok(None),
     }
@@ -182,6 +212,28 @@ fn asked_mark(alloc: Global, now: u64, ask: usize, client: usize) -> Result<Mark
     Ok(note(now, client, words.into_bytes()))
 }
 
+fn served_mark(alloc: Global, now: u64, node: usize, peer: Peer) -> Result<Mark, AllocError>
+    ensures { IfOk result (λ m. mark_view m ≡ plain.Note now node (served_words (peer_view peer))) }
+{
+    let peer = peer_text(alloc, peer)?;
+    let words = format!(in alloc; "served {peer}")?;
+    Ok(note(now, node, words.into_bytes()))
+}
+
+fn asked_away_mark(
+    alloc: Global,
+    now: u64,
+    ask: usize,
+    client: usize,
+    peer: Peer,
+) -> Result<Mark, AllocError>
+    ensures { IfOk result (λ m. mark_view m ≡ plain.Note now client (asked_away_words ask (peer_view peer))) }
+{
+    let peer = peer_text(alloc, peer)?;
+    let words = format!(in alloc; "asked {ask} {peer}")?;
+    Ok(note(now, client, words.into_bytes()))
+}
+
 fn plain_mark(alloc: Global, now: u64, node: usize, words: &[u8]) -> Result<Mark, AllocError>
     ensures { IfOk result (λ m. mark_view m ≡ plain.Note now node words.now) }
 {
@@ -202,10 +254,17 @@ pub(crate) fn fact_mark(
         Fact::Performed { number, .. } => {
             return Ok(performed_mark(alloc, now, *number, asks.get(*number))?);
         }
-        Fact::Ended { number, how } => {
+        Fact::Ended { number, how } | Fact::EndedAway { number, how } => {
             return Ok(ended_mark(alloc, now, asks, *number, how)?);
         }
         Fact::Changed { node, .. } => plain_mark(alloc, now, *node, b"changed")?,
+        Fact::Served { peer, node, .. } => served_mark(alloc, now, *node, *peer)?,
+        Fact::AskedAway {
+            number,
+            client,
+            peer,
+            ..
+        } => asked_away_mark(alloc, now, *number, *client, *peer)?,
         Fact::Restarted { node, .. } => plain_mark(alloc, now, *node, b"restarted")?,
     };
     Ok(Some(mark))
@@ -220,6 +279,8 @@ fn place_of(event: &Event) -> usize
     match event {
         Event::Ask { client, .. } => *client,
         Event::Noise { node, .. }
+        | Event::Stranger { node, .. }
+        | Event::AskStranger { node, .. }
         | Event::Tick { node }
         | Event::Change { node, .. }
         | Event::Restart { node, .. } => *node,
@@ -237,6 +298,15 @@ pub(crate) fn refused_mark(
 {
     let words = format!(in alloc; "refused {fault}")?;
     Ok(note(now, place_of(event), words.into_bytes()))
+}
+
+/// That a node's clock goes so fast from then on.
+pub(crate) fn paced_mark(alloc: Global, now: u64, node: u64, rate: u32) -> Result<Mark, AllocError>
+    ensures { IfOk result (λ m. mark_view m ≡ paced_mark now node rate) }
+{
+    let pace = pace_text(alloc, rate)?;
+    let words = format!(in alloc; "pace {pace}")?;
+    Ok(note(now, node as usize, words.into_bytes()))
 }
 
 /// A mark more, where there is one.

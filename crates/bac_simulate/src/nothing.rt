@@ -22,6 +22,8 @@ pub(crate) enum Why {
     Idle,
     /// The clock went on, and no node saw it yet.
     Passed,
+    /// Octets of a stranger came to a node; what it sends to strangers is not followed.
+    HeardStranger,
 }
 
 fn is_young(life: u64, now: u64, copy: &Copy) -> bool
@@ -66,9 +68,13 @@ pub(crate) fn why_nothing(world: &World, event: &Event) -> Why
     match event {
         Event::Deliver { number } => why_delivered(world, *number),
         Event::Noise { .. } => Why::Dropped,
+        Event::Stranger { .. } => Why::HeardStranger,
         Event::Tick { .. } => Why::Idle,
         Event::Advance { .. } => Why::Passed,
-        Event::Ask { .. } | Event::Change { .. } | Event::Restart { .. } => Why::Heard,
+        Event::Ask { .. }
+        | Event::AskStranger { .. }
+        | Event::Change { .. }
+        | Event::Restart { .. } => Why::Heard,
     }
 }
 
@@ -83,5 +89,6 @@ pub(crate) fn why_words(why: Why) -> &'static str
         Why::Dropped => "ignored",
         Why::Idle => "idle",
         Why::Passed => "time passed",
+        Why::HeardStranger => "heard",
     }
 }

@@ -1,19 +1,23 @@
 //! `bac simulate`, over any reader and writers.
-ghost use Rattle.std.specs.Prelude.{◌≡◌, ◌+◌, ◌<◌, ◌^◌, length, map, IfOk, IfSome, Ok, Some};
+ghost use Rattle.std.specs.Prelude.{◌≡◌, ◌+◌, ◌<◌, ◌^◌, length, map, IfOk, IfSome, Ok, false};
+ghost use Rattle.bac_network.specs.Histories.{WorldView};
 ghost use Rattle.bac_text.specs.Lines.{lines_of};
 ghost use Rattle.bac_text.specs.Texts.{AppendsText};
-ghost use Rattle.bac_simulate.specs.Runs.{Goes, IsEnd, IsRun, IsStep, IsUnread, Reports, Simulates, SimulatesAs, SimulatesIn, change_fault_in, status_for, status_of};
-ghost use Rattle.bac_simulate.specs.Scripts.{Happens, IsModest, Lost, limits_in, most_limits, said_from, script_of, with_setting};
-ghost use Rattle.bac_simulate.specs.Views.{happening_view, line_view, setting_view};
+ghost use Rattle.bac_simulate.specs.Runs.{Goes, IsEnd, IsRun, IsStep, IsUnread, Reports, Simulates, SimulatesAs, SimulatesIn, Steps, change_fault_in, in_text};
+ghost use Rattle.bac_simulate.specs.Runs.{pace_fault_number, status_for, status_of};
+ghost use Rattle.bac_simulate.specs.Scripts.{Began, Happens, Lost, Paced, limits_in, said_from, script_of};
+ghost use Rattle.bac_simulate.specs.Views.{happening_view, line_view};
+ghost use Rattle.bac_simulate.specs.Worded.{in_words};
 
-use crate::printing::{Seen, print_lost, print_outcome};
-use crate::script::{FirstLine, ScriptFault, ScriptLine, lines_in, read_first};
-use crate::world_of::world_of;
+use crate::line::{ClockPace, ClockStart};
+use crate::printing::{Seen, print_lost, print_outcome, print_paced};
+use crate::read_script::ReadScript;
+use crate::script::{ScriptFault, ScriptLine, lines_in};
+use crate::script_reading::read_script;
 use bac_commands::{print_fault, print_refused};
-use bac_network::{Event, World, WorldFault};
+use bac_network::{Event, PaceFault, World, WorldFault};
 use bac_store::ChangeFault;
 use bac_text::{Status, complain, no_memory, output_failed};
-use bac_value::NoMemory;
 use std::alloc::Global;
 use std::io;
 use std::io::{ErrorKind, Read, Write};
@@ -26,6 +30,7 @@ pub(crate) fn change_fault_in(fault: WorldFault) -> Option<ChangeFault>
         WorldFault::BadChange(why) => Some(why),
         WorldFault::NoSuchNode
         | WorldFault::NoSuchDatagram
+        | WorldFault::NodeLink
         | WorldFault::ClockEnd
         | WorldFault::NoMemory => None,
     }
@@ -77,6 +82,59 @@ fn count_lost<W: Write>(world: &World, line: u64, copy: u64, out: &mut W) -> io:
     }
 }
 
+/// That a node's clock began so, with the script: nothing is printed of it, or that there is no such node; nothing changes. Answers whether there is one.
+pub(crate) fn pass_start<W: Write>(
+    world: &World,
+    line: u64,
+    clock: &ClockStart,
+    out: &mut W,
+) -> io::Result<bool>
+    ensures lines { IfOk result (λ passed. AppendsText (W.contents out.old) (W.contents out.new)
+        (Steps in_text line passed (Began clock.now.node clock.now.start) world.now world.now)) }
+    ensures words { IfOk result (λ passed. AppendsText (W.contents out.old) (W.contents out.new)
+        (Steps in_words line passed (Began clock.now.node clock.now.start) world.now world.now)) }
+{
+    if clock.node < world.nodes().len() as u64 {
+        Ok(true)
+    } else {
+        print_fault(line, WorldFault::NoSuchNode.number(), out)?;
+        Ok(false)
+    }
+}
+
+/// The number of the fault of a clock that keeps its pace.
+pub(crate) fn pace_fault_number(fault: PaceFault) -> u8
+    ensures { result ≡ pace_fault_number fault }
+{
+    match fault {
+        PaceFault::NoSuchNode => 1,
+        PaceFault::BadPace => 11,
+    }
+}
+
+/// A node's clock goes so fast from now on, and that is printed; or the number of the fault. Answers whether it does.
+fn pace_and_print<W: Write>(
+    alloc: Global,
+    world: &mut World,
+    line: u64,
+    clock: &ClockPace,
+    out: &mut W,
+) -> io::Result<bool>
+    ensures { IfOk result (λ passed. AppendsText (W.contents out.old) (W.contents out.new)
+        (IsStep line passed (Paced clock.now.node clock.now.rate) world.old world.new)) }
+{
+    match world.set_pace(clock.node as usize, clock.rate) {
+        Ok(()) => {
+            print_paced(alloc, clock.node, clock.rate, out)?;
+            Ok(true)
+        }
+        Err(fault) => {
+            print_fault(line, pace_fault_number(fault), out)?;
+            Ok(false)
+        }
+    }
+}
+
 /// What a line says comes, and what is printed of it. Answers whether the script goes on.
 fn step_and_print<W: Write>(
     alloc: Global,
@@ -92,6 +150,8 @@ fn step_and_print<W: Write>(
         ScriptLine::Happens(event) => event_and_print(alloc, world, line, event, out),
         ScriptLine::Lost(copy) => count_lost(world, line, *copy, out),
         ScriptLine::Note => Ok(true),
+        ScriptLine::Began(clock) => pass_start(world, line, clock, out),
+        ScriptLine::Paced(clock) => pace_and_print(alloc, world, line, clock, out),
     }
 }
 
@@ -184,10 +244,17 @@ fn run_lines<O: Write, E: Write>(
     err: &mut E,
 ) -> Status
     requires { script.now.before + length script.now.text.now < 2 ^ 64 }
-    ensures { Goes (script.now.before + 1) (said_from script.now.notes (limits_in world.old.nodes) (script.now.before + 1)
+    ensures { Goes (script.now.before + 1) (said_from script.now.notes false (limits_in world.old.nodes) (script.now.before + 1)
         (lines_of script.now.text.now)) world.old world.new (O.contents out.old) (O.contents out.new) result }
 {
-    match lines_in(alloc, world, script.notes, script.before, script.text) {
+    match lines_in(
+        alloc,
+        world,
+        script.notes,
+        false,
+        script.before,
+        script.text,
+    ) {
         Ok(lines) => run_said(alloc, world, script.before, &lines, out, err),
         Err(fault) => no_script(fault, err),
     }
@@ -214,29 +281,23 @@ pub fn simulate_in<O: Write, E: Write>(
     run_lines(alloc, world, &script, out, err)
 }
 
-/// Runs the lines after the first one in the network that this sets.
-fn run_set<O: Write, E: Write>(
+/// Runs a script that was read.
+fn run_script<O: Write, E: Write>(
     alloc: Global,
-    notes: bool,
-    first: &FirstLine<'_>,
+    script: ReadScript,
     out: &mut O,
     err: &mut E,
 ) -> Status
-    requires modest { IsModest (setting_view first.now.setting) }
-    requires few { first.now.number + length first.now.rest.now < 2 ^ 64 }
-    ensures { Reports (with_setting first.now.number (Some (setting_view first.now.setting))
-        (said_from notes (λ node. most_limits) (first.now.number + 1) (lines_of first.now.rest.now)))
-        (O.contents out.old) (O.contents out.new) result }
+    ensures { (last : WorldView) × Goes (script.before + 1) (Ok (map line_view script.lines.items)) script.world last (O.contents out.old)
+        (O.contents out.new) result }
 {
-    let script = ScriptText {
-        notes,
-        before: first.number,
-        text: first.rest,
-    };
-    match world_of(alloc, &first.setting) {
-        Ok(mut world) => run_lines(alloc, &mut world, &script, out, err),
-        Err(NoMemory) => no_memory(err),
-    }
+    let ReadScript {
+        mut world,
+        before,
+        lines,
+        ..
+    } = script;
+    run_said(alloc, &mut world, before, &lines, out, err)
 }
 
 /// Runs the script that these octets are; all its lines are read before the first event.
@@ -249,8 +310,8 @@ fn simulate<O: Write, E: Write>(
 ) -> Status
     ensures { Reports (script_of notes (lines_of text.now)) (O.contents out.old) (O.contents out.new) result }
 {
-    match read_first(alloc, notes, text) {
-        Ok(first) => run_set(alloc, notes, &first, out, err),
+    match read_script(alloc, notes, text) {
+        Ok(script) => run_script(alloc, script, out, err),
         Err(fault) => no_script(fault, err),
     }
 }
@@ -277,7 +338,8 @@ pub(crate) fn unread<E: Write>(error: &io::Error, err: &mut E) -> Status
 /// Runs a script of events in a network of nodes, each with a house store of its own, and prints what comes of each event. All lines are read before the
 /// first event. Where notes are taken, lines may end in a carriage return and a line feed, and blank lines and those that begin with `#` are passed over.
 ///
-/// An event that names no node or no copy, or that the clock or the memory has no room for, prints `line L: fault F` and ends the run with `Faulty`. A refused
+/// An event that names no node or no copy, a link of a node as a stranger's, or that the clock or the memory has no room for, and a clock of no node, print
+/// `line L: fault F` and end the run with `Faulty`. A refused
 /// ask, and a change that a node's store refuses, print `refused F`, and the run goes on. A line of no form: `line L: not a script line` on `err`; an input
 /// that cannot be read: `cannot read`; out of memory outside an event: `no memory`. `Output` where `out` cannot be written.
 pub fn simulate_lines_over<R: Read, O: Write, E: Write>(

@@ -1,5 +1,5 @@
 //! The run of a script, as what there is to draw of it.
-ghost use Rattle.std.specs.Prelude.{◌≡◌, ◌+◌, ◌<◌, ◌^◌, ◌++◌, ◌∷◌, [], false, drop, length, map, IfOk, OnOk};
+ghost use Rattle.std.specs.Prelude.{◌≡◌, ◌+◌, ◌<◌, ◌≤◌, ◌^◌, ◌++◌, ◌∷◌, [], false, drop, length, map, IfOk, OnOk};
 ghost use Rattle.std.specs.Option.{option_map};
 ghost use Rattle.bac_chart.specs.Views.{mark_view};
 ghost use Rattle.bac_journal.specs.Notes.{note_view};
@@ -7,14 +7,16 @@ ghost use Rattle.bac_journal.specs.Views.{copy_view};
 ghost use Rattle.bac_network.specs.Views.{fact_view};
 ghost use Rattle.bac_simulate.specs.Drawn.{in_marks};
 ghost use Rattle.bac_simulate.specs.Runs.{Runs, Steps};
-ghost use Rattle.bac_simulate.specs.Scripts.{Happens, Lost};
+ghost use Rattle.bac_simulate.specs.Scripts.{Happens, Lost, Paced};
 ghost use Rattle.bac_simulate.specs.Traces.{facts_marks, news_marks, optional_marks, refused_mark, sent_marks, AddsMarks, AppendsMarks};
 ghost use Rattle.bac_simulate.specs.Views.{happening_view, line_view};
 
-use crate::marks::{add, arrow_of, coming_in, fact_mark, refused_mark};
+use crate::line::ClockPace;
+use crate::marks::{add, arrow_of, coming_in, fact_mark, paced_mark, refused_mark};
+use crate::moments::{ms_now, parts_in};
 use crate::printing::Seen;
 use crate::script::ScriptLine;
-use crate::simulate::change_fault_in;
+use crate::simulate::{change_fault_in, pace_fault_number};
 use bac_chart::Mark;
 use bac_commands::print_fault;
 use bac_journal::{Copy, Note};
@@ -43,14 +45,16 @@ fn add_facts(
 /// Adds the copies after so many.
 fn add_copies(
     alloc: Global,
+    parts: u64,
     copies: &[Copy],
     before: usize,
     marks: &mut Vec<Mark>,
 ) -> Result<(), AllocError>
-    ensures { OnOk result (AddsMarks marks.old.items marks.new.items (sent_marks before (drop before (map copy_view copies.now)))) }
+    requires { 1 ≤ parts }
+    ensures { OnOk result (AddsMarks marks.old.items marks.new.items (sent_marks parts before (drop before (map copy_view copies.now)))) }
 {
     for number in before..copies.len() {
-        let arrow = arrow_of(alloc, number, &copies[number])?;
+        let arrow = arrow_of(alloc, parts, number, &copies[number])?;
         marks.push(Mark::Sent(arrow))?;
     }
     Ok(())
@@ -70,13 +74,13 @@ fn add_news(
     add(coming, marks)?;
     add_facts(
         alloc,
-        world.now(),
+        ms_now(world),
         world.asks(),
         world.log(),
         before.facts,
         marks,
     )?;
-    add_copies(alloc, world.copies(), before.copies, marks)?;
+    add_copies(alloc, parts_in(world), world.copies(), before.copies, marks)?;
     Ok(())
 }
 
@@ -96,10 +100,10 @@ fn add_refused(
 }
 
 /// Prints the fault that ends a script; if that fails too, only the status is left.
-fn stops<E: Write>(line: u64, fault: WorldFault, err: &mut E) -> bool
+fn stops<E: Write>(line: u64, fault: u8, err: &mut E) -> bool
     ensures { result ≡ false }
 {
-    let _ = print_fault(line, fault.number(), err);
+    let _ = print_fault(line, fault, err);
     false
 }
 
@@ -116,7 +120,7 @@ fn trace_event<E: Write>(
         (Steps in_marks line passed (Happens (happening_view event.now)) world.old world.new)) }
 {
     let before = Seen::of(world);
-    let now = world.now();
+    let now = ms_now(world);
     let coming = coming_in(alloc, world, event)?;
     let fault = match world.step(event) {
         Ok(None) => {
@@ -134,7 +138,29 @@ fn trace_event<E: Write>(
             add_refused(alloc, now, event, why.number(), marks)?;
             Ok(true)
         }
-        None => Ok(stops(line, fault, err)),
+        None => Ok(stops(line, fault.number(), err)),
+    }
+}
+
+/// A node's clock goes so fast from now on. Answers whether it does; where not, `err` says why.
+fn trace_pace<E: Write>(
+    alloc: Global,
+    world: &mut World,
+    line: u64,
+    clock: &ClockPace,
+    marks: &mut Vec<Mark>,
+    err: &mut E,
+) -> io::Result<bool>
+    ensures { IfOk result (λ passed. AppendsMarks marks.old.items marks.new.items
+        (Steps in_marks line passed (Paced clock.now.node clock.now.rate) world.old world.new)) }
+{
+    let mark = paced_mark(alloc, ms_now(world), clock.node, clock.rate)?;
+    match world.set_pace(clock.node as usize, clock.rate) {
+        Ok(()) => {
+            marks.push(mark)?;
+            Ok(true)
+        }
+        Err(fault) => Ok(stops(line, pace_fault_number(fault), err)),
     }
 }
 
@@ -152,8 +178,11 @@ fn trace_line<E: Write>(
     match said {
         ScriptLine::Happens(event) => trace_event(alloc, world, line, event, marks, err),
         ScriptLine::Lost(copy) if *copy < world.copies().len() as u64 => Ok(true),
-        ScriptLine::Lost(_) => Ok(stops(line, WorldFault::NoSuchDatagram, err)),
+        ScriptLine::Lost(_) => Ok(stops(line, WorldFault::NoSuchDatagram.number(), err)),
         ScriptLine::Note => Ok(true),
+        ScriptLine::Began(clock) if clock.node < world.nodes().len() as u64 => Ok(true),
+        ScriptLine::Began(_) => Ok(stops(line, WorldFault::NoSuchNode.number(), err)),
+        ScriptLine::Paced(clock) => trace_pace(alloc, world, line, clock, marks, err),
     }
 }
 

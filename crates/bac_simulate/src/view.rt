@@ -1,22 +1,23 @@
 //! What a script's run is shown as.
-ghost use Rattle.std.specs.Prelude.{◌≡◌, ◌<◌, ◌+◌, ◌^◌, length, map, IfOk, MatchResult, OnOk};
+ghost use Rattle.std.specs.Prelude.{◌≡◌, ◌+◌, map, IfOk, OnOk};
 ghost use Rattle.std.specs.Io.KnownBytes.{Appends};
 ghost use Rattle.bac_chart.specs.Views.{mark_view};
-ghost use Rattle.bac_simulate.specs.Drawn.{rest_of, shown_text, IsDrawn, IsRead, IsShown, IsWorded, Shows, ShowsAs};
+ghost use Rattle.bac_simulate.specs.Drawn.{shown_text, IsDrawn, IsShown, IsWorded, Shows, ShowsAs};
 ghost use Rattle.bac_simulate.specs.Runs.{status_for};
-ghost use Rattle.bac_simulate.specs.Scripts.{IsModest, IsNotRead, script_of};
-ghost use Rattle.bac_simulate.specs.Views.{line_view, setting_view};
+ghost use Rattle.bac_simulate.specs.Scripts.{script_of};
+ghost use Rattle.bac_simulate.specs.Views.{line_view};
 ghost use Rattle.bac_text.specs.Lines.{lines_of};
 ghost use Rattle.bac_text.specs.Texts.{AppendsText};
 
 use crate::bad_line::print_bad_line;
 use crate::capture::print_capture;
+use crate::moments::parts_in;
 use crate::read_script::ReadScript;
-use crate::script::{FirstLine, ScriptFault, lines_in, read_first};
+use crate::script::ScriptFault;
+use crate::script_reading::read_script;
 use crate::simulate::{ended, no_script, octets_of, unread};
 use crate::trace::trace_lines;
 use crate::wording::print_lines;
-use crate::world_of::world_of;
 use bac_chart::{ChartFormat, Mark, print_drawing};
 use bac_network::World;
 use bac_text::Status;
@@ -46,41 +47,15 @@ fn print_view<W: Write>(
     world: &World,
     out: &mut W,
 ) -> io::Result<()>
-    ensures { OnOk result (Appends (W.contents out.old) (W.contents out.new) (shown_text view nodes (map mark_view marks.now) world.now.copies)) }
+    ensures { OnOk result (Appends (W.contents out.old) (W.contents out.new) (shown_text view nodes (map mark_view marks.now) world.now)) }
 {
     let nodes = u64::from(nodes);
     match view {
         View::Text => Ok(()),
         View::Chart => print_drawing(alloc, ChartFormat::Chart, nodes, marks, out),
         View::Mermaid => print_drawing(alloc, ChartFormat::Mermaid, nodes, marks, out),
-        View::Capture => print_capture(alloc, world.copies(), out),
+        View::Capture => print_capture(alloc, parts_in(world), world.copies(), out),
     }
-}
-
-/// What the lines behind the first one say, in the network that this sets.
-fn read_rest(alloc: Global, notes: bool, first: FirstLine<'_>) -> Result<ReadScript, ScriptFault>
-    requires modest { IsModest (setting_view first.setting) }
-    requires few { first.number + length first.rest.now < 2 ^ 64 }
-    ensures { MatchResult result (IsRead (rest_of notes first.entry)) (λ f. IsNotRead f (rest_of notes first.entry)) }
-{
-    let world = world_of(alloc, &first.setting)?;
-    match lines_in(alloc, &world, notes, first.number, first.rest) {
-        Ok(lines) => Ok(ReadScript {
-            nodes: first.setting.nodes,
-            world,
-            before: first.number,
-            lines,
-        }),
-        Err(fault) => Err(fault),
-    }
-}
-
-/// The script that these octets are.
-fn read_script(alloc: Global, notes: bool, text: &[u8]) -> Result<ReadScript, ScriptFault>
-    ensures { MatchResult result (IsRead (script_of notes (lines_of text.now))) (λ f. IsNotRead f (script_of notes (lines_of text.now))) }
-{
-    let first = read_first(alloc, notes, text)?;
-    read_rest(alloc, notes, first)
 }
 
 /// Runs a script, and prints each event in words. Answers whether all lines passed.

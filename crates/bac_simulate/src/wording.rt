@@ -3,14 +3,16 @@ ghost use Rattle.std.specs.Prelude.{◌+◌, ◌<◌, ◌^◌, length, map, IfOk
 ghost use Rattle.std.specs.Io.KnownBytes.{Appends};
 ghost use Rattle.bac_text.specs.Texts.{AppendsText};
 ghost use Rattle.bac_simulate.specs.Runs.{Runs, Steps};
-ghost use Rattle.bac_simulate.specs.Scripts.{Happens, Lost};
+ghost use Rattle.bac_simulate.specs.Scripts.{Happens, Lost, Paced};
 ghost use Rattle.bac_simulate.specs.Views.{happening_view, line_view};
-ghost use Rattle.bac_simulate.specs.Worded.{in_words, lose_text};
+ghost use Rattle.bac_simulate.specs.Worded.{in_words, lose_text, pace_line_text};
 
+use crate::line::ClockPace;
+use crate::moments::ms_now;
 use crate::nothing::why_nothing;
-use crate::printing::Seen;
+use crate::printing::{Seen, pace_text};
 use crate::script::ScriptLine;
-use crate::simulate::change_fault_in;
+use crate::simulate::{change_fault_in, pace_fault_number, pass_start};
 use crate::words::{add_outcome, add_refused, event_line};
 use bac_commands::print_fault;
 use bac_network::{Event, World, WorldFault};
@@ -31,7 +33,7 @@ fn print_event<W: Write>(
 {
     let before = Seen::of(world);
     let why = why_nothing(world, event);
-    let mut text = event_line(alloc, world.now(), event)?;
+    let mut text = event_line(alloc, ms_now(world), event)?;
     let fault = match world.step(event) {
         Ok(refused) => {
             add_outcome(alloc, world, before, why, refused, &mut text)?;
@@ -65,11 +67,49 @@ fn print_lost_copy<W: Write>(world: &World, line: u64, copy: u64, out: &mut W) -
         (Steps in_words line passed (Lost copy) world.now world.now)) }
 {
     if copy < world.copies().len() as u64 {
-        print_lose(world.now(), copy, out)?;
+        print_lose(ms_now(world), copy, out)?;
         Ok(true)
     } else {
         print_fault(line, WorldFault::NoSuchDatagram.number(), out)?;
         Ok(false)
+    }
+}
+
+/// That a node's clock goes so fast from then on.
+fn print_pace_line<W: Write>(
+    alloc: Global,
+    now: u64,
+    node: u64,
+    rate: u32,
+    out: &mut W,
+) -> io::Result<()>
+    ensures { OnOk result (Appends (W.contents out.old) (W.contents out.new) (pace_line_text now node rate)) }
+{
+    let pace = pace_text(alloc, rate)?;
+    write!(out, "{now} pace {node} {pace}\n  paced\n")
+}
+
+/// A node's clock goes so fast from now on; or the number of the fault. Answers whether it does.
+fn print_pace<W: Write>(
+    alloc: Global,
+    world: &mut World,
+    line: u64,
+    clock: &ClockPace,
+    out: &mut W,
+) -> io::Result<bool>
+    ensures { IfOk result (λ passed. AppendsText (W.contents out.old) (W.contents out.new)
+        (Steps in_words line passed (Paced clock.now.node clock.now.rate) world.old world.new)) }
+{
+    let now = ms_now(world);
+    match world.set_pace(clock.node as usize, clock.rate) {
+        Ok(()) => {
+            print_pace_line(alloc, now, clock.node, clock.rate, out)?;
+            Ok(true)
+        }
+        Err(fault) => {
+            print_fault(line, pace_fault_number(fault), out)?;
+            Ok(false)
+        }
     }
 }
 
@@ -88,6 +128,8 @@ fn print_line<W: Write>(
         ScriptLine::Happens(event) => print_event(alloc, world, line, event, out),
         ScriptLine::Lost(copy) => print_lost_copy(world, line, *copy, out),
         ScriptLine::Note => Ok(true),
+        ScriptLine::Began(clock) => pass_start(world, line, clock, out),
+        ScriptLine::Paced(clock) => print_pace(alloc, world, line, clock, out),
     }
 }
 

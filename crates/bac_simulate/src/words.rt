@@ -1,13 +1,16 @@
 //! An event, and what came of it, in words.
-ghost use Rattle.std.specs.Prelude.{◌≡◌, ◌++◌, drop, map, IfOk, OnOk};
+ghost use Rattle.std.specs.Prelude.{◌≡◌, ◌++◌, decimal, drop, map, IfOk, OnOk};
 ghost use Rattle.bac_journal.specs.Views.{copy_view};
 ghost use Rattle.bac_network.specs.Views.{fact_view};
+ghost use Rattle.bac_npdu.specs.Views.{peer_view};
 ghost use Rattle.bac_simulate.specs.Views.{happening_view};
+ghost use Rattle.bac_text.specs.Peers.{peer_text};
 ghost use Rattle.bac_service.specs.Views.{owned_reply_view, owned_request_view};
 ghost use Rattle.bac_store.specs.Views.{change_view};
 ghost use Rattle.bac_requester.specs.TransactionViews.{ending_view};
-ghost use Rattle.bac_simulate.specs.Worded.{AreAskWords, AreEndedWords, AreEventWords, AreFactLines, AreFactWords, AreNews, ArePerformedWords, IsEventLine, IsOutcome};
-ghost use Rattle.bac_simulate.specs.Worded.{Adds, change_words, news_line, refused_news, sent_lines, sent_words};
+ghost use Rattle.bac_simulate.specs.Worded.{AreAskWords, AreEndedWords, AreEventWords, AreFactLines, AreFactWords, AreNews, ArePerformedWords};
+ghost use Rattle.bac_simulate.specs.Worded.{AreServedWords, IsEventLine, IsOutcome};
+ghost use Rattle.bac_simulate.specs.Worded.{Adds, change_words, news_line, refused_news, sent_lines, sent_words, stranger_words};
 
 use crate::nothing::{Why, why_words};
 use crate::printing::{Seen, is_as_before};
@@ -15,10 +18,12 @@ use bac_chart::datagram_words;
 use bac_commands::ending_words;
 use bac_journal::Copy;
 use bac_network::{Event, Fact, World};
+use bac_npdu::{LinkAddress, Peer};
 use bac_requester::{AskFault, Ending};
 use bac_service::{OwnedReply, OwnedRequest};
 use bac_service_text::{reply_words, request_words};
 use bac_store::Change;
+use bac_text::{link_text, peer_text};
 use bac_value_text::{object_text, property_text};
 use std::alloc::{AllocError, Global};
 use std::io;
@@ -32,13 +37,46 @@ fn ask_words(
     server: usize,
     request: &OwnedRequest,
 ) -> io::Result<Vec<u8>>
-    ensures { IfOk result (λ t. AreAskWords client server (owned_request_view request.now) t.items) }
+    ensures { IfOk result (λ t. AreAskWords client (decimal server) (owned_request_view request.now) t.items) }
 {
     let Ok(asked) = request_words(alloc, request.as_request()) else {
         return Err(io::Error::from(ErrorKind::OutOfMemory));
     };
     let mut words = format!(in alloc; "ask {client} {server} ")?.into_bytes();
     words.extend_from_slice(asked.as_slice())?;
+    Ok(words)
+}
+
+fn ask_stranger_words(
+    alloc: Global,
+    client: usize,
+    peer: Peer,
+    request: &OwnedRequest,
+) -> io::Result<Vec<u8>>
+    ensures { IfOk result (λ t. AreAskWords client (peer_text (peer_view peer)) (owned_request_view request.now) t.items) }
+{
+    let Ok(asked) = request_words(alloc, request.as_request()) else {
+        return Err(io::Error::from(ErrorKind::OutOfMemory));
+    };
+    let peer = peer_text(alloc, peer)?;
+    let mut words = format!(in alloc; "ask {client} {peer} ")?.into_bytes();
+    words.extend_from_slice(asked.as_slice())?;
+    Ok(words)
+}
+
+/// Octets of a stranger: what they are.
+fn stranger_words(
+    alloc: Global,
+    node: usize,
+    from: LinkAddress,
+    octets: &[u8],
+) -> Result<Vec<u8>, AllocError>
+    ensures { IfOk result (λ t. t.items ≡ stranger_words node from octets.now) }
+{
+    let link = link_text(alloc, from)?;
+    let datagram = datagram_words(alloc, octets)?;
+    let mut words = format!(in alloc; "stranger {node} {link} ")?.into_bytes();
+    words.extend_from_slice(datagram.as_slice())?;
     Ok(words)
 }
 
@@ -78,6 +116,15 @@ fn event_words(alloc: Global, event: &Event) -> io::Result<Vec<u8>>
             request,
             ..
         } => return ask_words(alloc, *client, *server, request),
+        Event::AskStranger {
+            node,
+            peer,
+            request,
+            ..
+        } => return ask_stranger_words(alloc, *node, *peer, request),
+        Event::Stranger { node, from, octets } => {
+            return Ok(stranger_words(alloc, *node, *from, octets)?);
+        }
         Event::Change { node, change } => return Ok(change_words(alloc, *node, change)?),
         Event::Deliver { number } => format!(in alloc; "deliver {number}")?,
         Event::Noise { node, .. } => format!(in alloc; "noise {node}")?,
@@ -112,6 +159,19 @@ fn performed_words(alloc: Global, ask: usize, reply: &OwnedReply) -> io::Result<
     Ok(words)
 }
 
+/// A request of a stranger was performed, with that reply.
+fn served_words(alloc: Global, node: usize, peer: Peer, reply: &OwnedReply) -> io::Result<Vec<u8>>
+    ensures { IfOk result (λ t. AreServedWords node (peer_view peer) (owned_reply_view reply.now) t.items) }
+{
+    let Ok(answer) = reply_words(alloc, reply.as_reply()) else {
+        return Err(io::Error::from(ErrorKind::OutOfMemory));
+    };
+    let peer = peer_text(alloc, peer)?;
+    let mut words = format!(in alloc; "served {node} {peer}: ")?.into_bytes();
+    words.extend_from_slice(answer.as_slice())?;
+    Ok(words)
+}
+
 fn ended_words(alloc: Global, ask: usize, how: &Ending) -> io::Result<Vec<u8>>
     ensures { IfOk result (λ t. AreEndedWords ask (ending_view how.now) t.items) }
 {
@@ -128,7 +188,19 @@ fn fact_words(alloc: Global, fact: &Fact) -> io::Result<Vec<u8>>
 {
     let words = match fact {
         Fact::Performed { number, reply, .. } => return performed_words(alloc, *number, reply),
-        Fact::Ended { number, how } => return ended_words(alloc, *number, how),
+        Fact::Ended { number, how } | Fact::EndedAway { number, how } => {
+            return ended_words(alloc, *number, how);
+        }
+        Fact::Served {
+            peer,
+            node,
+            reply,
+            ..
+        } => return served_words(alloc, *node, *peer, reply),
+        Fact::AskedAway { number, peer, .. } => {
+            let peer = peer_text(alloc, *peer)?;
+            format!(in alloc; "asked {number} {peer}")?
+        }
         Fact::Asked { number, .. } => format!(in alloc; "asked {number}")?,
         Fact::Changed { node, .. } => format!(in alloc; "changed {node}")?,
         Fact::Restarted { node, .. } => format!(in alloc; "restarted {node}")?,

@@ -1,6 +1,6 @@
 //! The node of each command, on its link.
 ghost use Rattle.std.specs.Prelude.{◌≡◌, false, IfOk, IsErrOf};
-ghost use Rattle.bac_node.specs.Fresh.{slots_fit};
+ghost use Rattle.bac_node.specs.Fresh.{large_slots_fit};
 ghost use Rattle.bac_commands.specs.Houses.{client_node, house_node, server_node};
 
 use crate::fresh_node::{node_of, node_with, server_node};
@@ -11,7 +11,7 @@ use bac_store::{Store, house};
 use bac_value::NoMemory;
 use std::alloc::Global;
 
-/// A node of that address that serves a store, on that link, with so many slots at each end, 1 to 1,024. Where a moment is given, in milliseconds, it restarts
+/// A node of that address that serves a store, on that link, with so many slots at each end, 1 to 65,536. Where a moment is given, in milliseconds, it restarts
 /// then: it turns new requests away while no more than 65,000 ms have passed since.
 ///
 /// `BadSlots` where there can't be so many slots, `NoMemory` where memory is refused.
@@ -26,7 +26,7 @@ pub fn bound_server<L: Link>(
     ensures node { IfOk result (λ s. s.node ≡ server_node slots restart address store) }
     ensures failures { IfOk result (λ s. s.failures ≡ L.failures link) }
     ensures calls { IfOk result (λ s. s.calls ≡ L.calls link) }
-    ensures slots { IsErrOf result NewNodeFault.BadSlots → slots_fit slots ≡ false }
+    ensures slots { IsErrOf result NewNodeFault.BadSlots → large_slots_fit slots ≡ false }
     ensures window { IsErrOf result NewNodeFault.BadWindow → ⊥ }
 {
     let node = server_node(alloc, slots, restart, address, store)?;

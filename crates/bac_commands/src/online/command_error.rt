@@ -2,10 +2,10 @@
 ghost use Rattle.std.specs.Prelude.{◌≡◌};
 ghost use Rattle.bac_text.specs.Statuses.{IsFailure};
 ghost use Rattle.bac_text.specs.declared.status.Status.TheVariants as status;
-ghost use Rattle.bac_commands.specs.CommandErrors.{IsPrintedBy, trouble_of};
+ghost use Rattle.bac_commands.specs.CommandErrors.{IsPrintedBy, trouble_of, trouble_of_round};
 ghost use Rattle.bac_commands.specs.declared.online.command_error.CommandError.TheVariants as command_error;
 
-use bac_driver::TurnFault;
+use bac_driver::{RoundFault, TurnFault};
 use bac_text::{Status, complain, no_memory, output_failed};
 use bac_value::NoMemory;
 use std::io;
@@ -18,6 +18,8 @@ pub enum CommandError {
     Link,
     /// The clock can't be read, or goes back.
     Clock,
+    /// What was written could not be kept.
+    Keep,
     /// Memory was refused.
     Memory,
     /// What is printed could not be written.
@@ -38,6 +40,13 @@ pub fn clock_fault<E: Write>(err: &mut E) -> Status
     complain(err, "clock fault", Status::Output)
 }
 
+/// Complains that what was written could not be kept. The status is that of all that is outside of the program.
+pub fn keep_fault<E: Write>(err: &mut E) -> Status
+    ensures { result ≡ status.Output }
+{
+    complain(err, "keep fault", Status::Output)
+}
+
 impl CommandError {
     /// Complains of it.
     pub fn report<E: Write>(self, err: &mut E) -> Status
@@ -47,6 +56,7 @@ impl CommandError {
         match self {
             CommandError::Link => link_fault(err),
             CommandError::Clock => clock_fault(err),
+            CommandError::Keep => keep_fault(err),
             CommandError::Memory => no_memory(err),
             CommandError::Output(error) => output_failed(err, &error),
         }
@@ -60,6 +70,18 @@ impl From<TurnFault> for CommandError {
         match fault {
             TurnFault::Link => CommandError::Link,
             TurnFault::ClockBack => CommandError::Clock,
+        }
+    }
+}
+
+impl From<RoundFault> for CommandError {
+    ghost from_gives = { λ f t. t ≡ trouble_of_round f };
+
+    fn from(fault: RoundFault) -> CommandError {
+        match fault {
+            RoundFault::Link => CommandError::Link,
+            RoundFault::ClockBack => CommandError::Clock,
+            RoundFault::Keep(_) => CommandError::Keep,
         }
     }
 }

@@ -10,7 +10,8 @@ use bac_store::{Change, Store};
 #[derive(Clone, Copy)]
 struct Deed {
     client: usize,
-    server: usize,
+    /// None for a stranger.
+    server: Option<usize>,
     /// How often its client had restarted.
     life: usize,
     /// Where in the log it was asked, and where performed.
@@ -31,6 +32,9 @@ pub(super) struct Counts {
     /// Performed by a server that had restarted, and asked by a client that had.
     pub(super) performed_anew: usize,
     pub(super) asked_anew: usize,
+    /// Performed for strangers, and asks of strangers that they answered.
+    pub(super) served: usize,
+    pub(super) answered_away: usize,
 }
 
 impl Counts {
@@ -43,6 +47,8 @@ impl Counts {
             answered: 0,
             performed_anew: 0,
             asked_anew: 0,
+            served: 0,
+            answered_away: 0,
         }
     }
 
@@ -56,6 +62,8 @@ impl Counts {
             answered: self.answered.saturating_add(other.answered),
             performed_anew: self.performed_anew.saturating_add(other.performed_anew),
             asked_anew: self.asked_anew.saturating_add(other.asked_anew),
+            served: self.served.saturating_add(other.served),
+            answered_away: self.answered_away.saturating_add(other.answered_away),
         }
     }
 }
@@ -77,6 +85,7 @@ fn asked_at(log: &[Fact], place: usize) -> Option<&OwnedRequest> {
 fn performed_at(log: &[Fact], place: usize) -> Option<(&OwnedRequest, &OwnedReply)> {
     match log.get(place) {
         Some(Fact::Performed { request, reply, .. }) => Some((request, reply)),
+        Some(Fact::Served { request, reply, .. }) => Some((request, reply)),
         _ => None,
     }
 }
@@ -176,11 +185,16 @@ impl Followed {
                     server,
                     ..
                 },
-            ) => self.asked(place, *number, *client, *server),
+            ) => self.asked(place, *number, *client, Some(*server)),
+            Some(Fact::AskedAway { number, client, .. }) => {
+                self.asked(place, *number, *client, None)
+            }
             Some(Fact::Performed { number, .. }) => self.performs(alloc, log, place, *number),
             Some(Fact::Ended { number, how }) => self.ends(log, *number, how),
             Some(Fact::Changed { node, change }) => self.changes(alloc, *node, change),
             Some(Fact::Restarted { node, store }) => self.restarts(alloc, *node, store),
+            Some(Fact::Served { node, .. }) => self.serves(alloc, log, place, *node),
+            Some(Fact::EndedAway { number, how }) => self.ends_away(*number, how),
             None => None,
         }
     }
@@ -190,7 +204,13 @@ impl Followed {
     }
 
     /// An ask has the next number.
-    fn asked(&mut self, place: usize, number: usize, client: usize, server: usize) -> Option<()> {
+    fn asked(
+        &mut self,
+        place: usize,
+        number: usize,
+        client: usize,
+        server: Option<usize>,
+    ) -> Option<()> {
         must(number == self.deeds.len())?;
         let life = self.life(client);
         self.deeds
@@ -214,7 +234,14 @@ impl Followed {
         };
         must(deed.performed.is_none())?;
         deed.performed = Some(place);
-        let Deed { server, asked, .. } = *deed;
+        let Deed {
+            server: Some(server),
+            asked,
+            ..
+        } = *deed
+        else {
+            return None;
+        };
         let (request, reply) = performed_at(log, place)?;
         must(same_request(request, asked_at(log, asked)?))?;
         let Some(store) = self.stores.get_mut(server) else {
@@ -227,20 +254,45 @@ impl Followed {
         Some(())
     }
 
-    /// An ask ends for the first time, in the life of its client in which it was asked; where it is answered, with the reply with which it was performed.
-    fn ends(&mut self, log: &[Fact], number: usize, how: &Ending) -> Option<()> {
+    /// A request of a stranger is performed: with the reply of the node's store.
+    fn serves(&mut self, alloc: Global, log: &[Fact], place: usize, node: usize) -> Option<()> {
+        let (request, reply) = performed_at(log, place)?;
+        let Some(store) = self.stores.get_mut(node) else {
+            return None;
+        };
+        performs(alloc, store, request, reply)?;
+        count(&mut self.counts.served, true);
+        Some(())
+    }
+
+    /// An ask ends for the first time, in the life of its client in which it was asked.
+    fn closes(&mut self, number: usize) -> Option<Deed> {
         let Some(deed) = self.deeds.get_mut(number) else {
             return None;
         };
         must(!deed.has_ended)?;
         deed.has_ended = true;
+        let deed = *deed;
+        must(deed.life == self.life(deed.client))?;
+        Some(deed)
+    }
+
+    /// An ask of a stranger ends.
+    fn ends_away(&mut self, number: usize, how: &Ending) -> Option<()> {
+        must(self.closes(number)?.server.is_none())?;
+        let is_answered = matches!(how, Ending::Answered(_));
+        count(&mut self.counts.answered_away, is_answered);
+        Some(())
+    }
+
+    /// An ask of a node ends; where it is answered, with the reply with which it was performed.
+    fn ends(&mut self, log: &[Fact], number: usize, how: &Ending) -> Option<()> {
         let Deed {
-            client,
-            life,
+            server,
             performed,
             ..
-        } = *deed;
-        must(life == self.life(client))?;
+        } = self.closes(number)?;
+        must(server.is_some())?;
         let Ending::Answered(answer) = how else {
             return Some(());
         };

@@ -113,7 +113,7 @@ fn question(alloc: Global, chance: &mut Chance) -> Option<Event> {
     })
 }
 
-fn next_event(alloc: Global, world: &World, chance: &mut Chance) -> Option<Event> {
+pub(super) fn next_event(alloc: Global, world: &World, chance: &mut Chance) -> Option<Event> {
     match chance.below(22) {
         0..=2 => question(alloc, chance),
         3 => restart(alloc, chance),
@@ -127,7 +127,7 @@ fn next_event(alloc: Global, world: &World, chance: &mut Chance) -> Option<Event
 }
 
 /// An event happens, if there is such a copy; whether a change was refused.
-fn happens(world: &mut World, event: &Event) -> Option<bool> {
+pub(super) fn happens(world: &mut World, event: &Event) -> Option<bool> {
     match world.step(event) {
         Ok(_) | Err(WorldFault::NoSuchDatagram) => Some(false),
         Err(WorldFault::BadChange(_)) => Some(true),

@@ -30,6 +30,27 @@ fn node(
     Node::new(alloc, config, house(alloc)?)
 }
 
+/// One with large tables; where a moment is given it restarts then.
+fn large_node(
+    alloc: Global,
+    slots: (usize, usize),
+    window: u8,
+    restart: Option<u64>,
+) -> Result<Node, NewNodeFault> {
+    let config = Config {
+        link: link(1),
+        limits: TAKES,
+        window,
+        client_slots: slots.0,
+        reply_slots: slots.1,
+    };
+    let store = house(alloc)?;
+    match restart {
+        Some(now) => Node::restarted_with_large_tables(alloc, config, store, now),
+        None => Node::with_large_tables(alloc, config, store),
+    }
+}
+
 /// One with 64 slots at each end.
 pub(super) fn house_node(alloc: Global, number: u8) -> Result<Node, NewNodeFault> {
     node(alloc, number, 64, 64, 32)
@@ -61,6 +82,39 @@ fn is_made(alloc: Global, row: &Limit) -> bool {
 fn limits_of_a_node(rt: HostRuntime) {
     for row in LIMITS {
         assert!(rt; is_made(rt.alloc(), row));
+    }
+}
+
+/// The same of nodes with large tables.
+const LARGE_LIMITS: &[Limit] = &[
+    (1, 1, 1, 0),
+    (1_024, 1_025, 64, 0),
+    (1, 65_536, 32, 0),
+    (65_536, 1, 32, 0),
+    (0, 1, 0, 1),
+    (1, 0, 32, 1),
+    (65_537, 1, 32, 1),
+    (1, 65_537, 65, 1),
+    (65_536, 65_536, 0, 3),
+    (65_536, 65_536, 65, 3),
+];
+
+/// Whether a node is made with as many slots as were asked for, or not for that fault.
+fn is_large(alloc: Global, row: &Limit, restart: Option<u64>) -> bool {
+    match large_node(alloc, (row.0, row.1), row.2, restart) {
+        Ok(node) => row.3 == 0
+            && node.client_slots() == row.0
+            && node.reply_slots() == row.1
+            && node.latest() == restart.unwrap_or(0),
+        Err(fault) => row.3 == fault.number(),
+    }
+}
+
+#[test]
+fn limits_of_large_tables(rt: HostRuntime) {
+    for row in LARGE_LIMITS {
+        assert!(rt; is_large(rt.alloc(), row, None));
+        assert!(rt; is_large(rt.alloc(), row, Some(7)));
     }
 }
 

@@ -67,9 +67,14 @@ pub(super) fn request_of(alloc: Global, text: &str) -> Option<OwnedRequest> {
     }
 }
 
+/// The octets of some digits, of which parts may be repeated as in rows.
+pub(super) fn octets_in(alloc: Global, digits: &str) -> Option<Vec<u8>> {
+    octets_of(alloc, plain(alloc, digits).ok()?.as_str()).ok()
+}
+
 /// A store of analog-input 7, with a description of these octets.
 fn described(alloc: Global, description: &str) -> Option<Store> {
-    let octets = octets_of(alloc, plain(alloc, description).ok()?.as_str()).ok()?;
+    let octets = octets_in(alloc, description)?;
     store_of(alloc, ObjectIdentifier::new(0, 7)?, 28, &octets)
 }
 
@@ -99,13 +104,18 @@ impl Member {
 }
 
 impl Scene {
-    /// A new world.
-    pub(super) fn world(&self, alloc: Global) -> Option<World> {
+    /// What its nodes are made of.
+    pub(super) fn made(&self, alloc: Global) -> Option<Vec<(Config, Store)>> {
         let mut nodes = Vec::new(alloc);
         for (number, member) in self.members.iter().enumerate() {
             put(&mut nodes, member.made(alloc, (number % 256) as u8)?)?;
         }
-        match World::new(alloc, nodes, self.overtake) {
+        Some(nodes)
+    }
+
+    /// A new world.
+    pub(super) fn world(&self, alloc: Global) -> Option<World> {
+        match World::new(alloc, self.made(alloc)?, self.overtake) {
             Ok(world) => Some(world),
             Err(_) => None,
         }

@@ -253,13 +253,27 @@ fn answers_fronts_by_their_length(rt: HostRuntime) -> Result<(), Fail> {
     Ok(())
 }
 
-/// Words that are no hexadecimal.
-const NO_HEXADECIMAL: &[&str] = &["8", "8G", "81 0A", "0x81"];
+/// Words that are no hexadecimal, and what is told of them.
+const NO_HEXADECIMAL: &[(&str, &str)] = &[
+    (
+        "8",
+        "bad hex\nthe digits are no whole octets: an even number of them wanted\n",
+    ),
+    ("8G", "bad hex\ncharacter 2: 'G' is no hexadecimal digit\n"),
+    (
+        "81 0A",
+        "bad hex\ncharacter 3: ' ' is no hexadecimal digit\n",
+    ),
+    (
+        "0x81",
+        "bad hex\ncharacter 2: 'x' is no hexadecimal digit\n",
+    ),
+];
 
 #[test]
 fn refuses_what_is_not_hexadecimal(rt: HostRuntime) -> Result<(), Fail> {
-    for word in NO_HEXADECIMAL {
-        let is_refused = answered(rt.alloc(), word)?.is(&("", "bad hex\n", 2));
+    for (word, told) in NO_HEXADECIMAL {
+        let is_refused = answered(rt.alloc(), word)?.is(&("", told, 2));
         holds(is_refused, word)?;
     }
     Ok(())
@@ -326,7 +340,10 @@ const WORDS: &[(&str, Ending)] = &[
         ),
     ),
     ("answer 810A000801001013", ("none\n", "", 0)),
-    ("answer 8G", ("", "bad hex\n", 2)),
+    (
+        "answer 8G",
+        ("", "bad hex\ncharacter 2: 'G' is no hexadecimal digit\n", 2),
+    ),
 ];
 
 #[test]

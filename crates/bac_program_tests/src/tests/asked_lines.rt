@@ -108,13 +108,13 @@ const REFUSED: &[LinesRow] = &[
         "",
         HOUSES,
         "ask --port 47808 --lines nowhere",
-        ("", "cannot read\n", 2),
+        ("", "cannot read\nnowhere: entity not found\n", 2),
     ),
     (
         "",
         HOUSES,
         "ask --port 47808 --lines broken",
-        ("", "cannot read\n", 2),
+        ("", "cannot read\nbroken: permission denied\n", 2),
     ),
 ];
 

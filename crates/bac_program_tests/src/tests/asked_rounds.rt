@@ -102,7 +102,7 @@ const ROWS: &[RoundsRow] = &[
         "",
         NO_LINKS,
         "ask --port 47808 --every 1 read",
-        ("", "bad words\n", 2),
+        ("", "bad words\nobject is missing\n", 2),
     ),
 ];
 

@@ -227,7 +227,22 @@ const WORDS: &[(&str, Ending)] = &[
         ),
     ),
     ("decode 810B0004", ("fault bvll 6\n", "", 1)),
-    ("decode 8G", ("", "bad hex\n", 2)),
+    (
+        "decode 8G",
+        ("", "bad hex\ncharacter 2: 'G' is no hexadecimal digit\n", 2),
+    ),
+    (
+        "decode 81:0x:8",
+        (
+            "",
+            "bad hex\na group of digits is no whole octets: an even number of them wanted\n",
+            2,
+        ),
+    ),
+    (
+        "decode 0X81:810x",
+        ("", "bad hex\ncharacter 9: 'x' is no hexadecimal digit\n", 2),
+    ),
     (
         "decode 0x81:0x0A:00:08:0100:10:13",
         (
@@ -244,7 +259,10 @@ const WORDS: &[(&str, Ending)] = &[
             1,
         ),
     ),
-    ("decode --text 8G", ("", "bad hex\n", 2)),
+    (
+        "decode --text 8G",
+        ("", "bad hex\ncharacter 2: 'G' is no hexadecimal digit\n", 2),
+    ),
 ];
 
 #[test]

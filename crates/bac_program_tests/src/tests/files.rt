@@ -55,7 +55,11 @@ lines=9 good=1 bad=8
             1,
         ),
     ),
-    ("", "check missing", ("", "cannot read\n", 2)),
+    (
+        "",
+        "check missing",
+        ("", "cannot read\nmissing: entity not found\n", 2),
+    ),
     ("", "check starved", ("", "no memory\n", 4)),
     (
         "wrong\n",
@@ -126,7 +130,11 @@ const NOTED: &[FileRow] = &[
         "check capture",
         ("line 1: not a capture line\nlines=1 good=0 bad=1\n", "", 1),
     ),
-    ("", "check --notes missing", ("", "cannot read\n", 2)),
+    (
+        "",
+        "check --notes missing",
+        ("", "cannot read\nmissing: entity not found\n", 2),
+    ),
     (
         "# two\r\nnodes 2\r\n\r\nlose 0\r\n",
         "simulate --notes capture",
@@ -212,8 +220,16 @@ transactions=0 answered=0 rejected=0 aborted=0 unanswered=0 slowest=- findings=0
         "explain --mermaid capture",
         ("", "no capture file\n", 2),
     ),
-    ("", "explain --chart missing", ("", "cannot read\n", 2)),
-    ("", "explain missing", ("", "cannot read\n", 2)),
+    (
+        "",
+        "explain --chart missing",
+        ("", "cannot read\nmissing: entity not found\n", 2),
+    ),
+    (
+        "",
+        "explain missing",
+        ("", "cannot read\nmissing: entity not found\n", 2),
+    ),
     ("", "explain starved", ("", "no memory\n", 4)),
     (NO_FRAME, "explain broken", ("", "cannot read\n", 2)),
     (NO_FRAME, "explain starving", ("", "no memory\n", 4)),
@@ -251,7 +267,11 @@ const SCRIPTS: &[FileRow] = &[
         "simulate capture",
         ("", "line 1: not a script line\n", 2),
     ),
-    ("nodes 2\n", "simulate missing", ("", "cannot read\n", 2)),
+    (
+        "nodes 2\n",
+        "simulate missing",
+        ("", "cannot read\nmissing: entity not found\n", 2),
+    ),
     ("nodes 2\n", "simulate starved", ("", "no memory\n", 4)),
     (
         "nodes 2\ntick 0\n",
@@ -392,7 +412,11 @@ present-value = { real = -40.0 }
     (
         "[[object]]\ntype = \"device\"\ninstance = 1\nname = \"bare\"\n",
         "answer --objects capture 0",
-        ("", "bad hex\n", 2),
+        (
+            "",
+            "bad hex\nthe digits are no whole octets: an even number of them wanted\n",
+            2,
+        ),
     ),
     (
         "[[object]]\ntype = \"device\"\ninstance = 1\nname = \"bare\"\n",
@@ -409,12 +433,25 @@ present-value = { real = -40.0 }
         "answer --objects capture 00",
         (
             "",
-            "capture: object 1: type: analog-input, analog-value, binary-value, device, file or 128 to 1023 wanted, another one given\n",
+            "\
+capture: object 1: type: analog-input, analog-value, binary-value, device, file or 128 to 1023 wanted, another one given
+capture: line 2: object 1: type: analog-input, analog-value, binary-value, device, file or 128 to 1023 wanted, \"boiler\" given
+capture: line 1: object 1: instance: 0 to 4194302 wanted, nothing given
+capture: line 1: object 1: name: text wanted, nothing given
+",
             2,
         ),
     ),
-    ("", "answer --objects missing 00", ("", "cannot read\n", 2)),
-    ("", "answer --objects broken 00", ("", "cannot read\n", 2)),
+    (
+        "",
+        "answer --objects missing 00",
+        ("", "cannot read\nmissing: entity not found\n", 2),
+    ),
+    (
+        "",
+        "answer --objects broken 00",
+        ("", "cannot read\nbroken: permission denied\n", 2),
+    ),
     ("", "answer --objects starving 00", ("", "no memory\n", 4)),
     ("", "answer --objects starved 00", ("", "no memory\n", 4)),
 ];

@@ -22,10 +22,9 @@ const WORDS: &[(&str, &str)] = &[
     ("explain x --port 65536", "65536"),
     ("check x --port 0", "0 is not in 1..=65535"),
     ("check x --text --notes", "--notes"),
-    ("serve", "--port <P>"),
-    ("serve --turns 2", "--port <P>"),
-    ("serve --port 47899 --slots 0", "0 is not in 1..=1024"),
-    ("serve --port 47899 --slots 1025", "1025"),
+    ("serve --port", "--port <P>"),
+    ("serve --port 47899 --slots 0", "0 is not in 1..=65536"),
+    ("serve --port 47899 --slots 65537", "65537"),
     (
         "serve --port 47899 --seconds 0",
         "0 is not in 1..=1000000000",

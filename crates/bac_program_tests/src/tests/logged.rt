@@ -117,6 +117,11 @@ const ROWS: &[(Behind, &str, Ending)] = &[
         ("served 4\n", REQUEST_LINES, 0),
     ),
     (
+        Behind::Datagrams(REQUESTS),
+        "serve --turns 8 --log",
+        ("served 4\n", REQUEST_LINES, 0),
+    ),
+    (
         Behind::Datagrams(DROPPED),
         "serve --port 47808 --turns 7 --log",
         ("served 0\n", DROPPED_LINES, 0),

@@ -189,37 +189,41 @@ const BEHIND_A_ROUTER: &[BenchRow] = &[
     (
         NOBODY,
         "ask --port 47808 --route 0:2A read 0:5 85",
-        ("", "bad address\n", 2),
+        ("", "bad address\n\"0:2A\" is no NET:MAC, as 5:2A\n", 2),
     ),
     (
         NOBODY,
         "ask --port 47808 --route 65535:2A read 0:5 85",
-        ("", "bad address\n", 2),
+        ("", "bad address\n\"65535:2A\" is no NET:MAC, as 5:2A\n", 2),
     ),
     (
         NOBODY,
         "ask --port 47808 --route 5 read 0:5 85",
-        ("", "bad address\n", 2),
+        ("", "bad address\n\"5\" is no NET:MAC, as 5:2A\n", 2),
     ),
     (
         NOBODY,
         "ask --port 47808 --route 5: read 0:5 85",
-        ("", "bad address\n", 2),
+        ("", "bad address\n\"5:\" is no NET:MAC, as 5:2A\n", 2),
     ),
     (
         NOBODY,
         "ask --port 47808 --route 5:2 read 0:5 85",
-        ("", "bad address\n", 2),
+        ("", "bad address\n\"5:2\" is no NET:MAC, as 5:2A\n", 2),
     ),
     (
         NOBODY,
         "ask --port 47808 --route 5:010203040506070809 read 0:5 85",
-        ("", "bad address\n", 2),
+        (
+            "",
+            "bad address\n\"5:010203040506070809\" is no NET:MAC, as 5:2A\n",
+            2,
+        ),
     ),
     (
         NOBODY,
         "ask --port 47808 --route net:2A read 0:5 85",
-        ("", "bad address\n", 2),
+        ("", "bad address\n\"net:2A\" is no NET:MAC, as 5:2A\n", 2),
     ),
 ];
 
@@ -279,7 +283,20 @@ const OCTETS: &[BenchRow] = &[
     (
         NO_LINKS,
         "ask --port 47808 --raw read 0:5 85",
-        ("", "bad words\n", 2),
+        (
+            "",
+            "bad words\n--raw writes the octets of a file: a `get` wanted\n",
+            2,
+        ),
+    ),
+    (
+        NO_LINKS,
+        "ask --port 47808 --raw put 10:1 0 4D",
+        (
+            "",
+            "bad words\n--raw writes the octets of a file: a `get` wanted\n",
+            2,
+        ),
     ),
 ];
 
@@ -303,7 +320,11 @@ const OF_A_FILE: &[FileRow] = &[
         "zz",
         NO_LINKS,
         "ask --port 47808 write 2:1 85 @capture",
-        ("", "bad words\n", 2),
+        (
+            "",
+            "bad words\nvalues from \"7A7A\" on are no whole data\n",
+            2,
+        ),
     ),
     (
         "AB",
@@ -321,19 +342,19 @@ const OF_A_FILE: &[FileRow] = &[
         "AB",
         NO_LINKS,
         "ask --port 47808 put 10:1 @capture AA",
-        ("", "bad words\n", 2),
+        ("", "bad words\nposition \"@capture\" is no number\n", 2),
     ),
     (
         "AB",
         NO_LINKS,
         "ask --port 47808 put 10:1 0 @nothing",
-        ("", "cannot read\n", 2),
+        ("", "cannot read\nnothing: entity not found\n", 2),
     ),
     (
         "AB",
         NO_LINKS,
         "ask --port 47808 put 10:1 0 @broken",
-        ("", "cannot read\n", 2),
+        ("", "cannot read\nbroken: permission denied\n", 2),
     ),
     (
         "AB",
@@ -575,7 +596,16 @@ const SERVED: &[BenchRow] = &[
         "serve --port 47808 --seconds 1",
         (
             "served 5\n",
-            "listening 127.0.0.1:47808, 5 objects, 1024 slots\n",
+            "listening 127.0.0.1:47808, 5 objects, 65536 slots\n",
+            0,
+        ),
+    ),
+    (
+        MANY_REQUESTS,
+        "serve --seconds 1",
+        (
+            "served 5\n",
+            "listening 127.0.0.1:47808, 5 objects, 65536 slots\n",
             0,
         ),
     ),
@@ -743,37 +773,49 @@ const NO_REQUEST: &[BenchRow] = &[
     (
         HOUSES,
         "ask --to house read 0:5 85",
-        ("", "bad address\n", 2),
+        ("", "bad address\n\"house\" is no A.B.C.D or A.B.C.D:P\n", 2),
     ),
     (
         HOUSES,
         "ask --to 127.0.0.1: read 0:5 85",
-        ("", "bad address\n", 2),
+        (
+            "",
+            "bad address\n\"127.0.0.1:\" is no A.B.C.D or A.B.C.D:P\n",
+            2,
+        ),
     ),
     (
         HOUSES,
         "ask --to 127.0.0.1:0 read 0:5 85",
-        ("", "bad address\n", 2),
+        (
+            "",
+            "bad address\n\"127.0.0.1:0\" is no A.B.C.D or A.B.C.D:P\n",
+            2,
+        ),
     ),
     (
         HOUSES,
         "ask --to 127.0.0.256 read 0:5 85",
-        ("", "bad address\n", 2),
+        (
+            "",
+            "bad address\n\"127.0.0.256\" is no A.B.C.D or A.B.C.D:P\n",
+            2,
+        ),
     ),
     (
         HOUSES,
         "serve --port 47808 --at localhost --turns 1",
-        ("", "bad address\n", 2),
+        ("", "bad address\n\"localhost\" is no A.B.C.D\n", 2),
     ),
     (
         NO_LINKS,
         "ask --port 47899 get 10:1",
-        ("", "bad words\n", 2),
+        ("", "bad words\nposition is missing\n", 2),
     ),
     (
         NO_LINKS,
         "ask --port 47899 append 10:1 4G",
-        ("", "bad words\n", 2),
+        ("", "bad words\noctets \"4G\" is no hexadecimal\n", 2),
     ),
     (
         NO_LINKS,

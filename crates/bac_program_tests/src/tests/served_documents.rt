@@ -29,7 +29,7 @@ const LISTENING: &[(&str, Ending)] = &[
         "serve --port 47808",
         (
             "",
-            "listening 127.0.0.1:47808, 5 objects, 1024 slots\nlink fault\n",
+            "listening 127.0.0.1:47808, 5 objects, 65536 slots\nlink fault\n",
             3,
         ),
     ),
@@ -37,7 +37,7 @@ const LISTENING: &[(&str, Ending)] = &[
         "serve --port 47808 --objects capture",
         (
             "",
-            "listening 127.0.0.1:47808, 1 objects, 1024 slots\nlink fault\n",
+            "listening 127.0.0.1:47808, 1 objects, 65536 slots\nlink fault\n",
             3,
         ),
     ),

@@ -33,8 +33,22 @@ const ROWS: &[(&str, Ending)] = &[
         "ask --to 127.0.0.9:47896 --timeout 1 --every 1 --times 2 read 0:5 85",
         ("no ending\nno ending\n", "", 1),
     ),
-    ("check no/such/capture", ("", "cannot read\n", 2)),
-    ("simulate no/such/script", ("", "cannot read\n", 2)),
+    (
+        "check no/such/capture",
+        (
+            "",
+            "cannot read\nno/such/capture: No such file or directory (os error 2)\n",
+            2,
+        ),
+    ),
+    (
+        "simulate no/such/script",
+        (
+            "",
+            "cannot read\nno/such/script: No such file or directory (os error 2)\n",
+            2,
+        ),
+    ),
 ];
 
 #[test]
@@ -52,7 +66,7 @@ fn runs_on_this_machine(rt: HostRuntime) -> Result<(), Fail> {
 }
 
 /// What a server says, before the moment from which it takes new requests.
-const RESTARTED: &str = "listening 127.0.0.1:47898, 5 objects, 1024 slots\nserving from ";
+const RESTARTED: &str = "listening 127.0.0.1:47898, 5 objects, 65536 slots\nserving from ";
 
 /// The moment that a server that restarted says, and nothing else; None where it is something else.
 fn moment_of(err: &[u8]) -> Option<u64> {

@@ -6,9 +6,27 @@ const WRONG: &[(&str, Ending)] = &[
     ("answer 810A000801001013", ("none", "", 0)),
     ("answer 810A000801001013", ("none\n", "x", 0)),
     ("answer 810A000801001013", ("none\n", "", 1)),
-    ("answer 8G", ("none\n", "bad hex\n", 2)),
-    ("answer 8G", ("", "bad words\n", 2)),
-    ("answer 8G", ("", "bad hex\n", 1)),
+    (
+        "answer 8G",
+        (
+            "none\n",
+            "bad hex\ncharacter 2: 'G' is no hexadecimal digit\n",
+            2,
+        ),
+    ),
+    (
+        "answer 8G",
+        (
+            "",
+            "bad words\ncharacter 2: 'G' is no hexadecimal digit\n",
+            2,
+        ),
+    ),
+    (
+        "answer 8G",
+        ("", "bad hex\ncharacter 2: 'G' is no hexadecimal digit\n", 1),
+    ),
+    ("answer 8G", ("", "bad hex\n", 2)),
 ];
 
 #[test]

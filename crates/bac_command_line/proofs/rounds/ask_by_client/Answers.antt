@@ -6,14 +6,18 @@ use Rattle.bac_command_line.proofs.rounds.ask_by_client.Goals as goal
 
 pub returns : goal.returns
 returns g c =
-    let client : IsClientAt (OnPort g.M.Machine.is_bound g.M.Link.Link.failures g.M.Link.Link.calls) c.args.asking.now.host c.in-Some-first_id.first_id
+    let new = c.in-Ok.client in
+    let client : IsClientAt (OnPort g.M.Machine.is_bound g.M.Link.Link.failures g.M.Link.Link.calls) c.args.asking.now.host new.pair.first_id
     c.in-Ok-bound_client.bound_node = record {
-      address = c.in-Ok.bound.1;
-      node = c.in-Ok-bound_client.ensures.node;
-      on = record { link = c.in-Ok.bound.0; bound = c.in-Ok.ensures; failed = c.in-Ok-bound_client.ensures.failures; made = c.in-Ok-bound_client.ensures.calls };
+      port = new.pair.port;
+      at = record {
+        address = new.address;
+        node = c.in-Ok-bound_client.ensures.node;
+        on = record { link = new.link; bound = c.in-Ok.ensures; failed = c.in-Ok-bound_client.ensures.failures; made = c.in-Ok-bound_client.ensures.calls };
+      };
     } in
     let clock : OnClock g.M.Machine.is_made g.M.Timer.Clock.told (g.M.Timer.Clock.told c.in-Some.timer) =
     record { timer = c.in-Some.timer; made = c.in-Some.ensures; is = refl } in
-    lifted c.ask_and_report.result (λ a. record { before = _; after = _; first_id = c.in-Some-first_id.first_id; client = client; clock = clock; rounds = a })
-    (λ a. record { before = _; after = _; first_id = c.in-Some-first_id.first_id; client = client; clock = clock; rounds = a }) (λ n. n)
+    lifted c.ask_and_report.result (λ a. record { before = _; after = _; first_id = new.pair.first_id; client = client; clock = clock; rounds = a })
+    (λ a. record { before = _; after = _; first_id = new.pair.first_id; client = client; clock = clock; rounds = a }) (λ n. n)
     c.ask_and_report.ensures

@@ -8,8 +8,8 @@ loop-number-preserved g c =
     let at = c.loop-number in
     let k = c.index-copies-number.result in
     let lt : at.number < length c.args.copies.now = omega arith in
-    λ end h. at.invariant end (record_more c.args.copies.now at.number k
+    λ end h. at.invariant end (record_more c.args.parts c.args.copies.now at.number k
     (slice_get_read c.args.copies.now _ at.number k refl lt c.index-copies-number.is) _ _ end c.in_ok-print_copy.ensures h)
 
 pub returns : goal.returns
-returns g c = c.loop-number.invariant _ (no_record_more c.args.copies.now c.loop-number.number (omega arith) _)
+returns g c = c.loop-number.invariant _ (no_record_more c.args.parts c.args.copies.now c.loop-number.number (omega arith) _)

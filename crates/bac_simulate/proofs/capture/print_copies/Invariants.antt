@@ -7,5 +7,5 @@ use Rattle.bac_simulate.proofs.capture.print_copies.Given as goal
 
 abbrev pub invariant-loop-number : goal.invariant-loop-number
 invariant-loop-number g l = (end : Option (List ℕ))
-    → Appends (g.W.Write.contents l.out) end (records_of (drop l.number (map copy_view l.copies)))
-    → Appends (g.W.Write.contents l.fn.out) end (records_of (map copy_view l.copies))
+    → Appends (g.W.Write.contents l.out) end (records_of l.parts (drop l.number (map copy_view l.copies)))
+    → Appends (g.W.Write.contents l.fn.out) end (records_of l.parts (map copy_view l.copies))

@@ -10,6 +10,6 @@ returns c =
     let number = c.args.number in
     let k = c.index-copies-number.result in
     let lt : number < length copies = omega arith in
-    delivered _ _ _ _ number _ c.args.world.now copies _ k _ _ c.copies-copies.ensures
+    delivered _ _ _ _ _ number _ c.args.world.now copies _ k _ _ c.copies-copies.ensures
     (slice_get_read copies _ number k refl lt c.index-copies-number.is) (take_rest copies (number + 1)) c.count_of-later.ensures.is c.overtake.ensures
-    c.life.ensures c.now.ensures c.now-2.ensures c.may_come-comes.ensures c.in_ok-mark.ensures
+    c.life.ensures c.now.ensures c.ms_now.ensures c.parts_in.ensures.is c.may_come-comes.ensures c.in_ok-mark.ensures

@@ -1,10 +1,10 @@
 use Rattle.bac_text.specs.Lines.{lines_of}
 use Rattle.bac_simulate.specs.Scripts.{script_of}
-use Rattle.bac_simulate.proofs.Reported.{as_script, no_script}
+use Rattle.bac_simulate.proofs.Reported.{no_script, reported}
 use Rattle.bac_simulate.proofs.simulate.simulate.Goals as goal
 
 pub returns-in-Ok : goal.returns-in-Ok
-returns-in-Ok g c = as_script (script_of c.args.notes (lines_of c.args.text.now)) _ _ _ _ c.in-Ok.ensures.read c.run_set.ensures
+returns-in-Ok g c = reported (script_of c.args.notes (lines_of c.args.text.now)) c.in-Ok.script _ _ _ c.in-Ok.ensures c.run_script.ensures
 
 pub returns-in-Err : goal.returns-in-Err
-returns-in-Err g c = no_script c.in-Err.fault (script_of c.args.notes (lines_of c.args.text.now)) _ _ c.in-Err.ensures.read c.no_script.ensures
+returns-in-Err g c = no_script c.in-Err.fault (script_of c.args.notes (lines_of c.args.text.now)) _ _ c.in-Err.ensures c.no_script.ensures

@@ -8,6 +8,6 @@ loop-number-preserved c =
     let at = c.loop-number in
     let k = c.index-copies-number.result in
     let lt : at.number < length c.args.copies.now = omega arith in
-    copy_added c.args.copies.now at.number k (slice_get_read c.args.copies.now _ at.number k refl lt c.index-copies-number.is) at.marks.items
+    copy_added c.args.parts c.args.copies.now at.number k (slice_get_read c.args.copies.now _ at.number k refl lt c.index-copies-number.is) at.marks.items
     c.push.new.self.items c.in_ok-arrow.arrow c.in_ok-arrow.ensures c.in_ok-push.ensures.items
     ∙ at.invariant

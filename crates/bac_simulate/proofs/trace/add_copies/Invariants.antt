@@ -7,5 +7,5 @@ use Rattle.bac_simulate.proofs.trace.add_copies.Given as goal
 
 abbrev pub invariant-loop-number : goal.invariant-loop-number
 invariant-loop-number l =
-    map mark_view l.marks.items ++ sent_marks l.number (drop l.number (map copy_view l.copies))
-    ≡ map mark_view l.fn.marks.items ++ sent_marks l.before (drop l.before (map copy_view l.copies))
+    map mark_view l.marks.items ++ sent_marks l.parts l.number (drop l.number (map copy_view l.copies))
+    ≡ map mark_view l.fn.marks.items ++ sent_marks l.parts l.before (drop l.before (map copy_view l.copies))

@@ -9,19 +9,19 @@ written a b xs ys p is = subst (Appends a b) is p
 pub returns-in-Ok : goal.returns-in-Ok
 returns-in-Ok g c =
     event_told c.args.line c.args.event.now c.in-Ok.refused c.args.world.now c.step.new.self c.of-before.result.facts c.of-before.result.copies
-    c.now.result c.why_nothing-why.result _ _ _ _ c.of-before.ensures.facts c.of-before.ensures.copies c.now.ensures c.why_nothing-why.ensures
+    c.ms_now.result c.why_nothing-why.result _ _ _ _ c.of-before.ensures.facts c.of-before.ensures.copies c.ms_now.ensures c.why_nothing-why.ensures
     c.in_ok-text.ensures c.in-Ok.ensures.went c.in-Ok.ensures.told c.step.ensures.settings.0 c.in-Ok.ensures.passed
     c.in_ok-add_outcome-in-Ok.ensures (written _ _ _ _ c.in_ok-write_all-in-Ok.ensures.bytes c.as_slice.ensures.value)
 
 pub returns-in-Some : goal.returns-in-Some
 returns-in-Some g c =
     let told = c.in-Err.ensures in
-    refusal_told c.args.line c.args.event.now c.in-Err.fault c.in-Some.why c.args.world.now c.step.new.self c.now.result c.number.result _ _ _ _
-    (sym c.change_fault_in.ensures ∙ c.in-Some.is) told.change told.err c.now.ensures c.number.ensures c.in_ok-text.ensures
+    refusal_told c.args.line c.args.event.now c.in-Err.fault c.in-Some.why c.args.world.now c.step.new.self c.ms_now.result c.number.result _ _ _ _
+    (sym c.change_fault_in.ensures ∙ c.in-Some.is) told.change told.err c.ms_now.ensures c.number.ensures c.in_ok-text.ensures
     c.in_ok-add_refused-in-Some.ensures (written _ _ _ _ c.in_ok-write_all-in-Some.ensures.bytes c.as_slice-in-Some.ensures.value)
 
 pub returns : goal.returns
 returns g c =
     let told = c.in-Err.ensures in
     fault_told c.args.line c.args.event.now c.in-Err.fault c.args.world.now c.step.new.self _ _ _ (sym c.change_fault_in.ensures ∙ c.in-None.is)
-    told.node told.datagram told.clock told.change told.memory told.err c.number-in-None.ensures c.in_ok-print_fault-in-None.ensures
+    told.node told.datagram told.link told.clock told.change told.memory told.err c.number-in-None.ensures c.in_ok-print_fault-in-None.ensures

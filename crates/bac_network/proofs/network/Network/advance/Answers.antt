@@ -13,4 +13,5 @@ returns-in-Some-clause-happens c = λ overtake. (
     notes = (c.in-Some.ensures.some refl i).notes;
   },
   λ p. let e : true ≡ false = c.in-Some.ensures.passes.1 p in absurd cc,
+  λ l. l,
 )

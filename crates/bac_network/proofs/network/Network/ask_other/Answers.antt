@@ -41,7 +41,7 @@ returns-in-Ok-clause-happens c = λ overtake.
     (owned_request_view c.args.request.now) c.ask.new.nodes c.in-Ok.asked c.deref_mut.result.now c.deref_mut.ensures.value c.link.result c.link.ensures
     c.told-now.result c.told-now.ensures c.in-Ok.ensures.asked new
     (with_items_is c.args.self.now.nodes c.ask.new.nodes (omega arith)) noted in
-    (inl k, k, λ x. x)
+    (inl k, k, λ x. x, λ x. x)
 
 pub returns-in-Ok-clause-links : goal.returns-in-Ok-clause-links
 returns-in-Ok-clause-links c = (c.note.ensures c.args.self.now.nodes.items c.requires.can.ready.linked).links

@@ -10,7 +10,7 @@ returns-else-is_meaningless-clause-happens c = λ overtake.
     let a = there_is c.args.self.now.nodes.items c.args.node within in
     let no : IsMeaningless c.args.from c.args.octets.now → ⊥ =
     λ noise. (let t : false ≡ true = c.if-is_meaningless.ensures.1 noise in cc) in
-    (inr (record { node = a.0; at = a.1; unfit = no; same = refl }), λ x. x)
+    (inr (record { node = a.0; at = a.1; unfit = no; same = refl }), λ x. x, λ x. x)
 
 pub drop_noise-requires-clause-noise : goal.drop_noise-requires-clause-noise
 drop_noise-requires-clause-noise c = c.if-is_meaningless.ensures.0 refl

@@ -2,7 +2,7 @@
 use Rattle.std.proofs.Common.{◌*◌, sym, subst}
 use Rattle.bac_protocol.specs.Service.{Octets}
 use Rattle.bac_store.specs.Views.{change_view}
-use Rattle.bac_world.specs.World.Event.{Noise, Tick, Advance, Change, Restart}
+use Rattle.bac_world.specs.World.Event.{Noise, Stray, Tick, Advance, Change, Restart}
 use Rattle.bac_journal.specs.Clocks.{parts_of, restart_at, steps_of}
 use Rattle.bac_network.specs.Clocks.{instant}
 use Rattle.bac_network.specs.Networks.{world_of}
@@ -62,3 +62,22 @@ pub returns-in-Ask-clause-happens : goal.returns-in-Ask-clause-happens
 returns-in-Ask-clause-happens c =
     subst (λ (e : Event). HappensTelling c.args.overtake (world_of c.args.self.now) (event_view (instant c.args.self.now.journal) e) c.ask.result
     (world_of c.ask.new.self)) (sym c.in-Ask.is) (c.ask.ensures.happens c.args.overtake)
+
+pub returns-in-Stranger-clause-happens : goal.returns-in-Stranger-clause-happens
+returns-in-Stranger-clause-happens c =
+    let happens : Happens c.args.overtake (world_of c.args.self.now) (Stray c.in-Stranger.node c.in-Stranger.from c.in-Stranger.octets.items)
+    c.hear_stranger.result (world_of c.hear_stranger.new.self) =
+    subst
+    (λ (o : Octets). Happens c.args.overtake (world_of c.args.self.now) (Stray c.in-Stranger.node c.in-Stranger.from o) c.hear_stranger.result
+    (world_of c.hear_stranger.new.self)) c.deref-in-Stranger.ensures.value (c.hear_stranger.ensures.happens c.args.overtake) in
+    subst (λ (e : Event). HappensTelling c.args.overtake (world_of c.args.self.now) (event_view (instant c.args.self.now.journal) e)
+    c.untold-in-Stranger.result (world_of c.hear_stranger.new.self))
+    (sym c.in-Stranger.is)
+    (told_nothing c.args.overtake (world_of c.args.self.now) (world_of c.hear_stranger.new.self)
+    (Stray c.in-Stranger.node c.in-Stranger.from c.in-Stranger.octets.items) tt c.hear_stranger.result c.untold-in-Stranger.result happens
+    c.untold-in-Stranger.ensures)
+
+pub returns-in-AskStranger-clause-happens : goal.returns-in-AskStranger-clause-happens
+returns-in-AskStranger-clause-happens c =
+    subst (λ (e : Event). HappensTelling c.args.overtake (world_of c.args.self.now) (event_view (instant c.args.self.now.journal) e) c.ask_stranger.result
+    (world_of c.ask_stranger.new.self)) (sym c.in-AskStranger.is) (c.ask_stranger.ensures.happens c.args.overtake)

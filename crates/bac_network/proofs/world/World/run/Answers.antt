@@ -1,10 +1,10 @@
 -- One event after the other.
-use Rattle.std.proofs.Common.{◌<◌, ◌≤◌, Err, length, refl, sym, subst, ◌∙◌, arith}
+use Rattle.std.proofs.Common.{◌<◌, ◌≤◌, Err, length, refl, sym, ap, subst, ◌∙◌, arith}
 use Rattle.std.proofs.lemmas.Option.{slice_get_read}
 use Rattle.bac_network.specs.Views.{event_view, events_view}
-use Rattle.bac_network.specs.Histories.{HasRequestsAloneNow, as_world}
+use Rattle.bac_network.specs.Histories.{HasRequestsAloneNow, WorldView, as_world}
 use Rattle.bac_network.proofs.Histories.{requests_now}
-use Rattle.bac_network.proofs.WorldRunning.{all_done, alone_so_far, fault_is, goes_on, stops, time_goes_on}
+use Rattle.bac_network.proofs.WorldRunning.{all_done, all_passed, alone_so_far, fault_is, goes_on, stops, time_goes_on}
 use Rattle.bac_network.proofs.world.World.run.Goals as goal
 
 pub returns-in-Err-clause-stopped : goal.returns-in-Err-clause-stopped
@@ -16,7 +16,7 @@ returns-in-Err-clause-stopped c =
     (slice_get_read c.args.events.now _ at.place event refl lt c.index-events-place.is) at.invariant.done at.invariant.overtake at.invariant.time
     c.in-Err.ensures.err
     (fault_is c.in-Err.fault at.self.overtake (as_world at.self) (event_view at.self.time event) (Err c.in-Err.fault) refl c.in-Err.ensures.node
-    c.in-Err.ensures.datagram c.in-Err.ensures.clock c.in-Err.ensures.change c.in-Err.ensures.memory)
+    c.in-Err.ensures.datagram c.in-Err.ensures.link c.in-Err.ensures.clock c.in-Err.ensures.change c.in-Err.ensures.memory)
 
 pub returns-clause-went : goal.returns-clause-went
 returns-clause-went c =
@@ -24,6 +24,16 @@ returns-clause-went c =
     let end = c.loop-place-test.false in
     let all : length c.args.events.now ≤ at.place = omega arith in
     all_done c.args.self.now at.self c.args.events.now at.place all at.invariant.done
+
+pub returns-clause-passed : goal.returns-clause-passed
+returns-clause-passed c =
+    let at = c.loop-place in
+    let end = c.loop-place-test.false in
+    let all : length c.args.events.now ≤ at.place = omega arith in
+    all_passed c.args.self.now.time at.self.time c.args.events.now at.place all at.invariant.time
+
+pub returns-in-Err-clause-passed_before : goal.returns-in-Err-clause-passed_before
+returns-in-Err-clause-passed_before c = ap (λ (v : WorldView). v.time) c.in-Err.ensures.err ∙ c.loop-place.invariant.time
 
 pub loop-place-preserved : goal.loop-place-preserved
 loop-place-preserved c =

@@ -5,8 +5,9 @@ use Rattle.bac_network.specs.Clocks.{instant}
 use Rattle.bac_network.specs.Histories.{WorldView, view_of}
 use Rattle.bac_network.specs.Networks.{world_of}
 use Rattle.bac_network.specs.Views.{event_view}
-use Rattle.bac_network.proofs.Happening.{node_exactly, copy_exactly, clock_exactly, change_exactly, memory_only, step_is, told_is, same_seen}
+use Rattle.bac_network.proofs.Happening.{node_exactly, copy_exactly, link_exactly, clock_exactly, change_exactly, memory_only, step_is, told_is, same_seen}
 use Rattle.bac_network.proofs.Histories.{alone_after, ended_now, kept_after, once_now, performed_now, permitted_now, ready_now, replayed_now, requests_now}
+use Rattle.bac_network.proofs.OfNone.{strangers_now}
 use Rattle.bac_network.proofs.world.World.step.Goals as goal
 
 pub step-requires : goal.step-requires
@@ -22,6 +23,12 @@ returns-clause-once c =
     let kept = kept_after c.self.inside.window c.self.inside.overtake c.self.inside.opening.items c.self.inside.network c.step.new.self c.step.ensures.links
     c.self.invariant (instant c.self.inside.network.journal) c.args.event.now c.step.result c.step.ensures.happens in
     once_now c.self.inside.window (view_of c.self.inside.overtake c.self.inside.opening.items c.step.new.self) kept.history
+
+pub returns-clause-strangers : goal.returns-clause-strangers
+returns-clause-strangers c =
+    let kept = kept_after c.self.inside.window c.self.inside.overtake c.self.inside.opening.items c.self.inside.network c.step.new.self c.step.ensures.links
+    c.self.invariant (instant c.self.inside.network.journal) c.args.event.now c.step.result c.step.ensures.happens in
+    strangers_now c.self.inside.window (view_of c.self.inside.overtake c.self.inside.opening.items c.step.new.self) kept.history
 
 pub returns-clause-performed : goal.returns-clause-performed
 returns-clause-performed c =
@@ -69,6 +76,13 @@ pub returns-clause-datagram : goal.returns-clause-datagram
 returns-clause-datagram c =
     rw (← c.self.view_is)
     (copy_exactly c.self.inside.overtake (world_of c.self.inside.network) (world_of c.step.new.self) (event_view (instant c.self.inside.network.journal)
+    c.args.event.now) c.step.result
+    c.step.ensures.happens)
+
+pub returns-clause-link : goal.returns-clause-link
+returns-clause-link c =
+    rw (← c.self.view_is)
+    (link_exactly c.self.inside.overtake (world_of c.self.inside.network) (world_of c.step.new.self) (event_view (instant c.self.inside.network.journal)
     c.args.event.now) c.step.result
     c.step.ensures.happens)
 

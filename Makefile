@@ -1,0 +1,25 @@
+# Installs the program that `sh tests/prove.sh` built, its page, its completion, and a unit of systemd with an example document:
+#     make install PREFIX=/usr/local [DESTDIR=stage]
+PREFIX ?= /usr/local
+PROGRAM ?= crates/bac/out/bac
+AT = $(DESTDIR)$(PREFIX)
+
+.PHONY: install uninstall page check-page
+
+install:
+	install -d $(AT)/bin $(AT)/share/man/man1 $(AT)/share/bash-completion/completions $(AT)/share/bac $(AT)/lib/systemd/system
+	install -m 755 $(PROGRAM) $(AT)/bin/bac
+	install -m 644 docs/bac.1 $(AT)/share/man/man1/bac.1
+	$(PROGRAM) completion > $(AT)/share/bash-completion/completions/bac
+	install -m 644 docs/plant.toml $(AT)/share/bac/plant.toml
+	sed 's|@PREFIX@|$(PREFIX)|g' install/bac.service.in > $(AT)/lib/systemd/system/bac.service
+
+uninstall:
+	rm -f $(AT)/bin/bac $(AT)/share/man/man1/bac.1 $(AT)/share/bash-completion/completions/bac $(AT)/share/bac/plant.toml $(AT)/lib/systemd/system/bac.service
+
+# The page of the manual is made from the table of commands.
+page:
+	$(PROGRAM) help --man > docs/bac.1
+
+check-page:
+	$(PROGRAM) help --man | diff docs/bac.1 -

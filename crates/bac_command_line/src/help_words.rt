@@ -1,0 +1,86 @@
+//! The commands that tell of the program itself, and more examples for help.
+use crate::words::{Grammar, Need, OFFLINE, ONLINE, Word, WordForm};
+
+/// What `help` takes.
+const HELP: &[Word] = &[
+    Word {
+        name: "COMMAND",
+        form: WordForm::Bare,
+        need: Need::Never,
+        against: &["man"],
+        help: "The command to tell of; without it, all commands are listed",
+    },
+    Word {
+        name: "man",
+        form: WordForm::Flag,
+        need: Need::Never,
+        against: &[],
+        help: "Prints the page of the manual, for `man`",
+    },
+];
+
+/// The commands that tell of the program, which help lists last.
+const TOLD: &[Grammar] = &[
+    Grammar {
+        name: "help",
+        about: "Tells of a command: what it does, what its words mean, and examples",
+        after: "Example: bac help ask\nExample: bac help --man > bac.1",
+        words: HELP,
+    },
+    Grammar {
+        name: "version",
+        about: "Prints the version of the program",
+        after: "Example: bac version",
+        words: &[],
+    },
+    Grammar {
+        name: "completion",
+        about: "Prints a script for bash that completes the commands and their words",
+        after: "Example: bac completion > /usr/share/bash-completion/completions/bac",
+        words: &[],
+    },
+];
+
+/// One more example of a command that has no second one of its own.
+pub(crate) fn more_example(name: &str) -> Option<&'static str> {
+    match name {
+        "answer" => Some(
+            "Example: bac answer --objects plant.toml 810A001101040005010C0C000000051955",
+        ),
+        "pair" => Some("Example: bac pair && echo both were answered"),
+        "version" => Some("Example: bac version | cut -d ' ' -f 2"),
+        "completion" => Some("Example: source <(bac completion)"),
+        _ => None,
+    }
+}
+
+/// The commands that need no link.
+pub(crate) fn offline() -> &'static [Grammar] {
+    OFFLINE
+}
+
+/// The commands that need one.
+pub(crate) fn online() -> &'static [Grammar] {
+    ONLINE
+}
+
+/// The commands that tell of the program.
+pub(crate) fn about() -> &'static [Grammar] {
+    TOLD
+}
+
+/// The command of that name, among some.
+fn among(name: &str, grammars: &'static [Grammar]) -> Option<&'static Grammar> {
+    grammars.iter().find(|g| g.name == name)
+}
+
+/// The command of that name.
+pub(crate) fn command_named(name: &str) -> Option<&'static Grammar> {
+    if let Some(found) = among(name, offline()) {
+        return Some(found);
+    }
+    if let Some(found) = among(name, online()) {
+        return Some(found);
+    }
+    among(name, about())
+}

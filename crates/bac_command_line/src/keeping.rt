@@ -1,0 +1,236 @@
+//! `serve --keep`: a node whose store a database keeps.
+ghost use Rattle.std.specs.Prelude.{◌≡◌, ◌≤◌, IfErr, IfOk, OnOk};
+ghost use Rattle.std.specs.Option.{option_map};
+ghost use Rattle.bac_driver.specs.Kept.{keeper_of as keeper_in};
+ghost use Rattle.bac_driver.specs.Rounds.{IsKept};
+ghost use Rattle.sqlite_trees.specs.View.{IsClean, doubt};
+ghost use Rattle.bac_keep.specs.Steps.{IsReady};
+ghost use Rattle.bac_text.specs.Statuses.{IsStop};
+ghost use Rattle.bac_command_line.specs.Files.{OnFile};
+ghost use Rattle.bac_command_line.specs.Keeping.{EndsWith, HasStore, IsServedInRounds, IsServedKept, IsServedOver, OnDatabase};
+ghost use Rattle.bac_command_line.specs.Online.{OnClock, OnPort};
+
+use crate::environment::Environment;
+use crate::files::OpenFiles;
+use crate::objects::document_of;
+use crate::online::Machine;
+use crate::part_words::print_about;
+use crate::serving::{Serving, print_listening, print_not_bound, serve_kept_from};
+use bac_commands::{KeptServer, bound_server, clock_fault};
+use bac_driver::{Clock, Round};
+use bac_keep::{CellKeeper, KeepFault, Keeper, Part};
+use bac_keep_file::OpenFault;
+use bac_node::NewNodeFault;
+use bac_store::Store as Objects;
+use bac_text::{Status, complain, no_memory};
+use sqlite_trees::store::Store;
+use std::alloc::Global;
+use std::io::Write;
+
+/// The database of the file at a path, and whether it is new; where it can't be opened, `err` and the status say why.
+pub(crate) fn open_kept<M: Machine, E: Write>(
+    machine: &M,
+    path: &str,
+    err: &mut E,
+) -> Result<(M::Database, bool), Status>
+    ensures opened { IfOk result (λ r. M.is_database path.now r.1 r.0) }
+    ensures told { IfErr result IsStop }
+{
+    match machine.open_database(path) {
+        Ok((database, is_new)) => Ok((database, is_new)),
+        Err(OpenFault::NoMemory) => Err(no_memory(err)),
+        Err(fault) => {
+            // if that fails too, only the status is left
+            let _ = writeln!(err, "{path}: {fault}");
+            Err(Status::CommandLine)
+        }
+    }
+}
+
+/// Complains of a database whose cells can't be used with the document.
+pub(crate) fn print_not_kept<E: Write>(
+    alloc: Global,
+    path: &str,
+    fault: KeepFault,
+    err: &mut E,
+) -> Status
+    ensures { IsStop result }
+{
+    // if printing fails too, only the status is left
+    match fault {
+        KeepFault::NoMemory => return no_memory(err),
+        KeepFault::BadValues {
+            object,
+            property,
+            ..
+        } => {
+            let why = "kept values that the property cannot have";
+            let _ = print_about(alloc, path, object, Some(property), why, err);
+        }
+        KeepFault::BadOctets { object, .. } => {
+            let why = "kept octets that the file cannot have";
+            let _ = print_about(alloc, path, object, None, why, err);
+        }
+        other => {
+            let _ = writeln!(err, "{path}: {other}");
+        }
+    }
+    Status::CommandLine
+}
+
+/// Prints what is kept and has no effect.
+fn print_idle<E: Write>(alloc: Global, path: &str, idle: &[Part], err: &mut E) {
+    for part in idle {
+        let (object, property) = match *part {
+            Part::Values { object, property } => (object, Some(property)),
+            Part::Count { object } | Part::Chunk { object, .. } => (object, None),
+        };
+        // if that fails too, nothing is printed
+        let _ = print_about(
+            alloc,
+            path,
+            object,
+            property,
+            "kept, and not writable in the document",
+            err,
+        );
+    }
+}
+
+/// Tells on `err` what a keeper keeps and has no effect. Where the database fails, `err` and the status say why.
+fn tell_idle<S: Store + Drop, E: Write>(
+    alloc: Global,
+    path: &str,
+    keeper: &mut CellKeeper<S>,
+    err: &mut E,
+) -> Result<(), Status>
+    requires { IsClean (S.view keeper.old.database) → IsReady (S.view keeper.old.database) }
+    ensures honest { doubt (S.view keeper.old.database).is_clean ≤ doubt (S.view keeper.new.database).is_clean }
+    ensures document { keeper.new.document ≡ keeper.old.document }
+    ensures open { OnOk result (IsClean (S.view keeper.new.database) → IsReady (S.view keeper.new.database)) }
+    ensures noted { OnOk result (IsClean (S.view keeper.new.database) → (S.view keeper.new.database).trees ≡ (S.view keeper.old.database).trees) }
+    ensures kept { OnOk result (IsClean (S.view keeper.new.database) → (S.view keeper.new.database).committed ≡ (S.view keeper.old.database).committed) }
+    ensures told { IfErr result IsStop }
+{
+    match keeper.idle() {
+        Ok(idle) => {
+            print_idle(alloc, path, &idle, err);
+            Ok(())
+        }
+        Err(fault) => Err(print_not_kept(alloc, path, fault, err)),
+    }
+}
+
+/// The keeper of a database over a document, and the store that they make. What is kept and has no effect is told on `err`. Where the keeper can't be opened,
+/// `err` and the status say why.
+fn keeper_over<S: Store + Drop, E: Write>(
+    alloc: Global,
+    path: &str,
+    database: S,
+    document: Objects,
+    err: &mut E,
+) -> Result<(CellKeeper<S>, Objects), Status>
+    ensures document { IfOk result (λ r. r.0.document ≡ document) }
+    ensures store { IfOk result (λ r. HasStore S.view database document r.1 r.0.database) }
+    ensures told { IfErr result IsStop }
+{
+    let (mut keeper, store) = match CellKeeper::open(alloc, document, database) {
+        Ok(opened) => opened,
+        Err(fault) => return Err(print_not_kept(alloc, path, fault, err)),
+    };
+    match tell_idle(alloc, path, &mut keeper, err) {
+        Ok(()) => Ok((keeper, store)),
+        Err(status) => Err(status),
+    }
+}
+
+/// A node with a store, which a keeper keeps, serves.
+fn serve_round<M: Machine, K: Keeper, O: Write, E: Write>(
+    environment: (Global, &M),
+    serving: &Serving,
+    round: Round<K>,
+    store: Objects,
+    out: &mut O,
+    err: &mut E,
+) -> Status
+    requires { K.IsHonest (keeper_in round) → IsKept K.IsOpen K.kept K.noted (keeper_in round) store }
+    ensures { IsServedInRounds store (OnPort M.is_bound M.Link.failures M.Link.calls) (OnClock M.is_made M.Timer.told) result serving.now
+        (EndsWith K.IsHonest K.IsOpen K.kept K.noted (keeper_in round)) (O.contents out.old) (O.contents out.new) }
+{
+    let (alloc, machine) = environment;
+    let bound = match machine.bind(serving.host, serving.port) {
+        Ok(bound) => bound,
+        Err(error) => return print_not_bound(serving, &error, err),
+    };
+    let Some(mut timer) = machine.timer() else {
+        return clock_fault(err);
+    };
+    let address = bound.1;
+    let start = timer.now();
+    let objects = store.object_count();
+    let restart = serving.restart(start);
+    let bound_node = match bound_server(alloc, bound.0, address, store, serving.slots, restart) {
+        Ok(bound_node) => bound_node,
+        Err(NewNodeFault::BadSlots) => return complain(err, "bad slots", Status::CommandLine),
+        Err(_) => return no_memory(err),
+    };
+    print_listening(serving, address, objects, start, err);
+    let mut server = KeptServer {
+        bound_node,
+        clock: timer,
+        round,
+    };
+    serve_kept_from(alloc, serving, start, &mut server, out, err)
+}
+
+/// A node serves with the store that a database, which may be new, makes over a document.
+fn serve_database<M: Machine, O: Write, E: Write>(
+    environment: (Global, &M),
+    serving: &Serving,
+    path: &str,
+    document: Objects,
+    out: &mut O,
+    err: &mut E,
+) -> Status
+    ensures { IsServedOver (OnDatabase M.is_database M.Database.view M.Database.recovers) (OnPort M.is_bound M.Link.failures M.Link.calls)
+        (OnClock M.is_made M.Timer.told) result serving.now path.now document (O.contents out.old) (O.contents out.new) }
+{
+    let (alloc, machine) = environment;
+    let (database, is_new) = match open_kept(machine, path, err) {
+        Ok(opened) => opened,
+        Err(status) => return status,
+    };
+    let (keeper, store) = match keeper_over(alloc, path, database, document, err) {
+        Ok(opened) => opened,
+        Err(status) => return status,
+    };
+    let Ok(round) = Round::new(alloc, keeper) else {
+        return no_memory(err);
+    };
+    let serving = serving.restarted_by(is_new);
+    serve_round((alloc, machine), &serving, round, store, out, err)
+}
+
+/// A node whose store the file at a path keeps serves, with the house or the objects of a document below what is kept. Where the file had a table of cells, the
+/// node restarts.
+///
+/// A file that can't be opened, that is damaged, or in use, and kept values that the document can't have: the path and why on `err`, and nothing has changed.
+pub(crate) fn serve_kept<F: OpenFiles, M: Machine, O: Write, E: Write>(
+    environment: &Environment<'_, F, M>,
+    serving: &Serving,
+    objects: Option<&str>,
+    path: &str,
+    out: &mut O,
+    err: &mut E,
+) -> Status
+    ensures { IsServedKept (OnFile F.is_file F.File.remaining) (option_map (λ p. p.now) objects.entry)
+        (OnDatabase M.is_database M.Database.view M.Database.recovers) (OnPort M.is_bound M.Link.failures M.Link.calls) (OnClock M.is_made M.Timer.told) result
+        serving.now path.now (O.contents out.old) (O.contents out.new) }
+{
+    let document = match document_of(environment, objects, err) {
+        Ok(document) => document,
+        Err(status) => return status,
+    };
+    let machine = (environment.alloc, environment.machine);
+    serve_database(machine, serving, path, document, out, err)
+}

@@ -1,0 +1,121 @@
+//! `keep`: what the file of a server keeps.
+ghost use Rattle.bac_command_line.specs.Keeping.{IsListed};
+
+use crate::environment::Environment;
+use crate::files::{OpenFiles, opened};
+use crate::keeping::{open_kept, print_not_kept};
+use crate::online::Machine;
+use crate::part_words::part_words;
+use bac_keep::{Cell, Part, kept_cells};
+use bac_text::{Status, output_failed};
+use bac_value::{NoMemory, ObjectIdentifier, read_data};
+use bac_value_text::data_text;
+use std::alloc::Global;
+use std::io;
+use std::io::{ErrorKind, Write};
+
+/// How many octets the chunks of a file have that stand first, at most so many chunks.
+fn octets_in(cells: &[Cell], object: ObjectIdentifier, count: u8) -> u64 {
+    let mut octets = 0u64;
+    for cell in cells {
+        match cell.part() {
+            Some(Part::Chunk { object: of, at }) if of == object && at < count => {
+                octets = octets.saturating_add(cell.octets.len() as u64);
+            }
+            _ => return octets,
+        }
+    }
+    octets
+}
+
+/// The line of the values of a property: the object, the property, and the values by their kinds; in hexadecimal where they are no values.
+fn values_line(
+    alloc: Global,
+    object: ObjectIdentifier,
+    property: u32,
+    octets: &[u8],
+) -> Result<Vec<u8>, NoMemory> {
+    let mut line = part_words(alloc, object, Some(property))?;
+    line.push(b' ')?;
+    match read_data(octets) {
+        Ok((values, _)) => {
+            let text = data_text(alloc, values)?;
+            line.extend_from_slice(text.as_slice())?;
+        }
+        Err(_) => {
+            let text = hex::encode_upper(alloc, octets)?;
+            line.extend_from_slice(text.as_bytes())?;
+        }
+    }
+    line.push(b'\n')?;
+    Ok(line)
+}
+
+/// The line of a file: its number of octets.
+fn file_line(alloc: Global, object: ObjectIdentifier, octets: u64) -> Result<Vec<u8>, NoMemory> {
+    let mut line = part_words(alloc, object, None)?;
+    let tail = format!(in alloc; " {octets} octets\n")?;
+    line.extend_from_slice(tail.as_bytes())?;
+    Ok(line)
+}
+
+/// The line of the cell at this place in the list; none of a chunk.
+fn line_of(alloc: Global, cells: &[Cell], at: usize) -> Result<Vec<u8>, NoMemory> {
+    let Some(rest) = cells.get(at..) else {
+        return Ok(Vec::new(alloc));
+    };
+    let Some((cell, more)) = rest.split_first() else {
+        return Ok(Vec::new(alloc));
+    };
+    match cell.part() {
+        Some(Part::Values { object, property }) => {
+            values_line(alloc, object, property, &cell.octets)
+        }
+        Some(Part::Count { object }) => {
+            let count = match cell.octets.as_slice() {
+                [count] => *count,
+                _ => 0,
+            };
+            file_line(alloc, object, octets_in(more, object, count))
+        }
+        _ => Ok(Vec::new(alloc)),
+    }
+}
+
+fn print_cells<O: Write>(alloc: Global, cells: &[Cell], out: &mut O) -> io::Result<()> {
+    for at in 0..cells.len() {
+        let Ok(line) = line_of(alloc, cells, at) else {
+            return Err(io::Error::from(ErrorKind::OutOfMemory));
+        };
+        out.write_all(line.as_slice())?;
+    }
+    out.flush()
+}
+
+/// Prints what the file at a path keeps, a line for each property and each file, in ascending order. A file that is not there, that is damaged, or in use:
+/// why on `err`.
+pub(crate) fn list_kept<F: OpenFiles, M: Machine, O: Write, E: Write>(
+    environment: &Environment<'_, F, M>,
+    path: &str,
+    out: &mut O,
+    err: &mut E,
+) -> Status
+    ensures { IsListed result (O.contents out.old) (O.contents out.new) }
+{
+    let alloc = environment.alloc;
+    if let Err(status) = opened(environment.files, path, err) {
+        return status;
+    }
+    let (mut database, _) = match open_kept(environment.machine, path, err) {
+        Ok(opened) => opened,
+        Err(status) => return status,
+    };
+    let cells = match kept_cells(alloc, &mut database) {
+        Ok(cells) => cells,
+        Err(fault) => return print_not_kept(alloc, path, fault, err),
+    };
+    match print_cells(alloc, &cells, out) {
+        Ok(()) => Status::Done,
+        Err(error) => output_failed(err, &error),
+    }
+}

@@ -1,0 +1,100 @@
+//! The page of the manual.
+use crate::help::write_form;
+use crate::help_words::{about, more_example, offline, online};
+use crate::words::{Grammar, Word};
+use std::io;
+use std::io::Write;
+
+/// What the page begins with.
+const HEAD: &str = ".\\\" made by `bac help --man`: change the table of commands, and make it again
+.TH BAC 1
+.SH NAME
+bac \\- BACnet confirmed services, proved
+.SH SYNOPSIS
+.B bac
+COMMAND WORDS..
+.SH COMMANDS
+";
+
+/// What the page ends with.
+const TAIL: &str = ".SH EXIT STATUS
+.TP
+.B 0
+Done.
+.TP
+.B 1
+What was asked for was done, and it has a fault: a bad datagram, an ask without an answer, an event that could not happen.
+.TP
+.B 2
+The words of the command line are wrong, or a file that they name cannot be read.
+.TP
+.B 3
+A socket, the clock or the output failed.
+.TP
+.B 4
+No memory.
+";
+
+/// Writes a text as roff shows it: each hyphen and backslash as it is, and nothing at the front of a line that is a request.
+fn write_plain<O: Write>(out: &mut O, text: &str) -> io::Result<()> {
+    if text.starts_with('.') || text.starts_with('\'') {
+        out.write_all(b"\\&")?;
+    }
+    for octet in text.as_bytes() {
+        match *octet {
+            b'\\' => out.write_all(b"\\e")?,
+            b'-' => out.write_all(b"\\-")?,
+            octet => out.write_all(&[octet])?,
+        }
+    }
+    out.write_all(b"\n")
+}
+
+/// Writes lines that are shown as they are.
+fn write_lines<O: Write>(out: &mut O, text: &str) -> io::Result<()> {
+    for line in text.lines() {
+        write_plain(out, line)?;
+    }
+    Ok(())
+}
+
+/// Writes a word and what it means.
+fn write_word<O: Write>(out: &mut O, word: &Word) -> io::Result<()> {
+    out.write_all(b".TP\n.B ")?;
+    write_form(out, "\\-\\-", word)?;
+    out.write_all(b"\n")?;
+    write_plain(out, word.help)
+}
+
+/// Writes what is told of a command.
+fn write_command<O: Write>(out: &mut O, grammar: &Grammar) -> io::Result<()> {
+    let name = grammar.name;
+    writeln!(out, ".SS bac {name}")?;
+    write_plain(out, grammar.about)?;
+    for word in grammar.words {
+        write_word(out, word)?;
+    }
+    out.write_all(b".PP\n.nf\n")?;
+    write_lines(out, grammar.after)?;
+    if let Some(example) = more_example(name) {
+        write_plain(out, example)?;
+    }
+    out.write_all(b".fi\n")
+}
+
+/// Writes what is told of some commands.
+fn write_commands<O: Write>(out: &mut O, grammars: &[Grammar]) -> io::Result<()> {
+    for grammar in grammars {
+        write_command(out, grammar)?;
+    }
+    Ok(())
+}
+
+/// Writes the page of the manual: all commands, their words and examples, in roff.
+pub(crate) fn write_manual<O: Write>(out: &mut O) -> io::Result<()> {
+    out.write_all(HEAD.as_bytes())?;
+    write_commands(out, offline())?;
+    write_commands(out, online())?;
+    write_commands(out, about())?;
+    out.write_all(TAIL.as_bytes())
+}

@@ -1,0 +1,150 @@
+//! The second line of a complaint: which file, address or digit it is about, and why.
+ghost use Rattle.std.specs.Prelude.{◌≡◌};
+ghost use Rattle.bac_text.specs.declared.status.Status.TheVariants as status;
+
+use crate::address::{read_host, read_link, read_route};
+use bac_objects::{DocumentFault, document_findings};
+use bac_text::{Status, complain};
+use clap::ArgMatches;
+use std::alloc::Global;
+use std::io;
+use std::io::Write;
+
+/// Complains that a file cannot be read, and tells which and the system's reason.
+pub(crate) fn print_unread<E: Write>(path: &str, error: &io::Error, err: &mut E) -> Status
+    ensures { result ≡ status.CommandLine }
+{
+    let status = complain(err, "cannot read", Status::CommandLine);
+    // if that fails too, only the status is left
+    let _ = writeln!(err, "{path}: {error}");
+    status
+}
+
+/// Tells the first fault of a document, and then all of them, each with its line; the first alone where memory is refused.
+pub(crate) fn print_document_fault<E: Write>(
+    alloc: Global,
+    path: &str,
+    octets: &[u8],
+    fault: &DocumentFault,
+    err: &mut E,
+) -> Status
+    ensures { result ≡ status.CommandLine }
+{
+    // if that fails too, only the status is left
+    let _ = writeln!(err, "{path}: {fault}");
+    if let Ok(findings) = document_findings(alloc, octets) {
+        for finding in &findings {
+            let _ = writeln!(err, "{path}: {finding}");
+        }
+    }
+    Status::CommandLine
+}
+
+/// The text behind `--at` that is no address, and the form that is wanted.
+fn bad_host<'a>(given: &ArgMatches<'a>) -> Option<(&'a str, &'static str)> {
+    let at = given.get_str("at")?;
+    match read_host(at) {
+        Some(_) => None,
+        None => Some((at, "A.B.C.D")),
+    }
+}
+
+/// The text behind `--to` or `--route` that is no address or route, and the form that is wanted.
+fn bad_node<'a>(given: &ArgMatches<'a>) -> Option<(&'a str, &'static str)> {
+    if let Some(to) = given.get_str("to") {
+        if read_link(to).is_none() {
+            return Some((to, "A.B.C.D or A.B.C.D:P"));
+        }
+    }
+    let route = given.get_str("route")?;
+    match read_route(route) {
+        Some(_) => None,
+        None => Some((route, "NET:MAC, as 5:2A")),
+    }
+}
+
+/// Complains of a text that is no address: `bad address`, and which and what is wanted.
+fn print_bad_address<E: Write>(bad: Option<(&str, &'static str)>, err: &mut E) -> Status
+    ensures { result ≡ status.CommandLine }
+{
+    let status = complain(err, "bad address", Status::CommandLine);
+    if let Some((text, wanted)) = bad {
+        // if that fails too, only the status is left
+        let _ = writeln!(err, "\"{text}\" is no {wanted}");
+    }
+    status
+}
+
+/// Complains of a command line that clap takes and that asks for nothing.
+pub(crate) fn print_no_task<E: Write>(matches: &ArgMatches<'_>, err: &mut E) -> Status
+    ensures { result ≡ status.CommandLine }
+{
+    match matches.subcommand() {
+        Some(("serve", given)) => print_bad_address(bad_host(given), err),
+        Some(("ask", given)) => print_bad_address(bad_node(given), err),
+        _ => complain(err, "no command", Status::CommandLine),
+    }
+}
+
+/// How the digits of a datagram may be written.
+#[derive(Clone, Copy, Debug, PartialEq, Eq)]
+pub(crate) enum Digits {
+    /// One after the other.
+    Alone,
+    /// In groups of whole octets, with spaces, tabs or colons between them, and `0x` before a group.
+    Grouped,
+}
+
+/// Whether a character may be between groups of digits.
+fn is_gap(character: char) -> bool {
+    matches!(character, ' ' | '\t' | ':')
+}
+
+impl Digits {
+    /// Whether a character may follow those two, the one before and the one right before it.
+    fn takes(self, before: (char, char), character: char) -> bool {
+        if character.is_ascii_hexdigit() {
+            return true;
+        }
+        let is_mark = matches!(character, 'x' | 'X') && is_gap(before.0) && before.1 == '0';
+        self == Digits::Grouped && (is_gap(character) || is_mark)
+    }
+
+    /// What is wanted of digits that are good one by one.
+    fn wanted(self) -> &'static str {
+        match self {
+            Digits::Alone => "the digits are no whole octets: an even number of them wanted",
+            Digits::Grouped =>
+                "a group of digits is no whole octets: an even number of them wanted",
+        }
+    }
+}
+
+/// The first character that is no digit and may not be between digits, and its number from 1 on.
+fn no_digit(text: &str, digits: Digits) -> Option<(usize, char)> {
+    let mut before = (' ', ' ');
+    for (place, character) in text.chars().enumerate() {
+        if !digits.takes(before, character) {
+            return Some((place.saturating_add(1), character));
+        }
+        before = (before.1, character);
+    }
+    None
+}
+
+/// Where the status of a command says that a text is no hexadecimal, tells why.
+pub(crate) fn print_bad_digit<E: Write>(status: Status, text: &str, digits: Digits, err: &mut E) {
+    if status != Status::CommandLine {
+        return;
+    }
+    // if that fails too, only the status is left
+    let _ = match no_digit(text, digits) {
+        Some((place, character)) => {
+            writeln!(
+                err,
+                "character {place}: '{character}' is no hexadecimal digit"
+            )
+        }
+        None => err.writeln(digits.wanted()),
+    };
+}

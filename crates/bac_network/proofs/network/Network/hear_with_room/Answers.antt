@@ -1,0 +1,75 @@
+-- What comes of it enters the world.
+use Rattle.std.proofs.Common.{ap, ◌∙◌, arith}
+use Rattle.std.proofs.lemmas.List.{with_items_is}
+use Rattle.std.specs.Vec.{with_items}
+use Rattle.bac_node.specs.Views.{outcome_view}
+use Rattle.bac_journal.specs.Journals.{JournalView}
+use Rattle.bac_network.specs.Clocks.{instant, time_at}
+use Rattle.bac_network.specs.Networks.{world_with}
+use Rattle.bac_network.specs.Views.{log_view}
+use Rattle.bac_network.specs.declared.network.Network.{Network}
+use Rattle.bac_network.proofs.Delivered.{gone_read, stranger_enters, stranger_heard}
+use Rattle.bac_network.proofs.Happening.{on_err}
+use Rattle.bac_network.proofs.network.Network.hear_with_room.Goals as goal
+
+pub enter-requires-clause-can : goal.enter-requires-clause-can
+enter-requires-clause-can c =
+    let n = c.args.self.now in
+    let new : Network = record n { nodes = with_items n.nodes c.hear.new.nodes } in
+    let items = with_items_is n.nodes c.hear.new.nodes (omega arith) in
+    let at = gone_read new c.args.node _ c.deref_mut.result.now c.hear.new.nodes items c.in_ok-outcome.ensures.went c.index.result.now c.index.ensures in
+    (stranger_enters n new c.args.node c.args.from c.args.octets.now (outcome_view c.in_ok-outcome.outcome) c.requires.stranger c.deref_mut.result.now
+    c.deref_mut.ensures.value c.told.result c.told.ensures c.hear.new.nodes items c.in_ok-outcome.ensures.went c.index.result.now at c.args.window
+    c.requires.ready.0 c.requires.ready.1).can
+
+pub enter-requires-clause-sender : goal.enter-requires-clause-sender
+enter-requires-clause-sender c =
+    let n = c.args.self.now in
+    let new : Network = record n { nodes = with_items n.nodes c.hear.new.nodes } in
+    let items = with_items_is n.nodes c.hear.new.nodes (omega arith) in
+    let at = gone_read new c.args.node _ c.deref_mut.result.now c.hear.new.nodes items c.in_ok-outcome.ensures.went c.index.result.now c.index.ensures in
+    (stranger_enters n new c.args.node c.args.from c.args.octets.now (outcome_view c.in_ok-outcome.outcome) c.requires.stranger c.deref_mut.result.now
+    c.deref_mut.ensures.value c.told.result c.told.ensures c.hear.new.nodes items c.in_ok-outcome.ensures.went c.index.result.now at c.args.window
+    c.requires.ready.0 c.requires.ready.1).sender
+
+pub enter-requires-clause-room : goal.enter-requires-clause-room
+enter-requires-clause-room c =
+    let n = c.args.self.now in
+    let new : Network = record n { nodes = with_items n.nodes c.hear.new.nodes } in
+    let items = with_items_is n.nodes c.hear.new.nodes (omega arith) in
+    let at = gone_read new c.args.node _ c.deref_mut.result.now c.hear.new.nodes items c.in_ok-outcome.ensures.went c.index.result.now c.index.ensures in
+    let few = (stranger_enters n new c.args.node c.args.from c.args.octets.now (outcome_view c.in_ok-outcome.outcome) c.requires.stranger
+    c.deref_mut.result.now c.deref_mut.ensures.value c.told.result c.told.ensures c.hear.new.nodes items c.in_ok-outcome.ensures.went c.index.result.now at
+    c.args.window c.requires.ready.0 c.requires.ready.1).sends in
+    let room = c.requires.room.journal in
+    omega (arith, few, room)
+
+pub enter-requires-clause-log_room : goal.enter-requires-clause-log_room
+enter-requires-clause-log_room c =
+    let n = c.args.self.now in
+    let new : Network = record n { nodes = with_items n.nodes c.hear.new.nodes } in
+    let items = with_items_is n.nodes c.hear.new.nodes (omega arith) in
+    let at = gone_read new c.args.node _ c.deref_mut.result.now c.hear.new.nodes items c.in_ok-outcome.ensures.went c.index.result.now c.index.ensures in
+    let few = (stranger_enters n new c.args.node c.args.from c.args.octets.now (outcome_view c.in_ok-outcome.outcome) c.requires.stranger
+    c.deref_mut.result.now c.deref_mut.ensures.value c.told.result c.told.ensures c.hear.new.nodes items c.in_ok-outcome.ensures.went c.index.result.now at
+    c.args.window c.requires.ready.0 c.requires.ready.1).facts in
+    let room = c.requires.room.log in
+    omega (arith, few, room)
+
+pub returns-in_err-outcome-clause-err : goal.returns-in_err-outcome-clause-err
+returns-in_err-outcome-clause-err c =
+    let n = c.args.self.now in
+    on_err c.from_residual.result
+    (ap (λ l. world_with l n.journal (log_view n.log.items))
+    (with_items_is n.nodes c.hear.new.nodes (omega arith) ∙ c.in_err-outcome.ensures.err ∙ c.deref_mut.ensures.value))
+
+pub returns-clause-went : goal.returns-clause-went
+returns-clause-went c =
+    let n = c.args.self.now in
+    let new : Network = record { nodes = with_items n.nodes c.hear.new.nodes; journal = c.enter.new.journal; log = c.enter.new.log } in
+    let items = with_items_is n.nodes c.hear.new.nodes (omega arith) in
+    let at = gone_read new c.args.node _ c.deref_mut.result.now c.hear.new.nodes items c.in_ok-outcome.ensures.went c.index.result.now c.index.ensures in
+    stranger_heard n new c.args.node c.args.from c.args.octets.now (outcome_view c.in_ok-outcome.outcome) c.requires.stranger c.deref_mut.result.now
+    c.deref_mut.ensures.value c.told.result c.told.ensures c.hear.new.nodes items c.in_ok-outcome.ensures.went c.index.result.now at
+    (c.enter.ensures.entered n.nodes.items (c.requires.ready.1).linked)
+    (ap (λ (j : JournalView). time_at (instant j)) c.enter.ensures.same) (ap (λ (j : JournalView). j.notes) c.enter.ensures.same)

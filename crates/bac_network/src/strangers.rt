@@ -1,0 +1,86 @@
+//! Octets of strangers.
+ghost use Rattle.std.specs.Prelude.{◌≡◌, ◌+◌, ◌<◌, ℕ, OnErr, OnOk, length};
+ghost use Rattle.bac_world.specs.World.{HearsStranger, IsOfNone};
+ghost use Rattle.bac_world.specs.World.Event.{Stray};
+ghost use Rattle.bac_network.specs.Clocks.{instant};
+ghost use Rattle.bac_network.specs.Networks.{world_of, HasRoom, IsReady};
+ghost use Rattle.bac_network.specs.Steps.{Happens};
+
+use crate::entering::enter;
+use crate::fault::WorldFault;
+use crate::going::hear;
+use crate::network::Network;
+use bac_npdu::LinkAddress;
+use bac_value::NoMemory;
+
+impl Network {
+    /// Octets of a stranger come to a node, whatever they are.
+    pub(crate) fn hear_stranger(
+        &mut self,
+        window: u8,
+        node: usize,
+        from: LinkAddress,
+        octets: &[u8],
+    ) -> Result<(), WorldFault>
+        requires { (overtake : ℕ) × IsReady window overtake self.old }
+        ensures happens { (overtake : ℕ) → Happens overtake (world_of self.old) (Stray node from octets.now) result (world_of self.new) }
+        ensures links { self.new.journal.links ≡ self.old.journal.links }
+        ensures stays { instant self.new.journal ≡ instant self.old.journal }
+    {
+        if node >= self.nodes.len() {
+            return Err(WorldFault::NoSuchNode);
+        }
+        match self.journal.node_of(from) {
+            Some(_node) => Err(WorldFault::NodeLink),
+            None => Ok(self.hear_from_outside(window, node, from, octets)?),
+        }
+    }
+
+    /// Octets from a link of no node come to a node that there is. All room is made before it hears them.
+    fn hear_from_outside(
+        &mut self,
+        window: u8,
+        node: usize,
+        from: LinkAddress,
+        octets: &[u8],
+    ) -> Result<(), NoMemory>
+        requires ready { (overtake : ℕ) × IsReady window overtake self.old }
+        requires there { node < length self.old.nodes.items }
+        requires stranger { IsOfNone self.old.nodes.items from }
+        ensures went { OnOk result (HearsStranger (world_of self.old) node from octets.now (world_of self.new)) }
+        ensures err { OnErr result (world_of self.new ≡ world_of self.old) }
+        ensures links { self.new.journal.links ≡ self.old.journal.links }
+        ensures stays { instant self.new.journal ≡ instant self.old.journal }
+    {
+        self.make_room(2, usize::from(window) + 1)?;
+        self.hear_with_room(window, node, from, octets)
+    }
+
+    /// The same, where there is room: a node sends at most a window and one more datagram of it, and at most one ticket ends and one request is performed.
+    fn hear_with_room(
+        &mut self,
+        window: u8,
+        node: usize,
+        from: LinkAddress,
+        octets: &[u8],
+    ) -> Result<(), NoMemory>
+        requires ready { (overtake : ℕ) × IsReady window overtake self.old }
+        requires there { node < length self.old.nodes.items }
+        requires stranger { IsOfNone self.old.nodes.items from }
+        requires room { HasRoom 2 (window + 1) self.old }
+        ensures went { OnOk result (HearsStranger (world_of self.old) node from octets.now (world_of self.new)) }
+        ensures err { OnErr result (world_of self.new ≡ world_of self.old) }
+        ensures links { self.new.journal.links ≡ self.old.journal.links }
+        ensures stays { instant self.new.journal ≡ instant self.old.journal }
+    {
+        let outcome = hear(&mut self.nodes, node, self.journal.told(node), from, octets)?;
+        enter(
+            &self.nodes[node],
+            &mut self.journal,
+            &mut self.log,
+            node,
+            outcome,
+        );
+        Ok(())
+    }
+}

@@ -1,0 +1,162 @@
+//! What breaks where nodes and the network are not as they are taken to be: two nodes at one link, a datagram that is damaged and can still be read, one from
+//! someone else at a node's link, a node that begins anew and does not wait, an ask with a route. Nodes are called by hand here, since no world has that.
+use super::scene::{limits_of, request_of};
+use super::*;
+use bac_node::{Cause, Node, Outcome};
+use bac_npdu::{Peer, Route};
+use bac_requester::{Asked, Ending};
+use bac_service::same_request;
+use bac_transaction::Datagram;
+
+/// A node at the link of that number, with the house store.
+pub(super) fn node(alloc: Global, number: u8) -> Option<Node> {
+    let (config, store) = SMALL.made(alloc, number)?;
+    Node::new(alloc, config, store).ok()
+}
+
+/// A node asks the one at link 1.
+fn ask(alloc: Global, client: &mut Node, words: &str) -> Option<Asked> {
+    ask_by(alloc, client, None, words)
+}
+
+/// The same, by a route.
+fn ask_by(alloc: Global, client: &mut Node, route: Option<Route>, words: &str) -> Option<Asked> {
+    let peer = Peer {
+        link: link(1),
+        route,
+    };
+    let limits = limits_of(alloc, "0270")?;
+    let request = request_of(alloc, words)?;
+    client.ask(0, &peer, &limits, &request).ok()
+}
+
+/// A node hears the first datagram of a list, from that link.
+fn hear(node: &mut Node, from: LinkAddress, sends: &[Datagram]) -> Option<Outcome> {
+    let Some(first) = sends.first() else {
+        return None;
+    };
+    node.on(0, from, first.octets()).ok()
+}
+
+/// Whether an ask has ended with an answer.
+fn is_answered(heard: &Outcome) -> bool {
+    heard
+        .ended
+        .iter()
+        .any(|ended| matches!(ended.ending, Ending::Answered(_)))
+}
+
+/// Whether a client's request is performed, and whether it is answered: it asks, and the datagrams go straight.
+fn is_done(
+    alloc: Global,
+    client: &mut Node,
+    server: &mut Node,
+    words: &str,
+) -> Option<(bool, bool)> {
+    let asked = ask(alloc, client, words)?;
+    let served = hear(server, client.link(), &asked.sends)?;
+    let heard = hear(client, server.link(), &served.sends)?;
+    Some((served.effect.is_some(), is_answered(&heard)))
+}
+
+/// What comes of the second of two asks for the same, by a client at the link of that number; the first client is at link 0.
+fn second_done(alloc: Global, second: u8) -> Option<(bool, bool)> {
+    let mut server = node(alloc, 1)?;
+    is_done(alloc, &mut node(alloc, 0)?, &mut server, "append 10:1 AB")?;
+    is_done(
+        alloc,
+        &mut node(alloc, second)?,
+        &mut server,
+        "append 10:1 AB",
+    )
+}
+
+/// At a link of its own a node's ask is performed and answered; at the link of another one it is answered with the reply to that one's, and not performed.
+#[test]
+fn two_nodes_at_one_link(rt: HostRuntime) {
+    assert!(rt; second_done(rt.alloc(), 2) == Some((true, true)));
+    assert!(rt; second_done(rt.alloc(), 0) == Some((false, true)));
+}
+
+/// Whether the request that is performed is the one that was asked, where the octet AB arrives with other bits.
+fn performs_asked(alloc: Global, damage: u8) -> Option<bool> {
+    let mut server = node(alloc, 1)?;
+    let asked = ask(alloc, &mut node(alloc, 0)?, "append 10:1 AB")?;
+    let Some(first) = asked.sends.first() else {
+        return None;
+    };
+    let mut octets = Vec::from_slice(alloc, first.octets()).ok()?;
+    for octet in octets.iter_mut() {
+        if *octet == 0xAB {
+            *octet ^= damage;
+        }
+    }
+    let served = server.on(0, link(0), &octets).ok()?;
+    let request = request_of(alloc, "append 10:1 AB")?;
+    match &served.effect {
+        Some(act) => Some(same_request(&act.effect.request, &request)),
+        None => None,
+    }
+}
+
+/// A datagram that arrives whole has the request performed that was asked, and one with another bit another request.
+#[test]
+fn a_damaged_datagram(rt: HostRuntime) {
+    assert!(rt; performs_asked(rt.alloc(), 0) == Some(true));
+    assert!(rt; performs_asked(rt.alloc(), 1) == Some(false));
+}
+
+/// Whether an ask for a write, of which the node at link 1 hears nothing, is answered by a SimpleACK that someone at the link of that number sends.
+fn is_answered_from(alloc: Global, number: u8) -> Option<bool> {
+    let mut client = node(alloc, 0)?;
+    let asked = ask(alloc, &mut client, "write 0:5 85 4442000000")?;
+    let mut octets = Vec::from_slice(alloc, b"\x81\x0A\x00\x09\x01\x00\x20").ok()?;
+    octets.push(asked.invoke_id).ok()?;
+    octets.push(15).ok()?;
+    let heard = client.on(0, link(number), &octets).ok()?;
+    Some(is_answered(&heard))
+}
+
+/// From a stranger's link it ends nothing; from the link of the node that was asked it ends an ask that was not performed.
+#[test]
+fn a_forged_answer(rt: HostRuntime) {
+    assert!(rt; is_answered_from(rt.alloc(), 9) == Some(false));
+    assert!(rt; is_answered_from(rt.alloc(), 1) == Some(true));
+}
+
+/// A server that begins anew at link 1, with a store of its own. Where it waits, it knows that it may have been there before.
+fn begun_anew(alloc: Global, waits: bool) -> Option<Node> {
+    let (config, store) = SMALL.made(alloc, 1)?;
+    if waits {
+        Node::restarted(alloc, config, store, 0).ok()
+    } else {
+        Node::new(alloc, config, store).ok()
+    }
+}
+
+/// Whether a request that was performed is performed again, when its datagram comes a second time to a server that has begun anew.
+fn is_performed_again(alloc: Global, waits: bool) -> Option<bool> {
+    let asked = ask(alloc, &mut node(alloc, 0)?, "append 10:1 AB")?;
+    let first = hear(&mut node(alloc, 1)?, link(0), &asked.sends)?;
+    let second = hear(&mut begun_anew(alloc, waits)?, link(0), &asked.sends)?;
+    Some(first.effect.is_some() && second.effect.is_some())
+}
+
+#[test]
+fn a_node_that_does_not_wait(rt: HostRuntime) {
+    assert!(rt; is_performed_again(rt.alloc(), true) == Some(false));
+    assert!(rt; is_performed_again(rt.alloc(), false) == Some(true));
+}
+
+/// Why a node drops an ask by a route to its link, if it does.
+fn dropped(alloc: Global, route: Option<Route>) -> Option<Option<Cause>> {
+    let asked = ask_by(alloc, &mut node(alloc, 0)?, route, "append 10:1 AB")?;
+    Some(hear(&mut node(alloc, 1)?, link(0), &asked.sends)?.dropped)
+}
+
+/// It is to be routed elsewhere, so it is not performed.
+#[test]
+fn an_ask_with_a_route(rt: HostRuntime) {
+    assert!(rt; dropped(rt.alloc(), None) == Some(None));
+    assert!(rt; dropped(rt.alloc(), Route::new(1, &[1])) == Some(Some(Cause::Routed)));
+}
