@@ -74,12 +74,11 @@ fn node(alloc: Global) -> Result<Node, Fail> {
     Ok(Node::new(alloc, config, house(alloc)?)?)
 }
 
-/// Serves the burst in rounds.
-fn serve(alloc: Global, row: Row) -> Result<Outcome, Fail> {
-    let steps: Steps = RefCell::new(Vec::new(alloc));
-    let link = BurstLink::new(&steps, row.request, row.requests);
+/// Serves the burst in rounds. Returns how many requests were performed, None after a fault of the keeper.
+fn served(alloc: Global, steps: &Steps, row: Row) -> Result<Option<u64>, Fail> {
+    let link = BurstLink::new(steps, row.request, row.requests);
     let mut bound_node = BoundNode::new(alloc, node(alloc)?, link)?;
-    let mut round = Round::new(alloc, TellingKeeper::new(&steps, row.keeps))?;
+    let mut round = Round::new(alloc, TellingKeeper::new(steps, row.keeps))?;
     let limit = RunLimit {
         turns: row.rounds,
         wait_limit: WaitLimit::BRIEF,
@@ -91,13 +90,17 @@ fn serve(alloc: Global, row: Row) -> Result<Outcome, Fail> {
         &mut NoObserver,
         &mut (),
     );
-    let performed = match served {
-        Ok(performed) => Some(performed),
-        Err(RoundFault::Keep(KeepFault::Shut)) => None,
-        Err(_) => return Err(Fail::new("a fault of another kind")),
-    };
-    drop(bound_node);
-    drop(round);
+    match served {
+        Ok(performed) => Ok(Some(performed)),
+        Err(RoundFault::Keep(KeepFault::Shut)) => Ok(None),
+        Err(_) => Err(Fail::new("a fault of another kind")),
+    }
+}
+
+/// What becomes of the burst.
+fn serve(alloc: Global, row: Row) -> Result<Outcome, Fail> {
+    let steps: Steps = RefCell::new(Vec::new(alloc));
+    let performed = served(alloc, &steps, row)?;
     Ok(Outcome {
         performed,
         steps: steps.into_inner(),
@@ -105,7 +108,8 @@ fn serve(alloc: Global, row: Row) -> Result<Outcome, Fail> {
 }
 
 /// Whether the steps are `noted` of the first, a keep, `sent` of the last, and so on.
-fn are_steps(steps: &[Step], noted: usize, kept: usize, sent: usize) -> bool {
+fn are_steps(steps: &[Step], noted: u8, kept: u8, sent: u8) -> bool {
+    let (noted, kept, sent) = (usize::from(noted), usize::from(kept), usize::from(sent));
     steps.len() == noted + kept + sent
         && steps.iter().take(noted).all(|step| *step == Step::Noted)
         && steps
@@ -124,7 +128,7 @@ fn is_served(
     alloc: Global,
     row: Row,
     performed: Option<u64>,
-    steps: [usize; 3],
+    steps: [u8; 3],
 ) -> Result<bool, Fail> {
     let outcome = serve(alloc, row)?;
     Ok(outcome.performed == performed && are_steps(&outcome.steps, steps[0], steps[1], steps[2]))
