@@ -20,7 +20,8 @@ const MOST_WAIT: u64 = 86_400_000;
 /// The address of this machine that no other one reaches.
 const LOCAL_HOST: [u8; 4] = [127, 0, 0, 1];
 
-/// A UDP socket. A call of `recv` with a wait of 0 milliseconds waits 1, and none waits longer than a day.
+/// A UDP socket. A call of `recv` with a wait of 0 milliseconds returns at once right after one that took a datagram, so that what is there is taken
+/// without a pause; otherwise it waits 1, so that no loop spins. None waits longer than a day.
 #[derive(Drop)]
 pub struct UdpLink {
     socket: UdpSocket,
@@ -32,6 +33,10 @@ pub struct UdpLink {
     address: LinkAddress,
     /// How long the socket waits for a datagram, in milliseconds.
     wait: u64,
+    /// Whether the socket returns at once where no datagram is there.
+    nonblocking: bool,
+    /// Whether the last call of `recv` took a datagram.
+    took: bool,
     failures: u64,
 }
 
@@ -80,6 +85,8 @@ impl UdpLink {
             port,
             address,
             wait: LEAST_WAIT,
+            nonblocking: false,
+            took: false,
             failures: 0,
         })
     }
@@ -105,10 +112,25 @@ impl UdpLink {
         self.address
     }
 
+    /// Whether the socket returns at once from now on.
+    fn set_nonblocking(&mut self, nonblocking: bool) -> io::Result<()>
+        ensures { self.new.failures ≡ self.old.failures }
+    {
+        if nonblocking != self.nonblocking {
+            self.socket.set_nonblocking(nonblocking)?;
+            self.nonblocking = nonblocking;
+        }
+        Ok(())
+    }
+
     /// The socket waits so long from now on.
     fn set_wait(&mut self, wait: u64) -> io::Result<()>
         ensures { self.new.failures ≡ self.old.failures }
     {
+        if wait == 0 && self.took {
+            return self.set_nonblocking(true);
+        }
+        self.set_nonblocking(false)?;
         let wait = wait.max(LEAST_WAIT).min(MOST_WAIT);
         if wait != self.wait {
             self.socket
@@ -146,6 +168,10 @@ impl Link for UdpLink {
     }
 
     fn send(&mut self, to: LinkAddress, octets: &[u8]) -> Result<(), LinkFault> {
+        // a send waits for its room
+        if self.set_nonblocking(false).is_err() {
+            return Err(self.failed());
+        }
         match self.socket.send_to(octets, address_of(to)) {
             Ok(len) if len == octets.len() => Ok(()),
             _ => Err(self.failed()),
@@ -160,9 +186,13 @@ impl Link for UdpLink {
         if self.set_wait(wait).is_err() {
             return Err(self.failed());
         }
+        self.took = false;
         match self.socket.recv_from(buffer) {
             Ok((len, from)) => match link_of(from) {
-                Some(from) => Ok(Some((from, len))),
+                Some(from) => {
+                    self.took = true;
+                    Ok(Some((from, len)))
+                }
                 None => Ok(None),
             },
             Err(error) if is_empty_wait(&error) => Ok(None),
