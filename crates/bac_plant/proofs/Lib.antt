@@ -1,6 +1,9 @@
 pub mod Turned
 pub mod Runs
 pub mod Chained
+pub mod Rounded
 pub mod Next
+pub mod Cut
+pub mod CutNext
 pub mod Resting
 pub mod Answered
