@@ -126,10 +126,10 @@ second_chain (round ∷ before) old new run = record {
 -- The steps of a station.
 
 -- the station is there after a step of another one, or of itself
-other_stays : (p : Plant) (i j : ℕ) (b : BoundNode) (new : List BoundNode) → new ≡ slice_set p.stations j b → (j ≢ i) → slice_get new i ≡ slice_get p.stations i
+pub other_stays : (p : Plant) (i j : ℕ) (b : BoundNode) (new : List BoundNode) → new ≡ slice_set p.stations j b → (j ≢ i) → slice_get new i ≡ slice_get p.stations i
 other_stays p i j b new is ne = ap (λ l. slice_get l i) is ∙ get_set_other p.stations j i b (λ e. ne (sym e))
 
-self_is : (p : Plant) (i : ℕ) (a b : BoundNode) (new : List BoundNode) → slice_get p.stations i ≡ Some a → new ≡ slice_set p.stations i b
+pub self_is : (p : Plant) (i : ℕ) (a b : BoundNode) (new : List BoundNode) → slice_get p.stations i ≡ Some a → new ≡ slice_set p.stations i b
     → slice_get new i ≡ Some b
 self_is p i a b new at is = ap (λ l. slice_get l i) is ∙ get_set p.stations i b (slice_get_within p.stations i a at)
 

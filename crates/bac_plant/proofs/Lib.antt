@@ -5,5 +5,6 @@ pub mod Rounded
 pub mod Next
 pub mod Cut
 pub mod CutNext
+pub mod Holding
 pub mod Resting
 pub mod Answered

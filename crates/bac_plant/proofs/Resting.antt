@@ -18,7 +18,7 @@ use Rattle.bac_driver.specs.BoundNodes.{BoundNode}
 use Rattle.bac_driver.specs.Calls.{received, with_call}
 use Rattle.bac_driver.specs.Turns.{Receives, Turn, call_of, with_calls}
 use Rattle.bac_driver.specs.Waits.{AT_ONCE, IsDue, IsWait, wait_until}
-use Rattle.bac_plant.specs.Network.{IsOfStation}
+use Rattle.bac_plant.specs.Network.{HandsOver, IsOfStation}
 use Rattle.bac_plant.specs.Network.Source.{Nowhere, Station}
 use Rattle.bac_plant.specs.Plants.{Plant, nodes_of, shows, world_of}
 use Rattle.bac_plant.specs.Steps.{HappensAt, HoldsSomeTurn, HoldsTurnAt, IsSomeTurn, TakesTurnAt, with_station}
@@ -129,7 +129,7 @@ takes_turn now b due is from octets n o on calm = record {
   };
 }
 
-pub holds_turn : (now : ℕ) (b : BoundNode) (due : Option ℕ) → IsDue b.node due → (from octets : Octets) (n : Node) (o : Outcome)
+holds_turn : (now : ℕ) (b : BoundNode) (due : Option ℕ) → IsDue b.node due → (from octets : Octets) (n : Node) (o : Outcome)
     → NodeOn now from octets b.node n o → IsCalm now n → HoldsSomeTurn now b (turn_by now from octets o) (after_held now b from octets n)
 holds_turn now b due is from octets n o on calm = record {
   limit = AT_ONCE;
@@ -217,14 +217,20 @@ module _ (overtake : ℕ) (old : Plant) (i : ℕ) (b : BoundNode) (at : slice_ge
       happens = happens (after_turn (shows old i) b from octets n h.outcome) refl;
     }
 
+    pub holds_now : HoldsSomeTurn (shows old i) b (turn_by (shows old i) from octets h.outcome) (after_held (shows old i) b from octets n)
+    holds_now = holds_turn (shows old i) b due is from octets n h.outcome on calm
+
+    pub comes_now : HandsOver overtake old i (Station number) (Some (from, length octets)) octets
+    comes_now = subst (λ os. IsOfStation overtake old i number from os) (sym (take-length octets)) comes
+
     pub holding_step : HoldsTurnAt overtake old i (Station number) (turn_by (shows old i) from octets h.outcome)
         (next_plant old i (after_held (shows old i) b from octets n) w)
-    unfolding holds_turn
+    unfolding holds_turn holds_now
     holding_step = record {
       before = b;
       at = at;
       after = after_held (shows old i) b from octets n;
-      holds = holds_turn (shows old i) b due is from octets n h.outcome on calm;
+      holds = holds_now;
       happens = happens (after_held (shows old i) b from octets n) refl;
     }
 

@@ -28,7 +28,7 @@ in_order_last [] first = refl
 in_order_last (turn ∷ before) first = ap (λ (ts : List Turn). ts ++ turn ∷ []) (in_order_last before first)
 
 -- a run after another one
-run_after : {S T : Type 0} (step : S → T → S → Type 0) (earlier later : List T) (a b c : S) → Run step earlier a b → Run step later b c
+pub run_after : {S T : Type 0} (step : S → T → S → Type 0) (earlier later : List T) (a b c : S) → Run step earlier a b → Run step later b c
     → Run step (later ++ earlier) a c
 run_after step earlier [] a b c first second = subst (λ x. Run step earlier a x) (sym second) first
 run_after step earlier (given ∷ later) a b c first second =

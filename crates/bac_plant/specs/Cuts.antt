@@ -1,5 +1,5 @@
 -- A plant in which the power of stations is cut at any moment, also in the midst of a round, and each starts again with the store that its keeper finds.
-use Rattle.std.specs.Prelude.{◌≡◌, ℕ, List, [], ◌∷◌, Option, Some, None, slice_get, if◌then◌else◌, nat_eq, IfSome}
+use Rattle.std.specs.Prelude.{◌≡◌, ◌≢◌, ℕ, List, [], ◌∷◌, ◌++◌, Option, Some, None, slice_get, if◌then◌else◌, nat_eq, IfSome}
 use Rattle.bac_driver.specs.BoundNodes.{BoundNode}
 use Rattle.bac_driver.specs.Runs.{Run}
 use Rattle.bac_driver.specs.Turns.{Turn}
@@ -86,3 +86,36 @@ KeepStores [] = Unit {0}
 KeepStores (Changes i change ∷ before) = ⊥
 KeepStores (Restarts i exact store ∷ before) = (store ≡ None) × KeepStores before
 KeepStores (step ∷ before) = KeepStores before
+
+-- ---- the turns that one station holds, whatever others do between them
+
+-- the turn that the station holds in a step of the plant, if it is one
+abbrev pub held_in : (station : ℕ) → Step → List Turn
+held_in i (Holds j source turn) = if nat_eq i j then turn ∷ [] else []
+held_in i step = []
+
+-- the turns that it holds in these steps, in rounds that are lost or not; the newest comes first
+abbrev pub held_of : (station : ℕ) → List CutStep → List Turn
+held_of i [] = []
+held_of i (CutStep.Goes step ∷ before) = held_in i step ++ held_of i before
+held_of i (CutStep.Loses j source turn ∷ before) = if nat_eq i j then turn ∷ held_of i before else held_of i before
+held_of i (CutStep.Cuts j exact ∷ before) = held_of i before
+
+-- a step of another station, or one in which that station holds a turn
+abbrev pub MayHold : (station : ℕ) → Step → Type 0
+MayHold i (Holds j source turn) = Unit {0}
+MayHold i step = station_of step ≢ Some i
+
+-- in these steps the station holds turns and does nothing else
+abbrev pub HoldsAlone : (station : ℕ) → List CutStep → Type 0
+HoldsAlone i [] = Unit {0}
+HoldsAlone i (CutStep.Goes step ∷ before) = MayHold i step × HoldsAlone i before
+HoldsAlone i (CutStep.Loses j source turn ∷ before) = HoldsAlone i before
+HoldsAlone i (CutStep.Cuts j exact ∷ before) = (j ≢ i) × HoldsAlone i before
+
+-- in these steps it takes turns of a round that is lost and does nothing else
+abbrev pub LosesAlone : (station : ℕ) → List CutStep → Type 0
+LosesAlone i [] = Unit {0}
+LosesAlone i (CutStep.Goes step ∷ before) = (station_of step ≢ Some i) × LosesAlone i before
+LosesAlone i (CutStep.Loses j source turn ∷ before) = LosesAlone i before
+LosesAlone i (CutStep.Cuts j exact ∷ before) = (j ≢ i) × LosesAlone i before

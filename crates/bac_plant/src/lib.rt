@@ -23,13 +23,13 @@ ghost use Rattle.bac_driver.specs.declared.fault.TurnFault.{TurnFault};
 ghost use Rattle.bac_driver.specs.declared.wait_limit.WaitLimit.{WaitLimit};
 ghost use Rattle.bac_requester.specs.declared.ending.Ending.{Ending};
 ghost use Rattle.bac_plant.specs.Chains.{AsksAndStops, AsksInChain, Chain, ServesInChain, StopsInChain, TakesTurnsAlone, turn_of_second, turns_of};
-ghost use Rattle.bac_plant.specs.Cuts.{CutPlant, CutPlantRun, CutStep, KeepStores, steps_of};
+ghost use Rattle.bac_plant.specs.Cuts.{CutPlant, CutPlantRun, CutStep, HoldsAlone, KeepStores, LosesAlone, held_of, real, steps_of};
 ghost use Rattle.bac_plant.specs.Events.{events_of};
 ghost use Rattle.bac_plant.specs.NextCuts.{FoundStoresGoOn, LostTurnsGoOn, StepsGoOn};
 ghost use Rattle.bac_plant.specs.NextSteps.{AsksGoOn, ChangesGoOn, FailuresGoOn, HeldSendsGoOn, HeldTurnsGoOn, IsReached, RestartsGoOn, StrangersAskedGoOn};
 ghost use Rattle.bac_plant.specs.NextSteps.{TurnsGoOn};
 ghost use Rattle.bac_plant.specs.Plants.{Plant, nodes_of, world_of};
-ghost use Rattle.bac_plant.specs.Rounds.{RoundInChain, ServesRoundsInChain, StopsRoundsInChain};
+ghost use Rattle.bac_plant.specs.Rounds.{HeldChain, RoundInChain, ServesRoundsInChain, StopsRoundsInChain};
 ghost use Rattle.bac_plant.specs.Steps.{PlantRun, Step};
 
 use bac_driver::Observer;
@@ -86,7 +86,9 @@ pub fn chains_are_steps()
 {}
 
 /// What `round_before` and `serve_kept` promise of a station is a chain of rounds: turns whose sends are held, one after the other, and then all that they
-/// hold is sent. By the laws above each of these is a step. Where serving stops for a fault, so are the rounds before.
+/// hold is sent. By the law above each of these is a step. Where serving stops for a fault, so are the rounds before. The turns that a station holds in a
+/// run of a plant, also in a round that a power cut takes back, where it does nothing else, are such a chain too, whatever other stations do between them.
+#[tactic(auto, using(crate::proofs::Holding::held_chain))]
 pub fn rounds_are_events<W, O: Observer<W>, K: Keeper>()
     ensures round { (p : WaitLimit) (old : Observed O.State) (effects : ℕ) (new : Observed O.State) → rounds.TakesRound O.Sees p old effects new
         → RoundInChain old.timed.bound_node effects new.timed.bound_node }
@@ -95,15 +97,19 @@ pub fn rounds_are_events<W, O: Observer<W>, K: Keeper>()
     ensures stopped { (p : WaitLimit) (rounds : ℕ) (keeper : K) (old new : Observed O.State)
         → BreaksOff O.Sees p rounds K.IsHonest K.may_find keeper old new
         → StopsRoundsInChain K.IsHonest K.may_find keeper old.timed.bound_node new.timed.bound_node }
+    ensures steps { (overtake station : ℕ) (steps : List CutStep) (old new : CutPlant) → CutPlantRun overtake steps old new → HoldsAlone station steps
+        → (before after : BoundNode) → real old station ≡ Some before → real new station ≡ Some after → HeldChain (held_of station steps) before after }
 {}
 
 /// A plant whose stations' power is cut at any moment, also in the midst of a round, and which start again with the store that their keepers find, is a plant
-/// whose stations restart with the stores that they have: rounds that a cut takes back are nothing there. So after a run of a fresh one the log is right with
-/// the stores. Where no station changes its own store, or restarts with another one, the stores are what the performed requests make of the opening ones.
-#[tactic(auto, using(crate::proofs::Cut::cut_steps))]
+/// whose stations restart with the stores that they have: rounds that a cut takes back are nothing there, and in them a station stands as before. So after a
+/// run of a fresh one the log is right with the stores. Where no station changes its own store, or restarts with another one, the stores are what the performed requests make of the opening ones.
+#[tactic(auto, using(crate::proofs::Cut::cut_steps, crate::proofs::Holding::lost_stays))]
 pub fn cut_rounds_are_restarts()
     ensures steps { (overtake : ℕ) (steps : List CutStep) (old new : CutPlant) → CutPlantRun overtake steps old new
         → PlantRun overtake (steps_of steps) old.plant new.plant }
+    ensures lost { (overtake station : ℕ) (steps : List CutStep) (old new : CutPlant) → CutPlantRun overtake steps old new → LosesAlone station steps
+        → slice_get new.plant.stations station ≡ slice_get old.plant.stations station }
     ensures once { (W overtake : ℕ) (old new : CutPlant) → IsFresh (world_of old.plant) → IsTimely old.plant.time.pace
         → IsBounded W overtake (world_of old.plant) → (steps : List CutStep) → CutPlantRun overtake steps old new
         → IsOnce (stores_of (nodes_of old.plant.stations)) new.plant.log (stores_of (nodes_of new.plant.stations)) }
