@@ -14,7 +14,7 @@ ghost use Rattle.bac_driver.specs.BoundNodes.{BoundNode};
 ghost use Rattle.bac_driver.specs.Asking.{AskingEnds, AskingFails, Question};
 ghost use Rattle.bac_driver.specs.Observed.{Observed};
 ghost use Rattle.bac_driver.specs.Pairs.{Pair, Round, TakesRound, turn_of_first};
-ghost use Rattle.bac_driver.specs.Rounds as rounds;
+ghost use Rattle.bac_driver.specs.Rounds as kept_rounds;
 ghost use Rattle.bac_driver.specs.Rounds.{BreaksOff, ServesRounds};
 ghost use Rattle.bac_driver.specs.Runs.{GoesBack, Run, Timed};
 ghost use Rattle.bac_driver.specs.Serving.{Serves, ServingFails};
@@ -36,8 +36,9 @@ use bac_driver::Observer;
 use bac_keep::Keeper;
 
 /// The turns that stations take, also those of a round, whose sends are held, their asks, changes and restarts are events of a world: a run of a plant is the
-/// run of its world through the events of its steps. After a run of a fresh plant the log, which has all that turns returned as performed and ended, is right with the stores. Whatever strangers send,
-/// what a station performs for one of them under one invoke ID, between two of its restarts, it performs in entries that began more than 65,000 ms apart.
+/// run of its world through the events of its steps. After a run of a fresh plant the log, which has all that turns returned as performed and ended, is right
+/// with the stores. Whatever strangers send, what a station performs for one of them under one invoke ID, between two of its restarts, it performs in entries
+/// that began more than 65,000 ms apart.
 #[tactic(auto, using(crate::proofs::Runs::run_events))]
 pub fn turns_are_events()
     ensures events { (overtake : ℕ) (steps : List Step) (old new : Plant) → PlantRun overtake steps old new
@@ -90,7 +91,7 @@ pub fn chains_are_steps()
 /// run of a plant, also in a round that a power cut takes back, where it does nothing else, are such a chain too, whatever other stations do between them.
 #[tactic(auto, using(crate::proofs::Holding::held_chain))]
 pub fn rounds_are_events<W, O: Observer<W>, K: Keeper>()
-    ensures round { (p : WaitLimit) (old : Observed O.State) (effects : ℕ) (new : Observed O.State) → rounds.TakesRound O.Sees p old effects new
+    ensures round { (p : WaitLimit) (old : Observed O.State) (effects : ℕ) (new : Observed O.State) → kept_rounds.TakesRound O.Sees p old effects new
         → RoundInChain old.timed.bound_node effects new.timed.bound_node }
     ensures served { (p : WaitLimit) (rounds effects : ℕ) (old new : Observed O.State) → ServesRounds O.Sees p rounds effects old new
         → ServesRoundsInChain effects old.timed.bound_node new.timed.bound_node }
@@ -103,7 +104,8 @@ pub fn rounds_are_events<W, O: Observer<W>, K: Keeper>()
 
 /// A plant whose stations' power is cut at any moment, also in the midst of a round, and which start again with the store that their keepers find, is a plant
 /// whose stations restart with the stores that they have: rounds that a cut takes back are nothing there, and in them a station stands as before. So after a
-/// run of a fresh one the log is right with the stores. Where no station changes its own store, or restarts with another one, the stores are what the performed requests make of the opening ones.
+/// run of a fresh one the log is right with the stores. Where no station changes its own store, or restarts with another one, the stores are what the performed
+/// requests make of the opening ones.
 #[tactic(auto, using(crate::proofs::Cut::cut_steps, crate::proofs::Holding::lost_stays))]
 pub fn cut_rounds_are_restarts()
     ensures steps { (overtake : ℕ) (steps : List CutStep) (old new : CutPlant) → CutPlantRun overtake steps old new
