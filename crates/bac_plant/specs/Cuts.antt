@@ -5,7 +5,7 @@ use Rattle.bac_driver.specs.Runs.{Run}
 use Rattle.bac_driver.specs.Turns.{Turn}
 use Rattle.bac_plant.specs.Network.{HandsOver, Source}
 use Rattle.bac_plant.specs.Plants.{Plant, shows}
-use Rattle.bac_plant.specs.Steps.{HoldsSomeTurn, PlantRun, PlantStep, RestartsAt, Step}
+use Rattle.bac_plant.specs.Steps.{HoldsSomeTurn, PlantStep, RestartsAt, Step}
 use Rattle.bac_plant.specs.Steps.Step.{Begins, BeginsAway, Changes, FailsToReceive, Holds, Passes, Restarts, SendsHeld, Takes}
 
 -- A round is lost where the power is cut before it has sent anything, and the next start finds the store before the round. While a station takes the turns of
