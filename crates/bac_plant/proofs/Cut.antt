@@ -1,19 +1,15 @@
 -- Power cuts are restarts of stations, and the turns of rounds that are lost are nothing.
-use Rattle.std.proofs.Common.{◌≡◌, ℕ, List, [], ◌∷◌, ◌⊎◌, Option, Some, None, slice_get, Bool, true, false, refl, sym, ap, subst, inl, inr, ◌∙◌}
+use Rattle.std.proofs.Common.{◌≡◌, ℕ, List, [], ◌∷◌, Option, Some, None, Bool, true, false, sym, ap, subst, inl, inr}
 use Rattle.bac_protocol.specs.Pace.{IsTimely}
-use Rattle.bac_service.specs.Values.{Request}
-use Rattle.bac_service.specs.Replies.{Reply}
 use Rattle.bac_transaction.specs.Meanings.{EndedView, Ending}
 use Rattle.bac_world.specs.Claims.{AreServedApart}
 use Rattle.bac_world.specs.Node.{Node}
 use Rattle.bac_world.specs.Once.{Fact, HasNoChange, IsOnce, IsOnceByRequests}
 use Rattle.bac_world.specs.Services as service
-use Rattle.bac_world.specs.World.{AreEnded, AreLogged, IsBounded, IsFresh, IsLogged, IsServedTo, Note, ending_fact, is_away, stores_of}
+use Rattle.bac_world.specs.World.{AreEnded, AreLogged, IsBounded, IsFresh, Note, ending_fact, is_away, stores_of}
 use Rattle.bac_world.proofs.Claims.{by_requests}
-use Rattle.bac_driver.specs.BoundNodes.{BoundNode}
 use Rattle.bac_driver.specs.Turns.{Turn, ended_of, performed_of}
-use Rattle.bac_plant.specs.Cuts.{CutPlant, CutPlantRun, CutPlantStep, CutStep, KeepStores, steps_of}
-use Rattle.bac_plant.specs.Network.{Source}
+use Rattle.bac_plant.specs.Cuts.{CutPlant, CutPlantRun, CutStep, KeepStores, steps_of}
 use Rattle.bac_plant.specs.Plants.{Plant, nodes_of, world_of}
 use Rattle.bac_plant.specs.Steps.{AreEntered, PlantRun, PlantStep, Step}
 use Rattle.bac_plant.specs.Steps.Step.{Begins, BeginsAway, Changes, FailsToReceive, Holds, Passes, Restarts, SendsHeld, Takes}

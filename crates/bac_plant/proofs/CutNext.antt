@@ -10,7 +10,6 @@ use Rattle.bac_world.specs.Once.Fact.{Restarted}
 use Rattle.bac_world.specs.World.{with_clock}
 use Rattle.bac_journal.proofs.Lists.{get_set}
 use Rattle.bac_driver.specs.BoundNodes.{BoundNode}
-use Rattle.bac_driver.specs.Rounds.{FindsOneOf}
 use Rattle.bac_plant.specs.Cuts.{CutPlant, or_else, with_losing}
 use Rattle.bac_plant.specs.NextCuts.{CanStart, FoundStoresGoOn, LostTurnsGoOn, StepsGoOn}
 use Rattle.bac_plant.specs.Steps.{with_station}

@@ -4,6 +4,7 @@ pub mod Chained
 pub mod Rounded
 pub mod Next
 pub mod Cut
+pub mod CutEvents
 pub mod CutNext
 pub mod Holding
 pub mod Resting

@@ -4,7 +4,7 @@ use Rattle.bac_store.specs.Stores.{Store}
 use Rattle.bac_driver.specs.BoundNodes.{BoundNode}
 use Rattle.bac_driver.specs.Moments.{with_moment}
 use Rattle.bac_driver.specs.Observed.{Observed, observed}
-use Rattle.bac_driver.specs.Rounds.{BreaksOff, HoldsEarlyTurn, HoldsSeenTurn, HoldsTurnAtOnce, HoldsTurnFrom, IsRound, ROUND, ServesRounds, TakesRound}
+use Rattle.bac_driver.specs.Rounds.{BreaksOff, HoldsEarlyTurn, HoldsSeenTurn, HoldsTurnAtOnce, HoldsTurnFrom, ROUND, ServesRounds, TakesRound}
 use Rattle.bac_driver.specs.Rounds.{in_order, sends_of_all}
 use Rattle.bac_driver.specs.Runs.{Run, Timed, timed}
 use Rattle.bac_driver.specs.Seen.{Watcher}

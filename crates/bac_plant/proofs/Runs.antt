@@ -84,7 +84,7 @@ changes_event overtake old i c new k = subst (λ p. WorldStep overtake (world_of
       log = refl;
     })
 
-restarts_event : (overtake : ℕ) (old : Plant) (i exact : ℕ) (store : _) (new : Plant) → RestartsAt old i exact store new
+pub restarts_event : (overtake : ℕ) (old : Plant) (i exact : ℕ) (store : _) (new : Plant) → RestartsAt old i exact store new
     → WorldStep overtake (world_of old) (Event.Restart i exact store) (world_of new)
 restarts_event overtake old i exact store new r = subst (λ p. WorldStep overtake (world_of old) (Event.Restart i exact store) (world_of p)) (sym r.is)
     (record {
@@ -98,7 +98,7 @@ restarts_event overtake old i exact store new r = subst (λ p. WorldStep overtak
       log = refl;
     })
 
-step_events : (overtake : ℕ) (old : Plant) (step : Step) (new : Plant) → PlantStep overtake old step new
+pub step_events : (overtake : ℕ) (old : Plant) (step : Step) (new : Plant) → PlantStep overtake old step new
     → WorldRun overtake (world_of old) (events_in step) (world_of new)
 step_events overtake old (Passes by own) new s = (world_of new, ap world_of s, refl)
 step_events overtake old (Takes i source turn) new s = turn_run overtake old i source turn new s

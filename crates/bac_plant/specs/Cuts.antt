@@ -1,8 +1,10 @@
 -- A plant in which the power of stations is cut at any moment, also in the midst of a round, and each starts again with the store that its keeper finds.
-use Rattle.std.specs.Prelude.{◌≡◌, ◌≢◌, ℕ, List, [], ◌∷◌, ◌++◌, Option, Some, None, slice_get, if◌then◌else◌, nat_eq, IfSome}
+use Rattle.std.specs.Prelude.{◌≡◌, ◌≢◌, ℕ, List, [], ◌∷◌, ◌++◌, map, Option, Some, None, slice_get, if◌then◌else◌, nat_eq, IfSome}
+use Rattle.bac_cuts.specs.Cuts.{CutEvent}
 use Rattle.bac_driver.specs.BoundNodes.{BoundNode}
 use Rattle.bac_driver.specs.Runs.{Run}
 use Rattle.bac_driver.specs.Turns.{Turn}
+use Rattle.bac_plant.specs.Events.{events_in}
 use Rattle.bac_plant.specs.Network.{HandsOver, Source}
 use Rattle.bac_plant.specs.Plants.{Plant, shows}
 use Rattle.bac_plant.specs.Steps.{HoldsSomeTurn, PlantStep, RestartsAt, Step}
@@ -79,6 +81,13 @@ steps_of [] = []
 steps_of (CutStep.Goes step ∷ before) = step ∷ steps_of before
 steps_of (CutStep.Loses i source turn ∷ before) = steps_of before
 steps_of (CutStep.Cuts i exact ∷ before) = Restarts i exact None ∷ steps_of before
+
+-- the events of such a run in its world, oldest first: those of the steps of the plant, and the cuts
+abbrev pub cut_events_of : List CutStep → List CutEvent
+cut_events_of [] = []
+cut_events_of (CutStep.Goes step ∷ before) = cut_events_of before ++ map CutEvent.Goes (events_in step)
+cut_events_of (CutStep.Loses i source turn ∷ before) = cut_events_of before
+cut_events_of (CutStep.Cuts i exact ∷ before) = cut_events_of before ++ CutEvent.Cut i exact ∷ []
 
 -- in these steps no station changes its own store, or restarts with another one than it has
 abbrev pub KeepStores : List Step → Type 0

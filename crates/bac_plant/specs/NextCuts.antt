@@ -1,5 +1,5 @@
 -- Whatever a call promises, and whatever a power cut leaves, can be the next step of a plant with power cuts.
-use Rattle.std.specs.Prelude.{◌≡◌, ◌⊎◌, ℕ, Some, None, slice_get, IfSome}
+use Rattle.std.specs.Prelude.{◌≡◌, ◌⊎◌, ℕ, Some, None, slice_get}
 use Rattle.bac_protocol.specs.Pace.{clock_at}
 use Rattle.bac_store.specs.Stores.{Store}
 use Rattle.bac_world.specs.Node.{restarted}
@@ -9,7 +9,7 @@ use Rattle.bac_driver.specs.Turns.{Turn}
 use Rattle.bac_plant.specs.Cuts.{CutPlant, CutPlantStep, CutStep, real, station_of}
 use Rattle.bac_plant.specs.Network.{HandsOver, Source}
 use Rattle.bac_plant.specs.NextSteps.{LeadsTo}
-use Rattle.bac_plant.specs.Plants.{Plant, shows}
+use Rattle.bac_plant.specs.Plants.{shows}
 use Rattle.bac_plant.specs.Steps.{HoldsSomeTurn, Step}
 
 -- there is a plant after the step, and that station is this one

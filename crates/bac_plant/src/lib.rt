@@ -10,6 +10,7 @@ ghost use Rattle.bac_protocol.specs.Pace.{IsTimely};
 ghost use Rattle.bac_world.specs.Claims.{AreServedApart};
 ghost use Rattle.bac_world.specs.Once.{IsOnce, IsOnceByRequests};
 ghost use Rattle.bac_world.specs.World.{IsBounded, IsFresh, WorldRun, stores_of};
+ghost use Rattle.bac_cuts.specs.Cuts.{CutRun};
 ghost use Rattle.bac_driver.specs.BoundNodes.{BoundNode};
 ghost use Rattle.bac_driver.specs.Asking.{AskingEnds, AskingFails, Question};
 ghost use Rattle.bac_driver.specs.Observed.{Observed};
@@ -23,7 +24,7 @@ ghost use Rattle.bac_driver.specs.declared.fault.TurnFault.{TurnFault};
 ghost use Rattle.bac_driver.specs.declared.wait_limit.WaitLimit.{WaitLimit};
 ghost use Rattle.bac_requester.specs.declared.ending.Ending.{Ending};
 ghost use Rattle.bac_plant.specs.Chains.{AsksAndStops, AsksInChain, Chain, ServesInChain, StopsInChain, TakesTurnsAlone, turn_of_second, turns_of};
-ghost use Rattle.bac_plant.specs.Cuts.{CutPlant, CutPlantRun, CutStep, HoldsAlone, KeepStores, LosesAlone, held_of, real, steps_of};
+ghost use Rattle.bac_plant.specs.Cuts.{CutPlant, CutPlantRun, CutStep, HoldsAlone, KeepStores, LosesAlone, cut_events_of, held_of, real, steps_of};
 ghost use Rattle.bac_plant.specs.Events.{events_of};
 ghost use Rattle.bac_plant.specs.NextCuts.{FoundStoresGoOn, LostTurnsGoOn, StepsGoOn};
 ghost use Rattle.bac_plant.specs.NextSteps.{AsksGoOn, ChangesGoOn, FailuresGoOn, HeldSendsGoOn, HeldTurnsGoOn, IsReached, RestartsGoOn, StrangersAskedGoOn};
@@ -103,13 +104,15 @@ pub fn rounds_are_events<W, O: Observer<W>, K: Keeper>()
 {}
 
 /// A plant whose stations' power is cut at any moment, also in the midst of a round, and which start again with the store that their keepers find, is a plant
-/// whose stations restart with the stores that they have: rounds that a cut takes back are nothing there, and in them a station stands as before. So after a
-/// run of a fresh one the log is right with the stores. Where no station changes its own store, or restarts with another one, the stores are what the performed
-/// requests make of the opening ones.
-#[tactic(auto, using(crate::proofs::Cut::cut_steps, crate::proofs::Holding::lost_stays))]
+/// whose stations restart with the stores that they have: rounds that a cut takes back are nothing there, and in them a station stands as before. Its events
+/// are those of a world in which the power of nodes is cut. So after a run of a fresh one the log is right with the stores. Where no station changes its own
+/// store, or restarts with another one, the stores are what the performed requests make of the opening ones.
+#[tactic(auto, using(crate::proofs::Cut::cut_steps, crate::proofs::CutEvents::cut_events, crate::proofs::Holding::lost_stays))]
 pub fn cut_rounds_are_restarts()
     ensures steps { (overtake : ℕ) (steps : List CutStep) (old new : CutPlant) → CutPlantRun overtake steps old new
         → PlantRun overtake (steps_of steps) old.plant new.plant }
+    ensures events { (overtake : ℕ) (steps : List CutStep) (old new : CutPlant) → CutPlantRun overtake steps old new
+        → CutRun overtake (world_of old.plant) (cut_events_of steps) (world_of new.plant) }
     ensures lost { (overtake station : ℕ) (steps : List CutStep) (old new : CutPlant) → CutPlantRun overtake steps old new → LosesAlone station steps
         → slice_get new.plant.stations station ≡ slice_get old.plant.stations station }
     ensures once { (W overtake : ℕ) (old new : CutPlant) → IsFresh (world_of old.plant) → IsTimely old.plant.time.pace
