@@ -11,7 +11,7 @@ use Rattle.bac_world.specs.World.{with_clock}
 use Rattle.bac_journal.proofs.Lists.{get_set}
 use Rattle.bac_driver.specs.BoundNodes.{BoundNode}
 use Rattle.bac_plant.specs.Cuts.{CutPlant, or_else, with_losing}
-use Rattle.bac_plant.specs.NextCuts.{CanStart, FoundStoresGoOn, LostTurnsGoOn, StepsGoOn}
+use Rattle.bac_plant.specs.NextCuts.{CanStart, FoundStoresGoOn, KeptStoresGoOn, LostTurnsGoOn, StepsGoOn}
 use Rattle.bac_plant.specs.Steps.{with_station}
 
 same_number : (i : ℕ) → nat_eq i i ≡ true
@@ -66,3 +66,9 @@ found_stores_go_on IsHonest may_find overtake keeper before after finds honest s
     go : (s ≡ before.node.store) ⊎ (s ≡ after.node.store) → CanStart overtake before s ⊎ CanStart overtake after s
     go (inl is) = inl (can_start overtake before s is)
     go (inr is) = inr (can_start overtake after s is)
+
+pub kept_stores_go_on : {K : Type 0} (IsHonest IsOpen : K → Type 0) (kept noted : K → Store) (may_find : K → Store → Type 0)
+    → ((k : K) (s : Store) → IsHonest k → IsOpen k → may_find k s → s ≡ kept k) → (overtake : ℕ)
+    → KeptStoresGoOn IsHonest IsOpen kept noted may_find overtake
+kept_stores_go_on IsHonest IsOpen kept noted may_find settled overtake keeper stands is honest s may =
+    can_start overtake stands s (settled keeper s honest is.is_open may ∙ is.kept_is)

@@ -1,15 +1,17 @@
 -- The turns that one station holds in a run are a chain; in a round that is lost it stands in the plant as before.
-use Rattle.std.proofs.Common.{◌≡◌, ◌≢◌, ℕ, Bool, true, false, List, [], ◌∷◌, Option, Some, None, slice_get, nat_eq, if◌then◌else◌, IfSome}
+use Rattle.std.proofs.Common.{◌≡◌, ◌≢◌, ℕ, Bool, true, false, List, [], ◌∷◌, Option, Some, None, length, ◌≤◌, slice_get, nat_eq, if◌then◌else◌, IfSome}
 use Rattle.std.proofs.Common.{refl, sym, ap, subst, ◌∙◌, arith}
 use Rattle.std.proofs.lemmas.Bool.Decides.{nat_tests}
 use Rattle.bac_driver.specs.BoundNodes.{BoundNode}
+use Rattle.bac_driver.specs.Rounds.{ROUND, in_order}
+use Rattle.bac_driver.specs.Serving.{performed_in}
 use Rattle.bac_driver.specs.Turns.{Turn}
 use Rattle.bac_plant.specs.Cuts.{CutPlant, CutPlantRun, CutStep, CutsAt, GoesOn, HoldsAlone, LosesAlone, LosesTurnAt, MayHold}
 use Rattle.bac_plant.specs.Cuts.{held_in, held_of, or_else, real, station_of, with_losing}
 use Rattle.bac_plant.specs.Network.{Source}
 use Rattle.bac_plant.specs.Plants.{Plant, shows}
-use Rattle.bac_plant.specs.Rounds.{HeldChain, HoldsTurnOnce}
-use Rattle.bac_plant.specs.Steps.{HoldsTurnAt, PlantStep, Step}
+use Rattle.bac_plant.specs.Rounds.{HeldChain, HoldsTurnOnce, RoundInChain}
+use Rattle.bac_plant.specs.Steps.{AreSent, HoldsTurnAt, PlantStep, Step}
 use Rattle.bac_plant.specs.Steps.Step.{Begins, BeginsAway, Changes, FailsToReceive, Holds, Passes, Restarts, SendsHeld, Takes}
 use Rattle.bac_plant.proofs.Chained.{other_stays, self_is}
 use Rattle.bac_plant.proofs.Rounded.{run_after}
@@ -169,6 +171,25 @@ module _ (overtake i : ℕ) where
   held_chain steps old new run alone before after at there =
       let c = chain_of steps old new run alone before at in
       subst (λ b. HeldChain (held_of i steps) before b) (one_there (real new i) c.0 after c.1 there) c.2
+
+  -- and what it then sends is that of a round
+  pub round_sent : (steps : List CutStep) (old middle new : CutPlant) → CutPlantRun overtake steps old middle → HoldsAlone i steps
+      → length (held_of i steps) ≤ ROUND → GoesOn overtake middle (SendsHeld i (in_order (held_of i steps))) new → (before after : BoundNode)
+      → real old i ≡ Some before → real new i ≡ Some after → RoundInChain before (performed_in (in_order (held_of i steps))) after
+  round_sent steps old middle new run alone few step before after at there =
+      let s = step.goes in
+      let was : real middle i ≡ Some s.before = ap (λ x. or_else x (slice_get middle.plant.stations i)) step.free ∙ s.at in
+      let free : new.losing i ≡ None = ap (λ (l : ℕ → Option BoundNode). l i) step.same ∙ step.free in
+      let is : real new i ≡ Some s.after = ap (λ x. or_else x (slice_get new.plant.stations i)) free
+      ∙ self_is middle.plant i s.before s.after new.plant.stations s.at (ap (λ (p : Plant). p.stations) s.is) in
+      record {
+        turns = held_of i steps;
+        middle = s.before;
+        held = held_chain steps old middle run alone before s.before at was;
+        sent = subst (λ b. AreSent (in_order (held_of i steps)) s.before b) (one_there (real new i) s.after after is there) s.sends;
+        most = few;
+        counted = refl;
+      }
 
   pub lost_stays : (steps : List CutStep) (old new : CutPlant) → CutPlantRun overtake steps old new → LosesAlone i steps → StandsStill old.plant new.plant
   lost_stays [] old new run alone = ap (λ (c : CutPlant). slice_get c.plant.stations i) run

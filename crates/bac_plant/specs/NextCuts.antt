@@ -4,7 +4,7 @@ use Rattle.bac_protocol.specs.Pace.{clock_at}
 use Rattle.bac_store.specs.Stores.{Store}
 use Rattle.bac_world.specs.Node.{restarted}
 use Rattle.bac_driver.specs.BoundNodes.{BoundNode}
-use Rattle.bac_driver.specs.Rounds.{FindsOneOf}
+use Rattle.bac_driver.specs.Rounds.{FindsOneOf, IsKept}
 use Rattle.bac_driver.specs.Turns.{Turn}
 use Rattle.bac_plant.specs.Cuts.{CutPlant, CutPlantStep, CutStep, real, station_of}
 use Rattle.bac_plant.specs.Network.{HandsOver, Source}
@@ -42,3 +42,9 @@ abbrev pub FoundStoresGoOn : {K : Type 0} → (IsHonest : K → Type 0) → (may
 FoundStoresGoOn {K} IsHonest may_find overtake =
     (keeper : K) (before after : BoundNode) → FindsOneOf IsHonest may_find before.node.store after.node.store keeper → IsHonest keeper
     → (s : Store) → may_find keeper s → CanStart overtake before s ⊎ CanStart overtake after s
+
+-- between rounds: with whatever store an honest keeper finds that keeps the store of a station, that station can start
+abbrev pub KeptStoresGoOn : {K : Type 0} → (IsHonest IsOpen : K → Type 0) → (kept noted : K → Store) → (may_find : K → Store → Type 0) → (overtake : ℕ) → Type 0
+KeptStoresGoOn {K} IsHonest IsOpen kept noted may_find overtake =
+    (keeper : K) (stands : BoundNode) → IsKept IsOpen kept noted keeper stands.node.store → IsHonest keeper → (s : Store) → may_find keeper s
+    → CanStart overtake stands s

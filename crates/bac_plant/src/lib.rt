@@ -5,7 +5,7 @@
 
 pub mod examples;
 
-ghost use Rattle.std.specs.Prelude.{◌≡◌, ◌⊎◌, ℕ, List, map, Some, slice_get};
+ghost use Rattle.std.specs.Prelude.{◌≡◌, ◌⊎◌, ◌≤◌, ℕ, List, length, map, Some, slice_get};
 ghost use Rattle.bac_protocol.specs.Pace.{IsTimely};
 ghost use Rattle.bac_world.specs.Claims.{AreServedApart};
 ghost use Rattle.bac_world.specs.Once.{IsOnce, IsOnceByRequests};
@@ -18,20 +18,21 @@ ghost use Rattle.bac_driver.specs.Pairs.{Pair, Round, TakesRound, turn_of_first}
 ghost use Rattle.bac_driver.specs.Rounds as kept_rounds;
 ghost use Rattle.bac_driver.specs.Rounds.{BreaksOff, ServesRounds};
 ghost use Rattle.bac_driver.specs.Runs.{GoesBack, Run, Timed};
-ghost use Rattle.bac_driver.specs.Serving.{Serves, ServingFails};
+ghost use Rattle.bac_driver.specs.Serving.{Serves, ServingFails, performed_in};
 ghost use Rattle.bac_driver.specs.declared.question.AskEnd.TheVariants as end;
 ghost use Rattle.bac_driver.specs.declared.fault.TurnFault.{TurnFault};
 ghost use Rattle.bac_driver.specs.declared.wait_limit.WaitLimit.{WaitLimit};
 ghost use Rattle.bac_requester.specs.declared.ending.Ending.{Ending};
 ghost use Rattle.bac_plant.specs.Chains.{AsksAndStops, AsksInChain, Chain, ServesInChain, StopsInChain, TakesTurnsAlone, turn_of_second, turns_of};
-ghost use Rattle.bac_plant.specs.Cuts.{CutPlant, CutPlantRun, CutStep, HoldsAlone, KeepStores, LosesAlone, cut_events_of, held_of, real, steps_of};
+ghost use Rattle.bac_plant.specs.Cuts.{CutPlant, CutPlantRun, CutStep, GoesOn, HoldsAlone, KeepStores, LosesAlone, cut_events_of, held_of, real, steps_of};
 ghost use Rattle.bac_plant.specs.Events.{events_of};
-ghost use Rattle.bac_plant.specs.NextCuts.{FoundStoresGoOn, LostTurnsGoOn, StepsGoOn};
+ghost use Rattle.bac_plant.specs.NextCuts.{FoundStoresGoOn, KeptStoresGoOn, LostTurnsGoOn, StepsGoOn};
 ghost use Rattle.bac_plant.specs.NextSteps.{AsksGoOn, ChangesGoOn, FailuresGoOn, HeldSendsGoOn, HeldTurnsGoOn, IsReached, RestartsGoOn, StrangersAskedGoOn};
 ghost use Rattle.bac_plant.specs.NextSteps.{TurnsGoOn};
 ghost use Rattle.bac_plant.specs.Plants.{Plant, nodes_of, world_of};
 ghost use Rattle.bac_plant.specs.Rounds.{HeldChain, RoundInChain, ServesRoundsInChain, StopsRoundsInChain};
 ghost use Rattle.bac_plant.specs.Steps.{PlantRun, Step};
+ghost use Rattle.bac_plant.specs.Steps.Step.{SendsHeld};
 
 use bac_driver::Observer;
 use bac_keep::Keeper;
@@ -88,9 +89,10 @@ pub fn chains_are_steps()
 {}
 
 /// What `round_before` and `serve_kept` promise of a station is a chain of rounds: turns whose sends are held, one after the other, and then all that they
-/// hold is sent. By the law above each of these is a step. Where serving stops for a fault, so are the rounds before. The turns that a station holds in a
-/// run of a plant, also in a round that a power cut takes back, where it does nothing else, are such a chain too, whatever other stations do between them.
-#[tactic(auto, using(crate::proofs::Holding::held_chain))]
+/// hold is sent. By `calls_go_on` each of these is a step. Where serving stops for a fault, so are the rounds before. The turns that a station holds in a run
+/// of a plant, also in a round that a power cut takes back, where it does nothing else, are such a chain too, whatever other stations do between them; and with
+/// the sends of all that they hold they are a round.
+#[tactic(auto, using(crate::proofs::Holding::held_chain, crate::proofs::Holding::round_sent))]
 pub fn rounds_are_events<W, O: Observer<W>, K: Keeper>()
     ensures round { (p : WaitLimit) (old : Observed O.State) (effects : ℕ) (new : Observed O.State) → kept_rounds.TakesRound O.Sees p old effects new
         → RoundInChain old.timed.bound_node effects new.timed.bound_node }
@@ -101,6 +103,11 @@ pub fn rounds_are_events<W, O: Observer<W>, K: Keeper>()
         → StopsRoundsInChain K.IsHonest K.may_find keeper old.timed.bound_node new.timed.bound_node }
     ensures steps { (overtake station : ℕ) (steps : List CutStep) (old new : CutPlant) → CutPlantRun overtake steps old new → HoldsAlone station steps
         → (before after : BoundNode) → real old station ≡ Some before → real new station ≡ Some after → HeldChain (held_of station steps) before after }
+    ensures sent { (overtake station : ℕ) (steps : List CutStep) (old middle new : CutPlant) → CutPlantRun overtake steps old middle
+        → HoldsAlone station steps → length (held_of station steps) ≤ kept_rounds.ROUND
+        → GoesOn overtake middle (SendsHeld station (kept_rounds.in_order (held_of station steps))) new
+        → (before after : BoundNode) → real old station ≡ Some before → real new station ≡ Some after
+        → RoundInChain before (performed_in (kept_rounds.in_order (held_of station steps))) after }
 {}
 
 /// A plant whose stations' power is cut at any moment, also in the midst of a round, and which start again with the store that their keepers find, is a plant
@@ -126,9 +133,11 @@ pub fn cut_rounds_are_restarts()
 {}
 
 /// In a plant with power cuts each step of a station that loses no round can be the next one, and so can each turn of a round that is lost. Whatever store an
-/// honest keeper finds after a cut in a round, the start with that store is the restart of a station that stands as before the round, or as after its turns.
+/// honest keeper finds after a cut in a round, the start with that store is the restart of a station that stands as before the round, or as after its turns;
+/// whatever it finds between rounds, it is the restart of the station as it stands.
 pub fn cuts_go_on<K: Keeper>()
     ensures steps { (overtake : ℕ) (c : CutPlant) → StepsGoOn overtake c }
     ensures lost_turns { (overtake : ℕ) (c : CutPlant) → LostTurnsGoOn overtake c }
     ensures found { (overtake : ℕ) → FoundStoresGoOn K.IsHonest K.may_find overtake }
+    ensures kept { (overtake : ℕ) → KeptStoresGoOn K.IsHonest K.IsOpen K.kept K.noted K.may_find overtake }
 {}
