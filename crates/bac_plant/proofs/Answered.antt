@@ -1,5 +1,5 @@
--- The run in which an ask is answered.
-use Rattle.std.proofs.Common.{◌≡◌, ℕ, List, [], ◌∷◌, map, slice_index_or, slice_get, true, Some, None, refl, sym, ap, subst, ◌∙◌, arith}
+-- Runs in which an ask is answered, and in which the power is cut before.
+use Rattle.std.proofs.Common.{◌≡◌, ℕ, List, [], ◌∷◌, map, slice_index_or, slice_get, true, Option, Some, None, refl, sym, ap, subst, ◌∙◌, arith}
 use Rattle.bac_protocol.specs.declared.times.TheConstants.{T_OUT}
 use Rattle.bac_requester.specs.Timers.{LAST_MOMENT}
 use Rattle.bac_transaction.specs.Ends.{ClientSlot, TransactionSlot, requester_tick}
@@ -7,22 +7,30 @@ use Rattle.bac_transaction.specs.Ends.TransactionSlot.{Closed, Open}
 use Rattle.bac_protocol.proofs.AtDrift.{lives}
 use Rattle.bac_world.specs.AnsweredRun.{LIMITS, TIME, link, node}
 use Rattle.bac_world.specs.Examples.{REQUEST}
-use Rattle.bac_world.specs.Node.{Node}
+use Rattle.bac_world.specs.Node.{Node, Outcome, restarted}
+use Rattle.bac_world.specs.Once.Fact.{Restarted}
+use Rattle.bac_protocol.specs.Pace.{clock_at}
 use Rattle.bac_protocol.specs.Service.{Octets}
-use Rattle.bac_world.specs.World.{Copy, Delivers, DeliversIf, Hears, IsDelivered, World, is_deliverable, link_at, peer_at}
+use Rattle.bac_world.specs.World.{Copy, Delivers, DeliversIf, Hears, IsDelivered, Time, World, is_deliverable, link_at, peer_at, with_clock}
 use Rattle.bac_world.proofs.Answered.{ACCEPTED, ANSWER, ASK, ASKED_NODE, LAST, SECOND, THIRD, answer_delivered, answered_run, ask_copied, asks}
 use Rattle.bac_world.proofs.Answered.{copy, datagram, request_delivered}
 use Rattle.bac_node.specs.Waiting.{MovesAt, RestsUntil}
 use Rattle.bac_driver.specs.Asking.{IsBegun}
 use Rattle.bac_driver.specs.BoundNodes.{BoundNode}
-use Rattle.bac_driver.specs.Turns.{call_of, with_calls}
+use Rattle.bac_driver.specs.Rounds.{sends_of_all}
+use Rattle.bac_driver.specs.Turns.{Turn, call_of, with_calls}
 use Rattle.bac_driver.specs.Waits.{IsDue}
-use Rattle.bac_plant.specs.Example.{AnsweredTurns, OPENING, station}
+use Rattle.bac_plant.specs.Cuts.{CutPlant, CutPlantRun, CutsAt, LosesTurnAt, with_losing}
+use Rattle.bac_plant.specs.Cuts.CutStep.{Goes}
+use Rattle.bac_plant.specs.Example.{AnsweredRound, AnsweredTurns, CUT_OPENING, CutRounds, OPENING, station}
 use Rattle.bac_plant.specs.Network.{IsOfStation}
+use Rattle.bac_plant.specs.Network.Source.{Nowhere, Station}
 use Rattle.bac_plant.specs.Plants.{Plant, world_of}
-use Rattle.bac_plant.specs.Steps.{AsksAt, question, with_station}
+use Rattle.bac_plant.specs.Steps.{AreSent, AsksAt, question, with_station}
+use Rattle.bac_plant.specs.Steps.Step.{Begins, Takes}
 use Rattle.bac_plant.proofs.Turned.{one_there}
-use Rattle.bac_plant.proofs.Resting.{IsCalm, after_none, after_turn, hearing_step, idle_step, next_plant, rests_until, turn_by, turn_by_none}
+use Rattle.bac_plant.proofs.Resting.{IsCalm, after_held, after_none, after_turn, comes_now, hearing_step, holding_step, holds_now, idle_step, next_plant}
+use Rattle.bac_plant.proofs.Resting.{rests_until, turn_by, turn_by_none}
 
 -- When both nodes are due.
 
@@ -162,4 +170,140 @@ answered_turns = record {
         answered_is answered_calm;
   };
   log = refl;
+}
+
+-- The same by a round.
+
+abbrev served_outcome : Outcome
+served_outcome = served_hears.outcome
+
+abbrev served_turn : Turn
+served_turn = turn_by 0 (link 0) (copy 0 1 ASK).octets served_outcome
+
+abbrev held_station : BoundNode
+held_station = after_held 0 (station 1) (link 0) (copy 0 1 ASK).octets (node_in THIRD 1)
+
+abbrev HELD : Plant
+HELD = next_plant IDLE 1 held_station THIRD
+
+abbrev sent_station : BoundNode
+sent_station = record held_station { calls = with_calls held_station.calls (map call_of (sends_of_all (served_turn ∷ []))) }
+
+abbrev SENT : Plant
+SENT = with_station HELD 1 sent_station
+
+sends_held : AreSent (served_turn ∷ []) held_station sent_station
+sends_held = record { lost = 0; carried = record { order = refl; count = refl; most = omega arith }; node = refl; buffer = refl }
+
+answer_comes_again : IsOfStation 253 SENT 0 1 (link 1) (copy 1 0 ANSWER).octets
+answer_comes_again = record { copy = copy 1 0 ANSWER; there = refl; to = refl; sender = refl; whole = refl; young = omega arith; few = omega arith }
+
+pub answered_round : AnsweredRound
+answered_round = record {
+  fresh = answered_run.fresh;
+  timely = lives.today;
+  bounded = answered_run.bounded;
+  idle = turn_by_none 0;
+  served = served_turn;
+  answered = turn_by 0 (link 1) (copy 1 0 ANSWER).octets answered_hears.outcome;
+  last = next_plant SENT 0 (after_turn 0 waiting (link 1) (copy 1 0 ANSWER).octets (node_in LAST 0) answered_hears.outcome) LAST;
+  run = record {
+    middle = SENT;
+    so_far = record {
+      middle = HELD;
+      so_far = record {
+        middle = IDLE;
+        so_far = record {
+          middle = FIRST;
+          so_far = record { middle = OPENING; so_far = refl; last = asked };
+          last = idle_step 253 FIRST 0 ASKED refl (Some T_OUT) asked_due asked_calm;
+        };
+        last = holding_step 253 IDLE 1 (station 1) refl None fresh_due 0 (link 0) (copy 0 1 ASK).octets request_comes THIRD served_hears
+            (node_in THIRD 1) served_is served_calm;
+      };
+      last = record { before = held_station; at = refl; after = sent_station; sends = sends_held; is = refl };
+    };
+    last = hearing_step 253 SENT 0 waiting refl (Some T_OUT) asked_due 1 (link 1) (copy 1 0 ANSWER).octets answer_comes_again LAST answered_hears
+        (node_in LAST 0) answered_is answered_calm;
+  };
+  log = refl;
+}
+
+-- Power cuts in that round.
+
+abbrev none_losing : ℕ → Option BoundNode
+none_losing i = None
+
+abbrev losing_one : ℕ → Option BoundNode
+losing_one = with_losing none_losing 1 (Some held_station)
+
+abbrev cut_plant : Plant → CutPlant
+cut_plant p = record { plant = p; losing = none_losing }
+
+-- a station so, after a restart
+abbrev started : BoundNode → BoundNode
+started b = record b { node = restarted (clock_at TIME.pace 0).shows b.node.store b.node }
+
+abbrev cut_one : Plant → BoundNode → Plant
+cut_one p b = record (with_station p 1 (started b)) { time = with_clock p.time 1 0; log = Restarted 1 None ∷ p.log }
+
+idle_run : CutPlantRun 253 (Goes (Takes 0 Nowhere (turn_by_none 0)) ∷ Goes (Begins 0 1 LIMITS REQUEST) ∷ []) CUT_OPENING (cut_plant IDLE)
+idle_run = record {
+  middle = cut_plant FIRST;
+  so_far = record { middle = CUT_OPENING; so_far = refl; last = record { free = refl; goes = asked; same = refl } };
+  last = record { free = refl; goes = idle_step 253 FIRST 0 ASKED refl (Some T_OUT) asked_due asked_calm; same = refl };
+}
+
+loses : LosesTurnAt 253 (cut_plant IDLE) 1 (Station 0) served_turn (record { plant = IDLE; losing = losing_one })
+loses = record {
+  before = station 1;
+  at = refl;
+  after = held_station;
+  holds = holds_now 253 IDLE 1 (station 1) refl None fresh_due 0 (link 0) (copy 0 1 ASK).octets request_comes THIRD served_hears
+      (node_in THIRD 1) served_is served_calm;
+  comes = comes_now 253 IDLE 1 (station 1) refl None fresh_due 0 (link 0) (copy 0 1 ASK).octets request_comes THIRD served_hears
+      (node_in THIRD 1) served_is served_calm;
+  is = refl;
+}
+
+cuts : (c : CutPlant) (b : BoundNode) → slice_get c.plant.stations 1 ≡ Some b → c.plant.time ≡ TIME
+    → CutsAt c 1 0 (record { plant = cut_one c.plant b; losing = with_losing c.losing 1 None })
+cuts c b at time = record {
+  starts = record {
+    before = b;
+    at = at;
+    after = started b;
+    node = ap (λ (t : Time). restarted (clock_at t.pace 0).shows b.node.store b.node) (sym time);
+    is = refl;
+  };
+  losing = refl;
+}
+
+pub cut_rounds : CutRounds
+cut_rounds = record {
+  idle = turn_by_none 0;
+  served = served_turn;
+  lost = record { plant = cut_one IDLE (station 1); losing = with_losing losing_one 1 None };
+  lost_run = record {
+    middle = record { plant = IDLE; losing = losing_one };
+    so_far = record { middle = cut_plant IDLE; so_far = idle_run; last = loses };
+    last = cuts (record { plant = IDLE; losing = losing_one }) (station 1) refl refl;
+  };
+  lost_log = refl;
+  found = record { plant = cut_one HELD held_station; losing = with_losing none_losing 1 None };
+  found_run = record {
+    middle = cut_plant HELD;
+    so_far = record {
+      middle = cut_plant IDLE;
+      so_far = idle_run;
+      last = record {
+        free = refl;
+        goes = holding_step 253 IDLE 1 (station 1) refl None fresh_due 0 (link 0) (copy 0 1 ASK).octets request_comes THIRD served_hears
+            (node_in THIRD 1) served_is served_calm;
+        same = refl;
+      };
+    };
+    last = cuts (cut_plant HELD) held_station refl refl;
+  };
+  found_log = refl;
 }

@@ -20,7 +20,7 @@ use Rattle.bac_plant.specs.Chains.{AsksAndStops, AsksInChain, Chain, ServesInCha
 use Rattle.bac_plant.specs.Network.{Source}
 use Rattle.bac_plant.specs.Plants.{Plant, shows}
 use Rattle.bac_plant.specs.Steps.{PlantRun, Step, TakesTurnAt}
-use Rattle.bac_plant.specs.Steps.Step.{Begins, BeginsAway, Changes, FailsToReceive, Passes, Restarts, Takes}
+use Rattle.bac_plant.specs.Steps.Step.{Begins, BeginsAway, Changes, FailsToReceive, Holds, Passes, Restarts, SendsHeld, Takes}
 
 early_turn : (p : WaitLimit) (old : Timed) (turn : Turn) (new : Timed) → TakesEarlyTurn p old turn new → TakesSomeTurn old.bound_node turn new.bound_node
 early_turn p old turn new t = record {
@@ -126,10 +126,10 @@ second_chain (round ∷ before) old new run = record {
 -- The steps of a station.
 
 -- the station is there after a step of another one, or of itself
-other_stays : (p : Plant) (i j : ℕ) (b : BoundNode) (new : List BoundNode) → new ≡ slice_set p.stations j b → (j ≢ i) → slice_get new i ≡ slice_get p.stations i
+pub other_stays : (p : Plant) (i j : ℕ) (b : BoundNode) (new : List BoundNode) → new ≡ slice_set p.stations j b → (j ≢ i) → slice_get new i ≡ slice_get p.stations i
 other_stays p i j b new is ne = ap (λ l. slice_get l i) is ∙ get_set_other p.stations j i b (λ e. ne (sym e))
 
-self_is : (p : Plant) (i : ℕ) (a b : BoundNode) (new : List BoundNode) → slice_get p.stations i ≡ Some a → new ≡ slice_set p.stations i b
+pub self_is : (p : Plant) (i : ℕ) (a b : BoundNode) (new : List BoundNode) → slice_get p.stations i ≡ Some a → new ≡ slice_set p.stations i b
     → slice_get new i ≡ Some b
 self_is p i a b new at is = ap (λ l. slice_get l i) is ∙ get_set p.stations i b (slice_get_within p.stations i a at)
 
@@ -156,7 +156,7 @@ module _ (overtake i : ℕ) where
       let one : t.before ≡ c.0 = one_there (slice_get middle.stations i) t.before c.0 mine c.1 in (
         t.after,
         self_is middle i t.before t.after new.stations mine
-            (ap (λ (p : Plant). p.stations) t.is ∙ ap (λ k. slice_set middle.stations k t.after) same),
+            (ap (λ (p : Plant). p.stations) t.happens.is ∙ ap (λ k. slice_set middle.stations k t.after) same),
         record {
           middle = c.0;
           so_far = c.2;
@@ -165,7 +165,7 @@ module _ (overtake i : ℕ) where
       )
   took j source turn steps middle new t before c false is =
       let other : j ≢ i = λ e. absurd (grind (arith, nat_tests)) in
-      still (turns_of i steps) middle new before (other_stays middle i j t.after new.stations (ap (λ (p : Plant). p.stations) t.is) other) c
+      still (turns_of i steps) middle new before (other_stays middle i j t.after new.stations (ap (λ (p : Plant). p.stations) t.happens.is) other) c
 
   chain_of : (steps : List Step) (old new : Plant) → PlantRun overtake steps old new → TakesTurnsAlone i steps → HasChain steps old new
   chain_of [] old new run alone before at = (before, ap (λ (p : Plant). slice_get p.stations i) run ∙ at, refl)
@@ -191,6 +191,14 @@ module _ (overtake i : ℕ) where
       (other_stays run.middle i j _ new.stations (ap (λ (p : Plant). p.stations) run.last.is) alone.0)
       (chain_of steps old run.middle run.so_far alone.1 before at)
   chain_of (Restarts j exact store ∷ steps) old new run alone before at =
+      still (turns_of i steps) run.middle new before
+      (other_stays run.middle i j run.last.after new.stations (ap (λ (p : Plant). p.stations) run.last.is) alone.0)
+      (chain_of steps old run.middle run.so_far alone.1 before at)
+  chain_of (Holds j source turn ∷ steps) old new run alone before at =
+      still (turns_of i steps) run.middle new before
+      (other_stays run.middle i j run.last.after new.stations (ap (λ (p : Plant). p.stations) run.last.happens.is) alone.0)
+      (chain_of steps old run.middle run.so_far alone.1 before at)
+  chain_of (SendsHeld j turns ∷ steps) old new run alone before at =
       still (turns_of i steps) run.middle new before
       (other_stays run.middle i j run.last.after new.stations (ap (λ (p : Plant). p.stations) run.last.is) alone.0)
       (chain_of steps old run.middle run.so_far alone.1 before at)

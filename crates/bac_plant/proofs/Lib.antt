@@ -1,6 +1,11 @@
 pub mod Turned
 pub mod Runs
 pub mod Chained
+pub mod Rounded
 pub mod Next
+pub mod Cut
+pub mod CutEvents
+pub mod CutNext
+pub mod Holding
 pub mod Resting
 pub mod Answered

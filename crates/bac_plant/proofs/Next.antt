@@ -21,13 +21,13 @@ use Rattle.bac_driver.specs.Turns as turns
 use Rattle.bac_driver.specs.Turns.{Turn, ended_of, performed_of, sends_of}
 use Rattle.bac_plant.specs.Network.{HandsOver, IsOfStation, Source}
 use Rattle.bac_plant.specs.Network.Source.{Noise, Nowhere, Station, Stranger}
-use Rattle.bac_plant.specs.NextSteps.{AsksGoOn, ChangesGoOn, FailuresGoOn, IsReached, LeadsTo, RestartsGoOn, StrangersAskedGoOn, TurnsGoOn}
+use Rattle.bac_plant.specs.NextSteps.{AsksGoOn, ChangesGoOn, FailuresGoOn, HeldSendsGoOn, HeldTurnsGoOn, IsReached, LeadsTo, RestartsGoOn, StrangersAskedGoOn, TurnsGoOn}
 use Rattle.bac_plant.specs.Plants.{Plant, nodes_of, shows, world_of}
-use Rattle.bac_plant.specs.Steps.{IsSomeTurn, away_note, note_of, question, with_station}
-use Rattle.bac_plant.specs.Steps.Step.{Begins, Takes}
+use Rattle.bac_plant.specs.Steps.{HappensAt, HoldsSomeTurn, IsSomeTurn, away_note, note_of, question, with_station}
+use Rattle.bac_plant.specs.Steps.Step.{Begins, Holds, Takes}
 use Rattle.bac_plant.specs.Events.{events_of, heard_events}
 use Rattle.bac_plant.proofs.Runs.{run_events}
-use Rattle.bac_plant.proofs.Turned.{after_call, all_copied_on, copied_join, hears_link, heard_run, may_arrive, node_at, run_join, set_links, turn_hears}
+use Rattle.bac_plant.proofs.Turned.{after_call, all_copied_on, copied_join, heard_run, hears_link, held_hears, may_arrive, node_at, run_join, set_links, turn_hears}
 
 -- What can enter does.
 
@@ -143,14 +143,9 @@ module _ (W overtake : ℕ) (p : Plant) (r : IsReached W overtake p) (i : ℕ) (
   stands : (after : BoundNode) → slice_get (slice_set p.stations i after) i ≡ Some after
   stands after = get_set p.stations i after (slice_get_within p.stations i before at)
 
-  module _ (turn : Turn) (after : BoundNode) (t : IsSomeTurn (shows p i) before turn after) (source : Source)
-      (from : HandsOver overtake p i source turn.received after.buffer) where
-    abbrev middle : Node
-    middle = t.is.acts.middle
-
-    hears : turns.Hears (shows p i) after.buffer turn.received before.node middle turn.heard
-    hears = turn_hears (shows p i) before turn after t
-
+  -- a turn, whose node is the middle one between hearing and the tick
+  module _ (turn : Turn) (after : BoundNode) (middle : Node) (hears : turns.Hears (shows p i) after.buffer turn.received before.node middle turn.heard)
+      (ticks : turns.Ticks (shows p i) middle after.node turn.ticked) (source : Source) (from : HandsOver overtake p i source turn.received after.buffer) where
     first : MayEnter (world_of p) i middle turn.heard
     first = heard_enters W overtake p goes_on i before.node middle first_at source turn.received after.buffer turn.heard hears from
 
@@ -175,7 +170,7 @@ module _ (W overtake : ℕ) (p : Plant) (r : IsReached W overtake p) (i : ℕ) (
 
     second : MayEnter Middle i after.node turn.ticked
     second = tick_enters W overtake Middle (reached_world W overtake p r (heard_events i source turn.heard) Middle went) i middle after.node second_at
-        turn.ticked t.is.acts.ticks
+        turn.ticked ticks
 
     linked : (j : ℕ) → link_at (nodes_of p.stations) j ≡ link_at Middle.nodes j
     linked j = sym (set_links (nodes_of p.stations) i before.node middle first_at
@@ -187,14 +182,10 @@ module _ (W overtake : ℕ) (p : Plant) (r : IsReached W overtake p) (i : ℕ) (
     abbrev later_ends : (next : List Fact) × AreEnded p.notes i (ended_of turn.ticked) performs.0 next
     later_ends = may_end Middle i after.node turn.ticked performs.0 second
 
-    turn_leads : LeadsTo overtake p (Takes i source turn) i after
-    turn_leads = record {
-      new = record (with_station p i after) { copies = p.copies ++ (sends.0 ++ later_sends.0); log = later_ends.0 };
-      goes = record {
-        before = before;
-        at = at;
-        after = after;
-        takes = t;
+    may_happen : (new : Plant) × HappensAt overtake p i source turn middle after new × (slice_get new.stations i ≡ Some after)
+    may_happen = (
+      record (with_station p i after) { copies = p.copies ++ (sends.0 ++ later_sends.0); log = later_ends.0 },
+      record {
         comes = from;
         sent = sends.0 ++ later_sends.0;
         copied = copied_join (nodes_of p.stations) p.time.now i (sends_of turn.heard) (sends_of turn.ticked) sends.0 later_sends.0 sends.1
@@ -202,9 +193,21 @@ module _ (W overtake : ℕ) (p : Plant) (r : IsReached W overtake p) (i : ℕ) (
         log = later_ends.0;
         entered = record { ended = ends.0; performed = performs.0; ends = ends.1; performs = performs.1; gives_up = later_ends.1 };
         is = refl;
-      };
-      there = stands after;
-    }
+      },
+      stands after,
+    )
+
+  turn_leads : (turn : Turn) (after : BoundNode) → IsSomeTurn (shows p i) before turn after → (source : Source)
+      → HandsOver overtake p i source turn.received after.buffer → LeadsTo overtake p (Takes i source turn) i after
+  turn_leads turn after t source from =
+      let m = may_happen turn after t.is.acts.middle (turn_hears (shows p i) before turn after t) t.is.acts.ticks source from in
+      record { new = m.0; goes = record { before = before; at = at; after = after; takes = t; happens = m.1 }; there = m.2 }
+
+  held_leads : (turn : Turn) (after : BoundNode) → HoldsSomeTurn (shows p i) before turn after → (source : Source)
+      → HandsOver overtake p i source turn.received after.buffer → LeadsTo overtake p (Holds i source turn) i after
+  held_leads turn after t source from =
+      let m = may_happen turn after t.takes.middle (held_hears (shows p i) before turn after t) t.takes.ticks source from in
+      record { new = m.0; goes = record { before = before; at = at; after = after; holds = t; happens = m.1 }; there = m.2 }
 
   ask_leads : (server : ℕ) (link : Octets) → link_at (nodes_of p.stations) server ≡ Some link → (limits : Limits) (request : Request) (ticket : ℕ)
       (after : BoundNode) → IsBegun (shows p i) (question (peer_at link) limits request) before ticket after
@@ -235,6 +238,16 @@ module _ (W overtake : ℕ) (p : Plant) (r : IsReached W overtake p) (i : ℕ) (
 
 pub turns_go_on : (W overtake : ℕ) (p : Plant) → IsReached W overtake p → TurnsGoOn overtake p
 turns_go_on W overtake p r i before at turn after t source from = turn_leads W overtake p r i before at turn after t source from
+
+pub held_turns_go_on : (W overtake : ℕ) (p : Plant) → IsReached W overtake p → HeldTurnsGoOn overtake p
+held_turns_go_on W overtake p r i before at turn after t source from = held_leads W overtake p r i before at turn after t source from
+
+pub held_sends_go_on : (overtake : ℕ) (p : Plant) → HeldSendsGoOn overtake p
+held_sends_go_on overtake p i before at turns after sends = record {
+  new = with_station p i after;
+  goes = record { before = before; at = at; after = after; sends = sends; is = refl };
+  there = get_set p.stations i after (slice_get_within p.stations i before at);
+}
 
 pub asks_go_on : (W overtake : ℕ) (p : Plant) → IsReached W overtake p → AsksGoOn overtake p
 asks_go_on W overtake p r i server before at link there limits request ticket after b =

@@ -1,5 +1,5 @@
 -- When a node rests, so that its link waits; and turns at whose tick nothing is due.
-use Rattle.std.proofs.Common.{◌≡◌, ℕ, [], ◌++◌, length, map, slice_get, Option, Some, None, Ok, refl, sym, ap, subst, ◌∙◌, arith}
+use Rattle.std.proofs.Common.{◌≡◌, ℕ, [], ◌++◌, length, map, take, slice_get, Option, Some, None, Ok, refl, sym, ap, subst, ◌∙◌, arith}
 use Rattle.std.proofs.Math.Seq.{take-length}
 use Rattle.bac_protocol.specs.Service.{Octets}
 use Rattle.bac_slots.specs.Slots.{EachSlot, in_order}
@@ -16,12 +16,12 @@ use Rattle.bac_world.proofs.Pairs.{append_none, pairwise_none}
 use Rattle.bac_node.specs.Waiting.{RestsUntil}
 use Rattle.bac_driver.specs.BoundNodes.{BoundNode}
 use Rattle.bac_driver.specs.Calls.{received, with_call}
-use Rattle.bac_driver.specs.Turns.{Turn, call_of, with_calls}
+use Rattle.bac_driver.specs.Turns.{Receives, Turn, call_of, with_calls}
 use Rattle.bac_driver.specs.Waits.{AT_ONCE, IsDue, IsWait, wait_until}
-use Rattle.bac_plant.specs.Network.{IsOfStation}
+use Rattle.bac_plant.specs.Network.{HandsOver, IsOfStation}
 use Rattle.bac_plant.specs.Network.Source.{Nowhere, Station}
 use Rattle.bac_plant.specs.Plants.{Plant, nodes_of, shows, world_of}
-use Rattle.bac_plant.specs.Steps.{IsSomeTurn, TakesTurnAt, with_station}
+use Rattle.bac_plant.specs.Steps.{HappensAt, HoldsSomeTurn, HoldsTurnAt, IsSomeTurn, TakesTurnAt, with_station}
 use Rattle.bac_plant.proofs.Turned.{copied_join, node_at, one_there}
 
 -- a tick leaves a table without entries as it is
@@ -84,6 +84,11 @@ ticks now n calm = record {
 abbrev pub turn_by : ℕ → (from octets : Octets) → Outcome → Turn
 turn_by now from octets o = record { at = now; received = Some (from, length octets); heard = Some o; ticked = Some QUIET; lost = 0 }
 
+-- the station once that has come
+abbrev came : BoundNode → (from octets : Octets) → BoundNode
+came b from octets = record b { calls = with_call b.calls (received 0 octets (Ok (Some (from, length octets)))); buffer = octets }
+
+-- after a turn, and after one whose sends are held
 abbrev pub after_turn : ℕ → BoundNode → (from octets : Octets) → Node → Outcome → BoundNode
 after_turn now b from octets n o =
     record {
@@ -93,22 +98,53 @@ after_turn now b from octets n o =
       buffer = octets;
     }
 
+abbrev pub after_held : ℕ → BoundNode → (from octets : Octets) → Node → BoundNode
+after_held now b from octets n = record (came b from octets) { node = ticked now n }
+
+receives_it : (now : ℕ) (b : BoundNode) (due : Option ℕ) → IsDue b.node due → (from octets : Octets)
+    → Receives AT_ONCE now b (Some (from, length octets)) (came b from octets)
+receives_it now b due is from octets =
+    record { within = omega arith; wait = 0; waits = waits_not now b.node due is; told = refl; count = refl; node = refl }
+
+hears_it : (now : ℕ) (b : BoundNode) (from octets : Octets) (n : Node) (o : Outcome) → NodeOn now from octets b.node n o
+    → NodeOn now from (take (length octets) octets) b.node n o
+hears_it now b from octets n o on = subst (λ os. NodeOn now from os b.node n o) (sym (take-length octets)) on
+
 takes_turn : (now : ℕ) (b : BoundNode) (due : Option ℕ) → IsDue b.node due → (from octets : Octets) (n : Node) (o : Outcome) → NodeOn now from octets b.node n o
     → IsCalm now n → IsSomeTurn now b (turn_by now from octets o) (after_turn now b from octets n o)
 takes_turn now b due is from octets n o on calm = record {
   limit = AT_ONCE;
   began = now;
   is = record {
-    middle = record b { calls = with_call b.calls (received 0 octets (Ok (Some (from, length octets)))); buffer = octets };
-    receives = record { within = omega arith; wait = 0; waits = waits_not now b.node due is; told = refl; count = refl; node = refl };
+    middle = came b from octets;
+    receives = receives_it now b due is from octets;
     acts = record {
       at = refl;
       middle = n;
-      hears = subst (λ os. NodeOn now from os b.node n o) (sym (take-length octets)) on;
+      hears = hears_it now b from octets n o on;
       ticks = ticks now n calm;
       carried = record { order = refl; count = refl; most = omega arith };
       buffer = refl;
     };
+  };
+}
+
+holds_turn : (now : ℕ) (b : BoundNode) (due : Option ℕ) → IsDue b.node due → (from octets : Octets) (n : Node) (o : Outcome)
+    → NodeOn now from octets b.node n o → IsCalm now n → HoldsSomeTurn now b (turn_by now from octets o) (after_held now b from octets n)
+holds_turn now b due is from octets n o on calm = record {
+  limit = AT_ONCE;
+  began = now;
+  middle = came b from octets;
+  receives = receives_it now b due is from octets;
+  takes = record {
+    at = refl;
+    middle = n;
+    hears = hears_it now b from octets n o on;
+    ticks = ticks now n calm;
+    lost = refl;
+    calls = refl;
+    failures = refl;
+    buffer = refl;
   };
 }
 
@@ -143,36 +179,60 @@ next_plant p i b w = record (with_station p i b) { copies = w.copies; log = w.lo
 
 -- what a node hears in the world is a turn of its station
 module _ (overtake : ℕ) (old : Plant) (i : ℕ) (b : BoundNode) (at : slice_get old.stations i ≡ Some b) (due : Option ℕ) (is : IsDue b.node due) where
-  pub hearing_step : (number : ℕ) (from octets : Octets) → IsOfStation overtake old i number from octets
-      → (w : World) (h : Hears (world_of old) i from octets w) (n : Node) → h.after ≡ n → IsCalm (shows old i) n
-      → TakesTurnAt overtake old i (Station number) (turn_by (shows old i) from octets h.outcome)
-      (next_plant old i (after_turn (shows old i) b from octets n h.outcome) w)
-  unfolding takes_turn
-  hearing_step number from octets comes w h n same calm = record {
-    before = b;
-    at = at;
-    after = after_turn (shows old i) b from octets n h.outcome;
-    takes = takes_turn (shows old i) b due is from octets n h.outcome on calm;
-    comes = subst (λ os. IsOfStation overtake old i number from os) (sym (take-length octets)) comes;
-    sent = h.acts.sent ++ [];
-    copied = copied_join (nodes_of old.stations) old.time.now i h.outcome.sends [] h.acts.sent [] h.acts.copied refl;
-    log = w.log;
-    entered = record {
-      ended = h.acts.between;
-      performed = w.log;
-      ends = h.acts.ended;
-      performs = subst (λ x. AreLogged (nodes_of old.stations) old.notes i x h.outcome.performed h.acts.between w.log) same h.acts.logged;
-      gives_up = refl;
-    };
-    is = ap (λ l. record (with_station old i (after_turn (shows old i) b from octets n h.outcome)) { copies = l; log = w.log })
-        (h.acts.copies ∙ ap (λ l. old.copies ++ l) (sym (append_none h.acts.sent)));
-  }
-    where
-      was : h.before ≡ b.node
-      was = one_there (slice_get (nodes_of old.stations) i) h.before b.node h.at (node_at old.stations i b at)
+  module _ (number : ℕ) (from octets : Octets) (comes : IsOfStation overtake old i number from octets) (w : World) (h : Hears (world_of old) i from octets w)
+      (n : Node) (same : h.after ≡ n) (calm : IsCalm (shows old i) n) where
+    was : h.before ≡ b.node
+    was = one_there (slice_get (nodes_of old.stations) i) h.before b.node h.at (node_at old.stations i b at)
 
-      on : NodeOn (shows old i) from octets b.node n h.outcome
-      on = subst (λ x. NodeOn (shows old i) from octets x n h.outcome) was (subst (λ y. NodeOn (shows old i) from octets h.before y h.outcome) same h.on)
+    on : NodeOn (shows old i) from octets b.node n h.outcome
+    on = subst (λ x. NodeOn (shows old i) from octets x n h.outcome) was (subst (λ y. NodeOn (shows old i) from octets h.before y h.outcome) same h.on)
+
+    -- what happens to the plant, whatever became of the link
+    happens : (after : BoundNode) → after.buffer ≡ octets
+        → HappensAt overtake old i (Station number) (turn_by (shows old i) from octets h.outcome) n after (next_plant old i after w)
+    happens after buffer = record {
+      comes = subst (λ os. IsOfStation overtake old i number from os) (sym (ap (take (length octets)) buffer ∙ take-length octets)) comes;
+      sent = h.acts.sent ++ [];
+      copied = copied_join (nodes_of old.stations) old.time.now i h.outcome.sends [] h.acts.sent [] h.acts.copied refl;
+      log = w.log;
+      entered = record {
+        ended = h.acts.between;
+        performed = w.log;
+        ends = h.acts.ended;
+        performs = subst (λ x. AreLogged (nodes_of old.stations) old.notes i x h.outcome.performed h.acts.between w.log) same h.acts.logged;
+        gives_up = refl;
+      };
+      is = ap (λ l. record (with_station old i after) { copies = l; log = w.log })
+          (h.acts.copies ∙ ap (λ l. old.copies ++ l) (sym (append_none h.acts.sent)));
+    }
+
+    pub hearing_step : TakesTurnAt overtake old i (Station number) (turn_by (shows old i) from octets h.outcome)
+        (next_plant old i (after_turn (shows old i) b from octets n h.outcome) w)
+    unfolding takes_turn
+    hearing_step = record {
+      before = b;
+      at = at;
+      after = after_turn (shows old i) b from octets n h.outcome;
+      takes = takes_turn (shows old i) b due is from octets n h.outcome on calm;
+      happens = happens (after_turn (shows old i) b from octets n h.outcome) refl;
+    }
+
+    pub holds_now : HoldsSomeTurn (shows old i) b (turn_by (shows old i) from octets h.outcome) (after_held (shows old i) b from octets n)
+    holds_now = holds_turn (shows old i) b due is from octets n h.outcome on calm
+
+    pub comes_now : HandsOver overtake old i (Station number) (Some (from, length octets)) octets
+    comes_now = subst (λ os. IsOfStation overtake old i number from os) (sym (take-length octets)) comes
+
+    pub holding_step : HoldsTurnAt overtake old i (Station number) (turn_by (shows old i) from octets h.outcome)
+        (next_plant old i (after_held (shows old i) b from octets n) w)
+    unfolding holds_turn holds_now
+    holding_step = record {
+      before = b;
+      at = at;
+      after = after_held (shows old i) b from octets n;
+      holds = holds_now;
+      happens = happens (after_held (shows old i) b from octets n) refl;
+    }
 
   pub idle_step : IsCalm (shows old i) b.node
       → TakesTurnAt overtake old i Nowhere (turn_by_none (shows old i)) (with_station old i (after_none (shows old i) b))
@@ -181,10 +241,12 @@ module _ (overtake : ℕ) (old : Plant) (i : ℕ) (b : BoundNode) (at : slice_ge
     at = at;
     after = after_none (shows old i) b;
     takes = takes_none (shows old i) b due is calm;
-    comes = refl;
-    sent = [];
-    copied = refl;
-    log = old.log;
-    entered = record { ended = old.log; performed = old.log; ends = refl; performs = refl; gives_up = refl };
-    is = ap (λ l. record (with_station old i (after_none (shows old i) b)) { copies = l }) (sym (append_none old.copies));
+    happens = record {
+      comes = refl;
+      sent = [];
+      copied = refl;
+      log = old.log;
+      entered = record { ended = old.log; performed = old.log; ends = refl; performs = refl; gives_up = refl };
+      is = ap (λ l. record (with_station old i (after_none (shows old i) b)) { copies = l }) (sym (append_none old.copies));
+    };
   }

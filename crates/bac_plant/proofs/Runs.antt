@@ -6,11 +6,12 @@ use Rattle.bac_world.specs.Once.{IsOnce}
 use Rattle.bac_world.specs.World.{Event, IsBounded, IsFresh, IsWithNode, WorldRun, WorldStep, stores_of}
 use Rattle.bac_world.proofs.Headline.{apart_in_run, headline}
 use Rattle.bac_driver.specs.BoundNodes.{BoundNode}
+use Rattle.bac_driver.specs.Turns.{Turn}
 use Rattle.bac_plant.specs.Plants.{Plant, nodes_of, world_of}
-use Rattle.bac_plant.specs.Steps.{AsksAt, AsksAwayAt, ChangesAt, FailsAt, PlantRun, PlantStep, RestartsAt, Step, away_note, note_of}
-use Rattle.bac_plant.specs.Steps.Step.{Begins, BeginsAway, Changes, FailsToReceive, Passes, Restarts, Takes}
+use Rattle.bac_plant.specs.Steps.{AsksAt, AsksAwayAt, ChangesAt, FailsAt, PlantRun, PlantStep, RestartsAt, SendsHeldAt, Step, away_note, note_of, with_station}
+use Rattle.bac_plant.specs.Steps.Step.{Begins, BeginsAway, Changes, FailsToReceive, Holds, Passes, Restarts, SendsHeld, Takes}
 use Rattle.bac_plant.specs.Events.{events_in, events_of}
-use Rattle.bac_plant.proofs.Turned.{node_at, nodes_set, run_join, set_same, turn_run, with_node}
+use Rattle.bac_plant.proofs.Turned.{held_run, node_at, nodes_set, run_join, set_same, turn_run, with_node}
 
 -- the nodes after a step of one station
 set_nodes : (xs : List BoundNode) (i : ℕ) (a b : BoundNode) → slice_get xs i ≡ Some a → IsWithNode (nodes_of xs) i b.node (nodes_of (slice_set xs i b))
@@ -18,10 +19,17 @@ set_nodes xs i a b at = subst (λ l. IsWithNode (nodes_of xs) i b.node l) (sym (
     (with_node (nodes_of xs) i a.node b.node (node_at xs i a at))
 
 -- the world knows nothing of links and buffers
+link_alone : (old new : Plant) (i : ℕ) (before after : BoundNode) → slice_get old.stations i ≡ Some before → after.node ≡ before.node
+    → new ≡ with_station old i after → world_of new ≡ world_of old
+link_alone old new i before after at same is =
+    ap world_of is ∙ ap (λ l. record (world_of old) { nodes = l }) (nodes_set old.stations i after
+    ∙ ap (slice_set (nodes_of old.stations) i) same ∙ set_same (nodes_of old.stations) i before.node (node_at old.stations i before at))
+
 fails_same : (old : Plant) (i : ℕ) (new : Plant) → FailsAt old i new → world_of new ≡ world_of old
-fails_same old i new f =
-    ap world_of f.is ∙ ap (λ l. record (world_of old) { nodes = l }) (nodes_set old.stations i f.after
-    ∙ ap (slice_set (nodes_of old.stations) i) f.node ∙ set_same (nodes_of old.stations) i f.before.node (node_at old.stations i f.before f.at))
+fails_same old i new f = link_alone old new i f.before f.after f.at f.node f.is
+
+sends_same : (old : Plant) (i : ℕ) (turns : List Turn) (new : Plant) → SendsHeldAt old i turns new → world_of new ≡ world_of old
+sends_same old i turns new s = link_alone old new i s.before s.after s.at s.sends.node s.is
 
 begins_event : (overtake : ℕ) (old : Plant) (i server : ℕ) (limits : _) (r : _) (new : Plant) → AsksAt old i server limits r new
     → WorldStep overtake (world_of old) (Event.Ask i server limits r) (world_of new)
@@ -76,7 +84,7 @@ changes_event overtake old i c new k = subst (λ p. WorldStep overtake (world_of
       log = refl;
     })
 
-restarts_event : (overtake : ℕ) (old : Plant) (i exact : ℕ) (store : _) (new : Plant) → RestartsAt old i exact store new
+pub restarts_event : (overtake : ℕ) (old : Plant) (i exact : ℕ) (store : _) (new : Plant) → RestartsAt old i exact store new
     → WorldStep overtake (world_of old) (Event.Restart i exact store) (world_of new)
 restarts_event overtake old i exact store new r = subst (λ p. WorldStep overtake (world_of old) (Event.Restart i exact store) (world_of p)) (sym r.is)
     (record {
@@ -90,7 +98,7 @@ restarts_event overtake old i exact store new r = subst (λ p. WorldStep overtak
       log = refl;
     })
 
-step_events : (overtake : ℕ) (old : Plant) (step : Step) (new : Plant) → PlantStep overtake old step new
+pub step_events : (overtake : ℕ) (old : Plant) (step : Step) (new : Plant) → PlantStep overtake old step new
     → WorldRun overtake (world_of old) (events_in step) (world_of new)
 step_events overtake old (Passes by own) new s = (world_of new, ap world_of s, refl)
 step_events overtake old (Takes i source turn) new s = turn_run overtake old i source turn new s
@@ -99,6 +107,8 @@ step_events overtake old (Begins i server limits r) new s = (world_of new, begin
 step_events overtake old (BeginsAway i peer limits r) new s = (world_of new, begins_away_event overtake old i peer limits r new s, refl)
 step_events overtake old (Changes i c) new s = (world_of new, changes_event overtake old i c new s, refl)
 step_events overtake old (Restarts i exact store) new s = (world_of new, restarts_event overtake old i exact store new s, refl)
+step_events overtake old (Holds i source turn) new s = held_run overtake old i source turn new s
+step_events overtake old (SendsHeld i turns) new s = sends_same old i turns new s
 
 pub run_events : (overtake : ℕ) (steps : List Step) (old new : Plant) → PlantRun overtake steps old new
     → WorldRun overtake (world_of old) (events_of steps) (world_of new)

@@ -22,8 +22,8 @@ use Rattle.bac_driver.specs.Turns.{ended_of, performed_of, sends_of}
 use Rattle.bac_plant.specs.Plants.{Plant, node_of, nodes_of, shows, world_of}
 use Rattle.bac_plant.specs.Network.{HandsOver, IsOfStation, Source}
 use Rattle.bac_plant.specs.Network.Source.{Noise, Nowhere, Station, Stranger}
-use Rattle.bac_plant.specs.Steps.{IsSomeTurn, TakesTurnAt}
-use Rattle.bac_plant.specs.Events.{heard_events, ticked_events}
+use Rattle.bac_plant.specs.Steps.{HappensAt, HoldsSomeTurn, HoldsTurnAt, IsSomeTurn, TakesTurnAt}
+use Rattle.bac_plant.specs.Events.{heard_events, ticked_events, turn_events}
 
 -- what is there is one thing
 pub one_there : {A : Type 0} (o : Option A) (x y : A) → o ≡ Some x → o ≡ Some y → x ≡ y
@@ -262,47 +262,67 @@ run_join overtake (e ∷ es) fs u v w h k = (h.0, h.1, run_join overtake es fs h
 -- The turn.
 
 -- what its node hears, by the buffer that the turn leaves
+hears_by : (now : ℕ) (first received after : BoundNode) (turn : turns.Turn) (middle : Node) → received.node ≡ first.node → after.buffer ≡ received.buffer
+    → turns.Hears now received.buffer turn.received received.node middle turn.heard
+    → turns.Hears now after.buffer turn.received first.node middle turn.heard
+hears_by now first received after turn middle node buffer hears =
+    subst (λ n. turns.Hears now after.buffer turn.received n middle turn.heard) node
+    (subst (λ l. turns.Hears now l turn.received received.node middle turn.heard) (sym buffer) hears)
+
 pub turn_hears : (now : ℕ) (before : BoundNode) (turn : turns.Turn) (after : BoundNode) (t : IsSomeTurn now before turn after)
     → turns.Hears now after.buffer turn.received before.node t.is.acts.middle turn.heard
 turn_hears now before turn after t =
-    subst (λ n. turns.Hears now after.buffer turn.received n t.is.acts.middle turn.heard) t.is.receives.node
-    (subst (λ l. turns.Hears now l turn.received t.is.middle.node t.is.acts.middle turn.heard) (sym t.is.acts.buffer) t.is.acts.hears)
+    hears_by now before t.is.middle after turn t.is.acts.middle t.is.receives.node t.is.acts.buffer t.is.acts.hears
 
-module _ (overtake : ℕ) (old : Plant) (i : ℕ) (source : Source) (turn : turns.Turn) (new : Plant) (t : TakesTurnAt overtake old i source turn new) where
-  abbrev acts : turns.Acts (shows old i) t.takes.is.middle turn t.after
-  acts = t.takes.is.acts
+pub held_hears : (now : ℕ) (before : BoundNode) (turn : turns.Turn) (after : BoundNode) (t : HoldsSomeTurn now before turn after)
+    → turns.Hears now after.buffer turn.received before.node t.takes.middle turn.heard
+held_hears now before turn after t =
+    hears_by now before t.middle after turn t.takes.middle t.receives.node t.takes.buffer t.takes.hears
 
-  first_at : slice_get (nodes_of old.stations) i ≡ Some t.before.node
-  first_at = node_at old.stations i t.before t.at
-
-  hears : turns.Hears (shows old i) t.after.buffer turn.received t.before.node acts.middle turn.heard
-  hears = turn_hears (shows old i) t.before turn t.after t.takes
+module _ (overtake : ℕ) (old : Plant) (i : ℕ) (before : BoundNode) (at : slice_get old.stations i ≡ Some before) (source : Source) (turn : turns.Turn)
+    (middle : Node) (after : BoundNode) (hears : turns.Hears (shows old i) after.buffer turn.received before.node middle turn.heard)
+    (ticks : turns.Ticks (shows old i) middle after.node turn.ticked) (new : Plant) (t : HappensAt overtake old i source turn middle after new) where
+  first_at : slice_get (nodes_of old.stations) i ≡ Some before.node
+  first_at = node_at old.stations i before at
 
   abbrev split : AreParted (nodes_of old.stations) old.time.now i (sends_of turn.heard) (sends_of turn.ticked) t.sent
   split = copied_split (nodes_of old.stations) old.time.now i (sends_of turn.heard) (sends_of turn.ticked) t.sent t.copied
 
   abbrev Middle : World
-  Middle = after_call (world_of old) i acts.middle split.front t.entered.performed
+  Middle = after_call (world_of old) i middle split.front t.entered.performed
 
-  second_at : slice_get Middle.nodes i ≡ Some acts.middle
-  second_at = get_set (nodes_of old.stations) i acts.middle (slice_get_within (nodes_of old.stations) i t.before.node first_at)
+  second_at : slice_get Middle.nodes i ≡ Some middle
+  second_at = get_set (nodes_of old.stations) i middle (slice_get_within (nodes_of old.stations) i before.node first_at)
 
   linked : (j : ℕ) → link_at Middle.nodes j ≡ link_at (nodes_of old.stations) j
-  linked = set_links (nodes_of old.stations) i t.before.node acts.middle first_at
-      (hears_link (shows old i) t.after.buffer turn.received t.before.node acts.middle turn.heard hears)
+  linked = set_links (nodes_of old.stations) i before.node middle first_at
+      (hears_link (shows old i) after.buffer turn.received before.node middle turn.heard hears)
 
-  last : after_call Middle i t.after.node split.rest t.log ≡ world_of new
+  last : after_call Middle i after.node split.rest t.log ≡ world_of new
   last =
       ap (λ n. record Middle { nodes = n; copies = Middle.copies ++ split.rest; log = t.log })
-      (set_twice (nodes_of old.stations) i acts.middle t.after.node ∙ sym (nodes_set old.stations i t.after))
-      ∙ ap (λ l. record Middle { nodes = nodes_of (slice_set old.stations i t.after); copies = l; log = t.log })
+      (set_twice (nodes_of old.stations) i middle after.node ∙ sym (nodes_set old.stations i after))
+      ∙ ap (λ l. record Middle { nodes = nodes_of (slice_set old.stations i after); copies = l; log = t.log })
       (append_assoc old.copies split.front split.rest ∙ ap (λ l. old.copies ++ l) (sym split.is)) ∙ sym (ap world_of t.is)
 
-  pub turn_run : WorldRun overtake (world_of old) (heard_events i source turn.heard ++ ticked_events i turn.ticked) (world_of new)
-  turn_run = run_join overtake (heard_events i source turn.heard) (ticked_events i turn.ticked) (world_of old) Middle (world_of new)
-      (heard_run overtake old i t.before.node acts.middle first_at split.front t.entered.ended t.entered.performed source turn.received t.after.buffer
+  happens_run : WorldRun overtake (world_of old) (turn_events i source turn) (world_of new)
+  happens_run = run_join overtake (heard_events i source turn.heard) (ticked_events i turn.ticked) (world_of old) Middle (world_of new)
+      (heard_run overtake old i before.node middle first_at split.front t.entered.ended t.entered.performed source turn.received after.buffer
       turn.heard hears t.comes split.first t.entered.ends t.entered.performs)
       (subst (WorldRun overtake Middle (ticked_events i turn.ticked)) last
-      (tick_run overtake Middle i acts.middle t.after.node second_at turn.ticked acts.ticks split.rest
+      (tick_run overtake Middle i middle after.node second_at turn.ticked ticks split.rest
       (all_copied_on (nodes_of old.stations) Middle.nodes linked old.time.now i (sends_of turn.ticked) split.rest split.second)
       t.log t.entered.gives_up))
+
+pub turn_run : (overtake : ℕ) (old : Plant) (i : ℕ) (source : Source) (turn : turns.Turn) (new : Plant) → TakesTurnAt overtake old i source turn new
+    → WorldRun overtake (world_of old) (turn_events i source turn) (world_of new)
+turn_run overtake old i source turn new t =
+    happens_run overtake old i t.before t.at source turn t.takes.is.acts.middle t.after (turn_hears (shows old i) t.before turn t.after t.takes)
+    t.takes.is.acts.ticks new t.happens
+
+-- that what it sends is held makes no difference to its world
+pub held_run : (overtake : ℕ) (old : Plant) (i : ℕ) (source : Source) (turn : turns.Turn) (new : Plant) → HoldsTurnAt overtake old i source turn new
+    → WorldRun overtake (world_of old) (turn_events i source turn) (world_of new)
+held_run overtake old i source turn new t =
+    happens_run overtake old i t.before t.at source turn t.holds.takes.middle t.after (held_hears (shows old i) t.before turn t.after t.holds)
+    t.holds.takes.ticks new t.happens

@@ -4,4 +4,7 @@ pub mod Steps
 pub mod Events
 pub mod NextSteps
 pub mod Chains
+pub mod Rounds
+pub mod Cuts
+pub mod NextCuts
 pub mod Example

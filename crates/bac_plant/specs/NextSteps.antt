@@ -15,8 +15,8 @@ use Rattle.bac_driver.specs.Runs.{CannotReceive, Timed}
 use Rattle.bac_driver.specs.Turns.{Turn}
 use Rattle.bac_plant.specs.Network.{HandsOver, Source}
 use Rattle.bac_plant.specs.Plants.{Plant, nodes_of, shows, world_of}
-use Rattle.bac_plant.specs.Steps.{IsSomeTurn, PlantRun, PlantStep, Step, question}
-use Rattle.bac_plant.specs.Steps.Step.{Begins, BeginsAway, Changes, FailsToReceive, Restarts, Takes}
+use Rattle.bac_plant.specs.Steps.{AreSent, HoldsSomeTurn, IsSomeTurn, PlantRun, PlantStep, Step, question}
+use Rattle.bac_plant.specs.Steps.Step.{Begins, BeginsAway, Changes, FailsToReceive, Holds, Restarts, SendsHeld, Takes}
 
 -- a run from a fresh plant led there
 pub record IsReached (W overtake : ℕ) (p : Plant) : Type 0 where
@@ -38,6 +38,18 @@ abbrev pub TurnsGoOn : (overtake : ℕ) → Plant → Type 0
 TurnsGoOn overtake p =
     (i : ℕ) (before : BoundNode) → slice_get p.stations i ≡ Some before → (turn : Turn) (after : BoundNode) → IsSomeTurn (shows p i) before turn after
     → (source : Source) → HandsOver overtake p i source turn.received after.buffer → LeadsTo overtake p (Takes i source turn) i after
+
+-- the same of each turn of a round, whose sends are held
+abbrev pub HeldTurnsGoOn : (overtake : ℕ) → Plant → Type 0
+HeldTurnsGoOn overtake p =
+    (i : ℕ) (before : BoundNode) → slice_get p.stations i ≡ Some before → (turn : Turn) (after : BoundNode) → HoldsSomeTurn (shows p i) before turn after
+    → (source : Source) → HandsOver overtake p i source turn.received after.buffer → LeadsTo overtake p (Holds i source turn) i after
+
+-- each time that a station sends what turns hold
+abbrev pub HeldSendsGoOn : (overtake : ℕ) → Plant → Type 0
+HeldSendsGoOn overtake p =
+    (i : ℕ) (before : BoundNode) → slice_get p.stations i ≡ Some before → (turns : List Turn) (after : BoundNode) → AreSent turns before after
+    → LeadsTo overtake p (SendsHeld i turns) i after
 
 -- each ask of another station that its node accepts
 abbrev pub AsksGoOn : (overtake : ℕ) → Plant → Type 0

@@ -9,7 +9,7 @@ use Rattle.bac_driver.specs.BoundNodes.{BoundNode}
 pub record Plant : Type 0 where
   pub stations : List BoundNode  -- numbered from 0
   pub time : Time  -- real time, and the clock of each station
-  pub copies : List Copy  -- what stations gave their links to send to stations, oldest first, numbered from 0
+  pub copies : List Copy  -- what stations gave their links to send to stations, or hold until a round is kept, oldest first, numbered from 0
   pub log : List Fact  -- what they asked, performed, ended and changed, newest first
   pub notes : List Note  -- the transaction of each ask, newest first
 

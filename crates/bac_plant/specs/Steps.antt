@@ -16,7 +16,8 @@ use Rattle.bac_world.specs.World.{AreCopied, AreEnded, AreLogged, Copy, IsCopied
 use Rattle.bac_driver.specs.BoundNodes.{BoundNode}
 use Rattle.bac_driver.specs.Calls.{one_more, with_call}
 use Rattle.bac_driver.specs.Calls.Call.{FailedReceive}
-use Rattle.bac_driver.specs.Turns.{IsTurn, Turn, ended_of, performed_of, sends_of}
+use Rattle.bac_driver.specs.Turns.{IsCarried, IsTurn, Receives, Turn, ended_of, performed_of}
+use Rattle.bac_driver.specs.Rounds.{IsTaken, sends_in, sends_of_all}
 use Rattle.bac_driver.specs.Runs.{Run}
 use Rattle.bac_driver.specs.Asking.{IsBegun, Question}
 use Rattle.bac_driver.specs.declared.wait_limit.WaitLimit.{WaitLimit}
@@ -24,7 +25,7 @@ use Rattle.bac_plant.specs.Plants.{Plant, nodes_of, shows}
 use Rattle.bac_plant.specs.Network.{HandsOver, Source}
 
 -- time passes, and each clock goes on; a station takes a turn, by a datagram from that source; its link fails to receive; it begins an ask of another
--- station or of a stranger, changes its own store, or restarts
+-- station or of a stranger, changes its own store, or restarts. In a round it takes turns whose sends it holds, and then sends what these turns hold.
 pub data Step : Type 0 where
   Passes : (by : ℕ) (own : ℕ → ℕ) → Step
   Takes : (station : ℕ) (source : Source) (turn : Turn) → Step
@@ -33,13 +34,15 @@ pub data Step : Type 0 where
   BeginsAway : (station : ℕ) (peer : PeerView) (limits : Limits) (request : Request) → Step
   Changes : (station : ℕ) (change : at_node.Change) → Step
   Restarts : (station exact : ℕ) (store : Option Store) → Step
+  Holds : (station : ℕ) (source : Source) (turn : Turn) → Step
+  SendsHeld : (station : ℕ) (turns : List Turn) → Step
 
 -- a station is another one now, and all others are as they were
 abbrev pub with_station : Plant → (station : ℕ) → BoundNode → Plant
 with_station p i after = record p { stations = slice_set p.stations i after }
 
 -- what a station gives its link for stations becomes these copies, and what goes to strangers is not followed. One whose send fails is among the copies, and
--- the network need not hand it over.
+-- the network need not hand it over. So is one that a round holds, from the turn that made it.
 abbrev pub BecomeCopies : Plant → (station : ℕ) → List Datagram → List Copy → Type 0
 BecomeCopies p i sends sent = AreCopied (nodes_of p.stations) p.time.now i sends sent
 
@@ -60,18 +63,57 @@ pub record AreEntered (p : Plant) (i : ℕ) (middle : Node) (turn : Turn) (log :
   pub performs : AreLogged (nodes_of p.stations) p.notes i middle (performed_of turn.heard) ended performed
   pub gives_up : AreEnded p.notes i (ended_of turn.ticked) performed log
 
--- a station takes a turn: what it received comes from there, what it sends becomes copies, and what it ended and performed enters the log
+-- what a station received in a turn comes from there, what the turn sends becomes copies, and what it ended and performed enters the log
+pub record HappensAt (overtake : ℕ) (old : Plant) (i : ℕ) (source : Source) (turn : Turn) (middle : Node) (after : BoundNode) (new : Plant) : Type 0 where
+  pub comes : HandsOver overtake old i source turn.received after.buffer
+  pub sent : List Copy
+  pub copied : BecomeCopies old i (sends_in turn) sent
+  pub log : List Fact
+  pub entered : AreEntered old i middle turn log
+  pub is : new ≡ record (with_station old i after) { copies = old.copies ++ sent; log = log }
+
+-- a station takes a turn
 pub record TakesTurnAt (overtake : ℕ) (old : Plant) (i : ℕ) (source : Source) (turn : Turn) (new : Plant) : Type 0 where
   pub before : BoundNode
   pub at : slice_get old.stations i ≡ Some before
   pub after : BoundNode
   pub takes : IsSomeTurn (shows old i) before turn after
-  pub comes : HandsOver overtake old i source turn.received after.buffer
-  pub sent : List Copy
-  pub copied : BecomeCopies old i (sends_of turn.heard ++ sends_of turn.ticked) sent
-  pub log : List Fact
-  pub entered : AreEntered old i takes.is.acts.middle turn log
-  pub is : new ≡ record (with_station old i after) { copies = old.copies ++ sent; log = log }
+  pub happens : HappensAt overtake old i source turn takes.is.acts.middle after new
+
+-- ---- a round
+
+-- the turn of a round as its call promises it, whatever the limit of its wait, and whenever it began: nothing is sent
+pub record HoldsSomeTurn (now : ℕ) (before : BoundNode) (turn : Turn) (after : BoundNode) : Type 0 where
+  pub limit : WaitLimit
+  pub began : ℕ
+  pub middle : BoundNode
+  pub receives : Receives limit began before turn.received middle
+  pub takes : IsTaken now middle turn after
+
+-- a station takes such a turn: what it is to send is among the copies from now on
+pub record HoldsTurnAt (overtake : ℕ) (old : Plant) (i : ℕ) (source : Source) (turn : Turn) (new : Plant) : Type 0 where
+  pub before : BoundNode
+  pub at : slice_get old.stations i ≡ Some before
+  pub after : BoundNode
+  pub holds : HoldsSomeTurn (shows old i) before turn after
+  pub happens : HappensAt overtake old i source turn holds.takes.middle after new
+
+-- all that turns send goes to the link, each datagram once, in order; failed sends are counted
+pub record AreSent (turns : List Turn) (before after : BoundNode) : Type 0 where
+  pub lost : ℕ
+  pub carried : IsCarried (sends_of_all turns) lost before after
+  pub node : after.node ≡ before.node
+  pub buffer : after.buffer ≡ before.buffer
+
+-- a station sends what turns hold: that is among the copies
+pub record SendsHeldAt (old : Plant) (i : ℕ) (turns : List Turn) (new : Plant) : Type 0 where
+  pub before : BoundNode
+  pub at : slice_get old.stations i ≡ Some before
+  pub after : BoundNode
+  pub sends : AreSent turns before after
+  pub is : new ≡ with_station old i after
+
+-- ---- a failure
 
 -- its link could not receive: its count and its calls change, and the buffer may
 pub record FailsAt (old : Plant) (i : ℕ) (new : Plant) : Type 0 where
@@ -152,6 +194,8 @@ PlantStep overtake old (Begins station server limits request) new = AsksAt old s
 PlantStep overtake old (BeginsAway station peer limits request) new = AsksAwayAt old station peer limits request new
 PlantStep overtake old (Changes station change) new = ChangesAt old station change new
 PlantStep overtake old (Restarts station exact store) new = RestartsAt old station exact store new
+PlantStep overtake old (Holds station source turn) new = HoldsTurnAt overtake old station source turn new
+PlantStep overtake old (SendsHeld station turns) new = SendsHeldAt old station turns new
 
 -- the newest step comes first
 abbrev pub PlantRun : (overtake : ℕ) → List Step → (old new : Plant) → Type 0

@@ -5,29 +5,42 @@
 
 pub mod examples;
 
-ghost use Rattle.std.specs.Prelude.{◌≡◌, ◌⊎◌, ℕ, List, map, Some, slice_get};
+ghost use Rattle.std.specs.Prelude.{◌≡◌, ◌⊎◌, ◌≤◌, ℕ, List, length, map, Some, slice_get};
 ghost use Rattle.bac_protocol.specs.Pace.{IsTimely};
 ghost use Rattle.bac_world.specs.Claims.{AreServedApart};
-ghost use Rattle.bac_world.specs.Once.{IsOnce};
+ghost use Rattle.bac_world.specs.Once.{IsOnce, IsOnceByRequests};
 ghost use Rattle.bac_world.specs.World.{IsBounded, IsFresh, WorldRun, stores_of};
+ghost use Rattle.bac_cuts.specs.Cuts.{CutRun};
 ghost use Rattle.bac_driver.specs.BoundNodes.{BoundNode};
 ghost use Rattle.bac_driver.specs.Asking.{AskingEnds, AskingFails, Question};
+ghost use Rattle.bac_driver.specs.Observed.{Observed};
 ghost use Rattle.bac_driver.specs.Pairs.{Pair, Round, TakesRound, turn_of_first};
+ghost use Rattle.bac_driver.specs.Rounds as kept_rounds;
+ghost use Rattle.bac_driver.specs.Rounds.{BreaksOff, ServesRounds};
 ghost use Rattle.bac_driver.specs.Runs.{GoesBack, Run, Timed};
-ghost use Rattle.bac_driver.specs.Serving.{Serves, ServingFails};
+ghost use Rattle.bac_driver.specs.Serving.{Serves, ServingFails, performed_in};
 ghost use Rattle.bac_driver.specs.declared.question.AskEnd.TheVariants as end;
 ghost use Rattle.bac_driver.specs.declared.fault.TurnFault.{TurnFault};
 ghost use Rattle.bac_driver.specs.declared.wait_limit.WaitLimit.{WaitLimit};
 ghost use Rattle.bac_requester.specs.declared.ending.Ending.{Ending};
 ghost use Rattle.bac_plant.specs.Chains.{AsksAndStops, AsksInChain, Chain, ServesInChain, StopsInChain, TakesTurnsAlone, turn_of_second, turns_of};
+ghost use Rattle.bac_plant.specs.Cuts.{CutPlant, CutPlantRun, CutStep, GoesOn, HoldsAlone, KeepStores, LosesAlone, cut_events_of, held_of, real, steps_of};
 ghost use Rattle.bac_plant.specs.Events.{events_of};
-ghost use Rattle.bac_plant.specs.NextSteps.{AsksGoOn, ChangesGoOn, FailuresGoOn, IsReached, RestartsGoOn, StrangersAskedGoOn, TurnsGoOn};
+ghost use Rattle.bac_plant.specs.NextCuts.{FoundStoresGoOn, KeptStoresGoOn, LostTurnsGoOn, StepsGoOn};
+ghost use Rattle.bac_plant.specs.NextSteps.{AsksGoOn, ChangesGoOn, FailuresGoOn, HeldSendsGoOn, HeldTurnsGoOn, IsReached, RestartsGoOn, StrangersAskedGoOn};
+ghost use Rattle.bac_plant.specs.NextSteps.{TurnsGoOn};
 ghost use Rattle.bac_plant.specs.Plants.{Plant, nodes_of, world_of};
+ghost use Rattle.bac_plant.specs.Rounds.{HeldChain, RoundInChain, ServesRoundsInChain, StopsRoundsInChain};
 ghost use Rattle.bac_plant.specs.Steps.{PlantRun, Step};
+ghost use Rattle.bac_plant.specs.Steps.Step.{SendsHeld};
 
-/// The turns that stations take, their asks, changes and restarts are events of a world: a run of a plant is the run of its world through the events of its
-/// steps. After a run of a fresh plant the log, which has all that turns returned as performed and ended, is right with the stores. Whatever strangers send,
-/// what a station performs for one of them under one invoke ID, between two of its restarts, it performs in entries that began more than 65,000 ms apart.
+use bac_driver::Observer;
+use bac_keep::Keeper;
+
+/// The turns that stations take, also those of a round, whose sends are held, their asks, changes and restarts are events of a world: a run of a plant is the
+/// run of its world through the events of its steps. After a run of a fresh plant the log, which has all that turns returned as performed and ended, is right
+/// with the stores. Whatever strangers send, what a station performs for one of them under one invoke ID, between two of its restarts, it performs in entries
+/// that began more than 65,000 ms apart.
 #[tactic(auto, using(crate::proofs::Runs::run_events))]
 pub fn turns_are_events()
     ensures events { (overtake : ℕ) (steps : List Step) (old new : Plant) → PlantRun overtake steps old new
@@ -44,6 +57,8 @@ pub fn turns_are_events()
 #[tactic(auto, using(crate::proofs::Next::changes_go_on, crate::proofs::Next::restarts_go_on))]
 pub fn calls_go_on()
     ensures turns { (W overtake : ℕ) (p : Plant) → IsReached W overtake p → TurnsGoOn overtake p }
+    ensures held_turns { (W overtake : ℕ) (p : Plant) → IsReached W overtake p → HeldTurnsGoOn overtake p }
+    ensures held_sends { (overtake : ℕ) (p : Plant) → HeldSendsGoOn overtake p }
     ensures asks { (W overtake : ℕ) (p : Plant) → IsReached W overtake p → AsksGoOn overtake p }
     ensures strangers_asked { (overtake : ℕ) (p : Plant) → StrangersAskedGoOn overtake p }
     ensures failures { (overtake : ℕ) (p : Plant) → FailuresGoOn overtake p }
@@ -71,4 +86,58 @@ pub fn chains_are_steps()
     ensures steps { (overtake station : ℕ) (steps : List Step) (old new : Plant) → PlantRun overtake steps old new → TakesTurnsAlone station steps
         → (before after : BoundNode) → slice_get old.stations station ≡ Some before → slice_get new.stations station ≡ Some after
         → Chain (turns_of station steps) before after }
+{}
+
+/// What `round_before` and `serve_kept` promise of a station is a chain of rounds: turns whose sends are held, one after the other, and then all that they
+/// hold is sent. By `calls_go_on` each of these is a step. Where serving stops for a fault, so are the rounds before. The turns that a station holds in a run
+/// of a plant, also in a round that a power cut takes back, where it does nothing else, are such a chain too, whatever other stations do between them; and with
+/// the sends of all that they hold they are a round.
+#[tactic(auto, using(crate::proofs::Holding::held_chain, crate::proofs::Holding::round_sent))]
+pub fn rounds_are_events<W, O: Observer<W>, K: Keeper>()
+    ensures round { (p : WaitLimit) (old : Observed O.State) (effects : ℕ) (new : Observed O.State) → kept_rounds.TakesRound O.Sees p old effects new
+        → RoundInChain old.timed.bound_node effects new.timed.bound_node }
+    ensures served { (p : WaitLimit) (rounds effects : ℕ) (old new : Observed O.State) → ServesRounds O.Sees p rounds effects old new
+        → ServesRoundsInChain effects old.timed.bound_node new.timed.bound_node }
+    ensures stopped { (p : WaitLimit) (rounds : ℕ) (keeper : K) (old new : Observed O.State)
+        → BreaksOff O.Sees p rounds K.IsHonest K.may_find keeper old new
+        → StopsRoundsInChain K.IsHonest K.may_find keeper old.timed.bound_node new.timed.bound_node }
+    ensures steps { (overtake station : ℕ) (steps : List CutStep) (old new : CutPlant) → CutPlantRun overtake steps old new → HoldsAlone station steps
+        → (before after : BoundNode) → real old station ≡ Some before → real new station ≡ Some after → HeldChain (held_of station steps) before after }
+    ensures sent { (overtake station : ℕ) (steps : List CutStep) (old middle new : CutPlant) → CutPlantRun overtake steps old middle
+        → HoldsAlone station steps → length (held_of station steps) ≤ kept_rounds.ROUND
+        → GoesOn overtake middle (SendsHeld station (kept_rounds.in_order (held_of station steps))) new
+        → (before after : BoundNode) → real old station ≡ Some before → real new station ≡ Some after
+        → RoundInChain before (performed_in (kept_rounds.in_order (held_of station steps))) after }
+{}
+
+/// A plant whose stations' power is cut at any moment, also in the midst of a round, and which start again with the store that their keepers find, is a plant
+/// whose stations restart with the stores that they have: rounds that a cut takes back are nothing there, and in them a station stands as before. Its events
+/// are those of a world in which the power of nodes is cut. So after a run of a fresh one the log is right with the stores. Where no station changes its own
+/// store, or restarts with another one, the stores are what the performed requests make of the opening ones.
+#[tactic(auto, using(crate::proofs::Cut::cut_steps, crate::proofs::CutEvents::cut_events, crate::proofs::Holding::lost_stays))]
+pub fn cut_rounds_are_restarts()
+    ensures steps { (overtake : ℕ) (steps : List CutStep) (old new : CutPlant) → CutPlantRun overtake steps old new
+        → PlantRun overtake (steps_of steps) old.plant new.plant }
+    ensures events { (overtake : ℕ) (steps : List CutStep) (old new : CutPlant) → CutPlantRun overtake steps old new
+        → CutRun overtake (world_of old.plant) (cut_events_of steps) (world_of new.plant) }
+    ensures lost { (overtake station : ℕ) (steps : List CutStep) (old new : CutPlant) → CutPlantRun overtake steps old new → LosesAlone station steps
+        → slice_get new.plant.stations station ≡ slice_get old.plant.stations station }
+    ensures once { (W overtake : ℕ) (old new : CutPlant) → IsFresh (world_of old.plant) → IsTimely old.plant.time.pace
+        → IsBounded W overtake (world_of old.plant) → (steps : List CutStep) → CutPlantRun overtake steps old new
+        → IsOnce (stores_of (nodes_of old.plant.stations)) new.plant.log (stores_of (nodes_of new.plant.stations)) }
+    ensures by_requests { (W overtake : ℕ) (old new : CutPlant) → IsFresh (world_of old.plant) → IsTimely old.plant.time.pace
+        → IsBounded W overtake (world_of old.plant) → (steps : List CutStep) → CutPlantRun overtake steps old new → KeepStores (steps_of steps)
+        → IsOnceByRequests (stores_of (nodes_of old.plant.stations)) new.plant.log (stores_of (nodes_of new.plant.stations)) }
+    ensures apart { (W overtake : ℕ) (old new : CutPlant) → IsFresh (world_of old.plant) → IsTimely old.plant.time.pace
+        → IsBounded W overtake (world_of old.plant) → (steps : List CutStep) → CutPlantRun overtake steps old new → AreServedApart (world_of new.plant) }
+{}
+
+/// In a plant with power cuts each step of a station that loses no round can be the next one, and so can each turn of a round that is lost. Whatever store an
+/// honest keeper finds after a cut in a round, the start with that store is the restart of a station that stands as before the round, or as after its turns;
+/// whatever it finds between rounds, it is the restart of the station as it stands.
+pub fn cuts_go_on<K: Keeper>()
+    ensures steps { (overtake : ℕ) (c : CutPlant) → StepsGoOn overtake c }
+    ensures lost_turns { (overtake : ℕ) (c : CutPlant) → LostTurnsGoOn overtake c }
+    ensures found { (overtake : ℕ) → FoundStoresGoOn K.IsHonest K.may_find overtake }
+    ensures kept { (overtake : ℕ) → KeptStoresGoOn K.IsHonest K.IsOpen K.kept K.noted K.may_find overtake }
 {}

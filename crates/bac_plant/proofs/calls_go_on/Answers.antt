@@ -1,5 +1,5 @@
 -- What a call promises is a step.
-use Rattle.bac_plant.proofs.Next.{asks_go_on, failures_go_on, strangers_asked_go_on, turns_go_on}
+use Rattle.bac_plant.proofs.Next.{asks_go_on, failures_go_on, held_sends_go_on, held_turns_go_on, strangers_asked_go_on, turns_go_on}
 use Rattle.bac_plant.proofs.calls_go_on.Goals as goal
 
 pub returns-clause-turns : goal.returns-clause-turns
@@ -15,3 +15,9 @@ returns-clause-strangers_asked c = λ overtake p i before at peer stranger limit
 
 pub returns-clause-failures : goal.returns-clause-failures
 returns-clause-failures c = λ overtake p i old new at failed. failures_go_on overtake p i old new at failed
+
+pub returns-clause-held_turns : goal.returns-clause-held_turns
+returns-clause-held_turns c = λ W overtake p r i before at turn after t source from. held_turns_go_on W overtake p r i before at turn after t source from
+
+pub returns-clause-held_sends : goal.returns-clause-held_sends
+returns-clause-held_sends c = λ overtake p i before at turns after sends. held_sends_go_on overtake p i before at turns after sends

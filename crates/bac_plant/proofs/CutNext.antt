@@ -1,0 +1,74 @@
+-- What a call promises, and what a power cut leaves, can be the next step.
+use Rattle.std.proofs.Common.{◌≡◌, ◌⊎◌, ℕ, Bool, true, false, Option, Some, None, slice_get, slice_set, nat_eq, if◌then◌else◌, ◌∷◌, IfSome}
+use Rattle.std.proofs.Common.{refl, sym, ap, subst, inl, inr, ◌∙◌, arith}
+use Rattle.std.proofs.lemmas.Bool.Decides.{nat_tests}
+use Rattle.std.proofs.lemmas.Option.{slice_get_within}
+use Rattle.bac_protocol.specs.Pace.{clock_at}
+use Rattle.bac_store.specs.Stores.{Store}
+use Rattle.bac_world.specs.Node.{restarted}
+use Rattle.bac_world.specs.Once.Fact.{Restarted}
+use Rattle.bac_world.specs.World.{with_clock}
+use Rattle.bac_journal.proofs.Lists.{get_set}
+use Rattle.bac_driver.specs.BoundNodes.{BoundNode}
+use Rattle.bac_plant.specs.Cuts.{CutPlant, or_else, with_losing}
+use Rattle.bac_plant.specs.NextCuts.{CanStart, FoundStoresGoOn, KeptStoresGoOn, LostTurnsGoOn, StepsGoOn}
+use Rattle.bac_plant.specs.Steps.{with_station}
+
+same_number : (i : ℕ) → nat_eq i i ≡ true
+same_number i = go (nat_eq i i) refl
+  where
+    go : (b : Bool) → nat_eq i i ≡ b → nat_eq i i ≡ true
+    go true is = is
+    go false is = absurd (grind (arith, nat_tests))
+
+-- what is set is there
+set_there : (losing : ℕ → Option BoundNode) (i : ℕ) (b : Option BoundNode) → with_losing losing i b i ≡ b
+set_there losing i b = ap (λ (t : Bool). if t then b else losing i) (same_number i)
+
+pub steps_go_on : (overtake : ℕ) (c : CutPlant) → StepsGoOn overtake c
+steps_go_on overtake c i free step own after leads = record {
+  new = record { plant = leads.new; losing = c.losing };
+  goes = record { free = subst (λ o. IfSome o (λ j. c.losing j ≡ None)) (sym own) free; goes = leads.goes; same = refl };
+  there = ap (λ o. or_else o (slice_get leads.new.stations i)) free ∙ leads.there;
+}
+
+pub lost_turns_go_on : (overtake : ℕ) (c : CutPlant) → LostTurnsGoOn overtake c
+lost_turns_go_on overtake c i before at turn after holds source from = record {
+  new = record { plant = c.plant; losing = with_losing c.losing i (Some after) };
+  goes = record { before = before; at = at; after = after; holds = holds; comes = from; is = refl };
+  there = ap (λ o. or_else o (slice_get c.plant.stations i)) (set_there c.losing i (Some after));
+}
+
+can_start : (overtake : ℕ) (stands : BoundNode) (s : Store) → s ≡ stands.node.store → CanStart overtake stands s
+can_start overtake stands s same c i at exact after is = record {
+  new = record {
+    plant = record (with_station c.plant i after) { time = with_clock c.plant.time i exact; log = Restarted i None ∷ c.plant.log };
+    losing = with_losing c.losing i None;
+  };
+  goes = record {
+    starts = record {
+      before = stands;
+      at = at;
+      after = after;
+      node = is ∙ ap (λ (x : Store). restarted (clock_at c.plant.time.pace exact).shows x stands.node) same;
+      is = refl;
+    };
+    losing = refl;
+  };
+  there = ap (λ o. or_else o (slice_get (slice_set c.plant.stations i after) i)) (set_there c.losing i None)
+      ∙ get_set c.plant.stations i after (slice_get_within c.plant.stations i stands at);
+}
+
+pub found_stores_go_on : {K : Type 0} (IsHonest : K → Type 0) (may_find : K → Store → Type 0) (overtake : ℕ)
+    → FoundStoresGoOn IsHonest may_find overtake
+found_stores_go_on IsHonest may_find overtake keeper before after finds honest s may = go (finds.crash honest s may)
+  where
+    go : (s ≡ before.node.store) ⊎ (s ≡ after.node.store) → CanStart overtake before s ⊎ CanStart overtake after s
+    go (inl is) = inl (can_start overtake before s is)
+    go (inr is) = inr (can_start overtake after s is)
+
+pub kept_stores_go_on : {K : Type 0} (IsHonest IsOpen : K → Type 0) (kept noted : K → Store) (may_find : K → Store → Type 0)
+    → ((k : K) (s : Store) → IsHonest k → IsOpen k → may_find k s → s ≡ kept k) → (overtake : ℕ)
+    → KeptStoresGoOn IsHonest IsOpen kept noted may_find overtake
+kept_stores_go_on IsHonest IsOpen kept noted may_find settled overtake keeper stands is honest s may =
+    can_start overtake stands s (settled keeper s honest is.is_open may ∙ is.kept_is)

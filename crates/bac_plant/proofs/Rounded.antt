@@ -1,0 +1,118 @@
+-- Rounds of one station, one after the other.
+use Rattle.std.proofs.Common.{inl, inr, ◌≡◌, ◌≤◌, ℕ, max, List, [], ◌∷◌, ◌++◌, length, refl, sym, ap, subst, ◌∙◌, arith, length-append}
+use Rattle.bac_store.specs.Stores.{Store}
+use Rattle.bac_driver.specs.BoundNodes.{BoundNode}
+use Rattle.bac_driver.specs.Moments.{with_moment}
+use Rattle.bac_driver.specs.Observed.{Observed, observed}
+use Rattle.bac_driver.specs.Rounds.{BreaksOff, HoldsEarlyTurn, HoldsSeenTurn, HoldsTurnAtOnce, HoldsTurnFrom, ROUND, ServesRounds, TakesRound}
+use Rattle.bac_driver.specs.Rounds.{in_order, sends_of_all}
+use Rattle.bac_driver.specs.Runs.{Run, Timed, timed}
+use Rattle.bac_driver.specs.Seen.{Watcher}
+use Rattle.bac_driver.specs.Serving.{performed_in}
+use Rattle.bac_driver.specs.Turns.{IsCarried, Turn}
+use Rattle.bac_driver.specs.Waits.{AT_ONCE}
+use Rattle.bac_driver.specs.declared.wait_limit.WaitLimit.{WaitLimit}
+use Rattle.bac_plant.specs.Rounds.{HeldChain, HoldsTurnOnce, RoundChain, RoundInChain, ServesRoundsInChain, StopsRoundsInChain}
+
+-- Lists of turns.
+
+in_order_length : (turns : List Turn) → length (in_order turns) ≡ length turns
+in_order_length [] = refl
+in_order_length (turn ∷ before) =
+    let all = length-append (in_order before) (turn ∷ []) in
+    let shorter = in_order_length before in
+    omega (arith, all, shorter)
+
+in_order_last : (turns : List Turn) (first : Turn) → in_order (turns ++ first ∷ []) ≡ first ∷ in_order turns
+in_order_last [] first = refl
+in_order_last (turn ∷ before) first = ap (λ (ts : List Turn). ts ++ turn ∷ []) (in_order_last before first)
+
+-- a run after another one
+pub run_after : {S T : Type 0} (step : S → T → S → Type 0) (earlier later : List T) (a b c : S) → Run step earlier a b → Run step later b c
+    → Run step (later ++ earlier) a c
+run_after step earlier [] a b c first second = subst (λ x. Run step earlier a x) (sym second) first
+run_after step earlier (given ∷ later) a b c first second =
+    record { middle = second.middle; so_far = run_after step earlier later a b second.middle first second.so_far; last = second.last }
+
+-- The turns of a round.
+
+held_once : (began : ℕ) (p : WaitLimit) (old : Timed) (turn : Turn) (new : Timed) → HoldsTurnFrom began p old turn new
+    → HoldsTurnOnce old.bound_node turn new.bound_node
+held_once began p old turn new h = record {
+  now = max h.looked began;
+  is = record { limit = p; began = began; middle = h.middle; receives = h.receives; takes = h.takes };
+}
+
+module _ {S : Type 0} (Sees : Watcher S) where
+  more_chain : (turns : List Turn) (old new : Observed S) → Run (HoldsSeenTurn Sees HoldsTurnAtOnce) turns old new
+      → HeldChain turns old.timed.bound_node new.timed.bound_node
+  more_chain [] old new run = ap (λ (o : Observed S). o.timed.bound_node) run
+  more_chain (turn ∷ before) old new run = record {
+    middle = run.middle.timed.bound_node;
+    so_far = more_chain before old run.middle run.so_far;
+    last = held_once run.middle.timed.bound_node.node.latest AT_ONCE run.middle.timed turn new.timed run.last.is;
+  }
+
+  module _ (p : WaitLimit) where
+    first_chain : (old : Observed S) (first : Turn) (new : Observed S) → HoldsSeenTurn Sees (HoldsEarlyTurn p) old first new
+        → HeldChain (first ∷ []) old.timed.bound_node new.timed.bound_node
+    first_chain old first new h = record {
+      middle = old.timed.bound_node;
+      so_far = refl;
+      last = held_once h.is.began p (timed old.timed.bound_node (with_moment old.timed.told h.is.began)) first new.timed h.is.holds;
+    }
+
+    pub round_in_chain : (old : Observed S) (effects : ℕ) (new : Observed S) → TakesRound Sees p old effects new
+        → RoundInChain old.timed.bound_node effects new.timed.bound_node
+    round_in_chain old effects new t =
+        let r = t.round in
+        let h = r.holds in
+        let all : List Turn = h.more ++ h.first ∷ [] in
+        let order : t.turns ≡ in_order all = h.are ∙ sym (in_order_last h.more h.first) in
+        record {
+          turns = all;
+          middle = r.middle.bound_node;
+          held = run_after HoldsTurnOnce (h.first ∷ []) h.more old.timed.bound_node h.begun.timed.bound_node r.middle.bound_node
+              (first_chain old h.first h.begun h.begins) (more_chain h.more h.begun (observed r.middle new.state) h.goes_on);
+          sent = record {
+            lost = r.lost;
+            carried = subst (λ (ts : List Turn). IsCarried (sends_of_all ts) r.lost r.middle.bound_node new.timed.bound_node) order r.carried;
+            node = r.node;
+            buffer = r.buffer;
+          };
+          most = subst (λ (n : ℕ). n ≤ ROUND) (ap length order ∙ in_order_length all) h.most;
+          counted = t.counted ∙ ap performed_in order;
+        }
+
+    rounds_chain : (counts : List ℕ) (old new : Observed S) → Run (TakesRound Sees p) counts old new
+        → RoundChain counts old.timed.bound_node new.timed.bound_node
+    rounds_chain [] old new run = ap (λ (o : Observed S). o.timed.bound_node) run
+    rounds_chain (effects ∷ before) old new run = record {
+      middle = run.middle.timed.bound_node;
+      so_far = rounds_chain before old run.middle run.so_far;
+      last = round_in_chain run.middle effects new run.last;
+    }
+
+    pub serves_rounds : (rounds effects : ℕ) (old new : Observed S) → ServesRounds Sees p rounds effects old new
+        → ServesRoundsInChain effects old.timed.bound_node new.timed.bound_node
+    serves_rounds rounds effects old new (inl all) =
+        record { counts = all.counts; chain = rounds_chain all.counts old new all.run; counted = all.counted }
+    serves_rounds rounds effects old new (inr some) = record {
+      counts = some.takes.counts;
+      chain = subst (λ (b : BoundNode). RoundChain some.takes.counts old.timed.bound_node b) (sym some.stopped.over.same)
+          (rounds_chain some.takes.counts old some.middle some.takes.run);
+      counted = some.takes.counted;
+    }
+
+    pub stops_rounds : {K : Type 0} (IsHonest : K → Type 0) (may_find : K → Store → Type 0) (keeper : K) (rounds : ℕ) (old new : Observed S)
+        → BreaksOff Sees p rounds IsHonest may_find keeper old new
+        → StopsRoundsInChain IsHonest may_find keeper old.timed.bound_node new.timed.bound_node
+    stops_rounds IsHonest may_find keeper rounds old new b =
+        let s = b.stops in
+        record {
+          counts = s.takes.counts;
+          middle = s.middle.timed.bound_node;
+          chain = rounds_chain s.takes.counts old s.middle s.takes.run;
+          unsent = s.stopped.unsent;
+          finds = s.stopped.finds;
+        }

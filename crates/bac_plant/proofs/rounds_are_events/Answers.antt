@@ -1,0 +1,12 @@
+-- What rounds promise is a chain of rounds.
+use Rattle.bac_plant.proofs.Rounded.{round_in_chain, serves_rounds, stops_rounds}
+use Rattle.bac_plant.proofs.rounds_are_events.Goals as goal
+
+pub returns-clause-round : goal.returns-clause-round
+returns-clause-round g c = λ p old effects new h. round_in_chain _ p old effects new h
+
+pub returns-clause-served : goal.returns-clause-served
+returns-clause-served g c = λ p rounds effects old new h. serves_rounds _ p rounds effects old new h
+
+pub returns-clause-stopped : goal.returns-clause-stopped
+returns-clause-stopped g c = λ p rounds keeper old new h. stops_rounds _ p _ _ keeper rounds old new h

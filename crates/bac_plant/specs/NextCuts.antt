@@ -1,0 +1,50 @@
+-- Whatever a call promises, and whatever a power cut leaves, can be the next step of a plant with power cuts.
+use Rattle.std.specs.Prelude.{◌≡◌, ◌⊎◌, ℕ, Some, None, slice_get}
+use Rattle.bac_protocol.specs.Pace.{clock_at}
+use Rattle.bac_store.specs.Stores.{Store}
+use Rattle.bac_world.specs.Node.{restarted}
+use Rattle.bac_driver.specs.BoundNodes.{BoundNode}
+use Rattle.bac_driver.specs.Rounds.{FindsOneOf, IsKept}
+use Rattle.bac_driver.specs.Turns.{Turn}
+use Rattle.bac_plant.specs.Cuts.{CutPlant, CutPlantStep, CutStep, real, station_of}
+use Rattle.bac_plant.specs.Network.{HandsOver, Source}
+use Rattle.bac_plant.specs.NextSteps.{LeadsTo}
+use Rattle.bac_plant.specs.Plants.{shows}
+use Rattle.bac_plant.specs.Steps.{HoldsSomeTurn, Step}
+
+-- there is a plant after the step, and that station is this one
+pub record LeadsOn (overtake : ℕ) (c : CutPlant) (step : CutStep) (station : ℕ) (after : BoundNode) : Type 0 where
+  pub new : CutPlant
+  pub goes : CutPlantStep overtake c step new
+  pub there : real new station ≡ Some after
+
+-- each step of the plant by a station that takes no round that is lost
+abbrev pub StepsGoOn : (overtake : ℕ) → CutPlant → Type 0
+StepsGoOn overtake c =
+    (i : ℕ) → c.losing i ≡ None → (step : Step) → station_of step ≡ Some i → (after : BoundNode) → LeadsTo overtake c.plant step i after
+    → LeadsOn overtake c (CutStep.Goes step) i after
+
+-- each turn of a round that is lost, at the moment of the station's clock, by a datagram that the network may hand over
+abbrev pub LostTurnsGoOn : (overtake : ℕ) → CutPlant → Type 0
+LostTurnsGoOn overtake c =
+    (i : ℕ) (before : BoundNode) → real c i ≡ Some before → (turn : Turn) (after : BoundNode) → HoldsSomeTurn (shows c.plant i) before turn after
+    → (source : Source) → HandsOver overtake c.plant i source turn.received after.buffer → LeadsOn overtake c (CutStep.Loses i source turn) i after
+
+-- where a station stands so in the plant, its power can be cut, and it can start again with this store
+abbrev pub CanStart : (overtake : ℕ) → (stands : BoundNode) → Store → Type 0
+CanStart overtake stands s =
+    (c : CutPlant) (i : ℕ) → slice_get c.plant.stations i ≡ Some stands → (exact : ℕ) (after : BoundNode)
+    → after.node ≡ restarted (clock_at c.plant.time.pace exact).shows s stands.node → LeadsOn overtake c (CutStep.Cuts i exact) i after
+
+-- whatever store an honest keeper finds after a cut in a round: a station that stands as before the round, which is lost then, can start with that store, or
+-- one that stands as after its turns can
+abbrev pub FoundStoresGoOn : {K : Type 0} → (IsHonest : K → Type 0) → (may_find : K → Store → Type 0) → (overtake : ℕ) → Type 0
+FoundStoresGoOn {K} IsHonest may_find overtake =
+    (keeper : K) (before after : BoundNode) → FindsOneOf IsHonest may_find before.node.store after.node.store keeper → IsHonest keeper
+    → (s : Store) → may_find keeper s → CanStart overtake before s ⊎ CanStart overtake after s
+
+-- between rounds: with whatever store an honest keeper finds that keeps the store of a station, that station can start
+abbrev pub KeptStoresGoOn : {K : Type 0} → (IsHonest IsOpen : K → Type 0) → (kept noted : K → Store) → (may_find : K → Store → Type 0) → (overtake : ℕ) → Type 0
+KeptStoresGoOn {K} IsHonest IsOpen kept noted may_find overtake =
+    (keeper : K) (stands : BoundNode) → IsKept IsOpen kept noted keeper stands.node.store → IsHonest keeper → (s : Store) → may_find keeper s
+    → CanStart overtake stands s

@@ -1,0 +1,45 @@
+-- The rounds that one station takes, whatever others do between their turns.
+use Rattle.std.specs.Prelude.{◌≡◌, ◌≤◌, ℕ, min, List, length}
+use Rattle.bac_store.specs.Stores.{Store}
+use Rattle.bac_driver.specs.BoundNodes.{BoundNode}
+use Rattle.bac_driver.specs.Rounds.{FindsOneOf, MOST_COUNTED, OnlyReceives, ROUND, in_order, total}
+use Rattle.bac_driver.specs.Runs.{Run}
+use Rattle.bac_driver.specs.Serving.{performed_in}
+use Rattle.bac_driver.specs.Turns.{Turn}
+use Rattle.bac_plant.specs.Steps.{AreSent, HoldsSomeTurn}
+
+-- a turn at some moment, whose sends are held
+pub record HoldsTurnOnce (before : BoundNode) (turn : Turn) (after : BoundNode) : Type 0 where
+  pub now : ℕ
+  pub is : HoldsSomeTurn now before turn after
+
+-- such turns of one station, one after the other; the newest comes first
+abbrev pub HeldChain : List Turn → (before after : BoundNode) → Type 0
+HeldChain turns before after = Run HoldsTurnOnce turns before after
+
+-- a round: at most 32 turns are held, and then all that they hold is sent, in their order; so many requests were performed in it
+pub record RoundInChain (before : BoundNode) (effects : ℕ) (after : BoundNode) : Type 0 where
+  pub turns : List Turn
+  pub middle : BoundNode
+  pub held : HeldChain turns before middle
+  pub sent : AreSent (in_order turns) middle after
+  pub most : length turns ≤ ROUND
+  pub counted : effects ≡ performed_in (in_order turns)
+
+-- rounds of one station, one after the other, with how many requests were performed in each; the newest comes first
+abbrev pub RoundChain : List ℕ → (before after : BoundNode) → Type 0
+RoundChain counts before after = Run RoundInChain counts before after
+
+-- what serving in rounds promises of a station: a chain of rounds, in which so many requests were performed
+pub record ServesRoundsInChain (effects : ℕ) (before after : BoundNode) : Type 0 where
+  pub counts : List ℕ
+  pub chain : RoundChain counts before after
+  pub counted : effects ≡ min (total counts) MOST_COUNTED
+
+-- a chain of rounds, after which one stopped: nothing of that one was sent, and a power cut leaves the store before it, or that which the node then has
+pub record StopsRoundsInChain {K : Type 0} (IsHonest : K → Type 0) (may_find : K → Store → Type 0) (keeper : K) (before after : BoundNode) : Type 0 where
+  pub counts : List ℕ
+  pub middle : BoundNode
+  pub chain : RoundChain counts before middle
+  pub unsent : OnlyReceives middle.calls after.calls
+  pub finds : FindsOneOf IsHonest may_find middle.node.store after.node.store keeper
