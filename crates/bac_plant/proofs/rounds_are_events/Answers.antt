@@ -1,4 +1,5 @@
 -- What rounds promise is a chain of rounds.
+use Rattle.bac_plant.proofs.Holding.{round_sent}
 use Rattle.bac_plant.proofs.Rounded.{round_in_chain, serves_rounds, stops_rounds}
 use Rattle.bac_plant.proofs.rounds_are_events.Goals as goal
 
@@ -10,3 +11,7 @@ returns-clause-served g c = λ p rounds effects old new h. serves_rounds _ p rou
 
 pub returns-clause-stopped : goal.returns-clause-stopped
 returns-clause-stopped g c = λ p rounds keeper old new h. stops_rounds _ p _ _ keeper rounds old new h
+
+pub returns-clause-sent : goal.returns-clause-sent
+returns-clause-sent g c = λ overtake station steps old middle new run alone few step before after at there.
+    round_sent overtake station steps old middle new run alone few step before after at there
