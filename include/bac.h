@@ -34,7 +34,7 @@ extern "C" {
 
 /* The version of this header: 10,000 times the major number, 100 times the minor one, and the patch. A library of the same major number and of this or a later
  * minor one has all that is declared here: see docs/C.md, "What stays". */
-#define BAC_VERSION 10200
+#define BAC_VERSION 10300
 
 /* The version of the library that is linked. */
 uint32_t bac_version(void);
@@ -151,7 +151,7 @@ typedef enum bac_flaw {
     BAC_FLAW_INSTANCE = 1,        /* instance 4,194,303, the wildcard */
     BAC_FLAW_NAME = 2,            /* a name of more than 4,091 octets */
     BAC_FLAW_FILE = 3,            /* a file without octets, octets without a file, or more than 60,000 of them */
-    BAC_FLAW_NUMBER = 4,          /* a property that is computed, or a number above 4,194,303 */
+    BAC_FLAW_NUMBER = 4,          /* a property that is computed, or a number above 4,194,303; of bac_start any but 28, 85 and 512 to 4,194,303 */
     BAC_FLAW_TWICE = 5,           /* a property that the object lists twice */
     BAC_FLAW_VALUES = 6,          /* values that this property cannot have, or more than 4,096 octets */
     BAC_FLAW_LIMITS = 7,          /* limits that are reversed, do not allow the values, or are of another kind */
@@ -159,10 +159,11 @@ typedef enum bac_flaw {
     BAC_FLAW_SAME_NAME = 9,       /* an earlier object has the same name */
     BAC_FLAW_SECOND_DEVICE = 10,  /* an earlier object is the device */
     BAC_FLAW_TOO_MANY = 11,       /* more than 819 objects */
-    BAC_FLAW_NO_DEVICE = 12       /* no object is a device */
+    BAC_FLAW_NO_DEVICE = 12,      /* no object is a device */
+    BAC_FLAW_TYPE = 13            /* a type that bac_start does not take: any but 0, 2, 5, 8, 10 and 128 to 1,023 */
 } bac_flaw;
 
-/* The first object that bac_start_described refuses. */
+/* The first object that a start refuses. */
 typedef struct bac_refused {
     uint64_t object;   /* its place in the order in which the objects were listed, from 0; BAC_NO_OBJECT where no single one is refused */
     uint32_t property; /* the property that is refused; BAC_WHOLE where the object is, for another reason */
@@ -218,13 +219,20 @@ bac_status bac_add_file(bac_node *node, const uint8_t *octets, size_t len, bool 
 /* Starts the node with the objects that are listed, which stay listed where it is not started. It never ran before: see bac_start_restarted.
  * BAC_NOT_OPEN; BAC_ALREADY_STARTED; BAC_BAD_SETTINGS; BAC_NO_MEMORY; BAC_DUPLICATE; BAC_BAD_OBJECT where an object has a type, instance, property or value
  * that none can have, a property twice, a name of more than 4,091 octets, values of more than 4,096, a file of more than 60,000, or is a file without octets
- * or octets without a file. The first that holds comes, and memory may be refused before the objects are looked at. */
+ * or octets without a file. The first that holds comes, and memory may be refused before the objects are looked at. bac_start_problem says which object it
+ * is, and why. */
 bac_status bac_start(bac_node *node, const bac_settings *settings);
 
 /* The same at a moment, for a node that ran before, at this link, and lost what it remembered: its program or its host was started anew. List the objects as
  * they are now. For 65,000 ms each new request is turned away (Abort, reason 0), so that none of the earlier life is performed twice, and for 75,000 ms each
  * ask is refused (BAC_NO_INVOKE_ID). */
 bac_status bac_start_restarted(bac_node *node, const bac_settings *settings, uint64_t now);
+
+/* Puts out the first object that bac_start refuses, and why: BAC_DUPLICATE is BAC_FLAW_SAME_IDENTIFIER here, at the later one of the two, and BAC_FLAW_NONE
+ * comes exactly where it takes all that are listed. The first of these flaws that the object has comes: BAC_FLAW_TYPE, _INSTANCE, _NAME, _FILE,
+ * _SAME_IDENTIFIER, and then of its first property that has one _NUMBER, _TWICE, _VALUES, _LIMITS. bac_start_described has other rules: see bac_problem. The
+ * node stays as it was. BAC_NOT_OPEN; BAC_ALREADY_STARTED; BAC_NO_MEMORY. */
+bac_status bac_start_problem(const bac_node *node, bac_refused *refused);
 
 /* Starts the node as bac_start does, with objects of any type and any properties: those that a document with `described = true` has. The object-list of the
  * device is computed too. Present-values of the types 0, 1 and 2 are a Real, of 3, 4 and 5 Enumerated 0 or 1, of 13, 14 and 19 an Unsigned from 1 on. There is
@@ -394,9 +402,20 @@ static inline const char *bac_flaw_text(bac_flaw flaw)
         "nothing is wrong", "instance 4194303 is the wildcard", "a name that is too long", "contents of a file that don't fit",
         "a property that can't be listed",
         "a property that is listed twice", "values that don't fit the property", "limits that don't fit the values",
-        "an identifier that an earlier object has", "a name that an earlier object has", "a second device", "too many objects", "no device"
+        "an identifier that an earlier object has", "a name that an earlier object has", "a second device", "too many objects", "no device",
+        "a type that bac_start does not take"
     };
     return (unsigned)flaw < sizeof texts / sizeof texts[0] ? texts[flaw] : "unknown flaw";
+}
+
+/* The name of a kind of values, as `bac` prints it before a value: 0 null, 1 boolean, 2 unsigned, 3 signed, 4 real, 5 double, 6 octets, 7 text, 8 bits,
+ * 9 enumerated, 10 date, 11 time, 12 object. Of octets of data that are one value it is the four high bits of the first one. */
+static inline const char *bac_kind_name(unsigned kind)
+{
+    static const char *const texts[] = {
+        "null", "boolean", "unsigned", "signed", "real", "double", "octets", "text", "bits", "enumerated", "date", "time", "object"
+    };
+    return kind < sizeof texts / sizeof texts[0] ? texts[kind] : "unknown kind";
 }
 
 /* The text of a status. */
@@ -412,6 +431,34 @@ static inline const char *bac_text(bac_status status)
 
 /* ---- values as octets of data (clause 20.2), and back. These are C, and no proof covers them: octets that are no data are refused by each call that takes
  * them. */
+
+/* A Null: one octet. */
+static inline void bac_put_null(uint8_t out[1])
+{
+    out[0] = 0;
+}
+
+/* Whether the octets are a Null. */
+static inline bool bac_take_null(const uint8_t *octets, size_t len)
+{
+    return len == 1 && octets[0] == 0;
+}
+
+/* A Boolean, as out-of-service has: one octet. */
+static inline void bac_put_boolean(uint8_t out[1], bool value)
+{
+    out[0] = value ? 0x11 : 0x10;
+}
+
+/* Whether the octets are a Boolean, and its value. */
+static inline bool bac_take_boolean(const uint8_t *octets, size_t len, bool *value)
+{
+    if (len != 1 || (octets[0] != 0x10 && octets[0] != 0x11)) {
+        return false;
+    }
+    *value = octets[0] == 0x11;
+    return true;
+}
 
 /* A Real, from the bits of an IEEE 754 single: five octets. */
 static inline void bac_put_real(uint8_t out[5], uint32_t bits)
@@ -486,6 +533,83 @@ static inline bool bac_take_number(const uint8_t *octets, size_t len, unsigned k
     return true;
 }
 
+/* Gives the property that was listed last, numbers of that kind (as of bac_put_number), limits: as bac_limit. */
+static inline bac_status bac_limit_number(bac_node *node, unsigned kind, uint32_t least, uint32_t greatest)
+{
+    uint8_t from[5], to[5];
+    size_t from_len = bac_put_number(from, kind, least), to_len = bac_put_number(to, kind, greatest);
+    return bac_limit(node, from, from_len, to, to_len);
+}
+
+/* A Signed, in the fewest octets: how many they are. */
+static inline size_t bac_put_signed(uint8_t out[5], int32_t number)
+{
+    size_t len = number >= -0x80 && number < 0x80 ? 1 : number >= -0x8000 && number < 0x8000 ? 2 : number >= -0x800000 && number < 0x800000 ? 3 : 4;
+    out[0] = (uint8_t)(0x30 | len);
+    for (size_t i = 0; i < len; i++) {
+        out[1 + i] = (uint8_t)((uint32_t)number >> 8 * (len - 1 - i));
+    }
+    return 1 + len;
+}
+
+/* Whether the octets are a Signed of at most 32 bits, and the number. */
+static inline bool bac_take_signed(const uint8_t *octets, size_t len, int32_t *number)
+{
+    uint32_t sum;
+    if (len < 2 || len > 5 || octets[0] != (0x30 | (len - 1))) {
+        return false;
+    }
+    sum = octets[1] & 0x80 ? 0xFFFFFFFFu : 0;
+    for (size_t i = 1; i < len; i++) {
+        sum = sum << 8 | octets[i];
+    }
+    memcpy(number, &sum, sizeof sum);
+    return true;
+}
+
+/* A BitString of at most 32 bits, as status-flags has 4: bit i of the standard is the one of 1u << i in bits. How many octets it has; 0 where the count is
+ * above 32. */
+static inline size_t bac_put_bits(uint8_t out[7], uint32_t bits, unsigned count)
+{
+    size_t contents = 1 + (count + 7u) / 8u, at = 1;
+    if (count > 32) {
+        return 0;
+    }
+    out[0] = (uint8_t)(0x80 | contents);
+    if (contents == 5) {
+        out[at++] = 5;
+    }
+    out[at++] = (uint8_t)((8 - count % 8) % 8);
+    memset(out + at, 0, contents - 1);
+    for (unsigned i = 0; i < count; i++) {
+        if (bits >> i & 1) {
+            out[at + i / 8] = (uint8_t)(out[at + i / 8] | 0x80 >> i % 8);
+        }
+    }
+    return at + contents - 1;
+}
+
+/* Whether the octets are a BitString of at most 32 bits, those bits, as of bac_put_bits, and how many there are. */
+static inline bool bac_take_bits(const uint8_t *octets, size_t len, uint32_t *bits, unsigned *count)
+{
+    size_t at = len == 7 ? 2 : 1; /* where the number of unused bits is */
+    uint32_t sum = 0;
+    unsigned number;
+    if (len < 2 || len == 6 || len > 7 || octets[0] != (0x80 | (len - at)) || (len == 7 && octets[1] != 5)) {
+        return false;
+    }
+    if (octets[at] > 7 || (len == 2 && octets[at] != 0)) {
+        return false;
+    }
+    number = (unsigned)(len - at - 1) * 8 - octets[at];
+    for (unsigned i = 0; i < number; i++) {
+        sum |= (uint32_t)(octets[at + 1 + i / 8] >> (7 - i % 8) & 1) << i;
+    }
+    *bits = sum;
+    *count = number;
+    return true;
+}
+
 /* A text in UTF-8 of at most 4,000 octets as a CharacterString, for a description: how many octets it has; 0 where it is longer, or the room is less than
  * text_len + 5. */
 static inline size_t bac_put_text(uint8_t *out, size_t room, const char *text, size_t text_len)
@@ -507,6 +631,33 @@ static inline size_t bac_put_text(uint8_t *out, size_t room, const char *text, s
         out[at++] = (uint8_t)text[i];
     }
     return at;
+}
+
+/* Whether the octets are a CharacterString in UTF-8 of at most 65,534 octets, and its text: it lies in them, and no zero ends it. */
+static inline bool bac_take_text(const uint8_t *octets, size_t len, const char **text, size_t *text_len)
+{
+    size_t contents, head = 1;
+    if (len < 2 || octets[0] >> 4 != 7 || (octets[0] & 15) > 5) {
+        return false;
+    }
+    contents = octets[0] & 15u;
+    if (contents == 5) {
+        contents = octets[1];
+        head = 2;
+    }
+    if (head == 2 && contents == 254) {
+        if (len < 4) {
+            return false;
+        }
+        contents = (size_t)octets[2] << 8 | octets[3];
+        head = 4;
+    }
+    if (contents == 0 || len != head + contents || octets[head] != 0) {
+        return false;
+    }
+    *text = (const char *)octets + head + 1;
+    *text_len = contents - 1;
+    return true;
 }
 
 #ifdef __cplusplus

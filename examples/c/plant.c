@@ -33,8 +33,9 @@ static bac_status add_object(bac_node *node, uint16_t type, uint32_t instance, c
 /* what each point has beside its value: it is in service, without alarm, fault or override */
 static bac_status add_state(bac_node *node)
 {
-    static const uint8_t none[] = { 0x82, 4, 0 }, no[] = { 0x10 };
-    bac_status s = bac_add_property(node, STATUS_FLAGS, none, sizeof none, false);
+    uint8_t flags[7], no[1];
+    bac_status s = bac_add_property(node, STATUS_FLAGS, flags, bac_put_bits(flags, 0, 4), false);
+    bac_put_boolean(no, false);
     return s == BAC_OK ? bac_add_property(node, OUT_OF_SERVICE, no, sizeof no, false) : s;
 }
 

@@ -66,8 +66,10 @@ static int closed_rows(bac_node *node)
     CALL(BAC_NOT_OPEN, bac_add_property(node, 85, REAL_10, 5, true));
     CALL(BAC_NOT_OPEN, bac_add_file(node, out, 1, true));
     CALL(BAC_NOT_OPEN, bac_limit(node, REAL_10, 5, REAL_20, 5));
+    CALL(BAC_NOT_OPEN, bac_limit_number(node, 2, 1, 9));
     CALL(BAC_NOT_OPEN, bac_allow(node, REAL_10, 5));
     CALL(BAC_NOT_OPEN, bac_problem(node, &wrong));
+    CALL(BAC_NOT_OPEN, bac_start_problem(node, &wrong));
     CALL(BAC_NOT_OPEN, bac_start_described(node, &s));
     CALL(BAC_NOT_OPEN, bac_start_described_restarted(node, &s, 0));
     CALL(BAC_NOT_OPEN, bac_start(node, &s));
@@ -282,7 +284,105 @@ static int described_rows(bac_node *node)
         if (tells(node, none ? BAC_NO_OBJECT : 1, of_property ? flaws[i].property : BAC_WHOLE, flaws[i].flaw)) { return 1; }
         bac_close(node);
     }
-    for (unsigned i = 0; i < 13; i++) { HOLDS(strcmp(bac_flaw_text((bac_flaw)i), "unknown flaw") != 0); }
+    for (unsigned i = 0; i < 14; i++) { HOLDS(strcmp(bac_flaw_text((bac_flaw)i), "unknown flaw") != 0); }
+    return 0;
+}
+
+/* what bac_start refuses of the objects that are listed, as it is told, is this; where it is nothing, it starts */
+static int refuses(bac_node *node, uint64_t object, uint32_t property, bac_flaw flaw)
+{
+    bac_settings s = BAC_SETTINGS(127, 0, 0, 1, 0xBA, 0xC0);
+    bac_refused wrong = { 7, 7, BAC_FLAW_NO_DEVICE };
+    bac_status wanted = flaw == BAC_FLAW_NONE ? BAC_OK : flaw == BAC_FLAW_SAME_IDENTIFIER ? BAC_DUPLICATE : BAC_BAD_OBJECT;
+    CALL(BAC_OK, bac_start_problem(node, &wrong));
+    HOLDS(wrong.object == object && wrong.property == property && wrong.flaw == flaw);
+    CALL(wanted, bac_start(node, &s));
+    return 0;
+}
+
+/* the objects of bac_start: each flaw, and which comes first */
+static int refused_rows(bac_node *node)
+{
+    static const uint8_t two[] = { 0x21, 2 }, state[] = { 0x91, 1 }, third[] = { 0x91, 2 }, text[] = { 0x72, 0, 'a' };
+    struct {
+        uint16_t type;
+        uint32_t instance;
+        size_t name_len;
+        uint32_t property;
+        const uint8_t *value;
+        size_t len;
+        bac_flaw flaw;
+    } flaws[] = {
+        { 1, 4194303, 4092, 512, two, 2, BAC_FLAW_TYPE }, { 13, 1, 1, 512, two, 2, BAC_FLAW_TYPE }, { 127, 1, 1, 512, two, 2, BAC_FLAW_TYPE },
+        { 128, 1, 1, 512, two, 2, BAC_FLAW_NONE }, { 1023, 1, 1, 512, two, 2, BAC_FLAW_NONE }, { 0, 4194303, 4092, 512, two, 2, BAC_FLAW_INSTANCE },
+        { 0, 4194302, 4092, 512, two, 2, BAC_FLAW_NAME }, { 0, 4194302, 4091, 512, two, 2, BAC_FLAW_NONE }, { 10, 1, 1, 512, two, 2, BAC_FLAW_FILE },
+        { 8, 1, 1, 511, two, 2, BAC_FLAW_SAME_IDENTIFIER }, { 8, 2, 2, 512, two, 2, BAC_FLAW_NONE }, { 0, 1, 1, 511, two, 2, BAC_FLAW_NUMBER },
+        { 0, 1, 1, 117, state, 2, BAC_FLAW_NUMBER }, { 0, 1, 1, 4194303, two, 2, BAC_FLAW_NONE }, { 0, 1, 1, 4194304, two, 2, BAC_FLAW_NUMBER },
+        { 0, 1, 1, 513, two, 2, BAC_FLAW_TWICE }, { 0, 1, 1, 85, two, 2, BAC_FLAW_VALUES }, { 0, 1, 1, 85, REAL_10, 5, BAC_FLAW_NONE },
+        { 5, 1, 1, 85, third, 2, BAC_FLAW_VALUES }, { 5, 1, 1, 85, state, 2, BAC_FLAW_NONE }, { 8, 2, 1, 85, two, 2, BAC_FLAW_NONE },
+        { 2, 1, 1, 28, two, 2, BAC_FLAW_VALUES }, { 2, 1, 1, 28, text, 3, BAC_FLAW_NONE }
+    };
+    bac_refused wrong;
+    CALL(BAC_OK, bac_open(node));
+    if (refuses(node, BAC_NO_OBJECT, BAC_WHOLE, BAC_FLAW_NONE)) { return 1; } /* no objects are taken */
+    CALL(BAC_ALREADY_STARTED, bac_start_problem(node, &wrong));
+    bac_close(node);
+    for (size_t i = 0; i < sizeof flaws / sizeof flaws[0]; i++) {
+        bool of_property = flaws[i].flaw == BAC_FLAW_NUMBER || flaws[i].flaw == BAC_FLAW_TWICE || flaws[i].flaw == BAC_FLAW_VALUES;
+        uint64_t object = flaws[i].flaw == BAC_FLAW_NONE ? BAC_NO_OBJECT : 1;
+        CALL(BAC_OK, bac_open(node));
+        CALL(BAC_OK, bac_add_object(node, 8, 1, many, 2));
+        CALL(BAC_OK, bac_add_object(node, flaws[i].type, flaws[i].instance, many, flaws[i].name_len));
+        CALL(BAC_OK, bac_add_property(node, 513, two, 2, true));
+        CALL(BAC_OK, bac_add_property(node, flaws[i].property, flaws[i].value, flaws[i].len, true));
+        if (refuses(node, object, of_property ? flaws[i].property : BAC_WHOLE, flaws[i].flaw)) { return 1; }
+        if (flaws[i].flaw != BAC_FLAW_NONE) { /* the first object that is refused is told, whatever comes behind it */
+            CALL(BAC_OK, bac_add_object(node, 9, 1, many, 1));
+            CALL(BAC_OK, bac_start_problem(node, &wrong));
+            HOLDS(wrong.object == 1 && wrong.flaw == flaws[i].flaw);
+        }
+        bac_close(node);
+    }
+    CALL(BAC_OK, bac_open(node)); /* limits, a file, and the first of two properties */
+    CALL(BAC_OK, bac_add_object(node, 200, 1, many, 1));
+    CALL(BAC_OK, bac_add_file(node, many, 1, true));
+    if (refuses(node, 0, BAC_WHOLE, BAC_FLAW_FILE)) { return 1; }
+    bac_close(node);
+    CALL(BAC_OK, bac_open(node));
+    CALL(BAC_OK, bac_add_object(node, 10, 1, many, 1));
+    CALL(BAC_OK, bac_add_file(node, many, 60001, true));
+    if (refuses(node, 0, BAC_WHOLE, BAC_FLAW_FILE)) { return 1; }
+    CALL(BAC_OK, bac_add_file(node, many, 60000, true));
+    CALL(BAC_OK, bac_add_property(node, 512, two, 2, true));
+    CALL(BAC_OK, bac_limit_number(node, 2, 3, 9));
+    if (refuses(node, 0, 512, BAC_FLAW_LIMITS)) { return 1; }
+    CALL(BAC_OK, bac_limit_number(node, 9, 2, 2));
+    if (refuses(node, 0, 512, BAC_FLAW_LIMITS)) { return 1; }
+    CALL(BAC_OK, bac_limit_number(node, 2, 2, 2));
+    CALL(BAC_OK, bac_add_property(node, 600, two, 2, true));
+    CALL(BAC_OK, bac_allow(node, third, 2));
+    if (refuses(node, 0, 600, BAC_FLAW_LIMITS)) { return 1; }
+    CALL(BAC_OK, bac_add_property(node, 512, two, 2, true)); /* behind it, and told no more than what is first */
+    if (refuses(node, 0, 600, BAC_FLAW_LIMITS)) { return 1; }
+    bac_close(node);
+    return 0;
+}
+
+/* values at their limits of length */
+static int long_rows(bac_node *node)
+{
+    static uint8_t string[4096 + 4];
+    for (size_t len = 4096; len <= 4097; len++) {
+        CALL(BAC_OK, bac_open(node));
+        CALL(BAC_OK, bac_add_object(node, 200, 1, many, 1));
+        string[0] = 0x65;
+        string[1] = 254;
+        string[2] = (uint8_t)((len - 4) >> 8);
+        string[3] = (uint8_t)(len - 4);
+        CALL(BAC_OK, bac_add_property(node, 512, string, len, true));
+        if (refuses(node, len == 4096 ? BAC_NO_OBJECT : 0, len == 4096 ? BAC_WHOLE : 512, len == 4096 ? BAC_FLAW_NONE : BAC_FLAW_VALUES)) { return 1; }
+        bac_close(node);
+    }
     return 0;
 }
 
@@ -430,10 +530,66 @@ static int name_rows(void)
         n = bac_name(BAC_PROPERTY, i, out, sizeof out);
         HOLDS(n == 0 || bac_number(BAC_PROPERTY, out, n) == i);
     }
+    HOLDS(strcmp(bac_kind_name(0), "null") == 0 && strcmp(bac_kind_name(7), "text") == 0 && strcmp(bac_kind_name(REAL_10[0] >> 4), "real") == 0);
+    HOLDS(strcmp(bac_kind_name(12), "object") == 0 && strcmp(bac_kind_name(13), "unknown kind") == 0);
     HOLDS(strcmp(bac_how_text(BAC_TIMED_OUT), "timed out") == 0 && strcmp(bac_text(BAC_BAD_VALUE), "bad value") == 0);
-    HOLDS(strcmp(bac_flaw_text(BAC_FLAW_NO_DEVICE), "no device") == 0 && strcmp(bac_flaw_text((bac_flaw)13), "unknown flaw") == 0);
+    HOLDS(strcmp(bac_flaw_text(BAC_FLAW_NO_DEVICE), "no device") == 0 && strcmp(bac_flaw_text((bac_flaw)14), "unknown flaw") == 0);
     bac_put_float(octets, 10.0f);
     HOLDS(memcmp(octets, REAL_10, 5) == 0 && bac_take_float(REAL_20, 5, &value) && value == 20.0f && !bac_take_float(REAL_20, 4, &value));
+    return 0;
+}
+
+/* the octets of a value as the standard has them, and that the node takes them as data */
+static int listed_as(bac_node *node, uint32_t number, const uint8_t *octets, size_t len, const uint8_t *wanted, size_t wanted_len)
+{
+    HOLDS(len == wanted_len && memcmp(octets, wanted, len) == 0);
+    CALL(BAC_OK, bac_add_property(node, number, octets, len, true));
+    return 0;
+}
+
+/* Null, Boolean, Signed and BitString: their octets (clauses 20.2.2, 20.2.3, 20.2.5 and 20.2.10), and back */
+static int more_value_rows(bac_node *node)
+{
+    static const struct { int32_t number; uint8_t len, octets[5]; } numbers[] = {
+        { 0, 2, { 0x31, 0 } }, { 127, 2, { 0x31, 0x7F } }, { -128, 2, { 0x31, 0x80 } }, { 128, 3, { 0x32, 0, 0x80 } }, { -129, 3, { 0x32, 0xFF, 0x7F } },
+        { 32767, 3, { 0x32, 0x7F, 0xFF } }, { -32768, 3, { 0x32, 0x80, 0 } }, { 32768, 4, { 0x33, 0, 0x80, 0 } }, { -32769, 4, { 0x33, 0xFF, 0x7F, 0xFF } },
+        { 8388607, 4, { 0x33, 0x7F, 0xFF, 0xFF } }, { -8388608, 4, { 0x33, 0x80, 0, 0 } }, { 8388608, 5, { 0x34, 0, 0x80, 0, 0 } },
+        { -8388609, 5, { 0x34, 0xFF, 0x7F, 0xFF, 0xFF } }, { INT32_MAX, 5, { 0x34, 0x7F, 0xFF, 0xFF, 0xFF } }, { INT32_MIN, 5, { 0x34, 0x80, 0, 0, 0 } }
+    };
+    static const struct { uint32_t bits; unsigned count; uint8_t len, octets[7]; } strings[] = {
+        { 0, 0, 2, { 0x81, 0 } }, { 0, 4, 3, { 0x82, 4, 0 } }, { 1, 4, 3, { 0x82, 4, 0x80 } }, { 2, 4, 3, { 0x82, 4, 0x40 } }, { 8, 4, 3, { 0x82, 4, 0x10 } },
+        { 0xFF, 8, 3, { 0x82, 0, 0xFF } }, { 0x101, 9, 4, { 0x83, 7, 0x80, 0x80 } }, { 0x800001, 24, 5, { 0x84, 0, 0x80, 0, 1 } },
+        { 0x1000000, 25, 7, { 0x85, 5, 7, 0, 0, 0, 0x80 } }, { 0x80000001u, 32, 7, { 0x85, 5, 0, 0x80, 0, 0, 1 } }
+    };
+    static const uint8_t null[] = { 0 }, yes[] = { 0x11 }, no[] = { 0x10 }, unused[] = { 0x82, 8, 0 }, none[] = { 0x81, 1 };
+    uint8_t octets[7];
+    uint32_t property = 600, bits = 0;
+    unsigned count = 0;
+    int32_t number = 0;
+    bool value = false;
+    bac_put_null(octets);
+    if (listed_as(node, property++, octets, 1, null, 1)) { return 1; }
+    HOLDS(bac_take_null(octets, 1) && !bac_take_null(octets, 0) && !bac_take_null(no, 1) && !bac_take_null(octets, 2));
+    bac_put_boolean(octets, true);
+    if (listed_as(node, property++, octets, 1, yes, 1)) { return 1; }
+    HOLDS(bac_take_boolean(octets, 1, &value) && value);
+    bac_put_boolean(octets, false);
+    if (listed_as(node, property++, octets, 1, no, 1)) { return 1; }
+    HOLDS(bac_take_boolean(octets, 1, &value) && !value && !bac_take_boolean(null, 1, &value) && !bac_take_boolean(yes, 2, &value));
+    for (size_t i = 0; i < sizeof numbers / sizeof numbers[0]; i++) {
+        n = bac_put_signed(octets, numbers[i].number);
+        if (listed_as(node, property++, octets, n, numbers[i].octets, numbers[i].len)) { return 1; }
+        HOLDS(bac_take_signed(octets, n, &number) && number == numbers[i].number && !bac_take_signed(octets, n - 1, &number));
+    }
+    HOLDS(!bac_take_signed(yes, 1, &number) && !bac_take_number(numbers[0].octets, 2, 2, &bits));
+    for (size_t i = 0; i < sizeof strings / sizeof strings[0]; i++) {
+        n = bac_put_bits(octets, strings[i].bits, strings[i].count);
+        if (listed_as(node, property++, octets, n, strings[i].octets, strings[i].len)) { return 1; }
+        HOLDS(bac_take_bits(octets, n, &bits, &count) && bits == strings[i].bits && count == strings[i].count);
+        HOLDS(!bac_take_bits(octets, n - 1, &bits, &count));
+    }
+    HOLDS(bac_put_bits(octets, 0, 33) == 0 && bac_put_bits(octets, 0xFFFFFFF0u, 4) == 3 && memcmp(octets, strings[1].octets, 3) == 0);
+    HOLDS(!bac_take_bits(unused, 3, &bits, &count) && !bac_take_bits(none, 2, &bits, &count) && !bac_take_bits(numbers[0].octets, 2, &bits, &count));
     return 0;
 }
 
@@ -443,8 +599,11 @@ static int value_rows(bac_node *node)
     static const uint32_t numbers[] = { 0, 1, 255, 256, 65535, 65536, 16777215, 16777216, 4294967295u };
     static const uint8_t three_hundred[] = { 0x22, 0x01, 0x2C }, active[] = { 0x91, 0x01 };
     static const uint8_t abc[] = { 0x74, 0, 'a', 'b', 'c' }, abcd[] = { 0x75, 5, 0, 'a', 'b', 'c', 'd' };
+    static const uint8_t utf_16[] = { 0x73, 4, 0, 'a' };
     static char text[4001];
     static uint8_t data[4096];
+    const char *read = NULL;
+    size_t read_len = 9;
     bac_settings s = BAC_SETTINGS(127, 0, 0, 1, 0xBA, 0xC0);
     uint32_t back = 0;
     CALL(BAC_OK, bac_open(node));
@@ -454,6 +613,7 @@ static int value_rows(bac_node *node)
     HOLDS(bac_put_text(data, sizeof data, "abc", 3) == 5 && memcmp(data, abc, 5) == 0);
     HOLDS(bac_put_text(data, sizeof data, "abcd", 4) == 7 && memcmp(data, abcd, 7) == 0);
     HOLDS(bac_put_text(data, sizeof data, text, 4001) == 0 && bac_put_text(data, 7, "abc", 3) == 0);
+    HOLDS(!bac_take_text(active, 2, &read, &read_len) && !bac_take_text(utf_16, 4, &read, &read_len) && read == NULL && read_len == 9);
     HOLDS(!bac_take_real(active, 2, &back) && !bac_take_number(active, 2, 2, &back) && back == 0);
     for (size_t i = 0; i < sizeof numbers / sizeof numbers[0]; i++) {
         for (unsigned kind = 2; kind <= 9; kind += 7) {
@@ -464,11 +624,14 @@ static int value_rows(bac_node *node)
         bac_put_real(data, numbers[i]);
         HOLDS(bac_take_real(data, 5, &back) && back == numbers[i]);
     }
+    if (more_value_rows(node)) { return 1; }
     memset(text, 'x', sizeof text);
     CALL(BAC_OK, bac_add_property(node, 28, data, bac_put_text(data, sizeof data, text, 253), true));
     CALL(BAC_OK, bac_start_house(node, &s));
     for (size_t len = 0; len <= 4000; len += len < 260 ? 1 : 340) {
         n = bac_put_text(data, sizeof data, text, len);
+        HOLDS(bac_take_text(data, n, &read, &read_len) && read_len == len && memcmp(read, text, len) == 0);
+        HOLDS(!bac_take_text(data, n - 1, &read, &read_len) && !bac_take_text(data, n + 1, &read, &read_len));
         CALL(BAC_OK, bac_set_value(node, 2, 1, 28, data, n));
     }
     bac_close(node);
@@ -638,6 +801,7 @@ static int rows(bac_node *client, bac_node *server)
 {
     if (name_rows() || described_rows(client) || limited_rows(client)) { return 1; }
     if (allowed_rows(client) || kept_rows(client)) { return 1; }
+    if (refused_rows(client) || long_rows(client)) { return 1; }
     if (edge_rows(client) || value_rows(client) || restarted_rows(client) || limit_rows(client)) { return 1; }
     if (closed_rows(client) || house_rows(client) || own_rows(server) || ask_rows(client, server)) { return 1; }
     bac_close(client);

@@ -109,11 +109,16 @@ def versions():
 
 
 def rust_flaws():
-    """The numbers of the flaws, which bac_c gives to those of bac_store."""
+    """The numbers of the flaws: those that bac_c gives to those of bac_store, and its own of a plain start, where the same flaw has the same number."""
     found = re.findall(r"DescriptionFlaw::(\w+) => (\d+),", code)
     named = {"TooManyObjects": "TOO_MANY"}
-    flaws = {"FLAW_" + named.get(n, re.sub(r"(?<!^)(?=[A-Z])", "_", n).upper()): int(v) for n, v in found if n != "NoMemory"}
-    return flaws | {"FLAW_NONE": 0}
+    body = re.search(r"pub enum Flaw \{(.*?)\n\}", code, flags=re.S).group(1)
+    flaws = {"FLAW_NONE": 0}
+    for n, v in found + re.findall(r"(\w+) = (\d+),", body):
+        name = "FLAW_" + named.get(n, re.sub(r"(?<!^)(?=[A-Z])", "_", n).upper())
+        if n != "NoMemory" and flaws.setdefault(name, int(v)) != int(v):
+            flaws[name + "_TWICE"] = int(v)
+    return flaws
 
 
 wrong = 0

@@ -1,8 +1,8 @@
 #!/usr/bin/env python3
-"""The example of docs/C.md as it stands there: page.py TOP OUT LIB
+"""The examples of docs/C.md as they stand there: page.py TOP OUT LIB
 
 Its program boiler.c is compiled as strictly as the rest, and asked by OUT/ask as the page asks; the line has to be the page's. A free port stands for the
-page's. And the page has to be right about the size of the archive and its code, to 10 %.
+page's. Its program with a fan is compiled so too, and run. And the page has to be right about the size of the archive and its code, to 10 %.
 """
 import re
 import subprocess
@@ -55,9 +55,20 @@ def sizes():
     return [(Path(lib).stat().st_size / 1000, int(told[0])), (int(text.split()[0]) / 1000, int(told[1]))]
 
 
+def started():
+    """The line that the page's program with objects of any type prints, and the one that it should."""
+    lines, wanted = re.search(r"This program lists .*?\n\n(.*?)\n\nIt prints `(.*?)`", page, flags=re.S).groups()
+    (out / "fan.c").write_text("\n".join(line.removeprefix("    ") for line in lines.splitlines()) + "\n")
+    subprocess.run(["cc", *STRICT, f"-I{top}/include", "-o", out / "fan", out / "fan.c", top / "examples/c/heap.c", lib], check=True)
+    return subprocess.run([out / "fan"], capture_output=True, text=True, timeout=120).stdout.rstrip("\n"), wanted
+
+
 got, wanted = asked()
 if got != wanted:
     wrong.append(f"asked: {got!r}, not {wanted!r}")
+line, wanted = started()
+if line != wanted:
+    wrong.append(f"started: {line!r}, not {wanted!r}")
 for size, told in sizes():
     if abs(size - told) > WRONG_BY * told:
         wrong.append(f"{size:.0f} KB, not {told}")

@@ -8,5 +8,7 @@ pub mod Lists
 pub mod Numbers
 pub mod Refusals
 pub mod Starts
+pub mod Takes
+pub mod Tells
 pub mod Texts
 pub mod Words

@@ -9,6 +9,8 @@ pub mod Parking
 pub mod Performing
 pub mod Ranges
 pub mod Reading
+pub mod Refusing
 pub mod Results
 pub mod Starting
 pub mod Statuses
+pub mod Taking

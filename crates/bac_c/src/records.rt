@@ -92,7 +92,7 @@ pub struct Performed {
     pub position: i64,
 }
 
-/// Why the objects that are listed can't be described.
+/// Why a start refuses the objects that are listed.
 #[repr(C)]
 #[derive(Clone, Copy, Debug, PartialEq, Eq)]
 pub struct Refused {
@@ -100,6 +100,6 @@ pub struct Refused {
     pub object: u64,
     /// The number of the refused property; 2^32 - 1 where the object is refused for another reason.
     pub property: u32,
-    /// What is wrong, 1 to 12 in the order of bac_store's `DescriptionFlaw`; 0 where nothing is.
+    /// What is wrong: 1 to 12 in the order of bac_store's `DescriptionFlaw`, 1 to 13 as [`Flaw`](crate::flaw::Flaw) says; 0 where nothing is.
     pub flaw: u32,
 }
