@@ -10,6 +10,7 @@ use std::test::Fail;
 
 mod alone;
 mod beyond;
+mod calls;
 mod chance;
 mod drifting;
 mod failing;

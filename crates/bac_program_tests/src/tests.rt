@@ -21,6 +21,7 @@ mod online;
 mod outputs;
 mod progress;
 mod restarts;
+mod served;
 mod served_documents;
 mod sockets;
 mod told;

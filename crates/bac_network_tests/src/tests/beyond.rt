@@ -1,17 +1,18 @@
 //! What breaks where nodes and the network are not as they are taken to be: two nodes at one link, a datagram that is damaged and can still be read, one from
 //! someone else at a node's link, a node that begins anew and does not wait, an ask with a route. Nodes are called by hand here, since no world has that.
-use super::scene::{limits_of, request_of};
+use super::calls::{ask as ask_at, hear as hear_at, new_node, restarted_node};
+use super::scene::{limits_of, request_of, write_acknowledged};
 use super::*;
 use bac_node::{Cause, Node, Outcome};
 use bac_npdu::{Peer, Route};
 use bac_requester::{Asked, Ending};
-use bac_service::same_request;
+use bac_service::{OwnedRequest, same_request};
 use bac_transaction::Datagram;
 
 /// A node at the link of that number, with the house store.
 pub(super) fn node(alloc: Global, number: u8) -> Option<Node> {
     let (config, store) = SMALL.made(alloc, number)?;
-    Node::new(alloc, config, store).ok()
+    new_node(alloc, config, store)
 }
 
 /// A node asks the one at link 1.
@@ -27,7 +28,7 @@ fn ask_by(alloc: Global, client: &mut Node, route: Option<Route>, words: &str) -
     };
     let limits = limits_of(alloc, "0270")?;
     let request = request_of(alloc, words)?;
-    client.ask(0, &peer, &limits, &request).ok()
+    ask_at(client, 0, &peer, &limits, &request)
 }
 
 /// A node hears the first datagram of a list, from that link.
@@ -35,7 +36,7 @@ fn hear(node: &mut Node, from: LinkAddress, sends: &[Datagram]) -> Option<Outcom
     let Some(first) = sends.first() else {
         return None;
     };
-    node.on(0, from, first.octets()).ok()
+    hear_at(node, 0, from, first.octets())
 }
 
 /// Whether an ask has ended with an answer.
@@ -78,11 +79,9 @@ fn two_nodes_at_one_link(rt: HostRuntime) {
     assert!(rt; second_done(rt.alloc(), 0) == Some((false, true)));
 }
 
-/// Whether the request that is performed is the one that was asked, where the octet AB arrives with other bits.
-fn performs_asked(alloc: Global, damage: u8) -> Option<bool> {
-    let mut server = node(alloc, 1)?;
-    let asked = ask(alloc, &mut node(alloc, 0)?, "append 10:1 AB")?;
-    let Some(first) = asked.sends.first() else {
+/// The octets of the first datagram of a list, where each octet AB has other bits.
+fn damaged(alloc: Global, sends: &[Datagram], damage: u8) -> Option<Vec<u8>> {
+    let Some(first) = sends.first() else {
         return None;
     };
     let mut octets = Vec::from_slice(alloc, first.octets()).ok()?;
@@ -91,12 +90,23 @@ fn performs_asked(alloc: Global, damage: u8) -> Option<bool> {
             *octet ^= damage;
         }
     }
-    let served = server.on(0, link(0), &octets).ok()?;
-    let request = request_of(alloc, "append 10:1 AB")?;
+    Some(octets)
+}
+
+/// Whether that request was performed; None where none was.
+fn has_performed(served: &Outcome, request: &OwnedRequest) -> Option<bool> {
     match &served.effect {
-        Some(act) => Some(same_request(&act.effect.request, &request)),
+        Some(act) => Some(same_request(&act.effect.request, request)),
         None => None,
     }
+}
+
+/// Whether the request that is performed is the one that was asked, where the octet AB arrives with other bits.
+fn performs_asked(alloc: Global, damage: u8) -> Option<bool> {
+    let asked = ask(alloc, &mut node(alloc, 0)?, "append 10:1 AB")?;
+    let octets = damaged(alloc, &asked.sends, damage)?;
+    let served = hear_at(&mut node(alloc, 1)?, 0, link(0), &octets)?;
+    has_performed(&served, &request_of(alloc, "append 10:1 AB")?)
 }
 
 /// A datagram that arrives whole has the request performed that was asked, and one with another bit another request.
@@ -110,10 +120,8 @@ fn a_damaged_datagram(rt: HostRuntime) {
 fn is_answered_from(alloc: Global, number: u8) -> Option<bool> {
     let mut client = node(alloc, 0)?;
     let asked = ask(alloc, &mut client, "write 0:5 85 4442000000")?;
-    let mut octets = Vec::from_slice(alloc, b"\x81\x0A\x00\x09\x01\x00\x20").ok()?;
-    octets.push(asked.invoke_id).ok()?;
-    octets.push(15).ok()?;
-    let heard = client.on(0, link(number), &octets).ok()?;
+    let octets = write_acknowledged(alloc, asked.invoke_id)?;
+    let heard = hear_at(&mut client, 0, link(number), &octets)?;
     Some(is_answered(&heard))
 }
 
@@ -128,9 +136,9 @@ fn a_forged_answer(rt: HostRuntime) {
 fn begun_anew(alloc: Global, waits: bool) -> Option<Node> {
     let (config, store) = SMALL.made(alloc, 1)?;
     if waits {
-        Node::restarted(alloc, config, store, 0).ok()
+        restarted_node(alloc, config, store)
     } else {
-        Node::new(alloc, config, store).ok()
+        new_node(alloc, config, store)
     }
 }
 

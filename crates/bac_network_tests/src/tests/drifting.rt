@@ -1,11 +1,12 @@
 //! Worlds whose nodes have clocks of their own, among strangers: copies at the age at which they are lost, clocks at the bounds of their pace, and worlds that
 //! go by schedules that are made up from a number. Each log is followed on stores of the test's own.
+use super::calls::{new_clock_world, set_pace};
 use super::chance::Chance;
 use super::following::{Counts, Followed};
 use super::generated::{happens, next_event};
-use super::scene::{limits_of, request_of};
+use super::scene::{limits_of, request_of, write_acknowledged};
 use super::*;
-use bac_network::{Event, NewClocksFault, Pace, PaceFault, World};
+use bac_network::{Event, NewClocksFault, Pace, PaceFault, Transaction, World};
 use bac_npdu::Peer;
 
 /// By how many parts in a million a clock may be fast or slow, and how long copies live, in milliseconds; whether a world is made of them.
@@ -48,7 +49,7 @@ pub(super) fn drifting(
     starts: &[u32],
 ) -> Option<Result<World, NewClocksFault>> {
     let nodes = SMALL_ONES.made(alloc)?;
-    Some(World::with_clocks(alloc, nodes, 128, pace, starts))
+    Some(new_clock_world(alloc, nodes, 128, pace, starts))
 }
 
 /// A world with those clocks.
@@ -82,31 +83,50 @@ fn clocks_at_the_bounds(rt: HostRuntime) {
     assert!(rt; are_made(rt.alloc()) == Some(true));
 }
 
+/// Whether a clock takes a pace, or not since it is none that it may have.
+fn is_set(world: &mut World, rate: u32, may: bool) -> bool {
+    match set_pace(world, 0, rate) {
+        Ok(()) => may,
+        Err(fault) => !may && fault == PaceFault::BadPace,
+    }
+}
+
+/// Whether that is so of each pace, and of no node that there is not.
 fn are_set(alloc: Global) -> Option<bool> {
     let mut world = world_of(alloc, &[0, 0, 0])?;
     for (rate, may) in RATES {
-        let set = world.set_pace(0, *rate);
-        if set.is_ok() != *may || (!*may && set != Err(PaceFault::BadPace)) {
+        if !is_set(&mut world, *rate, *may) {
             return Some(false);
         }
     }
-    let mut plain = SMALL_ONES.world(alloc)?;
-    let is_plain = plain.set_pace(0, 1_000_000).is_ok() && plain.same(&SMALL_ONES.world(alloc)?);
-    let is_none = world.set_pace(3, 1_000_000) == Err(PaceFault::NoSuchNode);
-    Some(is_plain && is_none && plain.set_pace(0, 1_000_001) == Err(PaceFault::BadPace))
+    Some(set_pace(&mut world, 3, 1_000_000) == Err(PaceFault::NoSuchNode))
+}
+
+/// Whether a world where all nodes have one clock takes the pace that it has alone, and is then as it was.
+fn is_unpaced(alloc: Global) -> Option<bool> {
+    let mut world = SMALL_ONES.world(alloc)?;
+    let twin = SMALL_ONES.world(alloc)?;
+    let is_alike = is_set(&mut world, 1_000_000, true) && world.same(&twin);
+    Some(is_alike && is_set(&mut world, 1_000_001, false))
 }
 
 #[test]
 fn paces_at_the_bounds(rt: HostRuntime) {
     assert!(rt; are_set(rt.alloc()) == Some(true));
+    assert!(rt; is_unpaced(rt.alloc()) == Some(true));
+}
+
+/// The first node's clock is as slow from now on as may be, and the second one's as fast.
+pub(super) fn go_apart(world: &mut World) -> Option<()> {
+    set_pace(world, 0, 999_000).ok()?;
+    set_pace(world, 1, 1_001_000).ok()
 }
 
 /// Whether a request whose copy comes so many milliseconds after it was sent, to a server whose clock is as fast as may be from a client whose clock is as slow,
 /// is performed; and once where the copy comes again as late as it may.
 fn performed_at(alloc: Global, age: u64) -> Option<usize> {
     let mut world = world_of(alloc, &[0, 0, 0])?;
-    world.set_pace(0, 999_000).ok()?;
-    world.set_pace(1, 1_001_000).ok()?;
+    go_apart(&mut world)?;
     told(alloc, &mut world, "ask 0 1 append 10:1 AB")?;
     happens(&mut world, &Event::Advance { by: age })?;
     for _ in 0..2u8 {
@@ -123,44 +143,65 @@ fn copies_at_the_end_of_their_life(rt: HostRuntime) {
     assert!(rt; performed_at(rt.alloc(), 4_874) == Some(0));
 }
 
+/// The octets of one of the last copies; none where there is no copy.
+fn copied(alloc: Global, world: &World, chance: &mut Chance) -> Option<Vec<u8>> {
+    let back = chance.below(12).saturating_add(1);
+    let copies = world.copies();
+    match copies.get(copies.len().saturating_sub(back)) {
+        Some(copy) => Vec::from_slice(alloc, &copy.octets).ok(),
+        None => Some(Vec::new(alloc)),
+    }
+}
+
+/// Sometimes there is another octet among these.
+fn damage(octets: &mut [u8], chance: &mut Chance) {
+    if chance.below(4) > 0 {
+        return;
+    }
+    let place = chance.below(octets.len().saturating_add(1));
+    if let Some(octet) = octets.get_mut(place) {
+        *octet = (chance.below(256) % 256) as u8;
+    }
+}
+
+/// The link of a stranger.
+fn somewhere(chance: &mut Chance) -> LinkAddress {
+    link((chance.below(2) % 2) as u8 + 8)
+}
+
 /// The octets of one of the last copies, sometimes with another octet in them, arrive from a stranger.
 fn stray(alloc: Global, world: &World, chance: &mut Chance) -> Option<Event> {
-    let back = chance.below(12).saturating_add(1);
-    let number = world.copies().len().saturating_sub(back);
-    let mut octets = Vec::new(alloc);
-    if let Some(copy) = world.copies().get(number) {
-        octets.extend_from_slice(&copy.octets).ok()?;
-    }
-    if chance.below(4) == 0 {
-        let place = chance.below(octets.len().saturating_add(1));
-        if let Some(octet) = octets.get_mut(place) {
-            *octet = (chance.below(256) % 256) as u8;
-        }
-    }
+    let mut octets = copied(alloc, world, chance)?;
+    damage(&mut octets, chance);
     Some(Event::Stranger {
         node: chance.below(3),
-        from: link((chance.below(2) % 2) as u8 + 8),
+        from: somewhere(chance),
         octets,
     })
 }
 
-/// The stranger that was asked last says that it has performed the write, whether its client waits for that or not. It does nothing where none was asked.
-fn answer(alloc: Global, world: &World) -> Option<Event> {
-    let mut event = Event::Advance { by: 0 };
+/// The ask of a stranger that was accepted last, and the stranger.
+fn last_away(world: &World) -> Option<(Transaction, Peer)> {
+    let mut last = None;
     for note in world.asks() {
         if let Some(peer) = note.stranger {
-            let from = peer.link;
-            let mut octets = Vec::from_slice(alloc, b"\x81\x0A\x00\x09\x01\x00\x20").ok()?;
-            octets.push(note.transaction.invoke_id).ok()?;
-            octets.push(15).ok()?;
-            event = Event::Stranger {
-                node: note.transaction.client,
-                from,
-                octets,
-            };
+            last = Some((note.transaction, peer));
         }
     }
-    Some(event)
+    last
+}
+
+/// The stranger that was asked last says that it has performed the write, whether its client waits for that or not. It does nothing where none was asked.
+fn answer(alloc: Global, world: &World) -> Option<Event> {
+    let Some((asked, peer)) = last_away(world) else {
+        return Some(Event::Advance { by: 0 });
+    };
+    let from = peer.link;
+    Some(Event::Stranger {
+        node: asked.client,
+        from,
+        octets: write_acknowledged(alloc, asked.invoke_id)?,
+    })
 }
 
 /// A node asks a stranger.
@@ -168,7 +209,7 @@ fn away(alloc: Global, chance: &mut Chance) -> Option<Event> {
     Some(Event::AskStranger {
         node: chance.below(3),
         peer: Peer {
-            link: link((chance.below(2) % 2) as u8 + 8),
+            link: somewhere(chance),
             route: None,
         },
         limits: limits_of(alloc, "0270")?,
@@ -179,9 +220,7 @@ fn away(alloc: Global, chance: &mut Chance) -> Option<Event> {
 /// A clock is faster or slower from now on.
 fn drift(world: &mut World, chance: &mut Chance) -> Option<()> {
     let rate = chance.below(2_001).saturating_add(999_000);
-    world
-        .set_pace(chance.below(3), (rate % 2_000_000) as u32)
-        .ok()
+    set_pace(world, chance.below(3), (rate % 2_000_000) as u32).ok()
 }
 
 fn step(alloc: Global, world: &mut World, chance: &mut Chance) -> Option<()> {

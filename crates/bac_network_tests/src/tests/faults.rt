@@ -1,7 +1,8 @@
 //! Worlds that are not made.
+use super::calls::new_world;
 use super::scene::put;
 use super::*;
-use bac_network::{NewWorldFault, World, WorldFault};
+use bac_network::{NewWorldFault, WorldFault};
 use bac_node::Config;
 use bac_store::Store;
 
@@ -62,7 +63,7 @@ fn nodes_of(alloc: Global, row: &Made) -> Option<Vec<(Config, Store)>> {
 }
 
 fn made(alloc: Global, row: &Made) -> Option<u8> {
-    match World::new(alloc, nodes_of(alloc, row)?, row.5) {
+    match new_world(alloc, nodes_of(alloc, row)?, row.5) {
         Ok(_) => Some(MADE),
         Err(fault) => Some(fault.number()),
     }

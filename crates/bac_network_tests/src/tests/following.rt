@@ -131,6 +131,46 @@ fn must(is: bool) -> Option<()> {
     if is { Some(()) } else { None }
 }
 
+/// Whether those are the stores of the world's first nodes.
+fn are_in(world: &World, stores: &[Store]) -> bool {
+    for (node, store) in stores.iter().enumerate() {
+        match world.store(node) {
+            Some(there) if there.same(store) => (),
+            _ => return false,
+        }
+    }
+    true
+}
+
+/// Whether what was performed there is what was asked there.
+fn is_asked(log: &[Fact], performed: usize, asked: usize) -> bool {
+    match (performed_at(log, performed), asked_at(log, asked)) {
+        (Some((performed, _)), Some(asked)) => same_request(performed, asked),
+        _ => false,
+    }
+}
+
+fn is_answered(how: &Ending) -> bool {
+    matches!(how, Ending::Answered(_))
+}
+
+/// Whether an ask may end so whose request was performed there: an answer is the reply of that.
+fn is_ended(log: &[Fact], performed: Option<usize>, how: &Ending) -> bool {
+    match (how, performed) {
+        (Ending::Answered(answer), Some(place)) => is_replied(log, place, answer),
+        (Ending::Answered(_), None) => false,
+        _ => true,
+    }
+}
+
+/// Whether that is the reply with which a request was performed there.
+fn is_replied(log: &[Fact], performed: usize, answer: &OwnedReply) -> bool {
+    match performed_at(log, performed) {
+        Some((_, reply)) => same_reply(answer, reply),
+        None => false,
+    }
+}
+
 /// What a log says so far: the stores that it leads to, how often each node has restarted, and what became of each ask.
 #[derive(Drop)]
 pub(super) struct Followed {
@@ -167,13 +207,7 @@ impl Followed {
             self.note(alloc, log, place)?;
         }
         self.seen = log.len();
-        for (node, store) in self.stores.iter().enumerate() {
-            match world.store(node) {
-                Some(there) => must(there.same(store))?,
-                None => return None,
-            }
-        }
-        Some(())
+        must(are_in(world, &self.stores))
     }
 
     fn note(&mut self, alloc: Global, log: &[Fact], place: usize) -> Option<()> {
@@ -229,38 +263,41 @@ impl Followed {
 
     /// An ask is performed for the first time: what was asked, and with the reply of its server's store.
     fn performs(&mut self, alloc: Global, log: &[Fact], place: usize, number: usize) -> Option<()> {
-        let Some(deed) = self.deeds.get_mut(number) else {
-            return None;
-        };
-        must(deed.performed.is_none())?;
-        deed.performed = Some(place);
-        let Deed {
-            server: Some(server),
-            asked,
-            ..
-        } = *deed
-        else {
-            return None;
-        };
-        let (request, reply) = performed_at(log, place)?;
-        must(same_request(request, asked_at(log, asked)?))?;
-        let Some(store) = self.stores.get_mut(server) else {
-            return None;
-        };
-        performs(alloc, store, request, reply)?;
+        let (server, asked) = self.opens(place, number)?;
+        must(is_asked(log, place, asked))?;
+        self.replies(alloc, log, place, server)?;
         let is_anew = self.life(server) > 0;
         count(&mut self.counts.performed, true);
         count(&mut self.counts.performed_anew, is_anew);
         Some(())
     }
 
-    /// A request of a stranger is performed: with the reply of the node's store.
-    fn serves(&mut self, alloc: Global, log: &[Fact], place: usize, node: usize) -> Option<()> {
-        let (request, reply) = performed_at(log, place)?;
-        let Some(store) = self.stores.get_mut(node) else {
+    /// The request of an ask of a node is performed there, for the first time: its server, and where it was asked.
+    fn opens(&mut self, place: usize, number: usize) -> Option<(usize, usize)> {
+        let Some(deed) = self.deeds.get_mut(number) else {
             return None;
         };
-        performs(alloc, store, request, reply)?;
+        must(deed.performed.is_none())?;
+        deed.performed = Some(place);
+        let asked = deed.asked;
+        match deed.server {
+            Some(server) => Some((server, asked)),
+            None => None,
+        }
+    }
+
+    /// What was performed there was so with the reply of a node's store.
+    fn replies(&mut self, alloc: Global, log: &[Fact], place: usize, node: usize) -> Option<()> {
+        let (request, reply) = performed_at(log, place)?;
+        match self.stores.get_mut(node) {
+            Some(store) => performs(alloc, store, request, reply),
+            None => None,
+        }
+    }
+
+    /// A request of a stranger is performed: with the reply of the node's store.
+    fn serves(&mut self, alloc: Global, log: &[Fact], place: usize, node: usize) -> Option<()> {
+        self.replies(alloc, log, place, node)?;
         count(&mut self.counts.served, true);
         Some(())
     }
@@ -279,28 +316,17 @@ impl Followed {
 
     /// An ask of a stranger ends.
     fn ends_away(&mut self, number: usize, how: &Ending) -> Option<()> {
-        must(self.closes(number)?.server.is_none())?;
-        let is_answered = matches!(how, Ending::Answered(_));
-        count(&mut self.counts.answered_away, is_answered);
+        let deed = self.closes(number)?;
+        must(deed.server.is_none())?;
+        count(&mut self.counts.answered_away, is_answered(how));
         Some(())
     }
 
     /// An ask of a node ends; where it is answered, with the reply with which it was performed.
     fn ends(&mut self, log: &[Fact], number: usize, how: &Ending) -> Option<()> {
-        let Deed {
-            server,
-            performed,
-            ..
-        } = self.closes(number)?;
-        must(server.is_some())?;
-        let Ending::Answered(answer) = how else {
-            return Some(());
-        };
-        let Some(place) = performed else {
-            return None;
-        };
-        must(same_reply(answer, performed_at(log, place)?.1))?;
-        count(&mut self.counts.answered, true);
+        let deed = self.closes(number)?;
+        must(deed.server.is_some() && is_ended(log, deed.performed, how))?;
+        count(&mut self.counts.answered, is_answered(how));
         Some(())
     }
 

@@ -1,5 +1,6 @@
 //! Worlds whose nodes change their stores and restart again and again, by schedules that are made up from a number. Each log is followed on stores of the
 //! test's own, as it grows.
+use super::calls::step;
 use super::chance::Chance;
 use super::following::{Counts, Followed};
 use super::scene::{limits_of, request_of};
@@ -128,7 +129,7 @@ pub(super) fn next_event(alloc: Global, world: &World, chance: &mut Chance) -> O
 
 /// An event happens, if there is such a copy; whether a change was refused.
 pub(super) fn happens(world: &mut World, event: &Event) -> Option<bool> {
-    match world.step(event) {
+    match step(world, event) {
         Ok(_) | Err(WorldFault::NoSuchDatagram) => Some(false),
         Err(WorldFault::BadChange(_)) => Some(true),
         Err(_) => None,

@@ -1,7 +1,8 @@
 //! Clocks that go apart as far as they may, and copies that live as long as they may, or a millisecond longer. A world is made for the former alone; for the
 //! latter nodes are called by hand.
 use super::beyond::node;
-use super::drifting::drifting;
+use super::calls::{ask, hear, new_node, restarted_node, set_pace, tick};
+use super::drifting::{drifting, go_apart};
 use super::following::Followed;
 use super::scene::{limits_of, octets_in, request_of};
 use super::*;
@@ -64,7 +65,7 @@ impl Timed {
         let limits = limits_of(alloc, "0270")?;
         let request = request_of(alloc, words)?;
         let now = self.shows();
-        Some(self.node.ask(now, &peer, &limits, &request).ok()?.sends)
+        Some(ask(&mut self.node, now, &peer, &limits, &request)?.sends)
     }
 
     /// It hears the first of those datagrams, from the link of that number.
@@ -73,14 +74,19 @@ impl Timed {
             return None;
         };
         let now = self.shows();
-        self.node.on(now, link(from), first.octets()).ok()
+        hear(&mut self.node, now, link(from), first.octets())
     }
 
     /// It does what is due.
     fn ticks(&mut self) -> Option<Vec<Datagram>> {
         let now = self.shows();
-        Some(self.node.tick(now).ok()?.sends)
+        Some(tick(&mut self.node, now)?.sends)
     }
+}
+
+/// How many requests were performed, one or none.
+fn effects(heard: &Outcome) -> usize {
+    usize::from(heard.effect.is_some())
 }
 
 /// How often a request is performed: its answer is lost, and it is sent the last time, by a slow clock. That copy arrives at such an age at a server whose clock
@@ -102,8 +108,7 @@ fn performed(alloc: Global, age: u64) -> Option<usize> {
     let repeated = client.ticks()?;
     server.passes(LAST_SENDING.saturating_add(age));
     let second = server.hears(0, &repeated)?;
-    let once = usize::from(first.effect.is_some());
-    Some(once.saturating_add(usize::from(second.effect.is_some())))
+    Some(effects(&first).saturating_add(effects(&second)))
 }
 
 /// The life of a copy is 4,874 ms at most for clocks that are fast or slow by a thousandth; where it is one more, a request is performed twice.
@@ -122,10 +127,9 @@ fn world_at_the_bound(alloc: Global) -> Option<World> {
     let Ok(mut world) = drifting(alloc, pace, &[0, 0, 0])? else {
         return None;
     };
-    world.set_pace(1, 999_999).ok()?;
+    set_pace(&mut world, 1, 999_999).ok()?;
     told(alloc, &mut world, "advance 1")?;
-    world.set_pace(0, 999_000).ok()?;
-    world.set_pace(1, 1_001_000).ok()?;
+    go_apart(&mut world)?;
     Some(world)
 }
 
@@ -202,27 +206,42 @@ fn answered(mut ended: Vec<Ended>) -> Option<OwnedReply> {
     }
 }
 
-/// The client's clock shows 0 when it restarts, and is fast. The request arrives after so many milliseconds, and the server, whose clock is slow from then on,
-/// sends segment 0 again in the last of the entry. So many milliseconds pass, after which that copy may arrive.
-fn late_segment(alloc: Global, life: u64) -> Option<Late> {
+/// What the client asked before it restarted.
+fn asked_before(alloc: Global) -> Option<Vec<Datagram>> {
     let mut first = Timed {
         node: node(alloc, 0)?,
         exact: 0,
         rate: MILLISECOND,
     };
-    let asked = first.asks(alloc, "read 0:7 28")?;
+    first.asks(alloc, "read 0:7 28")
+}
+
+/// The client when it restarts.
+fn client_anew(alloc: Global) -> Option<Timed> {
     let (config, store) = SMALL.made(alloc, 0)?;
-    let mut client = Timed {
-        node: Node::restarted(alloc, config, store, 0).ok()?,
+    Some(Timed {
+        node: restarted_node(alloc, config, store)?,
         exact: MILLISECOND - 1,
         rate: FAST,
-    };
+    })
+}
+
+/// The server, so many milliseconds after it began.
+fn described_server(alloc: Global, life: u64) -> Option<Timed> {
     let (config, store) = DESCRIBED.made(alloc, 1)?;
-    let mut server = Timed {
-        node: Node::new(alloc, config, store).ok()?,
+    Some(Timed {
+        node: new_node(alloc, config, store)?,
         exact: life.saturating_mul(MILLISECOND),
         rate: SLOW,
-    };
+    })
+}
+
+/// The client's clock shows 0 when it restarts, and is fast. The request arrives after so many milliseconds, and the server, whose clock is slow from then on,
+/// sends segment 0 again in the last of the entry. So many milliseconds pass, after which that copy may arrive.
+fn late_segment(alloc: Global, life: u64) -> Option<Late> {
+    let asked = asked_before(alloc)?;
+    let mut client = client_anew(alloc)?;
+    let mut server = described_server(alloc, life)?;
     let answer = replied(server.hears(0, &asked)?)?;
     server.passes(LAST_OF_ENTRY);
     let segment = server.ticks()?;

@@ -1,4 +1,5 @@
 //! Worlds for tests.
+use super::calls::new_world;
 use super::link;
 use bac_apdu::{Apdu, Limits, read};
 use bac_network::World;
@@ -72,6 +73,14 @@ pub(super) fn octets_in(alloc: Global, digits: &str) -> Option<Vec<u8>> {
     octets_of(alloc, plain(alloc, digits).ok()?.as_str()).ok()
 }
 
+/// The datagram of a SimpleACK for a WriteProperty of that invoke ID.
+pub(super) fn write_acknowledged(alloc: Global, invoke_id: u8) -> Option<Vec<u8>> {
+    let mut octets = Vec::from_slice(alloc, b"\x81\x0A\x00\x09\x01\x00\x20").ok()?;
+    put(&mut octets, invoke_id)?;
+    put(&mut octets, 15)?;
+    Some(octets)
+}
+
 /// A store of analog-input 7, with a description of these octets.
 fn described(alloc: Global, description: &str) -> Option<Store> {
     let octets = octets_in(alloc, description)?;
@@ -115,9 +124,6 @@ impl Scene {
 
     /// A new world.
     pub(super) fn world(&self, alloc: Global) -> Option<World> {
-        match World::new(alloc, self.made(alloc)?, self.overtake) {
-            Ok(world) => Some(world),
-            Err(_) => None,
-        }
+        new_world(alloc, self.made(alloc)?, self.overtake).ok()
     }
 }

@@ -2,6 +2,7 @@
 //! schedules that are made up from a number, and send the same datagrams at the same moments.
 //!
 //! Sometimes both stand still so long that a ticket which is sent again then ends before its timer is due, or an entry of a reply table does.
+use super::calls::step;
 use super::chance::Chance;
 use super::generated::{change, restart};
 use super::scene::{limits_of, request_of};
@@ -44,7 +45,7 @@ enum Driver {
 }
 
 fn happens(world: &mut World, event: &Event) -> Option<()> {
-    match world.step(event) {
+    match step(world, event) {
         Ok(_) | Err(WorldFault::BadChange(_)) => Some(()),
         Err(_) => None,
     }

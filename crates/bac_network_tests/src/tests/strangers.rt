@@ -1,4 +1,5 @@
 //! Strangers among nodes: what they send and are asked, beside the asks of nodes. Each log is followed on stores of the test's own.
+use super::calls::step;
 use super::following::{Counts, Followed};
 use super::scene::{limits_of, request_of};
 use super::*;
@@ -124,7 +125,7 @@ fn event_of(alloc: Global, world: &World, line: &str) -> Option<Event> {
 
 fn happens(alloc: Global, world: &mut World, line: &str) -> Option<()> {
     match event_of(alloc, world, line) {
-        Some(event) => match world.step(&event) {
+        Some(event) => match step(world, &event) {
             Ok(None) => Some(()),
             _ => None,
         },
@@ -181,7 +182,7 @@ fn strangers_wait_after_a_restart(rt: HostRuntime) {
 /// Whether an event has that fault, and the world is then as one without it.
 fn is_refused(alloc: Global, world: &mut World, row: &Refused) -> Option<bool> {
     let event = event_of(alloc, world, row.0)?;
-    match world.step(&event) {
+    match step(world, &event) {
         Err(fault) => Some(fault == row.1),
         Ok(_) => Some(false),
     }

@@ -1,4 +1,5 @@
 //! Prefixes of datagrams arrive between the datagrams themselves: log, copies, stores and nodes are the same with this noise as without.
+use super::calls::step;
 use super::*;
 use bac_network::{Event, World};
 use bac_rows::script::{ranged, spelled};
@@ -50,7 +51,7 @@ fn prefixes(alloc: Global, world: &mut World, node: usize, whole: &[u8]) -> Opti
     };
     for _ in 0..whole.len() {
         shorten(&mut noise);
-        if !matches!(world.step(&noise), Ok(None)) {
+        if !matches!(step(world, &noise), Ok(None)) {
             return None;
         }
     }
