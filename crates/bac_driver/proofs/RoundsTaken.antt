@@ -5,16 +5,14 @@ use Rattle.std.proofs.lemmas.List.{append-nil}
 use Rattle.std.specs.Prelude.{IfSome, MatchOption}
 use Rattle.bac_protocol.specs.Service.{Octets}
 use Rattle.bac_store.specs.Stores.{Store}
-use Rattle.bac_transaction.specs.Sends.{Datagram}
 use Rattle.bac_world.specs.Node.{Node}
-use Rattle.bac_driver.specs.BoundNodes.{BoundNode}
 use Rattle.bac_driver.specs.Calls.{Call, Calls, received, with_call}
 use Rattle.bac_driver.specs.Moments.{Told, with_moment}
-use Rattle.bac_driver.specs.Observed.{IsOverUnseen, Observed, observed}
+use Rattle.bac_driver.specs.Observed.{Observed, observed}
 use Rattle.bac_driver.specs.Rounds.{AreReceives, BreaksOff, BreaksRound, FindsNoMore, FindsOneOf, HasNoted}
 use Rattle.bac_driver.specs.Rounds.{HoldsEarlyTurn, HoldsMore, HoldsOne, HoldsSeenTurn, HoldsTurnAtOnce, HoldsTurnFrom, IsAsHeld, IsHeldAtMost, IsHeldOn}
-use Rattle.bac_driver.specs.Rounds.{IsKept, IsRound, MOST_COUNTED, OnlyReceives, ROUND, ServesRounds, StopsRounds, StopsUnsent, TakesRound, TakesRounds}
-use Rattle.bac_driver.specs.Rounds.{change_store, in_order, sends_of_all}
+use Rattle.bac_driver.specs.Rounds.{IsKept, MOST_COUNTED, OnlyReceives, ROUND, StopsRounds, TakesRound, TakesRounds}
+use Rattle.bac_driver.specs.Rounds.{in_order, sends_of_all}
 use Rattle.bac_driver.specs.Runs.{Run, Timed, timed}
 use Rattle.bac_driver.specs.Seen.{Watcher, seen}
 use Rattle.bac_driver.specs.Serving.{IsBefore, performed_in}

@@ -9,7 +9,7 @@ use Rattle.bac_store.specs.Stores.{Store}
 use Rattle.bac_transaction.specs.Sends.{Datagram}
 use Rattle.bac_world.specs.Node.{Node}
 use Rattle.bac_world.specs.Services.{Performed}
-use Rattle.bac_driver.specs.BoundNodes.{BUFFER, BoundNode}
+use Rattle.bac_driver.specs.BoundNodes.{BoundNode}
 use Rattle.bac_driver.specs.Calls.{Call, Calls}
 use Rattle.bac_driver.specs.Moments.{with_moment}
 use Rattle.bac_driver.specs.Observed.{IsOverUnseen, Observed, observed}

@@ -24,7 +24,9 @@ note_turn-requires-clause-reply g c = λ honest.
 
 pub returns-in_err-turn-clause-as_held : goal.returns-in_err-turn-clause-as_held
 returns-in_err-turn-clause-as_held g c =
-    whatever _ _ (none_held (HoldsTurnFrom c.args.began c.args.wait_limit.now) (timed c.args.self.now (g.C.Clock.told c.args.clock.now)) (timed c.hold_turn.new.self (g.C.Clock.told c.hold_turn.new.clock)) c.in_err-turn.ensures.err)
+    whatever _ _
+    (none_held (HoldsTurnFrom c.args.began c.args.wait_limit.now) (timed c.args.self.now (g.C.Clock.told c.args.clock.now))
+    (timed c.hold_turn.new.self (g.C.Clock.told c.hold_turn.new.clock)) c.in_err-turn.ensures.err)
 
 pub returns-in_err-note_turn-clause-as_held : goal.returns-in_err-note_turn-clause-as_held
 returns-in_err-note_turn-clause-as_held g c =
