@@ -1,6 +1,6 @@
 -- What turns change, counted one by one, and that the others change nothing.
 use Rattle.std.proofs.Common.{◌≡◌, ℕ, ◌+◌, ◌≤◌, Bool, true, false, ◌&&◌, ◌||◌, if◌then◌else◌, List, [], ◌∷◌, ◌++◌, map, length, Option, Some, None}
-use Rattle.std.proofs.Common.{refl, ap, sym, subst, ◌∙◌, arith}
+use Rattle.std.proofs.Common.{refl, ap, sym, ◌∙◌, arith}
 use Rattle.std.proofs.lemmas.List.{map-append}
 use Rattle.std.specs.Prelude.{IfSome}
 use Rattle.bac_service.specs.Values.{Request}
@@ -9,7 +9,7 @@ use Rattle.bac_store.specs.Changes.{after, done, is_done}
 use Rattle.bac_store.specs.Replies.{reply_to}
 use Rattle.bac_store.specs.Stores.{Store}
 use Rattle.bac_world.specs.Services.{Performed, store_after}
-use Rattle.bac_driver.specs.Rounds.{HasNoted, IsReplied, change_store, changes_store, is_change, is_change_of, is_write}
+use Rattle.bac_driver.specs.Rounds.{HasNoted, IsReplied, change_store, changes_store, is_change_of, is_write}
 use Rattle.bac_driver.specs.Serving.{count_of, performed_in}
 use Rattle.bac_driver.specs.Turns.{Turn, performed_of}
 

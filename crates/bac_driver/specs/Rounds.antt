@@ -9,7 +9,7 @@ use Rattle.bac_store.specs.Stores.{Store}
 use Rattle.bac_transaction.specs.Sends.{Datagram}
 use Rattle.bac_world.specs.Node.{Node}
 use Rattle.bac_world.specs.Services.{Performed}
-use Rattle.bac_driver.specs.BoundNodes.{BUFFER, BoundNode}
+use Rattle.bac_driver.specs.BoundNodes.{BoundNode}
 use Rattle.bac_driver.specs.Calls.{Call, Calls}
 use Rattle.bac_driver.specs.Moments.{with_moment}
 use Rattle.bac_driver.specs.Observed.{IsOverUnseen, Observed, observed}
@@ -146,6 +146,40 @@ pub record OnlyReceives (old new : Calls) : Type 0 where
   pub are : AreReceives more
   pub is : new ≡ with_calls old more
 
+-- the node is as after a turn that was held so
+pub record IsHeld (holds : Timed → Turn → Timed → Type 0) (old new : Timed) : Type 0 where
+  pub turn : Turn
+  pub held : holds old turn new
+
+-- that is so, or the node is as before
+abbrev pub IsHeldAtMost : (holds : Timed → Turn → Timed → Type 0) → (old new : Timed) → Type 0
+IsHeldAtMost holds old new = (new.bound_node.node ≡ old.bound_node.node) ⊎ IsHeld holds old new
+
+-- after so many turns of a round the node is as after some more, which did not wait
+pub record IsHeldOn (before : ℕ) (old new : Timed) : Type 0 where
+  pub more : List Turn
+  pub middle : Timed
+  pub goes_on : Run HoldsTurnAtOnce more old middle
+  pub node : new.bound_node.node ≡ middle.bound_node.node
+  pub most : before + length more ≤ ROUND
+
+-- the node is as after turns of a round that were held: the first one waited as the limit says, and the others did not wait
+pub record IsHeldInRound (p : WaitLimit) (old new : Timed) : Type 0 where
+  pub first : Turn
+  pub begun : Timed
+  pub begins : HoldsEarlyTurn p old first begun
+  pub goes_on : IsHeldOn 1 begun new
+
+-- that is so, or the node is as before
+abbrev pub IsAsHeld : WaitLimit → (old new : Timed) → Type 0
+IsAsHeld p old new = (new.bound_node.node ≡ old.bound_node.node) ⊎ IsHeldInRound p old new
+
+-- a round stopped before it sent anything: the node is as before it, or as after the turns that it held, the first of which waited as some limit says
+pub record StopsUnsent (old new : Timed) : Type 0 where
+  pub limit : WaitLimit
+  pub as_held : IsAsHeld limit old new
+  pub receives : OnlyReceives old.bound_node.calls new.bound_node.calls
+
 -- ---- the keeper
 
 -- the keeper is open, and with all that was noted it has this store
@@ -211,9 +245,9 @@ abbrev pub ServesRounds : {S : Type 0} → Watcher S → WaitLimit → (rounds e
 ServesRounds Sees p rounds effects old new =
     TakesRounds Sees p rounds effects old new ⊎ StopsRounds Sees p rounds effects (IsOverUnseen p) old new
 
--- a round stopped: nothing of it was sent, and a power cut leaves the store before it, or that which the node then has
+-- a round stopped before it sent anything, and a power cut leaves the store before it, or that which the node then has
 pub record BreaksRound {S K : Type 0} (IsHonest : K → Type 0) (may_find : K → Store → Type 0) (keeper : K) (old new : Observed S) : Type 0 where
-  pub unsent : OnlyReceives old.timed.bound_node.calls new.timed.bound_node.calls
+  pub unsent : StopsUnsent old.timed new.timed
   pub finds : FindsOneOf IsHonest may_find old.timed.bound_node.node.store new.timed.bound_node.node.store keeper
 
 -- after some rounds, one stopped

@@ -1,6 +1,6 @@
 //! A turn whose sends are held until what it changed is kept. `rounds` calls it; all here is private to the crate.
 ghost use Rattle.std.specs.Prelude.{◌≡◌, false, IfOk, OnErr, OnOk};
-ghost use Rattle.bac_driver.specs.Rounds.{FindsNoMore, HasNoted, HoldsTurnFrom, OnlyReceives, changes_store};
+ghost use Rattle.bac_driver.specs.Rounds.{FindsNoMore, HasNoted, HoldsTurnFrom, IsHeldAtMost, OnlyReceives, changes_store};
 ghost use Rattle.bac_driver.specs.Runs.{timed};
 ghost use Rattle.bac_driver.specs.Views.{turn_view};
 
@@ -41,6 +41,8 @@ impl<L: Link> BoundNode<L> {
     ) -> Result<Turn, RoundFault>
         requires { K.IsHonest keeper.old → HasNoted K.IsOpen K.noted keeper.old self.old.node.store }
         ensures holds { IfOk result (λ t. HoldsTurnFrom began wait_limit.now (timed self.old (C.told clock.old)) (turn_view t)
+            (timed self.new (C.told clock.new))) }
+        ensures as_held { OnErr result (IsHeldAtMost (HoldsTurnFrom began wait_limit.now) (timed self.old (C.told clock.old))
             (timed self.new (C.told clock.new))) }
         ensures unsent { OnlyReceives self.old.calls self.new.calls }
         ensures noted { OnOk result (K.IsHonest keeper.new → HasNoted K.IsOpen K.noted keeper.new self.new.node.store) }

@@ -5,7 +5,8 @@ ghost use Rattle.std.specs.Prelude.{◌≡◌, ◌⊎◌, ◌<◌, ◌≤◌, �
 ghost use Rattle.bac_store.specs.Stores.{Store as Objects};
 ghost use Rattle.bac_driver.specs.Kept.{keeper_of, turns_of};
 ghost use Rattle.bac_driver.specs.Observed.{IsOverUnseen, observed};
-ghost use Rattle.bac_driver.specs.Rounds.{BreaksOff, FindsNoMore, FindsOneOf, HasNoted, HoldsMore, HoldsOne, IsKept, OnlyReceives, ServesRounds, TakesRound};
+ghost use Rattle.bac_driver.specs.Rounds.{BreaksOff, FindsNoMore, FindsOneOf, HasNoted, HoldsEarlyTurn, HoldsMore, HoldsOne, IsAsHeld, IsHeldAtMost, IsHeldOn};
+ghost use Rattle.bac_driver.specs.Rounds.{IsKept, OnlyReceives, ServesRounds, TakesRound};
 ghost use Rattle.bac_driver.specs.Rounds.{ROUND as MOST, change_store};
 ghost use Rattle.bac_driver.specs.Runs.{timed};
 ghost use Rattle.bac_driver.specs.Views.{turn_view};
@@ -123,6 +124,8 @@ impl<L: Link> BoundNode<L> {
             (observed (timed self.new (C.told clock.new)) (O.state observer.new out.new))) }
         ensures same { OnOk result (change_store (turns_of round.new) ≡ false → keeper_of round.new ≡ keeper_of round.old) }
         ensures idle { IfOk result (λ is_taken. is_taken ≡ false → keeper_of round.new ≡ keeper_of round.old) }
+        ensures as_held { OnErr result (IsHeldAtMost (HoldsEarlyTurn wait_limit.now) (timed self.old (C.told clock.old))
+            (timed self.new (C.told clock.new))) }
         ensures unsent { OnlyReceives self.old.calls self.new.calls }
         ensures noted { OnOk result (K.IsHonest (keeper_of round.new) → HasNoted K.IsOpen K.noted (keeper_of round.new) self.new.node.store) }
         ensures kept { OnOk result (K.IsHonest (keeper_of round.new) → K.kept (keeper_of round.new) ≡ K.kept (keeper_of round.old)) }
@@ -154,6 +157,7 @@ impl<L: Link> BoundNode<L> {
             (observed (timed self.new (C.told clock.new)) (O.state observer.new out.new))) }
         ensures most { OnOk result (length (turns_of round.new) ≤ MOST) }
         ensures same { OnOk result (change_store (turns_of round.new) ≡ false → keeper_of round.new ≡ keeper_of round.old) }
+        ensures as_held { OnErr result (IsHeldOn (length (turns_of round.old)) (timed self.old (C.told clock.old)) (timed self.new (C.told clock.new))) }
         ensures unsent { OnlyReceives self.old.calls self.new.calls }
         ensures noted { OnOk result (K.IsHonest (keeper_of round.new) → HasNoted K.IsOpen K.noted (keeper_of round.new) self.new.node.store) }
         ensures kept { OnOk result (K.IsHonest (keeper_of round.new) → K.kept (keeper_of round.new) ≡ K.kept (keeper_of round.old)) }
@@ -179,8 +183,8 @@ impl<L: Link> BoundNode<L> {
     /// keeper for nothing.
     ///
     /// `Link` where the link could not receive, `ClockBack` where the clock went back, `Keep` where the keeper could not note or keep. Then nothing of the
-    /// round was sent, and the node must not serve on: it may have performed what is not kept. A power cut then leaves the store before the round, or all
-    /// that its turns made of it.
+    /// round was sent, the node is as before the round or as after the turns that it held, and it must not serve on: it may have performed what is not kept.
+    /// A power cut then leaves the store before the round, or all that its turns made of it.
     pub fn round_before<C: Clock, K: Keeper, W, O: Observer<W>>(
         &mut self,
         clock: &mut C,
@@ -198,6 +202,7 @@ impl<L: Link> BoundNode<L> {
             (observed (timed self.new (C.told clock.new)) (O.state observer.new out.new))) (λ effects. effects ≤ MOST)) }
         ensures idle { OnOk result (change_store (turns_of round.new) ≡ false → keeper_of round.new ≡ keeper_of round.old) }
         ensures kept { OnOk result (K.IsHonest (keeper_of round.new) → IsKept K.IsOpen K.kept K.noted (keeper_of round.new) self.new.node.store) }
+        ensures as_held { OnErr result (IsAsHeld wait_limit.now (timed self.old (C.told clock.old)) (timed self.new (C.told clock.new))) }
         ensures unsent { OnErr result (OnlyReceives self.old.calls self.new.calls) }
         ensures honest { K.IsHonest (keeper_of round.new) → K.IsHonest (keeper_of round.old) }
         ensures crash { FindsOneOf K.IsHonest K.may_find self.old.node.store self.new.node.store (keeper_of round.new) }
@@ -215,7 +220,8 @@ impl<L: Link> BoundNode<L> {
     /// Serves as [`serve_observed`](BoundNode::serve_observed), but in rounds, as [`round_before`](BoundNode::round_before) takes them: what a client is told
     /// is kept. `limit.turns` is the number of rounds. Returns how many requests the node performed, at most 2^64 - 1.
     ///
-    /// The faults are those of a round. The rounds before are kept, and all that they send has left; nothing of the last one was sent.
+    /// The faults are those of a round. The rounds before are kept, and all that they send has left; nothing of the last one was sent, and the node is as
+    /// after the turns that it held.
     pub fn serve_kept<C: Clock, K: Keeper, W, O: Observer<W>>(
         &mut self,
         clock: &mut C,

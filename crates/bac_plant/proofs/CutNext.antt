@@ -5,13 +5,13 @@ use Rattle.std.proofs.lemmas.Bool.Decides.{nat_tests}
 use Rattle.std.proofs.lemmas.Option.{slice_get_within}
 use Rattle.bac_protocol.specs.Pace.{clock_at}
 use Rattle.bac_store.specs.Stores.{Store}
-use Rattle.bac_world.specs.Node.{restarted}
+use Rattle.bac_world.specs.Node.{Node, restarted}
 use Rattle.bac_world.specs.Once.Fact.{Restarted}
 use Rattle.bac_world.specs.World.{with_clock}
 use Rattle.bac_journal.proofs.Lists.{get_set}
 use Rattle.bac_driver.specs.BoundNodes.{BoundNode}
 use Rattle.bac_plant.specs.Cuts.{CutPlant, or_else, with_losing}
-use Rattle.bac_plant.specs.NextCuts.{CanStart, FoundStoresGoOn, KeptStoresGoOn, LostTurnsGoOn, StepsGoOn}
+use Rattle.bac_plant.specs.NextCuts.{CanStart, CanStartHeld, FoundStoresGoOn, KeptStoresGoOn, LostTurnsGoOn, StepsGoOn}
 use Rattle.bac_plant.specs.Steps.{with_station}
 
 same_number : (i : ℕ) → nat_eq i i ≡ true
@@ -61,11 +61,17 @@ can_start overtake stands s same c i at exact after is = record {
 
 pub found_stores_go_on : {K : Type 0} (IsHonest : K → Type 0) (may_find : K → Store → Type 0) (overtake : ℕ)
     → FoundStoresGoOn IsHonest may_find overtake
-found_stores_go_on IsHonest may_find overtake keeper before after finds honest s may = go (finds.crash honest s may)
+found_stores_go_on IsHonest may_find overtake keeper before after as_held finds honest s may = go (finds.crash honest s may)
   where
-    go : (s ≡ before.node.store) ⊎ (s ≡ after.node.store) → CanStart overtake before s ⊎ CanStart overtake after s
+    go : (s ≡ before.node.store) ⊎ (s ≡ after.node.store) → CanStart overtake before s ⊎ CanStartHeld overtake before s
     go (inl is) = inl (can_start overtake before s is)
-    go (inr is) = inr (can_start overtake after s is)
+    go (inr is) = inr (record {
+      turns = as_held.turns;
+      held = as_held.held;
+      chain = as_held.chain;
+      most = as_held.most;
+      starts = can_start overtake as_held.held s (is ∙ ap (λ (n : Node). n.store) as_held.node);
+    })
 
 pub kept_stores_go_on : {K : Type 0} (IsHonest IsOpen : K → Type 0) (kept noted : K → Store) (may_find : K → Store → Type 0)
     → ((k : K) (s : Store) → IsHonest k → IsOpen k → may_find k s → s ≡ kept k) → (overtake : ℕ)

@@ -4,15 +4,15 @@ use Rattle.bac_store.specs.Stores.{Store}
 use Rattle.bac_driver.specs.BoundNodes.{BoundNode}
 use Rattle.bac_driver.specs.Moments.{with_moment}
 use Rattle.bac_driver.specs.Observed.{Observed, observed}
-use Rattle.bac_driver.specs.Rounds.{BreaksOff, HoldsEarlyTurn, HoldsSeenTurn, HoldsTurnAtOnce, HoldsTurnFrom, ROUND, ServesRounds, TakesRound}
-use Rattle.bac_driver.specs.Rounds.{in_order, sends_of_all}
+use Rattle.bac_driver.specs.Rounds.{BreaksOff, HoldsEarlyTurn, HoldsSeenTurn, HoldsTurnAtOnce, HoldsTurnFrom, IsAsHeld, ROUND, ServesRounds}
+use Rattle.bac_driver.specs.Rounds.{TakesRound, in_order, sends_of_all}
 use Rattle.bac_driver.specs.Runs.{Run, Timed, timed}
 use Rattle.bac_driver.specs.Seen.{Watcher}
 use Rattle.bac_driver.specs.Serving.{performed_in}
 use Rattle.bac_driver.specs.Turns.{IsCarried, Turn}
 use Rattle.bac_driver.specs.Waits.{AT_ONCE}
 use Rattle.bac_driver.specs.declared.wait_limit.WaitLimit.{WaitLimit}
-use Rattle.bac_plant.specs.Rounds.{HeldChain, HoldsTurnOnce, RoundChain, RoundInChain, ServesRoundsInChain, StopsRoundsInChain}
+use Rattle.bac_plant.specs.Rounds.{HeldChain, HoldsTurnOnce, IsAsHeldInChain, RoundChain, RoundInChain, ServesRoundsInChain, StopsRoundsInChain}
 
 -- Lists of turns.
 
@@ -34,6 +34,17 @@ run_after step earlier [] a b c first second = subst (λ x. Run step earlier a x
 run_after step earlier (given ∷ later) a b c first second =
     record { middle = second.middle; so_far = run_after step earlier later a b second.middle first second.so_far; last = second.last }
 
+-- the same run of what is seen of each
+run_of : {S T U : Type 0} (step : S → T → S → Type 0) (seen : U → T → U → Type 0) (of : S → U)
+    → ((old : S) (given : T) (new : S) → step old given new → seen (of old) given (of new)) → (all : List T) (old new : S) → Run step all old new
+    → Run seen all (of old) (of new)
+run_of step seen of each [] old new run = ap of run
+run_of step seen of each (given ∷ before) old new run = record {
+  middle = of run.middle;
+  so_far = run_of step seen of each before old run.middle run.so_far;
+  last = each run.middle given new run.last;
+}
+
 -- The turns of a round.
 
 held_once : (began : ℕ) (p : WaitLimit) (old : Timed) (turn : Turn) (new : Timed) → HoldsTurnFrom began p old turn new
@@ -43,24 +54,47 @@ held_once began p old turn new h = record {
   is = record { limit = p; began = began; middle = h.middle; receives = h.receives; takes = h.takes };
 }
 
+held_at_once : (old : Timed) (turn : Turn) (new : Timed) → HoldsTurnAtOnce old turn new → HoldsTurnOnce old.bound_node turn new.bound_node
+held_at_once old turn new h = held_once old.bound_node.node.latest AT_ONCE old turn new h
+
+early_chain : (p : WaitLimit) (old : Timed) (first : Turn) (new : Timed) → HoldsEarlyTurn p old first new
+    → HeldChain (first ∷ []) old.bound_node new.bound_node
+early_chain p old first new h = record {
+  middle = old.bound_node;
+  so_far = refl;
+  last = held_once h.began p (timed old.bound_node (with_moment old.told h.began)) first new h.holds;
+}
+
+-- the node is as after the turns that it held
+pub as_held_in_chain : (p : WaitLimit) (old new : Timed) → IsAsHeld p old new → IsAsHeldInChain old.bound_node new.bound_node
+as_held_in_chain p old new (inl same) = record { turns = []; held = old.bound_node; chain = refl; most = omega arith; node = same }
+as_held_in_chain p old new (inr h) =
+    let o = h.goes_on in
+    let all = length-append o.more (h.first ∷ []) in
+    let few = o.most in
+    record {
+      turns = o.more ++ h.first ∷ [];
+      held = o.middle.bound_node;
+      chain = run_after HoldsTurnOnce (h.first ∷ []) o.more old.bound_node h.begun.bound_node o.middle.bound_node (early_chain p old h.first h.begun h.begins)
+          (run_of HoldsTurnAtOnce HoldsTurnOnce (λ (t : Timed). t.bound_node) held_at_once o.more h.begun o.middle o.goes_on);
+      most = omega (arith, all, few);
+      node = o.node;
+    }
+
+pub round_held : (before : BoundNode) (effects : ℕ) (after : BoundNode) → RoundInChain before effects after → IsAsHeldInChain before after
+round_held before effects after r = record { turns = r.turns; held = r.middle; chain = r.held; most = r.most; node = r.sent.node }
+
 module _ {S : Type 0} (Sees : Watcher S) where
   more_chain : (turns : List Turn) (old new : Observed S) → Run (HoldsSeenTurn Sees HoldsTurnAtOnce) turns old new
       → HeldChain turns old.timed.bound_node new.timed.bound_node
-  more_chain [] old new run = ap (λ (o : Observed S). o.timed.bound_node) run
-  more_chain (turn ∷ before) old new run = record {
-    middle = run.middle.timed.bound_node;
-    so_far = more_chain before old run.middle run.so_far;
-    last = held_once run.middle.timed.bound_node.node.latest AT_ONCE run.middle.timed turn new.timed run.last.is;
-  }
+  more_chain turns old new run =
+      run_of (HoldsSeenTurn Sees HoldsTurnAtOnce) HoldsTurnOnce (λ (o : Observed S). o.timed.bound_node)
+      (λ o turn n h. held_at_once o.timed turn n.timed h.is) turns old new run
 
   module _ (p : WaitLimit) where
     first_chain : (old : Observed S) (first : Turn) (new : Observed S) → HoldsSeenTurn Sees (HoldsEarlyTurn p) old first new
         → HeldChain (first ∷ []) old.timed.bound_node new.timed.bound_node
-    first_chain old first new h = record {
-      middle = old.timed.bound_node;
-      so_far = refl;
-      last = held_once h.is.began p (timed old.timed.bound_node (with_moment old.timed.told h.is.began)) first new.timed h.is.holds;
-    }
+    first_chain old first new h = early_chain p old.timed first new.timed h.is
 
     pub round_in_chain : (old : Observed S) (effects : ℕ) (new : Observed S) → TakesRound Sees p old effects new
         → RoundInChain old.timed.bound_node effects new.timed.bound_node
@@ -86,12 +120,7 @@ module _ {S : Type 0} (Sees : Watcher S) where
 
     rounds_chain : (counts : List ℕ) (old new : Observed S) → Run (TakesRound Sees p) counts old new
         → RoundChain counts old.timed.bound_node new.timed.bound_node
-    rounds_chain [] old new run = ap (λ (o : Observed S). o.timed.bound_node) run
-    rounds_chain (effects ∷ before) old new run = record {
-      middle = run.middle.timed.bound_node;
-      so_far = rounds_chain before old run.middle run.so_far;
-      last = round_in_chain run.middle effects new run.last;
-    }
+    rounds_chain counts old new run = run_of (TakesRound Sees p) RoundInChain (λ (o : Observed S). o.timed.bound_node) round_in_chain counts old new run
 
     pub serves_rounds : (rounds effects : ℕ) (old new : Observed S) → ServesRounds Sees p rounds effects old new
         → ServesRoundsInChain effects old.timed.bound_node new.timed.bound_node
@@ -113,6 +142,7 @@ module _ {S : Type 0} (Sees : Watcher S) where
           counts = s.takes.counts;
           middle = s.middle.timed.bound_node;
           chain = rounds_chain s.takes.counts old s.middle s.takes.run;
-          unsent = s.stopped.unsent;
+          as_held = as_held_in_chain s.stopped.unsent.limit s.middle.timed new.timed s.stopped.unsent.as_held;
+          unsent = s.stopped.unsent.receives;
           finds = s.stopped.finds;
         }

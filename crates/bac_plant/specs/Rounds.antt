@@ -17,6 +17,14 @@ pub record HoldsTurnOnce (before : BoundNode) (turn : Turn) (after : BoundNode) 
 abbrev pub HeldChain : List Turn → (before after : BoundNode) → Type 0
 HeldChain turns before after = Run HoldsTurnOnce turns before after
 
+-- the node is as after held turns of one round, also where it stopped before it sent anything
+pub record IsAsHeldInChain (before after : BoundNode) : Type 0 where
+  pub turns : List Turn
+  pub held : BoundNode
+  pub chain : HeldChain turns before held
+  pub most : length turns ≤ ROUND
+  pub node : after.node ≡ held.node
+
 -- a round: at most 32 turns are held, and then all that they hold is sent, in their order; so many requests were performed in it
 pub record RoundInChain (before : BoundNode) (effects : ℕ) (after : BoundNode) : Type 0 where
   pub turns : List Turn
@@ -36,10 +44,12 @@ pub record ServesRoundsInChain (effects : ℕ) (before after : BoundNode) : Type
   pub chain : RoundChain counts before after
   pub counted : effects ≡ min (total counts) MOST_COUNTED
 
--- a chain of rounds, after which one stopped: nothing of that one was sent, and a power cut leaves the store before it, or that which the node then has
+-- a chain of rounds, after which one stopped before it sent anything: the node is as after turns that it held, and a power cut leaves the store before it, or
+-- that which the node then has
 pub record StopsRoundsInChain {K : Type 0} (IsHonest : K → Type 0) (may_find : K → Store → Type 0) (keeper : K) (before after : BoundNode) : Type 0 where
   pub counts : List ℕ
   pub middle : BoundNode
   pub chain : RoundChain counts before middle
+  pub as_held : IsAsHeldInChain middle after
   pub unsent : OnlyReceives middle.calls after.calls
   pub finds : FindsOneOf IsHonest may_find middle.node.store after.node.store keeper

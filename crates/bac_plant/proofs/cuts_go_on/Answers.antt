@@ -9,7 +9,8 @@ pub returns-clause-lost_turns : goal.returns-clause-lost_turns
 returns-clause-lost_turns g c = λ overtake p i before at turn after holds source from. lost_turns_go_on overtake p i before at turn after holds source from
 
 pub returns-clause-found : goal.returns-clause-found
-returns-clause-found g c = λ overtake keeper before after finds honest s may. found_stores_go_on _ _ overtake keeper before after finds honest s may
+returns-clause-found g c = λ overtake keeper before after as_held finds honest s may.
+    found_stores_go_on _ _ overtake keeper before after as_held finds honest s may
 
 pub returns-clause-kept : goal.returns-clause-kept
 returns-clause-kept g c = λ overtake keeper stands is honest s may.

@@ -5,7 +5,7 @@ use Rattle.bac_driver.specs.Kept.{keeper_of}
 use Rattle.bac_driver.specs.Rounds.{FindsNoMore, HasNoted}
 use Rattle.bac_driver.specs.Views.{turn_view}
 use Rattle.bac_driver.proofs.ChangesOfTurns.{unchanged_after, unchanged_before}
-use Rattle.bac_driver.proofs.RoundsTaken.{finds_no_more, finds_same, held_next, no_calls, none_more, one_longer, one_more_held, receives_more}
+use Rattle.bac_driver.proofs.RoundsTaken.{finds_no_more, finds_same, held_next, held_on, no_calls, none_more, one_longer, one_more_held, receives_more, whatever}
 use Rattle.bac_driver.proofs.bound_node.BoundNode.hold_more.Goals as goal
 
 pub loop-init : goal.loop-init
@@ -54,3 +54,10 @@ returns-in_err-turn-clause-unsent g c = receives_more _ _ _ c.loop.invariant.uns
 
 pub returns-in_err-turn-clause-crash : goal.returns-in_err-turn-clause-crash
 returns-in_err-turn-clause-crash g c = finds_no_more _ _ _ _ _ c.loop.invariant.crash c.in_err-turn.ensures.crash
+
+pub returns-in_err-turn-clause-as_held : goal.returns-in_err-turn-clause-as_held
+returns-in_err-turn-clause-as_held g c =
+    let goes : c.may_go_on.result ≡ true = search rules in
+    whatever _ _
+    (held_on g.O.Observer.Sees _ _ _ _ _ _ c.loop.invariant.taken (c.may_go_on.ensures goes)
+    (c.latest-began.ensures ∙ ap (λ (n : Node). n.latest) c.node.ensures) c.in_err-turn.ensures.as_held)

@@ -3,7 +3,7 @@ use Rattle.std.proofs.Common.{◌≡◌, ◌∙◌, true, ap, arith, length, map
 use Rattle.bac_driver.specs.Serving.{performed_in}
 use Rattle.bac_driver.specs.Views.{turn_view}
 use Rattle.bac_driver.proofs.ChangesOfTurns.{few_performed}
-use Rattle.bac_driver.proofs.RoundsTaken.{receives_more, round_taken, whatever}
+use Rattle.bac_driver.proofs.RoundsTaken.{held_all, held_first, held_others, receives_more, round_taken, whatever}
 use Rattle.bac_driver.proofs.bound_node.BoundNode.round_before.Goals as goal
 
 pub returns-in_err-hold_more-clause-unsent : goal.returns-in_err-hold_more-clause-unsent
@@ -11,6 +11,22 @@ returns-in_err-hold_more-clause-unsent g c = whatever _ _ (receives_more _ _ _ c
 
 pub returns-in_err-keep-clause-unsent : goal.returns-in_err-keep-clause-unsent
 returns-in_err-keep-clause-unsent g c = whatever _ _ (receives_more _ _ _ c.in_ok-is_taken.ensures.unsent c.in_ok-hold_more.ensures.unsent)
+
+pub returns-in_err-is_taken-clause-as_held : goal.returns-in_err-is_taken-clause-as_held
+returns-in_err-is_taken-clause-as_held g c = whatever _ _ (held_first c.args.wait_limit.now _ _ c.in_err-is_taken.ensures.as_held)
+
+pub returns-in_err-hold_more-clause-as_held : goal.returns-in_err-hold_more-clause-as_held
+returns-in_err-hold_more-clause-as_held g c =
+    let taken : c.in_ok-is_taken.is_taken ≡ true = search rules in
+    whatever _ _
+    (held_others g.O.Observer.Sees c.args.wait_limit.now _ _ _ _ (c.in_ok-is_taken.ensures.taken taken) c.in_err-hold_more.ensures.as_held)
+
+pub returns-in_err-keep-clause-as_held : goal.returns-in_err-keep-clause-as_held
+returns-in_err-keep-clause-as_held g c =
+    let taken : c.in_ok-is_taken.is_taken ≡ true = search rules in
+    whatever _ _
+    (held_all g.O.Observer.Sees c.args.wait_limit.now _ _ _ _ _ (c.in_ok-is_taken.ensures.taken taken) c.in_ok-hold_more.ensures.taken
+    c.in_ok-hold_more.ensures.most)
 
 pub returns-clause-over : goal.returns-clause-over
 returns-clause-over g c =

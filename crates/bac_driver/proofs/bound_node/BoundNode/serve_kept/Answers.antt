@@ -21,4 +21,5 @@ returns-in_default-clause-served g c =
 pub returns-in_err-once-clause-broken_off : goal.returns-in_err-once-clause-broken_off
 returns-in_err-once-clause-broken_off g c =
     breaks_off g.O.Observer.Sees c.args.limit.now.wait_limit c.loop.counter c.args.limit.now.turns c.loop.effects g.K.Keeper.IsHonest g.K.Keeper.may_find _ _ _ _ _
-    (search rules) c.loop.invariant.taken c.in_err-once.ensures.unsent c.in_err-once.ensures.crash
+    (search rules) c.loop.invariant.taken c.in_err-once.ensures.as_held c.in_err-once.ensures.unsent
+    c.in_err-once.ensures.crash
