@@ -65,6 +65,14 @@ struct Printed {
     status: u8,
 }
 
+/// Lines happen in a world; None where one of them has a fault.
+fn tell(alloc: Global, world: &mut World, lines: &str) -> Option<()> {
+    match told(alloc, world, lines) {
+        Some(_) => Some(()),
+        None => None,
+    }
+}
+
 /// What lines print in a world; None where one of them has a fault.
 fn told(alloc: Global, world: &mut World, lines: &str) -> Option<Vec<u8>> {
     let mut out = Vec::new(alloc);

@@ -56,20 +56,33 @@ fn is_done(
 ) -> Option<(bool, bool)> {
     let asked = ask(alloc, client, words)?;
     let served = hear(server, client.link(), &asked.sends)?;
-    let heard = hear(client, server.link(), &served.sends)?;
-    Some((served.effect.is_some(), is_answered(&heard)))
+    let is_answered = is_answered_by(client, server.link(), &served.sends)?;
+    Some((served.effect.is_some(), is_answered))
+}
+
+/// Whether the first datagram of a list ends an ask of a client with an answer.
+fn is_answered_by(client: &mut Node, from: LinkAddress, sends: &[Datagram]) -> Option<bool> {
+    let heard = hear(client, from, sends)?;
+    Some(is_answered(&heard))
+}
+
+/// What a new client at link 0 sends for an ask.
+fn sent(alloc: Global, route: Option<Route>, words: &str) -> Option<Vec<Datagram>> {
+    let mut client = node(alloc, 0)?;
+    Some(ask_by(alloc, &mut client, route, words)?.sends)
 }
 
 /// What comes of the second of two asks for the same, by a client at the link of that number; the first client is at link 0.
 fn second_done(alloc: Global, second: u8) -> Option<(bool, bool)> {
     let mut server = node(alloc, 1)?;
-    is_done(alloc, &mut node(alloc, 0)?, &mut server, "append 10:1 AB")?;
-    is_done(
-        alloc,
-        &mut node(alloc, second)?,
-        &mut server,
-        "append 10:1 AB",
-    )
+    done_by(alloc, 0, &mut server)?;
+    done_by(alloc, second, &mut server)
+}
+
+/// What comes of an ask by a new client at the link of that number.
+fn done_by(alloc: Global, number: u8, server: &mut Node) -> Option<(bool, bool)> {
+    let mut client = node(alloc, number)?;
+    is_done(alloc, &mut client, server, "append 10:1 AB")
 }
 
 /// At a link of its own a node's ask is performed and answered; at the link of another one it is answered with the reply to that one's, and not performed.
@@ -101,12 +114,19 @@ fn has_performed(served: &Outcome, request: &OwnedRequest) -> Option<bool> {
     }
 }
 
+/// Whether a node that hears octets performs an append of AB; None where it performs nothing.
+fn appends(alloc: Global, octets: &[u8]) -> Option<bool> {
+    let request = request_of(alloc, "append 10:1 AB")?;
+    let mut server = node(alloc, 1)?;
+    let served = hear_at(&mut server, 0, link(0), octets)?;
+    has_performed(&served, &request)
+}
+
 /// Whether the request that is performed is the one that was asked, where the octet AB arrives with other bits.
 fn performs_asked(alloc: Global, damage: u8) -> Option<bool> {
-    let asked = ask(alloc, &mut node(alloc, 0)?, "append 10:1 AB")?;
-    let octets = damaged(alloc, &asked.sends, damage)?;
-    let served = hear_at(&mut node(alloc, 1)?, 0, link(0), &octets)?;
-    has_performed(&served, &request_of(alloc, "append 10:1 AB")?)
+    let sent = sent(alloc, None, "append 10:1 AB")?;
+    let octets = damaged(alloc, &sent, damage)?;
+    appends(alloc, &octets)
 }
 
 /// A datagram that arrives whole has the request performed that was asked, and one with another bit another request.
@@ -119,9 +139,19 @@ fn a_damaged_datagram(rt: HostRuntime) {
 /// Whether an ask for a write, of which the node at link 1 hears nothing, is answered by a SimpleACK that someone at the link of that number sends.
 fn is_answered_from(alloc: Global, number: u8) -> Option<bool> {
     let mut client = node(alloc, 0)?;
-    let asked = ask(alloc, &mut client, "write 0:5 85 4442000000")?;
-    let octets = write_acknowledged(alloc, asked.invoke_id)?;
-    let heard = hear_at(&mut client, 0, link(number), &octets)?;
+    let invoke_id = ask(alloc, &mut client, "write 0:5 85 4442000000")?.invoke_id;
+    is_acknowledged(alloc, &mut client, link(number), invoke_id)
+}
+
+/// Whether a SimpleACK from that link ends an ask of a client with an answer.
+fn is_acknowledged(
+    alloc: Global,
+    client: &mut Node,
+    from: LinkAddress,
+    invoke_id: u8,
+) -> Option<bool> {
+    let octets = write_acknowledged(alloc, invoke_id)?;
+    let heard = hear_at(client, 0, from, &octets)?;
     Some(is_answered(&heard))
 }
 
@@ -144,10 +174,18 @@ fn begun_anew(alloc: Global, waits: bool) -> Option<Node> {
 
 /// Whether a request that was performed is performed again, when its datagram comes a second time to a server that has begun anew.
 fn is_performed_again(alloc: Global, waits: bool) -> Option<bool> {
-    let asked = ask(alloc, &mut node(alloc, 0)?, "append 10:1 AB")?;
-    let first = hear(&mut node(alloc, 1)?, link(0), &asked.sends)?;
-    let second = hear(&mut begun_anew(alloc, waits)?, link(0), &asked.sends)?;
-    Some(first.effect.is_some() && second.effect.is_some())
+    let sent = sent(alloc, None, "append 10:1 AB")?;
+    let first = is_performed_by(node(alloc, 1), &sent)?;
+    let second = is_performed_by(begun_anew(alloc, waits), &sent)?;
+    Some(first && second)
+}
+
+/// Whether a server performs what a client at link 0 sent.
+fn is_performed_by(server: Option<Node>, sent: &[Datagram]) -> Option<bool> {
+    match server {
+        Some(mut server) => Some(hear(&mut server, link(0), sent)?.effect.is_some()),
+        None => None,
+    }
 }
 
 #[test]
@@ -158,8 +196,9 @@ fn a_node_that_does_not_wait(rt: HostRuntime) {
 
 /// Why a node drops an ask by a route to its link, if it does.
 fn dropped(alloc: Global, route: Option<Route>) -> Option<Option<Cause>> {
-    let asked = ask_by(alloc, &mut node(alloc, 0)?, route, "append 10:1 AB")?;
-    Some(hear(&mut node(alloc, 1)?, link(0), &asked.sends)?.dropped)
+    let sent = sent(alloc, route, "append 10:1 AB")?;
+    let mut server = node(alloc, 1)?;
+    Some(hear(&mut server, link(0), &sent)?.dropped)
 }
 
 /// It is to be routed elsewhere, so it is not performed.

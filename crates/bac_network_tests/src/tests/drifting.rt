@@ -126,14 +126,32 @@ pub(super) fn go_apart(world: &mut World) -> Option<()> {
 /// is performed; and once where the copy comes again as late as it may.
 fn performed_at(alloc: Global, age: u64) -> Option<usize> {
     let mut world = world_of(alloc, &[0, 0, 0])?;
-    go_apart(&mut world)?;
-    told(alloc, &mut world, "ask 0 1 append 10:1 AB")?;
-    happens(&mut world, &Event::Advance { by: age })?;
+    comes_late(alloc, &mut world, age)?;
+    performed_in(alloc, &world)
+}
+
+fn comes_late(alloc: Global, world: &mut World, age: u64) -> Option<()> {
+    go_apart(world)?;
+    tell(alloc, world, "ask 0 1 append 10:1 AB")?;
+    pass(world, age)?;
     for _ in 0..2u8 {
-        happens(&mut world, &Event::Deliver { number: 0 })?;
+        come(world, 0)?;
     }
-    let mut followed = Followed::from_opening(alloc, &world)?;
-    followed.follow(alloc, &world)?;
+    Some(())
+}
+
+fn pass(world: &mut World, by: u64) -> Option<bool> {
+    happens(world, &Event::Advance { by })
+}
+
+fn come(world: &mut World, number: usize) -> Option<bool> {
+    happens(world, &Event::Deliver { number })
+}
+
+/// How many requests of nodes were performed in a world, whose log may say so.
+pub(super) fn performed_in(alloc: Global, world: &World) -> Option<usize> {
+    let mut followed = Followed::from_opening(alloc, world)?;
+    followed.follow(alloc, world)?;
     Some(followed.counts().performed)
 }
 
@@ -240,14 +258,24 @@ fn goes(alloc: Global, seed: u64) -> Option<Counts> {
     let mut chance = Chance::of(seed);
     let start = (chance.below(1_000_000) % 1_000_000) as u32;
     let mut world = world_of(alloc, &[0, start, 4_294_000_000])?;
-    let mut followed = Followed::from_opening(alloc, &world)?;
+    go(alloc, &mut world, &mut chance)
+}
+
+fn go(alloc: Global, world: &mut World, chance: &mut Chance) -> Option<Counts> {
+    let mut followed = Followed::from_opening(alloc, world)?;
     for _ in 0..EVENTS / 10 {
-        for _ in 0..10u8 {
-            step(alloc, &mut world, &mut chance)?;
-        }
-        followed.follow(alloc, &world)?;
+        go_on(alloc, world, chance)?;
+        followed.follow(alloc, world)?;
     }
     Some(followed.counts())
+}
+
+/// Ten events happen.
+fn go_on(alloc: Global, world: &mut World, chance: &mut Chance) -> Option<()> {
+    for _ in 0..10u8 {
+        step(alloc, world, chance)?;
+    }
+    Some(())
 }
 
 /// Whether enough happened in all worlds.

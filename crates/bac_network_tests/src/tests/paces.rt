@@ -2,8 +2,7 @@
 //! latter nodes are called by hand.
 use super::beyond::node;
 use super::calls::{ask, hear, new_node, restarted_node, set_pace, tick};
-use super::drifting::{drifting, go_apart};
-use super::following::Followed;
+use super::drifting::{drifting, go_apart, performed_in};
 use super::scene::{limits_of, octets_in, request_of};
 use super::*;
 use bac_network::{Pace, World};
@@ -77,6 +76,16 @@ impl Timed {
         hear(&mut self.node, now, link(from), first.octets())
     }
 
+    /// What it sends when it hears them.
+    fn replies(&mut self, from: u8, sent: &[Datagram]) -> Option<Vec<Datagram>> {
+        Some(self.hears(from, sent)?.sends)
+    }
+
+    /// The reply with which it performs what comes from link 0.
+    fn performs(&mut self, sent: &[Datagram]) -> Option<OwnedReply> {
+        replied(self.hears(0, sent)?)
+    }
+
     /// It does what is due.
     fn ticks(&mut self) -> Option<Vec<Datagram>> {
         let now = self.shows();
@@ -118,6 +127,13 @@ fn performed_twice_one_beyond(rt: HostRuntime) {
     assert!(rt; performed(rt.alloc(), 4_875) == Some(2));
 }
 
+/// The second node's clock is about to show the next millisecond, and then both go as far apart as they may.
+fn begins(alloc: Global, world: &mut World) -> Option<()> {
+    set_pace(world, 1, 999_999).ok()?;
+    tell(alloc, world, "advance 1")?;
+    go_apart(world)
+}
+
 /// A world with clocks as those above.
 fn world_at_the_bound(alloc: Global) -> Option<World> {
     let pace = Pace {
@@ -127,22 +143,22 @@ fn world_at_the_bound(alloc: Global) -> Option<World> {
     let Ok(mut world) = drifting(alloc, pace, &[0, 0, 0])? else {
         return None;
     };
-    set_pace(&mut world, 1, 999_999).ok()?;
-    told(alloc, &mut world, "advance 1")?;
-    go_apart(&mut world)?;
+    begins(alloc, &mut world)?;
     Some(world)
 }
 
 /// The same in a world: how often the request is performed, and how many datagrams were sent. The fourth is the kept answer, for the last copy.
 fn performed_in_a_world(alloc: Global, last: &str) -> Option<(usize, usize)> {
     let mut world = world_at_the_bound(alloc)?;
-    let mut followed = Followed::from_opening(alloc, &world)?;
+    repeats(alloc, &mut world, last)?;
+    Some((performed_in(alloc, &world)?, world.copies().len()))
+}
+
+fn repeats(alloc: Global, world: &mut World, last: &str) -> Option<()> {
     let first = "ask 0 1 append 10:1 AB\ndeliver 0\nadvance 60061\ntick 0";
-    told(alloc, &mut world, first)?;
-    told(alloc, &mut world, last)?;
-    told(alloc, &mut world, "deliver 2")?;
-    followed.follow(alloc, &world)?;
-    Some((followed.counts().performed, world.copies().len()))
+    tell(alloc, world, first)?;
+    tell(alloc, world, last)?;
+    tell(alloc, world, "deliver 2")
 }
 
 #[test]
@@ -179,16 +195,22 @@ impl Late {
     /// The client reads the description again, and hears the copy of segment 0; the server hears the request. What the client acknowledges, and the reply.
     fn reads_again(&mut self, alloc: Global) -> Option<(Vec<Datagram>, OwnedReply)> {
         let asked = self.client.asks(alloc, "read 0:7 28")?;
-        let heard = self.client.hears(1, &self.segment)?;
-        let reply = replied(self.server.hears(0, &asked)?)?;
-        Some((heard.sends, reply))
+        let sends = self.client.replies(1, &self.segment)?;
+        let reply = self.server.performs(&asked)?;
+        Some((sends, reply))
     }
 
     /// The server takes that, and sends segment 1; the answer that the client has then.
     fn ends(&mut self, acknowledged: &[Datagram]) -> Option<OwnedReply> {
-        let rest = self.server.hears(0, acknowledged)?;
-        let heard = self.client.hears(1, &rest.sends)?;
-        answered(heard.ended)
+        let rest = self.server.replies(0, acknowledged)?;
+        answered(self.client.hears(1, &rest)?.ended)
+    }
+
+    /// Whether the answer that the client has in the end is none that the server gave.
+    fn is_mixed(&mut self, alloc: Global) -> Option<bool> {
+        let (acknowledged, second) = self.reads_again(alloc)?;
+        let answer = self.ends(&acknowledged)?;
+        Some(!same_reply(&answer, &self.answer) && !same_reply(&answer, &second))
     }
 }
 
@@ -236,16 +258,26 @@ fn described_server(alloc: Global, life: u64) -> Option<Timed> {
     })
 }
 
-/// The client's clock shows 0 when it restarts, and is fast. The request arrives after so many milliseconds, and the server, whose clock is slow from then on,
-/// sends segment 0 again in the last of the entry. So many milliseconds pass, after which that copy may arrive.
-fn late_segment(alloc: Global, life: u64) -> Option<Late> {
+/// The server's answer to what the client asked, and what it sends again in the last of the entry.
+fn answered_late(
+    alloc: Global,
+    server: &mut Timed,
+    life: u64,
+) -> Option<(OwnedReply, Vec<Datagram>)> {
     let asked = asked_before(alloc)?;
-    let mut client = client_anew(alloc)?;
-    let mut server = described_server(alloc, life)?;
-    let answer = replied(server.hears(0, &asked)?)?;
+    let answer = server.performs(&asked)?;
     server.passes(LAST_OF_ENTRY);
     let segment = server.ticks()?;
     server.passes(life);
+    Some((answer, segment))
+}
+
+/// The client's clock shows 0 when it restarts, and is fast. The request arrives after so many milliseconds, and the server, whose clock is slow from then on,
+/// sends segment 0 again in the last of the entry. So many milliseconds pass, after which that copy may arrive.
+fn late_segment(alloc: Global, life: u64) -> Option<Late> {
+    let mut server = described_server(alloc, life)?;
+    let (answer, segment) = answered_late(alloc, &mut server, life)?;
+    let mut client = client_anew(alloc)?;
     client.passes(life.saturating_add(LAST_OF_ENTRY).saturating_add(life));
     Some(Late {
         client,
@@ -261,9 +293,7 @@ fn is_mixed(alloc: Global, life: u64, later: u64) -> Option<bool> {
     let mut late = late_segment(alloc, life)?;
     late.changes(alloc)?;
     late.passes(later);
-    let (acknowledged, second) = late.reads_again(alloc)?;
-    let answer = late.ends(&acknowledged)?;
-    Some(!same_reply(&answer, &late.answer) && !same_reply(&answer, &second))
+    late.is_mixed(alloc)
 }
 
 /// Where copies live 4,929 ms, a client that restarted may ask again only when a segment of an answer to the ask before has been lost. Where they live one more,

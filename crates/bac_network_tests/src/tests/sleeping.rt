@@ -69,11 +69,15 @@ fn next_due(world: &World) -> u64 {
     first
 }
 
+fn does_what_is_due(world: &mut World, node: usize) -> Option<()> {
+    happens(world, &Event::Tick { node })
+}
+
 /// Nodes do what is due.
 fn settle(world: &mut World, driver: Driver) -> Option<()> {
     for node in 0..world.nodes().len() {
         if matches!(driver, Driver::Ticks) || is_due(world, node) {
-            happens(world, &Event::Tick { node })?;
+            does_what_is_due(world, node)?;
         }
     }
     Some(())
@@ -85,10 +89,14 @@ fn goes_on(world: &mut World, driver: Driver, event: &Event) -> Option<()> {
     settle(world, driver)
 }
 
+fn passes(world: &mut World, driver: Driver, by: u64) -> Option<()> {
+    goes_on(world, driver, &Event::Advance { by })
+}
+
 /// So many milliseconds pass, one after the other.
 fn tick(world: &mut World, milliseconds: u64) -> Option<()> {
     for _ in 0..milliseconds {
-        goes_on(world, Driver::Ticks, &Event::Advance { by: 1 })?;
+        passes(world, Driver::Ticks, 1)?;
     }
     Some(())
 }
@@ -98,7 +106,7 @@ fn sleep(world: &mut World, milliseconds: u64) -> Option<()> {
     let end = world.now().saturating_add(milliseconds);
     for _ in 0..milliseconds {
         let by = next_due(world).min(end).saturating_sub(world.now());
-        goes_on(world, Driver::Sleeps, &Event::Advance { by })?;
+        passes(world, Driver::Sleeps, by)?;
         if world.now() == end {
             return Some(());
         }
@@ -172,6 +180,16 @@ impl Drivers {
         self.go_on(&Event::Noise { node, from, octets })
     }
 
+    fn change(&mut self, alloc: Global, chance: &mut Chance) -> Option<()> {
+        let event = change(alloc, chance)?;
+        self.go_on(&event)
+    }
+
+    fn restart(&mut self, alloc: Global, chance: &mut Chance) -> Option<()> {
+        let event = restart(alloc, chance)?;
+        self.go_on(&event)
+    }
+
     /// Both stand still.
     fn pause(&mut self, chance: &mut Chance) -> Option<()> {
         let least = PAUSES.get(chance.below(PAUSES.len())).copied().unwrap_or(0);
@@ -184,9 +202,9 @@ impl Drivers {
         match chance.below(64) {
             0..=11 => self.ask(alloc, chance),
             12..=16 => self.wait(chance),
-            17..=19 => self.go_on(&change(alloc, chance)?),
+            17..=19 => self.change(alloc, chance),
             20..=22 => self.hear(alloc, chance),
-            23 => self.go_on(&restart(alloc, chance)?),
+            23 => self.restart(alloc, chance),
             24 | 25 => self.pause(chance),
             _ => self.deliver(chance),
         }

@@ -129,10 +129,7 @@ fn happens(alloc: Global, world: &mut World, line: &str) -> Option<()> {
             Ok(None) => Some(()),
             _ => None,
         },
-        None => {
-            told(alloc, world, line)?;
-            Some(())
-        }
+        None => tell(alloc, world, line),
     }
 }
 
@@ -145,11 +142,11 @@ fn is_told(counts: &Counts, row: &Row) -> bool {
 }
 
 /// The place of the first row after which the log has something else.
-fn goes_otherwise(alloc: Global, mut world: World, rows: &[Row]) -> Option<Option<usize>> {
-    let mut followed = Followed::from_opening(alloc, &world)?;
+fn goes_otherwise(alloc: Global, world: &mut World, rows: &[Row]) -> Option<Option<usize>> {
+    let mut followed = Followed::from_opening(alloc, world)?;
     for (place, row) in rows.iter().enumerate() {
-        happens(alloc, &mut world, row.0)?;
-        followed.follow(alloc, &world)?;
+        happens(alloc, world, row.0)?;
+        followed.follow(alloc, world)?;
         if !is_told(&followed.counts(), row) {
             return Some(Some(place));
         }
@@ -159,7 +156,7 @@ fn goes_otherwise(alloc: Global, mut world: World, rows: &[Row]) -> Option<Optio
 
 fn goes(alloc: Global, rows: &[Row]) -> bool {
     match SMALL_ONES.world(alloc) {
-        Some(world) => goes_otherwise(alloc, world, rows) == Some(None),
+        Some(mut world) => goes_otherwise(alloc, &mut world, rows) == Some(None),
         None => false,
     }
 }
@@ -189,16 +186,20 @@ fn is_refused(alloc: Global, world: &mut World, row: &Refused) -> Option<bool> {
 }
 
 fn are_refused(alloc: Global) -> Option<bool> {
-    let mut world = SMALL_ONES.world(alloc)?;
-    let mut twin = SMALL_ONES.world(alloc)?;
-    told(alloc, &mut world, "ask 0 1 read 0:5 85")?;
-    told(alloc, &mut twin, "ask 0 1 read 0:5 85")?;
+    let mut world = world_with_an_ask(alloc)?;
+    let twin = world_with_an_ask(alloc)?;
     for row in REFUSED {
         if !is_refused(alloc, &mut world, row)? || !world.same(&twin) {
             return Some(false);
         }
     }
     Some(true)
+}
+
+fn world_with_an_ask(alloc: Global) -> Option<World> {
+    let mut world = SMALL_ONES.world(alloc)?;
+    tell(alloc, &mut world, "ask 0 1 read 0:5 85")?;
+    Some(world)
 }
 
 #[test]
