@@ -44,6 +44,22 @@ static void stop(void)
     bac_close(&server);
 }
 
+/* an object with limits is listed, and looked at as bac_start would */
+static void look(void)
+{
+    bac_node node = BAC_NODE_EMPTY;
+    bac_refused refused = { 0, 0, BAC_FLAW_TYPE };
+    uint8_t real[5];
+    bac_put_float(real, 20.0f);
+    status = bac_open(&node);
+    if (!status) { status = bac_add_object(&node, 2, 1, (const uint8_t *)"set", 3); }
+    if (!status) { status = bac_add_property(&node, 85, real, sizeof real, true); }
+    if (!status) { status = bac_limit_float(&node, 5.0f, 35.0f); }
+    if (!status) { status = bac_start_problem(&node, &refused); }
+    if (!status && refused.flaw != BAC_FLAW_NONE) { status = BAC_BAD_OBJECT; }
+    bac_close(&node);
+}
+
 static void read_one(void) { status = bac_on(&server, now, ELSEWHERE, QUESTION, sizeof QUESTION); }
 static void drop_one(void) { status = bac_on(&server, now, ELSEWHERE, QUESTION, 3); }
 static void tick(void) { status = bac_tick(&server, now); }
@@ -183,6 +199,7 @@ static int single_rows(void)
 {
     int failed = row("nothing", nothing);
     failed |= row("two houses are started", start);
+    failed |= row("an object is listed and looked at", look);
     failed |= row("a read that is answered", read_one);
     failed |= row("its repeat", read_one);
     failed |= row("a datagram that is dropped", drop_one);
