@@ -72,9 +72,16 @@ apart_at p at [] d other = tt
 apart_at p zero (c ∷ cs) d other = other
 apart_at p (suc at) (c ∷ cs) d other = apart_at p at cs d other
 
+less_of : (p c : ℕ) → p ≤ c → (c ≡ p → ⊥) → p < c
+less_of p c le other = go (c == p) refl
+  where
+    go : (b : Bool) → (c == p) ≡ b → p < c
+    go true e = let same : c ≡ p = grind (arith, nat_tests, e) in absurd (other same)
+    go false e = grind (arith, nat_tests, e, le)
+
 rises : (cs : List Cell) (at : ℕ) (x : Cell) → IsRising cs → AreBelow x.place at cs → IsNextFrom x.place at cs → IsApartAt x.place at cs → IsRising (insert cs at x)
 rises [] zero x rise below next other = (tt, tt)
-rises (c ∷ cs) zero x rise below next other = let less : x.place < c.place = omega (arith, next, other) in ((less, above_all x.place c cs less rise.0), rise)
+rises (c ∷ cs) zero x rise below next other = let less : x.place < c.place = less_of x.place c.place next other in ((less, above_all x.place c cs less rise.0), rise)
 rises [] (suc at) x rise below next other = (tt, tt)
 rises (c ∷ cs) (suc at) x rise below next other = (all_inserted c.place at x cs below.0 rise.0, rises cs at x rise.1 below.1 next other)
 
@@ -126,10 +133,11 @@ rises_set (c ∷ cs) (suc at) x d rise l same below = (all_set c.place at x cs b
 
 pub is_held : (cs : List Cell) (at : ℕ) (d : Cell) → at < length cs → held cs (get_or cs at d).place ≢ None
 is_held [] at d l = absurd (omega (arith, l))
-is_held (c ∷ cs) zero d l = let same : (c.place == c.place) ≡ true = grind (arith, nat_tests) in λ none. go (rw same at none)
+is_held (c ∷ cs) zero d l = λ none. go (c.place == c.place) refl none
   where
-    go : Some c.octets.items ≡ None → ⊥
-    go e = cc
+    go : (b : Bool) → (c.place == c.place) ≡ b → (if b then Some c.octets.items else held cs c.place) ≡ None → ⊥
+    go true e none = cc
+    go false e none = let same : (c.place == c.place) ≡ true = grind (arith, nat_tests) in cc
 is_held (c ∷ cs) (suc at) d l = λ none. go ((get_or cs at d).place == c.place) refl none
   where
     go : (b : Bool) → ((get_or cs at d).place == c.place) ≡ b → (if b then Some c.octets.items else held cs (get_or cs at d).place) ≡ None → ⊥

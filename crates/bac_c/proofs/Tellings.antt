@@ -11,12 +11,12 @@ use Rattle.bac_store.specs.Kept.{IsInOrder}
 use Rattle.bac_store.specs.Replies.{reply_to}
 use Rattle.bac_store.specs.Stores.{File, Property, Store}
 use Rattle.bac_store.specs.Writes.{file_at, listed_at}
-use Rattle.bac_keep.specs.Cells.{Cells, NUMBERS, file_place, with_cell}
+use Rattle.bac_keep.specs.Cells.{Cells, NUMBERS, file_place, value_place, with_cell}
 use Rattle.bac_keep.specs.Made.{IsKeepable, Made, after_made}
 use Rattle.bac_keep.specs.Made.Made.{Changed, Performed}
 use Rattle.bac_keep.specs.Noted.{chunk_count, octets_noted, values_noted, with_octets_of, with_property}
 use Rattle.bac_keep.specs.Overlay.{chunk, overlay, with_chunks, with_file}
-use Rattle.bac_c.specs.Telling.{CONTENTS, HasPlaces, Told, count_part, octets_count, octets_told, part_told, put, put_all, put_first, put_made, value_told, values_count}
+use Rattle.bac_c.specs.Telling.{CONTENTS, HasPlaces, Told, count_part, has_cell, octets_count, octets_told, part_told, put, put_all, put_first, put_made, value_told, values_count}
 use Rattle.bac_c.proofs.KeptNotes.{changed_octets, changed_value, performed_octets, performed_value}
 
 -- ---- of a property
@@ -31,13 +31,19 @@ values_put s id n cells small =
     fits : nat_lt n NUMBERS ≡ true
     fits = grind (arith, nat_tests)
 
-    by_flag : (p : Property) (b : Bool) → p.writable ≡ b → put_first (value_told id n (Some p)) (values_count n (Some p)) cells ≡ with_property id n (Some p) cells
-    by_flag p true e = rw (e, fits) refl
-    by_flag p false e = rw e refl
+    flag : (w : Bool) → (w && nat_lt n NUMBERS) ≡ w
+    flag true = fits
+    flag false = refl
+
+    by_flag : (p : Property) (b : Bool)
+        → put_first (λ k. if b && (k == 0) then Some (record { place = value_place id n; octets = p.values }) else None) (if b then 1 else 0) cells
+        ≡ (if b then with_cell (value_place id n) p.values cells else cells)
+    by_flag p true = refl
+    by_flag p false = refl
 
     go : (x : Option Property) → put_first (value_told id n x) (values_count n x) cells ≡ with_property id n x cells
     go None = refl
-    go (Some p) = by_flag p p.writable refl
+    go (Some p) = by_flag p (has_cell n p) ∙ ap (λ b. if b then with_cell (value_place id n) p.values cells else cells) (flag p.writable)
 
 -- ---- of a file
 
@@ -46,7 +52,8 @@ chunks_put : (id : ObjectId) (octets : List ℕ) (cells : Cells) (c : ℕ) → c
 chunks_put id octets cells zero l = refl
 chunks_put id octets cells (suc k) l =
     let below : nat_lt k (chunk_count octets) ≡ true = grind (arith, nat_tests, l) in
-    let here : part_told id octets k ≡ Some (record { place = file_place id (suc k); octets = chunk octets k }) = rw below refl in
+    let here : part_told id octets k ≡ Some (record { place = file_place id (suc k); octets = chunk octets k }) =
+    ap (λ b. if b then Some (record { place = file_place id (suc k); octets = chunk octets k }) else count_part id (chunk_count octets) k) below in
     ap (λ (t : Option Told). put t (put_first (part_told id octets) k cells)) here
     ∙ ap (λ (x : Cells). with_cell (file_place id (suc k)) (chunk octets k) x) (chunks_put id octets cells k (omega (arith, l)))
 
