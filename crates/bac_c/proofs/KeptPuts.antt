@@ -1,12 +1,14 @@
 -- A cell that is put among cells whose places rise.
-use Rattle.std.proofs.Common.{◌≡◌, ◌≢◌, ◌==◌, ℕ, zero, suc, ◌<◌, ◌≤◌, Bool, true, false, List, [], ◌∷◌, ◌++◌, length, take, drop, get_or, Option, Some, None, refl, sym, ap, ◌∙◌, subst, arith, if◌then◌else◌}
+use Rattle.std.proofs.Common.{◌≡◌, ◌≢◌, ◌==◌, ℕ, zero, suc, ◌<◌, ◌≤◌, Bool, true, false, List, [], ◌∷◌, ◌++◌, length, map, take, drop, get_or, Option, Some, None, refl, sym, ap, ◌∙◌, subst, arith, if◌then◌else◌}
 use Rattle.std.specs.List.{AllByRecursion, insert}
 use Rattle.std.specs.Prelude.{set}
 use Rattle.std.proofs.lemmas.Bool.Decides.{nat_tests}
 use Rattle.bac_keep.specs.declared.cell.Cell.{Cell}
+use Rattle.bac_store.specs.Stores.{Store}
 use Rattle.bac_keep.specs.Cells.{Cells, with_cell}
+use Rattle.bac_keep.specs.Overlay.{overlay}
 use Rattle.bac_keep.specs.Rows.{IsRising, held}
-use Rattle.bac_c.specs.Kept.{AreBelow, IsFaultAt, IsNextFrom, IsOfList}
+use Rattle.bac_c.specs.Kept.{AreBelow, IsFaultAt, IsNextFrom, IsOf, IsOfList, cells_in, entry}
 use Rattle.bac_c.specs.declared.kept_fault.KeptFault.{KeptFault}
 use Rattle.bac_c.specs.declared.kept_fault.KeptFault.TheVariants as fault
 
@@ -57,7 +59,7 @@ all_inserted p (suc at) x [] less all = (less, tt)
 all_inserted p (suc at) x (c ∷ cs) less all = (all.0, all_inserted p at x cs less all.1)
 
 -- the next cell has another place
-IsApartAt : (place index : ℕ) → List Cell → Type 0
+abbrev IsApartAt : (place index : ℕ) → List Cell → Type 0
 IsApartAt p i [] = Unit {0}
 IsApartAt p zero (c ∷ cs) = (c.place ≡ p) → ⊥
 IsApartAt p (suc i) (c ∷ cs) = IsApartAt p i cs
@@ -138,11 +140,11 @@ is_held (c ∷ cs) zero d l = λ none. go (c.place == c.place) refl none
     go : (b : Bool) → (c.place == c.place) ≡ b → (if b then Some c.octets.items else held cs c.place) ≡ None → ⊥
     go true e none = cc
     go false e none = let same : (c.place == c.place) ≡ true = grind (arith, nat_tests) in cc
-is_held (c ∷ cs) (suc at) d l = λ none. go ((get_or cs at d).place == c.place) refl none
+is_held (c ∷ cs) (suc at) d l = λ none. go ((get_or cs at d).place == c.place) (is_held cs at d (omega (arith, l))) none
   where
-    go : (b : Bool) → ((get_or cs at d).place == c.place) ≡ b → (if b then Some c.octets.items else held cs (get_or cs at d).place) ≡ None → ⊥
-    go true e none = cc
-    go false e none = is_held cs at d (omega (arith, l)) none
+    go : (b : Bool) → held cs (get_or cs at d).place ≢ None → (if b then Some c.octets.items else held cs (get_or cs at d).place) ≡ None → ⊥
+    go true there none = cc
+    go false there none = there none
 
 pub is_of : (cs : List Cell) (at : ℕ) (d : Cell) (p : ℕ) → at < length cs → get_or cs at d ≡ d → d.place ≡ p → IsOfList (fault.Wrong p) cs
 is_of cs at d p l is same = subst (λ (q : ℕ). held cs q ≢ None) (ap (λ (x : Cell). x.place) is ∙ same) (is_held cs at d l)
@@ -150,3 +152,50 @@ is_of cs at d p l is same = subst (λ (q : ℕ). held cs q ≢ None) (ap (λ (x 
 pub fault_is_of : (cs : List Cell) (at : ℕ) (d : Cell) (p : ℕ) (e : KeptFault) → at < length cs → get_or cs at d ≡ d → d.place ≡ p → IsFaultAt p e → IsOfList e cs
 fault_is_of cs at d p (fault.Wrong q) l is same that = is_of cs at d q l is (same ∙ sym that)
 fault_is_of cs at d p fault.NoMemory l is same that = tt
+
+pub memory_is_of : (cs : List Cell) (e : KeptFault) → e ≡ fault.NoMemory → IsOfList e cs
+memory_is_of cs e is = subst (λ (x : KeptFault). IsOfList x cs) (sym is) tt
+
+-- ---- what a C program sees of a list of cells
+
+held_entries : (cs : List Cell) → cells_in (map entry cs) ≡ held cs
+held_entries [] = refl
+held_entries (c ∷ cs) = ap (λ (x : Cells). with_cell c.place c.octets.items x) (held_entries cs)
+
+pub entries_inserted : (cs new : List Cell) (at : ℕ) (x : Cell) (octets : List ℕ) → new ≡ insert cs at x → AreBelow x.place at cs → x.octets.items ≡ octets
+    → cells_in (map entry new) ≡ with_cell x.place octets (cells_in (map entry cs))
+entries_inserted cs new at x octets is below same =
+    held_entries new
+    ∙ ap held is
+    ∙ cells_inserted cs at x below
+    ∙ ap (λ (o : List ℕ). with_cell x.place o (held cs)) same
+    ∙ ap (λ (y : Cells). with_cell x.place octets y) (sym (held_entries cs))
+
+pub entries_set : (cs new : List Cell) (at : ℕ) (x d : Cell) (octets : List ℕ) → new ≡ set cs at x → at < length cs → get_or cs at d ≡ d → d.place ≡ x.place
+    → AreBelow x.place at cs → x.octets.items ≡ octets → cells_in (map entry new) ≡ with_cell x.place octets (cells_in (map entry cs))
+entries_set cs new at x d octets is l there same below octets_same =
+    held_entries new
+    ∙ ap held is
+    ∙ cells_set cs at x d l (ap (λ (c : Cell). c.place) there ∙ same) below
+    ∙ ap (λ (o : List ℕ). with_cell x.place o (held cs)) octets_same
+    ∙ ap (λ (y : Cells). with_cell x.place octets y) (sym (held_entries cs))
+
+pub rising_set : (cs new : List Cell) (at : ℕ) (x d : Cell) → new ≡ set cs at x → IsRising cs → at < length cs → get_or cs at d ≡ d → d.place ≡ x.place
+    → AreBelow x.place at cs → IsRising new
+rising_set cs new at x d is rise l there same below =
+    subst IsRising (sym is) (rises_set cs at x d rise l (ap (λ (c : Cell). c.place) there ∙ same) below)
+
+pub rising_apart : (cs new : List Cell) (at : ℕ) (x d : Cell) → new ≡ insert cs at x → IsRising cs → AreBelow x.place at cs → IsNextFrom x.place at cs
+    → get_or cs at d ≡ d → (d.place ≡ x.place → ⊥) → IsRising new
+rising_apart cs new at x d is rise below next there other =
+    subst IsRising (sym is) (rises_where_apart cs at x d rise below next (λ e. other (ap (λ (c : Cell). c.place) (sym there) ∙ e)))
+
+pub rising_end : (cs new : List Cell) (at : ℕ) (x : Cell) → new ≡ insert cs at x → IsRising cs → AreBelow x.place at cs → IsNextFrom x.place at cs
+    → length cs ≤ at → IsRising new
+rising_end cs new at x is rise below next past = subst IsRising (sym is) (rises_at_end cs at x rise below next past)
+
+pub overlaid : (cs : List Cell) (document s : Store) → IsRising cs → (IsRising cs → s ≡ overlay (held cs) document) → s ≡ overlay (cells_in (map entry cs)) document
+overlaid cs document s rise is = is rise ∙ ap (λ (x : Cells). overlay x document) (sym (held_entries cs))
+
+pub fault_of_entries : (cs : List Cell) (e : KeptFault) → IsOfList e cs → IsOf e (cells_in (map entry cs))
+fault_of_entries cs e of = subst (λ (x : Cells). IsOf e x) (sym (held_entries cs)) of

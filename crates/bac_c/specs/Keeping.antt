@@ -12,6 +12,7 @@ use Rattle.bac_node.specs.declared.config.Config.{Config}
 use Rattle.bac_keep.specs.Cells.{Cells, with_cell}
 use Rattle.bac_keep.specs.Overlay.{overlay}
 use Rattle.bac_c.specs.Asking.{identifier_of}
+use Rattle.bac_c.specs.Kept.{cells_in}
 use Rattle.bac_c.specs.Performing.{is_done}
 use Rattle.bac_c.specs.Ranges.{is_reference}
 use Rattle.bac_c.specs.Starting.{IsConfigOf, listed_in}
@@ -67,7 +68,7 @@ cell_in (Some d) r k = cell_at r k d.node
 
 -- a cell is listed, instead of the one at its place, and nothing else
 pub record IsPut (place : ℕ) (octets : List ℕ) (d e : Device) : Type 0 where
-  pub kept : e.kept ≡ with_cell place octets d.kept
+  pub kept : cells_in e.kept ≡ with_cell place octets (cells_in d.kept)
   pub listed : e.listed ≡ d.listed
   pub node : e.node ≡ d.node
   pub outcome : e.outcome ≡ d.outcome
@@ -89,4 +90,4 @@ abbrev pub IsRestoredNode : (List Object → Store → Type 0) → Settings → 
 IsRestoredNode makes s now objects cells node = MatchOption node ⊥ (IsRestored makes s now objects cells)
 
 abbrev pub HasRestored : (List Object → Store → Type 0) → Settings → (now : ℕ) → (old new : Option Device) → Type 0
-HasRestored makes s now old new = MatchOption old ⊥ (λ d. MatchOption new ⊥ (λ e. IsRestoredNode makes s now (listed_in d) d.kept e.node))
+HasRestored makes s now old new = MatchOption old ⊥ (λ d. MatchOption new ⊥ (λ e. IsRestoredNode makes s now (listed_in d) (cells_in d.kept) e.node))

@@ -1,6 +1,5 @@
 //! What is behind a handle.
 ghost use Rattle.std.specs.Prelude.{◌≡◌, ◌↔◌, ◌<◌, ◌≤◌, [], None, Some, IfErr, IfOk, IfSome, IsErrOf, MatchOption, OnErr, OnOk};
-ghost use Rattle.bac_keep.specs.Cells.{no_cells};
 ghost use Rattle.bac_node.specs.Calls.{IsNotHeard};
 ghost use Rattle.bac_node.specs.Waiting.{MovesAt, RestsUntil};
 ghost use Rattle.bac_requester.specs.Timers.{LAST_MOMENT};
@@ -42,7 +41,7 @@ impl Device {
     /// No objects, no cells and no node.
     pub fn new(alloc: Global) -> Device
         ensures listed { result.listed.items ≡ [] }
-        ensures kept { result.kept ≡ no_cells }
+        ensures kept { result.kept ≡ [] }
         ensures node { result.node ≡ None }
         ensures quiet { IsQuiet result }
     {

@@ -1,8 +1,8 @@
 //! The cells that are kept for a node that is to be started.
-ghost use Rattle.std.specs.Prelude.{◌≡◌, ◌≤◌, length, IfErr, IfOk, OnErr, OnOk};
-ghost use Rattle.bac_keep.specs.Cells.{no_cells, with_cell};
+ghost use Rattle.std.specs.Prelude.{◌≡◌, ◌≤◌, [], length, IfErr, IfOk, OnErr, OnOk};
+ghost use Rattle.bac_keep.specs.Cells.{with_cell};
 ghost use Rattle.bac_keep.specs.Overlay.{overlay};
-ghost use Rattle.bac_c.specs.Kept.{AreBelow, IsNextFrom, IsOf};
+ghost use Rattle.bac_c.specs.Kept.{AreBelow, IsNextFrom, IsOf, cells_in};
 
 use crate::copying::copied_octets;
 use crate::kept_fault::KeptFault;
@@ -20,12 +20,13 @@ pub struct Kept {
 }
 
 impl Model for Kept {
-    ghost use Rattle.bac_keep.specs.Cells.{Cells};
-    ghost use Rattle.bac_keep.specs.Rows.{IsRising, held};
+    ghost use Rattle.std.specs.Prelude.{ℕ, List, map};
+    ghost use Rattle.bac_keep.specs.Rows.{IsRising};
+    ghost use Rattle.bac_c.specs.Kept.{entry};
 
-    ghost Value = { Cells };
+    ghost Value = { List (ℕ × List ℕ) };
 
-    ghost view = { λ k. held k.cells.items };
+    ghost view = { λ k. map entry k.cells.items };
 
     ghost invariant = { λ k. IsRising k.cells.items };
 }
@@ -48,7 +49,7 @@ fn count_below(cells: &[Cell], place: u64) -> usize
 impl Kept {
     /// No cells.
     pub fn new(alloc: Global) -> Kept
-        ensures { result ≡ no_cells }
+        ensures { result ≡ [] }
     {
         Kept {
             cells: Vec::new(alloc),
@@ -56,9 +57,9 @@ impl Kept {
     }
 
     /// Puts octets at a place, instead of those that are there.
-    #[tactic(auto, using(crate::proofs::KeptPuts::cells_inserted, crate::proofs::KeptPuts::cells_set, crate::proofs::KeptPuts::rises_where_apart, crate::proofs::KeptPuts::rises_at_end, crate::proofs::KeptPuts::rises_set))]
+    #[tactic(auto, using(crate::proofs::KeptPuts::entries_inserted, crate::proofs::KeptPuts::entries_set, crate::proofs::KeptPuts::rising_set, crate::proofs::KeptPuts::rising_apart, crate::proofs::KeptPuts::rising_end))]
     pub fn put(&mut self, alloc: Global, place: u64, octets: &[u8]) -> Result<(), NoMemory>
-        ensures put { OnOk result (self.new ≡ with_cell place octets.now self.old) }
+        ensures put { OnOk result (cells_in self.new ≡ with_cell place octets.now (cells_in self.old)) }
         ensures err { OnErr result (self.new ≡ self.old) }
     {
         let octets = copied_octets(alloc, octets)?;
@@ -73,9 +74,10 @@ impl Kept {
     }
 
     /// The store that a document and these cells make, as [`restored`] says.
+    #[tactic(auto, using(crate::proofs::KeptPuts::overlaid, crate::proofs::KeptPuts::fault_of_entries))]
     pub fn over(&self, alloc: Global, document: &Store) -> Result<Store, KeptFault>
-        ensures made { IfOk result (λ s. s ≡ overlay self.now document.now) }
-        ensures fault { IfErr result (λ e. IsOf e self.now) }
+        ensures made { IfOk result (λ s. s ≡ overlay (cells_in self.now) document.now) }
+        ensures fault { IfErr result (λ e. IsOf e (cells_in self.now)) }
     {
         restored(alloc, document, &self.cells)
     }

@@ -1,6 +1,5 @@
 //! Start of a node with kept cells over the store of its objects.
 ghost use Rattle.std.specs.Prelude.{◌≡◌, ◌≢◌, ◌↔◌, [], true, IfErr, IfOk, IsErrOf, IsTrue, None, OnErr, OnOk, Some};
-ghost use Rattle.bac_keep.specs.Cells.{no_cells};
 ghost use Rattle.bac_keep.specs.Overlay.{overlay};
 ghost use Rattle.bac_node.specs.Fresh.{has_large_slots, made_node, window_fits};
 ghost use Rattle.bac_store.specs.Described.{AreDescribed, IsDescribedBy};
@@ -8,6 +7,7 @@ ghost use Rattle.bac_store.specs.Made.{IsMadeOf};
 ghost use Rattle.bac_store.specs.Objects.{AreDistinct};
 ghost use Rattle.bac_c.specs.Devices.{Holds, IsIdle, IsQuiet};
 ghost use Rattle.bac_c.specs.Keeping.{HasRestored, IsRestoredNode};
+ghost use Rattle.bac_c.specs.Kept.{cells_in};
 ghost use Rattle.bac_c.specs.Starting.{IsBad, IsReady, is_right, listed_in};
 ghost use Rattle.bac_c.specs.Statuses.{fault_number, is_one_of, status_of, DESCRIBED_RESTORING, RESTORING, WITH_CELLS};
 ghost use Rattle.bac_c.specs.Statuses.{ALREADY_STARTED, BAD_OBJECT, BAD_SETTINGS, BAD_VALUE, DONE, DUPLICATE, NOT_OPEN, NO_MEMORY};
@@ -37,9 +37,9 @@ fn restored_node(
 ) -> Result<Node, Fault>
     requires slots { has_large_slots config ≡ true }
     requires window { window_fits config.window ≡ true }
-    ensures made { IfOk result (λ n. n ≡ made_node config (overlay kept.now document.now) (Some now)) }
+    ensures made { IfOk result (λ n. n ≡ made_node config (overlay (cells_in kept.now) document.now) (Some now)) }
     ensures few { IfErr result (λ e. IsTrue (is_one_of WITH_CELLS (fault_number e))) }
-    ensures place { IsErrOf result Fault.BadValue → kept.now place.new ≢ None }
+    ensures place { IsErrOf result Fault.BadValue → cells_in kept.now place.new ≢ None }
     ensures kept { (IsErrOf result Fault.BadValue → ⊥) → place.new ≡ place.old }
 {
     match kept.over(alloc, document) {
@@ -58,7 +58,7 @@ impl Device {
         ensures node { self.new.node ≡ Some node }
         ensures quiet { IsQuiet self.new }
         ensures unlisted { self.new.listed.items ≡ [] }
-        ensures unkept { self.new.kept ≡ no_cells }
+        ensures unkept { self.new.kept ≡ [] }
     {
         self.listed = Vec::new(alloc);
         self.kept = Kept::new(alloc);
@@ -75,16 +75,16 @@ impl Device {
         now: u64,
         place: &mut u64,
     ) -> Result<(), Fault>
-        ensures started { OnOk result (IsRestoredNode IsMadeOf settings.now now (listed_in self.old) self.old.kept self.new.node) }
+        ensures started { OnOk result (IsRestoredNode IsMadeOf settings.now now (listed_in self.old) (cells_in self.old.kept) self.new.node) }
         ensures quiet { OnOk result (IsQuiet self.new) }
         ensures unlisted { OnOk result (self.new.listed.items ≡ []) }
-        ensures unkept { OnOk result (self.new.kept ≡ no_cells) }
+        ensures unkept { OnOk result (self.new.kept ≡ []) }
         ensures again { IsErrOf result Fault.AlreadyStarted ↔ (self.old.node ≢ None) }
         ensures settings { IsErrOf result Fault.BadSettings ↔ IsIdle self.old × (IsTrue (is_right settings.now) → ⊥) }
         ensures duplicate { (IsErrOf result Fault.NoMemory → ⊥)
             → (IsErrOf result Fault.Duplicate ↔ IsReady settings.now self.old × (AreDistinct (listed_in self.old) → ⊥)) }
         ensures bad { (IsErrOf result Fault.NoMemory → ⊥) → (IsErrOf result Fault.BadObject ↔ IsReady settings.now self.old × IsBad (listed_in self.old)) }
-        ensures place { IsErrOf result Fault.BadValue → self.old.kept place.new ≢ None }
+        ensures place { IsErrOf result Fault.BadValue → cells_in self.old.kept place.new ≢ None }
         ensures kept { (IsErrOf result Fault.BadValue → ⊥) → place.new ≡ place.old }
         ensures few { IsTrue (is_one_of RESTORING (status_of result)) }
         ensures open { IsErrOf result Fault.NotOpen → ⊥ }
@@ -111,15 +111,15 @@ impl Device {
         now: u64,
         place: &mut u64,
     ) -> Result<(), Fault>
-        ensures started { OnOk result (IsRestoredNode IsDescribedBy settings.now now (listed_in self.old) self.old.kept self.new.node) }
+        ensures started { OnOk result (IsRestoredNode IsDescribedBy settings.now now (listed_in self.old) (cells_in self.old.kept) self.new.node) }
         ensures quiet { OnOk result (IsQuiet self.new) }
         ensures unlisted { OnOk result (self.new.listed.items ≡ []) }
-        ensures unkept { OnOk result (self.new.kept ≡ no_cells) }
+        ensures unkept { OnOk result (self.new.kept ≡ []) }
         ensures again { IsErrOf result Fault.AlreadyStarted ↔ (self.old.node ≢ None) }
         ensures settings { IsErrOf result Fault.BadSettings ↔ IsIdle self.old × (IsTrue (is_right settings.now) → ⊥) }
         ensures bad { (IsErrOf result Fault.NoMemory → ⊥)
             → (IsErrOf result Fault.BadObject ↔ IsReady settings.now self.old × (AreDescribed (listed_in self.old) → ⊥)) }
-        ensures place { IsErrOf result Fault.BadValue → self.old.kept place.new ≢ None }
+        ensures place { IsErrOf result Fault.BadValue → cells_in self.old.kept place.new ≢ None }
         ensures kept { (IsErrOf result Fault.BadValue → ⊥) → place.new ≡ place.old }
         ensures few { IsTrue (is_one_of DESCRIBED_RESTORING (status_of result)) }
         ensures open { IsErrOf result Fault.NotOpen → ⊥ }
@@ -151,14 +151,14 @@ pub extern "C" fn bac_start_kept(
 ) -> u32
     ensures went { result ≡ DONE → HasRestored IsMadeOf settings.now now handle.old.parked.device handle.new.parked.device }
     ensures quiet { result ≡ DONE → Holds IsQuiet handle.new.parked.device }
-    ensures unlisted { result ≡ DONE → Holds (λ d. (d.listed.items ≡ []) × (d.kept ≡ no_cells)) handle.new.parked.device }
+    ensures unlisted { result ≡ DONE → Holds (λ d. (d.listed.items ≡ []) × (d.kept ≡ [])) handle.new.parked.device }
     ensures closed { (result ≡ NOT_OPEN) ↔ (handle.old.parked.device ≡ None) }
     ensures again { (result ≡ ALREADY_STARTED) ↔ Holds (λ d. d.node ≢ None) handle.old.parked.device }
     ensures settings { (result ≡ BAD_SETTINGS) ↔ Holds (λ d. IsIdle d × (IsTrue (is_right settings.now) → ⊥)) handle.old.parked.device }
     ensures duplicate { result ≢ NO_MEMORY
         → ((result ≡ DUPLICATE) ↔ Holds (λ d. IsReady settings.now d × (AreDistinct (listed_in d) → ⊥)) handle.old.parked.device) }
     ensures bad { result ≢ NO_MEMORY → ((result ≡ BAD_OBJECT) ↔ Holds (λ d. IsReady settings.now d × IsBad (listed_in d)) handle.old.parked.device) }
-    ensures place { result ≡ BAD_VALUE → Holds (λ d. d.kept place.new ≢ None) handle.old.parked.device }
+    ensures place { result ≡ BAD_VALUE → Holds (λ d. cells_in d.kept place.new ≢ None) handle.old.parked.device }
     ensures kept { result ≢ BAD_VALUE → place.new ≡ place.old }
     ensures few { IsTrue (is_one_of RESTORING result) }
     ensures err { result ≢ DONE → handle.new.parked.device ≡ handle.old.parked.device }
@@ -182,13 +182,13 @@ pub extern "C" fn bac_start_described_kept(
 ) -> u32
     ensures went { result ≡ DONE → HasRestored IsDescribedBy settings.now now handle.old.parked.device handle.new.parked.device }
     ensures quiet { result ≡ DONE → Holds IsQuiet handle.new.parked.device }
-    ensures unlisted { result ≡ DONE → Holds (λ d. (d.listed.items ≡ []) × (d.kept ≡ no_cells)) handle.new.parked.device }
+    ensures unlisted { result ≡ DONE → Holds (λ d. (d.listed.items ≡ []) × (d.kept ≡ [])) handle.new.parked.device }
     ensures closed { (result ≡ NOT_OPEN) ↔ (handle.old.parked.device ≡ None) }
     ensures again { (result ≡ ALREADY_STARTED) ↔ Holds (λ d. d.node ≢ None) handle.old.parked.device }
     ensures settings { (result ≡ BAD_SETTINGS) ↔ Holds (λ d. IsIdle d × (IsTrue (is_right settings.now) → ⊥)) handle.old.parked.device }
     ensures bad { result ≢ NO_MEMORY
         → ((result ≡ BAD_OBJECT) ↔ Holds (λ d. IsReady settings.now d × (AreDescribed (listed_in d) → ⊥)) handle.old.parked.device) }
-    ensures place { result ≡ BAD_VALUE → Holds (λ d. d.kept place.new ≢ None) handle.old.parked.device }
+    ensures place { result ≡ BAD_VALUE → Holds (λ d. cells_in d.kept place.new ≢ None) handle.old.parked.device }
     ensures kept { result ≢ BAD_VALUE → place.new ≡ place.old }
     ensures few { IsTrue (is_one_of DESCRIBED_RESTORING result) }
     ensures err { result ≢ DONE → handle.new.parked.device ≡ handle.old.parked.device }

@@ -14,7 +14,7 @@ use bac_value::ObjectIdentifier;
 use std::alloc::Global;
 
 /// The octets of a file, whose number of chunks is in the cell at this index: those of the cells after it. None where one is missing.
-#[tactic(auto, using(crate::proofs::KeptPuts::is_of))]
+#[tactic(auto, using(crate::proofs::KeptPuts::is_of, crate::proofs::KeptPuts::memory_is_of))]
 fn octets_at(
     alloc: Global,
     cells: &[Cell],
@@ -149,6 +149,7 @@ fn restore_cell(
 ///
 /// Returns `Wrong` with the place of a cell that the document has a property or a file for, which can't have what is kept, or of a file without one of its
 /// chunks; `NoMemory` if memory was refused.
+#[tactic(auto, using(crate::proofs::KeptPuts::memory_is_of))]
 pub fn restored(alloc: Global, document: &Store, cells: &[Cell]) -> Result<Store, KeptFault>
     ensures made { IfOk result (λ s. IsRising cells.now → s ≡ overlay (held cells.now) document.now) }
     ensures fault { IfErr result (λ e. IsOfList e cells.now) }
