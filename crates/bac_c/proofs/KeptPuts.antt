@@ -194,8 +194,14 @@ pub rising_end : (cs new : List Cell) (at : ℕ) (x : Cell) → new ≡ insert c
     → length cs ≤ at → IsRising new
 rising_end cs new at x is rise below next past = subst IsRising (sym is) (rises_at_end cs at x rise below next past)
 
-pub overlaid : (cs : List Cell) (document s : Store) → IsRising cs → (IsRising cs → s ≡ overlay (held cs) document) → s ≡ overlay (cells_in (map entry cs)) document
+overlaid : (cs : List Cell) (document s : Store) → IsRising cs → (IsRising cs → s ≡ overlay (held cs) document) → s ≡ overlay (cells_in (map entry cs)) document
 overlaid cs document s rise is = is rise ∙ ap (λ (x : Cells). overlay x document) (sym (held_entries cs))
+
+pub overlaid_as : (cs shown : List Cell) (entries : List (ℕ × List ℕ)) (document s : Store) → shown ≡ cs → entries ≡ map entry cs → IsRising cs
+    → (IsRising shown → s ≡ overlay (held shown) document) → s ≡ overlay (cells_in entries) document
+overlaid_as cs shown entries document s same are rise is =
+    overlaid cs document s rise (subst (λ (x : List Cell). IsRising x → s ≡ overlay (held x) document) same is)
+    ∙ ap (λ (x : List (ℕ × List ℕ)). overlay (cells_in x) document) (sym are)
 
 pub fault_of_entries : (cs : List Cell) (e : KeptFault) → IsOfList e cs → IsOf e (cells_in (map entry cs))
 fault_of_entries cs e of = subst (λ (x : Cells). IsOf e x) (sym (held_entries cs)) of

@@ -29,8 +29,8 @@ house_with s c store n says is fresh = record { config = c; says = says; fresh =
 
 pub restored_with : (Makes : List Object → Store → Type 0) (s : Settings) (c : Config) (now : ℕ) (objects copies : List Object) (cells : Cells) (document : Store) (n : Node)
     → IsConfigOf s c → copies ≡ objects → Makes copies document → n ≡ made_node c (overlay cells document) (Some now)
-    → (node : Option Node) → node ≡ Some n → IsRestoredNode Makes s now objects cells node
-restored_with Makes s c now objects copies cells document n says same made fresh node is =
+    → (running : Option Node) → running ≡ Some n → IsRestoredNode Makes s now objects cells running
+restored_with Makes s c now objects copies cells document n says same made fresh running is =
     subst (λ (x : Option Node). IsRestoredNode Makes s now objects cells x) (sym is) (record {
       config = c;
       says = says;

@@ -74,11 +74,12 @@ impl Kept {
     }
 
     /// The store that a document and these cells make, as [`restored`] says.
-    #[tactic(auto, using(crate::proofs::KeptPuts::overlaid, crate::proofs::KeptPuts::fault_of_entries))]
+    #[tactic(auto, using(crate::proofs::KeptPuts::fault_of_entries))]
     pub fn over(&self, alloc: Global, document: &Store) -> Result<Store, KeptFault>
         ensures made { IfOk result (λ s. s ≡ overlay (cells_in self.now) document.now) }
         ensures fault { IfErr result (λ e. IsOf e (cells_in self.now)) }
     {
-        restored(alloc, document, &self.cells)
+        let store = restored(alloc, document, &self.cells)?;
+        Ok(store)
     }
 }
