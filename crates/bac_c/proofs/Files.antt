@@ -1,6 +1,6 @@
 -- What the store's reply to a read of a whole file says of the file.
-use Rattle.std.proofs.Common.{◌≡◌, ◌∙◌, ◌<◌, ◌≤◌, ℕ, ℤ, pos, Bool, true, false, List, Option, Some, None, length, take, drop, if◌then◌else◌, sym, ap, subst, arith}
-use Rattle.std.specs.Prelude.{nat_lt, is_some}
+use Rattle.std.proofs.Common.{◌≡◌, ◌∙◌, ◌<◌, ◌≤◌, ℕ, ℤ, pos, Bool, true, false, List, Option, Some, None, length, take, if◌then◌else◌, sym, ap, subst, arith}
+use Rattle.std.specs.Prelude.{nat_lt}
 use Rattle.std.specs.Option.{option_map}
 use Rattle.std.proofs.lemmas.Bool.{false≢true}
 use Rattle.std.proofs.lemmas.List.{take_all, length-take}
@@ -8,7 +8,7 @@ use Rattle.bac_value.specs.Value.{ObjectId}
 use Rattle.bac_service.specs.Values.Complex.{FileRead}
 use Rattle.bac_service.specs.Values.Request.{ReadFile}
 use Rattle.bac_service.specs.Values.ReadAccess.{ReadStream}
-use Rattle.bac_service.specs.Replies.{Reply, held_by}
+use Rattle.bac_service.specs.Replies.{held_by}
 use Rattle.bac_service.specs.Replies.Reply.{Complex}
 use Rattle.bac_store.specs.Changes.{is_done}
 use Rattle.bac_store.specs.Replies.{INVALID_FILE_START_POSITION, at_file, file_of as file_in, file_read, read_file_reply, reply_to}

@@ -3,10 +3,9 @@ use Rattle.std.proofs.Common.{◌≡◌, ℕ, zero, suc, ◌<◌, ◌≤◌, Boo
 use Rattle.std.specs.Option.{IfSome}
 use Rattle.std.proofs.lemmas.Bool.Decides.{nat_tests}
 use Rattle.bac_value.specs.Value.{ObjectId}
-use Rattle.bac_service.specs.Values.{Reference, Request}
 use Rattle.bac_service.specs.Values.Request.{ReadFile, WriteFile, ReadProperty, WriteProperty}
 use Rattle.bac_store.specs.AtNode.{Change}
-use Rattle.bac_store.specs.Changes.{after, is_done}
+use Rattle.bac_store.specs.Changes.{is_done}
 use Rattle.bac_store.specs.Kept.{IsInOrder}
 use Rattle.bac_store.specs.Replies.{reply_to}
 use Rattle.bac_store.specs.Stores.{File, Property, Store}

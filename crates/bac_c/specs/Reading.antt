@@ -1,5 +1,5 @@
 -- What a C program reads of the store of its own node.
-use Rattle.std.specs.Prelude.{◌≡◌, ◌≤◌, ℕ, Bool, true, is_some, if◌then◌else◌, List, length, Option, Some, None, MatchOption}
+use Rattle.std.specs.Prelude.{◌≡◌, ℕ, true, is_some, if◌then◌else◌, List, Option, Some, None, MatchOption}
 use Rattle.std.specs.Option.{option_map}
 use Rattle.bac_service.specs.Values as service
 use Rattle.bac_value.specs.Value.{ObjectId}
@@ -8,7 +8,6 @@ use Rattle.bac_store.specs.Stores.{Store, Object, Property, object_in, property_
 use Rattle.bac_c.specs.Asking.{file_of, reference_of}
 use Rattle.bac_c.specs.Devices.{Runs}
 use Rattle.bac_c.specs.Ranges.{is_instance, is_reference}
-use Rattle.bac_c.specs.Results.{IsCopied}
 use Rattle.bac_c.specs.declared.device.Device.{Device}
 use Rattle.bac_c.specs.declared.records.Reference.{Reference}
 

@@ -1,7 +1,6 @@
 -- The cells that a C program is told: what a store has now of a property, or of a file.
 use Rattle.std.specs.Prelude.{◌<◌, ℕ, zero, suc, Bool, ◌&&◌, ◌==◌, nat_lt, List, [], ◌∷◌, Option, Some, None, if◌then◌else◌}
 use Rattle.bac_value.specs.Value.{ObjectId}
-use Rattle.bac_service.specs.Values.{Request}
 use Rattle.bac_service.specs.Values.Request.{ReadFile, WriteFile, ReadProperty, WriteProperty}
 use Rattle.bac_store.specs.AtNode.{Change}
 use Rattle.bac_store.specs.Stores.{File, Property, Store}

@@ -1,5 +1,5 @@
 -- The last chunk may be short.
-use Rattle.std.proofs.Common.{arith, ◌≡◌, ◌+◌, ◌-◌, ◌*◌, ◌∙◌, ap, take, drop, ℕ}
+use Rattle.std.proofs.Common.{arith, ◌≡◌, ◌+◌, ◌-◌, ◌*◌, ap, take, drop, ℕ}
 use Rattle.bac_keep.specs.Overlay.{CHUNK}
 use Rattle.bac_c.proofs.KeptChunks.{last_chunk}
 use Rattle.bac_c.proofs.telling.chunk_of.Goals as goal
