@@ -67,7 +67,7 @@ typedef enum bac_status {
     BAC_NO_SLOT = 15,         /* all client slots are held: each until 135,000 ms after its ask was first sent, also once that has ended */
     BAC_NO_SUCH_OBJECT = 16,
     BAC_NO_SUCH_PROPERTY = 17,
-    BAC_BAD_VALUE = 18        /* a value that the property cannot have */
+    BAC_BAD_VALUE = 18        /* a value that the property cannot have, or a kept cell that does not fit */
 } bac_status;
 
 /* What a node is made of. Set it by BAC_SETTINGS, and then the members that are to be others. */
@@ -247,6 +247,25 @@ bac_status bac_start_described_restarted(bac_node *node, const bac_settings *set
  * BAC_ALREADY_STARTED; BAC_NO_MEMORY. */
 bac_status bac_problem(const bac_node *node, bac_refused *refused);
 
+/* ---- through a power cut: what the network may write, kept by the program in cells. docs/C.md, "Through a power cut", has the order of the calls.
+ *
+ * A cell is octets at a place. A place is a number below 2^55 that stands for a property, or for a part of a file, in each life of the node and in each version
+ * of the library: `bac serve --keep` has the same. A property has one cell. A file has one for each 1,024 octets, or what is left of them, and then one for how
+ * many those are. What the network may not write has none: list it as it is. */
+
+/* Lists a cell that was kept, in any order, and instead of an earlier one of that place. BAC_BAD_OBJECT exactly where no cell has such a place; all else is
+ * looked at by bac_start_kept. BAC_NOT_OPEN, BAC_ALREADY_STARTED, BAC_NO_MEMORY. The other starts leave these cells out of account. */
+bac_status bac_add_kept(bac_node *node, uint64_t place, const uint8_t *octets, size_t len);
+
+/* Starts the node as bac_start_restarted does, and each property and file that the network may write has what the listed cells have of it, where they have
+ * something; limits and lists of values do not hold here. A cell has no effect if there is no such property or file any more, or the network may not write it
+ * any more. Otherwise as bac_start_restarted, and after those BAC_BAD_VALUE: a cell does not fit, as the property has another kind now, or a part of the file is
+ * missing. Its place, of a file that of the number of its parts, is put out then, and only then. */
+bac_status bac_start_kept(bac_node *node, const bac_settings *settings, uint64_t now, uint64_t *place);
+
+/* The same with objects of any type, as bac_start_described_restarted. */
+bac_status bac_start_described_kept(bac_node *node, const bac_settings *settings, uint64_t now, uint64_t *place);
+
 /* Starts it with the house of `bac serve` instead: device 1, analog-input 5, analog-value 1, binary-value 1, file 1. BAC_NOT_OPEN, BAC_ALREADY_STARTED,
  * BAC_BAD_SETTINGS, BAC_NO_MEMORY. */
 bac_status bac_start_house(bac_node *node, const bac_settings *settings);
@@ -302,6 +321,10 @@ size_t bac_end(const bac_node *node, size_t index, bac_ending *ending, uint8_t *
 /* The request that was performed, with the octets that it asks to write: where act->service is 7 or 15 and act->done holds, they were written: act on it. */
 size_t bac_performed(const bac_node *node, bac_act *act, uint8_t *out, size_t room);
 
+/* Whether that request wrote something, and puts out what: a property, or, with BAC_WHOLE in place of its number, the octets of a file. Otherwise nothing is put
+ * out. */
+bool bac_written(const bac_node *node, bac_reference *written);
+
 /* Why the last datagram was dropped: 0 it was not, 1 no BVLL that the node hears (also a broadcast or a forwarded NPDU), 2 no NPDU, 3 routed elsewhere, 4 a
  * network message, 5 no APDU, 6 from the node's own link. */
 uint32_t bac_cause(const bac_node *node);
@@ -340,6 +363,13 @@ static inline bac_status bac_append_file(bac_node *node, uint32_t file, const ui
     memcpy(scratch + old, octets, len);
     return bac_set_file(node, file, scratch, old + len);
 }
+
+/* How many cells there are to keep of a property, or, with BAC_WHOLE in place of its number, of the octets of a file; the index is not looked at. 0 where the
+ * network may not write it, where there is none, and where no node is started. */
+size_t bac_cells(const bac_node *node, const bac_reference *what);
+
+/* Each of them, as it is now: its place, and its octets (at most 4,096). At an index that is not below bac_cells 0, and nothing is put out. */
+size_t bac_cell(const bac_node *node, const bac_reference *what, size_t index, uint64_t *place, uint8_t *out, size_t room);
 
 /* ---- how full the node is, at a moment: client slots that are held, and requests that are remembered */
 

@@ -1,41 +1,6 @@
 /* Every call of bac.h, two nodes in one process, with no socket. Each allocation of the run is then refused in turn: the call that met it answers
  * BAC_NO_MEMORY, does it when it is called again, and all that follows is the same. */
-#include "bac.h"
-
-#include <stdio.h>
-#include <string.h>
-
-#ifdef __cplusplus
-extern "C" {
-#endif
-extern unsigned long heap_count, heap_refused;
-#ifdef __cplusplus
-}
-#endif
-
-static unsigned long refusals;
-
-/* a call, made again where memory was refused */
-#define CALL(want, call) \
-    do { \
-        bac_status got_ = (call); \
-        if (got_ == BAC_NO_MEMORY && (want) != BAC_NO_MEMORY) { \
-            refusals++; \
-            got_ = (call); \
-        } \
-        if (got_ != (bac_status)(want)) { \
-            printf("line %d: %s, not %s\n", __LINE__, bac_text(got_), bac_text(want)); \
-            return 1; \
-        } \
-    } while (0)
-
-#define HOLDS(fact) \
-    do { \
-        if (!(fact)) { \
-            printf("line %d: not so: %s\n", __LINE__, #fact); \
-            return 1; \
-        } \
-    } while (0)
+#include "rows.h"
 
 static const uint8_t HERE[6] = { 127, 0, 0, 1, 0xBA, 0xC0 }, THERE[6] = { 127, 0, 0, 1, 0xBA, 0xC2 };
 static const uint8_t QUESTION[] = { 0x81, 0x0A, 0, 0x11, 1, 4, 0, 5, 1, 0x0C, 0x0C, 0, 0, 0, 5, 0x19, 0x55 };
@@ -480,32 +445,6 @@ static int allowed_rows(bac_node *node)
     return 0;
 }
 
-/* docs/C.md, "Through a power cut": what a write changed is kept before its answer goes out, and is there at the next start */
-static int kept_rows(bac_node *node)
-{
-    static const uint8_t done[] = { 0x81, 0x0A, 0, 9, 1, 0, 0x20, 0, 15 };
-    bac_settings s = BAC_SETTINGS(127, 0, 0, 1, 0xBA, 0xC0);
-    bac_reference r = { 2, 1, 85, BAC_WHOLE };
-    uint8_t kept[4096];
-    size_t kept_len = 0;
-    memcpy(kept, REAL_20, kept_len = 5);
-    for (uint64_t life = 0; life < 2; life++) {
-        CALL(BAC_OK, bac_open(node));
-        CALL(BAC_OK, bac_add_object(node, 8, 1, (const uint8_t *)"device", 6));
-        CALL(BAC_OK, bac_add_object(node, 2, 1, (const uint8_t *)"set", 3));
-        CALL(BAC_OK, bac_add_property(node, 85, kept, kept_len, true));
-        CALL(BAC_OK, life == 0 ? bac_start_described(node, &s) : bac_start_described_restarted(node, &s, 0));
-        CALL(BAC_OK, bac_get_value(node, &r, out, sizeof out, &n));
-        HOLDS(n == 5 && memcmp(out, life == 0 ? REAL_20 : REAL_10, 5) == 0);
-        if (life == 0) {
-            if (writes(node, 7, REAL_10, 0, done, sizeof done)) { return 1; }
-            CALL(BAC_OK, bac_get_value(node, &r, kept, sizeof kept, &kept_len));
-        }
-        bac_close(node); /* the power is cut */
-    }
-    return 0;
-}
-
 /* names of the standard, both ways, and the texts of the header */
 static int name_rows(void)
 {
@@ -800,8 +739,7 @@ static int ask_rows(bac_node *client, bac_node *server)
 static int rows(bac_node *client, bac_node *server)
 {
     if (name_rows() || described_rows(client) || limited_rows(client)) { return 1; }
-    if (allowed_rows(client) || kept_rows(client)) { return 1; }
-    if (refused_rows(client) || long_rows(client)) { return 1; }
+    if (allowed_rows(client) || refused_rows(client) || long_rows(client)) { return 1; }
     if (edge_rows(client) || value_rows(client) || restarted_rows(client) || limit_rows(client)) { return 1; }
     if (closed_rows(client) || house_rows(client) || own_rows(server) || ask_rows(client, server)) { return 1; }
     bac_close(client);
@@ -891,17 +829,5 @@ int main(void)
 {
     bac_node node = BAC_NODE_EMPTY;
     if (most_rows(&node) || slot_rows(&node) || full_rows(&node, 1) || full_rows(&node, 1025) || full_rows(&node, 65536)) { return 1; }
-    heap_count = 0;
-    if (run()) { return 1; }
-    unsigned long all = heap_count;
-    for (heap_refused = 1; heap_refused <= all; heap_refused++) {
-        unsigned long before = refusals;
-        heap_count = 0;
-        if (run() || refusals != before + 1) {
-            printf("with allocation %lu of %lu refused\n", heap_refused, all);
-            return 1;
-        }
-    }
-    printf("each of %lu allocations refused in turn: %lu calls said so, and did it when called again\n", all, refusals);
-    return 0;
+    return refuse_each(run);
 }

@@ -50,7 +50,7 @@ def exports():
 
 def prototypes():
     calls = {}
-    for result, name, params in re.findall(r"^(bac_status|void|uint64_t|uint32_t|size_t) (bac_\w+)\(([^)]*)\);", header, flags=re.M):
+    for result, name, params in re.findall(r"^(bac_status|void|bool|uint64_t|uint32_t|size_t) (bac_\w+)\(([^)]*)\);", header, flags=re.M):
         types = []
         for p in re.split(r",\s*", " ".join(params.split())) if params != "void" else []:
             array = "[6]" in p

@@ -52,7 +52,7 @@ END
 cat > "$at/program/CMakeLists.txt" <<'END'
 cmake_minimum_required(VERSION 3.10)
 project(program C)
-find_package(bac 1.2 REQUIRED)
+find_package(bac 1.3 REQUIRED)
 add_executable(by_cmake program.c)
 target_link_libraries(by_cmake PRIVATE bac::bac)
 END

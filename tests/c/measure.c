@@ -1,4 +1,4 @@
-/* What the calls of bac.h take over the heap of the examples, as docs/C.md says it: allocations of a call, the deepest stack, the time of a read. Two nodes in
+/* What the calls of bac.h take over the heap of the examples, as docs/C.md says it: allocations of a call, the deepest stack, the time of a read. Nodes in
  * one process, with no socket; each row runs on a stack of its own, which is painted before. A row in segments is of all calls of both nodes together. */
 #define _XOPEN_SOURCE 700
 #include "bac.h"
@@ -17,7 +17,7 @@ static const uint8_t HERE[6] = { 127, 0, 0, 1, 0xBA, 0xC0 }, THERE[6] = { 127, 0
 static const uint8_t QUESTION[] = { 0x81, 0x0A, 0, 0x11, 1, 4, 0, 5, 1, 0x0C, 0x0C, 0, 0, 0, 5, 0x19, 0x55 };
 static const bac_reference VALUE = { 2, 1, 85, BAC_WHOLE }, DESCRIPTION = { 2, 1, 28, BAC_WHOLE };
 static uint8_t stack[STACK], to[6], out[1514], many[FILE_LEN + 16];
-static bac_node client = BAC_NODE_EMPTY, server = BAC_NODE_EMPTY;
+static bac_node client = BAC_NODE_EMPTY, server = BAC_NODE_EMPTY, third = BAC_NODE_EMPTY;
 static bac_target target = { { 127, 0, 0, 1, 0xBA, 0xC2 }, 5, true, 7 };
 static bac_status status;
 static uint64_t now, ticket;
@@ -76,6 +76,29 @@ static void get_value(void)
     size_t len;
     status = bac_get_value(&server, &VALUE, out, sizeof out, &len);
 }
+
+static void start_kept(void)
+{
+    static const uint8_t real[] = { 0x44, 0x41, 0x20, 0, 0 };
+    bac_settings s = BAC_SETTINGS(127, 0, 0, 1, 0xBA, 0xC0);
+    uint64_t place;
+    status = bac_open(&third);
+    if (!status) { status = bac_add_object(&third, 2, 1, real, 0); }
+    if (!status) { status = bac_add_property(&third, 85, real, 5, true); }
+    if (!status) { status = bac_add_object(&third, 10, 1, real, 1); }
+    if (!status) { status = bac_add_file(&third, many, FILE_LEN, true); }
+    if (!status) { status = bac_add_kept(&third, (((uint64_t)2 << 22 | 1) << 22) | 85, real, 5); }
+    if (!status) { status = bac_start_kept(&third, &s, now, &place); }
+}
+
+static void tell_cells(void)
+{
+    static const bac_reference file = { 10, 1, BAC_WHOLE, 0 };
+    uint64_t place;
+    for (size_t i = 0; i < bac_cells(&third, &file); i++) { bac_cell(&third, &file, i, &place, out, sizeof out); }
+}
+
+static void stop_kept(void) { bac_close(&third); }
 
 static void ask(void) { status = bac_ask_read(&client, now, &target, &VALUE, &ticket); }
 
@@ -208,6 +231,9 @@ static int single_rows(void)
     failed |= row("bac_get_value", get_value);
     failed |= row("bac_send", copy_one);
     failed |= row("bac_ask_read", ask);
+    failed |= row("a start with a kept cell", start_kept);
+    failed |= row("60 cells of a file are told", tell_cells);
+    failed |= row("bac_close of that node", stop_kept);
     return failed | row("bac_close of both", stop);
 }
 

@@ -2,6 +2,16 @@ pub mod Copies
 pub mod Describes
 pub mod Files
 pub mod Heap
+pub mod KeptChunks
+pub mod KeptFiles
+pub mod KeptLists
+pub mod KeptMaps
+pub mod KeptNotes
+pub mod KeptPlaces
+pub mod KeptPuts
+pub mod KeptRestores
+pub mod KeptRisings
+pub mod KeptValues
 pub mod LetsGo
 pub mod Limits
 pub mod Lists
@@ -10,5 +20,6 @@ pub mod Refusals
 pub mod Starts
 pub mod Takes
 pub mod Tells
+pub mod Tellings
 pub mod Texts
 pub mod Words

@@ -3,6 +3,8 @@ pub mod Changing
 pub mod Describing
 pub mod Devices
 pub mod Endings
+pub mod Keeping
+pub mod Kept
 pub mod Listing
 pub mod Names
 pub mod Parking
@@ -14,3 +16,4 @@ pub mod Results
 pub mod Starting
 pub mod Statuses
 pub mod Taking
+pub mod Telling

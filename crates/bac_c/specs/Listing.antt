@@ -73,13 +73,13 @@ pub record IsLastChanged (f : Object → Object) (old new : List Object) : Type 
   pub was : old ≡ front ++ last ∷ []
   pub is : new ≡ front ++ f last ∷ []
 
--- the same objects are listed, with the same node and the same outcome
+-- the same objects are listed, with the same cells, the same node and the same outcome
 abbrev pub IsAsListed : Device → Device → Type 0
-IsAsListed d e = (listed_in e ≡ listed_in d) × (e.node ≡ d.node) × (e.outcome ≡ d.outcome)
+IsAsListed d e = (listed_in e ≡ listed_in d) × (e.kept ≡ d.kept) × (e.node ≡ d.node) × (e.outcome ≡ d.outcome)
 
 abbrev pub StaysListed : (old new : Option Device) → Type 0
 StaysListed old new = MatchOption old (new ≡ None) (λ d. MatchOption new ⊥ (IsAsListed d))
 
--- the objects that are listed are others, with the same node and the same outcome
+-- the objects that are listed are others, with the same cells, the same node and the same outcome
 abbrev pub HasListed : (List Object → List Object → Type 0) → (old new : Option Device) → Type 0
-HasListed goes old new = MatchOption old ⊥ (λ d. MatchOption new ⊥ (λ e. goes (listed_in d) (listed_in e) × (e.node ≡ d.node) × (e.outcome ≡ d.outcome)))
+HasListed goes old new = MatchOption old ⊥ (λ d. MatchOption new ⊥ (λ e. goes (listed_in d) (listed_in e) × (e.kept ≡ d.kept) × (e.node ≡ d.node) × (e.outcome ≡ d.outcome)))

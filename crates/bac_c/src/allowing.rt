@@ -81,6 +81,7 @@ impl Device {
             → (IsErrOf result Fault.BadObject ↔ IsIdle self.old × (can_allow octets.now (listed_in self.old) ≡ false)) }
         ensures few { IsTrue (is_one_of LISTING (status_of result)) }
         ensures open { IsErrOf result Fault.NotOpen → ⊥ }
+        ensures kept { self.new.kept ≡ self.old.kept }
         ensures node { self.new.node ≡ self.old.node }
         ensures outcome { self.new.outcome ≡ self.old.outcome }
         ensures err { OnErr result (listed_in self.new ≡ listed_in self.old) }

@@ -20,7 +20,7 @@ use std::alloc::Global;
 
 /// The store that some objects describe.
 #[tactic(auto, using(crate::proofs::Describes::refuses, crate::proofs::Describes::describes))]
-fn store_of(alloc: Global, objects: Vec<Object>) -> Result<Store, Fault>
+pub(crate) fn described_store(alloc: Global, objects: Vec<Object>) -> Result<Store, Fault>
     ensures made { IfOk result (IsDescribedBy (map object_view objects.items)) }
     ensures bad { (IsErrOf result Fault.NoMemory → ⊥) → (IsErrOf result Fault.BadObject ↔ (AreDescribed (map object_view objects.items) → ⊥)) }
     ensures few { IsTrue (is_one_of DESCRIBED_STARTING (status_of result)) }
@@ -120,7 +120,7 @@ impl Device {
         let Ok(objects) = copied_objects(alloc, &self.listed) else {
             return Err(Fault::NoMemory);
         };
-        let store = store_of(alloc, objects)?;
+        let store = described_store(alloc, objects)?;
         let node = node_of(alloc, config, store, restart)?;
         self.listed = Vec::new(alloc);
         self.node = Some(node);

@@ -8,14 +8,16 @@ ghost use Rattle.bac_c.specs.Devices.{IsIdle, IsQuiet, Ran, Runs};
 ghost use Rattle.bac_c.specs.Statuses.{fault_number, NOT_STARTED};
 
 use crate::fault::Fault;
+use crate::kept::Kept;
 use bac_node::{Node, NodeFault, Outcome};
 use bac_store::Object;
 use std::alloc::Global;
 
-/// The objects that are listed for a node, the node once it is started, and what came of the last call that did something.
+/// The objects and the kept cells that are listed for a node, the node once it is started, and what came of the last call that did something.
 #[derive(Drop)]
 pub struct Device {
     pub listed: Vec<Object>,
+    pub kept: Kept,
     pub node: Option<Node>,
     pub outcome: Outcome,
 }
@@ -36,14 +38,16 @@ pub fn no_outcome(alloc: Global) -> Outcome
 }
 
 impl Device {
-    /// No objects, and no node.
+    /// No objects, no cells and no node.
     pub fn new(alloc: Global) -> Device
         ensures listed { result.listed.items ≡ [] }
+        ensures kept { result.kept ≡ [] }
         ensures node { result.node ≡ None }
         ensures quiet { IsQuiet result }
     {
         Device {
             listed: Vec::new(alloc),
+            kept: Kept::new(alloc),
             node: None,
             outcome: no_outcome(alloc),
         }

@@ -1,7 +1,7 @@
 //! Why a call was refused, and its status for a C program.
 ghost use Rattle.std.specs.Prelude.{◌≡◌, ◌↔◌, IsErrOf};
 ghost use Rattle.bac_c.specs.Statuses.{fault_number, status_of};
-ghost use Rattle.bac_c.specs.Statuses.{ALREADY_OPEN, ALREADY_STARTED, BAD_OBJECT, BAD_REQUEST, BAD_SETTINGS, CLOCK_BACK, DUPLICATE};
+ghost use Rattle.bac_c.specs.Statuses.{ALREADY_OPEN, ALREADY_STARTED, BAD_OBJECT, BAD_REQUEST, BAD_SETTINGS, BAD_VALUE, CLOCK_BACK, DUPLICATE};
 ghost use Rattle.bac_c.specs.Statuses.{NOT_OPEN, NOT_STARTED, NO_MEMORY, NO_SUCH_OBJECT, NO_SUCH_PROPERTY};
 ghost use Rattle.bac_c.specs.declared.fault.Fault.TheVariants as fault;
 
@@ -90,6 +90,7 @@ pub fn status(done: Result<(), Fault>) -> u32
     ensures bad_request { (result ≡ BAD_REQUEST) ↔ IsErrOf done Fault.BadRequest }
     ensures no_such_object { (result ≡ NO_SUCH_OBJECT) ↔ IsErrOf done Fault.NoSuchObject }
     ensures no_such_property { (result ≡ NO_SUCH_PROPERTY) ↔ IsErrOf done Fault.NoSuchProperty }
+    ensures bad_value { (result ≡ BAD_VALUE) ↔ IsErrOf done Fault.BadValue }
 {
     match done {
         Ok(()) => 0,

@@ -67,6 +67,7 @@ impl Device {
         ensures bad { IsErrOf result Fault.BadObject ↔ IsIdle self.old × (can_list object_type instance name.now ≡ false) }
         ensures few { IsTrue (is_one_of LISTING (status_of result)) }
         ensures open { IsErrOf result Fault.NotOpen → ⊥ }
+        ensures kept { self.new.kept ≡ self.old.kept }
         ensures node { self.new.node ≡ self.old.node }
         ensures outcome { self.new.outcome ≡ self.old.outcome }
         ensures err { OnErr result (listed_in self.new ≡ listed_in self.old) }
@@ -95,6 +96,7 @@ impl Device {
         ensures bad { IsErrOf result Fault.BadObject ↔ IsIdle self.old × (can_add octets.now (listed_in self.old) ≡ false) }
         ensures few { IsTrue (is_one_of LISTING (status_of result)) }
         ensures open { IsErrOf result Fault.NotOpen → ⊥ }
+        ensures kept { self.new.kept ≡ self.old.kept }
         ensures node { self.new.node ≡ self.old.node }
         ensures outcome { self.new.outcome ≡ self.old.outcome }
         ensures err { OnErr result (listed_in self.new ≡ listed_in self.old) }
@@ -133,6 +135,7 @@ impl Device {
         ensures bad { IsErrOf result Fault.BadObject ↔ IsIdle self.old × (listed_in self.old ≡ []) }
         ensures few { IsTrue (is_one_of LISTING (status_of result)) }
         ensures open { IsErrOf result Fault.NotOpen → ⊥ }
+        ensures kept { self.new.kept ≡ self.old.kept }
         ensures node { self.new.node ≡ self.old.node }
         ensures outcome { self.new.outcome ≡ self.old.outcome }
         ensures err { OnErr result (listed_in self.new ≡ listed_in self.old) }

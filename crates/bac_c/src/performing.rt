@@ -90,7 +90,7 @@ fn of_file(
 }
 
 /// Whether a reply is none that says that nothing was done.
-fn is_done(reply: &OwnedReply) -> bool
+pub(crate) fn is_done(reply: &OwnedReply) -> bool
     ensures { result ≡ is_done (owned_reply_view reply.now) }
 {
     match reply {

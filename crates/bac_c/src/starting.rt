@@ -20,7 +20,7 @@ use bac_store::{Object, Store, StoreFault, house};
 use std::alloc::Global;
 
 /// The store of some objects.
-fn store_of(alloc: Global, objects: Vec<Object>) -> Result<Store, Fault>
+pub(crate) fn store_of(alloc: Global, objects: Vec<Object>) -> Result<Store, Fault>
     ensures made { IfOk result (IsMadeOf (map object_view objects.items)) }
     ensures duplicate { (IsErrOf result Fault.NoMemory → ⊥) → (IsErrOf result Fault.Duplicate ↔ (AreDistinct (map object_view objects.items) → ⊥)) }
     ensures bad { (IsErrOf result Fault.NoMemory → ⊥) → (IsErrOf result Fault.BadObject ↔ IsBad (map object_view objects.items)) }

@@ -1,0 +1,14 @@
+-- The last chunk may be short.
+use Rattle.std.proofs.Common.{arith, ◌≡◌, ◌+◌, ◌-◌, ◌*◌, ap, take, drop, ℕ}
+use Rattle.bac_keep.specs.Overlay.{CHUNK}
+use Rattle.bac_c.proofs.KeptChunks.{last_chunk}
+use Rattle.bac_c.proofs.telling.chunk_of.Goals as goal
+
+pub returns-then-octets-start-le-CHUNK : goal.returns-then-octets-start-le-CHUNK
+returns-then-octets-start-le-CHUNK c = last_chunk CHUNK (c.args.at * CHUNK) c.args.octets.now (omega (arith, c.if-octets-start-le-CHUNK.true))
+
+pub returns : goal.returns
+returns c =
+    let start = c.args.at * CHUNK in
+    let size : (start + CHUNK) - start ≡ CHUNK = omega arith in
+    ap (λ (n : ℕ). take n (drop start c.args.octets.now)) size
