@@ -1,0 +1,2 @@
+mod Deleting
+mod Forgetting
