@@ -1,6 +1,7 @@
 //! What a command line asks for.
 use crate::asking::{Asking, asking_of};
 use crate::files::{CaptureFile, ScriptFile};
+use crate::forgetting::Forgetting;
 use crate::help::Telling;
 use crate::online::Machine;
 use crate::serving::{Serving, serving_of};
@@ -54,6 +55,8 @@ pub(crate) enum Task<'m, 'a> {
     },
     /// What the file at this path keeps.
     Keep(&'a str),
+    /// That the file at a path forgets something.
+    Forget(Forgetting<'a>),
     /// The request that some words are.
     Ask {
         asking: Asking,
@@ -101,6 +104,20 @@ fn capture_of<'a>(given: &ArgMatches<'a>) -> Option<CaptureFile<'a>> {
     let path = given.get_str("FILE")?;
     let port = given.get_one("port");
     Some(CaptureFile { path, port })
+}
+
+/// What the file of a server keeps, or where that is given, what it is to forget. None where no file is given.
+fn keep_of<'m, 'a>(given: &ArgMatches<'a>) -> Option<Task<'m, 'a>> {
+    let path = given.get_str("FILE")?;
+    let Some(object) = given.get_str("forget") else {
+        return Some(Task::Keep(path));
+    };
+    let property = given.get_str("P");
+    Some(Task::Forget(Forgetting {
+        path,
+        object,
+        property,
+    }))
 }
 
 impl<'m, 'a> Task<'m, 'a> {
@@ -173,7 +190,7 @@ pub(crate) fn task_of<'m, 'a>(
             }
             Some(Task::Serve { serving, objects })
         }
-        ("keep", given) => Some(Task::Keep(given.get_str("FILE")?)),
+        ("keep", given) => keep_of(given),
         ("ask", given) => {
             let asking = asking_of(given, shows_progress)?;
             if let Some(path) = given.get_str("lines") {

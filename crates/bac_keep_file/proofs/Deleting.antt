@@ -37,13 +37,13 @@ other_place (Text t) p q int e other = absurd (cc)
 other_place (Blob b) p q int e other = absurd (cc)
 other_place (Int z) p q int e other = ap (λ (y : ℤ). is_eq (value_cmp (Int y) (Int (pos q)))) (tied z p e) ∙ same_place p q ∙ other
 
-nothing : (b : Bool) → None {A = List ℕ} ≡ (if b then None else None)
-nothing true = refl
-nothing false = refl
+either : (b : Bool) (x : Option (List ℕ)) → x ≡ (if b then x else x)
+either true x = refl
+either false x = refl
 
 pub found-without : (p : ℕ) (rows : List Row) → AllByRecursion (λ r. IsTrue (is_int (rowid r))) rows → (q : ℕ)
     → found (without_rowid (pos p) rows) q ≡ without (is_place p) (found rows) q
-found-without p [] ints q = nothing (q == p)
+found-without p [] ints q = either (q == p) None
 found-without p (r ∷ rows) ints q = go (has_rowid (pos p) r) refl (q == p) refl (found-without p rows ints.1 q)
   where
     rest : List Row

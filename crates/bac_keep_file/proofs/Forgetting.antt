@@ -27,8 +27,8 @@ has-filter f (c ∷ cs) q = go (f c.place) refl (q == c.place) refl (has-filter 
     kept : List Cell
     kept = filter (λ (c : Cell). f c.place) cs
 
-    no : (b : Bool) → (f q ≡ false) → (f q && b) ≡ false
-    no b e = rw e refl
+    neither : (b : Bool) → (f q ≡ false) → (f q && b) ≡ false
+    neither b e = rw e refl
 
     go : (b : Bool) → f c.place ≡ b → (here : Bool) → (q == c.place) ≡ here → has_place kept q ≡ (f q && has_place cs q)
         → has_place (if b then c ∷ kept else kept) q ≡ (f q && ((q == c.place) || has_place cs q))
@@ -38,23 +38,23 @@ has-filter f (c ∷ cs) q = go (f c.place) refl (q == c.place) refl (has-filter 
     go true e false same more = rw same more
     go false e true same more =
         let is : f q ≡ false = ap f (eqb-true q c.place same) ∙ e in
-        more ∙ no (has_place cs q) is ∙ sym (no ((q == c.place) || has_place cs q) is)
+        more ∙ neither (has_place cs q) is ∙ sym (neither ((q == c.place) || has_place cs q) is)
     go false e false same more = rw same more
 
 not-there : (rows : List Row) (cells : List Cell) → AreCells rows cells → (q : ℕ) → has_place cells q ≡ false → found rows q ≡ None
-not-there [] [] are q no = refl
-not-there [] (c ∷ cs) are q no = absurd are
-not-there (r ∷ rs) [] are q no = absurd are
-not-there (r ∷ rs) (c ∷ cs) are q no = go (q == c.place) refl no
+not-there [] [] are q none = refl
+not-there [] (c ∷ cs) are q none = absurd are
+not-there (r ∷ rs) [] are q none = absurd are
+not-there (r ∷ rs) (c ∷ cs) are q none = go (q == c.place) refl none (not-there rs cs are.1 q)
   where
     is : has_rowid (pos q) r ≡ (q == c.place)
     is = ap (λ (v : Value). is_eq (value_cmp v (Int (pos q)))) are.0.keyed ∙ same_place c.place q
 
-    go : (b : Bool) → (q == c.place) ≡ b → (b || has_place cs q) ≡ false → found (r ∷ rs) q ≡ None
-    go true e no = absurd (cc)
-    go false e no =
+    go : (b : Bool) → (q == c.place) ≡ b → (b || has_place cs q) ≡ false → (has_place cs q ≡ false → found rs q ≡ None) → found (r ∷ rs) q ≡ None
+    go true e none more = absurd (cc)
+    go false e none more =
         let apart : has_rowid (pos q) r ≡ false = is ∙ e in
-        rw apart (not-there rs cs are.1 q no)
+        rw apart (more none)
 
 -- so nothing else is gone where these are
 pub all_gone : (f : ℕ → Bool) (rows : List Row) (selected : List Cell) → AreSelected f rows selected → (q : ℕ)
