@@ -1,2 +1,3 @@
 mod Deleting
+mod Documents
 mod Forgetting
