@@ -81,12 +81,7 @@ fn print_bad_name<E: Write>(alloc: Global, word: BadWord<'_>, err: &mut E) -> St
 }
 
 /// Complains of a database that does not forget. A disk that fails is outside of the program.
-fn print_not_forgotten<E: Write>(
-    alloc: Global,
-    path: &str,
-    fault: KeepFault,
-    err: &mut E,
-) -> Status
+fn print_not_forgotten<E: Write>(alloc: Global, path: &str, fault: KeepFault, err: &mut E) -> Status
     ensures { IsStop result }
 {
     match fault {
@@ -109,14 +104,7 @@ fn print_nothing_kept<E: Write>(
 {
     let Selection { object, property } = selection;
     // if that fails too, only the status is left
-    let _ = print_about(
-        alloc,
-        path,
-        object,
-        property,
-        "nothing is kept of it",
-        err,
-    );
+    let _ = print_about(alloc, path, object, property, "nothing is kept of it", err);
     Status::CommandLine
 }
 

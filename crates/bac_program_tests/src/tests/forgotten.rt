@@ -15,10 +15,7 @@ const ROWS: &[(&str, Ending)] = &[
         "keep --forget analog-value:1 capture",
         ("analog-value:1 present-value real 72.5\n", "", 0),
     ),
-    (
-        "keep capture --forget file:1",
-        ("file:1 3 octets\n", "", 0),
-    ),
+    ("keep capture --forget file:1", ("file:1 3 octets\n", "", 0)),
     (
         "keep capture --forget analog-value:1 units",
         (
@@ -42,7 +39,11 @@ const ROWS: &[(&str, Ending)] = &[
     // a number that would be at the place of a property of analog-value 9
     (
         "keep capture --forget analog-value:8 4194389",
-        ("", "capture: analog-value:8 4194389: nothing is kept of it\n", 2),
+        (
+            "",
+            "capture: analog-value:8 4194389: nothing is kept of it\n",
+            2,
+        ),
     ),
     (
         "keep empty --forget analog-value:1",
