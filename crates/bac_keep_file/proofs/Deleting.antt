@@ -1,6 +1,6 @@
 -- A row that is deleted is found no more, and what was found elsewhere still is.
-use Rattle.std.proofs.Common.{◌≡◌, ◌==◌, ◌||◌, ℕ, ℤ, pos, Bool, true, false, not, if◌then◌else◌, List, [], ◌∷◌, ◌++◌, Option, Some, None, IsTrue}
-use Rattle.std.proofs.Common.{refl, sym, ap, ◌∙◌, subst, arith, Ordering, Less, Equal, Greater, eqb-true, filter}
+use Rattle.std.proofs.Common.{◌≡◌, ◌==◌, ℕ, ℤ, pos, Bool, true, false, not, if◌then◌else◌, List, [], ◌∷◌, Option, Some, None, IsTrue}
+use Rattle.std.proofs.Common.{refl, sym, ap, ◌∙◌, subst, arith, Ordering, Less, Equal, Greater, eqb-true}
 use Rattle.std.specs.Ordering.{is_eq}
 use Rattle.std.specs.List.{AllByRecursion}
 use Rattle.std.proofs.lemmas.Bool.Decides.{nat_tests}
@@ -9,10 +9,9 @@ use Rattle.sqlite_value.specs.declared.value.Value.{Value}
 use Rattle.sqlite_value.specs.declared.value.Value.TheVariants.{Null, Int, Real, Text, Blob}
 use Rattle.sqlite_value.specs.Order.{Row, column, bytes, value_cmp}
 use Rattle.sqlite_value.proofs.OrderLemmas.{value_cmp-Int}
-use Rattle.sqlite_trees.specs.Tree.{has_rowid, rowid, with_tree, without_rowid}
+use Rattle.sqlite_trees.specs.Tree.{has_rowid, rowid, without_rowid}
 use Rattle.sqlite_trees.specs.View.{View, is_int, IsOrdered, IsShaped, SetsTree}
 use Rattle.sqlite_trees.specs.declared.store.Shape.{Shape}
-use Rattle.bac_keep.specs.Cells.{Cells}
 use Rattle.bac_keep.specs.Rows.{cells_of, found}
 use Rattle.bac_keep.specs.Steps.{HasCells, IsReady}
 use Rattle.bac_keep_file.specs.Forgotten.{is_place, without}

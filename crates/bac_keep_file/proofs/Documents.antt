@@ -1,14 +1,14 @@
 -- A document and cells make its own values where the cells have none.
-use Rattle.std.proofs.Common.{◌≡◌, ◌==◌, ◌&&◌, ◌||◌, ℕ, suc, ◌<◌, Bool, true, false, nat_lt, List, [], ◌∷◌, map, Option, Some, None}
+use Rattle.std.proofs.Common.{◌≡◌, ◌==◌, ◌&&◌, ℕ, ◌<◌, Bool, true, false, nat_lt, List, [], ◌∷◌, map, Option, Some, None}
 use Rattle.std.proofs.Common.{refl, sym, ap, ◌∙◌, subst, arith, if◌then◌else◌}
 use Rattle.std.specs.Option.{option_map}
 use Rattle.std.proofs.lemmas.Bool.Decides.{nat_tests}
 use Rattle.bac_value.specs.Value.{ObjectId}
-use Rattle.bac_store.specs.Stores.{File, Object, Property, Store, first_that, is_number, is_object, is_same, listed_in, object_in}
+use Rattle.bac_store.specs.Stores.{File, Object, Property, Store, first_that, is_number, is_same, object_in}
 use Rattle.bac_store.specs.Writes.{listed_at, listed_of}
 use Rattle.bac_keep.specs.Cells.{Cells, NUMBERS, file_place, value_place}
 use Rattle.bac_keep.specs.Overlay.{file_over, in_place, is_kept, joined, object_over, of_chunks, overlay, value_over}
-use Rattle.bac_keep_file.specs.Forgotten.{is_from, is_selected, without}
+use Rattle.bac_keep_file.specs.Forgotten.{is_selected, without}
 
 both : (a b : Bool) → (a && b) ≡ true → b ≡ true
 both true b e = e

@@ -1,3 +1,3 @@
 mod Deleting
 mod Documents
-mod Forgetting
+mod Leaving

@@ -1,10 +1,10 @@
 -- What is left once the cells of a selection are deleted.
-use Rattle.std.proofs.Common.{◌≡◌, ◌≤◌, ◌==◌, ◌&&◌, ◌||◌, ℕ, pos, Bool, true, false, if◌then◌else◌, List, [], ◌∷◌, ◌++◌, Option, Some, None}
+use Rattle.std.proofs.Common.{◌≡◌, ◌⊎◌, inl, inr, ◌≤◌, ◌==◌, ◌&&◌, ◌||◌, ℕ, pos, Bool, true, false, if◌then◌else◌, List, [], ◌∷◌, ◌++◌, length, None}
 use Rattle.std.proofs.Common.{IsTrue, refl, sym, ap, ◌∙◌, eqb-true, filter}
 use Rattle.std.specs.Ordering.{is_eq}
 use Rattle.sqlite_value.specs.declared.value.Value.{Value}
 use Rattle.sqlite_value.specs.declared.value.Value.TheVariants.{Int}
-use Rattle.sqlite_value.specs.Order.{Row, bytes, column, value_cmp}
+use Rattle.sqlite_value.specs.Order.{Row, value_cmp}
 use Rattle.sqlite_trees.specs.Tree.{Trees, has_rowid}
 use Rattle.sqlite_trees.specs.View.{IsClean, View, doubt}
 use Rattle.bac_keep.specs.declared.cell.Cell.{Cell}
@@ -73,11 +73,30 @@ pub forgotten : (f : ℕ → Bool) (before : Trees) (selected : List Cell) → A
     → without (has_place selected) (cells_of before) ≡ without f (cells_of before)
 forgotten f before selected are = λ i q. all_gone f (before 0) selected are q i
 
+none_there : (cells : List Cell) → length cells ≡ 0 → cells ≡ []
+none_there [] e = refl
+none_there (c ∷ cs) e = absurd (cc)
+
 -- where none is selected, nothing changes
-pub nothing_selected : (f : ℕ → Bool) (before : Trees) (selected : List Cell) → selected ≡ [] → AreSelected f (before 0) selected
+pub nothing_selected : (f : ℕ → Bool) (before : Trees) (selected : List Cell) → length selected ≡ 0 → AreSelected f (before 0) selected
     → cells_of before ≡ without f (cells_of before)
-nothing_selected f before selected empty are =
-    ap (λ (cs : List Cell). without (has_place cs) (cells_of before)) (sym empty) ∙ forgotten f before selected are
+nothing_selected f before selected none are =
+    ap (λ (cs : List Cell). without (has_place cs) (cells_of before)) (sym (none_there selected none)) ∙ forgotten f before selected are
+
+-- what is left once they are deleted
+pub left_over : (f : ℕ → Bool) (before : Trees) (selected given : List Cell) (old new : View) → given ≡ selected → AreSelected f (before 0) selected
+    → old.trees ≡ before → HasCells old (without (has_place given) (cells_of old.trees)) new → cells_of new.trees ≡ without f (cells_of before)
+left_over f before selected given old new same are trees left =
+    left.has
+    ∙ ap (λ (cs : List Cell). without (has_place cs) (cells_of old.trees)) same
+    ∙ ap (λ (t : Trees). without (has_place selected) (cells_of t)) trees
+    ∙ forgotten f before selected are
+
+-- a power cut during the commit leaves that, or what it could leave before
+pub outcome : {Sound Then Before : Type 0} (db trees : Trees) (cells : Cells) → (Then → Before) → cells_of trees ≡ cells
+    → (Sound × (db ≡ trees)) ⊎ Then → Before ⊎ (cells_of db ≡ cells)
+outcome db trees cells back is (inl new) = inr (ap (λ (t : Trees). cells_of t) new.1 ∙ is)
+outcome db trees cells back is (inr old) = inl (back old)
 
 -- ---- one after the other
 
