@@ -43,7 +43,7 @@ fn bad(wanted: Wanted, word: &str) -> BadWord<'_> {
 impl<'a> Forgetting<'a> {
     /// What its words select. An Err has the word that names no object, or no property.
     fn selection(self) -> Result<Selection, BadWord<'a>>
-        ensures { IfOk result (Names self.object.now (option_map (λ p. p.now) self.property)) }
+        ensures { IfOk result (Names self.entry.object.now (option_map (λ p. p.now) self.entry.property)) }
     {
         let Some(object) = object_in(self.object.as_bytes()) else {
             return Err(bad(Wanted::Object, self.object));
@@ -120,8 +120,8 @@ pub(crate) fn forget_kept<F: OpenFiles, M: Machine, O: Write, E: Write>(
     err: &mut E,
 ) -> Status
     ensures listed { IsListed result (O.contents out.old) (O.contents out.new) }
-    ensures forgotten { IsForgotten (OnForgotten M.is_database M.Database.view M.Database.recovers) result forgetting.path.now forgetting.object.now
-        (option_map (λ p. p.now) forgetting.property) (O.contents out.old) (O.contents out.new) }
+    ensures forgotten { IsForgotten (OnForgotten M.is_database M.Database.view M.Database.recovers) result forgetting.entry.path.now
+        forgetting.entry.object.now (option_map (λ p. p.now) forgetting.entry.property) (O.contents out.old) (O.contents out.new) }
 {
     let alloc = environment.alloc;
     let path = forgetting.path;

@@ -106,20 +106,6 @@ fn capture_of<'a>(given: &ArgMatches<'a>) -> Option<CaptureFile<'a>> {
     Some(CaptureFile { path, port })
 }
 
-/// What the file of a server keeps, or where that is given, what it is to forget. None where no file is given.
-fn keep_of<'m, 'a>(given: &ArgMatches<'a>) -> Option<Task<'m, 'a>> {
-    let path = given.get_str("FILE")?;
-    let Some(object) = given.get_str("forget") else {
-        return Some(Task::Keep(path));
-    };
-    let property = given.get_str("P");
-    Some(Task::Forget(Forgetting {
-        path,
-        object,
-        property,
-    }))
-}
-
 impl<'m, 'a> Task<'m, 'a> {
     /// The same; a client asks from the address of this machine that the node sees, where the machine tells it.
     pub(crate) fn from_source<M: Machine>(self, machine: &M) -> Task<'m, 'a> {
@@ -190,7 +176,18 @@ pub(crate) fn task_of<'m, 'a>(
             }
             Some(Task::Serve { serving, objects })
         }
-        ("keep", given) => keep_of(given),
+        ("keep", given) => {
+            let path = given.get_str("FILE")?;
+            if let Some(object) = given.get_str("forget") {
+                let property = given.get_str("P");
+                return Some(Task::Forget(Forgetting {
+                    path,
+                    object,
+                    property,
+                }));
+            }
+            Some(Task::Keep(path))
+        }
         ("ask", given) => {
             let asking = asking_of(given, shows_progress)?;
             if let Some(path) = given.get_str("lines") {
