@@ -79,7 +79,7 @@ const ROWS: &[(&str, Ending)] = &[
     ),
     (
         "keep odd --forget analog-value:1",
-        ("", "odd: a row that no write makes\n", 2),
+        ("", "odd: analog-value:1: nothing is kept of it\n", 2),
     ),
 ];
 
