@@ -15,7 +15,7 @@ pub forgot_so : {D : Type 0} (IsDatabase : (path : List ℕ) → (is_new : Bool)
     → (path object : List ℕ) (property : Option (List ℕ)) (s : Selection) (is_new : Bool) (opened ended : D)
     → Names object property s → IsDatabase path is_new opened → (IsClean (view ended) → IsReady (view ended))
     → (IsClean (view ended)
-        → cells_of (view ended).committed ≡ without (is_selected (object_identifier_view s.object) s.property) (cells_of (view opened).committed))
+    → cells_of (view ended).committed ≡ without (is_selected (object_identifier_view s.object) s.property) (cells_of (view opened).committed))
     → Forgets (OnForgotten IsDatabase view recovers) path object property
 forgot_so IsDatabase view recovers settled path object property s is_new opened ended names made ready forgot = record {
   selection = s;
