@@ -12,4 +12,5 @@ pub mod InFlight
 pub mod Asked
 pub mod Stores
 pub mod Tasks
+pub mod Forgetting
 pub mod Keeping

@@ -37,6 +37,7 @@ IsPerformed IsAt IsOn IsClock IsOnDatabase (task.Serve serving objects) s old ne
 IsPerformed IsAt IsOn IsClock IsOnDatabase (task.ServeKept serving objects path) s old new =
     IsServedKept IsAt (option_map (λ p. p.now) objects) IsOnDatabase IsOn IsClock s serving path.now old new
 IsPerformed IsAt IsOn IsClock IsOnDatabase (task.Keep path) s old new = IsListed s old new
+IsPerformed IsAt IsOn IsClock IsOnDatabase (task.Forget forgetting) s old new = IsListed s old new
 IsPerformed IsAt IsOn IsClock IsOnDatabase (task.Ask asking words) s old new = IsAskedFrom IsAt IsOn IsClock s asking (map (λ w. w.now) words.now) old new
 IsPerformed IsAt IsOn IsClock IsOnDatabase (task.AskLines asking path) s old new = AreAskedFrom IsAt IsOn IsClock s asking path.now old new
 IsPerformed IsAt IsOn IsClock IsOnDatabase task.Pair s old new = IsPair IsOn IsClock s old new

@@ -1,5 +1,6 @@
 //! Doing what a command line asks for: over any files, links and writers.
 ghost use Rattle.bac_command_line.specs.Files.{OnFile};
+ghost use Rattle.bac_command_line.specs.Forgetting.{ForgetsAsAsked, OnForgotten};
 ghost use Rattle.bac_command_line.specs.Keeping.{OnDatabase};
 ghost use Rattle.bac_command_line.specs.Online.{OnClock, OnPort};
 ghost use Rattle.bac_command_line.specs.Tasks.{IsPerformed};
@@ -7,6 +8,7 @@ ghost use Rattle.bac_command_line.specs.Tasks.{IsPerformed};
 use crate::asking_lines::ask_lines;
 use crate::environment::Environment;
 use crate::files::{OpenFiles, chart, check, explain, show, simulate};
+use crate::forgetting::forget_kept;
 use crate::grammar::matches;
 use crate::help::tell;
 use crate::keeping::serve_kept;
@@ -29,8 +31,9 @@ fn perform<F: OpenFiles, M: Machine, O: Write, E: Write>(
     out: &mut O,
     err: &mut E,
 ) -> Status
-    ensures { IsPerformed (OnFile F.is_file F.File.remaining) (OnPort M.is_bound M.Link.failures M.Link.calls) (OnClock M.is_made M.Timer.told)
+    ensures performed { IsPerformed (OnFile F.is_file F.File.remaining) (OnPort M.is_bound M.Link.failures M.Link.calls) (OnClock M.is_made M.Timer.told)
         (OnDatabase M.is_database M.Database.view M.Database.recovers) task.entry result (O.contents out.old) (O.contents out.new) }
+    ensures forgotten { ForgetsAsAsked (OnForgotten M.is_database M.Database.view M.Database.recovers) task.entry result (O.contents out.old) (O.contents out.new) }
 {
     let alloc = environment.alloc;
     let files = environment.files;
@@ -52,6 +55,7 @@ fn perform<F: OpenFiles, M: Machine, O: Write, E: Write>(
             path,
         } => serve_kept(environment, &serving, objects, path, out, err),
         Task::Keep(path) => list_kept(environment, path, out, err),
+        Task::Forget(forgetting) => forget_kept(environment, forgetting, out, err),
         Task::Ask { asking, words } => { file_words::ask(environment, &asking, words, out, err) }
         Task::AskLines { asking, path } => { ask_lines(environment, &asking, path, out, err) }
         Task::Pair => online::pair(alloc, environment.machine, out, err),

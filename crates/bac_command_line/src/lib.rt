@@ -13,6 +13,7 @@ mod environment;
 mod file_words;
 mod files;
 mod flights;
+mod forgetting;
 mod grammar;
 mod help;
 mod help_words;

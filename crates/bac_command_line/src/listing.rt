@@ -82,7 +82,8 @@ fn line_of(alloc: Global, cells: &[Cell], at: usize) -> Result<Vec<u8>, NoMemory
     }
 }
 
-fn print_cells<O: Write>(alloc: Global, cells: &[Cell], out: &mut O) -> io::Result<()> {
+/// Prints a line for each property and each file of some cells.
+pub(crate) fn print_cells<O: Write>(alloc: Global, cells: &[Cell], out: &mut O) -> io::Result<()> {
     for at in 0..cells.len() {
         let Ok(line) = line_of(alloc, cells, at) else {
             return Err(io::Error::from(ErrorKind::OutOfMemory));

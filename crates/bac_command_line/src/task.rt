@@ -1,6 +1,7 @@
 //! What a command line asks for.
 use crate::asking::{Asking, asking_of};
 use crate::files::{CaptureFile, ScriptFile};
+use crate::forgetting::Forgetting;
 use crate::help::Telling;
 use crate::online::Machine;
 use crate::serving::{Serving, serving_of};
@@ -54,6 +55,8 @@ pub(crate) enum Task<'m, 'a> {
     },
     /// What the file at this path keeps.
     Keep(&'a str),
+    /// That the file at a path forgets something.
+    Forget(Forgetting<'a>),
     /// The request that some words are.
     Ask {
         asking: Asking,
@@ -173,7 +176,18 @@ pub(crate) fn task_of<'m, 'a>(
             }
             Some(Task::Serve { serving, objects })
         }
-        ("keep", given) => Some(Task::Keep(given.get_str("FILE")?)),
+        ("keep", given) => {
+            let path = given.get_str("FILE")?;
+            if let Some(object) = given.get_str("forget") {
+                let property = given.get_str("P");
+                return Some(Task::Forget(Forgetting {
+                    path,
+                    object,
+                    property,
+                }));
+            }
+            Some(Task::Keep(path))
+        }
         ("ask", given) => {
             let asking = asking_of(given, shows_progress)?;
             if let Some(path) = given.get_str("lines") {

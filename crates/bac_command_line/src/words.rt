@@ -303,14 +303,36 @@ const SERVE: &[Word] = &[
     },
 ];
 
+/// Examples for `keep`.
+const KEEP_EXAMPLES: &str = "\
+Example: bac keep plant.db
+Example: bac keep plant.db --forget analog-value:1 present-value
+Example: bac keep plant.db --forget file:1";
+
 /// What `keep` takes.
-const KEEP: &[Word] = &[Word {
-    name: "FILE",
-    form: WordForm::Bare,
-    need: Need::Always,
-    against: &[],
-    help: "The file that a server was given with --keep, and which no server has open",
-}];
+const KEEP: &[Word] = &[
+    Word {
+        name: "FILE",
+        form: WordForm::Bare,
+        need: Need::Always,
+        against: &[],
+        help: "The file that a server was given with --keep, and which no server has open",
+    },
+    Word {
+        name: "forget",
+        form: WordForm::Text("T:I"),
+        need: Need::Never,
+        against: &[],
+        help: "Forgets what is kept of an object, by type and instance, each by number or name, and prints that alone: a server that is started with FILE again has the values of its document",
+    },
+    Word {
+        name: "P",
+        form: WordForm::Bare,
+        need: Need::Beside("forget"),
+        against: &[],
+        help: "The property to forget, by number or name; without it --forget forgets all of the object, its file too",
+    },
+];
 
 /// The requests of `ask`.
 const WORDS_HELP: &str =
@@ -466,7 +488,7 @@ pub(crate) const ONLINE: &[Grammar] = &[
     Grammar {
         name: "keep",
         about: "Prints what the file of a server keeps, a property or a file a line",
-        after: "Example: bac keep plant.db",
+        after: KEEP_EXAMPLES,
         words: KEEP,
     },
     Grammar {

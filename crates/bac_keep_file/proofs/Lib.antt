@@ -1,0 +1,3 @@
+mod Deleting
+mod Documents
+mod Leaving

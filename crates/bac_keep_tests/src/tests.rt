@@ -1,5 +1,6 @@
 //! Tests of stores that survive power cuts.
 mod cuts;
 mod documents;
+mod forgotten;
 mod playing;
 mod rounds;

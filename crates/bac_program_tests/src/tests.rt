@@ -13,6 +13,7 @@ mod asked_window;
 mod client_pairs;
 mod decoded;
 mod files;
+mod forgotten;
 mod help;
 mod kept;
 mod logged;

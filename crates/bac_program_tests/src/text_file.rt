@@ -33,7 +33,7 @@ impl Read for TextFile {
     }
 }
 
-/// The files `capture` and `-`, which have a text, `broken` and `starving`, which fail behind it, and `starved`, which can't be opened for want of memory. There are no
+/// The files `capture` and `-`, which have a text, as have those that are databases, `broken` and `starving`, which fail behind it, and `starved`, which can't be opened for want of memory. There are no
 /// others.
 #[derive(Clone, Copy)]
 pub(crate) struct Folder {
@@ -56,7 +56,7 @@ impl OpenFiles for Folder {
 
     fn open(&self, path: &str) -> io::Result<TextFile> {
         match path {
-            "capture" | "-" => self.file(None),
+            "capture" | "-" | "empty" | "odd" | "locked" | "damaged" => self.file(None),
             "broken" => self.file(Some(ErrorKind::PermissionDenied)),
             "starving" => self.file(Some(ErrorKind::OutOfMemory)),
             "starved" => Err(io::Error::from(ErrorKind::OutOfMemory)),

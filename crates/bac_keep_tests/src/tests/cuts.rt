@@ -50,7 +50,8 @@ const ROUNDS: &[Round] = &[
     },
 ];
 
-fn options() -> Options {
+/// The options of a database whose log is copied after each fourth page.
+pub(super) fn options() -> Options {
     let mut options = Options::new(7);
     options.checkpoint_frames = 4;
     options
@@ -64,7 +65,7 @@ fn play<S: Store + Drop>(alloc: Global, database: S) -> Result<(usize, S), KeepF
 }
 
 /// The store that the next start finds.
-fn found<S: Store + Drop>(alloc: Global, database: S) -> Result<Objects, KeepFault> {
+pub(super) fn found<S: Store + Drop>(alloc: Global, database: S) -> Result<Objects, KeepFault> {
     let (_keeper, store) = CellKeeper::open(alloc, house(alloc)?, database)?;
     Ok(store)
 }

@@ -1,0 +1,54 @@
+-- What `keep --forget` forgets, and its statuses.
+use Rattle.std.specs.Prelude.{◌≡◌, ⊤, ℕ, Bool, List, Option, IsSome, None, Some}
+use Rattle.std.specs.Option.{option_map}
+use Rattle.std.specs.Io.KnownBytes.{Keeps}
+use Rattle.sqlite_trees.specs.Tree.{Trees}
+use Rattle.sqlite_trees.specs.View.{IsClean, View}
+use Rattle.bac_value.specs.Views.{object_identifier_view}
+use Rattle.bac_value_text.specs.Reading.{object_of, property_of}
+use Rattle.bac_keep.specs.Rows.{cells_of}
+use Rattle.bac_keep_file.specs.Forgotten.{is_selected, without}
+use Rattle.bac_keep_file.specs.declared.selection.Selection.{Selection}
+use Rattle.bac_text.specs.declared.status.Status.{Status}
+use Rattle.bac_commands.specs.Statuses.{ByStatus}
+use Rattle.bac_command_line.specs.declared.task.Task.{Task}
+use Rattle.bac_command_line.specs.declared.task.Task.TheVariants as task
+
+abbrev pub IsPropertyOf : (word : Option (List ℕ)) → (property : Option ℕ) → Type 0
+IsPropertyOf None property = property ≡ None
+IsPropertyOf (Some word) property = (property ≡ property_of word) × IsSome property
+
+-- the words name an object, and a property where one is given
+pub record Names (object : List ℕ) (property : Option (List ℕ)) (s : Selection) : Type 0 where
+  pub object_is : object_of object ≡ Some (object_identifier_view s.object)
+  pub property_is : IsPropertyOf property s.property
+
+-- a database that the machine opened at a path, and that is so in the end: as long as it is honest, the next start finds the cells that it had committed but
+-- those of the selection, whatever a power cut leaves
+pub record OnForgotten {D : Type 0} (IsDatabase : (path : List ℕ) → (is_new : Bool) → D → Type 0) (view : D → View) (recovers : D → Trees → Type 0)
+    (path : List ℕ) (s : Selection) : Type 0 where
+  pub is_new : Bool
+  pub opened : D
+  pub made : IsDatabase path is_new opened
+  pub ended : D
+  pub forgot : IsClean (view ended) → (db : Trees) → recovers ended db
+      → cells_of db ≡ without (is_selected (object_identifier_view s.object) s.property) (cells_of (view opened).committed)
+
+-- What follows takes such a relation.
+abbrev pub Forgettings : Type 1
+Forgettings = (path : List ℕ) → Selection → Type 0
+
+pub record Forgets (IsOnForgotten : Forgettings) (path object : List ℕ) (property : Option (List ℕ)) : Type 0 where
+  pub selection : Selection
+  pub named : Names object property selection
+  pub forgot : IsOnForgotten path selection
+
+-- where the command line is refused, nothing was printed
+abbrev pub IsForgotten : Forgettings → Status → (path object : List ℕ) → (property : Option (List ℕ)) → (old new : Option (List ℕ)) → Type 0
+IsForgotten IsOnForgotten s path object property old new = ByStatus s (Forgets IsOnForgotten path object property) ⊥ (Keeps old new)
+
+-- the same of a command, if it is to forget
+abbrev pub ForgetsAsAsked : Forgettings → Task → Status → (old new : Option (List ℕ)) → Type 0
+ForgetsAsAsked IsOnForgotten (task.Forget f) s old new =
+    IsForgotten IsOnForgotten s f.path.now f.object.now (option_map (λ p. p.now) f.property) old new
+ForgetsAsAsked IsOnForgotten _ s old new = ⊤

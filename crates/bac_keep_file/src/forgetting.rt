@@ -1,0 +1,119 @@
+//! Forgetting what is kept.
+ghost use Rattle.std.specs.Prelude.{◌≡◌, ◌≤◌, ◌⊎◌, IsTrue, IfOk, OnOk, OnErr};
+ghost use Rattle.sqlite_trees.specs.Tree.{Trees};
+ghost use Rattle.sqlite_trees.specs.View.{IsClean, doubt};
+ghost use Rattle.bac_value.specs.Views.{object_identifier_view};
+ghost use Rattle.bac_keep.specs.Rows.{cells_of};
+ghost use Rattle.bac_keep.specs.Steps.{HasCells, IsReady, NoMore};
+ghost use Rattle.bac_keep_file.specs.Forgotten.{AreSelected, has_place, is_place, is_selected, without};
+
+use crate::selection::Selection;
+use bac_keep::{Cell, KeepFault, kept_cells};
+use sqlite_trees::store::{Shape, Store};
+use std::alloc::Global;
+
+/// The number of the table.
+const TABLE: u32 = 0;
+
+/// Makes a database ready: what no commit has finished is rolled back.
+fn make_ready<S: Store>(database: &mut S) -> Result<(), KeepFault>
+    ensures clean { doubt (S.view database.old).is_clean ≤ doubt (S.view database.new).is_clean }
+    ensures ready { OnOk result (IsClean (S.view database.new) → IsReady (S.view database.new)) }
+    ensures trees { OnOk result (IsClean (S.view database.new) → (S.view database.new).trees ≡ (S.view database.old).committed) }
+    ensures committed { IsClean (S.view database.new) → IsTrue (S.view database.new).is_open
+        → (S.view database.new).committed ≡ (S.view database.old).committed }
+    ensures crash { NoMore S.recovers database.old database.new }
+{
+    database.rollback();
+    if database.is_broken() {
+        return Err(KeepFault::Shut);
+    }
+    if database.shape(TABLE) != Shape::Table {
+        return Err(KeepFault::NoTable);
+    }
+    Ok(())
+}
+
+/// The selected cells that a database has committed, after what no commit has finished is rolled back.
+fn selected_cells<S: Store>(
+    alloc: Global,
+    database: &mut S,
+    selection: Selection,
+) -> Result<Vec<Cell>, KeepFault>
+    ensures clean { doubt (S.view database.old).is_clean ≤ doubt (S.view database.new).is_clean }
+    ensures cells { IfOk result (λ cs. IsClean (S.view database.new)
+        → AreSelected (is_selected (object_identifier_view selection.object) selection.property) ((S.view database.old).committed 0) cs.items) }
+    ensures ready { OnOk result (IsClean (S.view database.new) → IsReady (S.view database.new)) }
+    ensures trees { OnOk result (IsClean (S.view database.new) → (S.view database.new).trees ≡ (S.view database.old).committed) }
+    ensures committed { IsClean (S.view database.new) → IsTrue (S.view database.new).is_open
+        → (S.view database.new).committed ≡ (S.view database.old).committed }
+    ensures crash { NoMore S.recovers database.old database.new }
+{
+    make_ready(database)?;
+    let mut cells = kept_cells(alloc, database)?;
+    make_ready(database)?;
+    cells.retain(|cell| selection.has(cell.place));
+    Ok(cells)
+}
+
+/// Deletes the cell at a place, if there is one.
+fn delete_cell<S: Store>(database: &mut S, place: u64) -> Result<(), KeepFault>
+    requires { IsClean (S.view database.old) → IsReady (S.view database.old) }
+    ensures clean { doubt (S.view database.old).is_clean ≤ doubt (S.view database.new).is_clean }
+    ensures deleted { OnOk result (IsClean (S.view database.new)
+        → HasCells (S.view database.old) (without (is_place place) (cells_of (S.view database.old).trees)) (S.view database.new)) }
+    ensures crash { NoMore S.recovers database.old database.new }
+{
+    let Ok(key) = i64::try_from(place) else {
+        return Err(KeepFault::BadRow);
+    };
+    database.delete(TABLE, key)?;
+    Ok(())
+}
+
+/// Deletes the cells at the places of these.
+fn delete_cells<S: Store>(database: &mut S, cells: &[Cell]) -> Result<(), KeepFault>
+    requires { IsClean (S.view database.old) → IsReady (S.view database.old) }
+    ensures clean { doubt (S.view database.old).is_clean ≤ doubt (S.view database.new).is_clean }
+    ensures deleted { OnOk result (IsClean (S.view database.new)
+        → HasCells (S.view database.old) (without (has_place cells.now) (cells_of (S.view database.old).trees)) (S.view database.new)) }
+    ensures crash { NoMore S.recovers database.old database.new }
+{
+    for at in 0..cells.len() {
+        delete_cell(database, cells[at].place)?;
+    }
+    Ok(())
+}
+
+/// Forgets what is selected of what a database keeps, in one commit, after what no commit has finished is rolled back. Returns the
+/// cells that were forgotten, in ascending order of place. It returns none, and commits nothing, if nothing of the selection is kept.
+///
+/// A node that starts with the database afterwards has the values, and the octets of the file, that its document has.
+///
+/// Returns `Shut` or `NoTable` if the database can't be used; `BadRow` if its table has a row that no write makes; `NoMemory` if an
+/// allocation fails; `Database` if the database fails. After an `Err` all is kept as before; if the commit itself failed, the next
+/// start may also find that all of the selection is forgotten.
+pub fn forget<S: Store>(
+    alloc: Global,
+    database: &mut S,
+    selection: Selection,
+) -> Result<Vec<Cell>, KeepFault>
+    ensures clean { doubt (S.view database.old).is_clean ≤ doubt (S.view database.new).is_clean }
+    ensures cells { IfOk result (λ cs. IsClean (S.view database.new)
+        → AreSelected (is_selected (object_identifier_view selection.object) selection.property) ((S.view database.old).committed 0) cs.items) }
+    ensures forgot { OnOk result (IsClean (S.view database.new) → cells_of (S.view database.new).committed
+        ≡ without (is_selected (object_identifier_view selection.object) selection.property) (cells_of (S.view database.old).committed)) }
+    ensures ready { OnOk result (IsClean (S.view database.new) → IsReady (S.view database.new)) }
+    ensures kept { OnErr result (IsClean (S.view database.new) → IsTrue (S.view database.new).is_open
+        → (S.view database.new).committed ≡ (S.view database.old).committed) }
+    ensures crash { IsClean (S.view database.new) → (db : Trees) → S.recovers database.new db → S.recovers database.old db
+        ⊎ (cells_of db ≡ without (is_selected (object_identifier_view selection.object) selection.property) (cells_of (S.view database.old).committed)) }
+{
+    let cells = selected_cells(alloc, database, selection)?;
+    if cells.is_empty() {
+        return Ok(cells);
+    }
+    delete_cells(database, &cells)?;
+    database.commit()?;
+    Ok(cells)
+}
