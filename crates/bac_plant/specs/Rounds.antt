@@ -17,7 +17,7 @@ pub record HoldsTurnOnce (before : BoundNode) (turn : Turn) (after : BoundNode) 
 abbrev pub HeldChain : List Turn → (before after : BoundNode) → Type 0
 HeldChain turns before after = Run HoldsTurnOnce turns before after
 
--- the node is as after held turns of one round, also where it stopped before it sent anything
+-- the node is as after held turns of one round, or as before where there are none: so it is after each round, also one that stopped before it sent anything
 pub record IsAsHeldInChain (before after : BoundNode) : Type 0 where
   pub turns : List Turn
   pub held : BoundNode

@@ -90,9 +90,8 @@ pub fn chains_are_steps()
 
 /// What `round_before` and `serve_kept` promise of a station is a chain of rounds: turns whose sends are held, one after the other, and then all that they
 /// hold is sent. By `calls_go_on` each of these is a step. Where serving stops for a fault, so are the rounds before; and whether a round ends well or fails,
-/// its node is as after turns that it held. The turns that a station holds in a run
-/// of a plant, also in a round that a power cut takes back, where it does nothing else, are such a chain too, whatever other stations do between them; and with
-/// the sends of all that they hold they are a round.
+/// its node is as after turns that it held. The turns that a station holds in a run of a plant, also in a round that a power cut takes back, where it does
+/// nothing else, are such a chain too, whatever other stations do between them; and with the sends of all that they hold they are a round.
 #[tactic(auto, using(crate::proofs::Holding::held_chain))]
 pub fn rounds_are_events<W, O: Observer<W>, K: Keeper>()
     ensures round { (p : WaitLimit) (old : Observed O.State) (effects : ℕ) (new : Observed O.State) → kept_rounds.TakesRound O.Sees p old effects new

@@ -5,7 +5,8 @@ use Rattle.bac_driver.specs.Kept.{keeper_of}
 use Rattle.bac_driver.specs.Rounds.{FindsNoMore, HasNoted}
 use Rattle.bac_driver.specs.Views.{turn_view}
 use Rattle.bac_driver.proofs.ChangesOfTurns.{unchanged_after, unchanged_before}
-use Rattle.bac_driver.proofs.RoundsTaken.{finds_no_more, finds_same, held_next, held_on, no_calls, none_more, one_longer, one_more_held, receives_more, whatever}
+use Rattle.bac_driver.proofs.RoundsTaken.{finds_no_more, finds_same, held_next, held_on, no_calls, none_more, one_longer, one_more_held}
+use Rattle.bac_driver.proofs.RoundsTaken.{receives_more, whatever}
 use Rattle.bac_driver.proofs.bound_node.BoundNode.hold_more.Goals as goal
 
 pub loop-init : goal.loop-init
