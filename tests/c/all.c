@@ -1,5 +1,5 @@
-/* Every call of bac.h, two nodes in one process, with no socket. Each allocation of the run is then refused in turn: the call that met it answers
- * BAC_NO_MEMORY, does it when it is called again, and all that follows is the same. */
+/* Every call of bac.h but those of kept.c, two nodes in one process, with no socket. Each allocation of the run is then refused in turn: the call that met it
+ * answers BAC_NO_MEMORY, does it when it is called again, and all that follows is the same. */
 #include "rows.h"
 
 static const uint8_t HERE[6] = { 127, 0, 0, 1, 0xBA, 0xC0 }, THERE[6] = { 127, 0, 0, 1, 0xBA, 0xC2 };
