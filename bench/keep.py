@@ -15,7 +15,7 @@ import time
 from pathlib import Path
 
 sys.path.insert(0, str(Path(__file__).resolve().parent.parent / 'tests' / 'outside'))
-from kept import ANALOG_VALUE, DESCRIPTION, PRESENT_VALUE, Asker, document, is_written, real_value, started, text_value, write_of
+from kept import ANALOG_VALUE, DESCRIPTION, PRESENT_VALUE, Asker, document, is_written, log_of, real_value, started, text_value, write_of
 
 TURNS = 20
 SLICE = 1.0  # seconds of one side's turn
@@ -93,8 +93,8 @@ def measure_writes(program, folder):
     print(f'syncs of {BLOCK} octets: {statistics.median(rates[0]):.0f} a second (of {TURNS} turns least {min(rates[0]):.0f}, most {max(rates[0]):.0f})')
     for title, number, each in (('one at a time', 1, 1), (f'bursts of {BURST}', 2, BURST)):
         ratios = [ours / theirs for ours, theirs in zip(rates[number], rates[0])]
-        print(f'writes, {title}: {statistics.median(rates[number]) * each:.0f} a second; {title if each > 1 else "writes"} over syncs: '
-              f'median {statistics.median(ratios):.2f}, least {min(ratios):.2f}, most {max(ratios):.2f}; {used[number] / TURNS / 1000 / each:.0f} us of the processor each')
+        print(f'writes, {title}: {statistics.median(rates[number]) * each:.0f} a second; {title if each > 1 else "writes"} over syncs: median '
+              f'{statistics.median(ratios):.2f}, least {min(ratios):.2f}, most {max(ratios):.2f}; {used[number] / TURNS / 1000 / each:.0f} us of the processor each')
 
 
 def start_of(program, words, path):
@@ -130,7 +130,8 @@ def write_all(program, words, path):
     passed = time.perf_counter() - begin
     process.kill()
     process.communicate()
-    print(f'{len(cells)} cells written in {passed:.1f} s; the database has {Path(path).stat().st_size // 1024} KiB, its log {Path(path + "-wal").stat().st_size // 1024} KiB')
+    sizes = [Path(name).stat().st_size // 1024 for name in (path, log_of(path))]
+    print(f'{len(cells)} cells written in {passed:.1f} s; the database has {sizes[0]} KiB, its log {sizes[1]} KiB')
 
 
 def measure_starts(program, folder):

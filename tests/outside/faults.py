@@ -1,12 +1,12 @@
 #!/usr/bin/env python3
 """Failing disks under `bac serve --keep`: faults.py PROGRAM [SEED [MOST]]
 
-A server on a new file is asked bursts of writes, while disk.c makes one of its calls fail: the K-th write with ENOSPC, as all later ones, or after half of its octets,
-or with EIO that once; or the K-th sync with EIO. K goes from 1 to MOST (350), or to the last call of that kind. As root, file systems of few KB are filled too.
+A server on a new file is asked bursts of writes, while disk.c makes one of its calls fail: the K-th write with ENOSPC, as all later ones, or after half of its
+octets, or with EIO that once; or the K-th sync with EIO. K goes from 1 to MOST (350), or to the last call of that kind. As root, small file systems are filled too.
 
-A run of which a call failed has to end: with status 2 and a reason while it opens its file, and otherwise with status 3 and `keep fault`. Then a server starts on what it left, on a disk that
-has room, and has to find each write that was answered, and no other but those of the round that was under way. After a failed sync this holds too of images that
-have only some of what was written since the sync before."""
+A run of which a call failed has to end: with status 2 and a reason while it opens its file, and otherwise with status 3 and `keep fault`. Then a server starts on
+what it left, on a disk that has room, and has to find each write that was answered, and no other but those of the round that was under way. The same has to hold
+where the power is cut at the end, and only some of what was written since the last sync is there."""
 
 import sys
 sys.dont_write_bytecode = True  # no __pycache__ beside the sources
@@ -92,7 +92,8 @@ def run_kind(program, bursts, states, watch, folder, kind, counts, most):
     with ThreadPoolExecutor(WORKERS) as pool:
         verdicts = list(pool.map(lambda k: failing(program, bursts, states, watch, folder, kind, k), range(1, last + 1)))
     ends = Counter(end for end, _, _ in verdicts)
-    print(f'{kind[0]} {errno.errorcode[kind[1]]} {kind[2]}: {last} runs, {sum(failed for _, failed, _ in verdicts)} with a call that failed: {counted(ends)}', flush=True)
+    title = f'{kind[0]} {errno.errorcode[kind[1]]} {kind[2]}'
+    print(f'{title}: {last} runs, {sum(failed for _, failed, _ in verdicts)} with a call that failed: {counted(ends)}', flush=True)
     return [f'{kind} {k}: {fault}' for k, (_, _, faults) in enumerate(verdicts, 1) for fault in faults]
 
 

@@ -11,7 +11,7 @@ import time
 from dataclasses import dataclass
 from pathlib import Path
 
-from processes import LOOPBACK, START_SECONDS, free_port
+from processes import LOOPBACK, free_port
 
 INSTANCES = NUMBERS = 1 << 22
 FILES = 1 << 54  # the places of files are above those of properties
@@ -19,7 +19,7 @@ ANALOG_VALUE, FILE = 2, 10
 DESCRIPTION, PRESENT_VALUE = 28, 85
 IDS = 256
 AGAIN = 0.5  # seconds until a request is sent again
-CHUNK = 1024
+OPEN_SECONDS = 180  # a machine may be slow
 
 
 def object_number(kind, instance):
@@ -260,7 +260,7 @@ def opened_once(program, path, options=()):
     """Starts a server on a file and lets it take one turn. Returns its status and what it said."""
     for _ in range(5):
         words = [program, 'serve', '--port', str(free_port()), '--turns', '1', '--keep', path, *options]
-        done = subprocess.run(words, capture_output=True, text=True, timeout=START_SECONDS)
+        done = subprocess.run(words, capture_output=True, text=True, timeout=OPEN_SECONDS)
         if not done.stderr.startswith('link fault'):
             return done.returncode, done.stderr
     raise SystemExit(f'no free port: {done.stderr}')
@@ -268,7 +268,7 @@ def opened_once(program, path, options=()):
 
 def kept_lines(program, path):
     """What `bac keep` prints."""
-    done = subprocess.run([program, 'keep', path], capture_output=True, text=True, timeout=START_SECONDS)
+    done = subprocess.run([program, 'keep', path], capture_output=True, text=True, timeout=OPEN_SECONDS)
     if done.returncode != 0 or done.stderr:
         raise SystemExit(f'keep {path}: status {done.returncode}, {done.stderr!r}')
     return done.stdout.splitlines()
@@ -340,7 +340,7 @@ def run_watched(program, bursts, folder, watch, fails=None, disk=None):
                 break
         if said[-1].startswith('listening'):
             process.kill()
-        out, err = process.communicate(timeout=START_SECONDS)
+        out, err = process.communicate(timeout=OPEN_SECONDS)
     status = None if process.returncode == -9 else process.returncode
     return path, asker, events_of(trace), status, ''.join(said) + err
 

@@ -140,7 +140,7 @@ class Run:
             return later  # a part of its answers has left
         since = self.places[answered - 1] + 1 if answered else 0
         is_begun = any(event.kind in 'WT' for event in self.events[since:moment])
-        is_over = moment < len(self.events) and self.events[moment].kind == 'A'
+        is_over = answered < len(self.places) and self.places[answered] == moment  # the next event is its first answer
         return ([] if is_over else [answered]) + (later if is_begun else [])
 
 
