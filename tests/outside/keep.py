@@ -155,15 +155,15 @@ class Chain:
 
     def started(self, port, path, life):
         """A server that performs requests."""
-        server, begin = server_at(self.program, port, path), time.monotonic()
+        server = server_at(self.program, port, path)
         said = server.stderr.readline()
-        if said.startswith('serving from') == (life > 0):
-            if life:
-                said = server.stderr.readline()
-                time.sleep(max(0, begin + WAITS - time.monotonic()))
-            if said.startswith('listening'):
-                return server
-        raise SystemExit(f'no server in life {life}: {said}{server.stderr.read()}')
+        if said.startswith('listening') and not life:
+            return server
+        if said.startswith('listening') and server.stderr.readline().startswith('serving from'):
+            time.sleep(WAITS)
+            return server
+        kill(server)
+        raise SystemExit(f'no server in life {life}: {said}')
 
 
 def main(words):

@@ -242,14 +242,12 @@ def log_of(path):
 
 
 def started(program, path, options=(), env=None):
-    """A process of `bac serve --keep`, its port, and what it said until it listened. It has ended where that is no `listening` line."""
+    """A process of `bac serve --keep`, its port, and what it said until it listened. It has ended where the last line is no `listening` line."""
     for _ in range(5):
         port = free_port()
         words = [program, 'serve', '--port', str(port), '--keep', path, *options]
         process = subprocess.Popen(words, stdout=subprocess.PIPE, stderr=subprocess.PIPE, text=True, env={**os.environ, **(env or {})})
         said = [process.stderr.readline()]
-        while said[-1].startswith(('serving from', f'{path}: ')):
-            said.append(process.stderr.readline())
         if not said[-1].startswith('link fault'):
             return process, port, said
         process.wait()

@@ -185,7 +185,7 @@ def read_back(program, run, moment, image, folder):
     for name, octets in zip((log_of(path), path), image):
         Path(name).write_bytes(octets)
     process, port, said = started(program, path, ('--objects', run.objects))
-    if not said[-1].startswith('listening') or not said[0].startswith('serving from'):
+    if not said[-1].startswith('listening') or not process.stderr.readline().startswith('serving from'):
         return f'moment {moment}: {said}'
     time.sleep(WAITS)
     wanted = [(instance, number) for instance in range(1, VALUES_THERE + 1) for number in (DESCRIPTION, PRESENT_VALUE)]
