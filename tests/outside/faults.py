@@ -24,10 +24,10 @@ from contextlib import contextmanager
 from itertools import accumulate
 from pathlib import Path
 
-from kept import DATABASE, LOG, answers_in, built_watch, log_of, rounds_in, run_watched, states_of, writes_from
+from kept import DATABASE, LOG, MEMORY, answers_in, built_watch, log_of, rounds_in, run_watched, states_of, writes_from
 from power import File, Run, fault_of
 
-WORKERS = 8
+WORKERS = 4
 BURSTS, LONGEST = 130, 60
 KINDS = [('write', errno.ENOSPC, 'on'), ('write', errno.ENOSPC, 'short'), ('write', errno.EIO, 'once'), ('sync', errno.EIO, 'once')]
 IMAGES = 2  # of each failed sync
@@ -129,7 +129,7 @@ def main(words):
     program, seed, most = str(Path(words[0]).resolve()), *(int(word) for word in (words[1:] + ['1', '350'][len(words) - 1:]))
     bursts = writes_from(f'{seed} faults', BURSTS, LONGEST)
     states, begin, wrong = states_of(bursts), time.monotonic(), []
-    with tempfile.TemporaryDirectory() as folder:
+    with tempfile.TemporaryDirectory(dir=MEMORY) as folder:
         watch = built_watch(folder)
         with tempfile.TemporaryDirectory(dir=folder) as own:
             events = run_watched(program, bursts, own, watch)[2]

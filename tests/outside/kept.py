@@ -20,6 +20,7 @@ DESCRIPTION, PRESENT_VALUE = 28, 85
 IDS = 256
 AGAIN = 0.5  # seconds until a request is sent again
 OPEN_SECONDS = 180  # a machine may be slow
+MEMORY = '/dev/shm' if Path('/dev/shm').is_dir() else None  # where files are whose syncs need no disk
 
 
 def object_number(kind, instance):

@@ -21,12 +21,12 @@ from concurrent.futures import ThreadPoolExecutor
 from dataclasses import dataclass, field
 from pathlib import Path
 
-from kept import DATABASE, DESCRIPTION, FILES_THERE, LOG, PRESENT_VALUE, VALUES_THERE, ANALOG_VALUE, Asker, answers_in, built_watch, kept_cells, kept_lines, log_of
+from kept import DATABASE, DESCRIPTION, FILES_THERE, LOG, MEMORY, PRESENT_VALUE, VALUES_THERE, ANALOG_VALUE, Asker, answers_in, built_watch, kept_cells, kept_lines, log_of
 from kept import opened_once, read_of, real_value, rounds_in, run_watched, started, states_of, text_value, writes_from
 from processes import ask
 
 WAYS = ['all', 'none', 'some', 'some', 'some']
-WORKERS = 8
+WORKERS = 4
 WAITS = 66  # seconds until a server that starts again has waited
 SECTOR, PAGE = 512, 4096
 MOST_OCTETS = 1 << 14  # a longer write is not torn octet by octet
@@ -242,7 +242,7 @@ def watched_run(program, bursts, folder, watch):
 def main(words):
     program, seed, images, read = str(Path(words[0]).resolve()), *(int(word) for word in (words[1:] + ['1', '3000', '40'][len(words) - 1:]))
     begin, wrong = time.monotonic(), []
-    with tempfile.TemporaryDirectory() as folder:
+    with tempfile.TemporaryDirectory(dir=MEMORY) as folder:
         watch = built_watch(folder)
         for name, bursts, longest in (('long', 60, 400), ('many', 600, 20)):
             draws, own = random.Random(f'{seed} {name}'), Path(folder, name)
