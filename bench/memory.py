@@ -19,7 +19,8 @@ def private(process):
 
 
 def of_server(bac, slots):
-    with subprocess.Popen([bac, 'serve', '--port', str(PORT), '--slots', str(slots)], stderr=subprocess.DEVNULL) as child:
+    with subprocess.Popen([bac, 'serve', '--port', str(PORT), '--slots', str(slots)], stdout=subprocess.DEVNULL, stderr=subprocess.PIPE) as child:
+        child.stderr.readline()  # it listens
         time.sleep(0.5)
         found = private(child.pid)
         child.terminate()
