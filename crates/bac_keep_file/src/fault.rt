@@ -12,6 +12,9 @@ pub enum OpenFault {
     /// The file is no database, or it is damaged.
     #[error("no database, or a damaged one")]
     Damaged,
+    /// The file is a database of something else.
+    #[error("a database of something else")]
+    Foreign,
     /// The file can't be opened or made.
     #[error("it cannot be opened")]
     CannotOpen,

@@ -54,7 +54,7 @@ fn options(rt: &HostRuntime) -> Result<Options, OpenFault> {
 /// Opens the file at a path, or makes it. Returns the database, and whether it is new: the file was missing, or it had no tables.
 /// While it is open no other process can open it.
 ///
-/// Returns `Locked` if another process has it open; `Damaged` if it is no database, or a damaged one; `CannotOpen` if it can't be
+/// Returns `Locked` if another process has it open; `Damaged` if it is no database, or a damaged one; `Foreign` if its first table is not that of cells; `CannotOpen` if it can't be
 /// opened or made; `Disk` if the disk fails; `NoMemory` if an allocation fails.
 pub fn open(rt: &HostRuntime, path: &str) -> Result<(KeptFile, bool), OpenFault> {
     let files = match sqlite_std_file::open(rt, path, Unknown) {

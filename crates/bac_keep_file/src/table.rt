@@ -5,21 +5,40 @@ ghost use Rattle.sqlite.specs.Held.{state};
 
 use crate::fault::OpenFault;
 use sqlite::{Alter, Connection};
+use sqlite_schema::schema::Table;
 
 /// The statement that makes the table of a new file. The octets of a cell are those at its place; the other columns are for people:
 /// the object's type and instance, and the number of the property or of the part of the file.
 const TABLE: &str =
     "CREATE TABLE cell (place INTEGER PRIMARY KEY, octets BLOB NOT NULL, object_type INTEGER, instance INTEGER, number INTEGER) STRICT";
 
-/// Makes the table where there is none. Returns whether it made it.
+/// The names of its columns.
+const COLUMNS: &[&[u8]] = &[b"place", b"octets", b"object_type", b"instance", b"number"];
+
+/// Whether a table is that of cells, by its name and those of its columns.
+fn is_of_cells(table: &Table) -> bool {
+    let columns = table.columns.as_slice();
+    table.name.as_slice() == b"cell".as_slice()
+        && columns.len() == COLUMNS.len()
+        && columns
+            .iter()
+            .zip(COLUMNS)
+            .all(|(column, name)| column.name.as_slice() == *name)
+}
+
+/// Makes the table where there is none. Returns whether it made it; `Foreign` if the first table is another.
 fn make_table<S: Alter + Drop>(conn: &mut Connection<S>) -> Result<bool, OpenFault>
     ensures { IfOk result (λ made. made ≡ false → conn.new ≡ conn.old) }
 {
-    if conn.schema().tables.as_slice().is_empty() {
+    let Some(first) = conn.schema().tables.as_slice().first() else {
         conn.execute(TABLE, &[])?;
         return Ok(true);
+    };
+    if is_of_cells(first) {
+        Ok(false)
+    } else {
+        Err(OpenFault::Foreign)
     }
-    Ok(false)
 }
 
 /// The store of a connection.
