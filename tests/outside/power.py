@@ -196,7 +196,7 @@ def read_back(program, run, moment, image, folder):
     gets = [ask(program, port, ['get', f'file:{instance}', '0', '60000']) for instance in range(1, FILES_THERE + 1)]
     process.kill()
     process.communicate()
-    values = [asker.answered[number].partition(b'\x3E')[2][:-1] for number in range(len(wanted))]
+    values = [asker.answered[number][3:].partition(b'\x3E')[2][:-1] for number in range(len(wanted))]
     if not any(is_served(run.states[count], wanted, values, gets) for count in run.may_be(moment)):
         return f'moment {moment}: other values or files'
     return None
