@@ -123,7 +123,22 @@ fn survives_cuts_at_calls_of_the_database(rt: HostRuntime) -> Result<(), Fail> {
     Ok(())
 }
 
-/// Whether a database forgets so many cells of a selection, and then once more none, and the next start finds the house after the other round.
+/// Whether a new database forgets so many cells of a selection, and then once more none, and the next start finds the house after the other round.
+fn forgets_in<S: Store + Drop>(
+    alloc: Global,
+    database: S,
+    selection: Selection,
+    cells: usize,
+    left: Round,
+) -> Result<bool, KeepFault> {
+    let mut database = kept(alloc, database)?;
+    let forgotten = forget(alloc, &mut database, selection)?;
+    let again = forget(alloc, &mut database, selection)?;
+    let store = found(alloc, database)?;
+    Ok(forgotten.len() == cells && again.is_empty() && is_after(alloc, &store, &[left])?)
+}
+
+/// Whether that holds of a database in memory.
 fn forgets(
     alloc: Global,
     selection: Selection,
@@ -140,11 +155,7 @@ fn forgets(
     let Ok((database, _)) = open_files(alloc, files, options()) else {
         return Ok(false);
     };
-    let mut database = kept(alloc, database)?;
-    let forgotten = forget(alloc, &mut database, selection)?;
-    let again = forget(alloc, &mut database, selection)?;
-    let store = found(alloc, database)?;
-    Ok(forgotten.len() == cells && again.is_empty() && is_after(alloc, &store, &[left])?)
+    forgets_in(alloc, database, selection, cells, left)
 }
 
 #[test]
