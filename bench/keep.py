@@ -17,7 +17,7 @@ from pathlib import Path
 sys.path.insert(0, str(Path(__file__).resolve().parent.parent / 'tests' / 'outside'))
 from kept import ANALOG_VALUE, DESCRIPTION, PRESENT_VALUE, Asker, document, is_written, log_of, real_value, started, text_value, write_of
 
-TURNS = 20
+TURNS = 5  # what is asked in these has to fit in the 65,536 slots of a server
 SLICE = 1.0  # seconds of one side's turn
 BLOCK = 4096
 BLOCKS = 64  # of the file whose blocks are synced in turn, about as long as a log
