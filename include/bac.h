@@ -224,12 +224,12 @@ bac_status bac_add_file(bac_node *node, const uint8_t *octets, size_t len, bool 
 bac_status bac_start(bac_node *node, const bac_settings *settings);
 
 /* The same at a moment, for a node that ran before, at this link, and lost what it remembered: its program or its host was started anew. List the objects as
- * they are now. For 65,000 ms each new request is turned away (Abort, reason 0), so that none of the earlier life is performed twice, and for 75,000 ms each
- * ask is refused (BAC_NO_INVOKE_ID). */
+ * they are now. Up to 65,000 ms after it each new request is turned away (Abort, reason 0), so that none of the earlier life is performed twice, and up to
+ * 75,000 ms each ask is refused (BAC_NO_INVOKE_ID). */
 bac_status bac_start_restarted(bac_node *node, const bac_settings *settings, uint64_t now);
 
-/* Puts out the first object that bac_start refuses, and why: BAC_DUPLICATE is BAC_FLAW_SAME_IDENTIFIER here, at the later one of the two, and BAC_FLAW_NONE
- * comes exactly where it takes all that are listed. The first of these flaws that the object has comes: BAC_FLAW_TYPE, _INSTANCE, _NAME, _FILE,
+/* Puts out the first object that bac_start refuses, and why: unless another flaw comes first, BAC_DUPLICATE is BAC_FLAW_SAME_IDENTIFIER here, at the later
+ * one of the two. BAC_FLAW_NONE comes exactly where it takes all that are listed. The first of these flaws that the object has comes: BAC_FLAW_TYPE, _INSTANCE, _NAME, _FILE,
  * _SAME_IDENTIFIER, and then of its first property that has one _NUMBER, _TWICE, _VALUES, _LIMITS. bac_start_described has other rules: see bac_problem. The
  * node stays as it was. BAC_NOT_OPEN; BAC_ALREADY_STARTED; BAC_NO_MEMORY. */
 bac_status bac_start_problem(const bac_node *node, bac_refused *refused);
@@ -253,14 +253,15 @@ bac_status bac_problem(const bac_node *node, bac_refused *refused);
  * of the library: `bac serve --keep` has the same. A property has one cell. A file has one for each 1,024 octets, or what is left of them, and then one for how
  * many those are. What the network may not write has none: list it as it is. */
 
-/* Lists a cell that was kept, in any order, and instead of an earlier one of that place. BAC_BAD_OBJECT exactly where no cell has such a place; all else is
- * looked at by bac_start_kept. BAC_NOT_OPEN, BAC_ALREADY_STARTED, BAC_NO_MEMORY. The other starts leave these cells out of account. */
+/* Lists a cell that was kept, in any order, and instead of an earlier one of that place. BAC_BAD_OBJECT where the number is a place of no type, instance,
+ * property or part of a file, whichever the objects are; all else is looked at by bac_start_kept. BAC_NOT_OPEN, BAC_ALREADY_STARTED, BAC_NO_MEMORY. The other starts leave these cells out of account. */
 bac_status bac_add_kept(bac_node *node, uint64_t place, const uint8_t *octets, size_t len);
 
 /* Starts the node as bac_start_restarted does, and each property and file that the network may write has what the listed cells have of it, where they have
  * something; limits and lists of values do not hold here. A cell has no effect if there is no such property or file any more, or the network may not write it
- * any more. Otherwise as bac_start_restarted, and after those BAC_BAD_VALUE: a cell does not fit, as the property has another kind now, or a part of the file is
- * missing. Its place, of a file that of the number of its parts, is put out then, and only then. */
+ * any more. Otherwise as bac_start_restarted, and after those BAC_BAD_VALUE: a cell does not fit, as the property has another kind now, or a part of a file is
+ * missing, also where that file is gone. How long parts are is not looked at: keep each cell whole. The place of the cell, of a file that of the number of its
+ * parts, is put out then, and only then; all stays listed, and another cell of that place may be listed before the next start. */
 bac_status bac_start_kept(bac_node *node, const bac_settings *settings, uint64_t now, uint64_t *place);
 
 /* The same with objects of any type, as bac_start_described_restarted. */
