@@ -3,6 +3,7 @@
 
 mod address;
 mod asking;
+mod asking_json;
 mod asking_lines;
 mod bad_words;
 mod client_pair;
@@ -16,6 +17,7 @@ mod flights;
 mod grammar;
 mod help;
 mod help_words;
+mod json;
 mod keeping;
 mod lines;
 mod listing;

@@ -85,6 +85,13 @@ const DECODE: &[Word] = &[
         against: &[],
         help: "Prints objects, properties, errors, reasons and faults by their names, and values by their kinds",
     },
+    Word {
+        name: "json",
+        form: WordForm::Flag,
+        need: Need::Never,
+        against: &["text"],
+        help: "Prints each datagram as an object of JSON, one a line",
+    },
 ];
 
 /// Examples for `check`.
@@ -121,6 +128,13 @@ const CHECK: &[Word] = &[
         need: Need::Never,
         against: &["notes"],
         help: "For pcap and pcapng: prints how many frames carry each other BVLC function, by name",
+    },
+    Word {
+        name: "json",
+        form: WordForm::Flag,
+        need: Need::Never,
+        against: &["text"],
+        help: "Prints each bad frame or line, and the counts, as an object of JSON, one a line",
     },
 ];
 
@@ -383,6 +397,13 @@ const ASK: &[Word] = &[
         need: Need::Never,
         against: &["text"],
         help: "For `get`: writes only the octets of the file; if there are none, standard error says how the ask ended, and the status is 1",
+    },
+    Word {
+        name: "json",
+        form: WordForm::Flag,
+        need: Need::Never,
+        against: &["text", "raw", "lines"],
+        help: "Prints how the ask ended as an object of JSON",
     },
     Word {
         name: "lines",

@@ -1,0 +1,121 @@
+//! APDUs.
+ghost use Rattle.std.specs.Prelude.{◌≡◌, IfOk};
+ghost use Rattle.std.specs.Option.{option_map};
+ghost use Rattle.bac_apdu.specs.Views.{apdu_view, limits_view, segment_view};
+ghost use Rattle.bac_json.specs.Layers.{apdu_form, ending_apdu_form, optional_segment, request_apdu_form};
+ghost use Rattle.serde_json.specs.View.{view};
+
+use crate::text::octets_json;
+use bac_apdu::{Apdu, Limits, Segment};
+use bac_value_text::{abort_text, error_text, reject_text};
+use serde_json::{Value as Json, json};
+use std::alloc::{AllocError, Global};
+
+/// The numbers of a segment; Null unless the APDU is one.
+fn segment_json(alloc: Global, segment: Option<Segment>) -> Result<Json, AllocError>
+    ensures { IfOk result (λ v. view v ≡ optional_segment (option_map segment_view segment)) }
+{
+    let Some(segment) = segment else {
+        return Ok(Json::Null);
+    };
+    let (more, number, window) = (segment.more, segment.number, segment.window.size);
+    json!(in alloc; {"more": more, "seq": number, "win": window})
+}
+
+/// A Confirmed-Request.
+fn request_apdu_json(
+    alloc: Global,
+    limits: Limits,
+    id: u8,
+    segment: Option<Segment>,
+    choice: u8,
+    service: &[u8],
+) -> Result<Json, AllocError>
+    ensures { IfOk result (λ v. view v ≡ request_apdu_form (limits_view limits) id (option_map segment_view segment) choice service.now) }
+{
+    let takes = limits.takes_segments;
+    let (segments, octets) = (limits.max_segments, limits.max_apdu);
+    let segment = segment_json(alloc, segment)?;
+    let data = octets_json(alloc, service)?;
+    json!(in alloc; {
+        "apdu": octets, "choice": choice, "data": data, "id": id, "kind": "confirmed-request",
+        "sa": takes, "segment": segment, "segs": segments
+    })
+}
+
+/// An Error, a Reject or an Abort: its numbers, and in words what they mean; Null for other APDUs.
+fn ending_apdu_json(alloc: Global, apdu: Apdu<'_>) -> Result<Json, AllocError>
+    ensures { IfOk result (λ v. view v ≡ ending_apdu_form (apdu_view apdu.entry)) }
+{
+    match apdu {
+        Apdu::Error {
+            invoke_id: id,
+            choice,
+            class,
+            code,
+        } => {
+            let text = error_text(alloc, class, code)?;
+            json!(in alloc; {"choice": choice, "class": class, "code": code, "id": id, "kind": "error", "text": text})
+        }
+        Apdu::Reject {
+            invoke_id: id,
+            reason,
+        } => {
+            let text = reject_text(alloc, reason)?;
+            json!(in alloc; {"id": id, "kind": "reject", "reason": reason, "text": text})
+        }
+        Apdu::Abort {
+            server,
+            invoke_id: id,
+            reason,
+        } => {
+            let text = abort_text(alloc, reason)?;
+            json!(in alloc; {"id": id, "kind": "abort", "reason": reason, "srv": server, "text": text})
+        }
+        _ => Ok(Json::Null),
+    }
+}
+
+/// An APDU: its kind and its members, under the names that `decode` prints. An Err is out of memory.
+pub fn apdu_json(alloc: Global, apdu: Apdu<'_>) -> Result<Json, AllocError>
+    ensures { IfOk result (λ v. view v ≡ apdu_form (apdu_view apdu.entry)) }
+{
+    match apdu {
+        Apdu::ConfirmedRequest {
+            limits,
+            invoke_id,
+            segment,
+            choice,
+            service,
+        } => request_apdu_json(alloc, limits, invoke_id, segment, choice, service),
+        Apdu::UnconfirmedRequest { choice, service } => {
+            let data = octets_json(alloc, service)?;
+            json!(in alloc; {"choice": choice, "data": data, "kind": "unconfirmed-request"})
+        }
+        Apdu::SimpleAck {
+            invoke_id: id,
+            choice,
+        } => json!(in alloc; {"choice": choice, "id": id, "kind": "simple-ack"}),
+        Apdu::ComplexAck {
+            invoke_id: id,
+            segment,
+            choice,
+            service,
+        } => {
+            let segment = segment_json(alloc, segment)?;
+            let data = octets_json(alloc, service)?;
+            json!(in alloc; {"choice": choice, "data": data, "id": id, "kind": "complex-ack", "segment": segment})
+        }
+        Apdu::SegmentAck {
+            nak,
+            server,
+            invoke_id: id,
+            number,
+            window,
+        } => {
+            let window = window.size;
+            json!(in alloc; {"id": id, "kind": "segment-ack", "nak": nak, "seq": number, "srv": server, "win": window})
+        }
+        _ => ending_apdu_json(alloc, apdu),
+    }
+}

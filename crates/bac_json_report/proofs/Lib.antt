@@ -1,0 +1,2 @@
+pub mod LinesSeen
+pub mod Printed

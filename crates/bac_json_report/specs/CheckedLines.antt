@@ -1,0 +1,91 @@
+-- What `bac check --json` prints of a capture of lines.
+use Rattle.std.specs.Prelude.{◌≡◌, ℕ, ◌+◌, ◌-◌, Bool, true, false, List, [], ◌∷◌, codes, Option}
+use Rattle.bac_json_report.specs.Lines.{IsLineOf}
+use Rattle.bac_json_report.specs.Faults.{fault_form, outer_fault_form}
+use Rattle.bac_json_report.specs.LineReports.{AreReported, Ending, Prints}
+use Rattle.bac_json_report.specs.declared.check_lines.LineCheck.{LineCheck}
+use Rattle.bac_json_report.specs.declared.check_lines.Verdict.{Verdict}
+use Rattle.bac_json_report.specs.declared.check_lines.Verdict.TheVariants as code
+use Rattle.bac_text.specs.declared.fault.LineFault.{LineFault}
+use Rattle.bac_text.specs.declared.fault.LineFault.TheVariants.{NoCaptureLine, MomentGoesBack, Datagram}
+use Rattle.bac_text.specs.declared.fault.LineVerdict.{LineVerdict}
+use Rattle.bac_text.specs.declared.fault.LineVerdict.TheVariants.{Good, Note, Bad}
+use Rattle.bac_text.specs.declared.status.Status.{Status}
+use Rattle.bac_text.specs.Lines.{IsJudged, bad_among, good_among, short_capture_at}
+use Rattle.bac_text.specs.Statuses.{IfEnded, IsTallied}
+use Rattle.serde_json.specs.Data.{Data, member, no_members, null, number, object, string, unsigned}
+
+-- what a line is, as the plain lines of `check` judge it
+abbrev pub plain_verdict : Verdict → LineVerdict
+plain_verdict code.Good = Good
+plain_verdict code.Note = Note
+plain_verdict code.NoCaptureLine = Bad NoCaptureLine
+plain_verdict code.MomentGoesBack = Bad MomentGoesBack
+plain_verdict (code.Faulty fault) = Bad (Datagram fault)
+
+-- ---- a bad line
+
+abbrev pub line_fault_form : LineFault → Data
+line_fault_form NoCaptureLine = outer_fault_form (codes "line") (codes "not a capture line")
+line_fault_form MomentGoesBack = outer_fault_form (codes "line") (codes "moment goes back")
+line_fault_form (Datagram fault) = fault_form fault
+
+abbrev pub bad_line_form : (number : ℕ) → (fault : Data) → Data
+bad_line_form line fault =
+    object (member (codes "fault") fault (member (codes "line") (number (unsigned line)) (member (codes "type") (string (codes "fault")) no_members)))
+
+-- of the line with that number: nothing where it is good, or a note
+abbrev pub IsVerdictText : (number : ℕ) → LineVerdict → (text : List ℕ) → Type 0
+IsVerdictText number Good text = text ≡ []
+IsVerdictText number Note text = text ≡ []
+IsVerdictText number (Bad fault) text = IsLineOf (λ d. d ≡ bad_line_form number (line_fault_form fault)) text
+
+-- ---- all lines
+
+-- whether notes are taken, how many lines there are so far, how many of them are good and bad, and the greatest moment of the capture lines
+pub record Count : Type 0 where
+  pub notes : Bool
+  pub lines : ℕ
+  pub good : ℕ
+  pub bad : ℕ
+  pub latest : ℕ
+
+abbrev pub count_of : LineCheck → Count
+count_of c = record { notes = c.notes; lines = c.lines; good = c.good; bad = c.bad; latest = c.latest }
+
+abbrev pub no_lines : (notes : Bool) → Count
+no_lines notes = record { notes = notes; lines = 0; good = 0; bad = 0; latest = 0 }
+
+-- a line with this verdict is counted; the greatest moment is `latest` from then on
+pub record IsCounted (verdict : LineVerdict) (latest : ℕ) (before next : Count) : Type 0 where
+  pub notes : next.notes ≡ before.notes
+  pub lines : next.lines ≡ before.lines + 1
+  pub good : next.good ≡ before.good + good_among (verdict ∷ [])
+  pub bad : next.bad ≡ before.bad + bad_among (verdict ∷ [])
+  pub latest_is : next.latest ≡ latest
+
+-- a line is judged and counted, and its verdict printed
+pub record SeesLine (line : List ℕ) (before : Count) (text : List ℕ) (next : Count) : Type 0 where
+  pub verdict : LineVerdict
+  pub judged : IsJudged (short_capture_at before.notes line) before.latest verdict next.latest
+  pub text_of : IsVerdictText (before.lines + 1) verdict text
+  pub counted : IsCounted verdict next.latest before next
+
+-- all lines that are neither good nor bad are notes; null where none are taken
+abbrev pub notes_form : (notes : Bool) → Count → Data
+notes_form true c = number (unsigned (c.lines - (c.good + c.bad)))
+notes_form false c = null
+
+abbrev pub summary_form : Count → Data
+summary_form c =
+    object (member (codes "bad") (number (unsigned c.bad)) (member (codes "good") (number (unsigned c.good))
+    (member (codes "lines") (number (unsigned c.lines)) (member (codes "notes") (notes_form c.notes c)
+    (member (codes "type") (string (codes "summary")) no_members)))))
+
+pub record EndsLines (c : Count) (text : List ℕ) (status : Status) : Type 0 where
+  pub text_of : IsLineOf (λ d. d ≡ summary_form c) text
+  pub tallied : IsTallied c.bad status
+
+-- where the command ends with 0 or 1, all lines were checked; the other statuses say nothing of them
+abbrev pub AreChecked : (notes : Bool) → (input old new : Option (List ℕ)) → Status → Type 0
+AreChecked notes input old new s = IfEnded s (AreReported Count SeesLine EndsLines (no_lines notes) input old new s)

@@ -1,0 +1,21 @@
+//! What `bac decode`, `check` and `ask` print with `--json`: one object a line, over any readers, writers, links and clocks.
+#![tactic(auto)]
+
+mod ask;
+mod ask_end;
+mod check;
+mod check_lines;
+mod datagram;
+mod decode;
+mod fault;
+mod input;
+mod line;
+mod line_report;
+
+pub use ask::{JsonAsk, ask_json};
+pub use check::check_json_over;
+pub use check_lines::check_json_lines_over;
+pub use datagram::datagram_json;
+pub use decode::{decode_json_lines_over, decode_json_over};
+pub use fault::fault_json;
+pub use line::{json_line, print_json};
