@@ -144,7 +144,7 @@ ask_object line peer request m =
     (member (codes "milliseconds") (number (unsigned m.milliseconds)) (member (codes "object") (object_form (object_asked request))
     (member (codes "peer") (string (peer_text peer)) (member (codes "property") (property_or_null (property_asked request))
     (member (codes "reply") m.reply (member (codes "status") (string m.status) (member (codes "success") (boolean m.success)
-    (member (codes "text") m.text (member (codes "value") m.value no_members)))))))))))
+    (member (codes "text") m.text (member (codes "value") m.value no_members))))))))))))
 
 -- how it ended: the text is the line of `ask --text`, and success is what the exit status says
 pub record AreEndMembers (strict : Bool) (request : Request) (end : AskEnd) (milliseconds : ℕ) (m : Members) : Type 0 where
