@@ -72,7 +72,11 @@ fn ending_apdu_json(alloc: Global, apdu: Apdu<'_>) -> Result<Json, AllocError>
             let text = abort_text(alloc, reason)?;
             json!(in alloc; {"id": id, "kind": "abort", "reason": reason, "srv": server, "text": text})
         }
-        _ => Ok(Json::Null),
+        Apdu::ConfirmedRequest { .. }
+        | Apdu::UnconfirmedRequest { .. }
+        | Apdu::SimpleAck { .. }
+        | Apdu::ComplexAck { .. }
+        | Apdu::SegmentAck { .. } => Ok(Json::Null),
     }
 }
 
@@ -116,6 +120,8 @@ pub fn apdu_json(alloc: Global, apdu: Apdu<'_>) -> Result<Json, AllocError>
             let window = window.size;
             json!(in alloc; {"id": id, "kind": "segment-ack", "nak": nak, "seq": number, "srv": server, "win": window})
         }
-        _ => ending_apdu_json(alloc, apdu),
+        Apdu::Error { .. } | Apdu::Reject { .. } | Apdu::Abort { .. } => {
+            ending_apdu_json(alloc, apdu)
+        }
     }
 }

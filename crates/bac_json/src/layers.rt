@@ -3,9 +3,10 @@ ghost use Rattle.std.specs.Prelude.{◌≡◌, IfOk};
 ghost use Rattle.std.specs.Option.{option_map};
 ghost use Rattle.bac_apdu.specs.Reading.{apdu_at};
 ghost use Rattle.bac_apdu.specs.Views.{apdu_view};
-ghost use Rattle.bac_json.specs.Datagrams.{AreApduForms, AreContentForms, AreLayerForms, AreNpduForms, AreServiceForms, layers_view};
+ghost use Rattle.bac_json.specs.Datagrams.{AreApduForms, AreContentForms, AreLayerForms, AreNpduForms, AreServiceForms, IsReadComplex, IsReadRequest, layers_view};
 ghost use Rattle.bac_npdu.specs.Reading.{bvll_at, npdu_at};
 ghost use Rattle.bac_npdu.specs.Views.{message_view};
+ghost use Rattle.bac_service.specs.Services.{complex_at, request_at};
 ghost use Rattle.serde_json.specs.View.{view};
 
 use crate::apdu::apdu_json;
@@ -36,6 +37,26 @@ const NO_LAYERS: Layers = Layers {
     service: Json::Null,
 };
 
+/// The request that service data are; Null where they are none.
+fn request_or_null(alloc: Global, choice: u8, service: &[u8]) -> Result<Json, NoMemory>
+    ensures { IfOk result (λ v. IsReadRequest (request_at choice service.now) (view v)) }
+{
+    match read_request(choice, service) {
+        Ok(request) => request_json(alloc, request),
+        Err(_) => Ok(Json::Null),
+    }
+}
+
+/// What the service data of a ComplexACK are; Null where they are none.
+fn complex_or_null(alloc: Global, choice: u8, service: &[u8]) -> Result<Json, NoMemory>
+    ensures { IfOk result (λ v. IsReadComplex (complex_at choice service.now) (view v)) }
+{
+    match read_reply(choice, service) {
+        Ok(complex) => complex_json(alloc, complex),
+        Err(_) => Ok(Json::Null),
+    }
+}
+
 /// The request or the service data of a ComplexACK that an APDU carries whole.
 fn service_json(alloc: Global, apdu: Apdu<'_>) -> Result<Json, NoMemory>
     ensures { IfOk result (λ v. AreServiceForms (apdu_view apdu.entry) (view v)) }
@@ -46,20 +67,21 @@ fn service_json(alloc: Global, apdu: Apdu<'_>) -> Result<Json, NoMemory>
             choice,
             service,
             ..
-        } => match read_request(choice, service) {
-            Ok(request) => request_json(alloc, request),
-            Err(_) => Ok(Json::Null),
-        },
+        } => request_or_null(alloc, choice, service),
         Apdu::ComplexAck {
             segment: None,
             choice,
             service,
             ..
-        } => match read_reply(choice, service) {
-            Ok(complex) => complex_json(alloc, complex),
-            Err(_) => Ok(Json::Null),
-        },
-        _ => Ok(Json::Null),
+        } => complex_or_null(alloc, choice, service),
+        Apdu::ConfirmedRequest { .. }
+        | Apdu::UnconfirmedRequest { .. }
+        | Apdu::SimpleAck { .. }
+        | Apdu::ComplexAck { .. }
+        | Apdu::SegmentAck { .. }
+        | Apdu::Error { .. }
+        | Apdu::Reject { .. }
+        | Apdu::Abort { .. } => Ok(Json::Null),
     }
 }
 
@@ -93,14 +115,14 @@ fn content_layers(
 ) -> Result<Layers, NoMemory>
     ensures { IfOk result (λ l. (l.npdu ≡ npdu) × AreContentForms (option_map message_view message) contents.now (view l.apdu) (view l.service)) }
 {
-    if message.is_some() {
-        return Ok(Layers {
+    match message {
+        Some(_) => Ok(Layers {
             npdu,
             apdu: Json::Null,
             service: Json::Null,
-        });
+        }),
+        None => apdu_layers(alloc, npdu, contents),
     }
-    apdu_layers(alloc, npdu, contents)
 }
 
 /// An NPDU, and what it carries.

@@ -1,9 +1,10 @@
 //! Values, each with its kind.
 ghost use Rattle.std.specs.Prelude.{◌≡◌, ◌++◌, IfOk};
 ghost use Rattle.std.specs.Option.{option_map};
-ghost use Rattle.bac_json.specs.Values.{AreElementForms, IsElementForm, characters_form, kind_and_body, named_form, plain_text, sole_member, tagged_form};
+ghost use Rattle.bac_json.specs.Values.{AreElementForms, IsElementForm, characters_form, kind_and_body, member_or_null, named_form, plain_text, sole_member, tagged_form};
 ghost use Rattle.bac_json.specs.Values.{value_form};
 ghost use Rattle.bac_value.specs.Views.{element_view, value_view};
+ghost use Rattle.serde_json.specs.Find.{get};
 ghost use Rattle.serde_json.specs.View.{items_view, view};
 
 use crate::text::{number_json, octets_json, text_json, text_of};
@@ -110,16 +111,24 @@ pub fn data_json(alloc: Global, values: Data<'_>) -> Result<Vec<Json>, NoMemory>
     Ok(elements)
 }
 
+/// A member of an element; Null where it has no such one.
+fn member_or_null(element: &Json, name: &str) -> Result<Json, AllocError>
+    ensures { IfOk result (λ v. view v ≡ member_or_null (get name.now (view element.now))) }
+{
+    match element.get(name) {
+        Some(member) => member.clone(),
+        None => Ok(Json::Null),
+    }
+}
+
 /// A member of the only element, as data_json has it: of a value `kind` and `value`. Null where there is not exactly one element, or where it has no such
 /// member. An Err is out of memory.
 pub fn sole_member(elements: &[Json], name: &str) -> Result<Json, AllocError>
     ensures { IfOk result (λ v. view v ≡ sole_member name.now (items_view elements.now)) }
 {
-    let [element] = elements else {
-        return Ok(Json::Null);
-    };
-    match element.get(name) {
-        Some(member) => member.clone(),
-        None => Ok(Json::Null),
+    match elements {
+        [] => Ok(Json::Null),
+        [element] => member_or_null(element, name),
+        [_, _, ..] => Ok(Json::Null),
     }
 }

@@ -14,6 +14,7 @@ mod client_pairs;
 mod decoded;
 mod files;
 mod help;
+mod json;
 mod kept;
 mod logged;
 mod not_asked;
