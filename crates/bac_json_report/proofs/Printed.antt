@@ -1,9 +1,13 @@
 -- What was printed, and then flushed.
-use Rattle.std.proofs.Common.{ℕ, Bool, true, false, List, [], ◌++◌, Option, ap, subst, sym, ◌∙◌}
+use Rattle.std.proofs.Common.{◌≡◌, ℕ, Bool, true, false, List, [], Option, Some, None, Result, Ok, Err, OnOk, refl}
 use Rattle.std.specs.Io.KnownBytes.{Appends, Keeps}
 use Rattle.std.proofs.KnownBytes.{Appends-kept, Appends-nil}
-use Rattle.bac_json_report.specs.Datagrams.{IsDatagramText}
-use Rattle.bac_json_report.specs.Decoded.{IsShown}
+use Rattle.bac_json_report.specs.Datagrams.{IsDatagramLine, IsDatagramText, bad_line_form}
+use Rattle.bac_json_report.specs.Decoded.{IsLineText, IsShown}
+use Rattle.bac_json_report.specs.Lines.{IsJsonLine, IsLineOf}
+use Rattle.bac_text.specs.Layers.{IsAtFault, IsFine}
+use Rattle.bac_text.specs.declared.fault.LayerFault.{LayerFault}
+use Rattle.serde_json.specs.Data.{Data}
 use Rattle.bac_text.specs.Outcome.{shown_status}
 use Rattle.bac_text.specs.Texts.{AppendsText}
 
@@ -14,3 +18,28 @@ pub flushed : (fine : Bool) (datagram : List ℕ) (a b c : Option (List ℕ)) �
     → IsShown datagram a c (shown_status fine)
 flushed true datagram a b c told keeps = (told.0, (told.1.0, Appends-kept a b c told.0 told.1.1 keeps))
 flushed false datagram a b c told keeps = (told.0, (told.1.0, Appends-kept a b c told.0 told.1.1 keeps))
+
+-- ---- objects, each on its line
+
+pub line_of : {T E : Type 0} (r : Result T E) (IsForm : Data → Type 0) (d : Data) (a b : Option (List ℕ)) → IsForm d
+    → OnOk r (AppendsText a b (IsJsonLine d)) → OnOk r (AppendsText a b (IsLineOf IsForm))
+line_of (Ok t) IsForm d a b is p = (p.0, (record { json = d; is_form = is; line = p.1.0 }, p.1.1))
+line_of (Err e) IsForm d a b is p = tt
+
+-- the same, and then flushed
+pub line_kept : (IsForm : Data → Type 0) (d : Data) (a b c : Option (List ℕ)) → IsForm d
+    → AppendsText a b (IsJsonLine d) → Keeps b c → AppendsText a c (IsLineOf IsForm)
+line_kept IsForm d a b c is p keeps = (p.0, (record { json = d; is_form = is; line = p.1.0 }, Appends-kept a b c p.0 p.1.1 keeps))
+
+pub shown_fine : (line : ℕ) (datagram : List ℕ) (a b : Option (List ℕ)) → IsFine datagram → AppendsText a b (IsDatagramLine line datagram None)
+    → AppendsText a b (IsDatagramText line true datagram)
+shown_fine line datagram a b fine p = (p.0, ((fine, p.1.0), p.1.1))
+
+pub shown_faulty : (line : ℕ) (datagram : List ℕ) (fault : LayerFault) (a b : Option (List ℕ)) → IsAtFault datagram fault
+    → AppendsText a b (IsDatagramLine line datagram (Some fault)) → AppendsText a b (IsDatagramText line false datagram)
+shown_faulty line datagram fault a b at p = (p.0, (record { fault = fault; at_fault = at; line_of = p.1.0 }, p.1.1))
+
+-- a line that is no hexadecimal
+pub bad_line : (number : ℕ) (a b : Option (List ℕ)) → AppendsText a b (IsLineOf (λ d. d ≡ bad_line_form number))
+    → AppendsText a b (IsLineText number (Some None) false)
+bad_line number a b p = (p.0, ((refl, p.1.0), p.1.1))

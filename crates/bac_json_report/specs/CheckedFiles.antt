@@ -1,5 +1,5 @@
 -- What `bac check --json` prints of a capture.
-use Rattle.std.specs.Prelude.{◌≡◌, ℕ, ◌+◌, Bool, false, List, [], codes, Option}
+use Rattle.std.specs.Prelude.{◌≡◌, ℕ, ◌+◌, Bool, false, List, [], codes, Option, Some, None}
 use Rattle.bac_capture.specs.declared.check_fault.CapturedFault.{CapturedFault}
 use Rattle.bac_capture.specs.declared.check_fault.CapturedFault.TheVariants.{Link, Packet, Datagram, File}
 use Rattle.bac_capture.specs.declared.check_fault.Verdict as plain
@@ -43,12 +43,16 @@ abbrev pub bad_frame_form : (number : ℕ) → (fault : Data) → Data
 bad_frame_form frame fault =
     object (member (codes "fault") fault (member (codes "frame") (number (unsigned frame)) (member (codes "type") (string (codes "fault")) no_members)))
 
+abbrev pub verdict_fault : plain.Verdict → Option Data
+verdict_fault Nothing = None
+verdict_fault Good = None
+verdict_fault (Other other) = None
+verdict_fault (Bad fault) = Some (frame_fault_form fault)
+
 -- for the frame with this number, from 1: nothing unless it is bad
-abbrev pub IsVerdictText : (number : ℕ) → plain.Verdict → (text : List ℕ) → Type 0
-IsVerdictText number Nothing text = text ≡ []
-IsVerdictText number Good text = text ≡ []
-IsVerdictText number (Other other) text = text ≡ []
-IsVerdictText number (Bad fault) text = IsLineOf (λ d. d ≡ bad_frame_form number (frame_fault_form fault)) text
+abbrev pub IsFaultText : (number : ℕ) → Option Data → (text : List ℕ) → Type 0
+IsFaultText number None text = text ≡ []
+IsFaultText number (Some fault) text = IsLineOf (λ d. d ≡ bad_frame_form number fault) text
 
 -- ---- a file
 
@@ -70,7 +74,7 @@ counted c v = record { frames = c.frames + 1; good = c.good + good_in v; bad = c
 
 -- a frame with this verdict is printed if it is bad, and counted
 pub record IsCounted (verdict : plain.Verdict) (before : Count) (text : List ℕ) (next : Count) : Type 0 where
-  pub text_of : IsVerdictText (before.frames + 1) verdict text
+  pub text_of : IsFaultText (before.frames + 1) (verdict_fault verdict) text
   pub is : next ≡ counted before verdict
 
 -- a frame is checked; `also` is a port in addition to the sixteen

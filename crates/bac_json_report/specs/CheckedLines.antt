@@ -1,5 +1,5 @@
 -- What `bac check --json` prints of a capture of lines.
-use Rattle.std.specs.Prelude.{◌≡◌, ℕ, ◌+◌, ◌-◌, Bool, true, false, List, [], ◌∷◌, codes, Option}
+use Rattle.std.specs.Prelude.{◌≡◌, ℕ, ◌+◌, ◌-◌, Bool, true, false, List, [], ◌∷◌, codes, Option, Some, None}
 use Rattle.bac_json_report.specs.Lines.{IsLineOf}
 use Rattle.bac_json_report.specs.Faults.{fault_form, outer_fault_form}
 use Rattle.bac_json_report.specs.LineReports.{AreReported, Ending, Prints}
@@ -34,11 +34,15 @@ abbrev pub bad_line_form : (number : ℕ) → (fault : Data) → Data
 bad_line_form line fault =
     object (member (codes "fault") fault (member (codes "line") (number (unsigned line)) (member (codes "type") (string (codes "fault")) no_members)))
 
--- of the line with that number: nothing where it is good, or a note
-abbrev pub IsVerdictText : (number : ℕ) → LineVerdict → (text : List ℕ) → Type 0
-IsVerdictText number Good text = text ≡ []
-IsVerdictText number Note text = text ≡ []
-IsVerdictText number (Bad fault) text = IsLineOf (λ d. d ≡ bad_line_form number (line_fault_form fault)) text
+abbrev pub verdict_fault : LineVerdict → Option Data
+verdict_fault Good = None
+verdict_fault Note = None
+verdict_fault (Bad fault) = Some (line_fault_form fault)
+
+-- of the line with that number: nothing where it has no fault
+abbrev pub IsFaultText : (number : ℕ) → Option Data → (text : List ℕ) → Type 0
+IsFaultText number None text = text ≡ []
+IsFaultText number (Some fault) text = IsLineOf (λ d. d ≡ bad_line_form number fault) text
 
 -- ---- all lines
 
@@ -68,7 +72,7 @@ pub record IsCounted (verdict : LineVerdict) (latest : ℕ) (before next : Count
 pub record SeesLine (line : List ℕ) (before : Count) (text : List ℕ) (next : Count) : Type 0 where
   pub verdict : LineVerdict
   pub judged : IsJudged (short_capture_at before.notes line) before.latest verdict next.latest
-  pub text_of : IsVerdictText (before.lines + 1) verdict text
+  pub text_of : IsFaultText (before.lines + 1) (verdict_fault verdict) text
   pub counted : IsCounted verdict next.latest before next
 
 -- all lines that are neither good nor bad are notes; null where none are taken

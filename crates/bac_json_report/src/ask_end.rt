@@ -7,10 +7,10 @@ ghost use Rattle.bac_driver.specs.Views.{question_view};
 ghost use Rattle.bac_json.specs.Forms.{optional_number};
 ghost use Rattle.bac_json_report.specs.AskEnds.{AreEndMembers, IsEndReply, IsEndingReply, IsSoleOf, IsSoleValue, IsTextOf, ask_object, end_status, ending_status};
 ghost use Rattle.bac_json_report.specs.AskEnds.{fault_number_form, index_or_null, members_view, object_asked, property_asked, property_or_null, reply_status};
-ghost use Rattle.bac_json_report.specs.AskEnds.{reply_values, values_in, without_end};
+ghost use Rattle.bac_json_report.specs.AskEnds.{complex_values, reply_values, values_in, without_end};
 ghost use Rattle.bac_npdu.specs.Views.{peer_view};
 ghost use Rattle.bac_requester.specs.TransactionViews.{ending_view};
-ghost use Rattle.bac_service.specs.Views.{owned_reply_view, owned_request_view, property_reference_view, reply_view, request_view};
+ghost use Rattle.bac_service.specs.Views.{complex_view, owned_reply_view, owned_request_view, property_reference_view, reply_view, request_view};
 ghost use Rattle.bac_value.specs.Views.{object_identifier_view};
 ghost use Rattle.serde_json.specs.View.{view};
 
@@ -22,7 +22,8 @@ use bac_json::{
 };
 use bac_requester::Ending;
 use bac_service::{
-    AnyComplex, AnyReply, AnyRequest, OwnedReply, OwnedRequest, PropertyReference, Reply, Request,
+    AnyComplex, AnyReply, AnyRequest, Complex, OwnedReply, OwnedRequest, PropertyReference, Reply,
+    Request,
 };
 use bac_text::peer_text;
 use bac_value::{Data, NoMemory, ObjectIdentifier};
@@ -165,12 +166,24 @@ fn reply_of(end: &AskEnd) -> Option<&OwnedReply>
     }
 }
 
+fn complex_values(complex: Complex<'_>) -> Option<Data<'_>>
+    ensures { option_map (λ v. v.octets.now) result ≡ complex_values (complex_view complex.entry) }
+{
+    match complex {
+        AnyComplex::FileRead(_) => None,
+        AnyComplex::FileWritten(_) => None,
+        AnyComplex::PropertyRead(read) => Some(read.values),
+    }
+}
+
 fn reply_values(reply: Reply<'_>) -> Option<Data<'_>>
     ensures { option_map (λ v. v.octets.now) result ≡ reply_values (reply_view reply.entry) }
 {
     match reply {
-        AnyReply::Complex(AnyComplex::PropertyRead(read)) => Some(read.values),
-        _ => None,
+        AnyReply::Simple => None,
+        AnyReply::Complex(complex) => complex_values(complex),
+        AnyReply::Error { .. } => None,
+        AnyReply::Reject(_) => None,
     }
 }
 

@@ -1,10 +1,14 @@
 //! `bac check --json`: each bad frame of a capture file as one object, and the counts.
-ghost use Rattle.std.specs.Prelude.{◌≡◌, ◌≤◌, ◌+◌, IfOk, OnOk};
+ghost use Rattle.std.specs.Prelude.{◌≡◌, ◌≤◌, ◌+◌, codes, IfOk, OnOk};
 ghost use Rattle.bac_capture.specs.BlockViews.{frame_view};
 ghost use Rattle.bac_capture.specs.Counts.{IsTallied};
 ghost use Rattle.bac_capture.specs.Judged.{IsDatagramVerdict, IsVerdict};
 ghost use Rattle.bac_capture.specs.Reports.{IsPrinted};
-ghost use Rattle.bac_json_report.specs.CheckedFiles.{IsCounted, IsReportOf, IsVerdictText, bad_frame_form, count_of, counted, plain_verdict, summary_form};
+ghost use Rattle.bac_capture.specs.Texts.{file_fault_text, packet_fault_text};
+ghost use Rattle.std.specs.Option.{option_map};
+ghost use Rattle.bac_json_report.specs.CheckedFiles.{IsCounted, IsFaultText, IsReportOf, bad_frame_form, count_of, counted, plain_verdict, summary_form};
+ghost use Rattle.bac_json_report.specs.CheckedFiles.{verdict_fault};
+ghost use Rattle.bac_json_report.specs.Faults.{outer_fault_form};
 ghost use Rattle.bac_json_report.specs.Lines.{IsLineOf};
 ghost use Rattle.bac_text.specs.Texts.{AppendsText};
 ghost use Rattle.serde_json.specs.View.{view};
@@ -73,6 +77,33 @@ fn print_bad<W: Write>(alloc: Global, frame: u64, fault: Json, out: &mut W) -> i
     print_json(alloc, &json, out)
 }
 
+fn packet_fault_json(alloc: Global, fault: PacketFault) -> Result<Json, AllocError>
+    ensures { IfOk result (λ v. view v ≡ outer_fault_form (codes "frame") (packet_fault_text fault)) }
+{
+    let text = format!(in alloc; "{fault}")?;
+    outer_fault_json(alloc, "frame", text.as_str())
+}
+
+fn file_fault_json(alloc: Global, fault: FileFault) -> Result<Json, AllocError>
+    ensures { IfOk result (λ v. view v ≡ outer_fault_form (codes "file") (file_fault_text fault)) }
+{
+    let text = format!(in alloc; "{fault}")?;
+    outer_fault_json(alloc, "file", text.as_str())
+}
+
+/// What is wrong with a frame, if something is.
+fn fault_of(alloc: Global, verdict: Verdict) -> Result<Option<Json>, AllocError>
+    ensures { IfOk result (λ o. option_map view o ≡ verdict_fault (plain_verdict verdict)) }
+{
+    match verdict {
+        Verdict::Nothing | Verdict::Good | Verdict::Other(_) => Ok(None),
+        Verdict::Link => Ok(Some(outer_fault_json(alloc, "frame", "unknown link layer")?)),
+        Verdict::Packet(fault) => Ok(Some(packet_fault_json(alloc, fault)?)),
+        Verdict::Faulty(fault) => Ok(Some(fault_json(alloc, fault)?)),
+        Verdict::File(fault) => Ok(Some(file_fault_json(alloc, fault)?)),
+    }
+}
+
 /// Prints what is wrong with the frame of that number, if something is.
 fn print_verdict<W: Write>(
     alloc: Global,
@@ -80,22 +111,12 @@ fn print_verdict<W: Write>(
     verdict: Verdict,
     out: &mut W,
 ) -> io::Result<()>
-    ensures { OnOk result (AppendsText (W.contents out.old) (W.contents out.new) (IsVerdictText number (plain_verdict verdict))) }
+    ensures { OnOk result (AppendsText (W.contents out.old) (W.contents out.new) (IsFaultText number (verdict_fault (plain_verdict verdict)))) }
 {
-    let fault = match verdict {
-        Verdict::Nothing | Verdict::Good | Verdict::Other(_) => return Ok(()),
-        Verdict::Link => outer_fault_json(alloc, "frame", "unknown link layer")?,
-        Verdict::Packet(fault) => {
-            let text = format!(in alloc; "{fault}")?;
-            outer_fault_json(alloc, "frame", text.as_str())?
-        }
-        Verdict::Faulty(fault) => fault_json(alloc, fault)?,
-        Verdict::File(fault) => {
-            let text = format!(in alloc; "{fault}")?;
-            outer_fault_json(alloc, "file", text.as_str())?
-        }
-    };
-    print_bad(alloc, number, fault, out)
+    match fault_of(alloc, verdict)? {
+        Some(fault) => print_bad(alloc, number, fault, out),
+        None => Ok(()),
+    }
 }
 
 /// The frames so far.

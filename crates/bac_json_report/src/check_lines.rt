@@ -1,7 +1,8 @@
 //! `bac check --json` for captures of lines: each bad line as one object, and the counts.
 ghost use Rattle.std.specs.Prelude.{◌≡◌, ◌≤◌, ◌+◌, IfOk, OnOk};
 ghost use Rattle.std.specs.Option.{option_map};
-ghost use Rattle.bac_json_report.specs.CheckedLines.{AreChecked, IsCounted, IsVerdictText, bad_line_form, count_of, notes_form, plain_verdict, summary_form};
+ghost use Rattle.bac_json_report.specs.CheckedLines.{AreChecked, IsCounted, IsFaultText, bad_line_form, count_of, notes_form, plain_verdict, summary_form};
+ghost use Rattle.bac_json_report.specs.CheckedLines.{verdict_fault};
 ghost use Rattle.bac_json_report.specs.Lines.{IsLineOf};
 ghost use Rattle.bac_text.specs.Capture.{capture_at};
 ghost use Rattle.bac_text.specs.Lines.{IsJudged, short_capture_at};
@@ -76,6 +77,20 @@ fn print_bad<W: Write>(alloc: Global, line: u64, fault: Json, out: &mut W) -> io
     print_json(alloc, &json, out)
 }
 
+/// What is wrong with a line, if something is.
+fn fault_of(alloc: Global, verdict: Verdict) -> Result<Option<Json>, AllocError>
+    ensures { IfOk result (λ o. option_map view o ≡ verdict_fault (plain_verdict verdict)) }
+{
+    match verdict {
+        Verdict::Good | Verdict::Note => Ok(None),
+        Verdict::NoCaptureLine => {
+            Ok(Some(outer_fault_json(alloc, "line", "not a capture line")?))
+        }
+        Verdict::MomentGoesBack => Ok(Some(outer_fault_json(alloc, "line", "moment goes back")?)),
+        Verdict::Faulty(fault) => Ok(Some(fault_json(alloc, fault)?)),
+    }
+}
+
 /// Prints what is wrong with the line of that number, if something is.
 fn print_verdict<W: Write>(
     alloc: Global,
@@ -83,15 +98,12 @@ fn print_verdict<W: Write>(
     verdict: Verdict,
     out: &mut W,
 ) -> io::Result<()>
-    ensures { OnOk result (AppendsText (W.contents out.old) (W.contents out.new) (IsVerdictText number (plain_verdict verdict))) }
+    ensures { OnOk result (AppendsText (W.contents out.old) (W.contents out.new) (IsFaultText number (verdict_fault (plain_verdict verdict)))) }
 {
-    let fault = match verdict {
-        Verdict::Good | Verdict::Note => return Ok(()),
-        Verdict::NoCaptureLine => outer_fault_json(alloc, "line", "not a capture line")?,
-        Verdict::MomentGoesBack => outer_fault_json(alloc, "line", "moment goes back")?,
-        Verdict::Faulty(fault) => fault_json(alloc, fault)?,
-    };
-    print_bad(alloc, number, fault, out)
+    match fault_of(alloc, verdict)? {
+        Some(fault) => print_bad(alloc, number, fault, out),
+        None => Ok(()),
+    }
 }
 
 /// The lines so far; those that are neither good nor bad are notes.
