@@ -70,10 +70,16 @@ fn judge(frame: Frame<'_>, ports: Ports) -> Verdict
     }
 }
 
+fn bad_frame_json(alloc: Global, frame: u64, fault: Json) -> Result<Json, AllocError>
+    ensures { IfOk result (λ v. view v ≡ bad_frame_form frame (view fault)) }
+{
+    json!(in alloc; {"fault": fault, "frame": frame, "type": "fault"})
+}
+
 fn print_bad<W: Write>(alloc: Global, frame: u64, fault: Json, out: &mut W) -> io::Result<()>
     ensures { OnOk result (AppendsText (W.contents out.old) (W.contents out.new) (IsLineOf (λ d. d ≡ bad_frame_form frame (view fault)))) }
 {
-    let json = json!(in alloc; {"fault": fault, "frame": frame, "type": "fault"})?;
+    let json = bad_frame_json(alloc, frame, fault)?;
     print_json(alloc, &json, out)
 }
 

@@ -70,10 +70,16 @@ fn judge(alloc: Global, notes: bool, line: &[u8], latest: u64) -> Result<(Verdic
     judge_short(alloc, notes, line, latest)
 }
 
+fn bad_line_json(alloc: Global, line: u64, fault: Json) -> Result<Json, AllocError>
+    ensures { IfOk result (λ v. view v ≡ bad_line_form line (view fault)) }
+{
+    json!(in alloc; {"fault": fault, "line": line, "type": "fault"})
+}
+
 fn print_bad<W: Write>(alloc: Global, line: u64, fault: Json, out: &mut W) -> io::Result<()>
     ensures { OnOk result (AppendsText (W.contents out.old) (W.contents out.new) (IsLineOf (λ d. d ≡ bad_line_form line (view fault)))) }
 {
-    let json = json!(in alloc; {"fault": fault, "line": line, "type": "fault"})?;
+    let json = bad_line_json(alloc, line, fault)?;
     print_json(alloc, &json, out)
 }
 

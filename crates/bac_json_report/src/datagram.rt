@@ -74,6 +74,7 @@ fn print_datagram<W: Write>(
 }
 
 /// Prints a datagram as one object, with the number of its line. Answers whether it has no fault.
+#[tactic(auto, using(crate::proofs::Printed::shown_fine, crate::proofs::Printed::shown_faulty))]
 pub(crate) fn show_datagram<W: Write>(
     alloc: Global,
     line: u64,

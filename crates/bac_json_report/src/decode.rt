@@ -57,6 +57,7 @@ pub fn decode_json_over<O: Write, E: Write>(
 }
 
 /// Prints what is to be read of a line whose octets are not too many. Answers whether it has no fault.
+#[tactic(auto, using(crate::proofs::Printed::bad_line))]
 fn show_short<W: Write>(alloc: Global, number: u64, line: &[u8], out: &mut W) -> io::Result<bool>
     ensures { IfOk result (λ fine. AppendsText (W.contents out.old) (W.contents out.new)
         (IsLineText number (option_map octets_in (read_of true line.now)) fine)) }
@@ -75,6 +76,7 @@ fn show_short<W: Write>(alloc: Global, number: u64, line: &[u8], out: &mut W) ->
 }
 
 /// Prints the line with this number. Answers whether it has no fault.
+#[tactic(auto, using(crate::proofs::Printed::bad_line))]
 fn show_line<W: Write>(alloc: Global, number: u64, line: &[u8], out: &mut W) -> io::Result<bool>
     ensures { IfOk result (λ fine. AppendsText (W.contents out.old) (W.contents out.new) (IsLineText number (datagram_line_at line.now) fine)) }
 {

@@ -11,11 +11,11 @@ loop-preserved g c =
     one_more g.V.LineReport.State g.V.LineReport.Visits (g.R.Read.remaining c.args.input.now) (g.R.Read.remaining c.loop.input)
     (g.R.Read.remaining c.visit_next.new.input) (g.W.Write.contents c.args.out.now) (g.W.Write.contents c.loop.out) (g.W.Write.contents c.visit_next.new.out)
     (g.V.LineReport.state c.args.report.now) (g.V.LineReport.state c.loop.report) (g.V.LineReport.state c.visit_next.new.report)
-    c.in_ok-visit_next.field-0 c.loop.invariant c.in_ok-visit_next.ensures c.if-branch.false
+    c.in_ok-visit_next.field-0 c.loop.invariant c.in_ok-visit_next.ensures c.if-not-branch.false
 
-pub returns-then-branch : goal.returns-then-branch
-returns-then-branch g c =
+pub returns-then-not-branch : goal.returns-then-not-branch
+returns-then-not-branch g c =
     all_seen g.V.LineReport.State g.V.LineReport.Visits (g.R.Read.remaining c.args.input.now) (g.R.Read.remaining c.loop.input)
     (g.R.Read.remaining c.visit_next.new.input) (g.W.Write.contents c.args.out.now) (g.W.Write.contents c.loop.out) (g.W.Write.contents c.visit_next.new.out)
     (g.V.LineReport.state c.args.report.now) (g.V.LineReport.state c.loop.report) (g.V.LineReport.state c.visit_next.new.report)
-    c.in_ok-visit_next.field-0 c.loop.invariant c.in_ok-visit_next.ensures c.if-branch.true
+    c.in_ok-visit_next.field-0 c.loop.invariant c.in_ok-visit_next.ensures c.if-not-branch.true

@@ -3,8 +3,8 @@ use Rattle.std.proofs.KnownBytes.{Keeps-refl}
 use Rattle.bac_json_report.proofs.LinesSeen.{line_seen, none_left}
 use Rattle.bac_json_report.proofs.line_report.visit_next.Goals as goal
 
-pub returns-in-Ok-true-in-Ok : goal.returns-in-Ok-true-in-Ok
-returns-in-Ok-true-in-Ok g c =
+pub returns-in-Ok : goal.returns-in-Ok
+returns-in-Ok g c =
     line_seen g.V.LineReport.State g.V.LineReport.Visits (g.R.Read.remaining c.args.input.now) (g.R.Read.remaining c.next_line.new.input)
     (g.W.Write.contents c.args.out.now) (g.W.Write.contents c.visit_line.new.out) c.next_line.new.line.items c.deref.result.now
     (g.V.LineReport.state c.args.report.now) (g.V.LineReport.state c.visit_line.new.report) _ c.in-Ok-true.field-0-test c.deref.ensures.value
