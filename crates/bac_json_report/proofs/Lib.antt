@@ -1,3 +1,4 @@
 pub mod LinesSeen
 pub mod Printed
 pub mod Checked
+pub mod Asked
