@@ -1,5 +1,5 @@
 //! Asks whose ends are printed as objects of JSON: what `ask --json` does.
-ghost use Rattle.std.specs.Prelude.{None, IfErr, IfOk};
+ghost use Rattle.std.specs.Prelude.{IfErr, IfOk};
 ghost use Rattle.bac_driver.specs.Runs.{timed};
 ghost use Rattle.bac_driver.specs.Views.{question_view};
 ghost use Rattle.bac_text.specs.Statuses.{IsFailure};

@@ -1,6 +1,7 @@
 -- How an ask ended was printed.
-use Rattle.std.proofs.Common.{◌≡◌, ◌-◌, ◌++◌, ◌∷◌, [], ℕ, Bool, Option, Some, List, length, suc, take, ap, refl, subst, sym, ◌∙◌, arith}
-use Rattle.std.specs.Io.KnownBytes.{Appends, Keeps}
+use Rattle.std.proofs.Common.{◌≡◌, ◌-◌, ◌++◌, [], ℕ, Bool, Option, Some, List, length, take, ap, subst, sym, ◌∙◌, arith, length-append}
+use Rattle.std.proofs.Math.Seq.{take-append_seam}
+use Rattle.std.specs.Io.KnownBytes.{Keeps}
 use Rattle.std.proofs.KnownBytes.{Appends-kept}
 use Rattle.bac_commands.specs.AskEnds.{PrintsWords}
 use Rattle.bac_driver.specs.Asking.{Question}
@@ -27,11 +28,9 @@ end_printed line strict q end milliseconds succeeded m d a b c are success is p 
 -- ---- the line of words
 
 front_of : (words : List ℕ) → take (length (words ++ line_end) - 1) (words ++ line_end) ≡ words
-front_of [] = refl
-front_of (x ∷ []) = refl
-front_of (x ∷ y ∷ words) =
-    let more : length (x ∷ y ∷ words ++ line_end) - 1 ≡ suc (length (y ∷ words ++ line_end) - 1) = omega (arith) in
-    rw more (ap (λ (l : List ℕ). x ∷ l) (front_of (y ∷ words)))
+front_of words =
+    let len : length (words ++ line_end) - 1 ≡ length words = omega (arith, length-append words line_end) in
+    ap (λ (n : ℕ). take n (words ++ line_end)) len ∙ take-append_seam words line_end
 
 pub text_told : (strict : Bool) (request : Request) (end : AskEnd) (line : List ℕ) (text : Data) (success : Bool)
     → PrintsWords strict request end success (Some []) (Some line) → text ≡ text_form (without_end line) → IsTextOf strict request end text success

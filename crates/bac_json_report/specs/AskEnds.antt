@@ -71,8 +71,8 @@ end_status (end.Refused why) = codes "refused"
 end_status end.NoEnding = codes "no ending"
 
 -- what came back, or why the node refused the ask
-abbrev pub fault_number_form : (fault : ℕ) → Data
-fault_number_form fault = object (member (codes "fault") (number (unsigned fault)) no_members)
+abbrev pub refusal_form : (fault : ℕ) → Data
+refusal_form fault = object (member (codes "fault") (number (unsigned fault)) no_members)
 
 abbrev pub IsEndingReply : Ending → Data → Type 0
 IsEndingReply (Answered r) d = IsReplyForm r d
@@ -83,7 +83,7 @@ IsEndingReply Expired d = d ≡ null
 
 abbrev pub IsEndReply : AskEnd → Data → Type 0
 IsEndReply (end.Ended how) d = IsEndingReply (ending_view how) d
-IsEndReply (end.Refused why) d = d ≡ fault_number_form (ask_fault_number why)
+IsEndReply (end.Refused why) d = d ≡ refusal_form (ask_fault_number why)
 IsEndReply end.NoEnding d = d ≡ null
 
 -- ---- the only value of the property that was read

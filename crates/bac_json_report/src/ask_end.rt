@@ -6,7 +6,7 @@ ghost use Rattle.bac_commands.specs.Words.{AreEndWords};
 ghost use Rattle.bac_driver.specs.Views.{question_view};
 ghost use Rattle.bac_json.specs.Forms.{optional_number};
 ghost use Rattle.bac_json_report.specs.AskEnds.{AreEndMembers, IsEndReply, IsEndingReply, IsSoleOf, IsSoleValue, IsTextOf, ask_object, end_status, ending_status};
-ghost use Rattle.bac_json_report.specs.AskEnds.{fault_number_form, index_or_null, members_view, object_asked, property_asked, property_or_null, reply_status};
+ghost use Rattle.bac_json_report.specs.AskEnds.{refusal_form, index_or_null, members_view, object_asked, property_asked, property_or_null, reply_status};
 ghost use Rattle.bac_json_report.specs.AskEnds.{complex_values, reply_values, values_in, without_end};
 ghost use Rattle.bac_npdu.specs.Views.{peer_view};
 ghost use Rattle.bac_requester.specs.TransactionViews.{ending_view};
@@ -124,8 +124,8 @@ fn ending_json(alloc: Global, ending: &Ending) -> Result<Json, NoMemory>
     }
 }
 
-fn fault_json(alloc: Global, fault: u8) -> Result<Json, AllocError>
-    ensures { IfOk result (λ v. view v ≡ fault_number_form fault) }
+fn refusal_json(alloc: Global, fault: u8) -> Result<Json, AllocError>
+    ensures { IfOk result (λ v. view v ≡ refusal_form fault) }
 {
     json!(in alloc; {"fault": fault})
 }
@@ -136,7 +136,7 @@ fn end_json(alloc: Global, end: &AskEnd) -> Result<Json, NoMemory>
 {
     match end {
         AskEnd::Ended(ending) => ending_json(alloc, ending),
-        AskEnd::Refused(fault) => Ok(fault_json(alloc, fault.number())?),
+        AskEnd::Refused(fault) => Ok(refusal_json(alloc, fault.number())?),
         AskEnd::NoEnding => Ok(Json::Null),
     }
 }

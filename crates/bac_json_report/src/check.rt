@@ -126,6 +126,7 @@ fn print_verdict<W: Write>(
 }
 
 /// The frames so far.
+#[derive(Drop)]
 struct FileCheck {
     alloc: Global,
     frames: u64,

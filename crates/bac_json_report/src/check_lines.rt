@@ -113,6 +113,7 @@ fn print_verdict<W: Write>(
 }
 
 /// The lines so far; those that are neither good nor bad are notes.
+#[derive(Drop)]
 struct LineCheck {
     alloc: Global,
     /// Whether notes are taken.

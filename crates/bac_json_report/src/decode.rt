@@ -88,6 +88,7 @@ fn show_line<W: Write>(alloc: Global, number: u64, line: &[u8], out: &mut W) -> 
 }
 
 /// The lines that were printed so far.
+#[derive(Drop)]
 struct Decoding {
     alloc: Global,
     lines: u64,
