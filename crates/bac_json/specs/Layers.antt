@@ -1,5 +1,5 @@
 -- The layers of a datagram as JSON, under the names that their lines have.
-use Rattle.std.specs.Prelude.{ℕ, List, codes, Option, Some, None}
+use Rattle.std.specs.Prelude.{ℕ, Bool, List, codes, Option, Some, None}
 use Rattle.bac_apdu.specs.Apdu.{Limits, Segment, Apdu, ConfirmedRequest, UnconfirmedRequest, SimpleAck, ComplexAck, SegmentAck}
 use Rattle.bac_apdu.specs.Apdu.{Error, Reject, Abort}
 use Rattle.bac_npdu.specs.Npdu.{NpduView, DestinationView, MessageView}
@@ -48,20 +48,29 @@ request_apdu_form limits id segment choice service =
     (member (codes "kind") (string (codes "confirmed-request")) (member (codes "sa") (boolean limits.takes_segments)
     (member (codes "segment") (optional_segment segment) (member (codes "segs") (number (unsigned limits.max_segments)) no_members))))))))
 
--- an Error, a Reject or an Abort; nothing for others
-abbrev pub ending_apdu_form : Apdu → Data
-ending_apdu_form (Error id choice class code) =
+abbrev pub segment_ack_form : (nak server : Bool) → (id place window : ℕ) → Data
+segment_ack_form nak server id place window =
+    object (member (codes "id") (number (unsigned id)) (member (codes "kind") (string (codes "segment-ack"))
+    (member (codes "nak") (boolean nak) (member (codes "seq") (number (unsigned place)) (member (codes "srv") (boolean server)
+    (member (codes "win") (number (unsigned window)) no_members))))))
+
+-- an Error, a Reject and an Abort, also in words
+abbrev pub error_apdu_form : (id choice class code : ℕ) → Data
+error_apdu_form id choice class code =
     object (member (codes "choice") (number (unsigned choice)) (member (codes "class") (number (unsigned class))
     (member (codes "code") (number (unsigned code)) (member (codes "id") (number (unsigned id))
     (member (codes "kind") (string (codes "error")) (member (codes "text") (string (error_text class code)) no_members))))))
-ending_apdu_form (Reject id reason) =
+
+abbrev pub reject_apdu_form : (id reason : ℕ) → Data
+reject_apdu_form id reason =
     object (member (codes "id") (number (unsigned id)) (member (codes "kind") (string (codes "reject"))
     (member (codes "reason") (number (unsigned reason)) (member (codes "text") (string (reject_text reason)) no_members))))
-ending_apdu_form (Abort server id reason) =
+
+abbrev pub abort_apdu_form : (server : Bool) → (id reason : ℕ) → Data
+abort_apdu_form server id reason =
     object (member (codes "id") (number (unsigned id)) (member (codes "kind") (string (codes "abort"))
     (member (codes "reason") (number (unsigned reason)) (member (codes "srv") (boolean server)
     (member (codes "text") (string (abort_text reason)) no_members)))))
-ending_apdu_form _ = null
 
 abbrev pub apdu_form : Apdu → Data
 apdu_form (ConfirmedRequest limits id segment choice service) = request_apdu_form limits id segment choice service
@@ -75,8 +84,7 @@ apdu_form (ComplexAck id segment choice service) =
     object (member (codes "choice") (number (unsigned choice)) (member (codes "data") (octets_form service)
     (member (codes "id") (number (unsigned id)) (member (codes "kind") (string (codes "complex-ack"))
     (member (codes "segment") (optional_segment segment) no_members)))))
-apdu_form (SegmentAck server id k) =
-    object (member (codes "id") (number (unsigned id)) (member (codes "kind") (string (codes "segment-ack"))
-    (member (codes "nak") (boolean k.nak) (member (codes "seq") (number (unsigned k.number)) (member (codes "srv") (boolean server)
-    (member (codes "win") (number (unsigned k.window)) no_members))))))
-apdu_form apdu = ending_apdu_form apdu
+apdu_form (SegmentAck server id k) = segment_ack_form k.nak server id k.number k.window
+apdu_form (Error id choice class code) = error_apdu_form id choice class code
+apdu_form (Reject id reason) = reject_apdu_form id reason
+apdu_form (Abort server id reason) = abort_apdu_form server id reason

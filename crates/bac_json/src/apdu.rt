@@ -2,7 +2,7 @@
 ghost use Rattle.std.specs.Prelude.{◌≡◌, IfOk};
 ghost use Rattle.std.specs.Option.{option_map};
 ghost use Rattle.bac_apdu.specs.Views.{apdu_view, limits_view, segment_view};
-ghost use Rattle.bac_json.specs.Layers.{apdu_form, ending_apdu_form, optional_segment, request_apdu_form};
+ghost use Rattle.bac_json.specs.Layers.{abort_apdu_form, apdu_form, error_apdu_form, optional_segment, reject_apdu_form, request_apdu_form, segment_ack_form};
 ghost use Rattle.serde_json.specs.View.{view};
 
 use crate::text::octets_json;
@@ -43,41 +43,47 @@ fn request_apdu_json(
     })
 }
 
-/// An Error, a Reject or an Abort: its numbers, and in words what they mean; Null for other APDUs.
-fn ending_apdu_json(alloc: Global, apdu: Apdu<'_>) -> Result<Json, AllocError>
-    ensures { IfOk result (λ v. view v ≡ ending_apdu_form (apdu_view apdu.entry)) }
+fn segment_ack_json(
+    alloc: Global,
+    nak: bool,
+    server: bool,
+    id: u8,
+    number: u8,
+    window: u8,
+) -> Result<Json, AllocError>
+    ensures { IfOk result (λ v. view v ≡ segment_ack_form nak server id number window) }
 {
-    match apdu {
-        Apdu::Error {
-            invoke_id: id,
-            choice,
-            class,
-            code,
-        } => {
-            let text = error_text(alloc, class, code)?;
-            json!(in alloc; {"choice": choice, "class": class, "code": code, "id": id, "kind": "error", "text": text})
-        }
-        Apdu::Reject {
-            invoke_id: id,
-            reason,
-        } => {
-            let text = reject_text(alloc, reason)?;
-            json!(in alloc; {"id": id, "kind": "reject", "reason": reason, "text": text})
-        }
-        Apdu::Abort {
-            server,
-            invoke_id: id,
-            reason,
-        } => {
-            let text = abort_text(alloc, reason)?;
-            json!(in alloc; {"id": id, "kind": "abort", "reason": reason, "srv": server, "text": text})
-        }
-        Apdu::ConfirmedRequest { .. }
-        | Apdu::UnconfirmedRequest { .. }
-        | Apdu::SimpleAck { .. }
-        | Apdu::ComplexAck { .. }
-        | Apdu::SegmentAck { .. } => Ok(Json::Null),
-    }
+    json!(in alloc; {"id": id, "kind": "segment-ack", "nak": nak, "seq": number, "srv": server, "win": window})
+}
+
+/// An Error: its numbers, and in words what they mean.
+fn error_apdu_json(
+    alloc: Global,
+    id: u8,
+    choice: u8,
+    class: u32,
+    code: u32,
+) -> Result<Json, AllocError>
+    ensures { IfOk result (λ v. view v ≡ error_apdu_form id choice class code) }
+{
+    let text = error_text(alloc, class, code)?;
+    json!(in alloc; {"choice": choice, "class": class, "code": code, "id": id, "kind": "error", "text": text})
+}
+
+/// A Reject: its reason, and in words what it means.
+fn reject_apdu_json(alloc: Global, id: u8, reason: u8) -> Result<Json, AllocError>
+    ensures { IfOk result (λ v. view v ≡ reject_apdu_form id reason) }
+{
+    let text = reject_text(alloc, reason)?;
+    json!(in alloc; {"id": id, "kind": "reject", "reason": reason, "text": text})
+}
+
+/// An Abort: its reason, and in words what it means.
+fn abort_apdu_json(alloc: Global, server: bool, id: u8, reason: u8) -> Result<Json, AllocError>
+    ensures { IfOk result (λ v. view v ≡ abort_apdu_form server id reason) }
+{
+    let text = abort_text(alloc, reason)?;
+    json!(in alloc; {"id": id, "kind": "abort", "reason": reason, "srv": server, "text": text})
 }
 
 /// An APDU: its kind and its members, under the names that `decode` prints. An Err is out of memory.
@@ -113,15 +119,21 @@ pub fn apdu_json(alloc: Global, apdu: Apdu<'_>) -> Result<Json, AllocError>
         Apdu::SegmentAck {
             nak,
             server,
-            invoke_id: id,
+            invoke_id,
             number,
             window,
-        } => {
-            let window = window.size;
-            json!(in alloc; {"id": id, "kind": "segment-ack", "nak": nak, "seq": number, "srv": server, "win": window})
-        }
-        Apdu::Error { .. } | Apdu::Reject { .. } | Apdu::Abort { .. } => {
-            ending_apdu_json(alloc, apdu)
-        }
+        } => segment_ack_json(alloc, nak, server, invoke_id, number, window.size),
+        Apdu::Error {
+            invoke_id,
+            choice,
+            class,
+            code,
+        } => error_apdu_json(alloc, invoke_id, choice, class, code),
+        Apdu::Reject { invoke_id, reason } => reject_apdu_json(alloc, invoke_id, reason),
+        Apdu::Abort {
+            server,
+            invoke_id,
+            reason,
+        } => abort_apdu_json(alloc, server, invoke_id, reason),
     }
 }

@@ -4,6 +4,7 @@ ghost use Rattle.std.specs.Option.{option_map};
 ghost use Rattle.bac_json.specs.Values.{AreElementForms, IsElementForm, characters_form, kind_and_body, member_or_null, named_form, plain_text, sole_member, tagged_form};
 ghost use Rattle.bac_json.specs.Values.{value_form};
 ghost use Rattle.bac_value.specs.Views.{element_view, value_view};
+ghost use Rattle.serde_json.specs.Data.{null};
 ghost use Rattle.serde_json.specs.Find.{get};
 ghost use Rattle.serde_json.specs.View.{items_view, view};
 
@@ -121,6 +122,13 @@ fn member_or_null(element: &Json, name: &str) -> Result<Json, AllocError>
     }
 }
 
+/// Null.
+fn nothing() -> Json
+    ensures { view result ≡ null }
+{
+    Json::Null
+}
+
 /// A member of the only element, as data_json has it: of a value `kind` and `value`. Null where there is not exactly one element, or where it has no such
 /// member. An Err is out of memory.
 pub fn sole_member(elements: &[Json], name: &str) -> Result<Json, AllocError>
@@ -129,6 +137,6 @@ pub fn sole_member(elements: &[Json], name: &str) -> Result<Json, AllocError>
     match elements {
         [] => Ok(Json::Null),
         [element] => member_or_null(element, name),
-        [_, _, ..] => Ok(Json::Null),
+        [_, _, ..] => Ok(nothing()),
     }
 }
