@@ -1,53 +1,103 @@
 -- What `bac check --json` prints of a capture.
-use Rattle.std.specs.Prelude.{◌≡◌, ℕ, ◌+◌, Bool, false, List, [], codes, Option, Some, None}
-use Rattle.bac_capture.specs.declared.check_fault.CapturedFault.{CapturedFault}
-use Rattle.bac_capture.specs.declared.check_fault.CapturedFault.TheVariants.{Link, Packet, Datagram, File}
-use Rattle.bac_capture.specs.declared.check_fault.Verdict as plain
-use Rattle.bac_capture.specs.declared.check_fault.Verdict.TheVariants.{Nothing, Good, Other, Bad}
+use Rattle.std.specs.Prelude.{◌≡◌, ℕ, ◌+◌, false, List, [], codes, Result, Ok, Err, Option, Some, None}
+use Rattle.bac_capture.specs.declared.bvlc.OtherBvll.{OtherBvll}
 use Rattle.bac_capture.specs.declared.fault.FileFault.{FileFault}
+use Rattle.bac_capture.specs.declared.fault.PacketFault.{PacketFault}
+use Rattle.bac_capture.specs.declared.link.LinkKind.{LinkKind}
 use Rattle.bac_capture.specs.Blocks.{FrameView}
-use Rattle.bac_capture.specs.CheckTexts.{frame_fault_text}
-use Rattle.bac_capture.specs.Counts.{IsTallied, bad_in, good_in, other_in}
-use Rattle.bac_capture.specs.FileReports.{Ending, no_heading}
+use Rattle.bac_capture.specs.Bvlc.{other_bvll_of}
+use Rattle.bac_capture.specs.Counts.{IsTallied}
+use Rattle.bac_capture.specs.FileReports.{no_heading}
 use Rattle.bac_capture.specs.FileReports as report
-use Rattle.bac_capture.specs.Judged.{IsVerdict}
+use Rattle.bac_capture.specs.Frames.{datagram_at}
+use Rattle.bac_capture.specs.Links.{link_kind_of}
+use Rattle.bac_capture.specs.Packets.{DatagramView}
+use Rattle.bac_capture.specs.Texts.{file_fault_text, packet_fault_text}
 use Rattle.bac_capture.specs.Walks.{Prints}
 use Rattle.bac_json_report.specs.CheckedLines.{AreChecked}
-use Rattle.bac_json_report.specs.Lines.{IsLineOf}
 use Rattle.bac_json_report.specs.Faults.{fault_form, outer_fault_form}
-use Rattle.bac_json_report.specs.declared.check.FileCheck.{FileCheck}
-use Rattle.bac_json_report.specs.declared.check.Verdict.{Verdict}
-use Rattle.bac_json_report.specs.declared.check.Verdict.TheVariants as code
+use Rattle.bac_json_report.specs.Lines.{IsLineOf}
+use Rattle.bac_json_report.specs.declared.file_check.FileCheck.{FileCheck}
+use Rattle.bac_json_report.specs.declared.file_check.Verdict.{Verdict}
+use Rattle.bac_json_report.specs.declared.file_check.Verdict.TheVariants.{Nothing, Good, Other, Link, Packet, Faulty, File}
 use Rattle.bac_text.specs.declared.status.Status.{Status}
+use Rattle.bac_text.specs.Layers.{IsAtFault, IsFine}
 use Rattle.serde_json.specs.Data.{Data, member, no_members, number, object, string, unsigned}
 
--- what a frame is, as the plain lines of `check` judge it
-abbrev pub plain_verdict : Verdict → plain.Verdict
-plain_verdict code.Nothing = Nothing
-plain_verdict code.Good = Good
-plain_verdict (code.Other other) = Other other
-plain_verdict code.Link = Bad Link
-plain_verdict (code.Packet fault) = Bad (Packet fault)
-plain_verdict (code.Faulty fault) = Bad (Datagram fault)
-plain_verdict (code.File fault) = Bad (File fault)
+-- ---- what is wrong with a frame, as the plain lines of `check` judge it
+
+-- for a datagram with the function that is read: it has no fault, or this one
+abbrev pub IsReadVerdict : (datagram : List ℕ) → Verdict → Type 0
+IsReadVerdict datagram Nothing = ⊥
+IsReadVerdict datagram Good = IsFine datagram
+IsReadVerdict datagram (Other other) = ⊥
+IsReadVerdict datagram Link = ⊥
+IsReadVerdict datagram (Packet fault) = ⊥
+IsReadVerdict datagram (Faulty fault) = IsAtFault datagram fault
+IsReadVerdict datagram (File fault) = ⊥
+
+abbrev pub IsVerdictIn : (other : Option OtherBvll) → (datagram : List ℕ) → Verdict → Type 0
+IsVerdictIn (Some other) datagram v = v ≡ Other other
+IsVerdictIn None datagram v = IsReadVerdict datagram v
+
+abbrev pub IsDatagramVerdict : (datagram : List ℕ) → Verdict → Type 0
+IsDatagramVerdict datagram v = IsVerdictIn (other_bvll_of datagram) datagram v
+
+-- for what a frame carries
+abbrev pub IsFoundVerdict : Result (Option DatagramView) PacketFault → Verdict → Type 0
+IsFoundVerdict (Err fault) v = v ≡ Packet fault
+IsFoundVerdict (Ok None) v = v ≡ Nothing
+IsFoundVerdict (Ok (Some datagram)) v = IsDatagramVerdict datagram.octets v
+
+abbrev pub IsLinkVerdict : (also : Option ℕ) → (octets : List ℕ) → Option LinkKind → Verdict → Type 0
+IsLinkVerdict also octets None v = v ≡ Link
+IsLinkVerdict also octets (Some link) v = IsFoundVerdict (datagram_at link also octets) v
+
+-- for a frame; `also` is a port in addition to the sixteen
+abbrev pub IsVerdict : (also : Option ℕ) → FrameView → Verdict → Type 0
+IsVerdict also frame v = IsLinkVerdict also frame.octets (link_kind_of frame.link) v
+
+abbrev pub good_in : Verdict → ℕ
+good_in Nothing = 0
+good_in Good = 1
+good_in (Other other) = 0
+good_in Link = 0
+good_in (Packet fault) = 0
+good_in (Faulty fault) = 0
+good_in (File fault) = 0
+
+abbrev pub bad_in : Verdict → ℕ
+bad_in Nothing = 0
+bad_in Good = 0
+bad_in (Other other) = 0
+bad_in Link = 1
+bad_in (Packet fault) = 1
+bad_in (Faulty fault) = 1
+bad_in (File fault) = 1
+
+abbrev pub other_in : Verdict → ℕ
+other_in Nothing = 0
+other_in Good = 0
+other_in (Other other) = 1
+other_in Link = 0
+other_in (Packet fault) = 0
+other_in (Faulty fault) = 0
+other_in (File fault) = 0
 
 -- ---- a bad frame
-
-abbrev pub frame_fault_form : CapturedFault → Data
-frame_fault_form Link = outer_fault_form (codes "frame") (frame_fault_text Link)
-frame_fault_form (Packet fault) = outer_fault_form (codes "frame") (frame_fault_text (Packet fault))
-frame_fault_form (Datagram fault) = fault_form fault
-frame_fault_form (File fault) = outer_fault_form (codes "file") (frame_fault_text (File fault))
 
 abbrev pub bad_frame_form : (number : ℕ) → (fault : Data) → Data
 bad_frame_form frame fault =
     object (member (codes "fault") fault (member (codes "frame") (number (unsigned frame)) (member (codes "type") (string (codes "fault")) no_members)))
 
-abbrev pub verdict_fault : plain.Verdict → Option Data
+abbrev pub verdict_fault : Verdict → Option Data
 verdict_fault Nothing = None
 verdict_fault Good = None
 verdict_fault (Other other) = None
-verdict_fault (Bad fault) = Some (frame_fault_form fault)
+verdict_fault Link = Some (outer_fault_form (codes "frame") (codes "unknown link layer"))
+verdict_fault (Packet fault) = Some (outer_fault_form (codes "frame") (packet_fault_text fault))
+verdict_fault (Faulty fault) = Some (fault_form fault)
+verdict_fault (File fault) = Some (outer_fault_form (codes "file") (file_fault_text fault))
 
 -- for the frame with this number, from 1: nothing unless it is bad
 abbrev pub IsFaultText : (number : ℕ) → Option Data → (text : List ℕ) → Type 0
@@ -69,23 +119,23 @@ count_of c = record { frames = c.frames; good = c.good; bad = c.bad; other = c.o
 abbrev pub no_frames : Count
 no_frames = record { frames = 0; good = 0; bad = 0; other = 0 }
 
-abbrev pub counted : Count → plain.Verdict → Count
+abbrev pub counted : Count → Verdict → Count
 counted c v = record { frames = c.frames + 1; good = c.good + good_in v; bad = c.bad + bad_in v; other = c.other + other_in v }
 
 -- a frame with this verdict is printed if it is bad, and counted
-pub record IsCounted (verdict : plain.Verdict) (before : Count) (text : List ℕ) (next : Count) : Type 0 where
+pub record IsCounted (verdict : Verdict) (before : Count) (text : List ℕ) (next : Count) : Type 0 where
   pub text_of : IsFaultText (before.frames + 1) (verdict_fault verdict) text
   pub is : next ≡ counted before verdict
 
 -- a frame is checked; `also` is a port in addition to the sixteen
 pub record SeesFrame (also : Option ℕ) (frame : FrameView) (before : Count) (text : List ℕ) (next : Count) : Type 0 where
-  pub verdict : plain.Verdict
+  pub verdict : Verdict
   pub judged : IsVerdict also frame verdict
   pub counted : IsCounted verdict before text next
 
 -- the file cannot be read further: this is printed for the frame that would follow
 abbrev pub BreaksFile : Prints FileFault Count
-BreaksFile fault before text next = IsCounted (Bad (File fault)) before text next
+BreaksFile fault before text next = IsCounted (File fault) before text next
 
 abbrev pub summary_form : Count → Data
 summary_form c =

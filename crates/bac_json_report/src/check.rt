@@ -1,12 +1,11 @@
 //! `bac check --json`: each bad frame of a capture file as one object, and the counts.
-ghost use Rattle.std.specs.Prelude.{◌≡◌, ◌≤◌, ◌+◌, codes, IfOk, OnOk};
+ghost use Rattle.std.specs.Prelude.{◌≡◌, codes, IfOk, OnOk};
 ghost use Rattle.bac_capture.specs.BlockViews.{frame_view};
 ghost use Rattle.bac_capture.specs.Counts.{IsTallied};
-ghost use Rattle.bac_capture.specs.Judged.{IsDatagramVerdict, IsVerdict};
 ghost use Rattle.bac_capture.specs.Reports.{IsPrinted};
 ghost use Rattle.bac_capture.specs.Texts.{file_fault_text, packet_fault_text};
 ghost use Rattle.std.specs.Option.{option_map};
-ghost use Rattle.bac_json_report.specs.CheckedFiles.{IsCounted, IsFaultText, IsReportOf, bad_frame_form, count_of, counted, plain_verdict, summary_form};
+ghost use Rattle.bac_json_report.specs.CheckedFiles.{IsCounted, IsDatagramVerdict, IsFaultText, IsReportOf, IsVerdict, bad_frame_form, count_of, counted, summary_form};
 ghost use Rattle.bac_json_report.specs.CheckedFiles.{verdict_fault};
 ghost use Rattle.bac_json_report.specs.Faults.{outer_fault_form};
 ghost use Rattle.bac_json_report.specs.Lines.{IsLineOf};
@@ -15,37 +14,19 @@ ghost use Rattle.serde_json.specs.View.{view};
 
 use crate::check_lines::check_json_lines_over;
 use crate::fault::{fault_json, outer_fault_json};
+use crate::file_check::{FileCheck, Verdict};
 use crate::line::print_json;
 use bac_capture::{
     FileFault, FileReport, Frame, LinkKind, OtherBvll, PacketFault, Ports, read_frame, report_over,
 };
-use bac_text::{CheckError, LayerFault, Status, check_datagram};
+use bac_text::{CheckError, Status, check_datagram};
 use serde_json::{Value as Json, json};
 use std::alloc::{AllocError, Global};
 use std::io;
 use std::io::{BufRead, ErrorKind, Write};
 
-/// The result of checking a frame.
-#[derive(Clone, Copy, Debug, PartialEq, Eq)]
-enum Verdict {
-    /// It carries no datagram of BACnet/IP.
-    Nothing,
-    /// Its datagram has no fault.
-    Good,
-    /// Its datagram is a BVLL with another function, which is not checked.
-    Other(OtherBvll),
-    /// Its link layer is unknown.
-    Link,
-    /// The packet in it is not complete.
-    Packet(PacketFault),
-    /// Its datagram has this fault.
-    Faulty(LayerFault),
-    /// The file cannot be read beyond it.
-    File(FileFault),
-}
-
 fn judge_datagram(datagram: &[u8]) -> Verdict
-    ensures { IsDatagramVerdict datagram.now (plain_verdict result) }
+    ensures { IsDatagramVerdict datagram.now result }
 {
     if let Some(other) = OtherBvll::of(datagram) {
         return Verdict::Other(other);
@@ -58,7 +39,7 @@ fn judge_datagram(datagram: &[u8]) -> Verdict
 
 /// The result of checking a frame, from its link layer number and its octets.
 fn judge(frame: Frame<'_>, ports: Ports) -> Verdict
-    ensures { IsVerdict ports.also (frame_view frame.entry) (plain_verdict result) }
+    ensures { IsVerdict ports.also (frame_view frame.entry) result }
 {
     let Some(link) = LinkKind::of(frame.link) else {
         return Verdict::Link;
@@ -99,7 +80,7 @@ fn file_fault_json(alloc: Global, fault: FileFault) -> Result<Json, AllocError>
 
 /// What is wrong with a frame, if something is.
 fn fault_of(alloc: Global, verdict: Verdict) -> Result<Option<Json>, AllocError>
-    ensures { IfOk result (λ o. option_map view o ≡ verdict_fault (plain_verdict verdict)) }
+    ensures { IfOk result (λ o. option_map view o ≡ verdict_fault verdict) }
 {
     match verdict {
         Verdict::Nothing | Verdict::Good | Verdict::Other(_) => Ok(None),
@@ -117,7 +98,7 @@ fn print_verdict<W: Write>(
     verdict: Verdict,
     out: &mut W,
 ) -> io::Result<()>
-    ensures { OnOk result (AppendsText (W.contents out.old) (W.contents out.new) (IsFaultText number (verdict_fault (plain_verdict verdict)))) }
+    ensures { OnOk result (AppendsText (W.contents out.old) (W.contents out.new) (IsFaultText number (verdict_fault verdict))) }
 {
     match fault_of(alloc, verdict)? {
         Some(fault) => print_bad(alloc, number, fault, out),
@@ -125,21 +106,10 @@ fn print_verdict<W: Write>(
     }
 }
 
-/// The frames so far.
-#[derive(Drop)]
-struct FileCheck {
-    alloc: Global,
-    frames: u64,
-    good: u64,
-    bad: u64,
-    other: u64,
-    ghost counted: { good + bad + other ≤ frames },
-}
-
 impl FileCheck {
     /// One frame more. An Err where their number does not fit.
     fn count(&mut self, verdict: Verdict) -> Result<(), CheckError>
-        ensures { OnOk result (count_of self.new ≡ counted (count_of self.old) (plain_verdict verdict)) }
+        ensures { OnOk result (count_of self.new ≡ counted (count_of self.old) verdict) }
     {
         let Some(frames) = self.frames.checked_add(1) else {
             return Err(CheckError::Input(io::Error::from(ErrorKind::FileTooLarge)));
@@ -162,7 +132,7 @@ impl FileCheck {
 
     /// Counts a frame, and prints what is wrong with it.
     fn see<W: Write>(&mut self, verdict: Verdict, out: &mut W) -> Result<(), CheckError>
-        ensures { OnOk result (IsPrinted IsCounted (plain_verdict verdict) (W.contents out.old) (W.contents out.new) (count_of self.old) (count_of self.new)) }
+        ensures { OnOk result (IsPrinted IsCounted verdict (W.contents out.old) (W.contents out.new) (count_of self.old) (count_of self.new)) }
     {
         self.count(verdict)?;
         match print_verdict(self.alloc, self.frames, verdict, out) {

@@ -1,11 +1,11 @@
 //! `bac check --json` for captures of lines: each bad line as one object, and the counts.
-ghost use Rattle.std.specs.Prelude.{◌≡◌, ◌≤◌, ◌+◌, IfOk, OnOk};
+ghost use Rattle.std.specs.Prelude.{◌≡◌, IfOk, OnOk};
 ghost use Rattle.std.specs.Option.{option_map};
-ghost use Rattle.bac_json_report.specs.CheckedLines.{AreChecked, IsCounted, IsFaultText, bad_line_form, count_of, notes_form, plain_verdict, summary_form};
+ghost use Rattle.bac_json_report.specs.CheckedLines.{AreChecked, IsCounted, IsFaultText, IsJudged, bad_line_form, count_of, notes_form, summary_form};
 ghost use Rattle.bac_json_report.specs.CheckedLines.{verdict_fault};
 ghost use Rattle.bac_json_report.specs.Lines.{IsLineOf};
 ghost use Rattle.bac_text.specs.Capture.{capture_at};
-ghost use Rattle.bac_text.specs.Lines.{IsJudged, short_capture_at};
+ghost use Rattle.bac_text.specs.Lines.{short_capture_at};
 ghost use Rattle.bac_text.specs.Notes.{read_of};
 ghost use Rattle.bac_text.specs.Statuses.{IsTallied};
 ghost use Rattle.bac_text.specs.Texts.{AppendsText};
@@ -14,27 +14,13 @@ ghost use Rattle.serde_json.specs.View.{view};
 use crate::fault::{fault_json, outer_fault_json};
 use crate::input::LINE_LIMIT;
 use crate::line::print_json;
+use crate::line_check::{LineCheck, Verdict};
 use crate::line_report::{LineReport, report_lines_over};
-use bac_text::{CheckError, LayerFault, Status, check_datagram, read_capture_line, read_of};
+use bac_text::{CheckError, Status, check_datagram, read_capture_line, read_of};
 use serde_json::{Value as Json, json};
 use std::alloc::{AllocError, Global};
 use std::io;
 use std::io::{BufRead, ErrorKind, Write};
-
-/// What a line of a capture is.
-#[derive(Clone, Copy, Debug, PartialEq, Eq)]
-enum Verdict {
-    /// A capture line without a fault.
-    Good,
-    /// A note, passed over.
-    Note,
-    /// It is of another form.
-    NoCaptureLine,
-    /// Its moment is less than that of an earlier line.
-    MomentGoesBack,
-    /// Its datagram has that fault.
-    Faulty(LayerFault),
-}
 
 /// What a line is whose octets are not too many, where the greatest moment so far is `latest`; and the greatest moment from here on.
 fn judge_short(
@@ -43,7 +29,7 @@ fn judge_short(
     line: &[u8],
     latest: u64,
 ) -> Result<(Verdict, u64), AllocError>
-    ensures { IfOk result (λ r. IsJudged (option_map capture_at (read_of notes line.now)) latest (plain_verdict r.0) r.1) }
+    ensures { IfOk result (λ r. IsJudged (option_map capture_at (read_of notes line.now)) latest r.0 r.1) }
 {
     let Some(read) = read_of(notes, line) else {
         return Ok((Verdict::Note, latest));
@@ -62,7 +48,7 @@ fn judge_short(
 
 /// The same of any line.
 fn judge(alloc: Global, notes: bool, line: &[u8], latest: u64) -> Result<(Verdict, u64), AllocError>
-    ensures { IfOk result (λ r. IsJudged (short_capture_at notes line.now) latest (plain_verdict r.0) r.1) }
+    ensures { IfOk result (λ r. IsJudged (short_capture_at notes line.now) latest r.0 r.1) }
 {
     if line.len() > LINE_LIMIT {
         return Ok((Verdict::NoCaptureLine, latest));
@@ -85,7 +71,7 @@ fn print_bad<W: Write>(alloc: Global, line: u64, fault: Json, out: &mut W) -> io
 
 /// What is wrong with a line, if something is.
 fn fault_of(alloc: Global, verdict: Verdict) -> Result<Option<Json>, AllocError>
-    ensures { IfOk result (λ o. option_map view o ≡ verdict_fault (plain_verdict verdict)) }
+    ensures { IfOk result (λ o. option_map view o ≡ verdict_fault verdict) }
 {
     match verdict {
         Verdict::Good | Verdict::Note => Ok(None),
@@ -104,7 +90,7 @@ fn print_verdict<W: Write>(
     verdict: Verdict,
     out: &mut W,
 ) -> io::Result<()>
-    ensures { OnOk result (AppendsText (W.contents out.old) (W.contents out.new) (IsFaultText number (verdict_fault (plain_verdict verdict)))) }
+    ensures { OnOk result (AppendsText (W.contents out.old) (W.contents out.new) (IsFaultText number (verdict_fault verdict))) }
 {
     match fault_of(alloc, verdict)? {
         Some(fault) => print_bad(alloc, number, fault, out),
@@ -112,24 +98,10 @@ fn print_verdict<W: Write>(
     }
 }
 
-/// The lines so far; those that are neither good nor bad are notes.
-#[derive(Drop)]
-struct LineCheck {
-    alloc: Global,
-    /// Whether notes are taken.
-    notes: bool,
-    lines: u64,
-    good: u64,
-    bad: u64,
-    /// The greatest moment of the capture lines.
-    latest: u64,
-    ghost counted: { good + bad ≤ lines },
-}
-
 impl LineCheck {
     /// One line more. An Err where their number does not fit.
     fn count(&mut self, verdict: Verdict, latest: u64) -> Result<(), CheckError>
-        ensures { OnOk result (IsCounted (plain_verdict verdict) latest (count_of self.old) (count_of self.new)) }
+        ensures { OnOk result (IsCounted verdict latest (count_of self.old) (count_of self.new)) }
     {
         let Some(lines) = self.lines.checked_add(1) else {
             return Err(CheckError::Input(io::Error::from(ErrorKind::FileTooLarge)));

@@ -8,8 +8,10 @@ mod check_lines;
 mod datagram;
 mod decode;
 mod fault;
+mod file_check;
 mod input;
 mod line;
+mod line_check;
 mod line_report;
 
 pub use ask::{JsonAsk, ask_json};
