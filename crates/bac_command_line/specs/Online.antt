@@ -29,7 +29,7 @@ use Rattle.bac_commands.specs.Questions.{IsQuestion}
 use Rattle.bac_commands.specs.Reports.{ServedText}
 use Rattle.bac_commands.specs.Statuses.{ByStatus}
 use Rattle.bac_commands.specs.AskEnds.{Asked}
-use Rattle.bac_json_report.specs.AskEnds as json
+use Rattle.bac_json_ask.specs.AskEnds as json
 use Rattle.bac_commands.specs.declared.online.output_format.Style.{Style}
 use Rattle.bac_commands.specs.declared.online.output_format.Style.TheVariants as style
 use Rattle.bac_command_line.specs.Asking.{patience_for}

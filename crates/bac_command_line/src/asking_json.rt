@@ -9,7 +9,7 @@ use crate::asking::Asking;
 use crate::online::ask_once;
 use crate::station::Station;
 use bac_driver::{Clock, Link, Question};
-use bac_json_report::{JsonAsk, ask_json};
+use bac_json_ask::{JsonAsk, ask_json};
 use bac_text::Status;
 use std::io::Write;
 

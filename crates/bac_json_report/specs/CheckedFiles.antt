@@ -86,7 +86,7 @@ other_in (File fault) = 0
 
 -- ---- a bad frame
 
-abbrev pub bad_frame_form : (number : ℕ) → (fault : Data) → Data
+abbrev pub bad_frame_form : (frame : ℕ) → (fault : Data) → Data
 bad_frame_form frame fault =
     object (member (codes "fault") fault (member (codes "frame") (number (unsigned frame)) (member (codes "type") (string (codes "fault")) no_members)))
 
@@ -100,9 +100,9 @@ verdict_fault (Faulty fault) = Some (fault_form fault)
 verdict_fault (File fault) = Some (outer_fault_form (codes "file") (file_fault_text fault))
 
 -- for the frame with this number, from 1: nothing unless it is bad
-abbrev pub IsFaultText : (number : ℕ) → Option Data → (text : List ℕ) → Type 0
-IsFaultText number None text = text ≡ []
-IsFaultText number (Some fault) text = IsLineOf (λ d. d ≡ bad_frame_form number fault) text
+abbrev pub IsFaultText : (place : ℕ) → Option Data → (text : List ℕ) → Type 0
+IsFaultText place None text = text ≡ []
+IsFaultText place (Some fault) text = IsLineOf (λ d. d ≡ bad_frame_form place fault) text
 
 -- ---- a file
 

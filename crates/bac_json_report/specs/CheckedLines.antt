@@ -50,7 +50,7 @@ bad_in (Faulty fault) = 1
 
 -- ---- a bad line
 
-abbrev pub bad_line_form : (number : ℕ) → (fault : Data) → Data
+abbrev pub bad_line_form : (line : ℕ) → (fault : Data) → Data
 bad_line_form line fault =
     object (member (codes "fault") fault (member (codes "line") (number (unsigned line)) (member (codes "type") (string (codes "fault")) no_members)))
 
@@ -62,9 +62,9 @@ verdict_fault MomentGoesBack = Some (outer_fault_form (codes "line") (codes "mom
 verdict_fault (Faulty fault) = Some (fault_form fault)
 
 -- of the line with that number: nothing where it has no fault
-abbrev pub IsFaultText : (number : ℕ) → Option Data → (text : List ℕ) → Type 0
-IsFaultText number None text = text ≡ []
-IsFaultText number (Some fault) text = IsLineOf (λ d. d ≡ bad_line_form number fault) text
+abbrev pub IsFaultText : (place : ℕ) → Option Data → (text : List ℕ) → Type 0
+IsFaultText place None text = text ≡ []
+IsFaultText place (Some fault) text = IsLineOf (λ d. d ≡ bad_line_form place fault) text
 
 -- ---- all lines
 

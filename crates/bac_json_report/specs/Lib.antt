@@ -5,4 +5,3 @@ pub mod LineReports
 pub mod Decoded
 pub mod CheckedLines
 pub mod CheckedFiles
-pub mod AskEnds

@@ -1,8 +1,6 @@
-//! What `bac decode`, `check` and `ask` print with `--json`: one object a line, over any readers, writers, links and clocks.
+//! What `bac decode` and `bac check` print with `--json`: one object a line, over any readers and writers.
 #![tactic(auto)]
 
-mod ask;
-mod ask_end;
 mod check;
 mod check_lines;
 mod datagram;
@@ -14,7 +12,6 @@ mod line;
 mod line_check;
 mod line_report;
 
-pub use ask::{JsonAsk, ask_json};
 pub use check::check_json_over;
 pub use check_lines::check_json_lines_over;
 pub use datagram::datagram_json;

@@ -2,12 +2,12 @@
 ghost use Rattle.std.specs.Prelude.{◌-◌, IfOk};
 ghost use Rattle.bac_driver.specs.Runs.{timed};
 ghost use Rattle.bac_driver.specs.Views.{question_view};
-ghost use Rattle.bac_json_report.specs.AskEnds.{Asked, PrintsEnd};
+ghost use Rattle.bac_json_ask.specs.AskEnds.{Asked, PrintsEnd};
 
 use crate::ask_end::{ask_object, members_of};
-use crate::line::print_json;
 use bac_commands::{CommandError, TURNS};
 use bac_driver::{AskEnd, BoundNode, Clock, Link, Question, RunLimit, WaitLimit};
+use bac_json_report::print_json;
 use std::alloc::Global;
 use std::io;
 use std::io::Write;

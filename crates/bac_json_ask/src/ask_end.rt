@@ -5,9 +5,9 @@ ghost use Rattle.bac_commands.specs.Reports.{is_success, reply_of, reply_of_endi
 ghost use Rattle.bac_commands.specs.Words.{AreEndWords};
 ghost use Rattle.bac_driver.specs.Views.{question_view};
 ghost use Rattle.bac_json.specs.Forms.{optional_number};
-ghost use Rattle.bac_json_report.specs.AskEnds.{AreEndMembers, IsEndReply, IsEndingReply, IsSoleOf, IsSoleValue, IsTextOf, ask_object, end_status, ending_status};
-ghost use Rattle.bac_json_report.specs.AskEnds.{refusal_form, index_or_null, members_view, object_asked, property_asked, property_or_null, reply_status};
-ghost use Rattle.bac_json_report.specs.AskEnds.{complex_values, reply_values, values_in, without_end};
+ghost use Rattle.bac_json_ask.specs.AskEnds.{AreEndMembers, IsEndReply, IsEndingReply, IsSoleOf, IsSoleValue, IsTextOf, ask_object, end_status, ending_status};
+ghost use Rattle.bac_json_ask.specs.AskEnds.{refusal_form, index_or_null, members_view, object_asked, property_asked, property_or_null, reply_status};
+ghost use Rattle.bac_json_ask.specs.AskEnds.{complex_values, reply_values, values_in, without_end};
 ghost use Rattle.bac_npdu.specs.Views.{peer_view};
 ghost use Rattle.bac_requester.specs.TransactionViews.{ending_view};
 ghost use Rattle.bac_service.specs.Views.{complex_view, owned_reply_view, owned_request_view, property_reference_view, reply_view, request_view};

@@ -24,7 +24,7 @@ use Rattle.bac_json.specs.Forms.{object_form, optional_number, property_form, te
 use Rattle.bac_json.specs.Replies.{IsReplyForm, reason_form}
 use Rattle.bac_json.specs.Values.{AreElementForms, sole_member}
 use Rattle.bac_json_report.specs.Lines.{IsJsonLine}
-use Rattle.bac_json_report.specs.declared.ask_end.AskMembers.{AskMembers}
+use Rattle.bac_json_ask.specs.declared.ask_end.AskMembers.{AskMembers}
 use Rattle.serde_json.specs.Data.{Data, Items, boolean, member, no_members, null, number, object, string, unsigned}
 use Rattle.serde_json.specs.View.{view}
 

@@ -1,8 +1,8 @@
 use Rattle.std.proofs.Common.{refl}
 use Rattle.bac_driver.specs.Views.{question_view}
-use Rattle.bac_json_report.specs.AskEnds.{members_view}
-use Rattle.bac_json_report.proofs.Asked.{end_printed}
-use Rattle.bac_json_report.proofs.ask.print_end.Goals as goal
+use Rattle.bac_json_ask.specs.AskEnds.{members_view}
+use Rattle.bac_json_ask.proofs.Asked.{end_printed}
+use Rattle.bac_json_ask.proofs.ask.print_end.Goals as goal
 
 pub returns : goal.returns
 returns g c =

@@ -1,5 +1,5 @@
-use Rattle.bac_json_report.proofs.Asked.{text_told}
-use Rattle.bac_json_report.proofs.ask_end.text_of.Goals as goal
+use Rattle.bac_json_ask.proofs.Asked.{text_told}
+use Rattle.bac_json_ask.proofs.ask_end.text_of.Goals as goal
 
 pub returns : goal.returns
 returns c = text_told _ _ _ _ _ _ c.in_ok-success.ensures (rw c.without_end.ensures c.in_ok-text.ensures)

@@ -7,7 +7,7 @@ use Rattle.bac_commands.specs.AskEnds.{PrintsWords}
 use Rattle.bac_driver.specs.Asking.{Question}
 use Rattle.bac_driver.specs.declared.question.AskEnd.{AskEnd}
 use Rattle.bac_json.specs.Forms.{text_form}
-use Rattle.bac_json_report.specs.AskEnds.{AreEndMembers, IsTextOf, Members, PrintsEnd, ask_object, without_end}
+use Rattle.bac_json_ask.specs.AskEnds.{AreEndMembers, IsTextOf, Members, PrintsEnd, ask_object, without_end}
 use Rattle.bac_json_report.specs.Lines.{IsJsonLine}
 use Rattle.bac_service.specs.Values.{Request}
 use Rattle.bac_text.specs.Texts.{AppendsText, line_end}
