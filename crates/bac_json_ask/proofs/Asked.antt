@@ -32,10 +32,10 @@ front_of words =
     let len : length (words ++ line_end) - 1 ≡ length words = omega (arith, length-append words line_end) in
     ap (λ (n : ℕ). take n (words ++ line_end)) len ∙ take-append_seam words line_end
 
-pub text_told : (strict : Bool) (request : Request) (end : AskEnd) (line : List ℕ) (text : Data) (success : Bool)
-    → PrintsWords strict request end success (Some []) (Some line) → text ≡ text_form (without_end line) → IsTextOf strict request end text success
-text_told strict request end line text success told is =
-    let same : line ≡ told.words ++ line_end = told.printed in
+pub text_told : (strict : Bool) (request : Request) (end : AskEnd) (before line : List ℕ) (text : Data) (success : Bool) → before ≡ []
+    → PrintsWords strict request end success (Some before) (Some line) → text ≡ text_form (without_end line) → IsTextOf strict request end text success
+text_told strict request end before line text success none told is =
+    let same : line ≡ told.words ++ line_end = told.printed ∙ ap (λ (l : List ℕ). l ++ (told.words ++ line_end)) none in
     record {
       words = told.words;
       are = told.are;

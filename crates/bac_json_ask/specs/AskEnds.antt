@@ -25,6 +25,7 @@ use Rattle.bac_json.specs.Replies.{IsReplyForm, reason_form}
 use Rattle.bac_json.specs.Values.{AreElementForms, sole_member}
 use Rattle.bac_json_report.specs.Lines.{IsJsonLine}
 use Rattle.bac_json_ask.specs.declared.ask_end.AskMembers.{AskMembers}
+use Rattle.bac_json_ask.specs.declared.ask_end.AskParts.{AskParts}
 use Rattle.serde_json.specs.Data.{Data, Items, boolean, member, no_members, null, number, object, string, unsigned}
 use Rattle.serde_json.specs.View.{view}
 
@@ -137,14 +138,62 @@ members_view m = record {
   value = view m.value;
 }
 
+pub record Parts : Type 0 where
+  pub index : Data
+  pub kind : Data
+  pub line : Data
+  pub milliseconds : Data
+  pub named : Data
+  pub peer : Data
+  pub property : Data
+  pub reply : Data
+  pub status : Data
+  pub success : Data
+  pub text : Data
+  pub value : Data
+
+abbrev pub parts_view : AskParts → Parts
+parts_view p = record {
+  index = view p.index;
+  kind = view p.kind;
+  line = view p.line;
+  milliseconds = view p.milliseconds;
+  named = view p.named;
+  peer = view p.peer;
+  property = view p.property;
+  reply = view p.reply;
+  status = view p.status;
+  success = view p.success;
+  text = view p.text;
+  value = view p.value;
+}
+
+abbrev pub object_of : Parts → Data
+object_of p =
+    object (member (codes "index") p.index (member (codes "kind") p.kind (member (codes "line") p.line
+    (member (codes "milliseconds") p.milliseconds (member (codes "object") p.named (member (codes "peer") p.peer
+    (member (codes "property") p.property (member (codes "reply") p.reply (member (codes "status") p.status
+    (member (codes "success") p.success (member (codes "text") p.text (member (codes "value") p.value no_members))))))))))))
+
 -- an ask of a line, or none, of that request for that peer
+abbrev pub parts_of : (line : Option ℕ) → PeerView → Request → Members → Parts
+parts_of line peer request m = record {
+  index = index_or_null (property_asked request);
+  kind = m.kind;
+  line = optional_number line;
+  milliseconds = number (unsigned m.milliseconds);
+  named = object_form (object_asked request);
+  peer = string (peer_text peer);
+  property = property_or_null (property_asked request);
+  reply = m.reply;
+  status = string m.status;
+  success = boolean m.success;
+  text = m.text;
+  value = m.value;
+}
+
 abbrev pub ask_object : (line : Option ℕ) → PeerView → Request → Members → Data
-ask_object line peer request m =
-    object (member (codes "index") (index_or_null (property_asked request)) (member (codes "kind") m.kind (member (codes "line") (optional_number line)
-    (member (codes "milliseconds") (number (unsigned m.milliseconds)) (member (codes "object") (object_form (object_asked request))
-    (member (codes "peer") (string (peer_text peer)) (member (codes "property") (property_or_null (property_asked request))
-    (member (codes "reply") m.reply (member (codes "status") (string m.status) (member (codes "success") (boolean m.success)
-    (member (codes "text") m.text (member (codes "value") m.value no_members))))))))))))
+ask_object line peer request m = object_of (parts_of line peer request m)
 
 -- how it ended: the text is the line of `ask --text`, and success is what the exit status says
 pub record AreEndMembers (strict : Bool) (request : Request) (end : AskEnd) (milliseconds : ℕ) (m : Members) : Type 0 where

@@ -5,7 +5,7 @@ ghost use Rattle.bac_commands.specs.Reports.{is_success, reply_of, reply_of_endi
 ghost use Rattle.bac_commands.specs.Words.{AreEndWords};
 ghost use Rattle.bac_driver.specs.Views.{question_view};
 ghost use Rattle.bac_json.specs.Forms.{optional_number};
-ghost use Rattle.bac_json_ask.specs.AskEnds.{AreEndMembers, IsEndReply, IsEndingReply, IsSoleOf, IsSoleValue, IsTextOf, ask_object, end_status, ending_status};
+ghost use Rattle.bac_json_ask.specs.AskEnds.{AreEndMembers, IsEndReply, IsEndingReply, IsSoleOf, IsSoleValue, IsTextOf, ask_object, object_of, parts_of, parts_view, end_status, ending_status};
 ghost use Rattle.bac_json_ask.specs.AskEnds.{refusal_form, index_or_null, members_view, object_asked, property_asked, property_or_null, reply_status};
 ghost use Rattle.bac_json_ask.specs.AskEnds.{complex_values, reply_values, values_in, without_end};
 ghost use Rattle.bac_npdu.specs.Views.{peer_view};
@@ -305,6 +305,65 @@ fn line_json(line: Option<u64>) -> Json
     }
 }
 
+/// The members of the object.
+#[derive(Drop)]
+struct AskParts {
+    index: Json,
+    kind: Json,
+    line: Json,
+    milliseconds: Json,
+    /// The object that was asked for.
+    named: Json,
+    peer: Json,
+    property: Json,
+    reply: Json,
+    status: Json,
+    success: Json,
+    text: Json,
+    value: Json,
+}
+
+fn object_of(alloc: Global, parts: AskParts) -> Result<Json, AllocError>
+    ensures { IfOk result (λ v. view v ≡ object_of (parts_view parts)) }
+{
+    json!(in alloc; {
+        "index": parts.index, "kind": parts.kind, "line": parts.line,
+        "milliseconds": parts.milliseconds, "object": parts.named, "peer": parts.peer,
+        "property": parts.property, "reply": parts.reply, "status": parts.status,
+        "success": parts.success, "text": parts.text, "value": parts.value
+    })
+}
+
+fn parts_of(
+    alloc: Global,
+    line: Option<u64>,
+    question: &Question,
+    members: AskMembers,
+) -> Result<AskParts, AllocError>
+    ensures { IfOk result (λ p. parts_view p ≡ parts_of line (question_view question.now).peer (question_view question.now).request (members_view members)) }
+{
+    let request = question.request.as_request();
+    let reference = property_asked(request);
+    let named = object_json(alloc, object_asked(request))?;
+    let peer = peer_text(alloc, question.peer)?;
+    let property = property_or_null(alloc, reference)?;
+    let status = Json::try_from_str(alloc, members.status)?;
+    Ok(AskParts {
+        index: index_or_null(reference),
+        kind: members.kind,
+        line: line_json(line),
+        milliseconds: Json::from(members.milliseconds),
+        named,
+        peer: Json::String(peer),
+        property,
+        reply: members.reply,
+        status,
+        success: Json::from(members.success),
+        text: members.text,
+        value: members.value,
+    })
+}
+
 /// The ask of a line, or of none, that ended so.
 pub(crate) fn ask_object(
     alloc: Global,
@@ -314,18 +373,6 @@ pub(crate) fn ask_object(
 ) -> Result<Json, AllocError>
     ensures { IfOk result (λ v. view v ≡ ask_object line (question_view question.now).peer (question_view question.now).request (members_view members)) }
 {
-    let request = question.request.as_request();
-    let line = line_json(line);
-    let peer = peer_text(alloc, question.peer)?;
-    let object = object_json(alloc, object_asked(request))?;
-    let reference = property_asked(request);
-    let property = property_or_null(alloc, reference)?;
-    let index = index_or_null(reference);
-    let (kind, value, text, reply) = (members.kind, members.value, members.text, members.reply);
-    let (milliseconds, status, success) = (members.milliseconds, members.status, members.success);
-    json!(in alloc; {
-        "index": index, "kind": kind, "line": line, "milliseconds": milliseconds,
-        "object": object, "peer": peer, "property": property, "reply": reply, "status": status,
-        "success": success, "text": text, "value": value
-    })
+    let parts = parts_of(alloc, line, question, members)?;
+    object_of(alloc, parts)
 }
