@@ -9,7 +9,7 @@ use Rattle.bac_commands.specs.Statuses.{ByStatus}
 use Rattle.bac_command_line.specs.AskedLines.{AreRead, Numbered, line_view}
 use Rattle.bac_command_line.specs.Files.{OfFile}
 use Rattle.bac_command_line.specs.InFlight.{AsksLines}
-use Rattle.bac_command_line.specs.Online.{AsksOne, ByClient, Clocks, Links}
+use Rattle.bac_command_line.specs.Online.{AsksOnce, ByClient, Clocks, Links}
 use Rattle.bac_command_line.specs.Rounds.{Doing}
 use Rattle.bac_text.specs.declared.status.Status.TheVariants as status
 use Rattle.bac_command_line.specs.declared.asking.Asking.{Asking}
@@ -20,7 +20,7 @@ use Rattle.bac_command_line.specs.declared.rounds.Asked.TheVariants as asked
 
 -- it was asked once
 abbrev pub AsksAll : Asking → Asked → Doing
-AsksAll asking (asked.One q) = AsksOne asking (question_view q)
+AsksAll asking (asked.One q) = AsksOnce asking (question_view q)
 AsksAll asking (asked.Lines lines) = AsksLines asking (map line_view lines.items)
 
 -- that was done; whether all succeeded is printed by the status

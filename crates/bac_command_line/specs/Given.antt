@@ -52,7 +52,6 @@ pub record AreRoundsOf (given : ArgMatches) (rounds : Option Rounds) : Type 0 wh
 -- how it is printed, how long it waits, and how often and how many at once it asks
 pub record IsGiven (given : ArgMatches) (asking : Asking) : Type 0 where
   pub output_format : IsManner given asking.output_format
-  pub json : IsFlag given (codes "json") asking.json
   pub timeout : IsNumber given (codes "timeout") asking.timeout
   pub rounds : AreRoundsOf given asking.rounds
   pub window : IsNumber given (codes "window") asking.window

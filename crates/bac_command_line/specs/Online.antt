@@ -29,7 +29,6 @@ use Rattle.bac_commands.specs.Questions.{IsQuestion}
 use Rattle.bac_commands.specs.Reports.{ServedText}
 use Rattle.bac_commands.specs.Statuses.{ByStatus}
 use Rattle.bac_commands.specs.AskEnds.{Asked}
-use Rattle.bac_json_ask.specs.AskEnds as json
 use Rattle.bac_commands.specs.declared.online.output_format.Style.{Style}
 use Rattle.bac_commands.specs.declared.online.output_format.Style.TheVariants as style
 use Rattle.bac_command_line.specs.Asking.{patience_for}
@@ -132,21 +131,6 @@ pub record AsksOnce (asking : Asking) (q : Question) (succeeded : Bool) (before 
   pub asked :
       Asked asking.output_format succeeded q (patience_for asking.timeout start) (timed before.bound_node (with_moment before.told start)) after old new
 
--- the same, and it was printed as an object of JSON; a line asked, or none
-pub record AsksJson (asking : Asking) (line : Option ℕ) (q : Question) (succeeded : Bool) (before after : Timed) (old new : Option (List ℕ)) : Type 0 where
-  pub start : ℕ
-  pub asked :
-      json.Asked line asking.output_format.strict succeeded q (patience_for asking.timeout start) start
-      (timed before.bound_node (with_moment before.told start)) after old new
-
--- in the form that is wanted
-abbrev pub AsksBy : (is_json : Bool) → Asking → Question → Doing
-AsksBy true asking q = AsksJson asking None q
-AsksBy false asking q = AsksOnce asking q
-
-abbrev pub AsksOne : Asking → Question → Doing
-AsksOne asking q = AsksBy asking.json asking q
-
 -- a client at any port, whose invoke IDs began anywhere, did that, in rounds where they are wanted
 pub record ByClient (IsOn : Links) (IsClock : Clocks) (asking : Asking) (Round : Doing) (all : Bool) (old new : Option (List ℕ)) : Type 0 where
   pub before : Timed
@@ -160,7 +144,7 @@ pub record ByClient (IsOn : Links) (IsClock : Clocks) (asking : Asking) (Round :
 pub record Asks (IsOn : Links) (IsClock : Clocks) (asking : Asking) (succeeded : Bool) (words : List (List ℕ)) (old new : Option (List ℕ)) : Type 0 where
   pub question : Question
   pub is : IsQuestion (peer_view asking.peer) words question
-  pub asks : ByClient IsOn IsClock asking (AsksOne asking question) succeeded old new
+  pub asks : ByClient IsOn IsClock asking (AsksOnce asking question) succeeded old new
 
 -- the words are no request that can be printed so, and nothing was printed
 pub record IsNoRequest (asking : Asking) (words : List (List ℕ)) (old new : Option (List ℕ)) : Type 0 where

@@ -53,8 +53,6 @@ pub(crate) struct Asking {
     pub output_format: OutputFormat,
     /// Whether its progress is shown on standard error.
     pub shows_progress: bool,
-    /// Whether it is printed as an object of JSON, in place of that format.
-    pub json: bool,
     /// How often it asks the same; None where it asks once.
     pub rounds: Option<Rounds>,
     /// So many asks of lines at most have begun and are not yet printed; None where each is asked once the one before is printed.
@@ -173,7 +171,6 @@ pub(crate) fn asking_of(given: &ArgMatches<'_>, shows_progress: bool) -> Option<
         timeout: number_of(given, "timeout"),
         output_format: manner_of(given),
         shows_progress,
-        json: flag_of(given, "json"),
         rounds: rounds_of(given),
         window: number_of(given, "window"),
     })

@@ -3,7 +3,6 @@
 
 mod address;
 mod asking;
-mod asking_json;
 mod asking_lines;
 mod bad_words;
 mod client_pair;

@@ -10,10 +10,9 @@ ghost use Rattle.bac_command_line.specs.Rounds.{AreRounds, AreRoundsFrom, Begins
 ghost use Rattle.bac_command_line.specs.Serving.{turns_of};
 
 use crate::asking::{Asking, Rounds};
-use crate::asking_json::ask_one;
 use crate::asking_lines::{ask_each, both};
 use crate::client_pair::ClientPair;
-use crate::online::Machine;
+use crate::online::{Machine, ask_once};
 use crate::question_lines::LineQuestion;
 use crate::station::Station;
 use crate::window::ask_ahead;
@@ -66,7 +65,7 @@ fn ask_all<L: Link, C: Clock, O: Write, E: Write>(
     ensures failed { IfErr result IsFailure }
 {
     match asked {
-        Asked::One(question) => ask_one(asking, station, question, out, err),
+        Asked::One(question) => ask_once(asking, station, question, out, err),
         Asked::Lines(lines) => ask_lines(asking, station, lines, out, err),
     }
 }

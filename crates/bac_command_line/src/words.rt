@@ -399,13 +399,6 @@ const ASK: &[Word] = &[
         help: "For `get`: writes only the octets of the file; if there are none, standard error says how the ask ended, and the status is 1",
     },
     Word {
-        name: "json",
-        form: WordForm::Flag,
-        need: Need::Never,
-        against: &["text", "raw", "lines"],
-        help: "Prints how the ask ended as an object of JSON",
-    },
-    Word {
         name: "lines",
         form: WordForm::Text("FILE"),
         need: Need::Never,
