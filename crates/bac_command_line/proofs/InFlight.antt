@@ -1,148 +1,137 @@
--- Asks of lines that have begun and are not yet printed.
-use Rattle.std.proofs.Common.{◌≡◌, ◌⊎◌, ℕ, suc, ◌+◌, ◌<◌, ◌≤◌, max, ◌&&◌, Bool, true, false, List, [], ◌∷◌, ◌++◌, length, map, Option, Some, None}
-use Rattle.std.proofs.Common.{refl, ap, sym, subst, ◌∙◌, arith, add-one, inl, inr, slice_set}
-use Rattle.std.proofs.lemmas.List.{length-map, length-set}
+-- Asks of lines, several at once.
+use Rattle.std.proofs.Common.{◌≡◌, ℕ, suc, ◌+◌, ◌<◌, ◌&&◌, Bool, true, List, [], ◌∷◌, ◌++◌, length, map, Option, Some, None}
+use Rattle.std.proofs.Common.{refl, ap, sym, subst, ◌∙◌, arith, append_assoc, append-nil, add-zero, slice_get}
+use Rattle.std.proofs.lemmas.List.Quantifiers.{position-Some}
+use Rattle.std.proofs.lemmas.Option.{get_or_from_slice_get}
 use Rattle.std.specs.List.{position}
-use Rattle.bac_requester.specs.declared.reaction.Ended.{Ended}
-use Rattle.bac_driver.specs.Runs.{Timed}
-use Rattle.bac_driver.specs.declared.wait_limit.WaitLimit.{WaitLimit}
+use Rattle.std.specs.Prelude.{MatchOption}
+use Rattle.bac_driver.specs.Runs.{Run, Timed}
 use Rattle.bac_driver.specs.declared.question.AskEnd.{AskEnd}
-use Rattle.bac_command_line.specs.AskedLines.{Numbered, line_view}
-use Rattle.bac_command_line.specs.InFlight.{Aloft, BeginsAsk, BeginsMore, EndsFirst, GoesOn, TakesFirst, TakesTurn, PrintsEach, PrintsLine, Waits}
-use Rattle.bac_command_line.specs.InFlight.{all_noted, aloft, ended_in, first_patience, has_ticket, noted, noted_at}
-use Rattle.bac_command_line.specs.declared.asking.Asking.{Asking}
+use Rattle.bac_driver.specs.declared.wait_limit.WaitLimit.{WaitLimit}
+use Rattle.bac_command_line.specs.InFlight.{Aloft, Event, Goes, GoesOn, Happens, MayGoOn, Plan, PrintsFrom, Sky, TellsLine, first_patience, may_begin, new_sky, no_end, waiting_from}
+use Rattle.bac_command_line.specs.InFlight.Event.{WentOn}
+use Rattle.bac_command_line.specs.Online.{Links}
 use Rattle.bac_command_line.specs.declared.flights.Flight.{Flight}
+use Rattle.bac_command_line.specs.declared.flights.Waiting.{Waiting}
 use Rattle.bac_command_line.specs.declared.question_lines.LineQuestion.{LineQuestion}
 use Rattle.bac_command_line.proofs.InRounds.{and_true, both_and}
 
--- ---- how many there are
+-- ---- the lines of a list
 
-length_noted_at : (place : Option ℕ) (f : Ended) (fs : List Flight) → length (noted_at place f fs) ≡ length fs
-length_noted_at None f fs = refl
-length_noted_at (Some place) f fs = length-set fs place _
+-- the lines from here on, behind those so far, are all
+pub one_more_waits : (place : ℕ) (lines others : List LineQuestion) (line : LineQuestion) (so_far all : List Waiting) → lines ≡ line ∷ others
+    → so_far ++ waiting_from place lines ≡ all
+    → (so_far ++ record { place = place; peer = line.question.peer } ∷ []) ++ waiting_from (place + 1) others ≡ all
+one_more_waits place lines others line so_far all is before =
+    append_assoc so_far (record { place = place; peer = line.question.peer } ∷ []) (waiting_from (place + 1) others)
+    ∙ (ap (λ (l : List LineQuestion). so_far ++ waiting_from place l) (sym is) ∙ before)
 
-pub length_all_noted : (finishes : List Ended) (fs : List Flight) → length (all_noted finishes fs) ≡ length fs
-length_all_noted [] fs = refl
-length_all_noted (f ∷ finishes) fs =
-    length_all_noted finishes (noted f fs) ∙ length_noted_at (position (has_ticket f.ticket) fs) f fs
+pub one_more_end : (lines others : List LineQuestion) (line : LineQuestion) (so_far all : List (Option AskEnd)) → lines ≡ line ∷ others
+    → so_far ++ map no_end lines ≡ all → (so_far ++ None ∷ []) ++ map no_end others ≡ all
+one_more_end lines others line so_far all is before =
+    append_assoc so_far (None ∷ []) (map no_end others) ∙ (ap (λ (l : List LineQuestion). so_far ++ map no_end l) (sym is) ∙ before)
 
-pub length_turned : (p : WaitLimit) (old new : Aloft) → TakesTurn p old new → length new.flights ≡ length old.flights
-length_turned p old new takes =
-    ap length takes.noted
-    ∙ (length_all_noted (ended_in takes.turn.ticked) (all_noted (ended_in takes.turn.heard) old.flights)
-    ∙ length_all_noted (ended_in takes.turn.heard) old.flights)
+abbrev sky_of : List Waiting → List (Option AskEnd) → Sky
+sky_of waiting ends = record { waiting = waiting; flights = []; ends = ends }
 
-pub length_taken : (end : AskEnd) (old new : List Flight) → TakesFirst end old new → length new + 1 ≡ length old
-length_taken end old new takes = let e : length old ≡ suc (length new) = ap length takes.is in omega (arith, e)
+-- where no line is left, all wait
+pub all_wait : (place : ℕ) (lines left : List LineQuestion) (waiting : List Waiting) (ends : List (Option AskEnd)) → left ≡ []
+    → waiting ++ waiting_from place left ≡ waiting_from 0 lines → ends ++ map no_end left ≡ map no_end lines
+    → ◌≡◌ {A = Sky} (record { waiting = waiting; flights = []; ends = ends }) (new_sky lines)
+all_wait place lines left waiting ends none waits ended =
+    ap (λ (w : List Waiting). sky_of w ends)
+    (sym (append-nil waiting) ∙ (ap (λ (l : List LineQuestion). waiting ++ waiting_from place l) (sym none) ∙ waits))
+    ∙ ap (λ (e : List (Option AskEnd)). sky_of (waiting_from 0 lines) e)
+    (sym (append-nil ends) ∙ (ap (λ (l : List LineQuestion). ends ++ map no_end l) (sym none) ∙ ended))
 
--- where lines are left, one has begun and is not yet printed
-pub some_begun : (window count : ℕ) (rest : List LineQuestion) → (map line_view rest ≡ []) ⊎ (max window 1 ≤ count) → 0 < count + length rest → 0 < count
-some_begun window count rest (inl none) some =
-    let e : length rest ≡ 0 = sym (length-map rest line_view) ∙ ap length none in omega (arith, e)
-some_begun window count rest (inr full) some = omega arith
+-- the first line that may begin may begin
+pub next_begins : (share : ℕ) (flights : List Flight) (waiting : List Waiting) (at : ℕ) (line : Waiting) → position (may_begin share flights) waiting ≡ Some at
+    → slice_get waiting at ≡ Some line → may_begin share flights line ≡ true
+next_begins share flights waiting at line first is =
+    subst (λ (w : Waiting). may_begin share flights w ≡ true) (get_or_from_slice_get waiting at line line is)
+    (position-Some (may_begin share flights) waiting at line first).1
 
--- ---- asks begin
+pub next_within : (share : ℕ) (flights : List Flight) (waiting : List Waiting) (at : ℕ) → position (may_begin share flights) waiting ≡ Some at
+    → at < length waiting
+next_within share flights [] at first = absurd cc
+next_within share flights (w ∷ waiting) at first = (position-Some (may_begin share flights) (w ∷ waiting) at w first).0
 
--- what begins from here on completes what begins
-pub one_more_begun : (asking : Asking) (window : ℕ) (waiting others rest : List Numbered) (line : Numbered) (flight : Flight) (old middle new : Aloft)
-    → waiting ≡ line ∷ others → length old.flights < max window 1 → BeginsAsk asking line.question flight old.at middle.at
-    → middle.flights ≡ old.flights ++ flight ∷ [] → BeginsMore asking window others middle rest new → BeginsMore asking window waiting old rest new
-one_more_begun asking window waiting others rest line flight old middle new is room begins added more =
+-- ---- what happens
+
+pub none_goes : (IsOn : Links) (plan : Plan) (old new : Aloft) → new ≡ old → Goes IsOn plan old new
+none_goes IsOn plan old new same = record { events = []; run = same }
+
+pub one_goes : (IsOn : Links) (plan : Plan) (event : Event) (old new : Aloft) → Happens IsOn plan old event new → Goes IsOn plan old new
+one_goes IsOn plan event old new happens = record { events = event ∷ []; run = record { middle = old; so_far = refl; last = happens } }
+
+both_run : {S T : Type 0} (step : S → T → S → Type 0) (first later : List T) (old middle new : S) → Run step first old middle → Run step later middle new
+    → Run step (later ++ first) old new
+both_run step first [] old middle new ran same = subst (λ (s : _). Run step first old s) (sym same) ran
+both_run step first (event ∷ later) old middle new ran more =
+    record { middle = more.middle; so_far = both_run step first later old middle more.middle ran more.so_far; last = more.last }
+
+pub both_go : (IsOn : Links) (plan : Plan) (old middle new : Aloft) → Goes IsOn plan old middle → Goes IsOn plan middle new → Goes IsOn plan old new
+both_go IsOn plan old middle new first later =
     record {
-      begun = line ∷ more.begun;
-      are = is ∙ ap (λ (l : List Numbered). line ∷ l) more.are;
-      begins = record { room = room; flight = flight; middle = middle; begins = begins; is = added; others = more.begins };
-      full = more.full;
+      events = later.events ++ first.events;
+      run = both_run (Happens IsOn plan) first.events later.events old middle new first.run later.run;
     }
 
--- none is left, or there is no room
-pub none_more_begun : (asking : Asking) (window : ℕ) (waiting : List Numbered) (here : Aloft)
-    → (waiting ≡ []) ⊎ (max window 1 ≤ length here.flights) → BeginsMore asking window waiting here waiting here
-none_more_begun asking window waiting here full = record { begun = []; are = refl; begins = refl; full = full }
+-- what is under way goes on, where anything is
+went_on : (IsOn : Links) (plan : Plan) (old new : Aloft) (p : Option WaitLimit) → p ≡ first_patience old.sky.flights
+    → MatchOption p (new ≡ old) (λ q. GoesOn q old new) → Goes IsOn plan old new
+went_on IsOn plan old new None is same = none_goes IsOn plan old new same
+went_on IsOn plan old new (Some p) is goes = one_goes IsOn plan (WentOn p) old new goes
 
--- ---- the first ends
-
--- what a turn was, where it was taken, and where it was not
-pub went_on : (p : WaitLimit) (went : Bool) (old new : Aloft) → went ≡ true → GoesOn p went old new → TakesTurn p old new
-went_on p went old new is goes = subst (λ (b : Bool). GoesOn p b old new) is goes
-
-pub went_not : (p : WaitLimit) (went : Bool) (old new : Aloft) → went ≡ false → GoesOn p went old new → GoesOn p false old new
-went_not p went old new is goes = subst (λ (b : Bool). GoesOn p b old new) is goes
-
-pub is_none : {A : Type 0} (told is : Option A) → told ≡ is → ((a : A) → told ≡ Some a → ⊥) → is ≡ None
-is_none None is same never = sym same
-is_none (Some a) is same never = absurd (never a refl)
-
-pub none_waited : (here : Aloft) → Waits 0 here here
-none_waited here = record { waited = []; all = refl; run = refl }
-
-pub one_more_waited : (turns : ℕ) (p : WaitLimit) (old middle new : Aloft) → Waits turns old middle → first_patience middle.flights ≡ Some p
-    → TakesTurn p middle new → Waits (turns + 1) old new
-one_more_waited turns p old middle new before waits takes =
-    record {
-      waited = p ∷ before.waited;
-      all = rw (add-one turns) (ap suc before.all);
-      run = record { middle = middle; so_far = before.run; last = (waits, takes) };
-    }
-
--- it was over, or as many turns were taken as may be
-pub ended_so : (turns : ℕ) (end : AskEnd) (old waited : Aloft) (at : Timed) (left : List Flight) → turns ≤ 100000 → Waits turns old waited
-    → (first_patience waited.flights ≡ None) ⊎ (turns ≡ 100000) → TakesFirst end waited.flights left → at ≡ waited.at
-    → EndsFirst end old (aloft at left)
-ended_so turns end old waited at left most waits done takes same =
-    record { turns = turns; most = most; waited = waited; waits = waits; stopped = waited; stops = inl (done, refl); takes = takes; same = same }
-
--- no time was left for it
-pub ran_out : (turns : ℕ) (p : WaitLimit) (end : AskEnd) (old waited stopped : Aloft) (left : List Flight) → turns ≤ 100000 → Waits turns old waited
-    → first_patience waited.flights ≡ Some p → GoesOn p false waited stopped → TakesFirst end stopped.flights left
-    → EndsFirst end old (aloft stopped.at left)
-ran_out turns p end old waited stopped left most waits waiting over takes =
-    record {
-      turns = turns;
-      most = most;
-      waited = waited;
-      waits = waits;
-      stopped = stopped;
-      stops = inr (record { wait_limit = p; waiting = waiting; over = over });
-      takes = takes;
-      same = refl;
-    }
+pub may_go : (IsOn : Links) (plan : Plan) (old new : Aloft) → MayGoOn old new → Goes IsOn plan old new
+may_go IsOn plan old new goes = went_on IsOn plan old new (first_patience old.sky.flights) refl goes
 
 -- ---- all lines
 
--- what is printed from here on completes what is printed of all
-pub one_more_told : (asking : Asking) (window : ℕ) (untold others waiting rest : List Numbered) (line : Numbered) (so_far succeeded now more : Bool)
-    (before begun ended : Aloft) (end : AskEnd) (after : Timed) (old between new : Option (List ℕ)) (Whole : Bool → Timed → Option (List ℕ) → Type 0)
-    → untold ≡ line ∷ others → now ≡ so_far && succeeded → BeginsMore asking window waiting before rest begun → EndsFirst end begun ended
-    → PrintsLine asking.output_format line end succeeded old between
-    → ((all : Bool) (last : Timed) (text : Option (List ℕ)) → PrintsEach asking window untold waiting all before last old text → Whole (so_far && all) last text)
-    → PrintsEach asking window others rest more ended after between new → Whole (now && more) after new
-one_more_told asking window untold others waiting rest line so_far succeeded now more before begun ended end after old between new Whole is both begins ends
-    tells whole left =
-    subst (λ (b : Bool). Whole b after new) (both_and so_far succeeded more ∙ ap (λ (b : Bool). b && more) (sym both))
-    (whole (succeeded && more) after new
-    (subst (λ (l : List Numbered). PrintsEach asking window l waiting (succeeded && more) before after old new) (sym is)
-    (record {
-      rest = rest;
-      begun = begun;
-      begins = begins;
-      end = end;
-      ended = ended;
-      ends = ends;
-      succeeded = succeeded;
-      between = between;
-      tells = tells;
-      more = more;
-      others = left;
-      is = refl;
-    })))
+-- what is printed from that place on completes what is printed of all
+pub record IsPrintedSoFar (IsOn : Links) (plan : Plan) (start : Aloft) (old : Option (List ℕ)) (count place : ℕ) (so_far : Bool) (here : Aloft)
+    (text : Option (List ℕ)) : Type 0 where
+  pub events : List Event
+  pub whole : (left : ℕ) → left + place ≡ count → (more : List Event) (all : Bool) (last : Timed) (new : Option (List ℕ))
+      → PrintsFrom IsOn plan place left more all here last text new → PrintsFrom IsOn plan 0 count (more ++ events) (so_far && all) start last old new
 
--- where no line is left, all are printed
-pub all_told : (asking : Asking) (window : ℕ) (untold waiting : List Numbered) (so_far : Bool) (last : Aloft) (text : Option (List ℕ))
-    (Whole : Bool → Timed → Option (List ℕ) → Type 0) → untold ≡ []
-    → ((all : Bool) (t : Timed) (o : Option (List ℕ)) → PrintsEach asking window untold waiting all last t text o → Whole (so_far && all) t o)
-    → Whole so_far last.at text
-all_told asking window untold waiting so_far last text Whole none whole =
-    subst (λ (b : Bool). Whole b last.at text) (and_true so_far)
-    (whole true last.at text
-    (subst (λ (l : List Numbered). PrintsEach asking window l waiting true last last.at text text) (sym none) (refl, (refl, refl))))
+pub none_printed : (IsOn : Links) (plan : Plan) (start : Aloft) (old : Option (List ℕ)) (count : ℕ)
+    → IsPrintedSoFar IsOn plan start old count 0 true start old
+none_printed IsOn plan start old count =
+    record {
+      events = [];
+      whole = λ left same more all last new prints.
+          subst (λ (n : ℕ). PrintsFrom IsOn plan 0 n (more ++ []) all start last old new) (sym (add-zero left) ∙ same)
+          (subst (λ (e : List Event). PrintsFrom IsOn plan 0 left e all start last old new) (sym (append-nil more)) prints);
+    }
+
+pub one_more_printed : (IsOn : Links) (plan : Plan) (start here next : Aloft) (old text between : Option (List ℕ)) (count place : ℕ)
+    (so_far succeeded now : Bool) → IsPrintedSoFar IsOn plan start old count place so_far here text → now ≡ so_far && succeeded
+    → TellsLine IsOn plan place succeeded here next text between → IsPrintedSoFar IsOn plan start old count (place + 1) now next between
+one_more_printed IsOn plan start here next old text between count place so_far succeeded now before both tells =
+    record {
+      events = tells.ends.goes.events ++ before.events;
+      whole = λ left same more all last new prints.
+          subst (λ (b : Bool). PrintsFrom IsOn plan 0 count (more ++ (tells.ends.goes.events ++ before.events)) b start last old new)
+          (both_and so_far succeeded all ∙ ap (λ (b : Bool). b && all) (sym both))
+          (subst (λ (e : List Event). PrintsFrom IsOn plan 0 count e (so_far && (succeeded && all)) start last old new)
+          (append_assoc more tells.ends.goes.events before.events)
+          (before.whole (suc left) (omega (arith, same)) (more ++ tells.ends.goes.events) (succeeded && all) last new
+          (record {
+            succeeded = succeeded;
+            middle = next;
+            between = between;
+            first = tells;
+            later = more;
+            rest = all;
+            others = prints;
+            are = refl;
+            is = refl;
+          })));
+    }
+
+pub all_printed : (IsOn : Links) (plan : Plan) (start here : Aloft) (old text : Option (List ℕ)) (count place : ℕ) (so_far : Bool) → place ≡ count
+    → (before : IsPrintedSoFar IsOn plan start old count place so_far here text) → PrintsFrom IsOn plan 0 count before.events so_far start here.at old text
+all_printed IsOn plan start here old text count place so_far end before =
+    subst (λ (b : Bool). PrintsFrom IsOn plan 0 count before.events b start here.at old text) (and_true so_far)
+    (before.whole 0 end [] true here.at text (refl, (refl, (refl, refl))))

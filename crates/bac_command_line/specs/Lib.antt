@@ -7,6 +7,7 @@ pub mod FileWords
 pub mod Rounds
 pub mod ClientPairs
 pub mod Online
+pub mod Clients
 pub mod AskedLines
 pub mod InFlight
 pub mod Asked

@@ -1,6 +1,7 @@
 -- What a command line asks for, and what the status of doing it says.
 use Rattle.std.specs.Prelude.{⊤, ℕ, List, Option, map}
 use Rattle.std.specs.Option.{option_map}
+use Rattle.bac_npdu.specs.Views.{peer_view}
 use Rattle.bac_text.specs.declared.status.Status.{Status}
 use Rattle.bac_text.specs.declared.status.Status.TheVariants as status
 use Rattle.bac_command_line.specs.Asked.{AreAskedFrom}
@@ -38,7 +39,9 @@ IsPerformed IsAt IsOn IsClock IsOnDatabase (task.ServeKept serving objects path)
     IsServedKept IsAt (option_map (λ p. p.now) objects) IsOnDatabase IsOn IsClock s serving path.now old new
 IsPerformed IsAt IsOn IsClock IsOnDatabase (task.Keep path) s old new = IsListed s old new
 IsPerformed IsAt IsOn IsClock IsOnDatabase (task.Forget forgetting) s old new = IsListed s old new
-IsPerformed IsAt IsOn IsClock IsOnDatabase (task.Ask asking words) s old new = IsAskedFrom IsAt IsOn IsClock s asking (map (λ w. w.now) words.now) old new
-IsPerformed IsAt IsOn IsClock IsOnDatabase (task.AskLines asking path) s old new = AreAskedFrom IsAt IsOn IsClock s asking path.now old new
+IsPerformed IsAt IsOn IsClock IsOnDatabase (task.Ask asking peer words) s old new =
+    IsAskedFrom IsAt IsOn IsClock s asking (peer_view peer) (map (λ w. w.now) words.now) old new
+IsPerformed IsAt IsOn IsClock IsOnDatabase (task.AskLines asking default path) s old new =
+    AreAskedFrom IsAt IsOn IsClock s asking (option_map peer_view default) path.now old new
 IsPerformed IsAt IsOn IsClock IsOnDatabase task.Pair s old new = IsPair IsOn IsClock s old new
 IsPerformed IsAt IsOn IsClock IsOnDatabase (task.Tell telling) s old new = IsTold s

@@ -56,8 +56,16 @@ fn perform<F: OpenFiles, M: Machine, O: Write, E: Write>(
         } => serve_kept(environment, &serving, objects, path, out, err),
         Task::Keep(path) => list_kept(environment, path, out, err),
         Task::Forget(forgetting) => forget_kept(environment, forgetting, out, err),
-        Task::Ask { asking, words } => { file_words::ask(environment, &asking, words, out, err) }
-        Task::AskLines { asking, path } => { ask_lines(environment, &asking, path, out, err) }
+        Task::Ask {
+            asking,
+            peer,
+            words,
+        } => file_words::ask(environment, &asking, peer, words, out, err),
+        Task::AskLines {
+            asking,
+            default,
+            path,
+        } => ask_lines(environment, &asking, default, path, out, err),
         Task::Pair => online::pair(alloc, environment.machine, out, err),
         Task::Tell(telling) => tell(telling, out, err),
     }

@@ -1,11 +1,12 @@
 //! What a command line asks for.
-use crate::asking::{Asking, asking_of};
+use crate::asking::{Asking, asking_of, default_of, peer_of};
 use crate::files::{CaptureFile, ScriptFile};
 use crate::forgetting::Forgetting;
 use crate::help::Telling;
 use crate::online::Machine;
 use crate::serving::{Serving, serving_of};
 use bac_explain_report::ChartFormat;
+use bac_npdu::Peer;
 use bac_simulate::View;
 use clap::ArgMatches;
 
@@ -60,11 +61,13 @@ pub(crate) enum Task<'m, 'a> {
     /// The request that some words are.
     Ask {
         asking: Asking,
+        peer: Peer,
         words: &'m [&'a str],
     },
-    /// The requests of the lines of this file.
+    /// The requests of the lines of this file; those of lines that name no peer are asked of this one.
     AskLines {
         asking: Asking,
+        default: Option<Peer>,
         path: &'a str,
     },
     /// Two nodes.
@@ -110,13 +113,14 @@ impl<'m, 'a> Task<'m, 'a> {
     /// The same; a client asks from the address of this machine that the node sees, where the machine tells it.
     pub(crate) fn from_source<M: Machine>(self, machine: &M) -> Task<'m, 'a> {
         match self {
-            Task::Ask { asking, words } => Task::Ask {
-                asking: asking.from_source(machine),
+            Task::Ask {
+                asking,
+                peer,
                 words,
-            },
-            Task::AskLines { asking, path } => Task::AskLines {
-                asking: asking.from_source(machine),
-                path,
+            } => Task::Ask {
+                asking: asking.towards(machine, peer),
+                peer,
+                words,
             },
             task => task,
         }
@@ -189,12 +193,22 @@ pub(crate) fn task_of<'m, 'a>(
             Some(Task::Keep(path))
         }
         ("ask", given) => {
-            let asking = asking_of(given, shows_progress)?;
+            let asking = asking_of(given, shows_progress);
             if let Some(path) = given.get_str("lines") {
-                return Some(Task::AskLines { asking, path });
+                let default = default_of(given)?;
+                return Some(Task::AskLines {
+                    asking,
+                    default,
+                    path,
+                });
             }
+            let peer = peer_of(given)?;
             let words = given.get_strs("WORDS")?;
-            Some(Task::Ask { asking, words })
+            Some(Task::Ask {
+                asking,
+                peer,
+                words,
+            })
         }
         ("pair", _) => Some(Task::Pair),
         ("help", given) if given.get_flag("man") => Some(Task::Tell(Telling::Manual)),

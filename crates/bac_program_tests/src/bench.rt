@@ -22,6 +22,8 @@ pub(crate) enum Behind {
     Houses,
     /// The same; of answers that wait the one that was sent last comes first.
     Backwards,
+    /// The same, and the system refuses each link but the first.
+    HousesOnce,
     /// Nobody.
     Nobody,
     /// Who is asked answers with this datagram.
@@ -87,9 +89,9 @@ impl BenchLink {
     /// What answers a datagram to that address, if something does.
     fn answer_from(&self, to: [u8; 6], octets: &[u8]) -> Option<Vec<u8>> {
         match self.behind {
-            Behind::Houses | Behind::Backwards if HOUSES.contains(&to) => house_answer(
-                self.alloc, octets,
-            ),
+            Behind::Houses | Behind::Backwards | Behind::HousesOnce if HOUSES.contains(&to) => {
+                house_answer(self.alloc, octets)
+            }
             Behind::Answer(answer) => answer.to_vec(self.alloc).ok(),
             Behind::Read(data) => read_answer(self.alloc, octets, data),
             _ => None,
@@ -113,7 +115,7 @@ impl BenchLink {
     fn keep(&mut self, from: [u8; 6], answer: Vec<u8>) -> Result<(), LinkFault>
         ensures { self.new.failures ≡ (if is_ok result then self.old.failures else one_more self.old.failures) }
     {
-        if !matches!(self.behind, Behind::Backwards) {
+        if !matches!(self.behind, Behind::Backwards | Behind::HousesOnce) {
             self.answers.clear();
         }
         match self.answers.push((from, answer)) {
@@ -248,6 +250,15 @@ impl BenchMachine {
         }
     }
 
+    /// Whether the system refuses the next link.
+    fn has_no_link(&self) -> bool {
+        match self.bench.behind {
+            Behind::Nothing => true,
+            Behind::HousesOnce => self.last_free.get() > 50_000,
+            _ => false,
+        }
+    }
+
     fn link(&self) -> BenchLink {
         let requests = match self.bench.behind {
             Behind::Requests(count) => count,
@@ -278,7 +289,7 @@ impl Machine for BenchMachine {
     ghost is_database = { λ _ _ _. ⊤ };
 
     fn bind(&self, host: [u8; 4], port: u16) -> io::Result<(BenchLink, [u8; 6])> {
-        if matches!(self.bench.behind, Behind::Nothing) {
+        if self.has_no_link() {
             return Err(io::Error::from(io::ErrorKind::AddrInUse));
         }
         let [high, low] = self.port(port).to_be_bytes();

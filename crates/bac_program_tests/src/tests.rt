@@ -8,6 +8,7 @@ use std::test::Fail;
 
 mod answers;
 mod asked_lines;
+mod asked_many;
 mod asked_rounds;
 mod asked_window;
 mod client_pairs;

@@ -1,0 +1,23 @@
+use Rattle.std.proofs.Common.{◌<◌, ◌+◌, length, drop, refl, arith}
+use Rattle.std.proofs.lemmas.List.{drop_all}
+use Rattle.std.proofs.lemmas.Option.{slice_get_read}
+use Rattle.bac_simulate.proofs.Appending.{drop_next}
+use Rattle.bac_command_line.proofs.InFlight.{all_wait, one_more_end, one_more_waits}
+use Rattle.bac_command_line.proofs.flights.Flights.new.Goals as goal
+
+pub loop-place-preserved : goal.loop-place-preserved
+loop-place-preserved c =
+    let at = c.loop-place in
+    let e = c.index-lines-place.result in
+    let lt : at.place < length c.args.lines.now = omega arith in
+    let next = drop_next c.args.lines.now at.place e (slice_get_read c.args.lines.now _ at.place e refl lt c.index-lines-place.is) in
+    record {
+      waiting = one_more_waits at.place (drop at.place c.args.lines.now) (drop (at.place + 1) c.args.lines.now) e at.waiting.items _ next at.invariant.waiting;
+      ends = one_more_end (drop at.place c.args.lines.now) (drop (at.place + 1) c.args.lines.now) e at.ends.items _ next at.invariant.ends;
+    }
+
+pub returns : goal.returns
+returns c =
+    let at = c.loop-place in
+    all_wait at.place c.args.lines.now (drop at.place c.args.lines.now) at.waiting.items at.ends.items (drop_all at.place c.args.lines.now (omega arith))
+    at.invariant.waiting at.invariant.ends
