@@ -1,5 +1,6 @@
 pub mod Files
 pub mod Lines
+pub mod Json
 pub mod Serving
 pub mod Asking
 pub mod Given

@@ -18,6 +18,7 @@ mod forgetting;
 mod grammar;
 mod help;
 mod help_words;
+mod json;
 mod keeping;
 mod lines;
 mod listing;

@@ -22,6 +22,8 @@ pub(crate) enum Task<'m, 'a> {
         in_words: bool,
         datagram: &'a str,
     },
+    /// The same as objects of JSON.
+    DecodeJson(&'a str),
     /// What is bad of this capture; other functions are counted by name or not.
     Check {
         named: bool,
@@ -29,6 +31,10 @@ pub(crate) enum Task<'m, 'a> {
     },
     /// The bad lines of the capture in this file, which has notes.
     CheckLines(&'a str),
+    /// What is bad of this capture, as objects of JSON.
+    CheckJson(CaptureFile<'a>),
+    /// The bad lines of the capture in this file, which has notes, as objects of JSON.
+    CheckJsonLines(&'a str),
     /// The transactions of this capture.
     Explain(CaptureFile<'a>),
     /// The datagrams of this capture, drawn as that.
@@ -139,14 +145,22 @@ pub(crate) fn task_of<'m, 'a>(
             let objects = given.get_str("objects");
             Some(Task::Answer { datagram, objects })
         }
+        ("decode", given) if given.get_flag("json") => {
+            Some(Task::DecodeJson(given.get_str("HEX")?))
+        }
         ("decode", given) => {
             let datagram = given.get_str("HEX")?;
             let in_words = given.get_flag("text");
             Some(Task::Decode { in_words, datagram })
         }
         ("check", given) if given.get_flag("notes") => {
-            Some(Task::CheckLines(given.get_str("FILE")?))
+            let path = given.get_str("FILE")?;
+            if given.get_flag("json") {
+                return Some(Task::CheckJsonLines(path));
+            }
+            Some(Task::CheckLines(path))
         }
+        ("check", given) if given.get_flag("json") => Some(Task::CheckJson(capture_of(given)?)),
         ("check", given) => {
             let capture = capture_of(given)?;
             let named = given.get_flag("text");

@@ -87,6 +87,13 @@ const DECODE: &[Word] = &[
         against: &[],
         help: "Prints objects, properties, errors, reasons and faults by their names, and values by their kinds",
     },
+    Word {
+        name: "json",
+        form: WordForm::Flag,
+        need: Need::Never,
+        against: &["text"],
+        help: "Prints each datagram as an object of JSON, one a line",
+    },
 ];
 
 /// Examples for `check`.
@@ -123,6 +130,13 @@ const CHECK: &[Word] = &[
         need: Need::Never,
         against: &["notes"],
         help: "For pcap and pcapng: prints how many frames carry each other BVLC function, by name",
+    },
+    Word {
+        name: "json",
+        form: WordForm::Flag,
+        need: Need::Never,
+        against: &["text"],
+        help: "Prints each bad frame or line, and the counts, as an object of JSON, one a line",
     },
 ];
 

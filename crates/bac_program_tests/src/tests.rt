@@ -16,6 +16,7 @@ mod decoded;
 mod files;
 mod forgotten;
 mod help;
+mod json;
 mod kept;
 mod logged;
 mod not_asked;
