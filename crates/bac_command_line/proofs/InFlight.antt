@@ -1,16 +1,19 @@
 -- Asks of lines, several at once.
-use Rattle.std.proofs.Common.{◌≡◌, ℕ, suc, ◌+◌, ◌<◌, ◌&&◌, Bool, true, List, [], ◌∷◌, ◌++◌, length, map, Option, Some, None}
+use Rattle.std.proofs.Common.{◌≡◌, ◌⊎◌, ℕ, suc, ◌+◌, ◌<◌, ◌&&◌, Bool, true, List, [], ◌∷◌, ◌++◌, length, map, max, Option, Some, None, Result, Ok, Err}
 use Rattle.std.proofs.Common.{refl, ap, sym, subst, ◌∙◌, arith, append_assoc, append-nil, add-zero, slice_get}
 use Rattle.std.proofs.lemmas.List.Quantifiers.{position-Some}
 use Rattle.std.proofs.lemmas.Option.{get_or_from_slice_get}
 use Rattle.std.specs.List.{position}
-use Rattle.std.specs.Prelude.{MatchOption}
+use Rattle.std.specs.Prelude.{IfOk, MatchOption}
+use Rattle.bac_text.specs.declared.status.Status.{Status}
 use Rattle.bac_driver.specs.Runs.{Run, Timed}
+use Rattle.bac_driver.specs.Views.{question_view}
 use Rattle.bac_driver.specs.declared.question.AskEnd.{AskEnd}
 use Rattle.bac_driver.specs.declared.wait_limit.WaitLimit.{WaitLimit}
-use Rattle.bac_command_line.specs.InFlight.{Aloft, Event, Goes, GoesOn, Happens, MayGoOn, Plan, PrintsFrom, Sky, TellsLine, first_patience, may_begin, new_sky, no_end, waiting_from}
-use Rattle.bac_command_line.specs.InFlight.Event.{WentOn}
+use Rattle.bac_command_line.specs.InFlight.{Aloft, BeginsOn, EndsLine, Event, GivesUp, Goes, GoesOn, Happens, IsTaken, IsTakenUp, MayGoOn, Plan, PrintsFrom, PrintsLine, Sky, TakesEnd, TakesTurn, TellsLine, aloft, first_patience, is_idle, may_begin, new_sky, no_end, waiting_from}
+use Rattle.bac_command_line.specs.InFlight.Event.{Began, Held, WentOn}
 use Rattle.bac_command_line.specs.Online.{Links}
+use Rattle.bac_command_line.specs.declared.flights.Begun.{Begun}
 use Rattle.bac_command_line.specs.declared.flights.Flight.{Flight}
 use Rattle.bac_command_line.specs.declared.flights.Waiting.{Waiting}
 use Rattle.bac_command_line.specs.declared.question_lines.LineQuestion.{LineQuestion}
@@ -56,6 +59,13 @@ pub next_within : (share : ℕ) (flights : List Flight) (waiting : List Waiting)
 next_within share flights [] at first = absurd cc
 next_within share flights (w ∷ waiting) at first = (position-Some (may_begin share flights) (w ∷ waiting) at w first).0
 
+some_first : (flights : List Flight) (p : WaitLimit) → first_patience flights ≡ Some p → 0 < length flights
+some_first [] p is = absurd cc
+some_first (f ∷ flights) p is = omega arith
+
+pub one_flies : (flights : List Flight) (told : Option WaitLimit) (p : WaitLimit) → told ≡ first_patience flights → told ≡ Some p → 0 < length flights
+one_flies flights told p same is = some_first flights p (sym same ∙ is)
+
 -- ---- what happens
 
 pub none_goes : (IsOn : Links) (plan : Plan) (old new : Aloft) → new ≡ old → Goes IsOn plan old new
@@ -77,6 +87,21 @@ both_go IsOn plan old middle new first later =
       run = both_run (Happens IsOn plan) first.events later.events old middle new first.run later.run;
     }
 
+is_none : {A : Type 0} (told is : Option A) → told ≡ is → ((a : A) → told ≡ Some a → ⊥) → is ≡ None
+is_none None is same never = sym same
+is_none (Some a) is same never = absurd (never a refl)
+
+-- where none is under way, nothing happens
+pub none_to_go : (old : Aloft) (told : Option WaitLimit) → told ≡ first_patience old.sky.flights → ((p : WaitLimit) → told ≡ Some p → ⊥) → MayGoOn old old
+none_to_go old told same never =
+    subst (λ (p : Option WaitLimit). MatchOption p (old ≡ old) (λ q. GoesOn q old old)) (sym (is_none told (first_patience old.sky.flights) same never)) refl
+
+pub goes_so : (old new : Aloft) (told : Option WaitLimit) (p : WaitLimit) → told ≡ first_patience old.sky.flights → told ≡ Some p
+    → TakesTurn p old new ⊎ GivesUp p old new → MayGoOn old new
+goes_so old new told p same is goes =
+    let first : first_patience old.sky.flights ≡ Some p = sym same ∙ is in
+    subst (λ (o : Option WaitLimit). MatchOption o (new ≡ old) (λ q. GoesOn q old new)) (sym first) (first, goes)
+
 -- what is under way goes on, where anything is
 went_on : (IsOn : Links) (plan : Plan) (old new : Aloft) (p : Option WaitLimit) → p ≡ first_patience old.sky.flights
     → MatchOption p (new ≡ old) (λ q. GoesOn q old new) → Goes IsOn plan old new
@@ -85,6 +110,71 @@ went_on IsOn plan old new (Some p) is goes = one_goes IsOn plan (WentOn p) old n
 
 pub may_go : (IsOn : Links) (plan : Plan) (old new : Aloft) → MayGoOn old new → Goes IsOn plan old new
 may_go IsOn plan old new goes = went_on IsOn plan old new (first_patience old.sky.flights) refl goes
+
+-- the node had nothing left for a line
+pub holds_so : (IsOn : Links) (plan : Plan) (place : ℕ) (line : LineQuestion) (idle : Bool) (told : Option Begun) (s : Sky) (before after : Timed)
+    → slice_get plan.lines place ≡ Some line → idle ≡ is_idle s.flights → told ≡ None
+    → BeginsOn IsOn plan.asking (question_view line.question) idle told before after → Goes IsOn plan (aloft before s) (aloft after s)
+holds_so IsOn plan place line idle told s before after line_is idle_is none begins =
+    one_goes IsOn plan (Held place) (aloft before s) (aloft after s)
+    (record {
+      line = line;
+      line_is = line_is;
+      holds =
+          subst (λ (b : Bool). BeginsOn IsOn plan.asking (question_view line.question) b None before after) idle_is
+          (subst (λ (o : Option Begun). BeginsOn IsOn plan.asking (question_view line.question) idle o before after) none begins);
+      same = refl;
+    })
+
+-- the first that may begin began
+pub begins_so : (IsOn : Links) (plan : Plan) (at : ℕ) (waiting : Waiting) (line : LineQuestion) (idle : Bool) (told : Option Begun) (b : Begun) (old new : Sky)
+    (before after : Timed) → length old.flights < max plan.window 1 → position (may_begin plan.share old.flights) old.waiting ≡ Some at
+    → slice_get old.waiting at ≡ Some waiting → slice_get plan.lines waiting.place ≡ Some line → idle ≡ is_idle old.flights → told ≡ Some b
+    → BeginsOn IsOn plan.asking (question_view line.question) idle told before after → IsTakenUp at b old new
+    → Goes IsOn plan (aloft before old) (aloft after new)
+begins_so IsOn plan at waiting line idle told b old new before after room first is line_is idle_is some begins taken =
+    one_goes IsOn plan (Began waiting.place) (aloft before old) (aloft after new)
+    (record {
+      room = room;
+      at = at;
+      waiting = waiting;
+      is = is;
+      share = next_begins plan.share old.flights old.waiting at waiting first is;
+      same = refl;
+      line = line;
+      line_is = line_is;
+      begun = b;
+      begins =
+          subst (λ (i : Bool). BeginsOn IsOn plan.asking (question_view line.question) i (Some b) before after) idle_is
+          (subst (λ (o : Option Begun). BeginsOn IsOn plan.asking (question_view line.question) idle o before after) some begins);
+      taken = taken;
+    })
+
+-- and then what is under way went on, where the asks were still those
+pub goes_on : (IsOn : Links) (plan : Plan) (old new : Aloft) (middle : Timed) (begun still : Sky) → Goes IsOn plan old (aloft middle begun) → still ≡ begun
+    → MayGoOn (aloft middle still) new → Goes IsOn plan old new
+goes_on IsOn plan old new middle begun still before same goes =
+    both_go IsOn plan old (aloft middle begun) new before
+    (may_go IsOn plan (aloft middle begun) new (subst (λ (s : Sky). MayGoOn (aloft middle s) new) same goes))
+
+-- ---- the ask of a line
+
+-- it had not ended
+pub none_taken : (place : ℕ) (told : Option AskEnd) (old new : Sky) → ((how : AskEnd) → told ≡ Some how → ⊥) → TakesEnd place told old new → new ≡ old
+none_taken place None old new never same = same
+none_taken place (Some how) old new never taken = absurd (never how refl)
+
+pub end_taken : (place : ℕ) (told : Option AskEnd) (how : AskEnd) (old new : Sky) → told ≡ Some how → TakesEnd place told old new → IsTaken place how old new
+end_taken place told how old new is taken = subst (λ (o : Option AskEnd). TakesEnd place o old new) is taken
+
+-- how it ended was printed
+pub told_so : (IsOn : Links) (plan : Plan) (place : ℕ) (line : LineQuestion) (how : AskEnd) (before after : Aloft) (old new : Option (List ℕ))
+    (r : Result Bool Status) → slice_get plan.lines place ≡ Some line → EndsLine IsOn plan place how before after
+    → IfOk r (λ succeeded. PrintsLine plan.asking.output_format line how succeeded old new)
+    → IfOk r (λ succeeded. TellsLine IsOn plan place succeeded before after old new)
+told_so IsOn plan place line how before after old new (Ok succeeded) line_is ends tells =
+    record { line = line; line_is = line_is; how = how; ends = ends; tells = tells }
+told_so IsOn plan place line how before after old new (Err s) line_is ends tells = tt
 
 -- ---- all lines
 
