@@ -428,14 +428,14 @@ const ASK: &[Word] = &[
         form: WordForm::Text("FILE"),
         need: Need::Never,
         against: &["WORDS", "raw"],
-        help: "Asks the requests in FILE, one a line, in turn, and prefixes each result with its line number; `-` reads standard input. A line may begin with the node that it is asked of, as `@A.B.C.D[:P]` or `@A.B.C.D[:P]/NET:MAC`; --to is for the others. Skips blank lines and lines that begin with `#`; words are separated by single spaces, and `@FILE` is not allowed. A bad line is reported before anything is asked",
+        help: "Asks the requests in FILE, one a line, in turn, and prefixes each result with its line number; `-` reads standard input. A line may begin with the address of its own node, `@A.B.C.D[:P]` or `@A.B.C.D[:P]/NET:MAC`; the others are asked of the node that --to or --port gives. Skips blank lines and lines that begin with `#`; words are separated by single spaces, and `@FILE` is not allowed. A bad line is reported before anything is asked",
     },
     Word {
         name: "window",
         form: WordForm::Number("N", 256),
         need: Need::Beside("lines"),
         against: &["WORDS"],
-        help: "Has up to N requests outstanding, 1 to 256, and an equal share of them for each node; results are printed in the order of the lines. By default each waits for the one before",
+        help: "Has up to N requests under way, 1 to 256, of which each node of the list has an equal share; results are printed in the order of the lines. By default each waits for the one before",
     },
     Word {
         name: "every",
