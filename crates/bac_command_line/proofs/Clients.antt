@@ -56,13 +56,14 @@ begun_anew IsOn asking q idle refusal b before refused fresh after none spent re
     record {
       free = begins_free IsOn asking.host asking q b refused fresh after renewed begins;
       begins =
-          inr
-          (none,
-          record {
-            refused = refused;
-            finds = record { refusal = refusal; spent = spent; refuses = refuses };
-            fresh = fresh;
-            renewed = renewed;
-            begins = begins;
-          });
+          inr (
+            none,
+            record {
+              refused = refused;
+              finds = record { refusal = refusal; spent = spent; refuses = refuses };
+              fresh = fresh;
+              renewed = renewed;
+              begins = begins;
+            },
+          );
     }
