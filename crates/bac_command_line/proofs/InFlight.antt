@@ -224,4 +224,4 @@ pub all_printed : (IsOn : Links) (plan : Plan) (start here : Aloft) (old text : 
     → (before : IsPrintedSoFar IsOn plan start old count place so_far here text) → PrintsFrom IsOn plan 0 count before.events so_far start here.at old text
 all_printed IsOn plan start here old text count place so_far end before =
     subst (λ (b : Bool). PrintsFrom IsOn plan 0 count before.events b start here.at old text) (and_true so_far)
-    (before.whole 0 end [] true here.at text (refl, (refl, (refl, refl))))
+    (before.whole 0 (omega (arith, end)) [] true here.at text (refl, (refl, (refl, refl))))

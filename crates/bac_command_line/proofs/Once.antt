@@ -88,7 +88,8 @@ begun_once IsOn plan place at old new begins =
 -- as often as the ask of a line begins, the line waits no longer
 run_once : (IsOn : Links) (plan : Plan) (place : ℕ) (events : List Event) (old new : Aloft) → Run (Happens IsOn plan) events old new
     → asks_in place events + waits place new.sky.waiting ≡ waits place old.sky.waiting
-run_once IsOn plan place [] old new ran = ap (λ (a : Aloft). waits place a.sky.waiting) ran
+run_once IsOn plan place [] old new ran =
+    let same : waits place new.sky.waiting ≡ waits place old.sky.waiting = ap (λ (a : Aloft). waits place a.sky.waiting) ran in omega (arith, same)
 run_once IsOn plan place (Began at ∷ events) old new ran =
     let before = run_once IsOn plan place events old ran.middle ran.so_far in
     let last = begun_once IsOn plan place at ran.middle new ran.last in
@@ -103,7 +104,7 @@ run_once IsOn plan place (WentOn p ∷ events) old new ran =
     omega (arith, before, same)
 
 asks_append : (place : ℕ) (later first : List Event) → asks_in place (later ++ first) ≡ asks_in place later + asks_in place first
-asks_append place [] first = refl
+asks_append place [] first = omega arith
 asks_append place (Began at ∷ later) first = let more = asks_append place later first in omega (arith, more)
 asks_append place (Held at ∷ later) first = asks_append place later first
 asks_append place (WentOn p ∷ later) first = asks_append place later first
