@@ -2,6 +2,7 @@
 ghost use Rattle.std.specs.Prelude.{◌≡◌, ◌≤◌, IfOk, OnOk};
 ghost use Rattle.sqlite_trees.specs.Tree.{Trees};
 ghost use Rattle.sqlite_trees.specs.View.{IsClean, doubt};
+ghost use Rattle.bac_store.specs.Stores.{Store as Overlaid};
 ghost use Rattle.bac_keep.specs.Made.{IsKeepable, after_made, made_view};
 ghost use Rattle.bac_keep.specs.Overlay.{overlay};
 ghost use Rattle.bac_keep.specs.Rows.{cells_of};
@@ -148,6 +149,10 @@ impl<S: Store + Drop> Keeper for CellKeeper<S> {
     ghost noted = { λ k. overlay (cells_of (S.view k.database).trees) k.document };
 
     ghost may_find = { λ k. MayFind S.recovers k.database k.document };
+
+    ghost Base = { Overlaid };
+
+    ghost base = { λ k. k.document };
 
     fn note(&mut self, made: &Made<'_>, store: &Objects) -> Result<(), KeepFault> {
         note_made(self.alloc, &mut self.database, &self.document, made, store)?;
