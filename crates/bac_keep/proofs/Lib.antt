@@ -6,6 +6,7 @@ pub mod Maps
 pub mod Notes
 pub mod Places
 mod Puts
+pub mod Refusals
 pub mod Restores
 pub mod Risings
 mod RowReading
