@@ -1,8 +1,9 @@
 //! Reading the cells of a database.
-ghost use Rattle.std.specs.Prelude.{◌≡◌, ◌≤◌, ◌<◌, ◌^◌, pos, IfOk, IfSome, OnOk};
+ghost use Rattle.std.specs.Prelude.{◌≡◌, ◌≤◌, ◌<◌, ◌^◌, pos, IfErr, IfOk, IfSome, OnOk};
 ghost use Rattle.sqlite_value.specs.Order.{column};
 ghost use Rattle.sqlite_value.specs.declared.value.Value.TheVariants.{Int};
 ghost use Rattle.sqlite_trees.specs.View.{IsClean, doubt};
+ghost use Rattle.bac_keep.specs.Refused.{IsUnreadable};
 ghost use Rattle.bac_keep.specs.Rows.{AreCells, IsRowOf};
 ghost use Rattle.bac_keep.specs.Steps.{IsReady, NoMore};
 
@@ -46,6 +47,7 @@ pub(crate) fn read_cells<S: Store>(alloc: Global, database: &mut S) -> Result<Ve
     ensures ready { OnOk result (IsClean (S.view database.new) → IsReady (S.view database.new)) }
     ensures trees { OnOk result (IsClean (S.view database.new) → (S.view database.new).trees ≡ (S.view database.old).trees) }
     ensures committed { OnOk result (IsClean (S.view database.new) → (S.view database.new).committed ≡ (S.view database.old).committed) }
+    ensures refused { IfErr result IsUnreadable }
     ensures crash { NoMore S.recovers database.old database.new }
 {
     let mut cells = Vec::new(alloc);

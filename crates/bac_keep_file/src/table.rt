@@ -1,7 +1,8 @@
 //! The table of cells.
-ghost use Rattle.std.specs.Prelude.{◌≡◌, ◌≤◌, false, IsTrue, IfOk};
+ghost use Rattle.std.specs.Prelude.{◌≡◌, ◌≤◌, false, true, IsTrue, IfOk};
 ghost use Rattle.sqlite_trees.specs.View.{IsClean, doubt};
 ghost use Rattle.sqlite.specs.Held.{state};
+ghost use Rattle.bac_keep_file.specs.Made.{HasNoTable};
 
 use crate::fault::OpenFault;
 use sqlite::{Alter, Connection};
@@ -28,7 +29,9 @@ fn is_of_cells(table: &Table) -> bool {
 
 /// Makes the table where there is none. Returns whether it made it; `Foreign` if the first table is another.
 fn make_table<S: Alter + Drop>(conn: &mut Connection<S>) -> Result<bool, OpenFault>
-    ensures { IfOk result (λ made. made ≡ false → conn.new ≡ conn.old) }
+    ensures same { IfOk result (λ made. made ≡ false → conn.new ≡ conn.old) }
+    ensures none { IfOk result (λ made. made ≡ true → IsTrue (state S.Store conn.old).is_open → HasNoTable (state S.Store conn.old).now.trees) }
+    ensures clean { doubt (state S.Store conn.old).is_clean ≤ doubt (state S.Store conn.new).is_clean }
 {
     let Some(first) = conn.schema().tables.as_slice().first() else {
         conn.execute(TABLE, &[])?;
@@ -52,7 +55,8 @@ fn into_store<S: Alter + Drop>(conn: Connection<S>) -> S
 
 /// The store of a connection, with the table, which is made where there is none; and whether it was made.
 pub(crate) fn store_of<S: Alter + Drop>(mut conn: Connection<S>) -> Result<(S, bool), OpenFault>
-    ensures clean { IfOk result (λ r. r.1 ≡ false → IsClean (S.Store.view r.0) → IsClean (S.Store.view conn.store)) }
+    ensures clean { IfOk result (λ r. IsClean (S.Store.view r.0) → IsClean (S.Store.view conn.store)) }
+    ensures none { IfOk result (λ r. r.1 ≡ true → IsTrue (state S.Store conn).is_open → HasNoTable (state S.Store conn).now.trees) }
     ensures same { IfOk result (λ r. r.1 ≡ false → IsClean (S.Store.view r.0) → IsTrue (S.Store.view r.0).is_open
         → (S.Store.view r.0).committed ≡ (state S.Store conn).committed.trees) }
 {

@@ -1,0 +1,75 @@
+-- Why a start from a document and a database is refused.
+use Rattle.std.specs.Prelude.{◌≡◌, true, false, ℕ, ◌<◌, List, [], ◌∷◌, Some, ⊤}
+use Rattle.bac_value.specs.Value.{ObjectId}
+use Rattle.bac_value.specs.Views.{object_identifier_view}
+use Rattle.bac_value.specs.declared.value.ObjectIdentifier.{ObjectIdentifier}
+use Rattle.bac_store.specs.AtNode.{Change, IsFaultOf}
+use Rattle.bac_store.specs.Stores.{Store}
+use Rattle.bac_store.specs.Writes.{file_at, listed_at}
+use Rattle.bac_store.specs.declared.change_fault.ChangeFault.{ChangeFault}
+use Rattle.sqlite_trees.specs.View.{View}
+use Rattle.sqlite_trees.specs.declared.store.Shape.TheVariants.{Table}
+use Rattle.bac_keep.specs.Cells.{Cells, NUMBERS, file_place, value_place}
+use Rattle.bac_keep.specs.Overlay.{joined}
+use Rattle.bac_keep.specs.Restored.{is_writable_file, is_writable_value}
+use Rattle.bac_keep.specs.Rows.{cells_of}
+use Rattle.bac_keep.specs.declared.fault.KeepFault.{KeepFault}
+use Rattle.bac_keep.specs.declared.fault.KeepFault.TheVariants as fault
+
+-- the document has the property, it may be written, and it cannot have the values that are kept
+pub record IsBadValues (document : Store) (cells : Cells) (id : ObjectId) (n : ℕ) (e : ChangeFault) : Type 0 where
+  pub values : List ℕ
+  pub small : n < NUMBERS
+  pub are_kept : cells (value_place id n) ≡ Some values
+  pub writable : is_writable_value (listed_at document id n) ≡ true
+  pub fault : IsFaultOf document (Change.Value id n values) e
+
+-- the document has the file, it may be written, and it cannot have the octets that are kept
+pub record IsBadOctets (document : Store) (cells : Cells) (id : ObjectId) (e : ChangeFault) : Type 0 where
+  pub count : ℕ
+  pub are_kept : cells (file_place id 0) ≡ Some (count ∷ [])
+  pub writable : is_writable_file (file_at document id) ≡ true
+  pub fault : IsFaultOf document (Change.File id (joined cells id count)) e
+
+-- why a store does not take these values, and these octets
+abbrev pub AreBadValues : Store → ObjectIdentifier → ℕ → List ℕ → KeepFault → Type 0
+AreBadValues s object n values (fault.BadValues o m e) =
+    (o ≡ object) × (m ≡ n) × (is_writable_value (listed_at s (object_identifier_view object) n) ≡ true)
+    × IsFaultOf s (Change.Value (object_identifier_view object) n values) e
+AreBadValues s object n values _ = ⊥
+
+abbrev pub AreBadOctets : Store → ObjectIdentifier → List ℕ → KeepFault → Type 0
+AreBadOctets s object octets (fault.BadOctets o e) = (o ≡ object) × IsFaultOf s (Change.File (object_identifier_view object) octets) e
+AreBadOctets s object octets _ = ⊥
+
+-- why a document and cells make no store
+abbrev pub IsUnfit : Store → Cells → KeepFault → Type 0
+IsUnfit document cells (fault.BadValues object n e) = IsBadValues document cells (object_identifier_view object) n e
+IsUnfit document cells (fault.BadOctets object e) = IsBadOctets document cells (object_identifier_view object) e
+IsUnfit document cells fault.BadRow = ⊤
+IsUnfit document cells fault.NoMemory = ⊤
+IsUnfit document cells _ = ⊥
+
+-- why a database cannot be used, which was so before a rollback and is so after it
+abbrev pub IsUnready : View → View → KeepFault → Type 0
+IsUnready old new fault.Shut = new.is_open ≡ false
+IsUnready old new fault.NoTable = ¬ (old.committed_shape 0 ≡ Table)
+IsUnready old new _ = ⊥
+
+-- why a table cannot be read
+abbrev pub IsUnreadable : KeepFault → Type 0
+IsUnreadable (fault.Database e) = ⊤
+IsUnreadable fault.BadRow = ⊤
+IsUnreadable fault.NoMemory = ⊤
+IsUnreadable _ = ⊥
+
+-- why a start is refused, where the database was so before it and is so after it
+abbrev pub IsRefused : Store → View → View → KeepFault → Type 0
+IsRefused document old new fault.Shut = new.is_open ≡ false
+IsRefused document old new fault.NoTable = ¬ (old.committed_shape 0 ≡ Table)
+IsRefused document old new (fault.BadValues object n e) = IsBadValues document (cells_of old.committed) (object_identifier_view object) n e
+IsRefused document old new (fault.BadOctets object e) = IsBadOctets document (cells_of old.committed) (object_identifier_view object) e
+IsRefused document old new (fault.Database e) = ⊤
+IsRefused document old new fault.BadRow = ⊤
+IsRefused document old new fault.NoMemory = ⊤
+IsRefused document old new fault.HighNumber = ⊥
