@@ -2,16 +2,7 @@ pub mod Copies
 pub mod Describes
 pub mod Files
 pub mod Heap
-pub mod KeptChunks
-pub mod KeptFiles
-pub mod KeptLists
-pub mod KeptMaps
-pub mod KeptNotes
-pub mod KeptPlaces
 pub mod KeptPuts
-pub mod KeptRestores
-pub mod KeptRisings
-pub mod KeptValues
 pub mod LetsGo
 pub mod Limits
 pub mod Lists

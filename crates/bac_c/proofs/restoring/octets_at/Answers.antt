@@ -3,7 +3,7 @@ use Rattle.bac_value.specs.Views.{object_identifier_view}
 use Rattle.bac_keep.specs.Cells.{file_place}
 use Rattle.bac_keep.specs.Overlay.{joined}
 use Rattle.bac_keep.specs.Rows.{held}
-use Rattle.bac_c.proofs.KeptLists.{next_chunk}
+use Rattle.bac_keep.proofs.Lists.{next_chunk}
 use Rattle.bac_c.proofs.restoring.octets_at.Goals as goal
 
 pub loop-part-preserved : goal.loop-part-preserved

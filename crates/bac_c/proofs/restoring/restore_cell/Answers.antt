@@ -2,7 +2,7 @@ use Rattle.std.proofs.Common.{rules, arith, ◌≡◌, ◌∙◌, ap, sym, suc, 
 use Rattle.bac_value.specs.Views.{object_identifier_view}
 use Rattle.bac_keep.specs.Cells.{file_place, value_place}
 use Rattle.bac_keep.specs.Restored.{with_kept_octets, with_kept_values}
-use Rattle.bac_c.proofs.KeptLists.{chunk_step, count_step, values_step}
+use Rattle.bac_keep.proofs.Lists.{chunk_step, count_step, values_step}
 use Rattle.bac_c.proofs.restoring.restore_cell.Goals as goal
 
 pub returns-in_ok-restore_values-in-Some-Values-clause-made : goal.returns-in_ok-restore_values-in-Some-Values-clause-made

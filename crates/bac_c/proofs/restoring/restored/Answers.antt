@@ -1,5 +1,5 @@
 use Rattle.std.proofs.Common.{arith}
-use Rattle.bac_c.proofs.KeptLists.{nothing_yet}
+use Rattle.bac_keep.proofs.Lists.{nothing_yet}
 use Rattle.bac_c.proofs.restoring.restored.Goals as goal
 
 pub loop-done-init : goal.loop-done-init
