@@ -1,6 +1,9 @@
 -- Why a start is refused: what the store that cells make of a document cannot have, the document cannot have.
 use Rattle.std.proofs.Common.{◌≡◌, ℕ, suc, zero, ◌<◌, Bool, true, false, ◌&&◌, ◌==◌, List, [], ◌∷◌, ◌++◌, length, drop, get_or, Option, Some, None, refl, sym, ap, ◌∙◌, subst, arith, IsTrue, IfErr, Result, Ok, Err}
-use Rattle.std.specs.Prelude.{IsErrAnd}
+use Rattle.std.proofs.Common.{◌⊎◌, inl, inr}
+use Rattle.std.specs.Prelude.{IsErrAnd, ◌≢◌}
+use Rattle.sqlite_value.specs.Order.{Row}
+use Rattle.bac_keep.specs.Parts.{IsForNothing}
 use Rattle.std.proofs.Common.{if◌then◌else◌}
 use Rattle.std.specs.Option.{option_map}
 use Rattle.bac_value.specs.Value.{ObjectId}
@@ -21,7 +24,7 @@ use Rattle.bac_keep.specs.declared.fault.KeepFault.{KeepFault}
 use Rattle.bac_keep.specs.declared.fault.KeepFault.TheVariants as keep
 use Rattle.bac_keep.specs.Cells.{Cells, NUMBERS, file_place, value_place}
 use Rattle.bac_keep.specs.Overlay.{file_over, in_place, is_kept, joined, object_over, or_nothing, overlay, value_over}
-use Rattle.bac_keep.specs.Refused.{AreBadOctets, AreBadValues, IsBadOctets, IsBadValues, IsRefused, IsUnfit, IsUnreadable, IsUnready}
+use Rattle.bac_keep.specs.Refused.{AreBadOctets, AreBadValues, HasBadCell, HasOtherRow, IsBadOctets, IsBadValues, IsRefused, IsUnfit, IsUnreadable, IsUnready}
 use Rattle.bac_keep.specs.Restored.{is_writable_file, is_writable_value}
 use Rattle.bac_keep.specs.Rows.{IsRising, cells_of, held}
 use Rattle.bac_keep.specs.Steps.{NoMore}
@@ -120,6 +123,31 @@ module _ (cells : List Cell) (at : ℕ) (d : Cell) (l : at < length cells) (is :
         (subst (λ (x : Store). IsFaultOf x (Change.File id octets) e) above faulty));
   }
 
+some_is_not_none : (x : List ℕ) (y : Option (List ℕ)) → y ≡ Some x → y ≢ None
+some_is_not_none x y e = λ none. cc
+
+-- a cell of the list at a place that is for nothing, and the number of chunks of a file that may be written
+module _ (cells : List Cell) (at : ℕ) (d : Cell) (l : at < length cells) (is : get_or cells at d ≡ d) (rise : IsRising cells) (document s : Store) where
+  there : held cells d.place ≢ None
+  there = some_is_not_none d.octets.items (held cells d.place)
+      (subst (λ (x : Cell). held cells x.place ≡ Some x.octets.items) is (held_at cells 0 at d rise (omega arith) l))
+
+  pub for_nothing : IsForNothing d.place → HasBadCell document (held cells)
+  for_nothing nothing = inl (record { place = d.place; there = there; nothing = nothing })
+
+  pub of_file : (next : ℕ) → s ≡ overlay (held (drop next cells)) document → (id : ObjectId) → d.place ≡ file_place id 0
+      → is_writable_file (file_at s id) ≡ true → HasBadCell document (held cells)
+  of_file next above id place writable = inr (record {
+    id = id;
+    there = subst (λ (q : ℕ). held cells q ≢ None) place there;
+    writable = sym (file_flag (held (drop next cells)) document id) ∙ ap (λ (x : Store). is_writable_file (file_at x id)) (sym above) ∙ writable;
+  })
+
+  -- the faults of its parts
+  pub spoilt : HasBadCell document (held cells) → (e : KeepFault) → (e ≡ keep.BadRow) ⊎ (e ≡ keep.NoMemory) → IsUnfit document (held cells) e
+  spoilt bad e (inl is) = subst (λ (x : KeepFault). IsUnfit document (held cells) x) (sym is) bad
+  spoilt bad e (inr is) = subst (λ (x : KeepFault). IsUnfit document (held cells) x) (sym is) tt
+
 -- the same, of the faults of a start
 module _ (cells : List Cell) (at : ℕ) (d : Cell) (l : at < length cells) (is : get_or cells at d ≡ d) (rise : IsRising cells) (document s : Store)
     (next : ℕ) (above : s ≡ overlay (held (drop next cells)) document) (object : ObjectIdentifier) where
@@ -169,21 +197,21 @@ unready document old new (keep.BadOctets o f) it = absurd it
 unready document old new keep.HighNumber it = absurd it
 unready document old new keep.NoMemory it = absurd it
 
-pub unreadable : (document : Store) (old new : View) (e : KeepFault) → IsUnreadable e → IsRefused document old new e
-unreadable document old new (keep.Database e) it = tt
-unreadable document old new keep.BadRow it = tt
-unreadable document old new keep.NoMemory it = tt
-unreadable document old new keep.Shut it = absurd it
-unreadable document old new keep.NoTable it = absurd it
-unreadable document old new (keep.BadValues o m f) it = absurd it
-unreadable document old new (keep.BadOctets o f) it = absurd it
-unreadable document old new keep.HighNumber it = absurd it
+pub unreadable : (document : Store) (old new : View) (rows : List Row) → rows ≡ old.committed 0 → (e : KeepFault) → IsUnreadable rows e → IsRefused document old new e
+unreadable document old new rows same (keep.Database e) it = tt
+unreadable document old new rows same keep.BadRow it = inl (subst HasOtherRow same it)
+unreadable document old new rows same keep.NoMemory it = tt
+unreadable document old new rows same keep.Shut it = absurd it
+unreadable document old new rows same keep.NoTable it = absurd it
+unreadable document old new rows same (keep.BadValues o m f) it = absurd it
+unreadable document old new rows same (keep.BadOctets o f) it = absurd it
+unreadable document old new rows same keep.HighNumber it = absurd it
 
 pub unfit : (document : Store) (old new : View) (cells : Cells) → cells ≡ cells_of old.committed → (e : KeepFault) → IsUnfit document cells e
     → IsRefused document old new e
 unfit document old new cells same (keep.BadValues o n f) it = subst (λ (x : Cells). IsBadValues document x (object_identifier_view o) n f) same it
 unfit document old new cells same (keep.BadOctets o f) it = subst (λ (x : Cells). IsBadOctets document x (object_identifier_view o) f) same it
-unfit document old new cells same keep.BadRow it = tt
+unfit document old new cells same keep.BadRow it = inr (subst (λ (x : Cells). HasBadCell document x) same it)
 unfit document old new cells same keep.NoMemory it = tt
 unfit document old new cells same (keep.Database e) it = absurd it
 unfit document old new cells same keep.Shut it = absurd it
