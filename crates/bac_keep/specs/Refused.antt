@@ -9,6 +9,7 @@ use Rattle.bac_store.specs.Writes.{file_at, listed_at}
 use Rattle.bac_store.specs.declared.change_fault.ChangeFault.{ChangeFault}
 use Rattle.sqlite_value.specs.Order.{Row}
 use Rattle.sqlite_trees.specs.View.{View}
+use Rattle.sqlite_trees.specs.declared.error.StoreError.TheVariants.{OutOfMemory}
 use Rattle.sqlite_trees.specs.declared.store.Shape.TheVariants.{Table}
 use Rattle.bac_keep.specs.Cells.{Cells, NUMBERS, file_place, value_place}
 use Rattle.bac_keep.specs.Overlay.{joined}
@@ -89,20 +90,20 @@ pub record HasOtherRow (rows : List Row) : Type 0 where
   pub there : Has rows row
   pub other : IsNoCell row
 
--- why these rows are not read
-abbrev pub IsUnreadable : List Row → KeepFault → Type 0
-IsUnreadable rows (fault.Database e) = ⊤
-IsUnreadable rows fault.BadRow = HasOtherRow rows
-IsUnreadable rows fault.NoMemory = ⊤
-IsUnreadable rows _ = ⊥
+-- why these rows are not read, where `failed` says that the disk failed or refused
+abbrev pub IsUnreadable : List Row → (failed : Type 0) → KeepFault → Type 0
+IsUnreadable rows failed (fault.Database e) = (e ≡ OutOfMemory) ⊎ failed
+IsUnreadable rows failed fault.BadRow = HasOtherRow rows
+IsUnreadable rows failed fault.NoMemory = ⊤
+IsUnreadable rows failed _ = ⊥
 
--- why a start is refused, where the database was so before it and is so after it
-abbrev pub IsRefused : Store → View → View → KeepFault → Type 0
-IsRefused document old new fault.Shut = new.is_open ≡ false
-IsRefused document old new fault.NoTable = ¬ (old.committed_shape 0 ≡ Table)
-IsRefused document old new (fault.BadValues object n e) = IsBadValues document (cells_of old.committed) (object_identifier_view object) n e
-IsRefused document old new (fault.BadOctets object e) = IsBadOctets document (cells_of old.committed) (object_identifier_view object) e
-IsRefused document old new (fault.Database e) = ⊤
-IsRefused document old new fault.BadRow = HasOtherRow (old.committed 0) ⊎ HasBadCell document (cells_of old.committed)
-IsRefused document old new fault.NoMemory = ⊤
-IsRefused document old new fault.HighNumber = ⊥
+-- why a start is refused, where the database was so before it and is so after it, and `failed` says that the disk failed or refused
+abbrev pub IsRefused : Store → View → View → (failed : Type 0) → KeepFault → Type 0
+IsRefused document old new failed fault.Shut = new.is_open ≡ false
+IsRefused document old new failed fault.NoTable = ¬ (old.committed_shape 0 ≡ Table)
+IsRefused document old new failed (fault.BadValues object n e) = IsBadValues document (cells_of old.committed) (object_identifier_view object) n e
+IsRefused document old new failed (fault.BadOctets object e) = IsBadOctets document (cells_of old.committed) (object_identifier_view object) e
+IsRefused document old new failed (fault.Database e) = (e ≡ OutOfMemory) ⊎ failed
+IsRefused document old new failed fault.BadRow = HasOtherRow (old.committed 0) ⊎ HasBadCell document (cells_of old.committed)
+IsRefused document old new failed fault.NoMemory = ⊤
+IsRefused document old new failed fault.HighNumber = ⊥

@@ -2,6 +2,7 @@
 ghost use Rattle.std.specs.Prelude.{◌≡◌, ◌≤◌, ◌<◌, ◌^◌, ℕ, pos, None, IfErr, IfOk, IfSome, OnOk};
 ghost use Rattle.sqlite_value.specs.Order.{column};
 ghost use Rattle.sqlite_value.specs.declared.value.Value.TheVariants.{Int};
+ghost use Rattle.sqlite_disk.specs.Disk.{MoreFaults};
 ghost use Rattle.sqlite_trees.specs.View.{IsClean, doubt};
 ghost use Rattle.bac_keep.specs.Refused.{IsNoCell, IsUnreadable};
 ghost use Rattle.bac_keep.specs.Rows.{AreCells, IsRowOf};
@@ -49,7 +50,8 @@ pub(crate) fn read_cells<S: Store>(alloc: Global, database: &mut S) -> Result<Ve
     ensures ready { OnOk result (IsClean (S.view database.new) → IsReady (S.view database.new)) }
     ensures trees { OnOk result (IsClean (S.view database.new) → (S.view database.new).trees ≡ (S.view database.old).trees) }
     ensures committed { OnOk result (IsClean (S.view database.new) → (S.view database.new).committed ≡ (S.view database.old).committed) }
-    ensures refused { IfErr result (λ e. IsClean (S.view database.new) → IsUnreadable ((S.view database.old).trees 0) e) }
+    ensures refused { IfErr result (λ e. IsClean (S.view database.new) → IsUnreadable ((S.view database.old).trees 0) (MoreFaults (S.faults database.old) (S.faults database.new)) e) }
+    ensures counts { S.faults database.old ≤ S.faults database.new }
     ensures crash { NoMore S.recovers database.old database.new }
 {
     let mut cells = Vec::new(alloc);
