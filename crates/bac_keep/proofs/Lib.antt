@@ -4,6 +4,7 @@ mod Finding
 pub mod Lists
 pub mod Maps
 pub mod Notes
+mod Outcomes
 pub mod Places
 mod Puts
 pub mod Refusals

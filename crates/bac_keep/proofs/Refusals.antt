@@ -1,6 +1,9 @@
 -- Why a start is refused: what the store that cells make of a document cannot have, the document cannot have.
-use Rattle.std.proofs.Common.{◌≡◌, ℕ, suc, zero, ◌<◌, Bool, true, false, ◌&&◌, ◌==◌, List, [], ◌∷◌, ◌++◌, length, drop, get_or, Option, Some, None, refl, sym, ap, ◌∙◌, subst, arith, IsTrue, IfErr, Result, Ok, Err}
-use Rattle.std.specs.Prelude.{IsErrAnd}
+use Rattle.std.proofs.Common.{◌≡◌, ℕ, suc, zero, ◌<◌, Bool, true, false, ◌&&◌, ◌==◌, List, [], ◌∷◌, ◌++◌, length, drop, get_or, Option, Some, None, refl, sym, ap, ◌∙◌, subst, arith, IfErr, Result, Ok, Err}
+use Rattle.std.proofs.Common.{◌⊎◌, inl, inr}
+use Rattle.std.specs.Prelude.{IsErrAnd, ◌≢◌}
+use Rattle.sqlite_value.specs.Order.{Row}
+use Rattle.bac_keep.specs.Parts.{IsForNothing}
 use Rattle.std.proofs.Common.{if◌then◌else◌}
 use Rattle.std.specs.Option.{option_map}
 use Rattle.bac_value.specs.Value.{ObjectId}
@@ -14,20 +17,19 @@ use Rattle.bac_store.specs.declared.change_fault.ChangeFault.TheVariants as faul
 use Rattle.bac_store.proofs.OrderLaws.{first_that-map}
 use Rattle.bac_value.specs.Views.{object_identifier_view}
 use Rattle.bac_value.specs.declared.value.ObjectIdentifier.{ObjectIdentifier}
-use Rattle.sqlite_trees.specs.Tree.{Trees}
 use Rattle.sqlite_trees.specs.View.{View}
 use Rattle.bac_keep.specs.declared.cell.Cell.{Cell}
 use Rattle.bac_keep.specs.declared.fault.KeepFault.{KeepFault}
 use Rattle.bac_keep.specs.declared.fault.KeepFault.TheVariants as keep
 use Rattle.bac_keep.specs.Cells.{Cells, NUMBERS, file_place, value_place}
 use Rattle.bac_keep.specs.Overlay.{file_over, in_place, is_kept, joined, object_over, or_nothing, overlay, value_over}
-use Rattle.bac_keep.specs.Refused.{AreBadOctets, AreBadValues, IsBadOctets, IsBadValues, IsRefused, IsUnfit, IsUnreadable, IsUnready}
+use Rattle.bac_keep.specs.Refused.{AreBadOctets, AreBadValues, HasBadCell, HasOtherRow, IsBadOctets, IsBadValues, IsRefused, IsUnfit, IsUnreadable, IsUnready}
 use Rattle.bac_keep.specs.Restored.{is_writable_file, is_writable_value}
 use Rattle.bac_keep.specs.Rows.{IsRising, cells_of, held}
-use Rattle.bac_keep.specs.Steps.{NoMore}
 use Rattle.bac_keep.proofs.Notes.{number_over, object_there}
 use Rattle.bac_keep.proofs.Restores.{file_flag, value_flag}
 use Rattle.bac_keep.proofs.Risings.{held_above, held_at}
+use Rattle.bac_keep.proofs.RowReading.{or_earlier}
 
 kind_over : (cells : Cells) (id : ObjectId) (p : Property) → (value_over cells id p).kind ≡ p.kind
 kind_over cells id p = go (is_kept p) (cells (value_place id p.number))
@@ -120,6 +122,31 @@ module _ (cells : List Cell) (at : ℕ) (d : Cell) (l : at < length cells) (is :
         (subst (λ (x : Store). IsFaultOf x (Change.File id octets) e) above faulty));
   }
 
+some_is_not_none : (x : List ℕ) (y : Option (List ℕ)) → y ≡ Some x → y ≢ None
+some_is_not_none x y e = λ none. cc
+
+-- a cell of the list at a place that is for nothing, and the number of chunks of a file that may be written
+module _ (cells : List Cell) (at : ℕ) (d : Cell) (l : at < length cells) (is : get_or cells at d ≡ d) (rise : IsRising cells) (document s : Store) where
+  there : held cells d.place ≢ None
+  there = some_is_not_none d.octets.items (held cells d.place)
+      (subst (λ (x : Cell). held cells x.place ≡ Some x.octets.items) is (held_at cells 0 at d rise (omega arith) l))
+
+  pub for_nothing : IsForNothing d.place → HasBadCell document (held cells)
+  for_nothing nothing = inl (record { place = d.place; there = there; nothing = nothing })
+
+  pub of_file : (next : ℕ) → s ≡ overlay (held (drop next cells)) document → (id : ObjectId) → d.place ≡ file_place id 0
+      → is_writable_file (file_at s id) ≡ true → HasBadCell document (held cells)
+  of_file next above id place writable = inr (record {
+    id = id;
+    there = subst (λ (q : ℕ). held cells q ≢ None) place there;
+    writable = sym (file_flag (held (drop next cells)) document id) ∙ ap (λ (x : Store). is_writable_file (file_at x id)) (sym above) ∙ writable;
+  })
+
+  -- the faults of its parts
+  pub spoilt : HasBadCell document (held cells) → (e : KeepFault) → (e ≡ keep.BadRow) ⊎ (e ≡ keep.NoMemory) → IsUnfit document (held cells) e
+  spoilt bad e (inl is) = subst (λ (x : KeepFault). IsUnfit document (held cells) x) (sym is) bad
+  spoilt bad e (inr is) = subst (λ (x : KeepFault). IsUnfit document (held cells) x) (sym is) tt
+
 -- the same, of the faults of a start
 module _ (cells : List Cell) (at : ℕ) (d : Cell) (l : at < length cells) (is : get_or cells at d ≡ d) (rise : IsRising cells) (document s : Store)
     (next : ℕ) (above : s ≡ overlay (held (drop next cells)) document) (object : ObjectIdentifier) where
@@ -159,41 +186,34 @@ pub passed_on : {T : Type 0} (P : KeepFault → Type 0) (e : KeepFault) (r : Res
 passed_on P e (Ok x) h p = absurd h
 passed_on P e (Err y) h p = subst P (sym h) p
 
-pub unready : (document : Store) (old new : View) (e : KeepFault) → IsUnready old new e → IsRefused document old new e
-unready document old new keep.Shut it = it
-unready document old new keep.NoTable it = it
-unready document old new (keep.Database e) it = absurd it
-unready document old new keep.BadRow it = absurd it
-unready document old new (keep.BadValues o m f) it = absurd it
-unready document old new (keep.BadOctets o f) it = absurd it
-unready document old new keep.HighNumber it = absurd it
-unready document old new keep.NoMemory it = absurd it
+pub unready : (document : Store) (old new : View) (failed : Type 0) (e : KeepFault) → IsUnready old new e → IsRefused document old new failed e
+unready document old new failed keep.Shut it = it
+unready document old new failed keep.NoTable it = it
+unready document old new failed (keep.Database e) it = absurd it
+unready document old new failed keep.BadRow it = absurd it
+unready document old new failed (keep.BadValues o m f) it = absurd it
+unready document old new failed (keep.BadOctets o f) it = absurd it
+unready document old new failed keep.HighNumber it = absurd it
+unready document old new failed keep.NoMemory it = absurd it
 
-pub unreadable : (document : Store) (old new : View) (e : KeepFault) → IsUnreadable e → IsRefused document old new e
-unreadable document old new (keep.Database e) it = tt
-unreadable document old new keep.BadRow it = tt
-unreadable document old new keep.NoMemory it = tt
-unreadable document old new keep.Shut it = absurd it
-unreadable document old new keep.NoTable it = absurd it
-unreadable document old new (keep.BadValues o m f) it = absurd it
-unreadable document old new (keep.BadOctets o f) it = absurd it
-unreadable document old new keep.HighNumber it = absurd it
+pub unreadable : (document : Store) (old new : View) (failed later : Type 0) → (failed → later) → (rows : List Row) → rows ≡ old.committed 0 → (e : KeepFault)
+    → IsUnreadable rows failed e → IsRefused document old new later e
+unreadable document old new failed later longer rows same (keep.Database e) it = or_earlier longer it
+unreadable document old new failed later longer rows same keep.BadRow it = inl (subst HasOtherRow same it)
+unreadable document old new failed later longer rows same keep.NoMemory it = tt
+unreadable document old new failed later longer rows same keep.Shut it = absurd it
+unreadable document old new failed later longer rows same keep.NoTable it = absurd it
+unreadable document old new failed later longer rows same (keep.BadValues o m f) it = absurd it
+unreadable document old new failed later longer rows same (keep.BadOctets o f) it = absurd it
+unreadable document old new failed later longer rows same keep.HighNumber it = absurd it
 
-pub unfit : (document : Store) (old new : View) (cells : Cells) → cells ≡ cells_of old.committed → (e : KeepFault) → IsUnfit document cells e
-    → IsRefused document old new e
-unfit document old new cells same (keep.BadValues o n f) it = subst (λ (x : Cells). IsBadValues document x (object_identifier_view o) n f) same it
-unfit document old new cells same (keep.BadOctets o f) it = subst (λ (x : Cells). IsBadOctets document x (object_identifier_view o) f) same it
-unfit document old new cells same keep.BadRow it = tt
-unfit document old new cells same keep.NoMemory it = tt
-unfit document old new cells same (keep.Database e) it = absurd it
-unfit document old new cells same keep.Shut it = absurd it
-unfit document old new cells same keep.NoTable it = absurd it
-unfit document old new cells same keep.HighNumber it = absurd it
-
--- a call that adds no outcome of a crash leaves what was committed
-pub still_committed : {S : Type 0} (view : S → View) (recovers : S → Trees → Type 0)
-    → ((s : S) (db : Trees) → IsTrue (view s).is_open → recovers s db → db ≡ (view s).committed)
-    → ((s : S) → IsTrue (view s).is_open → recovers s (view s).committed)
-    → (old new : S) → IsTrue (view old).is_open → IsTrue (view new).is_open → NoMore recovers old new → (view new).committed ≡ (view old).committed
-still_committed view recovers settled stays old new was_open is_open more =
-    settled old (view new).committed was_open (more (view new).committed (stays new is_open))
+pub unfit : (document : Store) (old new : View) (failed : Type 0) (cells : Cells) → cells ≡ cells_of old.committed → (e : KeepFault) → IsUnfit document cells e
+    → IsRefused document old new failed e
+unfit document old new failed cells same (keep.BadValues o n f) it = subst (λ (x : Cells). IsBadValues document x (object_identifier_view o) n f) same it
+unfit document old new failed cells same (keep.BadOctets o f) it = subst (λ (x : Cells). IsBadOctets document x (object_identifier_view o) f) same it
+unfit document old new failed cells same keep.BadRow it = inr (subst (λ (x : Cells). HasBadCell document x) same it)
+unfit document old new failed cells same keep.NoMemory it = tt
+unfit document old new failed cells same (keep.Database e) it = absurd it
+unfit document old new failed cells same keep.Shut it = absurd it
+unfit document old new failed cells same keep.NoTable it = absurd it
+unfit document old new failed cells same keep.HighNumber it = absurd it

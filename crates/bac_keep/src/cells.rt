@@ -1,5 +1,6 @@
 //! A keeper over the table of a database.
 ghost use Rattle.std.specs.Prelude.{◌≡◌, ◌≤◌, IsTrue, IfErr, IfOk, OnOk};
+ghost use Rattle.sqlite_disk.specs.Disk.{MoreFaults};
 ghost use Rattle.sqlite_trees.specs.Tree.{Trees};
 ghost use Rattle.sqlite_trees.specs.View.{IsClean, doubt};
 ghost use Rattle.bac_store.specs.Stores.{Store as Overlaid};
@@ -38,6 +39,7 @@ pub(crate) fn make_ready<S: Store>(database: &mut S) -> Result<(), KeepFault>
     ensures committed { IsClean (S.view database.new) → IsTrue (S.view database.new).is_open
         → (S.view database.new).committed ≡ (S.view database.old).committed }
     ensures refused { IfErr result (λ e. IsClean (S.view database.new) → IsUnready (S.view database.old) (S.view database.new) e) }
+    ensures counts { S.faults database.old ≤ S.faults database.new }
     ensures crash { NoMore S.recovers database.old database.new }
 {
     database.rollback();
@@ -111,7 +113,8 @@ fn found_store<S: Store>(
     ensures found { IfOk result (λ s. IsClean (S.view database.new) → s ≡ overlay (cells_of (S.view database.old).committed) document.now) }
     ensures committed { IsClean (S.view database.new) → IsTrue (S.view database.new).is_open
         → (S.view database.new).committed ≡ (S.view database.old).committed }
-    ensures refused { IfErr result (λ e. IsClean (S.view database.new) → IsRefused document.now (S.view database.old) (S.view database.new) e) }
+    ensures refused { IfErr result (λ e. IsClean (S.view database.new) → IsRefused document.now (S.view database.old) (S.view database.new)
+        (MoreFaults (S.faults database.old) (S.faults database.new)) e) }
     ensures crash { NoMore S.recovers database.old database.new }
 {
     make_ready(database)?;
@@ -139,7 +142,8 @@ impl<S: Store + Drop> CellKeeper<S> {
         ensures noted { IfOk result (λ r. IsClean (S.view r.0.database) → overlay (cells_of (S.view r.0.database).trees) document ≡ r.1) }
         ensures found { IfOk result (λ r. IsClean (S.view r.0.database) → r.1 ≡ overlay (cells_of (S.view database).committed) document) }
         ensures crash { IfOk result (λ r. NoMore S.recovers database r.0.database) }
-        ensures refused { IfErr result (λ e. IsClean (S.view e.1) → IsRefused document (S.view database) (S.view e.1) e.0) }
+        ensures refused { IfErr result (λ e. IsClean (S.view e.1) → IsRefused document (S.view database) (S.view e.1)
+            (MoreFaults (S.faults database) (S.faults e.1)) e.0) }
         ensures refused_honest { IfErr result (λ e. doubt (S.view database).is_clean ≤ doubt (S.view e.1).is_clean) }
         ensures refused_kept { IfErr result (λ e. IsClean (S.view e.1) → IsTrue (S.view e.1).is_open
             → (S.view e.1).committed ≡ (S.view database).committed) }

@@ -4,7 +4,7 @@ ghost use Rattle.sqlite_trees.specs.Tree.{Trees};
 ghost use Rattle.sqlite_trees.specs.View.{IsClean};
 ghost use Rattle.sqlite_store.specs.FileStore.{view};
 ghost use Rattle.sqlite.specs.Files.{HoldsDatabase, image_of};
-ghost use Rattle.bac_keep_file.specs.Made.{HasNoTable};
+ghost use Rattle.bac_keep_file.specs.Made.{HasEmptyTable, HasNoTable};
 
 use crate::fault::OpenFault;
 use crate::table::store_of;
@@ -22,7 +22,7 @@ pub type KeptFile = FileStore<FileFrom<Unknown>>;
 const CHECKPOINT_FRAMES: usize = 100;
 
 /// Opens the database over a pair of files, which may be empty. Returns whether it made the table of cells: it does so only if the
-/// files have no table. In files that had the table, it finds just what they hold.
+/// files have no table, and nothing is kept in the new one. In files that had the table, it finds just what they hold.
 pub fn open_files<D: Disk + Drop>(
     alloc: Global,
     files: Files<D>,
@@ -33,12 +33,13 @@ pub fn open_files<D: Disk + Drop>(
     ensures found { IfOk result (λ r. r.1 ≡ false → IsClean (view r.0) → IsTrue (view r.0).is_open
         → (db : Trees) → HoldsDatabase (image_of D.Disk files) db → (view r.0).committed ≡ db) }
     ensures made { IfOk result (λ r. r.1 ≡ true → IsClean (view r.0) → (db : Trees) → HoldsDatabase (image_of D.Disk files) db → HasNoTable db) }
+    ensures empty { IfOk result (λ r. r.1 ≡ true → IsClean (view r.0) → HasEmptyTable (view r.0)) }
 {
     let conn = match Connection::open_files_with(alloc, files, options, true) {
         Ok(conn) => conn,
         Err((error, _)) => return Err(OpenFault::from(error)),
     };
-    let (store, is_new) = store_of(conn)?;
+    let (store, is_new) = store_of(alloc, conn)?;
     Ok((store, is_new))
 }
 

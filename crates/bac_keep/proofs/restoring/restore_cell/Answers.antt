@@ -1,12 +1,13 @@
-use Rattle.std.proofs.Common.{rules, arith, false, ◌≡◌, ◌∙◌, ap, sym, suc, ◌+◌, List, ℕ}
+use Rattle.std.proofs.Common.{rules, arith, inl, true, false, ◌≡◌, ◌∙◌, ap, sym, suc, ◌+◌, List, ℕ}
 use Rattle.bac_value.specs.Views.{object_identifier_view}
 use Rattle.bac_keep.specs.Cells.{file_place, value_place}
-use Rattle.bac_keep.specs.Refused.{IsUnfit}
+use Rattle.bac_keep.specs.Parts.{IsForNothing}
+use Rattle.bac_keep.specs.Refused.{HasBadCell, IsUnfit}
 use Rattle.bac_keep.specs.Rows.{IsRising, held}
 use Rattle.bac_store.specs.Writes.{file_at}
 use Rattle.bac_keep.specs.Restored.{is_writable_file, with_kept_octets, with_kept_values}
 use Rattle.bac_keep.proofs.Lists.{chunk_step, count_gone, count_step, values_step}
-use Rattle.bac_keep.proofs.Refusals.{octets_refused, passed_on, values_refused}
+use Rattle.bac_keep.proofs.Refusals.{for_nothing, octets_refused, of_file, passed_on, spoilt, values_refused}
 use Rattle.bac_keep.proofs.restoring.restore_cell.Goals as goal
 
 pub returns-in_ok-restore_values-in-Some-Values-clause-restored : goal.returns-in_ok-restore_values-in-Some-Values-clause-restored
@@ -78,3 +79,39 @@ returns-then-not-may_write_file-clause-restored c = λ rise.
     count_gone c.args.cells.now c.args.at cell c.requires.within (sym c.index-cells-at.is) c.args.document.now c.stores_are_in_order.ensures
     c.args.store.now (c.args.at + 1) (omega arith) (c.requires.above rise) id
     (record { kind = object.kind_fits; instance = object.instance_fits }) place fixed
+
+pub returns-in-None-clause-refused : goal.returns-in-None-clause-refused
+returns-in-None-clause-refused c = λ rise.
+    let cell = c.index-cells-at.result in
+    let nothing : IsForNothing cell.place = c.in-None.ensures.none (search rules) in
+    for_nothing c.args.cells.now c.args.at cell c.requires.within (sym c.index-cells-at.is) rise c.args.document.now c.args.store.now nothing
+
+pub returns-in_err-count-in-Some-Count-clause-refused : goal.returns-in_err-count-in-Some-Count-clause-refused
+returns-in_err-count-in-Some-Count-clause-refused c =
+    passed_on (λ e. IsRising c.args.cells.now → IsUnfit c.args.document.now (held c.args.cells.now) e) _
+    c.from_residual-in_err-count-in-Some-Count.result c.from_residual-in_err-count-in-Some-Count.ensures.1 (λ rise.
+    let object = c.in-Some-Count.object in
+    let id = object_identifier_view object in
+    let cell = c.index-cells-at.result in
+    let place : cell.place ≡ file_place id 0 = search rules in
+    let writable : is_writable_file (file_at c.args.store.now id) ≡ true = search rules in
+    let bad : HasBadCell c.args.document.now (held c.args.cells.now) =
+    of_file c.args.cells.now c.args.at cell c.requires.within (sym c.index-cells-at.is) rise c.args.document.now c.args.store.now
+    (c.args.at + 1) (c.requires.above rise) id place writable in
+    spoilt c.args.cells.now c.args.at cell c.requires.within (sym c.index-cells-at.is) rise c.args.document.now c.args.store.now bad _
+    (inl c.in_err-count-in-Some-Count.ensures.refused))
+
+pub returns-in_err-octets-in-Some-Count-clause-refused : goal.returns-in_err-octets-in-Some-Count-clause-refused
+returns-in_err-octets-in-Some-Count-clause-refused c =
+    passed_on (λ e. IsRising c.args.cells.now → IsUnfit c.args.document.now (held c.args.cells.now) e) _
+    c.from_residual-in_err-octets-in-Some-Count.result c.from_residual-in_err-octets-in-Some-Count.ensures.1 (λ rise.
+    let object = c.in-Some-Count.object in
+    let id = object_identifier_view object in
+    let cell = c.index-cells-at.result in
+    let place : cell.place ≡ file_place id 0 = search rules in
+    let writable : is_writable_file (file_at c.args.store.now id) ≡ true = search rules in
+    let bad : HasBadCell c.args.document.now (held c.args.cells.now) =
+    of_file c.args.cells.now c.args.at cell c.requires.within (sym c.index-cells-at.is) rise c.args.document.now c.args.store.now
+    (c.args.at + 1) (c.requires.above rise) id place writable in
+    spoilt c.args.cells.now c.args.at cell c.requires.within (sym c.index-cells-at.is) rise c.args.document.now c.args.store.now bad _
+    c.in_err-octets-in-Some-Count.ensures.refused)

@@ -10,4 +10,5 @@ returns g c = record {
       let opened = (c.in-Ok.ensures.opened (c.in_ok-store.ensures.clean clean)).0 in
       subst HasNoTable (ap (λ (x : Database). x.trees) opened.clean ∙ (c.in-Ok.ensures.found (c.in_ok-store.ensures.clean clean)).holds db holds)
       (c.in_ok-store.ensures.none new opened.is_open);
+  empty = c.in_ok-store.ensures.empty;
 }
