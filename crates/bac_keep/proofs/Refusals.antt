@@ -92,8 +92,8 @@ module _ (cells : List Cell) (at : ℕ) (d : Cell) (l : at < length cells) (is :
   here = subst (λ (x : Cell). held cells x.place ≡ Some x.octets.items) is (held_at cells 0 at d rise (omega arith) l)
 
   pub bad_values : (n : ℕ) (e : ChangeFault) → n < NUMBERS → d.place ≡ value_place id n → is_writable_value (listed_at s id n) ≡ true
-      → IsFaultOf s (Change.Value id n d.octets.items) e → IsBadValues document (held cells) id n e
-  bad_values n e small place writable faulty = record {
+      → IsFaultOf s (Change.Value id n d.octets.items) e → e ≢ fault.NoMemory → IsBadValues document (held cells) id n e
+  bad_values n e small place writable faulty enough = record {
     values = d.octets.items;
     small = small;
     are_kept = ap (held cells) (sym place) ∙ here;
@@ -101,6 +101,7 @@ module _ (cells : List Cell) (at : ℕ) (d : Cell) (l : at < length cells) (is :
     fault = fault_over (held (drop next cells)) document (Change.Value id n d.octets.items) e
         (value_fault_over (held (drop next cells)) document id n d.octets.items)
         (subst (λ (x : Store). IsFaultOf x (Change.Value id n d.octets.items) e) above faulty);
+    enough_memory = enough;
   }
 
   whole_file : (place : d.place ≡ file_place id 0) (count : ℕ) → joined (held (drop at cells)) id count ≡ joined (held cells) id count
@@ -112,14 +113,15 @@ module _ (cells : List Cell) (at : ℕ) (d : Cell) (l : at < length cells) (is :
 
   pub bad_octets : (count : ℕ) (octets : List ℕ) (e : ChangeFault) → d.place ≡ file_place id 0 → d.octets.items ≡ count ∷ []
       → octets ≡ joined (held (drop at cells)) id count → is_writable_file (file_at s id) ≡ true
-      → IsFaultOf s (Change.File id octets) e → IsBadOctets document (held cells) id e
-  bad_octets count octets e place states join writable faulty = record {
+      → IsFaultOf s (Change.File id octets) e → e ≢ fault.NoMemory → IsBadOctets document (held cells) id e
+  bad_octets count octets e place states join writable faulty enough = record {
     count = count;
     are_kept = ap (held cells) (sym place) ∙ here ∙ ap Some states;
     writable = sym (file_flag (held (drop next cells)) document id) ∙ ap (λ (x : Store). is_writable_file (file_at x id)) (sym above) ∙ writable;
     fault = subst (λ (x : List ℕ). IsFaultOf document (Change.File id x) e) (join ∙ whole_file place count)
         (fault_over (held (drop next cells)) document (Change.File id octets) e (file_fault_over (held (drop next cells)) document id octets)
         (subst (λ (x : Store). IsFaultOf x (Change.File id octets) e) above faulty));
+    enough_memory = enough;
   }
 
 some_is_not_none : (x : List ℕ) (y : Option (List ℕ)) → y ≡ Some x → y ≢ None
@@ -154,7 +156,7 @@ module _ (cells : List Cell) (at : ℕ) (d : Cell) (l : at < length cells) (is :
       → (e : KeepFault) → AreBadValues s object n values e → IsUnfit document (held cells) e
   values_refused n small place values given (keep.BadValues o m f) bad =
       let faulty = subst (λ (x : List ℕ). IsFaultOf s (Change.Value (object_identifier_view object) n x) f) given bad.3 in
-      let it = bad_values cells at d l is rise document s next above (object_identifier_view object) n f small place bad.2 faulty in
+      let it = bad_values cells at d l is rise document s next above (object_identifier_view object) n f small place bad.2 faulty bad.4 in
       subst (λ (x : ObjectIdentifier). IsBadValues document (held cells) (object_identifier_view x) m f) (sym bad.0)
       (subst (λ (k : ℕ). IsBadValues document (held cells) (object_identifier_view object) k f) (sym bad.1) it)
   values_refused n small place values given (keep.Database e) bad = absurd bad
@@ -163,21 +165,21 @@ module _ (cells : List Cell) (at : ℕ) (d : Cell) (l : at < length cells) (is :
   values_refused n small place values given keep.NoTable bad = absurd bad
   values_refused n small place values given (keep.BadOctets o f) bad = absurd bad
   values_refused n small place values given keep.HighNumber bad = absurd bad
-  values_refused n small place values given keep.NoMemory bad = absurd bad
+  values_refused n small place values given keep.NoMemory bad = tt
 
   pub octets_refused : (count : ℕ) (octets : List ℕ) → d.place ≡ file_place (object_identifier_view object) 0 → d.octets.items ≡ count ∷ []
       → octets ≡ joined (held (drop at cells)) (object_identifier_view object) count → is_writable_file (file_at s (object_identifier_view object)) ≡ true
       → (e : KeepFault) → AreBadOctets s object octets e → IsUnfit document (held cells) e
   octets_refused count octets place states join writable (keep.BadOctets o f) bad =
       subst (λ (x : ObjectIdentifier). IsBadOctets document (held cells) (object_identifier_view x) f) (sym bad.0)
-      (bad_octets cells at d l is rise document s next above (object_identifier_view object) count octets f place states join writable bad.1)
+      (bad_octets cells at d l is rise document s next above (object_identifier_view object) count octets f place states join writable bad.1 bad.2)
   octets_refused count octets place states join writable (keep.Database e) bad = absurd bad
   octets_refused count octets place states join writable keep.BadRow bad = absurd bad
   octets_refused count octets place states join writable keep.Shut bad = absurd bad
   octets_refused count octets place states join writable keep.NoTable bad = absurd bad
   octets_refused count octets place states join writable (keep.BadValues o m f) bad = absurd bad
   octets_refused count octets place states join writable keep.HighNumber bad = absurd bad
-  octets_refused count octets place states join writable keep.NoMemory bad = absurd bad
+  octets_refused count octets place states join writable keep.NoMemory bad = tt
 
 -- ---- a start
 

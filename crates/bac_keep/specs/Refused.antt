@@ -7,6 +7,7 @@ use Rattle.bac_store.specs.AtNode.{Change, IsFaultOf}
 use Rattle.bac_store.specs.Stores.{Store}
 use Rattle.bac_store.specs.Writes.{file_at, listed_at}
 use Rattle.bac_store.specs.declared.change_fault.ChangeFault.{ChangeFault}
+use Rattle.bac_store.specs.declared.change_fault.ChangeFault.TheVariants.{NoMemory}
 use Rattle.sqlite_value.specs.Order.{Row}
 use Rattle.sqlite_trees.specs.View.{View}
 use Rattle.sqlite_trees.specs.declared.error.StoreError.TheVariants.{OutOfMemory}
@@ -26,6 +27,7 @@ pub record IsBadValues (document : Store) (cells : Cells) (id : ObjectId) (n : �
   pub are_kept : cells (value_place id n) ≡ Some values
   pub writable : is_writable_value (listed_at document id n) ≡ true
   pub fault : IsFaultOf document (Change.Value id n values) e
+  pub enough_memory : e ≢ NoMemory
 
 -- the document has the file, it may be written, and it cannot have the octets that are kept
 pub record IsBadOctets (document : Store) (cells : Cells) (id : ObjectId) (e : ChangeFault) : Type 0 where
@@ -33,16 +35,19 @@ pub record IsBadOctets (document : Store) (cells : Cells) (id : ObjectId) (e : C
   pub are_kept : cells (file_place id 0) ≡ Some (count ∷ [])
   pub writable : is_writable_file (file_at document id) ≡ true
   pub fault : IsFaultOf document (Change.File id (joined cells id count)) e
+  pub enough_memory : e ≢ NoMemory
 
--- why a store does not take these values, and these octets
+-- why a store does not take these values, and these octets, where it is not that memory is short
 abbrev pub AreBadValues : Store → ObjectIdentifier → ℕ → List ℕ → KeepFault → Type 0
 AreBadValues s object n values (fault.BadValues o m e) =
     (o ≡ object) × (m ≡ n) × (is_writable_value (listed_at s (object_identifier_view object) n) ≡ true)
-    × IsFaultOf s (Change.Value (object_identifier_view object) n values) e
+    × IsFaultOf s (Change.Value (object_identifier_view object) n values) e × (e ≢ NoMemory)
+AreBadValues s object n values fault.NoMemory = ⊤
 AreBadValues s object n values _ = ⊥
 
 abbrev pub AreBadOctets : Store → ObjectIdentifier → List ℕ → KeepFault → Type 0
-AreBadOctets s object octets (fault.BadOctets o e) = (o ≡ object) × IsFaultOf s (Change.File (object_identifier_view object) octets) e
+AreBadOctets s object octets (fault.BadOctets o e) = (o ≡ object) × IsFaultOf s (Change.File (object_identifier_view object) octets) e × (e ≢ NoMemory)
+AreBadOctets s object octets fault.NoMemory = ⊤
 AreBadOctets s object octets _ = ⊥
 
 -- a cell at a place that is for nothing

@@ -11,7 +11,7 @@ ghost use Rattle.bac_keep.specs.Rows.{IsRising, held};
 use crate::cell::{Cell, file_place};
 use crate::fault::KeepFault;
 use crate::part::{Part, part_of};
-use bac_store::{Store, stores_are_in_order};
+use bac_store::{ChangeFault, Store, stores_are_in_order};
 use bac_value::ObjectIdentifier;
 use std::alloc::Global;
 
@@ -72,6 +72,7 @@ fn restore_values(
     }
     match store.set_value(alloc, object, property, octets) {
         Ok(()) => Ok(()),
+        Err(ChangeFault::NoMemory) => Err(KeepFault::NoMemory),
         Err(fault) => Err(KeepFault::BadValues {
             object,
             property,
@@ -103,6 +104,7 @@ fn restore_octets(
 {
     match store.set_file(alloc, object, octets) {
         Ok(()) => Ok(()),
+        Err(ChangeFault::NoMemory) => Err(KeepFault::NoMemory),
         Err(fault) => Err(KeepFault::BadOctets { object, fault }),
     }
 }
