@@ -1,5 +1,5 @@
 -- Why a start from a document and a database is refused.
-use Rattle.std.specs.Prelude.{◌≡◌, ◌≢◌, ◌⊎◌, true, false, ℕ, ◌<◌, List, [], ◌∷◌, None, Some, ⊤}
+use Rattle.std.specs.Prelude.{◌≡◌, ◌≢◌, ◌⊎◌, true, false, ℕ, suc, ◌<◌, List, [], ◌∷◌, get_or, None, Some, ⊤}
 use Rattle.bac_value.specs.Value.{ObjectId}
 use Rattle.bac_value.specs.Views.{object_identifier_view}
 use Rattle.bac_value.specs.declared.value.ObjectIdentifier.{ObjectIdentifier}
@@ -17,6 +17,7 @@ use Rattle.bac_keep.specs.Overlay.{joined}
 use Rattle.bac_keep.specs.Parts.{IsForNothing}
 use Rattle.bac_keep.specs.Restored.{is_writable_file, is_writable_value}
 use Rattle.bac_keep.specs.Rows.{IsRowOf, cells_of}
+use Rattle.bac_keep.specs.declared.cell.Cell.{Cell}
 use Rattle.bac_keep.specs.declared.fault.KeepFault.{KeepFault}
 use Rattle.bac_keep.specs.declared.fault.KeepFault.TheVariants as fault
 
@@ -56,15 +57,39 @@ pub record IsForeign (cells : Cells) : Type 0 where
   pub there : cells place ≢ None
   pub nothing : IsForNothing place
 
--- the document has the file, it may be written, and the number of its chunks is kept
-pub record HasFile (document : Store) (cells : Cells) : Type 0 where
+-- one of so many chunks of a file is not there
+pub record LacksChunk (cells : Cells) (id : ObjectId) (count : ℕ) : Type 0 where
+  pub chunk : ℕ
+  pub small : chunk < count
+  pub missing : cells (file_place id (suc chunk)) ≡ None
+
+-- these octets are not a number of chunks, which is one octet, or one of so many chunks is not there
+abbrev pub IsBadCount : Cells → ObjectId → List ℕ → Type 0
+IsBadCount cells id [] = ⊤
+IsBadCount cells id (count ∷ []) = LacksChunk cells id count
+IsBadCount cells id (count ∷ n ∷ more) = ⊤
+
+-- the cell at this index of a list has this place
+abbrev pub IsAt : List Cell → ℕ → (place : ℕ) → Type 0
+IsAt cells at place = (d : Cell) → (get_or cells at d).place ≡ place
+
+-- why the octets of a file are not there, where `lacks` says that it lacks a chunk
+abbrev pub AreNoOctets : (lacks : Type 0) → KeepFault → Type 0
+AreNoOctets lacks fault.BadRow = lacks
+AreNoOctets lacks fault.NoMemory = ⊤
+AreNoOctets lacks _ = ⊥
+
+-- the document has the file, it may be written, and what is kept as the number of its chunks is no number, or one of so many chunks is not kept
+pub record HasBadFile (document : Store) (cells : Cells) : Type 0 where
   pub id : ObjectId
-  pub there : cells (file_place id 0) ≢ None
+  pub octets : List ℕ
+  pub are_kept : cells (file_place id 0) ≡ Some octets
+  pub bad : IsBadCount cells id octets
   pub writable : is_writable_file (file_at document id) ≡ true
 
--- a cell at a place that is for nothing, or one of a file that the document lets be written
+-- a cell at a place that is for nothing, or a bad one of a file that the document lets be written
 abbrev pub HasBadCell : Store → Cells → Type 0
-HasBadCell document cells = IsForeign cells ⊎ HasFile document cells
+HasBadCell document cells = IsForeign cells ⊎ HasBadFile document cells
 
 -- why a document and cells make no store
 abbrev pub IsUnfit : Store → Cells → KeepFault → Type 0
