@@ -1,6 +1,7 @@
 pub mod Chunks
 pub mod Files
 mod Finding
+mod Gaps
 pub mod Lists
 pub mod Maps
 pub mod Notes

@@ -1,6 +1,6 @@
 -- Why a start is refused: what the store that cells make of a document cannot have, the document cannot have.
 use Rattle.std.proofs.Common.{◌≡◌, ℕ, suc, zero, ◌<◌, Bool, true, false, ◌&&◌, ◌==◌, List, [], ◌∷◌, ◌++◌, length, drop, get_or, Option, Some, None, refl, sym, ap, ◌∙◌, subst, arith, IfErr, Result, Ok, Err}
-use Rattle.std.proofs.Common.{◌⊎◌, inl, inr}
+use Rattle.std.proofs.Common.{inl, inr}
 use Rattle.std.specs.Prelude.{IsErrAnd, ◌≢◌}
 use Rattle.sqlite_value.specs.Order.{Row}
 use Rattle.bac_keep.specs.Parts.{IsForNothing}
@@ -23,7 +23,8 @@ use Rattle.bac_keep.specs.declared.fault.KeepFault.{KeepFault}
 use Rattle.bac_keep.specs.declared.fault.KeepFault.TheVariants as keep
 use Rattle.bac_keep.specs.Cells.{Cells, NUMBERS, file_place, value_place}
 use Rattle.bac_keep.specs.Overlay.{file_over, in_place, is_kept, joined, object_over, or_nothing, overlay, value_over}
-use Rattle.bac_keep.specs.Refused.{AreBadOctets, AreBadValues, HasBadCell, HasOtherRow, IsBadOctets, IsBadValues, IsRefused, IsUnfit, IsUnreadable, IsUnready}
+use Rattle.bac_keep.specs.Refused.{AreBadOctets, AreBadValues, AreNoOctets, HasBadCell, HasOtherRow, IsBadCount, IsBadOctets, IsBadValues}
+use Rattle.bac_keep.specs.Refused.{IsRefused, IsUnfit, IsUnreadable, IsUnready, LacksChunk}
 use Rattle.bac_keep.specs.Restored.{is_writable_file, is_writable_value}
 use Rattle.bac_keep.specs.Rows.{IsRising, cells_of, held}
 use Rattle.bac_keep.proofs.Notes.{number_over, object_there}
@@ -92,8 +93,8 @@ module _ (cells : List Cell) (at : ℕ) (d : Cell) (l : at < length cells) (is :
   here = subst (λ (x : Cell). held cells x.place ≡ Some x.octets.items) is (held_at cells 0 at d rise (omega arith) l)
 
   pub bad_values : (n : ℕ) (e : ChangeFault) → n < NUMBERS → d.place ≡ value_place id n → is_writable_value (listed_at s id n) ≡ true
-      → IsFaultOf s (Change.Value id n d.octets.items) e → IsBadValues document (held cells) id n e
-  bad_values n e small place writable faulty = record {
+      → IsFaultOf s (Change.Value id n d.octets.items) e → e ≢ fault.NoMemory → IsBadValues document (held cells) id n e
+  bad_values n e small place writable faulty enough = record {
     values = d.octets.items;
     small = small;
     are_kept = ap (held cells) (sym place) ∙ here;
@@ -101,6 +102,7 @@ module _ (cells : List Cell) (at : ℕ) (d : Cell) (l : at < length cells) (is :
     fault = fault_over (held (drop next cells)) document (Change.Value id n d.octets.items) e
         (value_fault_over (held (drop next cells)) document id n d.octets.items)
         (subst (λ (x : Store). IsFaultOf x (Change.Value id n d.octets.items) e) above faulty);
+    enough_memory = enough;
   }
 
   whole_file : (place : d.place ≡ file_place id 0) (count : ℕ) → joined (held (drop at cells)) id count ≡ joined (held cells) id count
@@ -112,40 +114,59 @@ module _ (cells : List Cell) (at : ℕ) (d : Cell) (l : at < length cells) (is :
 
   pub bad_octets : (count : ℕ) (octets : List ℕ) (e : ChangeFault) → d.place ≡ file_place id 0 → d.octets.items ≡ count ∷ []
       → octets ≡ joined (held (drop at cells)) id count → is_writable_file (file_at s id) ≡ true
-      → IsFaultOf s (Change.File id octets) e → IsBadOctets document (held cells) id e
-  bad_octets count octets e place states join writable faulty = record {
+      → IsFaultOf s (Change.File id octets) e → e ≢ fault.NoMemory → IsBadOctets document (held cells) id e
+  bad_octets count octets e place states join writable faulty enough = record {
     count = count;
     are_kept = ap (held cells) (sym place) ∙ here ∙ ap Some states;
     writable = sym (file_flag (held (drop next cells)) document id) ∙ ap (λ (x : Store). is_writable_file (file_at x id)) (sym above) ∙ writable;
     fault = subst (λ (x : List ℕ). IsFaultOf document (Change.File id x) e) (join ∙ whole_file place count)
         (fault_over (held (drop next cells)) document (Change.File id octets) e (file_fault_over (held (drop next cells)) document id octets)
         (subst (λ (x : Store). IsFaultOf x (Change.File id octets) e) above faulty));
+    enough_memory = enough;
   }
 
 some_is_not_none : (x : List ℕ) (y : Option (List ℕ)) → y ≡ Some x → y ≢ None
 some_is_not_none x y e = λ none. cc
 
--- a cell of the list at a place that is for nothing, and the number of chunks of a file that may be written
+-- octets that are not one
+pub no_count : (cells : Cells) (id : ObjectId) (octets : List ℕ) → length octets ≢ 1 → IsBadCount cells id octets
+no_count cells id [] other = tt
+no_count cells id (n ∷ []) other = absurd (other refl)
+no_count cells id (n ∷ m ∷ more) other = tt
+
+-- a cell of the list at a place that is for nothing, and a bad number of chunks of a file that may be written
 module _ (cells : List Cell) (at : ℕ) (d : Cell) (l : at < length cells) (is : get_or cells at d ≡ d) (rise : IsRising cells) (document s : Store) where
-  there : held cells d.place ≢ None
-  there = some_is_not_none d.octets.items (held cells d.place)
-      (subst (λ (x : Cell). held cells x.place ≡ Some x.octets.items) is (held_at cells 0 at d rise (omega arith) l))
+  held_here : held cells d.place ≡ Some d.octets.items
+  held_here = subst (λ (x : Cell). held cells x.place ≡ Some x.octets.items) is (held_at cells 0 at d rise (omega arith) l)
 
   pub for_nothing : IsForNothing d.place → HasBadCell document (held cells)
-  for_nothing nothing = inl (record { place = d.place; there = there; nothing = nothing })
+  for_nothing nothing = inl (record { place = d.place; there = some_is_not_none d.octets.items (held cells d.place) held_here; nothing = nothing })
 
-  pub of_file : (next : ℕ) → s ≡ overlay (held (drop next cells)) document → (id : ObjectId) → d.place ≡ file_place id 0
-      → is_writable_file (file_at s id) ≡ true → HasBadCell document (held cells)
-  of_file next above id place writable = inr (record {
-    id = id;
-    there = subst (λ (q : ℕ). held cells q ≢ None) place there;
-    writable = sym (file_flag (held (drop next cells)) document id) ∙ ap (λ (x : Store). is_writable_file (file_at x id)) (sym above) ∙ writable;
-  })
+  module _ (next : ℕ) (above : s ≡ overlay (held (drop next cells)) document) (id : ObjectId) (place : d.place ≡ file_place id 0)
+      (writable : is_writable_file (file_at s id) ≡ true) where
+    of_file : IsBadCount (held cells) id d.octets.items → HasBadCell document (held cells)
+    of_file bad = inr (record {
+      id = id;
+      octets = d.octets.items;
+      are_kept = ap (held cells) (sym place) ∙ held_here;
+      bad = bad;
+      writable = sym (file_flag (held (drop next cells)) document id) ∙ ap (λ (x : Store). is_writable_file (file_at x id)) (sym above) ∙ writable;
+    })
 
-  -- the faults of its parts
-  pub spoilt : HasBadCell document (held cells) → (e : KeepFault) → (e ≡ keep.BadRow) ⊎ (e ≡ keep.NoMemory) → IsUnfit document (held cells) e
-  spoilt bad e (inl is) = subst (λ (x : KeepFault). IsUnfit document (held cells) x) (sym is) bad
-  spoilt bad e (inr is) = subst (λ (x : KeepFault). IsUnfit document (held cells) x) (sym is) tt
+    -- the faults of its count, and of its chunks
+    pub count_refused : (e : KeepFault) → e ≡ keep.BadRow → length d.octets.items ≢ 1 → IsUnfit document (held cells) e
+    count_refused e fault other = subst (λ (x : KeepFault). IsUnfit document (held cells) x) (sym fault) (of_file (no_count (held cells) id d.octets.items other))
+
+    pub chunks_refused : (count : ℕ) → d.octets.items ≡ count ∷ [] → (e : KeepFault) → AreNoOctets (IsRising cells → LacksChunk (held cells) id count) e
+        → IsUnfit document (held cells) e
+    chunks_refused count states keep.BadRow lacks = of_file (subst (λ (x : List ℕ). IsBadCount (held cells) id x) (sym states) (lacks rise))
+    chunks_refused count states keep.NoMemory lacks = tt
+    chunks_refused count states (keep.Database e) lacks = absurd lacks
+    chunks_refused count states keep.Shut lacks = absurd lacks
+    chunks_refused count states keep.NoTable lacks = absurd lacks
+    chunks_refused count states (keep.BadValues o m f) lacks = absurd lacks
+    chunks_refused count states (keep.BadOctets o f) lacks = absurd lacks
+    chunks_refused count states keep.HighNumber lacks = absurd lacks
 
 -- the same, of the faults of a start
 module _ (cells : List Cell) (at : ℕ) (d : Cell) (l : at < length cells) (is : get_or cells at d ≡ d) (rise : IsRising cells) (document s : Store)
@@ -154,7 +175,7 @@ module _ (cells : List Cell) (at : ℕ) (d : Cell) (l : at < length cells) (is :
       → (e : KeepFault) → AreBadValues s object n values e → IsUnfit document (held cells) e
   values_refused n small place values given (keep.BadValues o m f) bad =
       let faulty = subst (λ (x : List ℕ). IsFaultOf s (Change.Value (object_identifier_view object) n x) f) given bad.3 in
-      let it = bad_values cells at d l is rise document s next above (object_identifier_view object) n f small place bad.2 faulty in
+      let it = bad_values cells at d l is rise document s next above (object_identifier_view object) n f small place bad.2 faulty bad.4 in
       subst (λ (x : ObjectIdentifier). IsBadValues document (held cells) (object_identifier_view x) m f) (sym bad.0)
       (subst (λ (k : ℕ). IsBadValues document (held cells) (object_identifier_view object) k f) (sym bad.1) it)
   values_refused n small place values given (keep.Database e) bad = absurd bad
@@ -163,21 +184,21 @@ module _ (cells : List Cell) (at : ℕ) (d : Cell) (l : at < length cells) (is :
   values_refused n small place values given keep.NoTable bad = absurd bad
   values_refused n small place values given (keep.BadOctets o f) bad = absurd bad
   values_refused n small place values given keep.HighNumber bad = absurd bad
-  values_refused n small place values given keep.NoMemory bad = absurd bad
+  values_refused n small place values given keep.NoMemory bad = tt
 
   pub octets_refused : (count : ℕ) (octets : List ℕ) → d.place ≡ file_place (object_identifier_view object) 0 → d.octets.items ≡ count ∷ []
       → octets ≡ joined (held (drop at cells)) (object_identifier_view object) count → is_writable_file (file_at s (object_identifier_view object)) ≡ true
       → (e : KeepFault) → AreBadOctets s object octets e → IsUnfit document (held cells) e
   octets_refused count octets place states join writable (keep.BadOctets o f) bad =
       subst (λ (x : ObjectIdentifier). IsBadOctets document (held cells) (object_identifier_view x) f) (sym bad.0)
-      (bad_octets cells at d l is rise document s next above (object_identifier_view object) count octets f place states join writable bad.1)
+      (bad_octets cells at d l is rise document s next above (object_identifier_view object) count octets f place states join writable bad.1 bad.2)
   octets_refused count octets place states join writable (keep.Database e) bad = absurd bad
   octets_refused count octets place states join writable keep.BadRow bad = absurd bad
   octets_refused count octets place states join writable keep.Shut bad = absurd bad
   octets_refused count octets place states join writable keep.NoTable bad = absurd bad
   octets_refused count octets place states join writable (keep.BadValues o m f) bad = absurd bad
   octets_refused count octets place states join writable keep.HighNumber bad = absurd bad
-  octets_refused count octets place states join writable keep.NoMemory bad = absurd bad
+  octets_refused count octets place states join writable keep.NoMemory bad = tt
 
 -- ---- a start
 

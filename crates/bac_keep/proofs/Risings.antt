@@ -50,11 +50,11 @@ pub table : (v : View) → IsReady v → (v.is_broken ≡ false → IsOrdered v.
 table v ready ordered = (subst (λ (s : Shape). IsShaped s (v.trees 0)) ready.table (ordered ready.sound 0)).0
 
 -- no cell of them has a place that is below all of theirs
-none_below : (q : ℕ) (cs : List Cell) → AllByRecursion (λ (d : Cell). q < d.place) cs → held cs q ≡ None
+pub none_below : (q : ℕ) (cs : List Cell) → AllByRecursion (λ (d : Cell). q < d.place) cs → held cs q ≡ None
 none_below q [] all = refl
 none_below q (c ∷ cs) all = let apart : (q == c.place) ≡ false = (let l : q < c.place = all.0 in grind (arith, nat_tests)) in rw apart (none_below q cs all.1)
 
-weaker : (q p : ℕ) → q ≤ p → (cs : List Cell) → AllByRecursion (λ (d : Cell). p < d.place) cs → AllByRecursion (λ (d : Cell). q < d.place) cs
+pub weaker : (q p : ℕ) → q ≤ p → (cs : List Cell) → AllByRecursion (λ (d : Cell). p < d.place) cs → AllByRecursion (λ (d : Cell). q < d.place) cs
 weaker q p le [] all = tt
 weaker q p le (c ∷ cs) all = (omega (arith, le, all.0), weaker q p le cs all.1)
 
@@ -64,7 +64,7 @@ nothing_after [] at d rise l q le = absurd (omega (arith, l))
 nothing_after (c ∷ cs) zero d rise l q le = none_below q cs (weaker q c.place le cs rise.0)
 nothing_after (c ∷ cs) (suc at) d rise l q le = nothing_after cs at d rise.1 (omega (arith, l)) q le
 
-above_at : (p : ℕ) (cs : List Cell) (j : ℕ) (d : Cell) → AllByRecursion (λ (x : Cell). p < x.place) cs → j < length cs → p < (get_or cs j d).place
+pub above_at : (p : ℕ) (cs : List Cell) (j : ℕ) (d : Cell) → AllByRecursion (λ (x : Cell). p < x.place) cs → j < length cs → p < (get_or cs j d).place
 above_at p [] j d all l = absurd (omega (arith, l))
 above_at p (c ∷ cs) zero d all l = all.0
 above_at p (c ∷ cs) (suc j) d all l = above_at p cs j d all.1 (omega (arith, l))

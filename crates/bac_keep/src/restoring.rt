@@ -1,17 +1,18 @@
 //! Restoring a store from a document and cells.
-ghost use Rattle.std.specs.Prelude.{◌≡◌, ◌⊎◌, ◌<◌, ◌+◌, true, [], ◌∷◌, drop, length, IfErr, IfOk, OnOk};
+ghost use Rattle.std.specs.Prelude.{◌≡◌, ◌≢◌, ◌<◌, ◌+◌, true, [], ◌∷◌, drop, length, IfErr, IfOk, OnOk};
 ghost use Rattle.bac_value.specs.Views.{object_identifier_view};
 ghost use Rattle.bac_store.specs.Writes.{file_at};
 ghost use Rattle.bac_keep.specs.declared.fault.KeepFault.TheVariants as fault;
+ghost use Rattle.bac_keep.specs.Cells.{file_place};
 ghost use Rattle.bac_keep.specs.Overlay.{joined, overlay};
-ghost use Rattle.bac_keep.specs.Refused.{AreBadOctets, AreBadValues, IsUnfit};
+ghost use Rattle.bac_keep.specs.Refused.{AreBadOctets, AreBadValues, AreNoOctets, IsAt, IsUnfit, LacksChunk};
 ghost use Rattle.bac_keep.specs.Restored.{is_writable_file, with_kept_octets, with_kept_values};
 ghost use Rattle.bac_keep.specs.Rows.{IsRising, held};
 
 use crate::cell::{Cell, file_place};
 use crate::fault::KeepFault;
 use crate::part::{Part, part_of};
-use bac_store::{Store, stores_are_in_order};
+use bac_store::{ChangeFault, Store, stores_are_in_order};
 use bac_value::ObjectIdentifier;
 use std::alloc::Global;
 
@@ -23,9 +24,10 @@ fn octets_at(
     object: ObjectIdentifier,
     count: u8,
 ) -> Result<Vec<u8>, KeepFault>
-    requires { at < length cells.now }
+    requires within { at < length cells.now }
+    requires start { IsAt cells.now at (file_place (object_identifier_view object) 0) }
     ensures joined { IfOk result (λ v. IsRising cells.now → v.items ≡ joined (held (drop at cells.now)) (object_identifier_view object) count) }
-    ensures refused { IfErr result (λ e. (e ≡ fault.BadRow) ⊎ (e ≡ fault.NoMemory)) }
+    ensures refused { IfErr result (AreNoOctets (IsRising cells.now → LacksChunk (held cells.now) (object_identifier_view object) count)) }
 {
     let mut octets = Vec::new(alloc);
     for part in 0..count {
@@ -46,6 +48,7 @@ fn octets_at(
 fn count_of(cell: &Cell) -> Result<u8, KeepFault>
     ensures states { IfOk result (λ n. cell.now.octets.items ≡ n ∷ []) }
     ensures refused { IfErr result (λ e. e ≡ fault.BadRow) }
+    ensures other { IfErr result (λ e. length cell.now.octets.items ≢ 1) }
 {
     match cell.octets.as_slice() {
         [count] => Ok(*count),
@@ -72,6 +75,7 @@ fn restore_values(
     }
     match store.set_value(alloc, object, property, octets) {
         Ok(()) => Ok(()),
+        Err(ChangeFault::NoMemory) => Err(KeepFault::NoMemory),
         Err(fault) => Err(KeepFault::BadValues {
             object,
             property,
@@ -103,6 +107,7 @@ fn restore_octets(
 {
     match store.set_file(alloc, object, octets) {
         Ok(()) => Ok(()),
+        Err(ChangeFault::NoMemory) => Err(KeepFault::NoMemory),
         Err(fault) => Err(KeepFault::BadOctets { object, fault }),
     }
 }

@@ -1,13 +1,13 @@
-use Rattle.std.proofs.Common.{rules, arith, inl, true, false, ◌≡◌, ◌∙◌, ap, sym, suc, ◌+◌, List, ℕ}
+use Rattle.std.proofs.Common.{rules, arith, true, false, ◌≡◌, ◌∙◌, ap, sym, suc, ◌+◌, List, ℕ}
 use Rattle.bac_value.specs.Views.{object_identifier_view}
 use Rattle.bac_keep.specs.Cells.{file_place, value_place}
 use Rattle.bac_keep.specs.Parts.{IsForNothing}
-use Rattle.bac_keep.specs.Refused.{HasBadCell, IsUnfit}
+use Rattle.bac_keep.specs.Refused.{IsUnfit}
 use Rattle.bac_keep.specs.Rows.{IsRising, held}
 use Rattle.bac_store.specs.Writes.{file_at}
 use Rattle.bac_keep.specs.Restored.{is_writable_file, with_kept_octets, with_kept_values}
 use Rattle.bac_keep.proofs.Lists.{chunk_step, count_gone, count_step, values_step}
-use Rattle.bac_keep.proofs.Refusals.{for_nothing, octets_refused, of_file, passed_on, spoilt, values_refused}
+use Rattle.bac_keep.proofs.Refusals.{chunks_refused, count_refused, for_nothing, octets_refused, passed_on, values_refused}
 use Rattle.bac_keep.proofs.restoring.restore_cell.Goals as goal
 
 pub returns-in_ok-restore_values-in-Some-Values-clause-restored : goal.returns-in_ok-restore_values-in-Some-Values-clause-restored
@@ -95,11 +95,8 @@ returns-in_err-count-in-Some-Count-clause-refused c =
     let cell = c.index-cells-at.result in
     let place : cell.place ≡ file_place id 0 = search rules in
     let writable : is_writable_file (file_at c.args.store.now id) ≡ true = search rules in
-    let bad : HasBadCell c.args.document.now (held c.args.cells.now) =
-    of_file c.args.cells.now c.args.at cell c.requires.within (sym c.index-cells-at.is) rise c.args.document.now c.args.store.now
-    (c.args.at + 1) (c.requires.above rise) id place writable in
-    spoilt c.args.cells.now c.args.at cell c.requires.within (sym c.index-cells-at.is) rise c.args.document.now c.args.store.now bad _
-    (inl c.in_err-count-in-Some-Count.ensures.refused))
+    count_refused c.args.cells.now c.args.at cell c.requires.within (sym c.index-cells-at.is) rise c.args.document.now c.args.store.now
+    (c.args.at + 1) (c.requires.above rise) id place writable _ c.in_err-count-in-Some-Count.ensures.refused c.in_err-count-in-Some-Count.ensures.other)
 
 pub returns-in_err-octets-in-Some-Count-clause-refused : goal.returns-in_err-octets-in-Some-Count-clause-refused
 returns-in_err-octets-in-Some-Count-clause-refused c =
@@ -110,8 +107,6 @@ returns-in_err-octets-in-Some-Count-clause-refused c =
     let cell = c.index-cells-at.result in
     let place : cell.place ≡ file_place id 0 = search rules in
     let writable : is_writable_file (file_at c.args.store.now id) ≡ true = search rules in
-    let bad : HasBadCell c.args.document.now (held c.args.cells.now) =
-    of_file c.args.cells.now c.args.at cell c.requires.within (sym c.index-cells-at.is) rise c.args.document.now c.args.store.now
-    (c.args.at + 1) (c.requires.above rise) id place writable in
-    spoilt c.args.cells.now c.args.at cell c.requires.within (sym c.index-cells-at.is) rise c.args.document.now c.args.store.now bad _
+    chunks_refused c.args.cells.now c.args.at cell c.requires.within (sym c.index-cells-at.is) rise c.args.document.now c.args.store.now
+    (c.args.at + 1) (c.requires.above rise) id place writable c.in_ok-count-in-Some-Count.count c.in_ok-count-in-Some-Count.ensures.states _
     c.in_err-octets-in-Some-Count.ensures.refused)
