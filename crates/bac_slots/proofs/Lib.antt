@@ -10,3 +10,4 @@ pub mod Numbers
 pub mod Aging
 pub mod Removed
 pub mod Fronts
+pub mod Rings
