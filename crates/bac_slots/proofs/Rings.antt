@@ -1,11 +1,12 @@
 -- Numbers in rings of equal length and a tail.
-use Rattle.std.proofs.Common.{◌≡◌, ℕ, zero, suc, ◌+◌, ◌-◌, ◌*◌, ◌<◌, ◌≤◌, List, [], ◌∷◌, ◌++◌, map, length, Some, slice_get, take, drop, set}
+use Rattle.std.proofs.Common.{◌≡◌, ℕ, zero, suc, ◌+◌, ◌-◌, ◌*◌, ◌/◌, ◌<◌, ◌≤◌, List, [], ◌∷◌, ◌++◌, map, length, Some, slice_get, take, drop, set}
 use Rattle.std.proofs.Common.{refl, ap, sym, subst, ◌∙◌, arith}
 use Rattle.std.specs.List.{concat, insert, remove}
-use Rattle.std.proofs.lemmas.List.{append_assoc, append-nil, take_at, drop_at, take-append-drop, length-append, length-take-le, length-drop, drop-map, take-map, map-append}
+use Rattle.std.proofs.lemmas.List.{append_assoc, append-nil, take_at, drop_at, take-append-drop, length-append, length-map, length-take-le, length-drop, drop-map, take-map, map-append}
 use Rattle.std.proofs.lemmas.List.{drop_all, take_all}
-use Rattle.std.proofs.lemmas.List.Edits.{insert-append_left, insert-append_right, remove-append_left, remove-append_right, length-remove}
+use Rattle.std.proofs.lemmas.List.Edits.{insert-append_left, insert-append_right, remove-append_left, remove-append_right, length-insert, length-remove}
 use Rattle.std.proofs.lemmas.List.Folds.{concat-append}
+use Rattle.std.proofs.lemmas.Option.{slice_get_within}
 use Rattle.std.proofs.Math.Seq.{set-append_seam}
 use Rattle.bac_slots.specs.Indexes.{turned, AreFull}
 
@@ -179,7 +180,7 @@ high_of a b n x y large small =
     let k : ℕ = n - length b in
     let within : k ≤ length a = omega (arith, small, large) in
     let more : List ℕ = insert a k x in
-    let long : length more ≡ length a + 1 = long_insert a k x within in
+    let long : length more ≡ length a + 1 = length-insert a k x within in
     ap (λ c. turned (length a + 1) (insert c k x) ++ y ∷ []) (removed_seam a y b)
     ∙ ap (λ c. turned (length a + 1) c ++ y ∷ []) (insert-append_left a b k x within)
     ∙ ap (λ m. turned m (more ++ b) ++ y ∷ []) (sym long)
@@ -187,13 +188,6 @@ high_of a b n x y large small =
     ∙ ap (λ c. b ++ c) (sym (insert-append_left a (y ∷ []) k x within))
     ∙ sym (insert-append_right b (a ++ y ∷ []) (length b) n x refl (omega (arith, large)))
     ∙ ap (λ c. insert c n x) (sym (turned_past a y b))
-  where
-    long_insert : (a : List ℕ) (k x : ℕ) → k ≤ length a → length (insert a k x) ≡ length a + 1
-    long_insert a k x l =
-        let both = length-append (take k a) (x ∷ drop k a) in
-        let parts = length-append (take k a) (drop k a) in
-        let all = ap length (take-append-drop k a) in
-        omega (arith, both, parts, all)
 
 pub inserted_low : (cells : List ℕ) (p n x y : ℕ) → slice_get cells p ≡ Some y → n ≤ length cells - (p + 1)
     → turned p (insert (remove cells p) (p + n) x) ++ y ∷ [] ≡ insert (turned (p + 1) cells) n x
@@ -298,3 +292,140 @@ pushed_up rs n c d r s at e =
 -- the rings and the tail when one ring more is made, and one fewer
 pub opened : (rs : List (List ℕ)) (t : List ℕ) → concat (rs ++ t ∷ []) ++ [] ≡ concat rs ++ t
 opened rs t = append-nil (concat (rs ++ t ∷ [])) ∙ concat_last rs t
+
+-- a ring stays full
+pub long_front : (s r : List ℕ) (c d : ℕ) → s ++ d ∷ [] ≡ c ∷ r → length s ≡ length r
+long_front s r c d e =
+    let both = ap length e in
+    let left = length_seam s d in
+    omega (arith, both, left)
+
+pub long_back : (s r : List ℕ) (c d : ℕ) → d ∷ s ≡ r ++ c ∷ [] → length s ≡ length r
+long_back s r c d e =
+    let both = ap length e in
+    let right = length_seam r c in
+    omega (arith, both, right)
+
+pub long_inserted : (s r : List ℕ) (k c d : ℕ) → k < length r → s ++ d ∷ [] ≡ insert r k c → length s ≡ length r
+long_inserted s r k c d l e =
+    let both = ap length e in
+    let left = length_seam s d in
+    let right = length-insert r k c (omega (arith, l)) in
+    omega (arith, both, left, right)
+
+pub long_removed : (s r : List ℕ) (k c : ℕ) → k < length r → s ≡ remove r k ++ c ∷ [] → length s ≡ length r
+long_removed s r k c l e =
+    let both = ap length e in
+    let left = length_seam (remove r k) c in
+    let right = length-remove r k l in
+    omega (arith, both, left, right)
+
+-- the ring in which a number is, and where
+module _ (rs : List (List ℕ)) (f : AreFull 1024 rs) (n : ℕ) (within : n < length (concat rs)) where
+  pub ring_within : n / 1024 < length rs
+  ring_within = let long = full_length rs f in omega (arith, long, within)
+
+  pub cell_within : (r : List ℕ) → slice_get rs (n / 1024) ≡ Some r → n - n / 1024 * 1024 < length r
+  cell_within r at = let long = full_at 1024 rs (n / 1024) r f at in omega (arith, long)
+
+-- the numbers of the rings before this one
+before_long : (rs a : List (List ℕ)) (r : List ℕ) (b : List (List ℕ)) → AreFull 1024 rs → rs ≡ a ++ r ∷ b → length (concat a) ≡ 1024 * length a
+before_long rs a r b f e = full_length a (full_fewer 1024 a (r ∷ b) (subst (λ l. AreFull 1024 l) e f))
+
+pub got_in : (rs : List (List ℕ)) (w n : ℕ) (r : List ℕ) (x : ℕ) → AreFull 1024 rs → slice_get rs w ≡ Some r → w * 1024 ≤ n
+    → slice_get r (n - w * 1024) ≡ Some x → slice_get (concat rs) n ≡ Some x
+got_in rs w n r x f at low e =
+    let c = cut rs w r at in
+    let long = before_long rs c.0 r c.1 f c.2 in
+    let same = c.3 in
+    let k : ℕ = n - w * 1024 in
+    let place : n ≡ length (concat c.0) + k = omega (arith, long, same, low) in
+    ap (λ l. slice_get (concat l) n) c.2 ∙ ap (λ l. slice_get l n) (concat_cut c.0 r c.1)
+    ∙ ap (λ m. slice_get (concat c.0 ++ (r ++ concat c.1)) m) place ∙ get_right (concat c.0) (r ++ concat c.1) k
+    ∙ get_left r (concat c.1) k (slice_get_within r k x e) ∙ e
+
+-- a number enters one ring, and its last one goes on
+entered : (a b : List (List ℕ)) (k x d : ℕ) (r s : List ℕ) → k ≤ length r → s ++ d ∷ [] ≡ insert r k x
+    → concat (take (length a + 1) (set (a ++ r ∷ b) (length a) s)) ++ d ∷ concat (drop (length a + 1) (set (a ++ r ∷ b) (length a) s))
+    ≡ insert (concat (a ++ r ∷ b)) (length (concat a) + k) x
+entered a b k x d r s l e =
+    let at : length (concat a) + k - length (concat a) ≡ k = omega arith in
+    ap (λ l. concat (take (length a + 1) l) ++ d ∷ concat (drop (length a + 1) l)) (set-append_seam a r b s)
+    ∙ ap (λ l. concat l ++ d ∷ concat (drop (length a + 1) (a ++ s ∷ b))) (take_seam a s b)
+    ∙ ap (λ l. concat (a ++ s ∷ []) ++ d ∷ concat l) (drop_seam a s b)
+    ∙ ap (λ l. l ++ d ∷ concat b) (concat_last a s)
+    ∙ append_assoc (concat a) s (d ∷ concat b)
+    ∙ ap (λ l. concat a ++ l) (after_seam s d (concat b) ∙ ap (λ l. l ++ concat b) e ∙ sym (insert-append_left r (concat b) k x l))
+    ∙ ap (λ m. concat a ++ insert (r ++ concat b) m x) (sym at)
+    ∙ sym (insert-append_right (concat a) (r ++ concat b) (length (concat a)) (length (concat a) + k) x refl (omega arith))
+    ∙ ap (λ l. insert l (length (concat a) + k) x) (sym (concat_cut a r b))
+
+pub entered_in : (rs : List (List ℕ)) (w n x d : ℕ) (r s : List ℕ) → AreFull 1024 rs → slice_get rs w ≡ Some r → w * 1024 ≤ n
+    → n - w * 1024 < length r → s ++ d ∷ [] ≡ insert r (n - w * 1024) x
+    → concat (take (w + 1) (set rs w s)) ++ d ∷ concat (drop (w + 1) (set rs w s)) ≡ insert (concat rs) n x
+entered_in rs w n x d r s f at low within e =
+    let c = cut rs w r at in
+    let long = before_long rs c.0 r c.1 f c.2 in
+    let same = c.3 in
+    let place : length (concat c.0) + (n - w * 1024) ≡ n = omega (arith, long, same, low) in
+    subst (λ l. concat (take (w + 1) (set l w s)) ++ d ∷ concat (drop (w + 1) (set l w s)) ≡ insert (concat l) n x) (sym c.2)
+    (subst (λ k. concat (take (k + 1) (set (c.0 ++ r ∷ c.1) k s)) ++ d ∷ concat (drop (k + 1) (set (c.0 ++ r ∷ c.1) k s))
+    ≡ insert (concat (c.0 ++ r ∷ c.1)) n x) c.3
+    (subst (λ m. concat (take (length c.0 + 1) (set (c.0 ++ r ∷ c.1) (length c.0) s)) ++ d ∷ concat (drop (length c.0 + 1) (set (c.0 ++ r ∷ c.1) (length c.0) s))
+    ≡ insert (concat (c.0 ++ r ∷ c.1)) m x) place
+    (entered c.0 c.1 (n - w * 1024) x d r s (omega (arith, within)) e)))
+
+-- a number leaves one ring, into which the one that came back enters
+left_of : (a b : List (List ℕ)) (k d : ℕ) (r s : List ℕ) → k < length r → s ≡ remove r k ++ d ∷ []
+    → concat (set (a ++ r ∷ b) (length a) s)
+    ≡ remove (concat (take (length a + 1) (a ++ r ∷ b)) ++ d ∷ concat (drop (length a + 1) (a ++ r ∷ b))) (length (concat a) + k)
+left_of a b k d r s l e =
+    let at : length (concat a) + k - length (concat a) ≡ k = omega arith in
+    ap concat (set-append_seam a r b s) ∙ concat_cut a s b
+    ∙ ap (λ l. concat a ++ (l ++ concat b)) e
+    ∙ ap (λ l. concat a ++ l) (append_assoc (remove r k) (d ∷ []) (concat b) ∙ sym (remove-append_left r (d ∷ concat b) k l))
+    ∙ ap (λ m. concat a ++ remove (r ++ d ∷ concat b) m) (sym at)
+    ∙ sym (remove-append_right (concat a) (r ++ d ∷ concat b) (length (concat a)) (length (concat a) + k) refl (omega arith))
+    ∙ ap (λ l. remove l (length (concat a) + k)) (sym (append_assoc (concat a) r (d ∷ concat b)) ∙ ap (λ l. l ++ d ∷ concat b) (sym (concat_last a r)))
+    ∙ ap (λ l. remove (concat l ++ d ∷ concat b) (length (concat a) + k)) (sym (take_seam a r b))
+    ∙ ap (λ l. remove (concat (take (length a + 1) (a ++ r ∷ b)) ++ d ∷ concat l) (length (concat a) + k)) (sym (drop_seam a r b))
+
+pub left_in : (rs : List (List ℕ)) (old : List ℕ) (w n x d : ℕ) (r s : List ℕ) → AreFull 1024 rs → slice_get rs w ≡ Some r → w * 1024 ≤ n
+    → n - w * 1024 < length r → n < length old → s ≡ remove r (n - w * 1024) ++ d ∷ []
+    → concat (take (w + 1) rs) ++ d ∷ concat (drop (w + 1) rs) ≡ old ++ x ∷ [] → concat (set rs w s) ≡ remove old n ++ x ∷ []
+left_in rs old w n x d r s f at low within inside e turned =
+    let c = cut rs w r at in
+    let long = before_long rs c.0 r c.1 f c.2 in
+    let same = c.3 in
+    let place : length (concat c.0) + (n - w * 1024) ≡ n = omega (arith, long, same, low) in
+    subst (λ l. concat (set l w s) ≡ remove (concat (take (w + 1) l) ++ d ∷ concat (drop (w + 1) l)) n) (sym c.2)
+    (subst (λ k. concat (set (c.0 ++ r ∷ c.1) k s) ≡ remove (concat (take (k + 1) (c.0 ++ r ∷ c.1)) ++ d ∷ concat (drop (k + 1) (c.0 ++ r ∷ c.1))) n) c.3
+    (subst (λ m. concat (set (c.0 ++ r ∷ c.1) (length c.0) s)
+    ≡ remove (concat (take (length c.0 + 1) (c.0 ++ r ∷ c.1)) ++ d ∷ concat (drop (length c.0 + 1) (c.0 ++ r ∷ c.1))) m) place
+    (left_of c.0 c.1 (n - w * 1024) d r s within e)))
+    ∙ ap (λ l. remove l n) turned ∙ remove-append_left old (x ∷ []) n inside
+
+-- the rings and the tail, when a number enters or leaves the rings
+pub on_to_tail : (new old t : List ℕ) (n x d : ℕ) → n ≤ length old → new ++ d ∷ [] ≡ insert old n x → new ++ insert t 0 d ≡ insert (old ++ t) n x
+on_to_tail new old [] n x d l e = after_seam new d [] ∙ ap (λ l. l ++ []) e ∙ sym (insert-append_left old [] n x l)
+on_to_tail new old (y ∷ t) n x d l e = after_seam new d (y ∷ t) ∙ ap (λ l. l ++ y ∷ t) e ∙ sym (insert-append_left old (y ∷ t) n x l)
+
+pub closed : (rs rest : List (List ℕ)) (r t u : List ℕ) → rs ≡ rest ++ r ∷ [] → length t ≤ 0 → u ≡ t ++ r → concat rest ++ u ≡ concat rs ++ t
+closed rs rest r (y ∷ t) u e none is = absurd (omega (arith, none))
+closed rs rest r [] u e none is =
+    ap (λ l. concat rest ++ l) is ∙ sym (concat_last rest r) ∙ ap concat (sym e) ∙ sym (append-nil (concat rs))
+
+-- each number of each ring is mapped
+pub full_map : (f : ℕ → ℕ) (k : ℕ) (rs : List (List ℕ)) → AreFull k rs → AreFull k (map (λ r. map f r) rs)
+full_map f k [] full = tt
+full_map f k (r ∷ rs) full = (length-map f r ∙ full.0, full_map f k rs full.1)
+
+pub concat_map : (f : ℕ → ℕ) (rs : List (List ℕ)) → concat (map (λ r. map f r) rs) ≡ map f (concat rs)
+concat_map f [] = refl
+concat_map f (r ∷ rs) = ap (λ l. map f r ++ l) (concat_map f rs) ∙ sym (map-append f r (concat rs))
+
+-- a vector whose numbers were all written
+pub all_written : (n : ℕ) (old new : List ℕ) → n ≡ length old → length new ≡ length old → take n (new ++ drop (length new) old) ≡ new
+all_written n old new whole same =
+    ap (λ l. take n (new ++ l)) (drop_all (length new) old (omega (arith, same)))
+    ∙ ap (λ l. take n l) (append-nil new) ∙ take_all n new (omega (arith, whole, same))

@@ -1,6 +1,6 @@
-//! Vectors of numbers that have room.
+//! Numbers in vectors that have room, and in slices.
 ghost use Rattle.std.specs.Prelude.{◌≡◌, ◌-◌, ◌+◌, ◌<◌, ◌≤◌, ◌++◌, length, map, vec_capacity};
-ghost use Rattle.std.specs.List.{insert};
+ghost use Rattle.std.specs.List.{insert, remove};
 ghost use Rattle.bac_slots.specs.Indexes.{lowered};
 
 /// Inserts a number before the n-th, where there is room for it.
@@ -28,10 +28,23 @@ pub(crate) fn append(numbers: &mut Vec<u32>, more: &[u32])
     }
 }
 
+/// Removes the number at one place, and inserts another one so that it is at another place.
+pub(crate) fn exchange(numbers: &mut [u32], from: usize, to: usize, number: u32)
+    requires from { from < length numbers.old }
+    requires to { to < length numbers.old }
+    ensures { numbers.new ≡ insert (remove numbers.old from) to number }
+{
+    if from < to {
+        numbers.copy_within(from + 1..to + 1, from);
+    } else {
+        numbers.copy_within(to..from, to + 1);
+    }
+    numbers[to] = number;
+}
+
 /// Makes each number the place itself; places greater than `gone` become one less.
-pub(crate) fn settle(numbers: &mut Vec<u32>, first: u32, gone: usize)
-    ensures numbers { numbers.new.items ≡ map (λ n. lowered gone (n - first)) numbers.old.items }
-    ensures capacity { vec_capacity numbers.new ≡ vec_capacity numbers.old }
+pub(crate) fn settle(numbers: &mut [u32], first: u32, gone: usize)
+    ensures { numbers.new ≡ map (λ n. lowered gone (n - first)) numbers.old }
 {
     for number in numbers.iter_mut() {
         *number = settled(*number, first, gone);

@@ -3,13 +3,10 @@ ghost use Rattle.std.specs.Prelude.{◌≡◌, ◌-◌, ◌+◌, ◌<◌, ◌≤
 ghost use Rattle.std.specs.List.{concat, insert, remove};
 ghost use Rattle.bac_slots.specs.Indexes.{lowered, AreFull};
 
-use crate::filling::{append, put, settle};
-use crate::ring::Ring;
+use crate::filling::{put, settle};
+use crate::ring::{EACH, Ring};
 use std::alloc::{AllocError, Global};
 use std::marker::Model;
-
-/// How many numbers a ring has.
-const EACH: usize = 1_024;
 
 /// Numbers in an order: those of the rings, then those of the tail. A ring is made of the tail when that has as many numbers as a ring, so up to 1,024 numbers
 /// are in the tail alone. Where a number is inserted into a ring, the last one of each ring moves on to the next; where one is removed, the first one moves back.
@@ -17,8 +14,6 @@ const EACH: usize = 1_024;
 pub(crate) struct Tiers {
     rings: Vec<Ring>,
     tail: Vec<u32>,
-    /// The cells of rings that are not made yet.
-    spare: Vec<Vec<u32>>,
     len: usize,
 }
 
@@ -43,7 +38,6 @@ impl Tiers {
         Ok(Tiers {
             rings: Vec::with_capacity(alloc, most)?,
             tail: Vec::with_capacity(alloc, room)?,
-            spare: spare_cells(alloc, most)?,
             len: 0,
         })
     }
@@ -75,14 +69,9 @@ impl Tiers {
         ensures numbers { self.new.0 ≡ insert self.old.0 n number }
         ensures room { self.old.1 ≤ self.new.1 }
     {
-        open(&mut self.rings, &mut self.tail, &mut self.spare);
+        open(&mut self.rings, &mut self.tail);
         let in_rings = self.len - self.tail.len();
-        if n < in_rings {
-            let carried = insert_in(&mut self.rings, n, number);
-            put(&mut self.tail, 0, carried);
-        } else {
-            put(&mut self.tail, n - in_rings, number);
-        }
+        enter(&mut self.rings, &mut self.tail, in_rings, n, number);
         self.len += 1;
     }
 
@@ -92,14 +81,9 @@ impl Tiers {
         ensures numbers { self.new.0 ≡ remove self.old.0 n }
         ensures room { self.old.1 ≤ self.new.1 }
     {
-        close(&mut self.rings, &mut self.tail, &mut self.spare);
+        close(&mut self.rings, &mut self.tail);
         let in_rings = self.len - self.tail.len();
-        if n < in_rings {
-            let carried = self.tail.remove(0);
-            remove_in(&mut self.rings, n, carried);
-        } else {
-            self.tail.remove(n - in_rings);
-        }
+        leave(&mut self.rings, &mut self.tail, in_rings, n);
         self.len -= 1;
     }
 
@@ -109,47 +93,28 @@ impl Tiers {
         ensures room { self.new.1 ≡ self.old.1 }
     {
         settle_rings(&mut self.rings, first, gone);
-        settle(&mut self.tail, first, gone);
+        settle(self.tail.as_mut_slice(), first, gone);
     }
 }
 
-/// The cells of so many rings.
-fn spare_cells(alloc: Global, count: usize) -> Result<Vec<Vec<u32>>, AllocError> {
-    let mut spare = Vec::with_capacity(alloc, count)?;
-    for _ in 0..count {
-        let cells = Vec::with_capacity(alloc, EACH)?;
-        if spare.push(cells).is_err() {
-            return Err(AllocError);
-        }
-    }
-    Ok(spare)
-}
-
-/// Makes a ring of the tail, where that has as many numbers as a ring. Where there are no cells for it, the tail grows.
-fn open(rings: &mut Vec<Ring>, tail: &mut Vec<u32>, spare: &mut Vec<Vec<u32>>)
+/// Makes a ring of the tail, where that has as many numbers as a ring. Where there is no room for one more, the tail grows.
+fn open(rings: &mut Vec<Ring>, tail: &mut Vec<u32>)
     requires { AreFull 1024 rings.old.items }
     ensures full { AreFull 1024 rings.new.items }
     ensures same { concat rings.new.items ++ tail.new.items ≡ concat rings.old.items ++ tail.old.items }
     ensures room { vec_capacity tail.new ≡ vec_capacity tail.old }
 {
-    if tail.len() != EACH {
+    if tail.len() != EACH || rings.len() == rings.capacity() {
         return;
     }
-    let Some(mut cells) = spare.pop() else {
-        return;
-    };
-    cells.clear();
-    if cells.extend_from_slice(tail.as_slice()).is_err() {
-        return;
-    }
-    match rings.push(Ring::new(cells)) {
+    match rings.push(Ring::new(tail.as_slice())) {
         Ok(()) => tail.clear(),
         Err(_) => {}
     }
 }
 
 /// Where the tail has no number, it gets those of the last ring.
-fn close(rings: &mut Vec<Ring>, tail: &mut Vec<u32>, spare: &mut Vec<Vec<u32>>)
+fn close(rings: &mut Vec<Ring>, tail: &mut Vec<u32>)
     requires full { AreFull 1024 rings.old.items }
     requires room { length (concat rings.old.items) + length tail.old.items ≤ vec_capacity tail.old }
     ensures full { AreFull 1024 rings.new.items }
@@ -163,8 +128,43 @@ fn close(rings: &mut Vec<Ring>, tail: &mut Vec<u32>, spare: &mut Vec<Vec<u32>>)
     let Some(ring) = rings.pop() else {
         return;
     };
-    let cells = ring.pour(tail);
-    let _ = spare.push(cells);
+    ring.pour(tail);
+}
+
+/// A number enters before the n-th; this many are in the rings.
+fn enter(rings: &mut Vec<Ring>, tail: &mut Vec<u32>, in_rings: usize, n: usize, number: u32)
+    requires full { AreFull 1024 rings.old.items }
+    requires before { in_rings ≡ length (concat rings.old.items) }
+    requires within { n ≤ in_rings + length tail.old.items }
+    requires room { length tail.old.items < vec_capacity tail.old }
+    ensures full { AreFull 1024 rings.new.items }
+    ensures numbers { concat rings.new.items ++ tail.new.items ≡ insert (concat rings.old.items ++ tail.old.items) n number }
+    ensures room { vec_capacity tail.old ≤ vec_capacity tail.new }
+{
+    if n < in_rings {
+        let carried = insert_in(rings, n, number);
+        put(tail, 0, carried);
+    } else {
+        put(tail, n - in_rings, number);
+    }
+}
+
+/// The n-th number leaves; this many are in the rings.
+fn leave(rings: &mut Vec<Ring>, tail: &mut Vec<u32>, in_rings: usize, n: usize)
+    requires full { AreFull 1024 rings.old.items }
+    requires before { in_rings ≡ length (concat rings.old.items) }
+    requires within { n < in_rings + length tail.old.items }
+    requires some { 0 < length tail.old.items }
+    ensures full { AreFull 1024 rings.new.items }
+    ensures numbers { concat rings.new.items ++ tail.new.items ≡ remove (concat rings.old.items ++ tail.old.items) n }
+    ensures room { vec_capacity tail.new ≡ vec_capacity tail.old }
+{
+    if n < in_rings {
+        let carried = tail.remove(0);
+        remove_in(rings, n, carried);
+    } else {
+        tail.remove(n - in_rings);
+    }
 }
 
 /// The n-th number of the rings.

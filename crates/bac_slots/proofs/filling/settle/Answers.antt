@@ -8,9 +8,8 @@ use Rattle.bac_slots.proofs.filling.settle.Goals as goal
 pub loop-number-preserved : goal.loop-number-preserved
 loop-number-preserved c =
     let i : ℕ = c.loop-number.number-index in
-    let numbers : List ℕ = c.loop-number.number-items in
-    let whole : length c.deref_mut-number-items.result.now ≡ length c.args.numbers.now.items = ap length c.deref_mut-number-items.ensures.value in
-    let read = get_or_default numbers i 0 (get_or numbers i 0) (omega (arith, c.loop-number-test.true, c.loop-number.auto.number-items)) in
+    let numbers : List ℕ = c.loop-number.numbers in
+    let read = get_or_default numbers i 0 (get_or numbers i 0) (omega (arith, c.loop-number-test.true, c.loop-number.auto.numbers)) in
     ap (λ v. set numbers i v) c.settled.ensures
-    ∙ map_over_more (λ n. lowered c.args.gone (n - c.args.first)) c.args.numbers.now.items numbers i (get_or numbers i 0)
-    (omega (arith, c.loop-number-test.true, whole)) c.loop-number.invariant read
+    ∙ map_over_more (λ n. lowered c.args.gone (n - c.args.first)) c.args.numbers.now numbers i (get_or numbers i 0)
+    (omega (arith, c.loop-number-test.true)) c.loop-number.invariant read

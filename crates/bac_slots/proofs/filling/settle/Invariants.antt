@@ -5,4 +5,4 @@ use Rattle.bac_slots.proofs.filling.settle.Given as goal
 
 abbrev pub invariant-loop-number : goal.invariant-loop-number
 invariant-loop-number l =
-    l.number-items ≡ map (λ n. lowered l.gone (n - l.first)) (take l.number-index l.fn.numbers.items) ++ drop l.number-index l.fn.numbers.items
+    l.numbers ≡ map (λ n. lowered l.gone (n - l.first)) (take l.number-index l.fn.numbers) ++ drop l.number-index l.fn.numbers
