@@ -418,7 +418,7 @@ closed rs rest r [] u e none is =
 -- each number of each ring is mapped
 pub full_map : (f : ℕ → ℕ) (k : ℕ) (rs : List (List ℕ)) → AreFull k rs → AreFull k (map (λ r. map f r) rs)
 full_map f k [] full = tt
-full_map f k (r ∷ rs) full = (length-map f r ∙ full.0, full_map f k rs full.1)
+full_map f k (r ∷ rs) full = (length-map r f ∙ full.0, full_map f k rs full.1)
 
 pub concat_map : (f : ℕ → ℕ) (rs : List (List ℕ)) → concat (map (λ r. map f r) rs) ≡ map f (concat rs)
 concat_map f [] = refl

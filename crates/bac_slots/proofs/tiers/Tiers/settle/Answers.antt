@@ -11,9 +11,9 @@ invariant_of-self c =
     let i = c.self.inside in
     let f : ℕ → ℕ = λ n. lowered c.args.gone (n - c.args.first) in
     let tail = c.settle.ensures ∙ ap (λ l. map f l) c.as_mut_slice.ensures.value in
-    let same : length c.settle.new.numbers ≡ length i.tail.items = ap length tail ∙ length-map f i.tail.items in
+    let same : length c.settle.new.numbers ≡ length i.tail.items = ap length tail ∙ length-map i.tail.items f in
     let written = ap length (all_written i.tail.len i.tail.items c.settle.new.numbers (omega (arith, i.tail.ok.0)) same) in
-    let rings = ap length (ap concat c.settle_rings.ensures ∙ concat_map f i.rings.items) ∙ length-map f (concat i.rings.items) in
+    let rings = ap length (ap concat c.settle_rings.ensures ∙ concat_map f i.rings.items) ∙ length-map (concat i.rings.items) f in
     let before = c.self.invariant.1 in (
       subst (λ (l : List (List ℕ)). AreFull 1024 l) (sym c.settle_rings.ensures) (full_map f 1024 i.rings.items c.self.invariant.0),
       omega (arith, before, written, same, rings),
@@ -25,7 +25,7 @@ returns-clause-numbers c =
     let i = c.self.inside in
     let f : ℕ → ℕ = λ n. lowered c.args.gone (n - c.args.first) in
     let tail = c.settle.ensures ∙ ap (λ l. map f l) c.as_mut_slice.ensures.value in
-    let same : length c.settle.new.numbers ≡ length i.tail.items = ap length tail ∙ length-map f i.tail.items in
+    let same : length c.settle.new.numbers ≡ length i.tail.items = ap length tail ∙ length-map i.tail.items f in
     let rest : List ℕ = take i.tail.len (c.settle.new.numbers ++ drop (length c.settle.new.numbers) i.tail.items) in
     rw (← c.self.view_is)
     (ap (λ l. l ++ rest) (ap concat c.settle_rings.ensures ∙ concat_map f i.rings.items)
