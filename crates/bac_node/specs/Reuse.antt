@@ -1,6 +1,6 @@
 -- What a node that lets clients use an invoke ID again as soon as its transaction is over makes of a datagram: its client's end as ever, its server's end by
 -- bac_transaction's Reuse.
-use Rattle.std.specs.Prelude.{◌≡◌, ◌≢◌, ◌⊎◌, ℕ, Bool, true, false, Result, Ok, Err}
+use Rattle.std.specs.Prelude.{◌≡◌, ◌≢◌, ◌⊎◌, ◌↔◌, ℕ, Bool, true, false, Result, Ok, Err}
 use Rattle.bac_apdu.specs.Apdu.{Apdu}
 use Rattle.bac_apdu.specs.Spelling.{SpellsApdu}
 use Rattle.bac_npdu.specs.Datagram.{Means}
@@ -41,3 +41,7 @@ NodeHears false now from octets old new o = NodeOn now from octets old new o
 abbrev pub DispatchesReusing : (now : ℕ) → PeerView → Apdu → (old : Node) → Result Outcome NoMemory → (new : Node) → Type 0
 DispatchesReusing now peer a old (Ok o) new = IsHeardReusingBy (is_from_client a) peer a now old new (outcome_view o)
 DispatchesReusing now peer a old (Err e) new = new ≡ old
+
+-- where a node does not let them, it makes of a datagram what every such node does
+abbrev pub HearsAsEver : Type 0
+HearsAsEver = (now : ℕ) (from octets : Octets) (old new : Node) (o : world.Outcome) → NodeHears false now from octets old new o ↔ NodeOn now from octets old new o

@@ -364,8 +364,9 @@ impl Node {
 
     /// As `on`, of a node that lets clients use an invoke ID again as soon as its transaction is over (clause 5.4). Call one of both for all datagrams.
     ///
-    /// ReadProperty and AtomicReadFile are performed each time that they come, from the store as it then is, unless their reply is under way in segments; they
-    /// take a slot only while such a reply is under way. A kept reply of another request goes again to that request alone: another one ends it and is performed.
+    /// ReadProperty and AtomicReadFile are performed each time that they come, from the store as it then is, unless a request of their peer and invoke ID still
+    /// goes on; they take a slot only where their reply goes in segments. A kept reply of another request goes again to that request alone: another one ends it
+    /// and is performed.
     ///
     /// The faults are those of `on`.
     pub fn on_reusing(
@@ -384,9 +385,9 @@ impl Node {
             return Err(NodeFault::ClockBack);
         }
         match read_from(self.link, from, octets) {
-            Err(cause) => {
+            Err(why) => {
                 self.latest = now;
-                Ok(Outcome::dropped(self.alloc, cause))
+                Ok(Outcome::dropped(self.alloc, why))
             }
             Ok((peer, apdu)) => Ok(self.dispatch_reusing(now, &peer, &apdu)?),
         }
@@ -481,7 +482,7 @@ impl Node {
         ensures heard { IfOk result (λ o. IsHeardReusingBy true (peer_view peer.now) (apdu_view apdu.now) now self.old self.new (outcome_view o)) }
         ensures err { OnErr result (self.new ≡ self.old) }
     {
-        let Served { sends, act } = self.servers.on_reusing(
+        let Served { sends, act: effect } = self.servers.on_reusing(
             self.alloc,
             &self.settings,
             now,
@@ -492,7 +493,7 @@ impl Node {
         self.latest = now;
         Ok(Outcome {
             sends,
-            effect: act,
+            effect,
             ended: Vec::new(self.alloc),
             dropped: None,
         })
