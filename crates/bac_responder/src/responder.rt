@@ -17,12 +17,11 @@ ghost use Rattle.bac_responder.specs.Timers.{LAST_MOMENT};
 ghost use Rattle.bac_responder.specs.Short.{AreRequestsShort};
 ghost use Rattle.bac_responder.specs.Views.{end_of, Serves};
 
-use crate::ServerTransaction;
 use crate::aging::{ServerRules, ShortRequests};
 use crate::lookup::on_apdu;
-use crate::reusing;
 use crate::served::Served;
 use crate::ticking::{nothing_due, prepare};
+use crate::{ServerTransaction, reusing};
 use bac_apdu::Apdu;
 use bac_npdu::Peer;
 use bac_slots::{
