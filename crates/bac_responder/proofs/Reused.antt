@@ -3,7 +3,7 @@ use Rattle.std.proofs.Common.{◌≡◌, ℕ, suc, ◌+◌, ◌<◌, ◌≤◌, 
 use Rattle.std.proofs.Common.{Option, Some, None, Result, Ok, Err, if◌then◌else◌, refl, ap, sym, subst, ◌∙◌, arith}
 use Rattle.std.proofs.lemmas.Bool.Decides.{nat_tests}
 use Rattle.std.proofs.lemmas.List.Sums.{count_by-le-length}
-use Rattle.bac_apdu.specs.Apdu.{Apdu}
+use Rattle.bac_apdu.specs.Apdu.{Apdu, Limits}
 use Rattle.bac_apdu.specs.Apdu.Apdu.{ConfirmedRequest}
 use Rattle.bac_npdu.specs.Peers.{PeerView}
 use Rattle.bac_value.specs.declared.memory.NoMemory.{NoMemory}
@@ -13,14 +13,14 @@ use Rattle.bac_store.specs.Stores.{Store}
 use Rattle.bac_store.specs.Replies.{reply_to}
 use Rattle.bac_service.specs.Views.{owned_request_view}
 use Rattle.bac_protocol.specs.Context.{Context}
-use Rattle.bac_protocol.specs.Reuse.{Reads, ends_entry, entry_left, goes_in_segments, has_transfer, idle_reusing, left_on_apdu, reads_so}
-use Rattle.bac_protocol.specs.Server.{Reaction, ServerTransaction, Service, idle_on_apdu, is_live, is_none_live, rests, server_abort, server_on_apdu}
-use Rattle.bac_protocol.specs.Service.{OTHER}
+use Rattle.bac_protocol.specs.Reuse.{Reads, ends_entry, entry_left, goes_in_segments, has_transfer, idle_on_read, idle_reusing, left_on_apdu, reads_so}
+use Rattle.bac_protocol.specs.Server.{Reaction, ServerTransaction, Service, idle_on_apdu, idle_on_request, is_live, is_none_live, rests, server_abort, server_on_apdu}
+use Rattle.bac_protocol.specs.Service.{OTHER, Octets}
 use Rattle.bac_transaction.specs.Ends.{ServerEnd, ServerTurn, first_after, is_free, is_slot_live, server_goes}
 use Rattle.bac_transaction.specs.Keys as keys
 use Rattle.bac_transaction.specs.Keys.{same_key}
 use Rattle.bac_transaction.specs.Reuse.{end_left, is_read, slots_left}
-use Rattle.bac_transaction.specs.Sends.{Datagram}
+use Rattle.bac_transaction.specs.Sends.{Datagram, IsSent, Pairwise, to_all}
 use Rattle.bac_transaction.specs.Services.{ArePerformed, Performed as Done, service_of, store_after}
 use Rattle.bac_transaction.specs.Views.{code_same_key, context_view, peer_key_view, slots_view}
 use Rattle.bac_transaction.specs.declared.context.Context as code
@@ -30,7 +30,7 @@ use Rattle.bac_transaction.proofs.Viewed.{count_viewed}
 use Rattle.bac_responder.specs.Aging.{begins_request}
 use Rattle.bac_responder.specs.Preparing.{IsCommitted}
 use Rattle.bac_responder.specs.Reactions.{BeginsWith, IdleReacts, IsReaction, IsStill}
-use Rattle.bac_responder.specs.Reuse.{IsPassed, PassesOrBegins, ReusingReacts, code_slots_left, reusing_turn_of}
+use Rattle.bac_responder.specs.Reuse.{IsPassed, PassesOrBegins, Read, ReusingReacts, code_slots_left, reusing_turn_of, whole_read}
 use Rattle.bac_responder.specs.TransactionViews.{performed_view}
 use Rattle.bac_responder.specs.Turns.{Acted, IsServed, acted_of}
 use Rattle.bac_responder.specs.Views.{Serves, end_of, turn_of}
@@ -83,6 +83,59 @@ module _ (c : Context) (dead : Option ServerTransaction) (r : Reaction) (peer : 
 
   pub read_turned : goes_in_segments e.state ≡ true → reads_so c dead false r ≡ rests dead (server_abort c OTHER ∷ [])
   read_turned segments = so false true (ap has_transfer h.entry_is ∙ segments)
+
+-- one that finds no slot gets an Abort
+pub read_rests : (dead : Option ServerTransaction) (peer : PeerView) (s : Store) (apdus : List Apdu) (sent all : List Datagram) (x : Option Effect)
+    → Pairwise IsSent (to_all peer apdus) sent → all ≡ sent → x ≡ None → IsPassed (rests dead apdus) dead peer s all (performed_view x) s
+read_rests dead peer s apdus sent all x pairs is none =
+    record {
+      entry = refl;
+      sends = subst (λ (l : List Datagram). Pairwise IsSent (to_all peer apdus) l) (sym is) pairs;
+      effect = subst (λ (o : Option Effect). ArePerformed s None (performed_view o)) (sym none) tt;
+      store = subst (λ (o : Option Effect). s ≡ store_after s (performed_view o)) (sym none) refl;
+    }
+
+-- Whether an APDU is a read.
+
+abbrev read_of : Limits → (choice : ℕ) → Octets → Read
+read_of limits choice octets = record { choice = choice; limits = limits; octets = octets }
+
+pub no_read : (c : Context) (service : Service) (dead : Option ServerTransaction) (free : Bool) (a : Apdu) → whole_read a ≡ None
+    → idle_reusing c service is_read dead free a ≡ idle_on_apdu c service dead free a
+no_read c service dead free (ConfirmedRequest limits id None choice octets) none = go (is_read choice) none
+  where
+    go : (b : Bool) → (if b then Some (read_of limits choice octets) else None) ≡ None
+        → (if b then idle_on_read c service dead free choice limits octets else idle_on_request c service dead free choice limits octets)
+        ≡ idle_on_request c service dead free choice limits octets
+    go true e = absurd cc
+    go false e = refl
+no_read c service dead free (ConfirmedRequest limits id (Some segment) choice octets) none = refl
+no_read c service dead free _ none = refl
+
+same_read : (c : Context) (service : Service) (dead : Option ServerTransaction) (free : Bool) (x w : Read) → x ≡ w
+    → idle_on_read c service dead free x.choice x.limits x.octets ≡ idle_on_read c service dead free w.choice w.limits w.octets
+same_read c service dead free x w is = ap (λ (z : Read). idle_on_read c service dead free z.choice z.limits z.octets) is
+
+pub some_read : (c : Context) (service : Service) (dead : Option ServerTransaction) (free : Bool) (a : Apdu) (w : Read) → whole_read a ≡ Some w
+    → idle_reusing c service is_read dead free a ≡ idle_on_read c service dead free w.choice w.limits w.octets
+some_read c service dead free (ConfirmedRequest limits id None choice octets) w some = go (is_read choice) some
+  where
+    go : (b : Bool) → (if b then Some (read_of limits choice octets) else None) ≡ Some w
+        → (if b then idle_on_read c service dead free choice limits octets else idle_on_request c service dead free choice limits octets)
+        ≡ idle_on_read c service dead free w.choice w.limits w.octets
+    go true e = let same : read_of limits choice octets ≡ w = cc in same_read c service dead free (read_of limits choice octets) w same
+    go false e = absurd cc
+some_read c service dead free (ConfirmedRequest limits id (Some segment) choice octets) w some = absurd cc
+some_read c service dead free _ w some = absurd cc
+
+pub reacts_as : (r r' : Option ServerTransaction → Reaction) → ((dead : Option ServerTransaction) → r' dead ≡ r dead) → (peer : PeerView) (s : Store)
+    (x : Result (Performed × Option ServerTransaction) NoMemory) (t : Store) → ReusingReacts r peer s x t → ReusingReacts r' peer s x t
+reacts_as r r' same peer s (Ok x) t h = go x.0 x.1 h
+  where
+    go : (p : Performed) (o : Option ServerTransaction) → PassesOrBegins r peer s p o t → PassesOrBegins r' peer s p o t
+    go p None h = λ dead. subst (λ (v : Reaction). IsPassed v dead peer s p.sends.items (performed_view p.effect) t) (sym (same dead)) (h dead)
+    go p (Some e) h = λ dead. subst (λ (v : Reaction). IsReaction v peer s e p.sends.items (performed_view p.effect) t) (sym (same dead)) (h dead)
+reacts_as r r' same peer s (Err e) t h = h
 
 -- what a commit would perform
 pub commits : (s : Store) (p : Option Commit) → (q : Option Done) × IsCommitted s p q

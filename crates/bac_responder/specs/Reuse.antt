@@ -1,6 +1,7 @@
 -- What an APDU makes of the server's end where invoke IDs may be used again, in code.
-use Rattle.std.specs.Prelude.{◌≡◌, Bool, Option, Some, None, Result, Ok, Err, List, if◌then◌else◌}
-use Rattle.bac_apdu.specs.Apdu.{Apdu}
+use Rattle.std.specs.Prelude.{◌≡◌, ℕ, Bool, Option, Some, None, Result, Ok, Err, List, if◌then◌else◌}
+use Rattle.bac_apdu.specs.Apdu.{Apdu, Limits}
+use Rattle.bac_apdu.specs.Apdu.Apdu.{ConfirmedRequest}
 use Rattle.bac_npdu.specs.Peers.{PeerView}
 use Rattle.bac_value.specs.declared.memory.NoMemory.{NoMemory}
 use Rattle.bac_slots.specs.declared.slot.Slot.{Slot}
@@ -8,8 +9,9 @@ use Rattle.bac_slots.specs.Slots.{without}
 use Rattle.bac_store.specs.Stores.{Store}
 use Rattle.bac_protocol.specs.Server as server
 use Rattle.bac_protocol.specs.Server.{ServerTransaction}
+use Rattle.bac_protocol.specs.Service.{Octets}
 use Rattle.bac_transaction.specs.Ends.{ServerEnd, ServerTurn}
-use Rattle.bac_transaction.specs.Reuse.{reusing_turn}
+use Rattle.bac_transaction.specs.Reuse.{is_read, reusing_turn}
 use Rattle.bac_transaction.specs.Sends.{Datagram, Pairwise, IsSent, to_all}
 use Rattle.bac_transaction.specs.Services as services
 use Rattle.bac_transaction.specs.Services.{ArePerformed, service_of, store_after}
@@ -45,3 +47,16 @@ code_slots_left ends key slots = if ends then without code_same_key key slots el
 -- the turn that an APDU for the context's transaction makes of an end, with a store as the service
 abbrev pub reusing_turn_of : code.Context → Store → Apdu → ServerEnd → ServerTurn
 reusing_turn_of c s a e = reusing_turn (settings_view c.settings) c.moment (service_of s) (peer_key_view c.key) a e
+
+-- what a read says
+pub record Read : Type 0 where
+  pub choice : ℕ
+  pub limits : Limits
+  pub octets : Octets
+
+-- a read without SEG
+abbrev pub whole_read : Apdu → Option Read
+whole_read (ConfirmedRequest limits invoke_id None choice octets) =
+    if is_read choice then Some (record { choice = choice; limits = limits; octets = octets }) else None
+whole_read (ConfirmedRequest limits invoke_id (Some segment) choice octets) = None
+whole_read _ = None

@@ -1,6 +1,6 @@
 //! An APDU comes to a node that lets invoke IDs be used again: it may end the entry of its key, and a read may begin none. `Responder::on` calls `on_apdu`, in
 //! place of that of lookup, where the settings of its node say so.
-ghost use Rattle.std.specs.Prelude.{◌≡◌, ◌&&◌, ℕ, true};
+ghost use Rattle.std.specs.Prelude.{◌≡◌, ◌&&◌, ℕ, true, Some, None, MatchOption};
 ghost use Rattle.bac_apdu.specs.Views.{apdu_view, limits_view};
 ghost use Rattle.bac_slots.specs.Slots.{value_at};
 ghost use Rattle.bac_slots.specs.Ages.{IsKnownBy};
@@ -12,7 +12,7 @@ ghost use Rattle.bac_transaction.specs.Services.{service_of};
 ghost use Rattle.bac_transaction.specs.Views.{code_same_key, context_view, peer_key_view, peer_of};
 ghost use Rattle.bac_responder.specs.Aging.{AreAged, begins_request};
 ghost use Rattle.bac_responder.specs.Reactions.{BeginsAt, BeginsWhereFree};
-ghost use Rattle.bac_responder.specs.Reuse.{ReusingReacts, code_slots_left, reusing_turn_of};
+ghost use Rattle.bac_responder.specs.Reuse.{ReusingReacts, code_slots_left, reusing_turn_of, whole_read};
 ghost use Rattle.bac_responder.specs.TransactionViews.{state_view};
 ghost use Rattle.bac_responder.specs.Views.{end_of, Serves};
 
@@ -103,10 +103,13 @@ fn on_read(
     ensures begin { BeginsAt context.now.moment result }
 {
     let found = read_whole(alloc, terms.choice, octets)?;
-    let prepared = prepare_reply(alloc, context, terms, found, store)?;
-    if !prepared.state.goes_in_segments() {
-        let effect = commit(prepared.commit, store);
-        let sends = prepared.sends;
+    let PreparedReply {
+        state,
+        sends,
+        commit: change,
+    } = prepare_reply(alloc, context, terms, found, store)?;
+    if !state.goes_in_segments() {
+        let effect = commit(change, store);
         return Ok((Performed { sends, effect }, None));
     }
     if !free {
@@ -114,18 +117,35 @@ fn on_read(
         return Ok((Performed::sends(sends), None));
     }
     let request = Vec::from_slice(alloc, octets)?;
-    let effect = commit(prepared.commit, store);
-    let sends = prepared.sends;
+    let effect = commit(change, store);
     let origin = Origin {
         begin: context.moment,
         terms,
         request: Some(request),
     };
-    let transaction = ServerTransaction {
-        origin,
-        state: prepared.state,
-    };
+    let transaction = ServerTransaction { origin, state };
     Ok((Performed { sends, effect }, Some(transaction)))
+}
+
+/// What a read without SEG says; None of any other APDU.
+fn whole_read<'a>(apdu: &Apdu<'a>) -> Option<(Terms, &'a [u8])>
+    ensures { MatchOption result (whole_read (apdu_view apdu.now) ≡ None)
+        (λ x. whole_read (apdu_view apdu.now) ≡ Some (record { choice = x.0.choice; limits = limits_view x.0.limits; octets = x.1.now })) }
+{
+    let Apdu::ConfirmedRequest {
+        limits,
+        segment,
+        choice,
+        service,
+        ..
+    } = *apdu
+    else {
+        return None;
+    };
+    if segment.is_some() || !is_read(choice) {
+        return None;
+    }
+    Some((Terms { choice, limits }, service))
 }
 
 /// An APDU comes where no entry of its key is live, or none is left; `free` says whether a slot of the reply table has no live entry then.
@@ -141,21 +161,10 @@ fn idle_reusing(
     ensures free { BeginsWhereFree free result }
     ensures begin { BeginsAt context.now.moment result }
 {
-    let Apdu::ConfirmedRequest {
-        limits,
-        segment: None,
-        choice,
-        service,
-        ..
-    } = *apdu
-    else {
-        return idle_on_apdu(alloc, context, free, apdu, store);
-    };
-    if !is_read(choice) {
-        return idle_on_apdu(alloc, context, free, apdu, store);
+    match whole_read(apdu) {
+        Some((terms, octets)) => on_read(alloc, context, free, terms, octets, store),
+        None => idle_on_apdu(alloc, context, free, apdu, store),
     }
-    let terms = Terms { choice, limits };
-    on_read(alloc, context, free, terms, service, store)
 }
 
 /// Whether an APDU ends the entry of the key, if that is live.
