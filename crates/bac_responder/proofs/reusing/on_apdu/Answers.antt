@@ -9,8 +9,8 @@ use Rattle.bac_transaction.specs.declared.peer_key.PeerKey.{PeerKey}
 use Rattle.bac_responder.proofs.Reused.{goes_on_as}
 use Rattle.bac_responder.proofs.reusing.on_apdu.Goals as goal
 
-pub on_apdu_without_entry-requires-then-ends_entry-clause-none : goal.on_apdu_without_entry-requires-then-ends_entry-clause-none
-on_apdu_without_entry-requires-then-ends_entry-clause-none g c =
+pub on_apdu_without_entry-requires-clause-none : goal.on_apdu_without_entry-requires-clause-none
+on_apdu_without_entry-requires-clause-none g c =
     let now : ℕ = c.args.context.now.moment in
     let slots : List (Slot PeerKey ServerTransaction) = g.S.SlotTable.slots c.args.aged.now.table in
     let o : Option ServerTransaction = value_at code_same_key c.args.context.now.key slots in

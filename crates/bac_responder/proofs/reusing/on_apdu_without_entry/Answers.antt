@@ -101,8 +101,12 @@ enter-requires-clause-room g c =
     let left : ServerEnd = end_of (code_slots_left c.ends_entry-ends.result key slots) capacity c.args.restart in
     let free = rw c.in-Some.is at c.in_ok-performed.ensures.free in
     let there : is_free now left ≡ true = its_place (apdu_view c.args.apdu.now) (is_free now left) (sym c.has_place_left-free.ensures ∙ free refl) in
-    room now _ c.args.restart _
-    (ap (is_free now) (same_end _ _ _ _ c.args.restart c.end_entry.ensures.slots c.end_entry.ensures.same) ∙ there)
+    let after : List (Slot CodeKey ServerTransaction) = g.S.SlotTable.slots c.end_entry.new.aged.table in
+    let places : ℕ = g.S.SlotTable.capacity c.end_entry.new.aged.table in
+    let same : end_of after places c.args.restart ≡ left =
+    same_end after (code_slots_left c.ends_entry-ends.result key slots) places capacity c.args.restart c.end_entry.ensures.slots c.end_entry.ensures.same in
+    let open_there : is_free now (end_of after places c.args.restart) ≡ true = ap (is_free now) same ∙ there in
+    room now places c.args.restart after open_there
 
 pub returns-in-Some-clause-known : goal.returns-in-Some-clause-known
 returns-in-Some-clause-known g c =
