@@ -1,5 +1,5 @@
 -- The entry ends, none is live, or it goes on.
-use Rattle.std.proofs.Common.{◌≡◌, ◌∙◌, sym, ap, ℕ, Bool, List, Option, None, if◌then◌else◌}
+use Rattle.std.proofs.Common.{◌∙◌, sym, ap, ℕ, Bool, List, Option, None, if◌then◌else◌}
 use Rattle.bac_apdu.specs.Views.{apdu_view}
 use Rattle.bac_slots.specs.declared.slot.Slot.{Slot}
 use Rattle.bac_slots.specs.Slots.{value_at}
