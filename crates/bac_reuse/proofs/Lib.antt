@@ -1,3 +1,4 @@
 pub mod Computed
 pub mod Machine
 pub mod FreshReads
+pub mod Clients
