@@ -2,3 +2,4 @@ pub mod Computed
 pub mod Machine
 pub mod FreshReads
 pub mod Clients
+pub mod WorldSteps
