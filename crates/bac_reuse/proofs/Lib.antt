@@ -3,3 +3,4 @@ pub mod Machine
 pub mod FreshReads
 pub mod Clients
 pub mod WorldSteps
+pub mod Beside
