@@ -4,3 +4,4 @@ pub mod FreshReads
 pub mod Clients
 pub mod WorldSteps
 pub mod Beside
+pub mod Outcomes
