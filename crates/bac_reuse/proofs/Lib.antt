@@ -5,3 +5,4 @@ pub mod Clients
 pub mod WorldSteps
 pub mod Beside
 pub mod Outcomes
+pub mod Simulated

@@ -1,0 +1,211 @@
+-- A run in which servers let invoke IDs be used again is followed by a world of bac_protocol.
+use Rattle.std.proofs.Common.{◌≡◌, ℕ, suc, ◌+◌, ◌-◌, ◌<◌, ◌≤◌, ◌⊎◌, Bool, true, false, ◌&&◌, not, List, [], ◌∷◌, ◌++◌, length, map, Option, Some, None}
+use Rattle.std.proofs.Common.{slice_get, if◌then◌else◌, nat_eq, nat_le, refl, ap, sym, subst, inl, inr, ◌∙◌, arith}
+use Rattle.std.proofs.lemmas.Bool.Decides.{nat_tests}
+use Rattle.bac_apdu.specs.Apdu.{Apdu}
+use Rattle.bac_apdu.specs.Apdu.Apdu.{ConfirmedRequest, UnconfirmedRequest, SimpleAck, ComplexAck, SegmentAck, Error, Reject, Abort}
+use Rattle.bac_segment.specs.Window.{Outgoing, is_finished}
+use Rattle.bac_protocol.specs.declared.times.TheConstants.{KEEP}
+use Rattle.bac_protocol.specs.Context.{Context}
+use Rattle.bac_protocol.specs.Service.{Ending, OTHER, Octets, Request}
+use Rattle.bac_protocol.specs.Service.Ending.{Aborted}
+use Rattle.bac_protocol.specs.Wire.{Each, is_from_client}
+use Rattle.bac_protocol.specs.Client as client
+use Rattle.bac_protocol.specs.Client.{Ask, ClientTransaction, Phase, after, is_idle, request_of}
+use Rattle.bac_protocol.specs.Client.Phase.{AwaitConfirmation, Idle, SegmentedConf}
+use Rattle.bac_protocol.specs.Client.Reaction.{Ends, GoesOn, Repeats, Stays}
+use Rattle.bac_protocol.specs.Server as server
+use Rattle.bac_protocol.specs.Server.{Effect, ServerTransaction, Service, State, Transfer, is_live, server_on_apdu}
+use Rattle.bac_protocol.specs.Log.{Fact, Has, IsOrderly, StoreModel}
+use Rattle.bac_protocol.specs.Log.Fact.{Asked, Ended, Performed}
+use Rattle.bac_protocol.specs.Own.{IsOfServer}
+use Rattle.bac_protocol.specs.Reuse.{is_transfer_over, server_hears}
+use Rattle.bac_protocol.specs.Transaction.{Copy, Key, Rules, client_context, ended, performed, server_context}
+use Rattle.bac_protocol.specs.World.{Net, Post, World, client_acts, client_now, is_room, later, post_of, reacts, server_acts, server_now, serves, service_of, set_at, stored}
+use Rattle.bac_protocol.specs.Claims.{IsBounded, Moments, moments_of}
+use Rattle.bac_protocol.proofs.Alone.{one}
+use Rattle.bac_protocol.proofs.Facts.{Grows, all_map, grows_same}
+use Rattle.bac_protocol.proofs.Headline.{Kept, asked_once, net_log}
+use Rattle.bac_protocol.proofs.Keys.{decide_key, set_other, set_same}
+use Rattle.bac_protocol.proofs.Nets.{sound_at}
+use Rattle.bac_protocol.proofs.Own.{server_sends_own}
+use Rattle.bac_protocol.proofs.Served.{IsServed, gets_served}
+use Rattle.bac_protocol.proofs.Sound.{ClientFits, Down, DownFits, IsBegunFor, IsPastFor, Says, SendsDown, ServerFits, StateFits, Up}
+use Rattle.bac_protocol.proofs.Sound.Down.{Sent, Unsent}
+use Rattle.bac_reuse.specs.Once.{IsOnceSo}
+use Rattle.bac_reuse.specs.Runs.{ReadsChangeNothing, Reusing}
+use Rattle.bac_reuse.proofs.Beside.{AbortsOf, AreGone, AreLike, AreLogs, Fit, FitOf, Holds, IsForeign, IsLeftOf, IsLike, IsYoung, Own, WasRead, aborted, aborts_on}
+use Rattle.bac_reuse.proofs.Beside.{after_ask, after_idle, ended_grows, fit_on, foreign_more, foreign_on, fresh_is, given_answers, is_fresh, likes_aborts, likes_join}
+use Rattle.bac_reuse.proofs.Beside.{likes_map, likes_same, logs_effect, logs_ended, logs_ending, logs_read_effect, may_end, over, performed_grows, set_keeps}
+use Rattle.bac_reuse.proofs.Clients.{AbortsIf, IsAnswer}
+use Rattle.bac_reuse.proofs.FreshReads.{GoesAlone, IsFreshRead, IsFromServer, IsOfRead, all_from_server, given_from_server}
+use Rattle.bac_reuse.proofs.Machine.{EntryIs, IsClientAbort, IsFor, IsGiving, IsGone, IsRequestOf, OverIf}
+use Rattle.bac_reuse.proofs.Outcomes.{DoRest, DoSame, GivesOn, GoesApart, HoldsOn, Outcome, ReadsFresh, outcome}
+use Rattle.bac_reuse.proofs.WorldSteps.{BeginsAgain, IsInTime, IsSoon, aborts, copy_is_soon, entry_gets, entry_in_time, entry_ticks, reacts_keep, server_aborts}
+use Rattle.bac_reuse.proofs.WorldSteps.{soon_in_time}
+
+-- what comes of the transaction is of its ask
+pub says_of : (W : ℕ) (times : Moments) (number : ℕ) (ask : Ask) (log : List Fact) (up : Up) (down : Down) (moment k : ℕ) (a : Apdu)
+    → Says W times number ask log up down moment k a → IsRequestOf ask a
+says_of W times number ask log up down moment k (ConfirmedRequest limits id None choice octets) s = (s.1, s.2, s.3)
+says_of W times number ask log up down moment k (ConfirmedRequest limits id (Some segment) choice octets) s = (s.1, s.2)
+says_of W times number ask log up down moment k (UnconfirmedRequest choice octets) s = tt
+says_of W times number ask log up down moment k (SimpleAck id choice) s = tt
+says_of W times number ask log up down moment k (ComplexAck id segment choice octets) s = tt
+says_of W times number ask log up down moment k (SegmentAck from id ack) s = tt
+says_of W times number ask log up down moment k (Error id choice class code) s = tt
+says_of W times number ask log up down moment k (Reject id reason) s = tt
+says_of W times number ask log up down moment k (Abort from id reason) s = tt
+
+no_abort : (a : Apdu) → IsFromServer a → IsClientAbort a → ⊥
+no_abort (ConfirmedRequest limits id segment choice octets) from is = is
+no_abort (UnconfirmedRequest choice octets) from is = is
+no_abort (SimpleAck id choice) from is = is
+no_abort (ComplexAck id segment choice octets) from is = is
+no_abort (SegmentAck up id ack) from is = is
+no_abort (Error id choice class code) from is = is
+no_abort (Reject id reason) from is = is
+no_abort (Abort true id reason) from is = is
+no_abort (Abort false id reason) from is = let no : true ≡ false = from in cc
+
+server_aborts_of : (o : Option ClientTransaction) (a : Apdu) → IsFromServer a → AbortsOf o a
+server_aborts_of None a from = tt
+server_aborts_of (Some t) a from = λ is. absurd (no_abort a from is)
+
+-- where the last piece of a reply was acknowledged, its ticket has ended
+finished_phase : (W : ℕ) (ask : Ask) (phase : Phase) (up : Up) (down : Down) (out : Outgoing) → is_finished out ≡ true → ClientFits W ask phase up down
+    → DownFits W down → SendsDown W out down → is_idle phase ≡ true
+finished_phase W ask phase up Unsent out is fits download sends = absurd sends
+finished_phase W ask (Phase.SegmentedRequest o all_sent) up (Sent ps tk sn) out is fits download sends =
+    let some = download.some in
+    let first = sends.1.behind in
+    let none = fits.untaken in
+    let all : length out.pieces ≤ out.first = grind (arith, nat_tests) in
+    let same : length out.pieces ≡ length ps = ap length sends.0 in
+    absurd (omega arith)
+finished_phase W ask AwaitConfirmation up (Sent ps tk sn) out is fits download sends =
+    let some = download.some in
+    let first = sends.1.behind in
+    let none = fits.1 in
+    let all : length out.pieces ≤ out.first = grind (arith, nat_tests) in
+    let same : length out.pieces ≡ length ps = ap length sends.0 in
+    absurd (omega arith)
+finished_phase W ask (SegmentedConf inc) up (Sent ps tk sn) out is fits download sends =
+    let first = sends.1.behind in
+    let left = fits.left in
+    let all : length out.pieces ≤ out.first = grind (arith, nat_tests) in
+    let same : length out.pieces ≡ length ps = ap length sends.0 in
+    absurd (omega arith)
+finished_phase W ask Idle up (Sent ps tk sn) out is fits download sends = refl
+
+module _ (S : Type 0) (model : StoreModel S) (opening : ℕ → S) (W : ℕ) (x : Rules) (bound : IsBounded W x) (u : Reusing)
+    (nothing : ReadsChangeNothing S model u.reads) where
+  abbrev KeptAt : World S → Type 0
+  KeptAt w = Kept S model opening W x bound w
+
+  -- what the world has of its own fits the other
+  pub record Like (w : World S) (g : Own) : Type 0 where
+    pub posts : AreLike (IsLike w.net g.log) g.posts w.net.posts
+    pub entries : (key : Key) → Fit u key (server_now w.net key) (w.net.tickets key) (g.entries key) (w.net.entries key)
+    pub logs : AreLogs u.reads g.log w.net.log
+    pub once : IsOnceSo S model u.reads opening g.log w.stores
+
+  -- a world has another one beside it
+  abbrev pub IsFollowed : World S → Type 0
+  IsFollowed v = (w : World S) × (g : Own) × KeptAt w × Like w g × (v ≡ over S w g)
+
+  pub follows : (w : World S) (g : Own) → KeptAt w → Like w g → IsFollowed (over S w g)
+  follows w g s l = (w, g, s, l, refl)
+
+  pub moves : (f : World S → World S) → ((w : World S) (g : Own) → KeptAt w → Like w g → IsFollowed (f (over S w g))) → (v : World S) → IsFollowed v → IsFollowed (f v)
+  moves f step v h = subst (λ (y : World S). IsFollowed (f y)) (sym h.4) (step h.0 h.1 h.2 h.3)
+
+  module _ (w : World S) (g : Own) (s : KeptAt w) (l : Like w g) (key : Key) (t : ClientTransaction) (at : w.net.tickets key ≡ Some t) where
+    number : ℕ
+    number = w.net.numbers key
+
+    was_asked : Has (Asked (w.net.numbers key) key.client key.server (request_of t.ask)) w.net.log
+    was_asked = (sound_at W w.net key (Some t) at s.net).2.asked
+
+    -- The client acts.
+
+    module _ (r : client.Reaction) (silent : is_idle t.phase ≡ true → r ≡ Stays)
+        (steady : Each (AbortsIf (is_idle (after (client_now w.net key) t r).phase)) (client.sends_of r)) (o : Option Ending) where
+      next : ClientTransaction
+      next = after (client_now w.net key) t r
+
+      abbrev next_net : Net
+      next_net = client_acts w.net key t r
+
+      abbrev next_log : List Fact
+      next_log = ended (w.net.numbers key) o g.log
+
+      abbrev acted : Own
+      acted = record g { posts = g.posts ++ map (post_of key w.net.now) (client.sends_of r); log = ended (w.net.numbers key) o g.log }
+
+      same_ask : (after (client_now w.net key) t r).ask ≡ t.ask
+      same_ask = after_ask (client_now w.net key) t r
+
+      stays_idle : is_idle t.phase ≡ true → is_idle (after (client_now w.net key) t r).phase ≡ true
+      stays_idle = after_idle (client_now w.net key) t r silent
+
+      old_post : (p q : Post) → IsLike w.net g.log p q → IsLike (client_acts w.net key t r) (ended (w.net.numbers key) o g.log) p q
+      old_post p q (inl h) = inl (h.0, λ young.
+          set_keeps w.net.tickets key (Some (after (client_now w.net key) t r)) (λ j y. AbortsOf y p.copy.apdu) p.key (h.1 young)
+          (λ a. aborts_on t (after (client_now w.net key) t r) stays_idle p.copy.apdu (subst (λ y. AbortsOf y p.copy.apdu) at a)))
+      old_post p q (inr h) = inr (h.0, h.1, λ young.
+          set_keeps w.net.tickets key (Some (after (client_now w.net key) t r)) (λ j y. IsForeign (w.net.numbers j) y (ended (w.net.numbers key) o g.log) p.copy.apdu) p.key
+          (foreign_more (w.net.numbers p.key) (w.net.tickets p.key) g.log (ended (w.net.numbers key) o g.log) (ended_grows (w.net.numbers key) o g.log) p.copy.apdu (h.2 young))
+          (λ a. foreign_on (w.net.numbers key) t (after (client_now w.net key) t r) (ended (w.net.numbers key) o g.log) (ended (w.net.numbers key) o g.log) same_ask stays_idle
+          (grows_same (ended (w.net.numbers key) o g.log)) p.copy.apdu
+          (subst (λ y. IsForeign (w.net.numbers key) y (ended (w.net.numbers key) o g.log) p.copy.apdu) at a)))
+
+      new_post : (a : Apdu) → AbortsIf (is_idle (after (client_now w.net key) t r).phase) a
+          → IsLike (client_acts w.net key t r) (ended (w.net.numbers key) o g.log) (post_of key w.net.now a) (post_of key w.net.now a)
+      new_post a h = inl (refl, λ young. subst (λ (y : Option ClientTransaction). AbortsOf y a)
+          (sym (set_same w.net.tickets key (Some (after (client_now w.net key) t r)))) h)
+
+      client_like : AreLogs u.reads (ended (w.net.numbers key) o g.log) (client_acts w.net key t r).log
+          → IsOnceSo S model u.reads opening (ended (w.net.numbers key) o g.log) w.stores → Like (reacts S w key t r) acted
+      client_like logs once = record {
+        posts = likes_join (IsLike (client_acts w.net key t r) (ended (w.net.numbers key) o g.log)) g.posts w.net.posts
+            (map (post_of key w.net.now) (client.sends_of r)) (map (post_of key w.net.now) (client.sends_of r))
+            (likes_map (IsLike w.net g.log) (IsLike (client_acts w.net key t r) (ended (w.net.numbers key) o g.log)) g.posts w.net.posts
+            (λ n p q place h. old_post p q h) l.posts)
+            (likes_same (IsLike (client_acts w.net key t r) (ended (w.net.numbers key) o g.log)) key w.net.now (client.sends_of r)
+            (all_map (AbortsIf (is_idle (after (client_now w.net key) t r).phase))
+            (λ a. IsLike (client_acts w.net key t r) (ended (w.net.numbers key) o g.log) (post_of key w.net.now a) (post_of key w.net.now a)) new_post
+            (client.sends_of r) steady));
+        entries = λ k. set_keeps w.net.tickets key (Some (after (client_now w.net key) t r)) (λ j y. Fit u j (server_now w.net j) y (g.entries j) (w.net.entries j)) k
+            (l.entries k)
+            (λ h. fit_on u key (server_now w.net key) t (after (client_now w.net key) t r) same_ask stays_idle (g.entries key) (w.net.entries key)
+            (subst (λ y. Fit u key (server_now w.net key) y (g.entries key) (w.net.entries key)) at h));
+        logs = logs;
+        once = once;
+      }
+
+    -- both do the same
+    pub client_same : (r : client.Reaction) → (is_idle t.phase ≡ true → r ≡ Stays)
+        → Each (AbortsIf (is_idle (after (client_now w.net key) t r).phase)) (client.sends_of r) → KeptAt (reacts S w key t r)
+        → IsFollowed (reacts S (over S w g) key t r)
+    client_same r silent steady kept = (reacts S w key t r, acted r silent steady (client.ending_of r), kept,
+        client_like r silent steady (client.ending_of r) (logs_ending u.reads g.log w.net.log l.logs (w.net.numbers key) (client.ending_of r))
+        (go (client.ending_of r) (net_log W (client_acts w.net key t r) kept.net).orderly), refl)
+      where
+        go : (o : Option Ending) → IsOrderly (ended (w.net.numbers key) o w.net.log) → IsOnceSo S model u.reads opening (ended (w.net.numbers key) o g.log) w.stores
+        go None right = l.once
+        go (Some how) right = (w.stores, (may_end u.reads g.log w.net.log l.logs (w.net.numbers key) how right.0, l.logs.unended (w.net.numbers key) right.1, λ node. refl), l.once)
+
+    -- both end, each in its own way
+    pub client_ended : is_idle t.phase ≡ false → (sends : List Apdu) (how other : Ending) → Each (AbortsIf true) sends
+        → KeptAt (reacts S w key t (Ends sends other))
+        → Rattle.bac_protocol.specs.Log.MayEnd (w.net.numbers key) how g.log → IsFollowed (reacts S (over S w g) key t (Ends sends how))
+    client_ended going sends how other steady kept may = (reacts S w key t (Ends sends other), acted (Ends sends other) silent steady (Some how), kept,
+        client_like (Ends sends other) silent steady (Some how) (logs_ended u.reads g.log w.net.log l.logs (w.net.numbers key) how other)
+        (w.stores, (may, l.logs.unended (w.net.numbers key) right.1, λ node. refl), l.once), refl)
+      where
+        silent : is_idle t.phase ≡ true → Ends sends other ≡ Stays
+        silent idle = absurd (let no : true ≡ false = sym idle ∙ going in cc)
+
+        right : IsOrderly (Ended (w.net.numbers key) other ∷ w.net.log)
+        right = (net_log W (client_acts w.net key t (Ends sends other)) kept.net).orderly
