@@ -16,7 +16,7 @@ use Rattle.bac_protocol.specs.Client.Phase.{AwaitConfirmation, Idle, SegmentedCo
 use Rattle.bac_protocol.specs.Client.Reaction.{Ends, GoesOn, Repeats, Stays}
 use Rattle.bac_protocol.specs.Server as server
 use Rattle.bac_protocol.specs.Server.{Effect, ServerTransaction, Service, State, Transfer, is_live, server_on_apdu}
-use Rattle.bac_protocol.specs.Log.{Fact, Has, IsOrderly, StoreModel}
+use Rattle.bac_protocol.specs.Log.{Fact, Has, IsOrderly, IsUnperformed, MayEnd, StoreModel}
 use Rattle.bac_protocol.specs.Log.Fact.{Asked, Ended, Performed}
 use Rattle.bac_protocol.specs.Own.{IsOfServer}
 use Rattle.bac_protocol.specs.Reuse.{is_transfer_over, server_hears}
@@ -199,7 +199,7 @@ module _ (S : Type 0) (model : StoreModel S) (opening : ℕ → S) (W : ℕ) (x 
     -- both end, each in its own way
     pub client_ended : is_idle t.phase ≡ false → (sends : List Apdu) (how other : Ending) → Each (AbortsIf true) sends
         → KeptAt (reacts S w key t (Ends sends other))
-        → Rattle.bac_protocol.specs.Log.MayEnd (w.net.numbers key) how g.log → IsFollowed (reacts S (over S w g) key t (Ends sends how))
+        → MayEnd (w.net.numbers key) how g.log → IsFollowed (reacts S (over S w g) key t (Ends sends how))
     client_ended going sends how other steady kept may = (reacts S w key t (Ends sends other), acted (Ends sends other) silent steady (Some how), kept,
         client_like (Ends sends other) silent steady (Some how) (logs_ended u.reads g.log w.net.log l.logs (w.net.numbers key) how other)
         (w.stores, (may, l.logs.unended (w.net.numbers key) right.1, λ node. refl), l.once), refl)
@@ -209,3 +209,145 @@ module _ (S : Type 0) (model : StoreModel S) (opening : ℕ → S) (W : ℕ) (x 
 
         right : IsOrderly (Ended (w.net.numbers key) other ∷ w.net.log)
         right = (net_log W (client_acts w.net key t (Ends sends other)) kept.net).orderly
+
+    -- The server acts.
+
+    -- what a server performs for the ask, in both
+    pub once_effect : (o : Option Effect) → IsServed (service_of S model w key) o → IsOrderly (performed (w.net.numbers key) o w.net.log)
+        → IsOnceSo S model u.reads opening (performed (w.net.numbers key) o g.log) (stored S model key.server o w.stores)
+    once_effect None is right = l.once
+    once_effect (Some e) is right = (w.stores, (
+      key.client,
+      key.server,
+      l.logs.asked (w.net.numbers key) key.client key.server e.request (subst (λ r. Has (Asked (w.net.numbers key) key.client key.server r) w.net.log) same was_asked),
+      before (l.logs.unperformed (w.net.numbers key) right.1),
+      is,
+      λ node. refl,
+    ), l.once)
+      where
+        same : request_of t.ask ≡ e.request
+        same = asked_once (w.net.numbers key) key.client key.server right.0.0 right.0.1 (request_of t.ask) e.request w.net.log right.2 was_asked right.0.2
+
+        before : IsUnperformed (w.net.numbers key) g.log ⊎ WasRead u.reads (w.net.numbers key) w.net.log
+            → IsUnperformed (w.net.numbers key) g.log ⊎ (u.reads e.request.choice ≡ true)
+        before (inl un) = inl un
+        before (inr read) = inr (subst (λ (q : Request). u.reads q.choice ≡ true)
+            (asked_once (w.net.numbers key) read.0 read.1 right.0.0 right.0.1 read.2 e.request w.net.log right.2 read.3 right.0.2) read.4)
+
+    -- what it performs for a read, where the other performs nothing
+    module _ (read : u.reads t.ask.choice ≡ true) where
+      reads_request : (y : Effect) → y.request ≡ request_of t.ask → u.reads y.request.choice ≡ true
+      reads_request y same = subst (λ (q : Request). u.reads q.choice ≡ true) (sym same) read
+
+      was_read : WasRead u.reads (w.net.numbers key) w.net.log
+      was_read = (key.client, key.server, request_of t.ask, was_asked, read)
+
+      unchanged : (y : Effect) → y.request ≡ request_of t.ask → (node : ℕ)
+          → (if nat_eq node key.server then model.after (w.stores key.server) y.request else w.stores node) ≡ w.stores node
+      unchanged y same node = go (nat_eq node key.server) refl
+        where
+          go : (b : Bool) → nat_eq node key.server ≡ b → (if b then model.after (w.stores key.server) y.request else w.stores node) ≡ w.stores node
+          go true is = let at : key.server ≡ node = grind (arith, nat_tests) in nothing (w.stores key.server) y.request (reads_request y same) ∙ ap w.stores at
+          go false is = refl
+
+      stored_read : (o : Option Effect) → IsOfRead (service_of S model w key) t.ask o → stored S model key.server o w.stores ≡ w.stores
+      stored_read None of = refl
+      stored_read (Some y) of = λ i node. unchanged y of.0 node i
+
+      once_read : (o : Option Effect) → IsOfRead (service_of S model w key) t.ask o
+          → IsOnceSo S model u.reads opening (performed (w.net.numbers key) o g.log) w.stores
+      once_read None of = l.once
+      once_read (Some y) of = (w.stores, (
+        key.client,
+        key.server,
+        l.logs.asked (w.net.numbers key) key.client key.server y.request
+            (subst (λ r. Has (Asked (w.net.numbers key) key.client key.server r) w.net.log) (sym of.0) was_asked),
+        inr (reads_request y of.0),
+        of.1,
+        λ node. sym (unchanged y of.0 node),
+      ), l.once)
+
+    module _ (v v' : server.Reaction) where
+      abbrev acts : Own
+      acts = record {
+        entries = set_at g.entries key v.entry;
+        posts = g.posts ++ map (post_of key w.net.now) v.sends;
+        log = performed (w.net.numbers key) v.effect g.log;
+      }
+
+      abbrev IsLikeNow : Post → Post → Type 0
+      IsLikeNow = IsLike (server_acts w.net key v') (performed (w.net.numbers key) v.effect g.log)
+
+      kept_post : (p q : Post) → IsLike w.net g.log p q → IsLikeNow p q
+      kept_post p q (inl h) = inl h
+      kept_post p q (inr h) = inr (h.0, h.1, λ young. foreign_more (w.net.numbers p.key) (w.net.tickets p.key) g.log (performed (w.net.numbers key) v.effect g.log)
+          (performed_grows (w.net.numbers key) v.effect g.log) p.copy.apdu (h.2 young))
+
+      entry_fits : Fit u key (server_now w.net key) (Some t) v.entry v'.entry → (k : Key)
+          → Fit u k (server_now w.net k) (w.net.tickets k) (set_at g.entries key v.entry k) (set_at w.net.entries key v'.entry k)
+      entry_fits fit k = go (decide_key key k)
+        where
+          abbrev_fit : (o p : Option ServerTransaction) → Type 0
+          abbrev_fit o p = Fit u key (server_now w.net key) (w.net.tickets key) o p
+
+          go : ((key ≡ k) ⊎ (key ≡ k → ⊥)) → Fit u k (server_now w.net k) (w.net.tickets k) (set_at g.entries key v.entry k) (set_at w.net.entries key v'.entry k)
+          go (inl is) = subst (λ (j : Key). Fit u j (server_now w.net j) (w.net.tickets j) (set_at g.entries key v.entry j) (set_at w.net.entries key v'.entry j)) is
+              (subst (λ (o : Option ServerTransaction). Fit u key (server_now w.net key) (w.net.tickets key) o (set_at w.net.entries key v'.entry key))
+              (sym (set_same g.entries key v.entry))
+              (subst (λ (o : Option ServerTransaction). Fit u key (server_now w.net key) (w.net.tickets key) v.entry o) (sym (set_same w.net.entries key v'.entry))
+              (subst (λ (y : Option ClientTransaction). Fit u key (server_now w.net key) y v.entry v'.entry) (sym at) fit)))
+          go (inr ne) = subst (λ (o : Option ServerTransaction). Fit u k (server_now w.net k) (w.net.tickets k) o (set_at w.net.entries key v'.entry k))
+              (sym (set_other g.entries key v.entry k ne))
+              (subst (λ (o : Option ServerTransaction). Fit u k (server_now w.net k) (w.net.tickets k) (g.entries k) o) (sym (set_other w.net.entries key v'.entry k ne))
+              (l.entries k))
+
+      server_goes : KeptAt (serves S model w key v') → AreLike IsLikeNow (map (post_of key w.net.now) v.sends) (map (post_of key w.net.now) v'.sends)
+          → Fit u key (server_now w.net key) (Some t) v.entry v'.entry
+          → AreLogs u.reads (performed (w.net.numbers key) v.effect g.log) (performed (w.net.numbers key) v'.effect w.net.log)
+          → IsOnceSo S model u.reads opening (performed (w.net.numbers key) v.effect g.log) (stored S model key.server v'.effect w.stores)
+          → stored S model key.server v.effect w.stores ≡ stored S model key.server v'.effect w.stores → IsFollowed (serves S model (over S w g) key v)
+      server_goes kept sends fit logs once stores = (serves S model w key v', acts, kept, record {
+        posts = likes_join IsLikeNow g.posts w.net.posts (map (post_of key w.net.now) v.sends) (map (post_of key w.net.now) v'.sends)
+            (likes_map (IsLike w.net g.log) IsLikeNow g.posts w.net.posts (λ n p q place h. kept_post p q h) l.posts) sends;
+        entries = entry_fits fit;
+        logs = logs;
+        once = once;
+      }, λ i. record { net = (serves S model (over S w g) key v).net; stores = stores i })
+
+    -- what the server sends in both
+    new_sends : (v v' : server.Reaction) (sends : List Apdu) → Each IsFromServer sends
+        → AreLike (IsLikeNow v v') (map (post_of key w.net.now) sends) (map (post_of key w.net.now) sends)
+    new_sends v v' sends from = likes_same (IsLikeNow v v') key w.net.now sends
+        (all_map IsFromServer (λ a. IsLikeNow v v' (post_of key w.net.now a) (post_of key w.net.now a))
+        (λ a is. inl (refl, λ young. server_aborts_of (w.net.tickets key) a is)) sends from)
+
+    -- both do the same
+    pub server_same : (v : server.Reaction) → KeptAt (serves S model w key v) → Each IsFromServer v.sends → IsServed (service_of S model w key) v.effect
+        → Fit u key (server_now w.net key) (Some t) v.entry v.entry → IsFollowed (serves S model (over S w g) key v)
+    server_same v kept from is fit = server_goes v v kept (new_sends v v v.sends from) fit
+        (logs_effect u.reads g.log w.net.log l.logs (w.net.numbers key) v.effect)
+        (once_effect v.effect is (net_log W (server_acts w.net key v) kept.net).orderly) refl
+
+    -- both keep what they have
+    pub server_rests : (o p : Option ServerTransaction) (sends : List Apdu) → KeptAt (serves S model w key (server.rests p sends)) → Each IsFromServer sends
+        → AreGone (server_now w.net key) o p → IsFollowed (serves S model (over S w g) key (server.rests o sends))
+    server_rests o p sends kept from gone = server_goes (server.rests o sends) (server.rests p sends) kept
+        (new_sends (server.rests o sends) (server.rests p sends) sends from) (inl gone) l.logs l.once refl
+
+    -- the other sends Aborts
+    foreign_sends : (v v' : server.Reaction) → Each (λ a. IsFromServer a × IsForeign (w.net.numbers key) (Some t) (performed (w.net.numbers key) v.effect g.log) a) v.sends
+        → AreLike (IsLikeNow v v') (map (post_of key w.net.now) v.sends) (map (post_of key w.net.now) (aborts key.invoke_id v.sends))
+    foreign_sends v v' each = likes_aborts (IsLikeNow v v') key w.net.now v.sends
+        (all_map (λ a. IsFromServer a × IsForeign (w.net.numbers key) (Some t) (performed (w.net.numbers key) v.effect g.log) a)
+        (λ a. IsLikeNow v v' (post_of key w.net.now a) (post_of key w.net.now (Abort true key.invoke_id OTHER)))
+        (λ a h. inr (refl, h.0, λ young. subst (λ (y : Option ClientTransaction). IsForeign (w.net.numbers key) y (performed (w.net.numbers key) v.effect g.log) a) (sym at) h.1))
+        v.sends each)
+
+    pub server_alone : (read : u.reads t.ask.choice ≡ true) (v : server.Reaction) (o : Option ServerTransaction)
+        → KeptAt (serves S model w key (server.rests o (aborts key.invoke_id v.sends)))
+        → Each (λ a. IsFromServer a × IsForeign (w.net.numbers key) (Some t) (performed (w.net.numbers key) v.effect g.log) a) v.sends
+        → IsOfRead (service_of S model w key) t.ask v.effect → Fit u key (server_now w.net key) (Some t) v.entry o
+        → IsFollowed (serves S model (over S w g) key v)
+    server_alone read v o kept each of fit = server_goes v (server.rests o (aborts key.invoke_id v.sends)) kept
+        (foreign_sends v (server.rests o (aborts key.invoke_id v.sends)) each) fit
+        (logs_read_effect u.reads g.log w.net.log l.logs (w.net.numbers key) v.effect (was_read read)) (once_read read v.effect of) (stored_read read v.effect of)
