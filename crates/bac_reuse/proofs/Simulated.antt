@@ -27,10 +27,10 @@ use Rattle.bac_protocol.proofs.Alone.{one}
 use Rattle.bac_protocol.proofs.Facts.{Grows, all_map, grows_same}
 use Rattle.bac_protocol.proofs.Headline.{Kept, asked_once, net_log}
 use Rattle.bac_protocol.proofs.Keys.{decide_key, set_other, set_same}
-use Rattle.bac_protocol.proofs.Nets.{sound_at}
+use Rattle.bac_protocol.proofs.Nets.{room_opens, sound_at}
 use Rattle.bac_protocol.proofs.Own.{server_sends_own}
 use Rattle.bac_protocol.proofs.Served.{IsServed, gets_served}
-use Rattle.bac_protocol.proofs.Sound.{ClientFits, Down, DownFits, IsBegunFor, IsPastFor, Says, SendsDown, ServerFits, StateFits, Up}
+use Rattle.bac_protocol.proofs.Sound.{ClientFits, Down, DownFits, IsBegunFor, IsPastFor, Says, SendsDown, ServerFits, Sound, StateFits, Up}
 use Rattle.bac_protocol.proofs.Sound.Down.{Sent, Unsent}
 use Rattle.bac_reuse.specs.Once.{IsOnceSo}
 use Rattle.bac_reuse.specs.Runs.{ReadsChangeNothing, Reusing}
@@ -39,7 +39,7 @@ use Rattle.bac_reuse.proofs.Beside.{after_ask, after_idle, ended_grows, fit_on, 
 use Rattle.bac_reuse.proofs.Beside.{likes_map, likes_same, logs_effect, logs_ended, logs_ending, logs_read_effect, may_end, over, performed_grows, set_keeps}
 use Rattle.bac_reuse.proofs.Clients.{AbortsIf, IsAnswer}
 use Rattle.bac_reuse.proofs.FreshReads.{GoesAlone, IsFreshRead, IsFromServer, IsOfRead, all_from_server, given_from_server}
-use Rattle.bac_reuse.proofs.Machine.{EntryIs, IsClientAbort, IsFor, IsGiving, IsGone, IsRequestOf, OverIf}
+use Rattle.bac_reuse.proofs.Machine.{EntryIs, IsClientAbort, IsFor, IsGiving, IsGone, IsRequestOf, OverBy, OverIf}
 use Rattle.bac_reuse.proofs.Outcomes.{DoRest, DoSame, GivesOn, GoesApart, HoldsOn, Outcome, ReadsFresh, outcome}
 use Rattle.bac_reuse.proofs.WorldSteps.{BeginsAgain, IsInTime, IsSoon, aborts, copy_is_soon, entry_gets, entry_in_time, entry_ticks, reacts_keep, server_aborts}
 use Rattle.bac_reuse.proofs.WorldSteps.{soon_in_time}
@@ -351,3 +351,155 @@ module _ (S : Type 0) (model : StoreModel S) (opening : ℕ → S) (W : ℕ) (x 
     server_alone read v o kept each of fit = server_goes v (server.rests o (aborts key.invoke_id v.sends)) kept
         (foreign_sends v (server.rests o (aborts key.invoke_id v.sends)) each) fit
         (logs_read_effect u.reads g.log w.net.log l.logs (w.net.numbers key) v.effect (was_read read)) (once_read read v.effect of) (stored_read read v.effect of)
+
+    -- An entry that both have.
+
+    finished_idle : (v : server.Reaction) → KeptAt (serves S model w key v) → (d : ServerTransaction) → v.entry ≡ Some d → is_live (server_now w.net key) d ≡ true
+        → (out : Outgoing) (transfer : Transfer) (since : ℕ) → d.state ≡ State.SegmentedResponse out transfer since → is_finished out ≡ true → is_idle t.phase ≡ true
+    finished_idle v kept d is live out transfer since of finished = go (subst Fits (set_same w.net.entries key v.entry ∙ is) (f.2).server)
+      where
+        f : (up : Up) × (down : Down) × Sound W key (moments_of w.net key) w.net.asks (w.net.numbers key) t (set_at w.net.entries key v.entry key)
+            (one (server_acts w.net key v) key).copies (performed (w.net.numbers key) v.effect w.net.log) up down
+        f = sound_at W (server_acts w.net key v) key (Some t) at kept.net
+
+        Fits : Option ServerTransaction → Type 0
+        Fits o = ServerFits W (moments_of w.net key) (w.net.numbers key) t.ask o f.0 f.1 (performed (w.net.numbers key) v.effect w.net.log)
+
+        by_state : (st : State) → st ≡ State.SegmentedResponse out transfer since
+            → StateFits W (w.net.numbers key) t.ask st f.0 f.1 (performed (w.net.numbers key) v.effect w.net.log) → is_idle t.phase ≡ true
+        by_state st same fits = finished_phase W t.ask t.phase f.0 f.1 out finished (f.2).client (f.2).download
+            (subst (λ (y : State). StateFits W (w.net.numbers key) t.ask y f.0 f.1 (performed (w.net.numbers key) v.effect w.net.log)) same fits).sends
+
+        go : IsPastFor (moments_of w.net key) (w.net.numbers key) t.ask d f.0 f.1 (performed (w.net.numbers key) v.effect w.net.log)
+            ⊎ IsBegunFor W (moments_of w.net key) (w.net.numbers key) t.ask d f.0 f.1 (performed (w.net.numbers key) v.effect w.net.log) → is_idle t.phase ≡ true
+        go (inl past) = let dead = past.dead in absurd (grind (arith, nat_tests))
+        go (inr begun) = by_state d.state of begun.state
+
+    holds_next : (v : server.Reaction) → KeptAt (serves S model w key v) → (service : Service) (a : Apdu) → (IsClientAbort a → is_idle t.phase ≡ true) → (b : Bool)
+        → EntryIs (HoldsOn (server_context x key (server_now w.net key)) service b (is_idle t.phase) t.ask a) v.entry → EntryIs (Holds b (is_idle t.phase) t.ask) v.entry
+    holds_next v kept service a gave_up b h = go v.entry refl b h
+      where
+        c : Context
+        c = server_context x key (server_now w.net key)
+
+        over_by : (d : ServerTransaction) → v.entry ≡ Some d → is_live (server_now w.net key) d ≡ true → (before : Transfer)
+            → (is_transfer_over before ≡ true → is_idle t.phase ≡ true) → (st : State) → d.state ≡ st
+            → OverBy (server_context x key (server_now w.net key)) service a before st → OverIf (is_idle t.phase ≡ true) st
+        over_by d is live before was (State.SegmentedRequest inc since) at k = tt
+        over_by d is live before was (State.Done done) at k = tt
+        over_by d is live before was State.Dropped at k = tt
+        over_by d is live before was (State.SegmentedResponse out transfer since) of k = λ ended. cause (k ended)
+          where
+            cause : (is_finished out ≡ true) ⊎ (IsClientAbort a ⊎ (is_transfer_over before ≡ true)) → is_idle t.phase ≡ true
+            cause (inl finished) = finished_idle v kept d is live out transfer since of finished
+            cause (inr (inl abort)) = gave_up abort
+            cause (inr (inr old)) = was old
+
+        go : (o : Option ServerTransaction) → v.entry ≡ o → (b : Bool)
+            → EntryIs (HoldsOn (server_context x key (server_now w.net key)) service b (is_idle t.phase) t.ask a) o → EntryIs (Holds b (is_idle t.phase) t.ask) o
+        go None is b h = absurd h
+        go (Some d) is true h = (h.gives, over_by d is h.live h.before h.was d.state refl h.over)
+        go (Some d) is false h = h
+
+    fit_at : FitOf (server_now w.net key) (is_fresh u key t.ask) (is_idle t.phase) t.ask (g.entries key) (w.net.entries key)
+    fit_at = subst (λ (y : Option ClientTransaction). Fit u key (server_now w.net key) y (g.entries key) (w.net.entries key)) at (l.entries key)
+
+    idle_foreign : (log : List Fact) → is_idle t.phase ≡ true → (sends : List Apdu) → Each IsFromServer sends
+        → Each (λ a. IsFromServer a × IsForeign (w.net.numbers key) (Some t) log a) sends
+    idle_foreign log idle sends from = all_map IsFromServer (λ a. IsFromServer a × IsForeign (w.net.numbers key) (Some t) log a) (λ a is. (is, inl idle)) sends from
+
+    -- A copy of the client's arrives.
+
+    module _ (k : ℕ) (few : k ≤ x.overtake) (p : Copy) (place : slice_get (one w.net key).copies k ≡ Some p) (young : w.net.now - p.moment ≤ w.net.pace.life)
+        (way : is_from_client p.apdu ≡ true) (gave_up : IsClientAbort p.apdu → is_idle t.phase ≡ true) (free : Bool) where
+      abbrev told : Context
+      told = server_context x key (server_now w.net key)
+
+      abbrev ours : server.Reaction
+      ours = server_hears (u.reuses key.server) told (service_of S model w key) u.reads (g.entries key) (is_room w.net key free) p.apdu
+
+      abbrev theirs : server.Reaction
+      theirs = server_on_apdu told (service_of S model w key) (w.net.entries key) (is_room w.net key free) p.apdu
+
+      kept_theirs : KeptAt (serves S model w key theirs)
+      kept_theirs =
+          let f = sound_at W w.net key (Some t) at s.net in
+          entry_gets S model opening W x bound w s key t at k few p place young way ((f.2).arriving k p place young).1 free
+
+      of_ask : IsRequestOf t.ask p.apdu
+      of_ask =
+          let f = sound_at W w.net key (Some t) at s.net in
+          says_of W (moments_of w.net key) (w.net.numbers key) t.ask w.net.log f.0 f.1 p.moment k p.apdu ((f.2).arriving k p place young).1
+
+      is_soon : IsSoon w.net key
+      is_soon = copy_is_soon S model opening W x bound w s key t at k p place young way
+
+      from_theirs : Each IsFromServer theirs.sends
+      from_theirs = all_from_server key.invoke_id theirs.sends
+          (server_sends_own.gets told (service_of S model w key) (w.net.entries key) (is_room w.net key free) p.apdu (s.calm key).own).0
+
+      abbrev Goes : server.Reaction → Type 0
+      Goes v = IsFollowed (serves S model (over S w g) key v)
+
+      apart_goes : (v : server.Reaction) → GoesApart told (service_of S model w key) (is_fresh u key t.ask) (is_idle t.phase) t.ask (is_room w.net key free) (w.net.entries key) v
+          → Goes v
+      apart_goes v h = by (h.goes).entry
+        where
+          read : u.reads t.ask.choice ≡ true
+          read = (fresh_is u key t.ask h.is_fresh).read
+
+          time : IsInTime w.net key
+          time = soon_in_time w.net key is_soon
+
+          each : Each (λ a. IsFromServer a × IsForeign (w.net.numbers key) (Some t) (performed (w.net.numbers key) v.effect g.log) a) v.sends
+          each = idle_foreign (performed (w.net.numbers key) v.effect g.log) h.is_idle v.sends (h.goes).sends
+
+          -- the other's entry stays
+          stays : IsLeftOf h.entry v.entry → Goes v
+          stays left = server_alone read v (w.net.entries key)
+              (server_aborts S model opening W x bound w s key t at time v.sends (w.net.entries key) (inl refl)) each (h.goes).of
+              (inr (inr (h.is_fresh, h.is_idle, subst (λ (o : Option ServerTransaction). EntryIs (λ e. IsLeftOf e v.entry) o) (sym h.is) left)))
+
+          -- it begins anew
+          again : is_room w.net key free ≡ true → IsLeftOf (record (h.entry) { begin = server_now w.net key }) v.entry → Goes v
+          again room left = server_alone read v (Some (record (h.entry) { begin = server_now w.net key }))
+              (server_aborts S model opening W x bound w s key t at time v.sends (Some (record (h.entry) { begin = server_now w.net key }))
+              (inr (h.entry, h.is, h.live, refl, is_soon, room_opens w.net key free room))) each (h.goes).of
+              (inr (inr (h.is_fresh, h.is_idle, left)))
+
+          there : (o : Option ServerTransaction) → v.entry ≡ o
+              → EntryIs (λ d. IsGiving d.state × ((d.begin ≡ h.entry.begin) ⊎ ((d.begin ≡ server_now w.net key) × (is_room w.net key free ≡ true)))) o → Goes v
+          there None is q = absurd q
+          there (Some d) is q = so q.1
+            where
+              so : (d.begin ≡ h.entry.begin) ⊎ ((d.begin ≡ server_now w.net key) × (is_room w.net key free ≡ true)) → Goes v
+              so (inl same) = stays (subst (IsLeftOf h.entry) (sym is) (same, q.0))
+              so (inr new) = again new.1 (subst (IsLeftOf (record (h.entry) { begin = server_now w.net key })) (sym is) (new.0, q.0))
+
+          by : (v.entry ≡ None) ⊎ EntryIs (λ d. IsGiving d.state × ((d.begin ≡ h.entry.begin) ⊎ ((d.begin ≡ server_now w.net key) × (is_room w.net key free ≡ true)))) v.entry
+              → Goes v
+          by (inl none) = stays (subst (IsLeftOf h.entry) (sym none) tt)
+          by (inr some) = there v.entry refl some
+
+      fresh_goes : (v : server.Reaction) → ReadsFresh told (service_of S model w key) (is_fresh u key t.ask) t.ask (g.entries key) (w.net.entries key) v → Goes v
+      fresh_goes v h = subst Goes (sym (h.2).is) (server_alone (fresh_is u key t.ask h.0).read
+          (record { entry = g.entries key; sends = (h.2).answer ∷ []; effect = (h.2).effect }) (w.net.entries key)
+          (server_aborts S model opening W x bound w s key t at (soon_in_time w.net key is_soon) ((h.2).answer ∷ []) (w.net.entries key) (inl refl))
+          ((given_from_server told t.ask (h.2).effect (h.2).answer (h.2).given, inr (given_answers (w.net.numbers key) t.ask g.log told (h.2).effect (h.2).answer (h.2).given
+          (λ y is. (subst (IsOfRead (service_of S model w key) t.ask) is (h.2).of).0))), tt)
+          (h.2).of (inl h.1))
+
+      pub copy_comes : IsFollowed (serves S model (over S w g) key ours)
+      copy_comes = go (outcome told (service_of S model w key) u key t.ask (is_idle t.phase) (is_room w.net key free) (is_fresh u key t.ask) refl p.apdu of_ask
+          (g.entries key) (w.net.entries key) fit_at)
+        where
+          go : Outcome told (service_of S model w key) (is_fresh u key t.ask) (is_idle t.phase) t.ask (is_room w.net key free) p.apdu (g.entries key) (w.net.entries key) ours theirs
+              → Goes ours
+          go (inl h) = subst Goes (sym h.0) (server_same theirs kept_theirs from_theirs
+              (gets_served told (service_of S model w key) (w.net.entries key) (is_room w.net key free) p.apdu)
+              (inr (inl (refl, holds_next theirs kept_theirs (service_of S model w key) p.apdu gave_up (is_fresh u key t.ask) h.1))))
+          go (inr (inl h)) = subst Goes (sym (h.1).1) (server_rests (g.entries key) (w.net.entries key) (h.1).0
+              (subst (λ (v : server.Reaction). KeptAt (serves S model w key v)) (h.1).2 kept_theirs)
+              (subst (λ (v : server.Reaction). Each IsFromServer v.sends) (h.1).2 from_theirs) h.0)
+          go (inr (inr (inl h))) = fresh_goes ours h
+          go (inr (inr (inr h))) = apart_goes ours h
