@@ -171,7 +171,7 @@ module _ (c : Context) (service : Service) (ask : Ask) where
     alone_none free begin (Reject id reason) is = nothing_alone free begin
     alone_none free begin (Abort up id reason) is = nothing_alone free begin
 
-    giving_own : (id : ℕ) (st : State) → IsGiving st → StateHas (IsOfServer id) (λ window. Unit {0}) st
+    pub giving_own : (id : ℕ) (st : State) → IsGiving st → StateHas (IsOfServer id) (λ window. Unit {0}) st
     giving_own id (State.SegmentedRequest inc since) h = absurd h
     giving_own id (Done kept) h = absurd h
     giving_own id (SegmentedResponse out transfer since) h = tt

@@ -29,7 +29,7 @@ use Rattle.bac_protocol.proofs.Headline.{Kept, asked_once, net_log}
 use Rattle.bac_protocol.proofs.Keys.{decide_key, set_other, set_same}
 use Rattle.bac_protocol.proofs.Nets.{room_opens, sound_at}
 use Rattle.bac_protocol.proofs.Own.{server_sends_own}
-use Rattle.bac_protocol.proofs.Served.{IsServed, gets_served}
+use Rattle.bac_protocol.proofs.Served.{IsServed, gets_served, ticks_quiet}
 use Rattle.bac_protocol.proofs.Sound.{ClientFits, Down, DownFits, IsBegunFor, IsPastFor, Says, SendsDown, ServerFits, Sound, StateFits, Up}
 use Rattle.bac_protocol.proofs.Sound.Down.{Sent, Unsent}
 use Rattle.bac_reuse.specs.Once.{IsOnceSo}
@@ -38,8 +38,8 @@ use Rattle.bac_reuse.proofs.Beside.{AbortsOf, AreGone, AreLike, AreLogs, Fit, Fi
 use Rattle.bac_reuse.proofs.Beside.{after_ask, after_idle, ended_grows, fit_on, foreign_more, foreign_on, fresh_is, given_answers, is_fresh, likes_aborts, likes_join}
 use Rattle.bac_reuse.proofs.Beside.{likes_map, likes_same, logs_effect, logs_ended, logs_ending, logs_read_effect, may_end, over, performed_grows, set_keeps}
 use Rattle.bac_reuse.proofs.Clients.{AbortsIf, IsAnswer}
-use Rattle.bac_reuse.proofs.FreshReads.{GoesAlone, IsFreshRead, IsFromServer, IsOfRead, all_from_server, given_from_server}
-use Rattle.bac_reuse.proofs.Machine.{EntryIs, IsClientAbort, IsFor, IsGiving, IsGone, IsRequestOf, OverBy, OverIf}
+use Rattle.bac_reuse.proofs.FreshReads.{GoesAlone, IsFreshRead, IsFromServer, IsOfRead, all_from_server, given_from_server, giving_own}
+use Rattle.bac_reuse.proofs.Machine.{EntryIs, GoesOnFrom, IsClientAbort, IsFor, IsGiving, IsGone, IsRequestOf, OverBy, OverIf, gone_ticks, ticks_for, ticks_gives, ticks_over}
 use Rattle.bac_reuse.proofs.Outcomes.{DoRest, DoSame, GivesOn, GoesApart, HoldsOn, Outcome, ReadsFresh, outcome}
 use Rattle.bac_reuse.proofs.WorldSteps.{BeginsAgain, IsInTime, IsSoon, aborts, copy_is_soon, entry_gets, entry_in_time, entry_ticks, reacts_keep, server_aborts}
 use Rattle.bac_reuse.proofs.WorldSteps.{soon_in_time}
@@ -503,3 +503,119 @@ module _ (S : Type 0) (model : StoreModel S) (opening : ℕ → S) (W : ℕ) (x 
               (subst (λ (v : server.Reaction). Each IsFromServer v.sends) (h.1).2 from_theirs) h.0)
           go (inr (inr (inl h))) = fresh_goes ours h
           go (inr (inr (inr h))) = apart_goes ours h
+
+    -- The entry ticks.
+
+    abbrev ticking : Context
+    ticking = server_context x key (server_now w.net key)
+
+    abbrev Ticks : server.Reaction → Type 0
+    Ticks v = IsFollowed (serves S model (over S w g) key v)
+
+    kept_ticks : KeptAt (serves S model w key (server.server_ticks ticking (w.net.entries key)))
+    kept_ticks = entry_ticks S model opening W x bound w s key t at
+
+    from_ticks : Each IsFromServer (server.server_ticks ticking (w.net.entries key)).sends
+    from_ticks = all_from_server key.invoke_id (server.server_ticks ticking (w.net.entries key)).sends
+        (server_sends_own.ticks ticking (w.net.entries key) (s.calm key).own).0
+
+    gone_tick : AreGone (server_now w.net key) (g.entries key) (w.net.entries key) → Ticks (server.server_ticks ticking (g.entries key))
+    gone_tick gone = subst Ticks (sym (gone_ticks ticking (service_of S model w key) (g.entries key) gone.0)) (server_rests (g.entries key) (w.net.entries key) []
+        (subst (λ (v : server.Reaction). KeptAt (serves S model w key v)) (gone_ticks ticking (service_of S model w key) (w.net.entries key) gone.1) kept_ticks) tt gone)
+
+    dead_now : (e : ServerTransaction) → is_live (server_now w.net key) e ≡ false → e.begin + KEEP < server_now w.net key
+    dead_now e dead = grind (arith, nat_tests)
+
+    -- a tick is no Abort of the client: any other APDU stands for it
+    abbrev no_apdu : Apdu
+    no_apdu = Reject 0 0
+
+    ticks_hold : (b : Bool) (e : ServerTransaction) → is_live (server_now w.net key) e ≡ true → Holds b (is_idle t.phase) t.ask e
+        → EntryIs (HoldsOn ticking (service_of S model w key) b (is_idle t.phase) t.ask no_apdu) (server.server_ticks ticking (Some e)).entry
+    ticks_hold false e live h = ticks_for ticking (service_of S model w key) t.ask e live h
+    ticks_hold true e live h = by e.state refl h.0 h.1
+      where
+        join : (transfer : Transfer) → (is_transfer_over transfer ≡ true → is_idle t.phase ≡ true) → (o : Option ServerTransaction)
+            → EntryIs (GoesOnFrom ticking (service_of S model w key) e) o → EntryIs (λ d. OverBy ticking (service_of S model w key) no_apdu transfer d.state) o
+            → EntryIs (GivesOn ticking (service_of S model w key) (is_idle t.phase) no_apdu) o
+        join transfer was None f k = absurd f
+        join transfer was (Some d) f k = record {
+          gives = f.1;
+          live = subst (λ n. nat_le (server_now w.net key - n) KEEP ≡ true) (sym f.0) live;
+          before = transfer;
+          over = k;
+          was = was;
+        }
+
+        by : (st : State) → e.state ≡ st → IsGiving st → OverIf (is_idle t.phase ≡ true) st
+            → EntryIs (GivesOn ticking (service_of S model w key) (is_idle t.phase) no_apdu) (server.server_ticks ticking (Some e)).entry
+        by (State.SegmentedRequest inc since) of gives k = absurd gives
+        by (State.Done kept) of gives k = absurd gives
+        by (State.SegmentedResponse out transfer since) of gives k = join transfer k (server.server_ticks ticking (Some e)).entry
+            (ticks_gives ticking (service_of S model w key) e live h.0) (ticks_over ticking (service_of S model w key) e out transfer since of live no_apdu)
+        by State.Dropped of gives k = absurd gives
+
+    same_tick : g.entries key ≡ w.net.entries key → (o : Option ServerTransaction) → w.net.entries key ≡ o
+        → EntryIs (Holds (is_fresh u key t.ask) (is_idle t.phase) t.ask) o → Ticks (server.server_ticks ticking (g.entries key))
+    same_tick same None is h = absurd h
+    same_tick same (Some e) is h = by (is_live (server_now w.net key) e) refl
+      where
+        by : (b : Bool) → is_live (server_now w.net key) e ≡ b → Ticks (server.server_ticks ticking (g.entries key))
+        by false dead = gone_tick (subst (IsGone (server_now w.net key)) (sym (same ∙ is)) (dead_now e dead), subst (IsGone (server_now w.net key)) (sym is) (dead_now e dead))
+        by true live = subst (λ (o : Option ServerTransaction). Ticks (server.server_ticks ticking o)) (sym same)
+            (server_same (server.server_ticks ticking (w.net.entries key)) kept_ticks from_ticks
+            (subst (IsServed (service_of S model w key)) (sym (ticks_quiet ticking (w.net.entries key))) tt)
+            (inr (inl (refl, holds_next (server.server_ticks ticking (w.net.entries key)) kept_ticks (service_of S model w key) no_apdu (λ abort. absurd abort)
+            (is_fresh u key t.ask)
+            (subst (λ (o : Option ServerTransaction). EntryIs (HoldsOn ticking (service_of S model w key) (is_fresh u key t.ask) (is_idle t.phase) t.ask no_apdu)
+            (server.server_ticks ticking o).entry) (sym is) (ticks_hold (is_fresh u key t.ask) e live h))))))
+
+    apart_tick : is_fresh u key t.ask ≡ true → is_idle t.phase ≡ true → (o : Option ServerTransaction) → g.entries key ≡ o → (e : ServerTransaction)
+        → w.net.entries key ≡ Some e → IsLeftOf e o → Ticks (server.server_ticks ticking o)
+    apart_tick fresh idle o ours e theirs left = by (is_live (server_now w.net key) e) refl
+      where
+        left_gone : (q : Option ServerTransaction) → IsLeftOf e q → e.begin + KEEP < server_now w.net key → IsGone (server_now w.net key) q
+        left_gone None k dead = tt
+        left_gone (Some d) k dead = let same = k.0 in omega (arith, dead)
+
+        alone : (v : server.Reaction) → is_live (server_now w.net key) e ≡ true → Each IsFromServer v.sends → v.effect ≡ None → IsLeftOf e v.entry → Ticks v
+        alone v live from quiet k = server_alone (fresh_is u key t.ask fresh).read v (w.net.entries key)
+            (server_aborts S model opening W x bound w s key t at (entry_in_time S model opening W x bound w s key t at e theirs live) v.sends (w.net.entries key) (inl refl))
+            (idle_foreign (performed (w.net.numbers key) v.effect g.log) idle v.sends from)
+            (subst (IsOfRead (service_of S model w key) t.ask) (sym quiet) tt)
+            (inr (inr (fresh, idle, subst (λ (q : Option ServerTransaction). EntryIs (λ d. IsLeftOf d v.entry) q) (sym theirs) k)))
+
+        left_on : (d : ServerTransaction) → d.begin ≡ e.begin → (q : Option ServerTransaction) → EntryIs (GoesOnFrom ticking (service_of S model w key) d) q → IsLeftOf e q
+        left_on d same None k = absurd k
+        left_on d same (Some f) k = (k.0 ∙ same, k.1)
+
+        live_tick : (q : Option ServerTransaction) → IsLeftOf e q → is_live (server_now w.net key) e ≡ true → Ticks (server.server_ticks ticking q)
+        live_tick None k live = alone (server.rests None []) live tt refl tt
+        live_tick (Some d) k live =
+            let lives : is_live (server_now w.net key) d ≡ true = subst (λ n. nat_le (server_now w.net key - n) KEEP ≡ true) (sym k.0) live in
+            alone (server.server_ticks ticking (Some d)) live
+            (all_from_server key.invoke_id (server.server_ticks ticking (Some d)).sends
+            (server_sends_own.ticks ticking (Some d) (giving_own ticking (service_of S model w key) t.ask u.reads (fresh_is u key t.ask fresh).read
+            (fresh_is u key t.ask fresh).whole key.invoke_id d.state k.1)).0)
+            (ticks_quiet ticking (Some d))
+            (left_on d k.0 (server.server_ticks ticking (Some d)).entry (ticks_gives ticking (service_of S model w key) d lives k.1))
+
+        by : (b : Bool) → is_live (server_now w.net key) e ≡ b → Ticks (server.server_ticks ticking o)
+        by true live = live_tick o left live
+        by false dead = subst (λ (q : Option ServerTransaction). Ticks (server.server_ticks ticking q)) ours
+            (gone_tick (subst (IsGone (server_now w.net key)) (sym ours) (left_gone o left (dead_now e dead)),
+            subst (IsGone (server_now w.net key)) (sym theirs) (dead_now e dead)))
+
+    pub ticks_on : Ticks (server.server_ticks ticking (g.entries key))
+    ticks_on = by fit_at
+      where
+        apart : is_fresh u key t.ask ≡ true → is_idle t.phase ≡ true → (o : Option ServerTransaction) → w.net.entries key ≡ o → EntryIs (λ e. IsLeftOf e (g.entries key)) o
+            → Ticks (server.server_ticks ticking (g.entries key))
+        apart fresh idle None is left = absurd left
+        apart fresh idle (Some e) is left = apart_tick fresh idle (g.entries key) refl e is left
+
+        by : FitOf (server_now w.net key) (is_fresh u key t.ask) (is_idle t.phase) t.ask (g.entries key) (w.net.entries key)
+            → Ticks (server.server_ticks ticking (g.entries key))
+        by (inl gone) = gone_tick gone
+        by (inr (inl same)) = same_tick same.0 (w.net.entries key) refl same.1
+        by (inr (inr h)) = apart h.0 h.1 (w.net.entries key) refl h.2
