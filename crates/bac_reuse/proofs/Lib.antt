@@ -6,3 +6,4 @@ pub mod WorldSteps
 pub mod Beside
 pub mod Outcomes
 pub mod Simulated
+pub mod Followed
