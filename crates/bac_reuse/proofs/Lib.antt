@@ -7,3 +7,4 @@ pub mod Beside
 pub mod Outcomes
 pub mod Simulated
 pub mod Followed
+pub mod Claimed
