@@ -14,11 +14,11 @@ use Rattle.bac_protocol.specs.Client.{Ask, ClientTransaction, after, is_idle, re
 use Rattle.bac_protocol.specs.Client.Reaction.{Ends, GoesOn, Repeats, Stays}
 use Rattle.bac_protocol.specs.Context.{Context}
 use Rattle.bac_protocol.specs.Server.{Effect, ServerTransaction, State, reply_apdu}
-use Rattle.bac_protocol.specs.Log.{Fact, Has, IsUnended, IsUnperformed, MayEnd, WasAsked, asks_in}
+use Rattle.bac_protocol.specs.Log.{Fact, Has, IsUnended, IsUnendedAway, IsUnperformed, MayEnd, WasAsked, asks_in}
 use Rattle.bac_protocol.specs.Service.Ending.{Aborted, Answered, Expired, Rejected, TimedOut}
 use Rattle.bac_protocol.specs.Log.Fact.{Asked, AskedAway, Changed, Ended, EndedAway, Performed, Restarted, Served}
 use Rattle.bac_protocol.specs.Reuse.{Reads}
-use Rattle.bac_protocol.specs.Transaction.{Key, ended, performed}
+use Rattle.bac_protocol.specs.Transaction.{Key, ended, ended_away, performed, served}
 use Rattle.bac_protocol.specs.World.{Net, Post, World, count_of, later, post_of, same_key, set_at}
 use Rattle.bac_protocol.proofs.Facts.{Grows}
 use Rattle.bac_protocol.proofs.Keys.{decide_key, set_other, set_same}
@@ -33,10 +33,14 @@ pub record Own : Type 0 where
   pub entries : Key → Option ServerTransaction
   pub posts : List Post
   pub log : List Fact
+  pub far_entries : Key → Option ServerTransaction  -- of strangers
 
 -- all else is the other's
 abbrev pub over : (S : Type 0) → World S → Own → World S
-over S w g = record { net = record (w.net) { entries = g.entries; posts = g.posts; log = g.log }; stores = w.stores }
+over S w g = record {
+  net = record (w.net) { entries = g.entries; posts = g.posts; log = g.log; far = record (w.net.far) { entries = g.far_entries } };
+  stores = w.stores;
+}
 
 -- Tables.
 
@@ -299,6 +303,8 @@ pub record AreLogs (reads : Reads) (ours theirs : List Fact) : Type 0 where
   pub unended : (n : ℕ) → IsUnended n theirs → IsUnended n ours
   pub unperformed : (n : ℕ) → IsUnperformed n theirs → IsUnperformed n ours ⊎ WasRead reads n theirs
   pub counted : asks_in ours ≡ asks_in theirs
+  pub asked_away : (n c q : ℕ) (r : Request) → Has (AskedAway n c q r) theirs → Has (AskedAway n c q r) ours
+  pub unended_away : (n : ℕ) → IsUnendedAway n theirs → IsUnendedAway n ours
 
 has_more : (f g : Fact) (ours theirs : List Fact) → (Has g theirs → Has g ours) → Has g (f ∷ theirs) → Has g (f ∷ ours)
 has_more f g ours theirs k (inl is) = inl is
@@ -321,8 +327,20 @@ module _ (reads : Reads) (ours theirs : List Fact) (h : AreLogs reads ours their
     unended = unended f;
     unperformed = unperformed f;
     counted = counted f;
+    asked_away = λ n c q r. has_more f (AskedAway n c q r) ours theirs (h.asked_away n c q r);
+    unended_away = unended_away f;
   }
     where
+      unended_away : (f : Fact) (n : ℕ) → IsUnendedAway n (f ∷ theirs) → IsUnendedAway n (f ∷ ours)
+      unended_away (Asked m c s r) n k = h.unended_away n k
+      unended_away (Performed m r p) n k = h.unended_away n k
+      unended_away (Ended m how) n k = h.unended_away n k
+      unended_away (Changed s c) n k = h.unended_away n k
+      unended_away (Restarted s o) n k = h.unended_away n k
+      unended_away (Served q s i b r p) n k = h.unended_away n k
+      unended_away (AskedAway m c q r) n k = h.unended_away n k
+      unended_away (EndedAway m how) n k = (k.0, h.unended_away n k.1)
+
       unended : (f : Fact) (n : ℕ) → IsUnended n (f ∷ theirs) → IsUnended n (f ∷ ours)
       unended (Asked m c s r) n k = h.unended n k
       unended (Performed m r p) n k = h.unended n k
@@ -361,6 +379,8 @@ module _ (reads : Reads) (ours theirs : List Fact) (h : AreLogs reads ours their
     unended = h.unended;
     unperformed = λ m k. go m (decide m n) (h.unperformed m k);
     counted = h.counted;
+    asked_away = λ m c q a k. inr (h.asked_away m c q a k);
+    unended_away = h.unended_away;
   }
     where
       decide : (a b : ℕ) → (b ≡ a) ⊎ (b ≢ a)
@@ -383,8 +403,14 @@ module _ (reads : Reads) (ours theirs : List Fact) (h : AreLogs reads ours their
     unended = λ m k. (k.0, h.unended m k.1);
     unperformed = λ m k. go m (h.unperformed m k);
     counted = h.counted;
+    asked_away = λ m c q a k. inr (h.asked_away m c q a (asked_away m c q a k));
+    unended_away = h.unended_away;
   }
     where
+      asked_away : (m c q : ℕ) (a : Request) → Has (AskedAway m c q a) (Ended n other ∷ theirs) → Has (AskedAway m c q a) theirs
+      asked_away m c q a (inl is) = absurd cc
+      asked_away m c q a (inr k) = k
+
       asked : (m c s : ℕ) (q : Request) → Has (Asked m c s q) (Ended n other ∷ theirs) → Has (Asked m c s q) theirs
       asked m c s q (inl is) = absurd cc
       asked m c s q (inr k) = k
@@ -396,6 +422,23 @@ module _ (reads : Reads) (ours theirs : List Fact) (h : AreLogs reads ours their
       go : (m : ℕ) → IsUnperformed m ours ⊎ WasRead reads m theirs → IsUnperformed m (Ended n how ∷ ours) ⊎ WasRead reads m (Ended n other ∷ theirs)
       go m (inl un) = inl un
       go m (inr was) = inr (read_more reads m (Ended n other) theirs was)
+
+  -- a request of a stranger is performed in one
+  pub logs_served : (key : Key) (begin : ℕ) (o : Option Effect) → AreLogs reads (served key begin o ours) theirs
+  logs_served key begin None = h
+  logs_served key begin (Some e) = record {
+    asked = λ m c s q k. inr (h.asked m c s q k);
+    performed = λ m q a k. inr (h.performed m q a k);
+    unended = h.unended;
+    unperformed = h.unperformed;
+    counted = h.counted;
+    asked_away = λ m c q a k. inr (h.asked_away m c q a k);
+    unended_away = h.unended_away;
+  }
+
+  pub logs_ending_away : (n : ℕ) (o : Option Ending) → AreLogs reads (ended_away n o ours) (ended_away n o theirs)
+  logs_ending_away n None = h
+  logs_ending_away n (Some how) = logs_both (EndedAway n how)
 
   pub may_end : (n : ℕ) (how : Ending) → MayEnd n how theirs → MayEnd n how ours
   may_end n (Answered p) k = (k.0, h.performed n k.0 p k.1)
@@ -423,3 +466,11 @@ ended_grows n (Some how) log f h = inr h
 pub performed_grows : (n : ℕ) (o : Option Effect) (log : List Fact) → Grows log (performed n o log)
 performed_grows n None log f h = h
 performed_grows n (Some e) log f h = inr h
+
+pub served_grows : (key : Key) (begin : ℕ) (o : Option Effect) (log : List Fact) → Grows log (served key begin o log)
+served_grows key begin None log f h = h
+served_grows key begin (Some e) log f h = inr h
+
+pub ended_away_grows : (n : ℕ) (o : Option Ending) (log : List Fact) → Grows log (ended_away n o log)
+ended_away_grows n None log f h = h
+ended_away_grows n (Some how) log f h = inr h

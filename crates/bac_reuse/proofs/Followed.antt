@@ -28,7 +28,7 @@ use Rattle.bac_protocol.proofs.Asks.{IsSpent}
 use Rattle.bac_protocol.proofs.Calm.{spent_free}
 use Rattle.bac_protocol.proofs.Dead.{ended_is_silent}
 use Rattle.bac_protocol.proofs.Facts.{Grows, all_map, grows_more}
-use Rattle.bac_protocol.proofs.Headline.{Kept, event_kept, net_log, start_kept}
+use Rattle.bac_protocol.proofs.Headline.{net_log}
 use Rattle.bac_protocol.proofs.Keys.{copy_at, decide_key, set_nothing, set_other, set_same}
 use Rattle.bac_protocol.proofs.Nets.{sound_at}
 use Rattle.bac_protocol.proofs.Paces.{shows_on}
@@ -39,7 +39,8 @@ use Rattle.bac_reuse.proofs.Beside.{like_key, likes_join, likes_later, likes_map
 use Rattle.bac_reuse.proofs.Clients.{AbortsIf, EndsAsAborted, IsAnswer, answer_comes, asks_steady, gets_steady, steady_ends, ticks_steady}
 use Rattle.bac_reuse.proofs.Machine.{IsGone, gone_ticks}
 use Rattle.bac_reuse.proofs.Simulated.{IsFollowed, Like, client_ended, client_same, copy_comes, follows, moves, ticks_on}
-use Rattle.bac_reuse.proofs.WorldSteps.{client_ends, ticket_gets, ticket_stays, ticket_ticks}
+use Rattle.bac_reuse.proofs.WorldSteps.{Stands, ask_stands, change_stands, client_ends, client_restart_stands, server_restart_stands, starts_standing, ticket_gets}
+use Rattle.bac_reuse.proofs.WorldSteps.{ticket_stays, ticket_ticks, time_stands}
 
 all_there : (posts : List Post) → posts ++ [] ≡ posts
 all_there [] = refl
@@ -63,7 +64,7 @@ fit_lost u key now (Some t) ours theirs h = fit_on u key now t (record t { phase
 module _ (S : Type 0) (model : StoreModel S) (opening : ℕ → S) (W : ℕ) (x : Rules) (bound : IsBounded W x) (u : Reusing)
     (nothing : ReadsChangeNothing S model u.reads) where
   abbrev KeptAt : World S → Type 0
-  KeptAt w = Kept S model opening W x bound w
+  KeptAt w = Stands W w.net
 
   abbrev LikeAt : World S → Own → Type 0
   LikeAt w g = Like S model opening W x bound u nothing w g
@@ -95,18 +96,18 @@ module _ (S : Type 0) (model : StoreModel S) (opening : ℕ → S) (W : ℕ) (x 
           let r = client.client_on_apdu told x.readable t p.copy.apdu in
           client_same S model opening W x bound u nothing w g s l p.key t at r (ended_is_silent.gets told x.readable t p.copy.apdu)
           (steady_ends (client_now w.net p.key) t r (gets_steady told x.readable t p.copy.apdu))
-          (ticket_gets S model opening W x bound w s p.key t at p.copy.moment (later p.key number w.net.posts) few p.copy.apdu
+          (ticket_gets S model W x bound w s p.key t at p.copy.moment (later p.key number w.net.posts) few p.copy.apdu
           ((f.2).arriving (later p.key number w.net.posts) p.copy (place same) young).1)
 
       stays : Goes Stays
-      stays = client_same S model opening W x bound u nothing w g s l p.key t at Stays (λ idle. refl) tt (ticket_stays S model opening W x bound w s p.key t at)
+      stays = client_same S model opening W x bound u nothing w g s l p.key t at Stays (λ idle. refl) tt (ticket_stays S model W x bound w s p.key t at)
 
       abort_copy : Goes (client.client_on_apdu told x.readable t (Abort true p.key.invoke_id OTHER))
       abort_copy =
           let r = client.client_on_apdu told x.readable t (Abort true p.key.invoke_id OTHER) in
           client_same S model opening W x bound u nothing w g s l p.key t at r (ended_is_silent.gets told x.readable t (Abort true p.key.invoke_id OTHER))
           (steady_ends (client_now w.net p.key) t r (gets_steady told x.readable t (Abort true p.key.invoke_id OTHER)))
-          (ticket_gets S model opening W x bound w s p.key t at 0 (later p.key number w.net.posts) few (Abort true p.key.invoke_id OTHER) (omega arith))
+          (ticket_gets S model W x bound w s p.key t at 0 (later p.key number w.net.posts) few (Abort true p.key.invoke_id OTHER) (omega arith))
 
       was_asked : WasAsked (w.net.numbers p.key) g.log
       was_asked =
@@ -128,7 +129,7 @@ module _ (S : Type 0) (model : StoreModel S) (opening : ℕ → S) (W : ℕ) (x 
           go (inr (inl is)) = subst Goes (sym is) stays
           go (inr (inr e)) = subst Goes (sym e.ends.is) (client_ended S model opening W x bound u nothing w g s l p.key t at e.going e.ends.sends e.ends.how
               (Aborted OTHER) (steady_ends (client_now w.net p.key) t (Ends e.ends.sends e.ends.how) tt)
-              (client_ends S model opening W x bound w s p.key t at e.going e.early e.aborted e.ends.sends e.ends.few) e.ends.may)
+              (client_ends S model W x bound w s p.key t at e.going e.early e.aborted e.ends.sends e.ends.few) e.ends.may)
 
       comes : Goes (client.client_on_apdu told x.readable t p.copy.apdu)
       comes = go like
@@ -196,7 +197,7 @@ module _ (S : Type 0) (model : StoreModel S) (opening : ℕ → S) (W : ℕ) (x 
       let c = client_context x key (client_now w.net key) in
       let r = client.client_ticks c t in
       client_same S model opening W x bound u nothing w g s l key t at r (ended_is_silent.ticks c t)
-      (steady_ends (client_now w.net key) t r (ticks_steady c t)) (ticket_ticks S model opening W x bound w s key t at)
+      (steady_ends (client_now w.net key) t r (ticks_steady c t)) (ticket_ticks S model W x bound w s key t at)
 
   clients_ticked : (keys : List Key) (v : World S) → Follows v → Follows (ticks_as_client S x keys v)
   clients_ticked [] v h = h
@@ -216,7 +217,7 @@ module _ (S : Type 0) (model : StoreModel S) (opening : ℕ → S) (W : ℕ) (x 
       nothing_done = ap (λ (v : server.Reaction). serves S model (over S w g) key v)
           (gone_ticks (server_context x key (server_now w.net key)) (λ choice octets. model.outcome (w.stores key.server) choice octets) (g.entries key) gone.0)
           ∙ (λ i. record {
-            net = record (w.net) { entries = set_nothing g.entries key (g.entries key) refl i; posts = all_there g.posts i; log = g.log };
+            net = record ((over S w g).net) { entries = set_nothing g.entries key (g.entries key) refl i; posts = all_there g.posts i };
             stores = w.stores;
           })
 
@@ -247,11 +248,10 @@ module _ (S : Type 0) (model : StoreModel S) (opening : ℕ → S) (W : ℕ) (x 
     sends = client.sends_of (client.asks asking ask)
 
     abbrev asked : Own
-    asked = record { entries = g.entries; posts = g.posts ++ map (post_of key w.net.now) sends; log = fact ∷ g.log }
+    asked = record g { posts = g.posts ++ map (post_of key w.net.now) sends; log = fact ∷ g.log }
 
     kept_ask : KeptAt (ask_made S x w key ask)
-    kept_ask = subst (λ (b : Bool). KeptAt (if b then w else ask_made S x w key ask)) free
-        (event_kept S model opening W x bound w s (MakeAsk key choice whole front rest))
+    kept_ask = ask_stands W w.net s x bound key choice whole front rest free
 
     spent : IsSpent (one w.net key)
     spent = spent_free W w.net s.net s.calm key free
@@ -320,7 +320,7 @@ module _ (S : Type 0) (model : StoreModel S) (opening : ℕ → S) (W : ℕ) (x 
         foreign_more (w.net.numbers p.key) (w.net.tickets p.key) g.log (f ∷ g.log) (grows_more f g.log) p.copy.apdu (h.2 young))
 
     time_passes : (by : ℕ) (clients servers : ℕ → ℕ) → Follows (happens S model x (over S w g) (Advance by clients servers))
-    time_passes by clients servers = (happens S model x w (Advance by clients servers), g, event_kept S model opening W x bound w s (Advance by clients servers), record {
+    time_passes by clients servers = (happens S model x w (Advance by clients servers), g, time_stands W w.net s by clients servers, record {
       posts = likes_map (IsLike w.net g.log) (IsLike (passes w.net by clients servers) g.log) g.posts w.net.posts (λ n p q at h. later_post p q h) l.posts;
       entries = λ k. fit_later u k (server_now w.net k) (server_now (passes w.net by clients servers) k)
           (shows_on w.net.pace (s.calm k).timely.some by (servers k.server) (w.net.server_clocks k.server) (s.calm k).server) (w.net.tickets k) (g.entries k)
@@ -340,7 +340,7 @@ module _ (S : Type 0) (model : StoreModel S) (opening : ℕ → S) (W : ℕ) (x 
     change_made node change = (
       happens S model x w (Change node change),
       record g { log = Changed node change ∷ g.log },
-      event_kept S model opening W x bound w s (Change node change),
+      change_stands W w.net s node change,
       record {
         posts = likes_map (IsLike w.net g.log) (IsLike w.net (Changed node change ∷ g.log)) g.posts w.net.posts (λ n p q at h. more_post (Changed node change) p q h) l.posts;
         entries = l.entries;
@@ -353,8 +353,12 @@ module _ (S : Type 0) (model : StoreModel S) (opening : ℕ → S) (W : ℕ) (x 
     server_restarts : (node exact : ℕ) (store : Option Octets) → Follows (happens S model x (over S w g) (RestartServer node exact store))
     server_restarts node exact store = (
       happens S model x w (RestartServer node exact store),
-      record g { entries = λ key. if nat_eq key.server node then None else g.entries key; log = Restarted node store ∷ g.log },
-      event_kept S model opening W x bound w s (RestartServer node exact store),
+      record g {
+        entries = λ key. if nat_eq key.server node then None else g.entries key;
+        log = Restarted node store ∷ g.log;
+        far_entries = λ key. if nat_eq key.server node then None else g.far_entries key;
+      },
+      server_restart_stands W w.net s node exact store,
       record {
         posts = likes_map (IsLike w.net g.log) (IsLike w.net (Restarted node store ∷ g.log)) g.posts w.net.posts (λ n p q at h. more_post (Restarted node store) p q h) l.posts;
         entries = λ k. fits k (nat_eq k.server node);
@@ -370,7 +374,7 @@ module _ (S : Type 0) (model : StoreModel S) (opening : ℕ → S) (W : ℕ) (x 
         fits k false = l.entries k
 
     client_restarts : (node exact : ℕ) → Follows (happens S model x (over S w g) (RestartClient node exact))
-    client_restarts node exact = (happens S model x w (RestartClient node exact), g, event_kept S model opening W x bound w s (RestartClient node exact), record {
+    client_restarts node exact = (happens S model x w (RestartClient node exact), g, client_restart_stands W w.net s node exact, record {
       posts = likes_map (IsLike w.net g.log) (IsLike (client_restarted w.net node exact) g.log) g.posts w.net.posts (λ n p q at h. lost_post p q h) l.posts;
       entries = λ k. fits k (nat_eq k.client node);
       logs = l.logs;
@@ -431,12 +435,12 @@ module _ (S : Type 0) (model : StoreModel S) (opening : ℕ → S) (W : ℕ) (x 
     starts : Follows (start S pace clocks opening)
     starts = (
       start S pace clocks opening,
-      record { entries = λ key. None; posts = []; log = [] },
-      start_kept S model opening W x bound pace timely clocks,
+      record { entries = λ key. None; posts = []; log = []; far_entries = λ key. None },
+      starts_standing W pace clocks timely,
       record {
         posts = tt;
         entries = λ key. (tt, tt);
-        logs = record { asked = λ n c s r h. h; performed = λ n r p h. h; unended = λ n h. h; unperformed = λ n h. inl h; counted = refl };
+        logs = record { asked = λ n c s r h. h; performed = λ n r p h. h; unended = λ n h. h; unperformed = λ n h. inl h; counted = refl; asked_away = λ n c q r h. h; unended_away = λ n h. h };
         once = λ node. refl;
       },
       refl,

@@ -1,8 +1,9 @@
 -- What comes of a read in one APDU at a server that lets invoke IDs be used again.
-use Rattle.std.proofs.Common.{◌≡◌, ℕ, ◌⊎◌, Bool, true, false, ◌&&◌, ◌||◌, not, List, [], ◌∷◌, ◌++◌, Option, Some, None, if◌then◌else◌, refl, ap, sym, subst, inl, inr, ◌∙◌}
-use Rattle.bac_apdu.specs.Apdu.{Apdu, Limits}
+use Rattle.std.proofs.Common.{◌≡◌, ℕ, ◌⊎◌, Bool, true, false, ◌&&◌, ◌||◌, not, List, [], ◌∷◌, ◌++◌, Option, Some, None, if◌then◌else◌, nat_eq, refl, ap, sym, subst, inl, inr, ◌∙◌}
+use Rattle.bac_apdu.specs.Apdu.{Apdu, Limits, Segment}
 use Rattle.bac_apdu.specs.Apdu.Apdu.{ConfirmedRequest, UnconfirmedRequest, SimpleAck, ComplexAck, SegmentAck, Error, Reject, Abort}
 use Rattle.bac_segment.specs.Pieces.{join}
+use Rattle.bac_segment.specs.Window.{incoming, takes}
 use Rattle.bac_protocol.specs.Context.{Context}
 use Rattle.bac_protocol.specs.Service.{OTHER, Octets, Outcome, Reply as reply}
 use Rattle.bac_protocol.specs.Service.Outcome.{Replies, Rejects}
@@ -12,12 +13,13 @@ use Rattle.bac_protocol.specs.Wire.{Each, is_from_client, is_from_server}
 use Rattle.bac_protocol.specs.Client.{Ask, request_of}
 use Rattle.bac_protocol.specs.Own.{IsOfServer, StateHas}
 use Rattle.bac_protocol.specs.Server as server
-use Rattle.bac_protocol.specs.Server.{Effect, Reaction, ServerTransaction, Service, State, begins, is_kept, is_live, performs_so, server_on_apdu}
+use Rattle.bac_protocol.specs.Server.{Effect, Reaction, ServerTransaction, Service, State, begins, is_kept, is_live, is_none_live, performs_so, server_on_apdu}
 use Rattle.bac_protocol.specs.Server.State.{Done, SegmentedResponse, Dropped}
-use Rattle.bac_protocol.specs.Reuse.{Reads, idle_on_read, idle_reusing, is_ended_by, is_over, left_on_apdu, reads_so, reusing_on_apdu}
+use Rattle.bac_protocol.specs.Reuse.{Reads, entry_left, has_transfer, idle_on_read, idle_reusing, is_ended_by, is_over, left_on_apdu, reads_so, reusing_on_apdu, server_hears}
 use Rattle.bac_protocol.proofs.Facts.{all_map}
 use Rattle.bac_protocol.proofs.Own.{server_sends_own}
 use Rattle.bac_protocol.proofs.Reused.{goes_on_where}
+use Rattle.bac_protocol.proofs.Served.{IsServed, gets_served}
 use Rattle.bac_reuse.proofs.Machine.{EntryIs, GoesOnFrom, IsGiving, IsRequestOf, OverIf, gets_gives, gives_quiet}
 
 -- an APDU that no client sends
@@ -237,3 +239,75 @@ module _ (c : Context) (service : Service) (ask : Ask) where
         (sym (goes_on_where c service reads e free live (Reject id reason) refl)) (going_alone e free live gives (Reject id reason))
     alone_some e free live gives (Abort up id reason) is = subst (GoesAlone c service ask free e.begin)
         (sym (goes_on_where c service reads e free live (Abort up id reason) refl)) (going_alone e free live gives (Abort up id reason))
+
+-- Whatever comes, what is performed has the reply that the service gives.
+module _ (c : Context) (service : Service) where
+  abbrev IsServedBy : Reaction → Type 0
+  IsServedBy v = IsServed service v.effect
+
+  request_served : (o : Option ServerTransaction) (free : Bool) (choice : ℕ) (limits : Limits) (octets : Octets)
+      → IsServedBy (server.idle_on_request c service o free choice limits octets)
+  request_served o true choice limits octets = gets_served c service None true (ConfirmedRequest limits 0 None choice octets)
+  request_served o false choice limits octets = tt
+
+  read_served : (o : Option ServerTransaction) (free : Bool) (choice : ℕ) (limits : Limits) (octets : Octets)
+      → IsServedBy (idle_on_read c service o free choice limits octets)
+  read_served o free choice limits octets = go (has_transfer (server.performs c service (begins c choice limits (Some octets)) [] octets).entry) free
+    where
+      r : Reaction
+      r = server.performs c service (begins c choice limits (Some octets)) [] octets
+
+      go : (b f : Bool) → IsServedBy (if b then (if f then server.performs c service (begins c choice limits (Some octets)) [] octets
+          else server.rests o (server.server_abort c OTHER ∷ []))
+          else record {
+            entry = o;
+            sends = (server.performs c service (begins c choice limits (Some octets)) [] octets).sends;
+            effect = (server.performs c service (begins c choice limits (Some octets)) [] octets).effect;
+          })
+      go true true = gets_served c service None true (ConfirmedRequest limits 0 None choice octets)
+      go true false = tt
+      go false f = gets_served c service None true (ConfirmedRequest limits 0 None choice octets)
+
+  segment_served : (o : Option ServerTransaction) (free : Bool) (choice : ℕ) (limits : Limits) (g : Segment) (octets : Octets)
+      → IsServedBy (server.idle_on_segment c service o free choice limits g octets)
+  segment_served o free choice limits g octets = go (nat_eq g.number 0) refl free
+    where
+      first : Reaction
+      first = server.request_segment_taken c service (begins c choice limits None) g.number (incoming c.settings.window g.window).window
+          (takes (incoming c.settings.window g.window) g.number g.more octets)
+
+      at : Option ServerTransaction → (b f : Bool) → Reaction
+      at q b f = if not b then server.rests q [] else if f then server.request_segment_taken c service (begins c choice limits None) g.number
+          (incoming c.settings.window g.window).window (takes (incoming c.settings.window g.window) g.number g.more octets)
+          else server.rests q (server.server_abort c OTHER ∷ [])
+
+      go : (b : Bool) → nat_eq g.number 0 ≡ b → (f : Bool) → IsServedBy (at o b f)
+      go true is true = subst (λ b. IsServedBy (at None b true)) is (gets_served c service None true (ConfirmedRequest limits 0 (Some g) choice octets))
+      go true is false = tt
+      go false is f = tt
+
+  reusing_served : (reads : Reads) (o : Option ServerTransaction) (free : Bool) (a : Apdu) → IsServedBy (idle_reusing c service reads o free a)
+  reusing_served reads o free (ConfirmedRequest limits id None choice octets) = go (reads choice)
+    where
+      go : (b : Bool) → IsServedBy (if b then idle_on_read c service o free choice limits octets else server.idle_on_request c service o free choice limits octets)
+      go true = read_served o free choice limits octets
+      go false = request_served o free choice limits octets
+  reusing_served reads o free (ConfirmedRequest limits id (Some g) choice octets) = segment_served o free choice limits g octets
+  reusing_served reads o free (UnconfirmedRequest choice octets) = tt
+  reusing_served reads o free (SimpleAck id choice) = tt
+  reusing_served reads o free (ComplexAck id g choice octets) = tt
+  reusing_served reads o free (SegmentAck up id ack) = tt
+  reusing_served reads o free (Error id choice class code) = tt
+  reusing_served reads o free (Reject id reason) = tt
+  reusing_served reads o free (Abort up id reason) = tt
+
+  left_served : (reads : Reads) (o : Option ServerTransaction) (free : Bool) (a : Apdu) → IsServedBy (left_on_apdu c service reads o free a)
+  left_served reads o free a = go (is_none_live c.now o)
+    where
+      go : (b : Bool) → IsServedBy (if b then idle_reusing c service reads o free a else server_on_apdu c service o free a)
+      go true = reusing_served reads o free a
+      go false = gets_served c service o free a
+
+  pub hears_served : (reuse : Bool) (reads : Reads) (o : Option ServerTransaction) (free : Bool) (a : Apdu) → IsServedBy (server_hears reuse c service reads o free a)
+  hears_served true reads o free a = left_served reads (entry_left reads c.now o a) free a
+  hears_served false reads o free a = gets_served c service o free a

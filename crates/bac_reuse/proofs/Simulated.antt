@@ -25,7 +25,7 @@ use Rattle.bac_protocol.specs.World.{Net, Post, World, client_acts, client_now, 
 use Rattle.bac_protocol.specs.Claims.{IsBounded, Moments, moments_of}
 use Rattle.bac_protocol.proofs.Alone.{one}
 use Rattle.bac_protocol.proofs.Facts.{Grows, all_map, grows_same}
-use Rattle.bac_protocol.proofs.Headline.{Kept, asked_once, net_log}
+use Rattle.bac_protocol.proofs.Headline.{asked_once, net_log}
 use Rattle.bac_protocol.proofs.Keys.{decide_key, set_other, set_same}
 use Rattle.bac_protocol.proofs.Nets.{room_opens, sound_at}
 use Rattle.bac_protocol.proofs.Own.{server_sends_own}
@@ -41,7 +41,7 @@ use Rattle.bac_reuse.proofs.Clients.{AbortsIf, IsAnswer}
 use Rattle.bac_reuse.proofs.FreshReads.{GoesAlone, IsFreshRead, IsFromServer, IsOfRead, all_from_server, given_from_server, giving_own}
 use Rattle.bac_reuse.proofs.Machine.{EntryIs, GoesOnFrom, IsClientAbort, IsFor, IsGiving, IsGone, IsRequestOf, OverBy, OverIf, gone_ticks, ticks_for, ticks_gives, ticks_over}
 use Rattle.bac_reuse.proofs.Outcomes.{DoRest, DoSame, GivesOn, GoesApart, HoldsOn, Outcome, ReadsFresh, outcome}
-use Rattle.bac_reuse.proofs.WorldSteps.{BeginsAgain, IsInTime, IsSoon, aborts, copy_is_soon, entry_gets, entry_in_time, entry_ticks, reacts_keep, server_aborts}
+use Rattle.bac_reuse.proofs.WorldSteps.{IsInTime, IsSoon, Stands, aborts, copy_is_soon, entry_gets, entry_in_time, entry_ticks, reacts_keep, server_aborts}
 use Rattle.bac_reuse.proofs.WorldSteps.{soon_in_time}
 
 -- what comes of the transaction is of its ask
@@ -101,7 +101,7 @@ finished_phase W ask Idle up (Sent ps tk sn) out is fits download sends = refl
 module _ (S : Type 0) (model : StoreModel S) (opening : ℕ → S) (W : ℕ) (x : Rules) (bound : IsBounded W x) (u : Reusing)
     (nothing : ReadsChangeNothing S model u.reads) where
   abbrev KeptAt : World S → Type 0
-  KeptAt w = Kept S model opening W x bound w
+  KeptAt w = Stands W w.net
 
   -- what the world has of its own fits the other
   pub record Like (w : World S) (g : Own) : Type 0 where
@@ -273,6 +273,7 @@ module _ (S : Type 0) (model : StoreModel S) (opening : ℕ → S) (W : ℕ) (x 
         entries = set_at g.entries key v.entry;
         posts = g.posts ++ map (post_of key w.net.now) v.sends;
         log = performed (w.net.numbers key) v.effect g.log;
+        far_entries = g.far_entries;
       }
 
       abbrev IsLikeNow : Post → Post → Type 0
@@ -424,7 +425,7 @@ module _ (S : Type 0) (model : StoreModel S) (opening : ℕ → S) (W : ℕ) (x 
       kept_theirs : KeptAt (serves S model w key theirs)
       kept_theirs =
           let f = sound_at W w.net key (Some t) at s.net in
-          entry_gets S model opening W x bound w s key t at k few p place young way ((f.2).arriving k p place young).1 free
+          entry_gets S model W x bound w s key t at k few p place young way ((f.2).arriving k p place young).1 free
 
       of_ask : IsRequestOf t.ask p.apdu
       of_ask =
@@ -432,7 +433,7 @@ module _ (S : Type 0) (model : StoreModel S) (opening : ℕ → S) (W : ℕ) (x 
           says_of W (moments_of w.net key) (w.net.numbers key) t.ask w.net.log f.0 f.1 p.moment k p.apdu ((f.2).arriving k p place young).1
 
       is_soon : IsSoon w.net key
-      is_soon = copy_is_soon S model opening W x bound w s key t at k p place young way
+      is_soon = copy_is_soon S model W x bound w s key t at k p place young way
 
       from_theirs : Each IsFromServer theirs.sends
       from_theirs = all_from_server key.invoke_id theirs.sends
@@ -457,13 +458,13 @@ module _ (S : Type 0) (model : StoreModel S) (opening : ℕ → S) (W : ℕ) (x 
           -- the other's entry stays
           stays : IsLeftOf h.entry v.entry → Goes v
           stays left = server_alone read v (w.net.entries key)
-              (server_aborts S model opening W x bound w s key t at time v.sends (w.net.entries key) (inl refl)) each (h.goes).of
+              (server_aborts S model W x bound w s key t at time v.sends (w.net.entries key) (inl refl)) each (h.goes).of
               (inr (inr (h.is_fresh, h.is_idle, subst (λ (o : Option ServerTransaction). EntryIs (λ e. IsLeftOf e v.entry) o) (sym h.is) left)))
 
           -- it begins anew
           again : is_room w.net key free ≡ true → IsLeftOf (record (h.entry) { begin = server_now w.net key }) v.entry → Goes v
           again room left = server_alone read v (Some (record (h.entry) { begin = server_now w.net key }))
-              (server_aborts S model opening W x bound w s key t at time v.sends (Some (record (h.entry) { begin = server_now w.net key }))
+              (server_aborts S model W x bound w s key t at time v.sends (Some (record (h.entry) { begin = server_now w.net key }))
               (inr (h.entry, h.is, h.live, refl, is_soon, room_opens w.net key free room))) each (h.goes).of
               (inr (inr (h.is_fresh, h.is_idle, left)))
 
@@ -484,7 +485,7 @@ module _ (S : Type 0) (model : StoreModel S) (opening : ℕ → S) (W : ℕ) (x 
       fresh_goes : (v : server.Reaction) → ReadsFresh told (service_of S model w key) (is_fresh u key t.ask) t.ask (g.entries key) (w.net.entries key) v → Goes v
       fresh_goes v h = subst Goes (sym (h.2).is) (server_alone (fresh_is u key t.ask h.0).read
           (record { entry = g.entries key; sends = (h.2).answer ∷ []; effect = (h.2).effect }) (w.net.entries key)
-          (server_aborts S model opening W x bound w s key t at (soon_in_time w.net key is_soon) ((h.2).answer ∷ []) (w.net.entries key) (inl refl))
+          (server_aborts S model W x bound w s key t at (soon_in_time w.net key is_soon) ((h.2).answer ∷ []) (w.net.entries key) (inl refl))
           ((given_from_server told t.ask (h.2).effect (h.2).answer (h.2).given, inr (given_answers (w.net.numbers key) t.ask g.log told (h.2).effect (h.2).answer (h.2).given
           (λ y is. (subst (IsOfRead (service_of S model w key) t.ask) is (h.2).of).0))), tt)
           (h.2).of (inl h.1))
@@ -513,7 +514,7 @@ module _ (S : Type 0) (model : StoreModel S) (opening : ℕ → S) (W : ℕ) (x 
     Ticks v = IsFollowed (serves S model (over S w g) key v)
 
     kept_ticks : KeptAt (serves S model w key (server.server_ticks ticking (w.net.entries key)))
-    kept_ticks = entry_ticks S model opening W x bound w s key t at
+    kept_ticks = entry_ticks S model W x bound w s key t at
 
     from_ticks : Each IsFromServer (server.server_ticks ticking (w.net.entries key)).sends
     from_ticks = all_from_server key.invoke_id (server.server_ticks ticking (w.net.entries key)).sends
@@ -580,7 +581,7 @@ module _ (S : Type 0) (model : StoreModel S) (opening : ℕ → S) (W : ℕ) (x 
 
         alone : (v : server.Reaction) → is_live (server_now w.net key) e ≡ true → Each IsFromServer v.sends → v.effect ≡ None → IsLeftOf e v.entry → Ticks v
         alone v live from quiet k = server_alone (fresh_is u key t.ask fresh).read v (w.net.entries key)
-            (server_aborts S model opening W x bound w s key t at (entry_in_time S model opening W x bound w s key t at e theirs live) v.sends (w.net.entries key) (inl refl))
+            (server_aborts S model W x bound w s key t at (entry_in_time S model W x bound w s key t at e theirs live) v.sends (w.net.entries key) (inl refl))
             (idle_foreign (performed (w.net.numbers key) v.effect g.log) idle v.sends from)
             (subst (IsOfRead (service_of S model w key) t.ask) (sym quiet) tt)
             (inr (inr (fresh, idle, subst (λ (q : Option ServerTransaction). EntryIs (λ d. IsLeftOf d v.entry) q) (sym theirs) k)))

@@ -6,7 +6,7 @@ use Rattle.std.proofs.lemmas.Bool.Decides.{nat_tests}
 use Rattle.bac_apdu.specs.Apdu.{Apdu}
 use Rattle.bac_apdu.specs.Apdu.Apdu.{ConfirmedRequest, UnconfirmedRequest, SimpleAck, ComplexAck, SegmentAck, Error, Reject, Abort}
 use Rattle.bac_protocol.specs.declared.times.TheConstants.{DEADLINE, KEEP}
-use Rattle.bac_protocol.specs.Pace.{Pace, Since, most}
+use Rattle.bac_protocol.specs.Pace.{IsTimely, Pace, Since, clock_at, most}
 use Rattle.bac_protocol.specs.Context.{Context}
 use Rattle.bac_protocol.specs.Service.{Ending, OTHER, Octets}
 use Rattle.bac_protocol.specs.Service.Ending.{Aborted}
@@ -16,24 +16,28 @@ use Rattle.bac_protocol.specs.Client.{Ask, ClientTransaction, is_idle, request_o
 use Rattle.bac_protocol.specs.Client.Reaction.{Ends, Stays}
 use Rattle.bac_protocol.specs.Server as server
 use Rattle.bac_protocol.specs.Server.{Effect, ServerTransaction, is_live}
-use Rattle.bac_protocol.specs.Log.{Fact, Has, IsOnce, IsOrderly, StoreModel}
-use Rattle.bac_protocol.specs.Log.Fact.{Asked, Ended, Performed}
+use Rattle.bac_protocol.specs.Log.{Fact, IsOrderly, StoreModel}
+use Rattle.bac_protocol.specs.Log.Fact.{Asked, AskedAway, Changed, Ended, EndedAway}
 use Rattle.bac_protocol.specs.Own.{IsOwnEntry}
-use Rattle.bac_protocol.specs.Transaction.{Copy, Key, Rules, client_context, ended, server_context}
-use Rattle.bac_protocol.specs.World.{Net, World, client_acts, client_now, is_room, post_of, reacts, server_acts, server_now, serves, service_of, stored}
+use Rattle.bac_protocol.specs.Transaction.{Copy, Key, Rules, client_context, ended_away, server_context}
+use Rattle.bac_protocol.specs.World.{Net, Strangers, World, asked_at, asked_away_at, client_acts, client_acts_away, client_now, client_restarted, is_id_held, is_room}
+use Rattle.bac_protocol.specs.World.{net_start, notes_change, passes, reacts, server_acts, server_now, server_restarted, serves, service_of, set_at}
 use Rattle.bac_protocol.specs.Claims.{EachCopy, IsBegunSince, IsBounded, Moments, client_until, moments_of, server_until}
 use Rattle.bac_protocol.proofs.Alone.{Transaction, client_does, one, sent, server_does}
-use Rattle.bac_protocol.proofs.Calm.{Calm, HasLeft, IsBegunBy, IsCalm, calm_client, calm_gets, calm_server, calm_ticks}
+use Rattle.bac_protocol.proofs.Calm.{Calm, IsBegunBy, IsCalm, calm_asked, calm_changed, calm_client, calm_client_restarted, calm_gets, calm_later, calm_server}
+use Rattle.bac_protocol.proofs.Calm.{calm_server_restarted, calm_start, calm_ticks, id_free, spent_free}
 use Rattle.bac_protocol.proofs.ClientKeeps.{client_gets_kept, client_ticks_kept}
 use Rattle.bac_protocol.proofs.Dead.{ended_is_silent}
 use Rattle.bac_protocol.proofs.Facts.{all_map, copies_go, down_same, each_sent, grows_same, up_same}
-use Rattle.bac_protocol.proofs.Headline.{Kept, asked_once, net_log}
-use Rattle.bac_protocol.proofs.Nets.{NetSound, net_client, net_server, room_opens, sound_at}
+use Rattle.bac_protocol.proofs.Headline.{net_log}
+use Rattle.bac_protocol.proofs.Nets.{NetSound, log_away, net_asked, net_away, net_changed, net_client, net_client_restarted, net_far, net_later, net_server}
+use Rattle.bac_protocol.proofs.Nets.{net_server_restarted, net_starts, room_opens, sound_at}
 use Rattle.bac_protocol.proofs.Paces.{since_now, within_most}
-use Rattle.bac_protocol.proofs.Served.{BeginIs, IsServed, gets_served, ticks_quiet}
+use Rattle.bac_protocol.proofs.Served.{BeginIs}
 use Rattle.bac_protocol.proofs.ServerKeeps.{server_gets_kept, server_ticks_kept}
 use Rattle.bac_protocol.proofs.Sound.{Down, IsBegunFor, IsPastFor, IsSound, Says, ServerFits, Sound, Up}
-use Rattle.bac_protocol.proofs.StrangerTables.{away_ended, away_performed}
+use Rattle.bac_protocol.proofs.StrangerTables.{Away, AwayIn, away_after, away_asked, away_client_restarted, away_ended, away_later, away_more, away_performed}
+use Rattle.bac_protocol.proofs.StrangerTables.{away_server_restarted, away_starts, right_after, right_asked}
 
 -- Times.
 
@@ -82,9 +86,106 @@ each_abort : (P : Apdu → Type 0) (id : ℕ) → P (Abort true id OTHER) → (s
 each_abort P id h [] = tt
 each_abort P id h (a ∷ more) = (h, each_abort P id h more)
 
-module _ (S : Type 0) (model : StoreModel S) (opening : ℕ → S) (W : ℕ) (x : Rules) (bound : IsBounded W x) where
+-- what holds of a world of bac_protocol, whatever its stores are
+pub record Stands (W : ℕ) (n : Net) : Type 0 where
+  pub net : NetSound W n
+  pub calm : Calm n
+  pub away : Away n
+
+pub starts_standing : (W : ℕ) (pace : Pace) (clocks : ℕ → ℕ) → IsTimely pace → Stands W (net_start pace clocks)
+starts_standing W pace clocks timely =
+    record { net = net_starts W pace clocks; calm = calm_start pace clocks timely; away = away_starts (λ node. clock_at pace (clocks node)) }
+
+module _ (W : ℕ) (n : Net) (s : Stands W n) where
+  pub time_stands : (by : ℕ) (clients servers : ℕ → ℕ) → Stands W (passes n by clients servers)
+  time_stands by clients servers = record {
+    net = net_later W by clients servers n s.net;
+    calm = calm_later n by clients servers s.calm;
+    away = away_later n by clients servers s.calm s.away;
+  }
+
+  pub change_stands : (node : ℕ) (change : Octets) → Stands W (notes_change n node change)
+  change_stands node change = record {
+    net = net_changed W n node change s.net;
+    calm = calm_changed n node change s.calm;
+    away = away_more n.server_clocks n.serves_from n.far (Changed node change) n.log tt s.away;
+  }
+
+  pub client_restart_stands : (node exact : ℕ) → Stands W (client_restarted n node exact)
+  client_restart_stands node exact = record {
+    net = net_client_restarted W n node exact s.net;
+    calm = calm_client_restarted n node exact s.calm;
+    away = away_client_restarted n node exact s.away;
+  }
+
+  pub server_restart_stands : (node exact : ℕ) (store : Option Octets) → Stands W (server_restarted n node exact store)
+  server_restart_stands node exact store = record {
+    net = net_server_restarted W n node exact store s.net;
+    calm = calm_server_restarted n node exact store s.calm;
+    away = away_server_restarted n node exact store s.away;
+  }
+
+  -- Strangers.
+
+  pub away_right : (key : Key) (t : ClientTransaction) → n.far.tickets key ≡ Some t → (r : client.Reaction) → (is_idle t.phase ≡ true → r ≡ Stays)
+      → IsOrderly (ended_away (n.far.numbers key) (client.ending_of r) n.log)
+  away_right key t at r silent = right_after n.server_clocks n.serves_from n.far n.log s.away key t at n.asks r silent (net_log W n s.net).orderly
+
+  pub away_reacts : (key : Key) (t : ClientTransaction) → n.far.tickets key ≡ Some t → (r : client.Reaction) → (is_idle t.phase ≡ true → r ≡ Stays)
+      → Stands W (client_acts_away n key t r)
+  away_reacts key t at r silent = go (client.ending_of r) (away_right key t at r silent)
+      (away_after n.server_clocks n.serves_from n.far n.log s.away key t at (client_now n key) r silent)
+    where
+      far : Strangers
+      far = record (n.far) { tickets = set_at n.far.tickets key (Some (client.after (client_now n key) t r)) }
+
+      go : (o : Option Ending) → IsOrderly (ended_away (n.far.numbers key) o n.log)
+          → AwayIn n.server_clocks n.serves_from (record (n.far) { tickets = set_at n.far.tickets key (Some (client.after (client_now n key) t r)) })
+          (ended_away (n.far.numbers key) o n.log)
+          → Stands W (record n {
+            far = record (n.far) { tickets = set_at n.far.tickets key (Some (client.after (client_now n key) t r)) };
+            log = ended_away (n.far.numbers key) o n.log;
+          })
+      go None right away = record { net = net_far W n far s.net; calm = λ k. s.calm k; away = away }
+      go (Some how) right away = record {
+        net = net_away W n n.asks far (EndedAway (n.far.numbers key) how) tt (log_away n.asks n.asks (EndedAway (n.far.numbers key) how) n.log tt (omega arith)
+            (net_log W n s.net) (net_log W n s.net).counted right) s.net;
+        calm = λ k. s.calm k;
+        away = away;
+      }
+
+  module _ (x : Rules) (key : Key) (ask : Ask) where
+    abbrev away_ticket : ClientTransaction
+    away_ticket = client.asked_ticket (client_context x key (client_now n key)) ask
+
+    pub away_asks : Stands W (asked_away_at x n key ask)
+    away_asks =
+        let log = net_log W n s.net in
+        record {
+          net = net_away W n (n.asks + 1)
+              (record (n.far) { numbers = set_at n.far.numbers key n.asks; tickets = set_at n.far.tickets key (Some away_ticket) })
+              (AskedAway n.asks key.client key.server (request_of ask)) tt
+              (log_away n.asks (n.asks + 1) (AskedAway n.asks key.client key.server (request_of ask)) n.log tt (omega arith) log
+              (let e = log.counted in omega arith)
+              (right_asked n.server_clocks n.serves_from n.far n.log s.away n.asks log key away_ticket (request_of ask))) s.net;
+          calm = λ k. s.calm k;
+          away = away_asked n.server_clocks n.serves_from n.far n.log s.away n.asks log key away_ticket (request_of ask);
+        }
+
+  -- An ask.
+
+  pub ask_stands : (x : Rules) → IsBounded W x → (key : Key) (choice : ℕ) (whole : Bool) (front : Octets) (rest : List Octets) → is_id_held n key ≡ false
+      → Stands W (asked_at x n key (record { first = client_now n key; choice = choice; whole = whole; pieces = front ∷ rest }))
+  ask_stands x bound key choice whole front rest free = record {
+    net = net_asked W bound.some x n key s.net (spent_free W n s.net s.calm key free) choice whole front rest;
+    calm = calm_asked x n s.calm key (id_free n key free).0 choice whole (front ∷ rest);
+    away = away_more n.server_clocks n.serves_from n.far (Asked n.asks key.client key.server (request_of (record { first = client_now n key; choice = choice; whole = whole; pieces = front ∷ rest })))
+        n.log tt s.away;
+  }
+
+module _ (S : Type 0) (model : StoreModel S) (W : ℕ) (x : Rules) (bound : IsBounded W x) where
   abbrev KeptAt : World S → Type 0
-  KeptAt w = Kept S model opening W x bound w
+  KeptAt w = Stands W w.net
 
   -- What each machine does.
 
@@ -94,36 +195,15 @@ module _ (S : Type 0) (model : StoreModel S) (opening : ℕ → S) (W : ℕ) (x 
     net = sound;
     calm = calm;
     away = away_ended w.net.server_clocks w.net.serves_from w.net.far (w.net.numbers key) (client.ending_of r) w.net.log s.away;
-    once = go (client.ending_of r) ((net_log W (client_acts w.net key t r) sound).orderly);
   }
-    where
-      go : (o : Option Ending) → IsOrderly (ended (w.net.numbers key) o w.net.log) → IsOnce S model opening (ended (w.net.numbers key) o w.net.log) w.stores
-      go None h = s.once
-      go (Some how) h = (w.stores, (h.0, h.1, λ node. refl), s.once)
 
-  effect_once : (w : World S) → KeptAt w → (key : Key) (t : ClientTransaction) → w.net.tickets key ≡ Some t → (e : Effect) → IsServed (service_of S model w key) (Some e)
-      → IsOrderly (Performed (w.net.numbers key) e.request e.reply ∷ w.net.log)
-      → IsOnce S model opening (Performed (w.net.numbers key) e.request e.reply ∷ w.net.log) (stored S model key.server (Some e) w.stores)
-  effect_once w s key t at e is right =
-      let own = (sound_at W w.net key (Some t) at s.net).2 in
-      let n = w.net.numbers key in
-      let same : request_of t.ask ≡ e.request = asked_once n key.client key.server right.0.0 right.0.1
-      (request_of t.ask) e.request w.net.log right.2 own.asked right.0.2 in
-      (w.stores, (key.client, key.server, subst (λ r. Has (Asked n key.client key.server r) w.net.log) same own.asked, right.1, is, λ node. refl), s.once)
-
-  pub serves_keep : (w : World S) → KeptAt w → (key : Key) (t : ClientTransaction) → w.net.tickets key ≡ Some t → (v : server.Reaction)
-      → IsServed (service_of S model w key) v.effect → NetSound W (server_acts w.net key v) → Calm (server_acts w.net key v) → KeptAt (serves S model w key v)
-  serves_keep w s key t at v is sound calm = go v.effect is sound
-    where
-      go : (o : Option Effect) → IsServed (service_of S model w key) o → NetSound W (server_acts w.net key (record v { effect = o }))
-          → KeptAt (serves S model w key (record v { effect = o }))
-      go None is sound = record { net = sound; calm = calm; away = s.away; once = s.once }
-      go (Some e) is sound = record {
-        net = sound;
-        calm = calm;
-        away = away_performed w.net.server_clocks w.net.serves_from w.net.far (w.net.numbers key) (Some e) w.net.log s.away;
-        once = effect_once w s key t at e is (net_log W (server_acts w.net key (record v { effect = Some e })) sound).orderly;
-      }
+  pub serves_keep : (w : World S) → KeptAt w → (key : Key) (v : server.Reaction) → NetSound W (server_acts w.net key v) → Calm (server_acts w.net key v)
+      → KeptAt (serves S model w key v)
+  serves_keep w s key v sound calm = record {
+    net = sound;
+    calm = calm;
+    away = away_performed w.net.server_clocks w.net.serves_from w.net.far (w.net.numbers key) v.effect w.net.log s.away;
+  }
 
   module _ (w : World S) (s : KeptAt w) (key : Key) (t : ClientTransaction) (at : w.net.tickets key ≡ Some t) where
     abbrev Says_at : (m k : ℕ) → Apdu → Type 0
@@ -164,7 +244,7 @@ module _ (S : Type 0) (model : StoreModel S) (opening : ℕ → S) (W : ℕ) (x 
         let f = sound_at W w.net key (Some t) at s.net in
         let c = server_context x key (server_now w.net key) in
         let v = server.server_on_apdu c (service_of S model w key) (w.net.entries key) (is_room w.net key free) p.apdu in
-        serves_keep w s key t at v (gets_served c (service_of S model w key) (w.net.entries key) (is_room w.net key free) p.apdu)
+        serves_keep w s key v
         (net_server W w.net key t at s.net v
         (server_gets_kept W x.overtake bound.some bound.room (x.settings key.server) (bound.windows key.server) (service_of S model w key) key
         (one w.net key) t (w.net.entries key) f.0 f.1 f.2 (is_room w.net key free) (room_opens w.net key free) p.moment k few young p.apdu says))
@@ -175,7 +255,7 @@ module _ (S : Type 0) (model : StoreModel S) (opening : ℕ → S) (W : ℕ) (x 
         let f = sound_at W w.net key (Some t) at s.net in
         let c = server_context x key (server_now w.net key) in
         let v = server.server_ticks c (w.net.entries key) in
-        serves_keep w s key t at v (subst (IsServed (service_of S model w key)) (sym (ticks_quiet c (w.net.entries key))) tt)
+        serves_keep w s key v
         (net_server W w.net key t at s.net v (server_ticks_kept W x.overtake bound.some bound.room (x.settings key.server) (bound.windows key.server)
         (service_of S model w key) key (one w.net key) t (w.net.entries key) f.0 f.1 f.2))
         (calm_ticks w.net s.calm key c refl refl)
@@ -309,7 +389,7 @@ module _ (S : Type 0) (model : StoreModel S) (opening : ℕ → S) (W : ℕ) (x 
 
       aborts_with : (o : Option ServerTransaction) → NetSound W (server_acts w.net key (server.rests o (aborts key.invoke_id sends)))
           → Calm (server_acts w.net key (server.rests o (aborts key.invoke_id sends))) → KeptAt (serves S model w key (server.rests o (aborts key.invoke_id sends)))
-      aborts_with o sound calm = serves_keep w s key t at (server.rests o (aborts key.invoke_id sends)) tt sound calm
+      aborts_with o sound calm = serves_keep w s key (server.rests o (aborts key.invoke_id sends)) sound calm
 
       pub server_aborts : (o : Option ServerTransaction) → BeginsAgain o → KeptAt (serves S model w key (server.rests o (aborts key.invoke_id sends)))
       server_aborts o (inl same) = subst (λ (q : Option ServerTransaction). KeptAt (serves S model w key (server.rests q (aborts key.invoke_id sends)))) (sym same)
