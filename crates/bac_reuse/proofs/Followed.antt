@@ -7,7 +7,7 @@ use Rattle.bac_apdu.specs.Apdu.Apdu.{Abort}
 use Rattle.bac_protocol.specs.declared.times.TheConstants.{KEEP}
 use Rattle.bac_protocol.specs.Pace.{IsTimely, Pace, clock_at}
 use Rattle.bac_protocol.specs.Context.{Context}
-use Rattle.bac_protocol.specs.Service.{OTHER, Octets}
+use Rattle.bac_protocol.specs.Service.{Ending, OTHER, Octets}
 use Rattle.bac_protocol.specs.Service.Ending.{Aborted}
 use Rattle.bac_protocol.specs.Wire.{is_from_client}
 use Rattle.bac_protocol.specs.Client as client
@@ -15,12 +15,15 @@ use Rattle.bac_protocol.specs.Client.{Ask, ClientTransaction, is_idle, request_o
 use Rattle.bac_protocol.specs.Client.Phase.{Idle}
 use Rattle.bac_protocol.specs.Client.Reaction.{Ends, Stays}
 use Rattle.bac_protocol.specs.Server as server
-use Rattle.bac_protocol.specs.Server.{ServerTransaction}
+use Rattle.bac_protocol.specs.Server.{Effect, ServerTransaction}
 use Rattle.bac_protocol.specs.Log.{Fact, IsOrderly, StoreModel, WasAsked}
-use Rattle.bac_protocol.specs.Log.Fact.{Asked, Changed, Restarted}
-use Rattle.bac_protocol.specs.Transaction.{Copy, Key, Rules, client_context, server_context}
-use Rattle.bac_protocol.specs.World.{Event, MakeNoStray, Net, Post, World, ask_made, asked_at, client_now, client_restarted, copies_of, happens, is_id_held, later, lost}
+use Rattle.bac_protocol.specs.Log.Fact.{Asked, AskedAway, Changed, Restarted}
+use Rattle.bac_protocol.specs.Reuse.{server_hears}
+use Rattle.bac_protocol.specs.Transaction.{Copy, Key, Rules, client_context, ended_away, served, server_context}
+use Rattle.bac_protocol.specs.World.{Event, Net, Post, World, ask_made, asked_at, client_now, client_restarted, copies_of, happens, is_id_held, later, lost}
 use Rattle.bac_protocol.specs.World.{passes, post_of, reacts, server_now, serves, set_at, start, takes_at_client, ticks_as_client, ticks_as_server, ticks_ticket}
+use Rattle.bac_protocol.specs.World.{asked_away, asked_away_at, begin_of, client_acts_away, is_id_held_away, is_room, reacts_away, serves_away, service_of, stored}
+use Rattle.bac_protocol.specs.World.{strays_to_client, ticks_as_client_away, ticks_as_server_away, ticks_ticket_away}
 use Rattle.bac_protocol.specs.World.Event.{MakeAsk, Deliver, Tick, Noise, Advance, Change, RestartClient, RestartServer, Stray, AskAway, TickAway}
 use Rattle.bac_protocol.specs.Claims.{IsBounded}
 use Rattle.bac_protocol.proofs.Alone.{one}
@@ -32,14 +35,16 @@ use Rattle.bac_protocol.proofs.Headline.{net_log}
 use Rattle.bac_protocol.proofs.Keys.{copy_at, decide_key, set_nothing, set_other, set_same}
 use Rattle.bac_protocol.proofs.Nets.{sound_at}
 use Rattle.bac_protocol.proofs.Paces.{shows_on}
+use Rattle.bac_protocol.proofs.Served.{IsServed, ticks_quiet}
 use Rattle.bac_reuse.specs.Once.{IsOnceSo}
 use Rattle.bac_reuse.specs.Runs.{ReadsChangeNothing, Reusing, arrives_so, delivered_so, happens_so, run_so, takes_at_server_so}
 use Rattle.bac_reuse.proofs.Beside.{AbortsOf, AreGone, AreLike, Fit, IsForeign, IsLike, IsYoung, Own, aborted, fit_later, fit_none, fit_on, foreign_more, gone_both, like_at}
-use Rattle.bac_reuse.proofs.Beside.{like_key, likes_join, likes_later, likes_map, likes_same, logs_both, over, set_keeps}
+use Rattle.bac_reuse.proofs.Beside.{ended_away_grows, like_key, likes_join, likes_later, likes_map, likes_same, logs_both, logs_ending_away, logs_served, over, served_grows, set_keeps}
 use Rattle.bac_reuse.proofs.Clients.{AbortsIf, EndsAsAborted, IsAnswer, answer_comes, asks_steady, gets_steady, steady_ends, ticks_steady}
+use Rattle.bac_reuse.proofs.FreshReads.{hears_served}
 use Rattle.bac_reuse.proofs.Machine.{IsGone, gone_ticks}
 use Rattle.bac_reuse.proofs.Simulated.{IsFollowed, Like, client_ended, client_same, copy_comes, follows, moves, ticks_on}
-use Rattle.bac_reuse.proofs.WorldSteps.{Stands, ask_stands, change_stands, client_ends, client_restart_stands, server_restart_stands, starts_standing, ticket_gets}
+use Rattle.bac_reuse.proofs.WorldSteps.{Stands, ask_stands, away_asks, away_reacts, away_right, change_stands, client_ends, client_restart_stands, server_restart_stands, starts_standing, ticket_gets}
 use Rattle.bac_reuse.proofs.WorldSteps.{ticket_stays, ticket_ticks, time_stands}
 
 all_there : (posts : List Post) → posts ++ [] ≡ posts
@@ -397,39 +402,169 @@ module _ (S : Type 0) (model : StoreModel S) (opening : ℕ → S) (W : ℕ) (x 
         lost_post p q (inl h) = inl (h.0, λ young. aborts (w.net.tickets p.key) p.copy.apdu (nat_eq p.key.client node) (h.1 young))
         lost_post p q (inr h) = inr (h.0, h.1, λ young. foreign (w.net.numbers p.key) (w.net.tickets p.key) p.copy.apdu (nat_eq p.key.client node) (h.2 young))
 
+  -- Strangers. What a server makes of theirs is its own; their tickets are the same in both.
+
+  module _ (w : World S) (g : Own) (s : KeptAt w) (l : LikeAt w g) where
+    far_serves : (key : Key) (v : server.Reaction) → IsServed (service_of S model w key) v.effect → Follows (serves_away S model (over S w g) key v)
+    far_serves key v is = (
+      record { net = w.net; stores = stored S model key.server v.effect w.stores },
+      record g { log = served key (begin_of v.entry) v.effect g.log; far_entries = set_at g.far_entries key v.entry },
+      s,
+      record {
+        posts = likes_map (IsLike w.net g.log) (IsLike w.net (served key (begin_of v.entry) v.effect g.log)) g.posts w.net.posts (λ n p q at h. far_post p q h) l.posts;
+        entries = l.entries;
+        logs = logs_served u.reads g.log w.net.log l.logs key (begin_of v.entry) v.effect;
+        once = go v.effect is;
+      },
+      refl,
+    )
+      where
+        far_post : (p q : Post) → IsLike w.net g.log p q → IsLike w.net (served key (begin_of v.entry) v.effect g.log) p q
+        far_post p q (inl h) = inl h
+        far_post p q (inr h) = inr (h.0, h.1, λ young. foreign_more (w.net.numbers p.key) (w.net.tickets p.key) g.log (served key (begin_of v.entry) v.effect g.log)
+            (served_grows key (begin_of v.entry) v.effect g.log) p.copy.apdu (h.2 young))
+
+        go : (o : Option Effect) → IsServed (service_of S model w key) o
+            → IsOnceSo S model u.reads opening (served key (begin_of v.entry) o g.log) (stored S model key.server o w.stores)
+        go None is = l.once
+        go (Some y) is = (w.stores, (is, λ node. refl), l.once)
+
+    far_reacts : (key : Key) (t : ClientTransaction) → w.net.far.tickets key ≡ Some t → (r : client.Reaction) → (is_idle t.phase ≡ true → r ≡ Stays)
+        → Follows (reacts_away S (over S w g) key t r)
+    far_reacts key t at r silent = (
+      reacts_away S w key t r,
+      record g { log = ended_away (w.net.far.numbers key) (client.ending_of r) g.log },
+      away_reacts W w.net s key t at r silent,
+      record {
+        posts = likes_map (IsLike w.net g.log) (IsLike (client_acts_away w.net key t r) (ended_away (w.net.far.numbers key) (client.ending_of r) g.log)) g.posts w.net.posts
+            (λ n p q at h. far_post p q h) l.posts;
+        entries = l.entries;
+        logs = logs_ending_away u.reads g.log w.net.log l.logs (w.net.far.numbers key) (client.ending_of r);
+        once = go (client.ending_of r) (away_right W w.net s key t at r silent);
+      },
+      refl,
+    )
+      where
+        far_post : (p q : Post) → IsLike w.net g.log p q → IsLike (client_acts_away w.net key t r) (ended_away (w.net.far.numbers key) (client.ending_of r) g.log) p q
+        far_post p q (inl h) = inl h
+        far_post p q (inr h) = inr (h.0, h.1, λ young. foreign_more (w.net.numbers p.key) (w.net.tickets p.key) g.log (ended_away (w.net.far.numbers key) (client.ending_of r) g.log)
+            (ended_away_grows (w.net.far.numbers key) (client.ending_of r) g.log) p.copy.apdu (h.2 young))
+
+        go : (o : Option Ending) → IsOrderly (ended_away (w.net.far.numbers key) o w.net.log)
+            → IsOnceSo S model u.reads opening (ended_away (w.net.far.numbers key) o g.log) w.stores
+        go None right = l.once
+        go (Some how) right = (w.stores, (
+          (right.0.0, right.0.1, right.0.2, l.logs.asked_away (w.net.far.numbers key) right.0.0 right.0.1 right.0.2 right.0.3),
+          l.logs.unended_away (w.net.far.numbers key) right.1,
+          λ node. refl,
+        ), l.once)
+
+    far_hears : (key : Key) (a : Apdu) (o : Option ClientTransaction) → w.net.far.tickets key ≡ o → Follows (strays_to_client S x (over S w g) key a o)
+    far_hears key a None at = stands w g s l
+    far_hears key a (Some t) at =
+        let c = client_context x key (client_now w.net key) in
+        far_reacts key t at (client.client_on_apdu c x.readable t a) (ended_is_silent.gets c x.readable t a)
+
+    strays : (key : Key) (free : Bool) (a : Apdu) (up : Bool)
+        → Follows (if up then serves_away S model (over S w g) key
+        (server_hears (u.reuses key.server) (server_context x key (server_now w.net key)) (service_of S model w key) u.reads (g.far_entries key)
+        (is_room w.net key free) a)
+        else strays_to_client S x (over S w g) key a (w.net.far.tickets key))
+    strays key free a true =
+        let c = server_context x key (server_now w.net key) in
+        let service = service_of S model w key in
+        far_serves key (server_hears (u.reuses key.server) c service u.reads (g.far_entries key) (is_room w.net key free) a)
+        (hears_served c service (u.reuses key.server) u.reads (g.far_entries key) (is_room w.net key free) a)
+    strays key free a false = far_hears key a (w.net.far.tickets key) refl
+
+    far_asks : (key : Key) (ask : Ask) (b : Bool) → Follows (if b then over S w g else asked_away S x (over S w g) key ask)
+    far_asks key ask true = stands w g s l
+    far_asks key ask false = (
+      asked_away S x w key ask,
+      record g { log = AskedAway w.net.asks key.client key.server (request_of ask) ∷ g.log },
+      away_asks W w.net s x key ask,
+      record {
+        posts = likes_map (IsLike w.net g.log) (IsLike (asked_away_at x w.net key ask) (AskedAway w.net.asks key.client key.server (request_of ask) ∷ g.log)) g.posts w.net.posts
+            (λ n p q at h. far_post p q h) l.posts;
+        entries = l.entries;
+        logs = logs_both u.reads g.log w.net.log l.logs (AskedAway w.net.asks key.client key.server (request_of ask));
+        once = (w.stores, ((net_log W w.net s.net).counted ∙ sym l.logs.counted, λ node. refl), l.once);
+      },
+      refl,
+    )
+      where
+        far_post : (p q : Post) → IsLike w.net g.log p q
+            → IsLike (asked_away_at x w.net key ask) (AskedAway w.net.asks key.client key.server (request_of ask) ∷ g.log) p q
+        far_post p q (inl h) = inl h
+        far_post p q (inr h) = inr (h.0, h.1, λ young. foreign_more (w.net.numbers p.key) (w.net.tickets p.key) g.log
+            (AskedAway w.net.asks key.client key.server (request_of ask) ∷ g.log) (grows_more (AskedAway w.net.asks key.client key.server (request_of ask)) g.log)
+            p.copy.apdu (h.2 young))
+
+    far_ticket_ticks : (key : Key) (o : Option ClientTransaction) → w.net.far.tickets key ≡ o → Follows (ticks_ticket_away S x (over S w g) key o)
+    far_ticket_ticks key None at = stands w g s l
+    far_ticket_ticks key (Some t) at =
+        let c = client_context x key (client_now w.net key) in
+        far_reacts key t at (client.client_ticks c t) (ended_is_silent.ticks c t)
+
+    far_entry_ticks : (key : Key) → Follows (serves_away S model (over S w g) key (server.server_ticks (server_context x key (server_now w.net key)) (g.far_entries key)))
+    far_entry_ticks key =
+        let c = server_context x key (server_now w.net key) in
+        far_serves key (server.server_ticks c (g.far_entries key)) (subst (IsServed (service_of S model w key)) (sym (ticks_quiet c (g.far_entries key))) tt)
+
+  far_clients_tick : (keys : List Key) (v : World S) → Follows v → Follows (ticks_as_client_away S x keys v)
+  far_clients_tick [] v h = h
+  far_clients_tick (key ∷ keys) v h = far_clients_tick keys (ticks_ticket_away S x v key (v.net.far.tickets key))
+      (moves S model opening W x bound u nothing (λ (y : World S). ticks_ticket_away S x y key (y.net.far.tickets key))
+      (λ w g s l. far_ticket_ticks w g s l key (w.net.far.tickets key) refl) v h)
+
+  far_servers_tick : (keys : List Key) (v : World S) → Follows v → Follows (ticks_as_server_away S model x keys v)
+  far_servers_tick [] v h = h
+  far_servers_tick (key ∷ keys) v h = far_servers_tick keys
+      (serves_away S model v key (server.server_ticks (server_context x key (server_now v.net key)) (v.net.far.entries key)))
+      (moves S model opening W x bound u nothing
+      (λ (y : World S). serves_away S model y key (server.server_ticks (server_context x key (server_now y.net key)) (y.net.far.entries key)))
+      (λ w g s l. far_entry_ticks w g s l key) v h)
+
   -- A run.
 
   step : (e : Event) → ((w : World S) (g : Own) → KeptAt w → LikeAt w g → Follows (happens_so S model x u (over S w g) e)) → (v : World S) → Follows v
       → Follows (happens_so S model x u v e)
   step e f v h = moves S model opening W x bound u nothing (λ (y : World S). happens_so S model x u y e) f v h
 
-  run_follows : (events : List Event) → MakeNoStray events → (v : World S) → Follows v → Follows (run_so S model x u events v)
-  run_follows [] none v h = h
-  run_follows (MakeAsk key choice whole front rest ∷ es) none v h =
+  run_follows : (events : List Event) → (v : World S) → Follows v → Follows (run_so S model x u events v)
+  run_follows [] v h = h
+  run_follows (MakeAsk key choice whole front rest ∷ es) v h =
       let e = MakeAsk key choice whole front rest in
-      run_follows es none (happens_so S model x u v e) (step e (λ w g s l. ask_follows w g s l key choice whole front rest (is_id_held w.net key) refl) v h)
-  run_follows (Deliver number free ∷ es) none v h =
+      run_follows es (happens_so S model x u v e) (step e (λ w g s l. ask_follows w g s l key choice whole front rest (is_id_held w.net key) refl) v h)
+  run_follows (Deliver number free ∷ es) v h =
       let e = Deliver number free in
-      run_follows es none (happens_so S model x u v e) (step e (λ w g s l. delivers w g s l number free (slice_get g.posts number) refl) v h)
-  run_follows (Tick as_client as_server ∷ es) none v h =
+      run_follows es (happens_so S model x u v e) (step e (λ w g s l. delivers w g s l number free (slice_get g.posts number) refl) v h)
+  run_follows (Tick as_client as_server ∷ es) v h =
       let e = Tick as_client as_server in
-      run_follows es none (happens_so S model x u v e) (servers_ticked as_server (ticks_as_client S x as_client v) (clients_ticked as_client v h))
-  run_follows (Noise ∷ es) none v h = run_follows es none v h
-  run_follows (Advance by clients servers ∷ es) none v h =
+      run_follows es (happens_so S model x u v e) (servers_ticked as_server (ticks_as_client S x as_client v) (clients_ticked as_client v h))
+  run_follows (Noise ∷ es) v h = run_follows es v h
+  run_follows (Advance by clients servers ∷ es) v h =
       let e = Advance by clients servers in
-      run_follows es none (happens_so S model x u v e) (step e (λ w g s l. time_passes w g s l by clients servers) v h)
-  run_follows (Change node change ∷ es) none v h =
+      run_follows es (happens_so S model x u v e) (step e (λ w g s l. time_passes w g s l by clients servers) v h)
+  run_follows (Change node change ∷ es) v h =
       let e = Change node change in
-      run_follows es none (happens_so S model x u v e) (step e (λ w g s l. change_made w g s l node change) v h)
-  run_follows (RestartClient node exact ∷ es) none v h =
+      run_follows es (happens_so S model x u v e) (step e (λ w g s l. change_made w g s l node change) v h)
+  run_follows (RestartClient node exact ∷ es) v h =
       let e = RestartClient node exact in
-      run_follows es none (happens_so S model x u v e) (step e (λ w g s l. client_restarts w g s l node exact) v h)
-  run_follows (RestartServer node exact store ∷ es) none v h =
+      run_follows es (happens_so S model x u v e) (step e (λ w g s l. client_restarts w g s l node exact) v h)
+  run_follows (RestartServer node exact store ∷ es) v h =
       let e = RestartServer node exact store in
-      run_follows es none (happens_so S model x u v e) (step e (λ w g s l. server_restarts w g s l node exact store) v h)
-  run_follows (Stray key free a ∷ es) none v h = absurd none
-  run_follows (AskAway key choice whole front rest ∷ es) none v h = absurd none
-  run_follows (TickAway as_client as_server ∷ es) none v h = absurd none
+      run_follows es (happens_so S model x u v e) (step e (λ w g s l. server_restarts w g s l node exact store) v h)
+  run_follows (Stray key free a ∷ es) v h =
+      let e = Stray key free a in
+      run_follows es (happens_so S model x u v e) (step e (λ w g s l. strays w g s l key free a (is_from_client a)) v h)
+  run_follows (AskAway key choice whole front rest ∷ es) v h =
+      let e = AskAway key choice whole front rest in
+      run_follows es (happens_so S model x u v e) (step e (λ w g s l. far_asks w g s l key
+      (record { first = client_now w.net key; choice = choice; whole = whole; pieces = front ∷ rest }) (is_id_held_away w.net key)) v h)
+  run_follows (TickAway as_client as_server ∷ es) v h =
+      let e = TickAway as_client as_server in
+      run_follows es (happens_so S model x u v e) (far_servers_tick as_server (ticks_as_client_away S x as_client v) (far_clients_tick as_client v h))
 
   module _ (pace : Pace) (timely : IsTimely pace) (clocks : ℕ → ℕ) where
     starts : Follows (start S pace clocks opening)
@@ -446,8 +581,8 @@ module _ (S : Type 0) (model : StoreModel S) (opening : ℕ → S) (W : ℕ) (x 
       refl,
     )
 
-    pub once_so : (events : List Event) → MakeNoStray events
+    pub once_so : (events : List Event)
         → IsOnceSo S model u.reads opening (run_so S model x u events (start S pace clocks opening)).net.log (run_so S model x u events (start S pace clocks opening)).stores
-    once_so events none =
-        let h = run_follows events none (start S pace clocks opening) starts in
+    once_so events =
+        let h = run_follows events (start S pace clocks opening) starts in
         subst (λ (y : World S). IsOnceSo S model u.reads opening y.net.log y.stores) (sym h.4) (h.3).once

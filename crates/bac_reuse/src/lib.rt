@@ -12,19 +12,20 @@ ghost use Rattle.bac_protocol.specs.Log.{Fact, StoreModel, IsOnce};
 ghost use Rattle.bac_protocol.specs.Pace.{Pace, IsTimely};
 ghost use Rattle.bac_protocol.specs.Reuse.{Reads};
 ghost use Rattle.bac_protocol.specs.Transaction.{Rules};
-ghost use Rattle.bac_protocol.specs.World.{Event, MakeNoStray, start};
+ghost use Rattle.bac_protocol.specs.World.{Event, start};
 ghost use Rattle.bac_reuse.specs.Claims.{AnswersAreOfTheirTime, WritesAreOnce};
 ghost use Rattle.bac_reuse.specs.Once.{HasNoRead, IsOnceSo};
 ghost use Rattle.bac_reuse.specs.Runs.{ReadsChangeNothing, Reusing, run_so};
 
-/// The headline in both modes: after every run among nodes, whichever of them let invoke IDs be used again, where reads change no store. Each accepted ask that
-/// is no read takes effect at most once, and exactly once where a service answer reached its client; the request performed and the answer are its own, whole.
-/// A read is performed as it was asked, each time that its server takes it, and its answer is one of the replies with which it was performed. Each server's store
-/// is that of its last start, after the performed requests and the changes made at that node since, in the log's order. Strangers are left out.
+/// The headline in both modes: after every run, whichever nodes let invoke IDs be used again, where reads change no store. Each accepted ask that is no read
+/// takes effect at most once, and exactly once where a service answer reached its client; the request performed and the answer are its own, whole. A read is
+/// performed as it was asked, each time that its server takes it, and its answer is one of the replies with which it was performed. Each server's store is that
+/// of its last start, after the performed requests and the changes made at that node since, in the log's order. Strangers may send any octets at any moment:
+/// what a server performs for them is in the log, with the reply of its store as it then is, and how often is not said.
 #[tactic(auto, using(crate::proofs::Followed::once_so))]
 pub fn at_most_once<S>()
     ensures { (model : StoreModel S) (opening : ℕ → S) (W : ℕ) (rules : Rules) → IsBounded W rules → (reusing : Reusing) → ReadsChangeNothing S model reusing.reads
-        → (pace : Pace) → IsTimely pace → (clocks : ℕ → ℕ) → (events : List Event) → MakeNoStray events
+        → (pace : Pace) → IsTimely pace → (clocks : ℕ → ℕ) → (events : List Event)
         → IsOnceSo S model reusing.reads opening (run_so S model rules reusing events (start S pace clocks opening)).net.log
         (run_so S model rules reusing events (start S pace clocks opening)).stores }
 {}
