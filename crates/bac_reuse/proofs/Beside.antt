@@ -1,12 +1,11 @@
 -- A world in which servers let invoke IDs be used again, beside one in which they don't: what both have in common. Both have the same tickets, times and stores.
 -- Where the one server answered a read that it performed, the other sent an Abort; where both hold an entry that counts for an ask that is no such read, it is
 -- the same.
-use Rattle.std.proofs.Common.{◌≡◌, ℕ, zero, suc, ◌+◌, ◌-◌, ◌<◌, ◌≤◌, ◌≢◌, ◌⊎◌, Bool, true, false, ◌&&◌, not, List, [], ◌∷◌, ◌++◌, map, Option, Some, None}
-use Rattle.std.proofs.Common.{slice_get, if◌then◌else◌, nat_eq, nat_le, refl, ap, sym, subst, inl, inr, ◌∙◌, arith}
+use Rattle.std.proofs.Common.{◌≡◌, ℕ, zero, suc, ◌-◌, ◌≤◌, ◌≢◌, ◌⊎◌, Bool, true, false, ◌&&◌, List, [], ◌∷◌, ◌++◌, map, Option, Some, None}
+use Rattle.std.proofs.Common.{slice_get, if◌then◌else◌, nat_eq, refl, ap, sym, subst, inl, inr, ◌∙◌, arith}
 use Rattle.std.proofs.lemmas.Bool.Decides.{nat_tests}
 use Rattle.bac_apdu.specs.Apdu.{Apdu}
 use Rattle.bac_apdu.specs.Apdu.Apdu.{Abort, ComplexAck, Error, Reject, SimpleAck}
-use Rattle.bac_protocol.specs.declared.times.TheConstants.{KEEP}
 use Rattle.bac_protocol.specs.Service.{Ending, OTHER, Reply as reply, Request}
 use Rattle.bac_protocol.specs.Wire.{Each}
 use Rattle.bac_protocol.specs.Client as client
@@ -14,7 +13,7 @@ use Rattle.bac_protocol.specs.Client.{Ask, ClientTransaction, after, is_idle, re
 use Rattle.bac_protocol.specs.Client.Reaction.{Ends, GoesOn, Repeats, Stays}
 use Rattle.bac_protocol.specs.Context.{Context}
 use Rattle.bac_protocol.specs.Server.{Effect, ServerTransaction, State, reply_apdu}
-use Rattle.bac_protocol.specs.Log.{Fact, Has, IsUnended, IsUnendedAway, IsUnperformed, MayEnd, WasAsked, asks_in}
+use Rattle.bac_protocol.specs.Log.{Fact, Has, IsUnended, IsUnendedAway, IsUnperformed, MayEnd, asks_in}
 use Rattle.bac_protocol.specs.Service.Ending.{Aborted, Answered, Expired, Rejected, TimedOut}
 use Rattle.bac_protocol.specs.Log.Fact.{Asked, AskedAway, Changed, Ended, EndedAway, Performed, Restarted, Served}
 use Rattle.bac_protocol.specs.Reuse.{Reads}
@@ -25,7 +24,7 @@ use Rattle.bac_protocol.proofs.Keys.{decide_key, set_other, set_same}
 use Rattle.bac_reuse.specs.Runs.{Reusing}
 use Rattle.bac_reuse.proofs.Clients.{AbortsIf, IsAnswer}
 use Rattle.bac_reuse.proofs.FreshReads.{IsFromServer, IsGivenBy}
-use Rattle.bac_reuse.proofs.Machine.{EntryIs, IsClientAbort, IsFor, IsGiving, IsGone, OverIf}
+use Rattle.bac_reuse.proofs.Machine.{EntryIs, IsFor, IsGiving, IsGone, OverIf}
 use Rattle.bac_reuse.proofs.WorldSteps.{aborts}
 
 -- what the world has of its own

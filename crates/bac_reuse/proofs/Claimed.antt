@@ -1,12 +1,12 @@
 -- What a right log says of writes and of answers.
-use Rattle.std.proofs.Common.{◌≡◌, ℕ, ◌⊎◌, true, false, List, [], ◌∷◌, ◌++◌, refl, ap, sym, subst, inl, inr, ◌∙◌}
+use Rattle.std.proofs.Common.{◌≡◌, ℕ, ◌⊎◌, true, false, List, [], ◌∷◌, ◌++◌, ap, sym, subst, inl, inr, ◌∙◌}
 use Rattle.bac_protocol.specs.Service.{Reply, Request}
 use Rattle.bac_protocol.specs.Service.Ending.{Answered}
 use Rattle.bac_protocol.specs.Log.{Fact, Has, IsOnce, IsUnperformed, StoreModel}
 use Rattle.bac_protocol.specs.Log.Fact.{Asked, AskedAway, Changed, Ended, EndedAway, Performed, Restarted, Served}
 use Rattle.bac_protocol.specs.Reuse.{Reads}
 use Rattle.bac_reuse.specs.Claims.{AnswersAreOfTheirTime, WasGiven, WritesAreOnce}
-use Rattle.bac_reuse.specs.Once.{HasNoRead, IsOnceSo, MayEnterSo}
+use Rattle.bac_reuse.specs.Once.{HasNoRead, IsOnceSo}
 
 module _ (S : Type 0) (model : StoreModel S) (reads : Reads) (opening : ℕ → S) where
   -- where the log is right, it was so before

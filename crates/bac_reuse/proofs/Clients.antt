@@ -1,6 +1,6 @@
 -- A client gives up only as its ticket ends, and ends it with an answer that comes in one APDU.
-use Rattle.std.proofs.Common.{◌≡◌, ℕ, ◌-◌, ◌+◌, ◌⊎◌, Bool, true, false, ◌&&◌, ◌||◌, not, List, [], ◌∷◌, ◌++◌, length, Option, Some, None, if◌then◌else◌}
-use Rattle.std.proofs.Common.{nat_eq, nat_le, refl, ap, sym, subst, inl, inr, ◌∙◌}
+use Rattle.std.proofs.Common.{◌≡◌, ℕ, ◌-◌, ◌⊎◌, Bool, true, false, ◌&&◌, ◌||◌, not, List, [], ◌∷◌, ◌++◌, Option, Some, None, if◌then◌else◌}
+use Rattle.std.proofs.Common.{nat_eq, nat_le, refl, inl, inr}
 use Rattle.bac_apdu.specs.Apdu.{Apdu, Segment}
 use Rattle.bac_apdu.specs.Apdu.Apdu.{ConfirmedRequest, UnconfirmedRequest, SimpleAck, ComplexAck, SegmentAck, Error, Reject, Abort}
 use Rattle.bac_segment.specs.Pieces.{join}
@@ -8,7 +8,7 @@ use Rattle.bac_segment.specs.Window.{Incoming, Outgoing, Taking, acknowledged, a
 use Rattle.bac_service.specs.Choices.{has_simple_ack, has_complex_ack}
 use Rattle.bac_protocol.specs.declared.times.TheConstants.{T_OUT, T_SEG, T_WAIT_FOR_SEG}
 use Rattle.bac_protocol.specs.Context.{Context}
-use Rattle.bac_protocol.specs.Service.{BUFFER_OVERFLOW, Ending, OTHER, Octets, Readable, Reply as reply}
+use Rattle.bac_protocol.specs.Service.{Ending, OTHER, Octets, Readable, Reply as reply}
 use Rattle.bac_protocol.specs.Service.Ending.{Aborted, Answered, Expired, Rejected, TimedOut}
 use Rattle.bac_protocol.specs.Wire.{Each, is_from_server}
 use Rattle.bac_protocol.specs.Client as client

@@ -1,10 +1,9 @@
 -- Each event of a run in which servers let invoke IDs be used again is followed; so its log is right.
-use Rattle.std.proofs.Common.{◌≡◌, ℕ, suc, ◌+◌, ◌-◌, ◌<◌, ◌≤◌, ◌⊎◌, Bool, true, false, ◌&&◌, not, List, [], ◌∷◌, ◌++◌, map, Option, Some, None}
+use Rattle.std.proofs.Common.{◌≡◌, ℕ, ◌-◌, ◌≤◌, ◌⊎◌, Bool, true, false, ◌&&◌, List, [], ◌∷◌, ◌++◌, map, Option, Some, None}
 use Rattle.std.proofs.Common.{slice_get, if◌then◌else◌, nat_eq, nat_le, refl, ap, sym, subst, inl, inr, ◌∙◌, arith}
 use Rattle.std.proofs.lemmas.Bool.Decides.{nat_tests}
 use Rattle.bac_apdu.specs.Apdu.{Apdu}
 use Rattle.bac_apdu.specs.Apdu.Apdu.{Abort}
-use Rattle.bac_protocol.specs.declared.times.TheConstants.{KEEP}
 use Rattle.bac_protocol.specs.Pace.{IsTimely, Pace, clock_at}
 use Rattle.bac_protocol.specs.Context.{Context}
 use Rattle.bac_protocol.specs.Service.{Ending, OTHER, Octets}
@@ -30,7 +29,7 @@ use Rattle.bac_protocol.proofs.Alone.{one}
 use Rattle.bac_protocol.proofs.Asks.{IsSpent}
 use Rattle.bac_protocol.proofs.Calm.{spent_free}
 use Rattle.bac_protocol.proofs.Dead.{ended_is_silent}
-use Rattle.bac_protocol.proofs.Facts.{Grows, all_map, grows_more}
+use Rattle.bac_protocol.proofs.Facts.{all_map, grows_more}
 use Rattle.bac_protocol.proofs.Headline.{net_log}
 use Rattle.bac_protocol.proofs.Keys.{copy_at, decide_key, set_nothing, set_other, set_same}
 use Rattle.bac_protocol.proofs.Nets.{sound_at}
@@ -38,7 +37,7 @@ use Rattle.bac_protocol.proofs.Paces.{shows_on}
 use Rattle.bac_protocol.proofs.Served.{IsServed, ticks_quiet}
 use Rattle.bac_reuse.specs.Once.{IsOnceSo}
 use Rattle.bac_reuse.specs.Runs.{ReadsChangeNothing, Reusing, arrives_so, delivered_so, happens_so, run_so, takes_at_server_so}
-use Rattle.bac_reuse.proofs.Beside.{AbortsOf, AreGone, AreLike, Fit, IsForeign, IsLike, IsYoung, Own, aborted, fit_later, fit_none, fit_on, foreign_more, gone_both, like_at}
+use Rattle.bac_reuse.proofs.Beside.{AbortsOf, AreGone, Fit, IsForeign, IsLike, IsYoung, Own, fit_later, fit_none, fit_on, foreign_more, gone_both, like_at}
 use Rattle.bac_reuse.proofs.Beside.{ended_away_grows, like_key, likes_join, likes_later, likes_map, likes_same, logs_both, logs_ending_away, logs_served, over, served_grows, set_keeps}
 use Rattle.bac_reuse.proofs.Clients.{AbortsIf, EndsAsAborted, IsAnswer, answer_comes, asks_steady, gets_steady, steady_ends, ticks_steady}
 use Rattle.bac_reuse.proofs.FreshReads.{hears_served}
@@ -285,26 +284,35 @@ module _ (S : Type 0) (model : StoreModel S) (opening : ℕ → S) (W : ℕ) (x 
 
     new_post : (a : Apdu) → AbortsIf (is_idle (client.asked_ticket asking ask).phase) a
         → IsLike asked_net (fact ∷ g.log) (post_of key w.net.now a) (post_of key w.net.now a)
-    new_post a h = inl (refl, λ young. subst (λ (o : Option ClientTransaction). AbortsOf o a)
-        (sym (set_same w.net.tickets key (Some (client.asked_ticket asking ask)))) h)
+    new_post a h = inl (
+      refl,
+      λ young. subst (λ (o : Option ClientTransaction). AbortsOf o a)
+          (sym (set_same w.net.tickets key (Some (client.asked_ticket asking ask)))) h,
+    )
 
     gone : (o : Option ServerTransaction) → w.net.entries key ≡ o → IsGone (server_now w.net key) o
     gone None is = tt
     gone (Some e) is = spent.dead e is
 
     asks : Follows (ask_made S x (over S w g) key ask)
-    asks = (ask_made S x w key ask, asked, kept_ask, record {
-      posts = likes_join (IsLike asked_net (fact ∷ g.log)) g.posts w.net.posts (map (post_of key w.net.now) sends) (map (post_of key w.net.now) sends)
-          (likes_map (IsLike w.net g.log) (IsLike asked_net (fact ∷ g.log)) g.posts w.net.posts old_post l.posts)
-          (likes_same (IsLike asked_net (fact ∷ g.log)) key w.net.now sends
-          (all_map (AbortsIf (is_idle (client.asked_ticket asking ask).phase))
-          (λ a. IsLike asked_net (fact ∷ g.log) (post_of key w.net.now a) (post_of key w.net.now a)) new_post sends
-          (steady_ends (client_now w.net key) (client.new_ticket (client_now w.net key) ask) (client.asks asking ask) (asks_steady asking ask))));
-      entries = λ k. set_keeps w.net.tickets key (Some (client.asked_ticket asking ask)) (λ j o. Fit u j (server_now w.net j) o (g.entries j) (w.net.entries j)) k (l.entries k)
-          (λ h. inl (gone_both u key (server_now w.net key) (w.net.tickets key) (g.entries key) (w.net.entries key) (gone (w.net.entries key) refl) h));
-      logs = logs_both u.reads g.log w.net.log l.logs fact;
-      once = (w.stores, (right.0 ∙ sym l.logs.counted, λ node. refl), l.once);
-    }, refl)
+    asks = (
+      ask_made S x w key ask,
+      asked,
+      kept_ask,
+      record {
+        posts = likes_join (IsLike asked_net (fact ∷ g.log)) g.posts w.net.posts (map (post_of key w.net.now) sends) (map (post_of key w.net.now) sends)
+            (likes_map (IsLike w.net g.log) (IsLike asked_net (fact ∷ g.log)) g.posts w.net.posts old_post l.posts)
+            (likes_same (IsLike asked_net (fact ∷ g.log)) key w.net.now sends
+            (all_map (AbortsIf (is_idle (client.asked_ticket asking ask).phase))
+            (λ a. IsLike asked_net (fact ∷ g.log) (post_of key w.net.now a) (post_of key w.net.now a)) new_post sends
+            (steady_ends (client_now w.net key) (client.new_ticket (client_now w.net key) ask) (client.asks asking ask) (asks_steady asking ask))));
+        entries = λ k. set_keeps w.net.tickets key (Some (client.asked_ticket asking ask)) (λ j o. Fit u j (server_now w.net j) o (g.entries j) (w.net.entries j)) k (l.entries k)
+            (λ h. inl (gone_both u key (server_now w.net key) (w.net.tickets key) (g.entries key) (w.net.entries key) (gone (w.net.entries key) refl) h));
+        logs = logs_both u.reads g.log w.net.log l.logs fact;
+        once = (w.stores, (right.0 ∙ sym l.logs.counted, λ node. refl), l.once);
+      },
+      refl,
+    )
       where
         right : IsOrderly (Asked w.net.asks key.client key.server (request_of ask) ∷ w.net.log)
         right = (net_log W asked_net kept_ask.net).orderly
@@ -321,18 +329,28 @@ module _ (S : Type 0) (model : StoreModel S) (opening : ℕ → S) (W : ℕ) (x 
     -- a fact of no ask enters both logs
     more_post : (f : Fact) (p q : Post) → IsLike w.net g.log p q → IsLike w.net (f ∷ g.log) p q
     more_post f p q (inl h) = inl h
-    more_post f p q (inr h) = inr (h.0, h.1, λ young.
-        foreign_more (w.net.numbers p.key) (w.net.tickets p.key) g.log (f ∷ g.log) (grows_more f g.log) p.copy.apdu (h.2 young))
+    more_post f p q (inr h) = inr (
+      h.0,
+      h.1,
+      λ young.
+          foreign_more (w.net.numbers p.key) (w.net.tickets p.key) g.log (f ∷ g.log) (grows_more f g.log) p.copy.apdu (h.2 young),
+    )
 
     time_passes : (by : ℕ) (clients servers : ℕ → ℕ) → Follows (happens S model x (over S w g) (Advance by clients servers))
-    time_passes by clients servers = (happens S model x w (Advance by clients servers), g, time_stands W w.net s by clients servers, record {
-      posts = likes_map (IsLike w.net g.log) (IsLike (passes w.net by clients servers) g.log) g.posts w.net.posts (λ n p q at h. later_post p q h) l.posts;
-      entries = λ k. fit_later u k (server_now w.net k) (server_now (passes w.net by clients servers) k)
-          (shows_on w.net.pace (s.calm k).timely.some by (servers k.server) (w.net.server_clocks k.server) (s.calm k).server) (w.net.tickets k) (g.entries k)
-          (w.net.entries k) (l.entries k);
-      logs = l.logs;
-      once = l.once;
-    }, refl)
+    time_passes by clients servers = (
+      happens S model x w (Advance by clients servers),
+      g,
+      time_stands W w.net s by clients servers,
+      record {
+        posts = likes_map (IsLike w.net g.log) (IsLike (passes w.net by clients servers) g.log) g.posts w.net.posts (λ n p q at h. later_post p q h) l.posts;
+        entries = λ k. fit_later u k (server_now w.net k) (server_now (passes w.net by clients servers) k)
+            (shows_on w.net.pace (s.calm k).timely.some by (servers k.server) (w.net.server_clocks k.server) (s.calm k).server) (w.net.tickets k) (g.entries k)
+            (w.net.entries k) (l.entries k);
+        logs = l.logs;
+        once = l.once;
+      },
+      refl,
+    )
       where
         earlier : (p : Post) → IsYoung (passes w.net by clients servers) p → IsYoung w.net p
         earlier p young = omega (arith, young)
@@ -379,12 +397,18 @@ module _ (S : Type 0) (model : StoreModel S) (opening : ℕ → S) (W : ℕ) (x 
         fits k false = l.entries k
 
     client_restarts : (node exact : ℕ) → Follows (happens S model x (over S w g) (RestartClient node exact))
-    client_restarts node exact = (happens S model x w (RestartClient node exact), g, client_restart_stands W w.net s node exact, record {
-      posts = likes_map (IsLike w.net g.log) (IsLike (client_restarted w.net node exact) g.log) g.posts w.net.posts (λ n p q at h. lost_post p q h) l.posts;
-      entries = λ k. fits k (nat_eq k.client node);
-      logs = l.logs;
-      once = l.once;
-    }, refl)
+    client_restarts node exact = (
+      happens S model x w (RestartClient node exact),
+      g,
+      client_restart_stands W w.net s node exact,
+      record {
+        posts = likes_map (IsLike w.net g.log) (IsLike (client_restarted w.net node exact) g.log) g.posts w.net.posts (λ n p q at h. lost_post p q h) l.posts;
+        entries = λ k. fits k (nat_eq k.client node);
+        logs = l.logs;
+        once = l.once;
+      },
+      refl,
+    )
       where
         fits : (k : Key) (b : Bool) → Fit u k (server_now w.net k) (if b then lost (w.net.tickets k) else w.net.tickets k) (g.entries k) (w.net.entries k)
         fits k true = fit_lost u k (server_now w.net k) (w.net.tickets k) (g.entries k) (w.net.entries k) (l.entries k)
@@ -421,8 +445,12 @@ module _ (S : Type 0) (model : StoreModel S) (opening : ℕ → S) (W : ℕ) (x 
       where
         far_post : (p q : Post) → IsLike w.net g.log p q → IsLike w.net (served key (begin_of v.entry) v.effect g.log) p q
         far_post p q (inl h) = inl h
-        far_post p q (inr h) = inr (h.0, h.1, λ young. foreign_more (w.net.numbers p.key) (w.net.tickets p.key) g.log (served key (begin_of v.entry) v.effect g.log)
-            (served_grows key (begin_of v.entry) v.effect g.log) p.copy.apdu (h.2 young))
+        far_post p q (inr h) = inr (
+          h.0,
+          h.1,
+          λ young. foreign_more (w.net.numbers p.key) (w.net.tickets p.key) g.log (served key (begin_of v.entry) v.effect g.log)
+              (served_grows key (begin_of v.entry) v.effect g.log) p.copy.apdu (h.2 young),
+        )
 
         go : (o : Option Effect) → IsServed (service_of S model w key) o
             → IsOnceSo S model u.reads opening (served key (begin_of v.entry) o g.log) (stored S model key.server o w.stores)
@@ -447,17 +475,25 @@ module _ (S : Type 0) (model : StoreModel S) (opening : ℕ → S) (W : ℕ) (x 
       where
         far_post : (p q : Post) → IsLike w.net g.log p q → IsLike (client_acts_away w.net key t r) (ended_away (w.net.far.numbers key) (client.ending_of r) g.log) p q
         far_post p q (inl h) = inl h
-        far_post p q (inr h) = inr (h.0, h.1, λ young. foreign_more (w.net.numbers p.key) (w.net.tickets p.key) g.log (ended_away (w.net.far.numbers key) (client.ending_of r) g.log)
-            (ended_away_grows (w.net.far.numbers key) (client.ending_of r) g.log) p.copy.apdu (h.2 young))
+        far_post p q (inr h) = inr (
+          h.0,
+          h.1,
+          λ young. foreign_more (w.net.numbers p.key) (w.net.tickets p.key) g.log (ended_away (w.net.far.numbers key) (client.ending_of r) g.log)
+              (ended_away_grows (w.net.far.numbers key) (client.ending_of r) g.log) p.copy.apdu (h.2 young),
+        )
 
         go : (o : Option Ending) → IsOrderly (ended_away (w.net.far.numbers key) o w.net.log)
             → IsOnceSo S model u.reads opening (ended_away (w.net.far.numbers key) o g.log) w.stores
         go None right = l.once
-        go (Some how) right = (w.stores, (
-          (right.0.0, right.0.1, right.0.2, l.logs.asked_away (w.net.far.numbers key) right.0.0 right.0.1 right.0.2 right.0.3),
-          l.logs.unended_away (w.net.far.numbers key) right.1,
-          λ node. refl,
-        ), l.once)
+        go (Some how) right = (
+          w.stores,
+          (
+            (right.0.0, right.0.1, right.0.2, l.logs.asked_away (w.net.far.numbers key) right.0.0 right.0.1 right.0.2 right.0.3),
+            l.logs.unended_away (w.net.far.numbers key) right.1,
+            λ node. refl,
+          ),
+          l.once,
+        )
 
     far_hears : (key : Key) (a : Apdu) (o : Option ClientTransaction) → w.net.far.tickets key ≡ o → Follows (strays_to_client S x (over S w g) key a o)
     far_hears key a None at = stands w g s l
@@ -477,28 +513,32 @@ module _ (S : Type 0) (model : StoreModel S) (opening : ℕ → S) (W : ℕ) (x 
         (hears_served c service (u.reuses key.server) u.reads (g.far_entries key) (is_room w.net key free) a)
     strays key free a false = far_hears key a (w.net.far.tickets key) refl
 
-    far_asks : (key : Key) (ask : Ask) (b : Bool) → Follows (if b then over S w g else asked_away S x (over S w g) key ask)
-    far_asks key ask true = stands w g s l
-    far_asks key ask false = (
-      asked_away S x w key ask,
-      record g { log = AskedAway w.net.asks key.client key.server (request_of ask) ∷ g.log },
-      away_asks W w.net s x key ask,
+    far_asks : (key : Key) (away : Ask) (b : Bool) → Follows (if b then over S w g else asked_away S x (over S w g) key away)
+    far_asks key away true = stands w g s l
+    far_asks key away false = (
+      asked_away S x w key away,
+      record g { log = AskedAway w.net.asks key.client key.server (request_of away) ∷ g.log },
+      away_asks W w.net s x key away,
       record {
-        posts = likes_map (IsLike w.net g.log) (IsLike (asked_away_at x w.net key ask) (AskedAway w.net.asks key.client key.server (request_of ask) ∷ g.log)) g.posts w.net.posts
+        posts = likes_map (IsLike w.net g.log) (IsLike (asked_away_at x w.net key away) (AskedAway w.net.asks key.client key.server (request_of away) ∷ g.log)) g.posts w.net.posts
             (λ n p q at h. far_post p q h) l.posts;
         entries = l.entries;
-        logs = logs_both u.reads g.log w.net.log l.logs (AskedAway w.net.asks key.client key.server (request_of ask));
+        logs = logs_both u.reads g.log w.net.log l.logs (AskedAway w.net.asks key.client key.server (request_of away));
         once = (w.stores, ((net_log W w.net s.net).counted ∙ sym l.logs.counted, λ node. refl), l.once);
       },
       refl,
     )
       where
         far_post : (p q : Post) → IsLike w.net g.log p q
-            → IsLike (asked_away_at x w.net key ask) (AskedAway w.net.asks key.client key.server (request_of ask) ∷ g.log) p q
+            → IsLike (asked_away_at x w.net key away) (AskedAway w.net.asks key.client key.server (request_of away) ∷ g.log) p q
         far_post p q (inl h) = inl h
-        far_post p q (inr h) = inr (h.0, h.1, λ young. foreign_more (w.net.numbers p.key) (w.net.tickets p.key) g.log
-            (AskedAway w.net.asks key.client key.server (request_of ask) ∷ g.log) (grows_more (AskedAway w.net.asks key.client key.server (request_of ask)) g.log)
-            p.copy.apdu (h.2 young))
+        far_post p q (inr h) = inr (
+          h.0,
+          h.1,
+          λ young. foreign_more (w.net.numbers p.key) (w.net.tickets p.key) g.log
+              (AskedAway w.net.asks key.client key.server (request_of away) ∷ g.log) (grows_more (AskedAway w.net.asks key.client key.server (request_of away)) g.log)
+              p.copy.apdu (h.2 young),
+        )
 
     far_ticket_ticks : (key : Key) (o : Option ClientTransaction) → w.net.far.tickets key ≡ o → Follows (ticks_ticket_away S x (over S w g) key o)
     far_ticket_ticks key None at = stands w g s l

@@ -1,5 +1,5 @@
 -- What comes of a read in one APDU at a server that lets invoke IDs be used again.
-use Rattle.std.proofs.Common.{◌≡◌, ℕ, ◌⊎◌, Bool, true, false, ◌&&◌, ◌||◌, not, List, [], ◌∷◌, ◌++◌, Option, Some, None, if◌then◌else◌, nat_eq, refl, ap, sym, subst, inl, inr, ◌∙◌}
+use Rattle.std.proofs.Common.{◌≡◌, ℕ, ◌⊎◌, Bool, true, false, ◌&&◌, ◌||◌, not, List, [], ◌∷◌, Option, Some, None, if◌then◌else◌, nat_eq, refl, ap, sym, subst, inl, inr, ◌∙◌}
 use Rattle.bac_apdu.specs.Apdu.{Apdu, Limits, Segment}
 use Rattle.bac_apdu.specs.Apdu.Apdu.{ConfirmedRequest, UnconfirmedRequest, SimpleAck, ComplexAck, SegmentAck, Error, Reject, Abort}
 use Rattle.bac_segment.specs.Pieces.{join}

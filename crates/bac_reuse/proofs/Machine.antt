@@ -1,26 +1,26 @@
 -- What a server that lets invoke IDs be used again makes of an APDU of the newest ask, beside what one makes that does not.
-use Rattle.std.proofs.Common.{◌≡◌, ℕ, ◌+◌, ◌-◌, ◌<◌, ◌⊎◌, Bool, true, false, ◌&&◌, ◌||◌, not, List, [], ◌∷◌, Option, Some, None, if◌then◌else◌}
+use Rattle.std.proofs.Common.{◌≡◌, ℕ, ◌+◌, ◌-◌, ◌<◌, ◌⊎◌, Bool, true, false, ◌&&◌, not, List, [], ◌∷◌, Option, Some, None, if◌then◌else◌}
 use Rattle.std.proofs.Common.{nat_eq, nat_le, refl, ap, sym, subst, inl, inr, ◌∙◌, arith}
 use Rattle.std.specs.Prelude.{is_some}
 use Rattle.std.specs.Str.{bytes_eq}
 use Rattle.std.proofs.lemmas.Bool.Decides.{nat_tests}
 use Rattle.std.proofs.lemmas.Slice.Eq.{bytes_eq-Decides}
-use Rattle.bac_apdu.specs.Apdu.{Apdu, Limits, Segment}
+use Rattle.bac_apdu.specs.Apdu.{Apdu}
 use Rattle.bac_apdu.specs.Apdu.Apdu.{ConfirmedRequest, UnconfirmedRequest, SimpleAck, ComplexAck, SegmentAck, Error, Reject, Abort}
 use Rattle.bac_segment.specs.Pieces.{join}
-use Rattle.bac_segment.specs.Window.{Outgoing, Taking, acknowledged, again, incoming, is_finished, outgoing, resume, takes}
+use Rattle.bac_segment.specs.Window.{Outgoing, Taking, acknowledged, again, incoming, is_finished, resume, takes}
 use Rattle.bac_protocol.specs.declared.times.TheConstants.{KEEP, T_SEG}
 use Rattle.bac_protocol.specs.Context.{Context}
 use Rattle.bac_protocol.specs.Service.{OTHER, Octets, Outcome, Reply as reply}
 use Rattle.bac_protocol.specs.Service.Outcome.{Replies, Rejects}
 use Rattle.bac_protocol.specs.Sizes.{Way, reply_way_of}
 use Rattle.bac_protocol.specs.Sizes.Way.{InOne, InSegments, Refused}
-use Rattle.bac_protocol.specs.Client.{Ask, request_of}
+use Rattle.bac_protocol.specs.Client.{Ask}
 use Rattle.bac_protocol.specs.Server as server
 use Rattle.bac_protocol.specs.Server.{Effect, Reaction, ServerTransaction, Service, State, Transfer, is_kept, is_live, is_none_live, server_on_apdu, server_ticks}
 use Rattle.bac_protocol.specs.Server.State.{Done, SegmentedResponse, Dropped}
 use Rattle.bac_protocol.specs.Server.Transfer.{Running, Stopped, Finished}
-use Rattle.bac_protocol.specs.Reuse.{Reads, idle_on_read, idle_reusing, is_ended_by, is_over, is_transfer_over, left_on_apdu, reusing_on_apdu, server_hears}
+use Rattle.bac_protocol.specs.Reuse.{Reads, idle_on_read, idle_reusing, is_ended_by, is_transfer_over, left_on_apdu, reusing_on_apdu}
 use Rattle.bac_protocol.specs.Steps.{IsSegmentedRequest, MayPerform, StateStays, StaysIn}
 use Rattle.bac_protocol.proofs.Reused.{goes_on_as_ever, goes_on_where}
 use Rattle.bac_protocol.proofs.Served.{effects_are_kept, live_stays_law}

@@ -1,10 +1,9 @@
 -- What comes of an APDU of the newest ask at both servers.
-use Rattle.std.proofs.Common.{◌≡◌, ℕ, ◌+◌, ◌-◌, ◌<◌, ◌⊎◌, Bool, true, false, List, [], ◌∷◌, Option, Some, None, if◌then◌else◌}
+use Rattle.std.proofs.Common.{◌≡◌, ℕ, ◌+◌, ◌-◌, ◌<◌, ◌⊎◌, Bool, true, false, [], ◌∷◌, Option, Some, None}
 use Rattle.std.proofs.Common.{nat_le, refl, ap, sym, subst, inl, inr, ◌∙◌, arith}
 use Rattle.std.proofs.lemmas.Bool.Decides.{nat_tests}
-use Rattle.bac_apdu.specs.Apdu.{Apdu, Limits, Segment}
+use Rattle.bac_apdu.specs.Apdu.{Apdu, Limits}
 use Rattle.bac_apdu.specs.Apdu.Apdu.{ConfirmedRequest, UnconfirmedRequest, SimpleAck, ComplexAck, SegmentAck, Error, Reject, Abort}
-use Rattle.bac_segment.specs.Window.{Outgoing}
 use Rattle.bac_protocol.specs.declared.times.TheConstants.{KEEP}
 use Rattle.bac_protocol.specs.Context.{Context}
 use Rattle.bac_protocol.specs.Service.{OTHER, Octets}
@@ -16,8 +15,8 @@ use Rattle.bac_protocol.specs.Reuse.{idle_on_read, is_over, is_transfer_over, re
 use Rattle.bac_protocol.specs.Transaction.{Key}
 use Rattle.bac_protocol.proofs.Reused.{goes_on_where}
 use Rattle.bac_reuse.specs.Runs.{Reusing}
-use Rattle.bac_reuse.proofs.Beside.{AreApart, AreGone, AreSame, FitOf, Holds, IsFresh, IsLeftOf, fresh_is, is_fresh, not_fresh}
-use Rattle.bac_reuse.proofs.FreshReads.{BeginsNow, BeginsRead, GoesAlone, IsFreshRead, alone_none, alone_some, ended_read, going_read, idle_reads, read_goes}
+use Rattle.bac_reuse.proofs.Beside.{AreGone, FitOf, Holds, IsFresh, IsLeftOf, fresh_is, is_fresh, not_fresh}
+use Rattle.bac_reuse.proofs.FreshReads.{BeginsNow, BeginsRead, GoesAlone, IsFreshRead, alone_none, alone_some, going_read, idle_reads, read_goes}
 use Rattle.bac_reuse.proofs.Machine.{AreOne, BothRest, EntryIs, GoesOnFrom, IsFor, IsGiving, IsGone, IsRequestOf, OverBy, OverIf}
 use Rattle.bac_reuse.proofs.Machine.{gets_gives, gets_over, gone_gets, gone_reuses, idle_pair, idle_same, live_for, live_same}
 
@@ -163,11 +162,14 @@ module _ (c : Context) (service : Service) (u : Reusing) (key : Key) (ask : Ask)
             subst (λ (w : Reaction). EntryIs (GivesOn c service idle (ConfirmedRequest limits id None choice octets)) w.entry) (sym (h.1 p) ∙ sym theirs)
                 (begins_on (ConfirmedRequest limits id None choice octets) v.entry h.0.entry),
           )
-          go v is (inr (inl h)) = inr (inl (gone, (
-            server.server_abort c OTHER ∷ [],
-            is ∙ h.0,
-            theirs ∙ ap (λ b. server.idle_on_request c service p b choice limits octets) h.1,
-          )))
+          go v is (inr (inl h)) = inr (inl (
+            gone,
+            (
+              server.server_abort c OTHER ∷ [],
+              is ∙ h.0,
+              theirs ∙ ap (λ b. server.idle_on_request c service p b choice limits octets) h.1,
+            ),
+          ))
           go v is (inr (inr h)) = inr (inr (inl (refl, gone, subst (IsFreshRead c service ask o) (sym is) h)))
 
       -- what is no request

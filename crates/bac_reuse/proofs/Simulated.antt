@@ -1,5 +1,5 @@
 -- A run in which servers let invoke IDs be used again is followed by a world of bac_protocol.
-use Rattle.std.proofs.Common.{◌≡◌, ℕ, suc, ◌+◌, ◌-◌, ◌<◌, ◌≤◌, ◌⊎◌, Bool, true, false, ◌&&◌, not, List, [], ◌∷◌, ◌++◌, length, map, Option, Some, None}
+use Rattle.std.proofs.Common.{◌≡◌, ℕ, ◌+◌, ◌-◌, ◌<◌, ◌≤◌, ◌⊎◌, Bool, true, false, List, [], ◌∷◌, ◌++◌, length, map, Option, Some, None}
 use Rattle.std.proofs.Common.{slice_get, if◌then◌else◌, nat_eq, nat_le, refl, ap, sym, subst, inl, inr, ◌∙◌, arith}
 use Rattle.std.proofs.lemmas.Bool.Decides.{nat_tests}
 use Rattle.bac_apdu.specs.Apdu.{Apdu}
@@ -7,8 +7,7 @@ use Rattle.bac_apdu.specs.Apdu.Apdu.{ConfirmedRequest, UnconfirmedRequest, Simpl
 use Rattle.bac_segment.specs.Window.{Outgoing, is_finished}
 use Rattle.bac_protocol.specs.declared.times.TheConstants.{KEEP}
 use Rattle.bac_protocol.specs.Context.{Context}
-use Rattle.bac_protocol.specs.Service.{Ending, OTHER, Octets, Request}
-use Rattle.bac_protocol.specs.Service.Ending.{Aborted}
+use Rattle.bac_protocol.specs.Service.{Ending, OTHER, Request}
 use Rattle.bac_protocol.specs.Wire.{Each, is_from_client}
 use Rattle.bac_protocol.specs.Client as client
 use Rattle.bac_protocol.specs.Client.{Ask, ClientTransaction, Phase, after, is_idle, request_of}
@@ -17,14 +16,13 @@ use Rattle.bac_protocol.specs.Client.Reaction.{Ends, GoesOn, Repeats, Stays}
 use Rattle.bac_protocol.specs.Server as server
 use Rattle.bac_protocol.specs.Server.{Effect, ServerTransaction, Service, State, Transfer, is_live, server_on_apdu}
 use Rattle.bac_protocol.specs.Log.{Fact, Has, IsOrderly, IsUnperformed, MayEnd, StoreModel}
-use Rattle.bac_protocol.specs.Log.Fact.{Asked, Ended, Performed}
-use Rattle.bac_protocol.specs.Own.{IsOfServer}
+use Rattle.bac_protocol.specs.Log.Fact.{Asked, Ended}
 use Rattle.bac_protocol.specs.Reuse.{is_transfer_over, server_hears}
-use Rattle.bac_protocol.specs.Transaction.{Copy, Key, Rules, client_context, ended, performed, server_context}
-use Rattle.bac_protocol.specs.World.{Net, Post, World, client_acts, client_now, is_room, later, post_of, reacts, server_acts, server_now, serves, service_of, set_at, stored}
+use Rattle.bac_protocol.specs.Transaction.{Copy, Key, Rules, ended, performed, server_context}
+use Rattle.bac_protocol.specs.World.{Net, Post, World, client_acts, client_now, is_room, post_of, reacts, server_acts, server_now, serves, service_of, set_at, stored}
 use Rattle.bac_protocol.specs.Claims.{IsBounded, Moments, moments_of}
 use Rattle.bac_protocol.proofs.Alone.{one}
-use Rattle.bac_protocol.proofs.Facts.{Grows, all_map, grows_same}
+use Rattle.bac_protocol.proofs.Facts.{all_map, grows_same}
 use Rattle.bac_protocol.proofs.Headline.{asked_once, net_log}
 use Rattle.bac_protocol.proofs.Keys.{decide_key, set_other, set_same}
 use Rattle.bac_protocol.proofs.Nets.{room_opens, sound_at}
@@ -34,14 +32,14 @@ use Rattle.bac_protocol.proofs.Sound.{ClientFits, Down, DownFits, IsBegunFor, Is
 use Rattle.bac_protocol.proofs.Sound.Down.{Sent, Unsent}
 use Rattle.bac_reuse.specs.Once.{IsOnceSo}
 use Rattle.bac_reuse.specs.Runs.{ReadsChangeNothing, Reusing}
-use Rattle.bac_reuse.proofs.Beside.{AbortsOf, AreGone, AreLike, AreLogs, Fit, FitOf, Holds, IsForeign, IsLeftOf, IsLike, IsYoung, Own, WasRead, aborted, aborts_on}
+use Rattle.bac_reuse.proofs.Beside.{AbortsOf, AreGone, AreLike, AreLogs, Fit, FitOf, Holds, IsForeign, IsLeftOf, IsLike, Own, WasRead, aborts_on}
 use Rattle.bac_reuse.proofs.Beside.{after_ask, after_idle, ended_grows, fit_on, foreign_more, foreign_on, fresh_is, given_answers, is_fresh, likes_aborts, likes_join}
 use Rattle.bac_reuse.proofs.Beside.{likes_map, likes_same, logs_effect, logs_ended, logs_ending, logs_read_effect, may_end, over, performed_grows, set_keeps}
-use Rattle.bac_reuse.proofs.Clients.{AbortsIf, IsAnswer}
-use Rattle.bac_reuse.proofs.FreshReads.{GoesAlone, IsFreshRead, IsFromServer, IsOfRead, all_from_server, given_from_server, giving_own}
-use Rattle.bac_reuse.proofs.Machine.{EntryIs, GoesOnFrom, IsClientAbort, IsFor, IsGiving, IsGone, IsRequestOf, OverBy, OverIf, gone_ticks, ticks_for, ticks_gives, ticks_over}
-use Rattle.bac_reuse.proofs.Outcomes.{DoRest, DoSame, GivesOn, GoesApart, HoldsOn, Outcome, ReadsFresh, outcome}
-use Rattle.bac_reuse.proofs.WorldSteps.{IsInTime, IsSoon, Stands, aborts, copy_is_soon, entry_gets, entry_in_time, entry_ticks, reacts_keep, server_aborts}
+use Rattle.bac_reuse.proofs.Clients.{AbortsIf}
+use Rattle.bac_reuse.proofs.FreshReads.{IsFromServer, IsOfRead, all_from_server, given_from_server, giving_own}
+use Rattle.bac_reuse.proofs.Machine.{EntryIs, GoesOnFrom, IsClientAbort, IsGiving, IsGone, IsRequestOf, OverBy, OverIf, gone_ticks, ticks_for, ticks_gives, ticks_over}
+use Rattle.bac_reuse.proofs.Outcomes.{GivesOn, GoesApart, HoldsOn, Outcome, ReadsFresh, outcome}
+use Rattle.bac_reuse.proofs.WorldSteps.{IsInTime, IsSoon, Stands, aborts, copy_is_soon, entry_gets, entry_in_time, entry_ticks, server_aborts}
 use Rattle.bac_reuse.proofs.WorldSteps.{soon_in_time}
 
 -- what comes of the transaction is of its ask
@@ -150,20 +148,30 @@ module _ (S : Type 0) (model : StoreModel S) (opening : ℕ → S) (W : ℕ) (x 
       stays_idle = after_idle (client_now w.net key) t r silent
 
       old_post : (p q : Post) → IsLike w.net g.log p q → IsLike (client_acts w.net key t r) (ended (w.net.numbers key) o g.log) p q
-      old_post p q (inl h) = inl (h.0, λ young.
-          set_keeps w.net.tickets key (Some (after (client_now w.net key) t r)) (λ j y. AbortsOf y p.copy.apdu) p.key (h.1 young)
-          (λ a. aborts_on t (after (client_now w.net key) t r) stays_idle p.copy.apdu (subst (λ y. AbortsOf y p.copy.apdu) at a)))
-      old_post p q (inr h) = inr (h.0, h.1, λ young.
-          set_keeps w.net.tickets key (Some (after (client_now w.net key) t r)) (λ j y. IsForeign (w.net.numbers j) y (ended (w.net.numbers key) o g.log) p.copy.apdu) p.key
-          (foreign_more (w.net.numbers p.key) (w.net.tickets p.key) g.log (ended (w.net.numbers key) o g.log) (ended_grows (w.net.numbers key) o g.log) p.copy.apdu (h.2 young))
-          (λ a. foreign_on (w.net.numbers key) t (after (client_now w.net key) t r) (ended (w.net.numbers key) o g.log) (ended (w.net.numbers key) o g.log) same_ask stays_idle
-          (grows_same (ended (w.net.numbers key) o g.log)) p.copy.apdu
-          (subst (λ y. IsForeign (w.net.numbers key) y (ended (w.net.numbers key) o g.log) p.copy.apdu) at a)))
+      old_post p q (inl h) = inl (
+        h.0,
+        λ young.
+            set_keeps w.net.tickets key (Some (after (client_now w.net key) t r)) (λ j y. AbortsOf y p.copy.apdu) p.key (h.1 young)
+            (λ a. aborts_on t (after (client_now w.net key) t r) stays_idle p.copy.apdu (subst (λ y. AbortsOf y p.copy.apdu) at a)),
+      )
+      old_post p q (inr h) = inr (
+        h.0,
+        h.1,
+        λ young.
+            set_keeps w.net.tickets key (Some (after (client_now w.net key) t r)) (λ j y. IsForeign (w.net.numbers j) y (ended (w.net.numbers key) o g.log) p.copy.apdu) p.key
+            (foreign_more (w.net.numbers p.key) (w.net.tickets p.key) g.log (ended (w.net.numbers key) o g.log) (ended_grows (w.net.numbers key) o g.log) p.copy.apdu (h.2 young))
+            (λ a. foreign_on (w.net.numbers key) t (after (client_now w.net key) t r) (ended (w.net.numbers key) o g.log) (ended (w.net.numbers key) o g.log) same_ask stays_idle
+            (grows_same (ended (w.net.numbers key) o g.log)) p.copy.apdu
+            (subst (λ y. IsForeign (w.net.numbers key) y (ended (w.net.numbers key) o g.log) p.copy.apdu) at a)),
+      )
 
       new_post : (a : Apdu) → AbortsIf (is_idle (after (client_now w.net key) t r).phase) a
           → IsLike (client_acts w.net key t r) (ended (w.net.numbers key) o g.log) (post_of key w.net.now a) (post_of key w.net.now a)
-      new_post a h = inl (refl, λ young. subst (λ (y : Option ClientTransaction). AbortsOf y a)
-          (sym (set_same w.net.tickets key (Some (after (client_now w.net key) t r)))) h)
+      new_post a h = inl (
+        refl,
+        λ young. subst (λ (y : Option ClientTransaction). AbortsOf y a)
+            (sym (set_same w.net.tickets key (Some (after (client_now w.net key) t r)))) h,
+      )
 
       client_like : AreLogs u.reads (ended (w.net.numbers key) o g.log) (client_acts w.net key t r).log
           → IsOnceSo S model u.reads opening (ended (w.net.numbers key) o g.log) w.stores → Like (reacts S w key t r) acted
@@ -188,9 +196,14 @@ module _ (S : Type 0) (model : StoreModel S) (opening : ℕ → S) (W : ℕ) (x 
     pub client_same : (r : client.Reaction) → (is_idle t.phase ≡ true → r ≡ Stays)
         → Each (AbortsIf (is_idle (after (client_now w.net key) t r).phase)) (client.sends_of r) → KeptAt (reacts S w key t r)
         → IsFollowed (reacts S (over S w g) key t r)
-    client_same r silent steady kept = (reacts S w key t r, acted r silent steady (client.ending_of r), kept,
-        client_like r silent steady (client.ending_of r) (logs_ending u.reads g.log w.net.log l.logs (w.net.numbers key) (client.ending_of r))
-        (go (client.ending_of r) (net_log W (client_acts w.net key t r) kept.net).orderly), refl)
+    client_same r silent steady kept = (
+      reacts S w key t r,
+      acted r silent steady (client.ending_of r),
+      kept,
+      client_like r silent steady (client.ending_of r) (logs_ending u.reads g.log w.net.log l.logs (w.net.numbers key) (client.ending_of r))
+          (go (client.ending_of r) (net_log W (client_acts w.net key t r) kept.net).orderly),
+      refl,
+    )
       where
         go : (o : Option Ending) → IsOrderly (ended (w.net.numbers key) o w.net.log) → IsOnceSo S model u.reads opening (ended (w.net.numbers key) o g.log) w.stores
         go None right = l.once
@@ -200,9 +213,14 @@ module _ (S : Type 0) (model : StoreModel S) (opening : ℕ → S) (W : ℕ) (x 
     pub client_ended : is_idle t.phase ≡ false → (sends : List Apdu) (how other : Ending) → Each (AbortsIf true) sends
         → KeptAt (reacts S w key t (Ends sends other))
         → MayEnd (w.net.numbers key) how g.log → IsFollowed (reacts S (over S w g) key t (Ends sends how))
-    client_ended going sends how other steady kept may = (reacts S w key t (Ends sends other), acted (Ends sends other) silent steady (Some how), kept,
-        client_like (Ends sends other) silent steady (Some how) (logs_ended u.reads g.log w.net.log l.logs (w.net.numbers key) how other)
-        (w.stores, (may, l.logs.unended (w.net.numbers key) right.1, λ node. refl), l.once), refl)
+    client_ended going sends how other steady kept may = (
+      reacts S w key t (Ends sends other),
+      acted (Ends sends other) silent steady (Some how),
+      kept,
+      client_like (Ends sends other) silent steady (Some how) (logs_ended u.reads g.log w.net.log l.logs (w.net.numbers key) how other)
+          (w.stores, (may, l.logs.unended (w.net.numbers key) right.1, λ node. refl), l.once),
+      refl,
+    )
       where
         silent : is_idle t.phase ≡ true → Ends sends other ≡ Stays
         silent idle = absurd (let no : true ≡ false = sym idle ∙ going in cc)
@@ -216,14 +234,18 @@ module _ (S : Type 0) (model : StoreModel S) (opening : ℕ → S) (W : ℕ) (x 
     pub once_effect : (o : Option Effect) → IsServed (service_of S model w key) o → IsOrderly (performed (w.net.numbers key) o w.net.log)
         → IsOnceSo S model u.reads opening (performed (w.net.numbers key) o g.log) (stored S model key.server o w.stores)
     once_effect None is right = l.once
-    once_effect (Some e) is right = (w.stores, (
-      key.client,
-      key.server,
-      l.logs.asked (w.net.numbers key) key.client key.server e.request (subst (λ r. Has (Asked (w.net.numbers key) key.client key.server r) w.net.log) same was_asked),
-      before (l.logs.unperformed (w.net.numbers key) right.1),
-      is,
-      λ node. refl,
-    ), l.once)
+    once_effect (Some e) is right = (
+      w.stores,
+      (
+        key.client,
+        key.server,
+        l.logs.asked (w.net.numbers key) key.client key.server e.request (subst (λ r. Has (Asked (w.net.numbers key) key.client key.server r) w.net.log) same was_asked),
+        before (l.logs.unperformed (w.net.numbers key) right.1),
+        is,
+        λ node. refl,
+      ),
+      l.once,
+    )
       where
         same : request_of t.ask ≡ e.request
         same = asked_once (w.net.numbers key) key.client key.server right.0.0 right.0.1 (request_of t.ask) e.request w.net.log right.2 was_asked right.0.2
@@ -257,15 +279,19 @@ module _ (S : Type 0) (model : StoreModel S) (opening : ℕ → S) (W : ℕ) (x 
       once_read : (o : Option Effect) → IsOfRead (service_of S model w key) t.ask o
           → IsOnceSo S model u.reads opening (performed (w.net.numbers key) o g.log) w.stores
       once_read None of = l.once
-      once_read (Some y) of = (w.stores, (
-        key.client,
-        key.server,
-        l.logs.asked (w.net.numbers key) key.client key.server y.request
-            (subst (λ r. Has (Asked (w.net.numbers key) key.client key.server r) w.net.log) (sym of.0) was_asked),
-        inr (reads_request y of.0),
-        of.1,
-        λ node. sym (unchanged y of.0 node),
-      ), l.once)
+      once_read (Some y) of = (
+        w.stores,
+        (
+          key.client,
+          key.server,
+          l.logs.asked (w.net.numbers key) key.client key.server y.request
+              (subst (λ r. Has (Asked (w.net.numbers key) key.client key.server r) w.net.log) (sym of.0) was_asked),
+          inr (reads_request y of.0),
+          of.1,
+          λ node. sym (unchanged y of.0 node),
+        ),
+        l.once,
+      )
 
     module _ (v v' : server.Reaction) where
       abbrev acts : Own
@@ -281,8 +307,12 @@ module _ (S : Type 0) (model : StoreModel S) (opening : ℕ → S) (W : ℕ) (x 
 
       kept_post : (p q : Post) → IsLike w.net g.log p q → IsLikeNow p q
       kept_post p q (inl h) = inl h
-      kept_post p q (inr h) = inr (h.0, h.1, λ young. foreign_more (w.net.numbers p.key) (w.net.tickets p.key) g.log (performed (w.net.numbers key) v.effect g.log)
-          (performed_grows (w.net.numbers key) v.effect g.log) p.copy.apdu (h.2 young))
+      kept_post p q (inr h) = inr (
+        h.0,
+        h.1,
+        λ young. foreign_more (w.net.numbers p.key) (w.net.tickets p.key) g.log (performed (w.net.numbers key) v.effect g.log)
+            (performed_grows (w.net.numbers key) v.effect g.log) p.copy.apdu (h.2 young),
+      )
 
       entry_fits : Fit u key (server_now w.net key) (Some t) v.entry v'.entry → (k : Key)
           → Fit u k (server_now w.net k) (w.net.tickets k) (set_at g.entries key v.entry k) (set_at w.net.entries key v'.entry k)
@@ -307,13 +337,19 @@ module _ (S : Type 0) (model : StoreModel S) (opening : ℕ → S) (W : ℕ) (x 
           → AreLogs u.reads (performed (w.net.numbers key) v.effect g.log) (performed (w.net.numbers key) v'.effect w.net.log)
           → IsOnceSo S model u.reads opening (performed (w.net.numbers key) v.effect g.log) (stored S model key.server v'.effect w.stores)
           → stored S model key.server v.effect w.stores ≡ stored S model key.server v'.effect w.stores → IsFollowed (serves S model (over S w g) key v)
-      server_goes kept sends fit logs once stores = (serves S model w key v', acts, kept, record {
-        posts = likes_join IsLikeNow g.posts w.net.posts (map (post_of key w.net.now) v.sends) (map (post_of key w.net.now) v'.sends)
-            (likes_map (IsLike w.net g.log) IsLikeNow g.posts w.net.posts (λ n p q place h. kept_post p q h) l.posts) sends;
-        entries = entry_fits fit;
-        logs = logs;
-        once = once;
-      }, λ i. record { net = (serves S model (over S w g) key v).net; stores = stores i })
+      server_goes kept sends fit logs once stores = (
+        serves S model w key v',
+        acts,
+        kept,
+        record {
+          posts = likes_join IsLikeNow g.posts w.net.posts (map (post_of key w.net.now) v.sends) (map (post_of key w.net.now) v'.sends)
+              (likes_map (IsLike w.net g.log) IsLikeNow g.posts w.net.posts (λ n p q place h. kept_post p q h) l.posts) sends;
+          entries = entry_fits fit;
+          logs = logs;
+          once = once;
+        },
+        λ i. record { net = (serves S model (over S w g) key v).net; stores = stores i },
+      )
 
     -- what the server sends in both
     new_sends : (v v' : server.Reaction) (sends : List Apdu) → Each IsFromServer sends
@@ -485,9 +521,14 @@ module _ (S : Type 0) (model : StoreModel S) (opening : ℕ → S) (W : ℕ) (x 
       fresh_goes : (v : server.Reaction) → ReadsFresh told (service_of S model w key) (is_fresh u key t.ask) t.ask (g.entries key) (w.net.entries key) v → Goes v
       fresh_goes v h = subst Goes (sym (h.2).is) (server_alone (fresh_is u key t.ask h.0).read
           (record { entry = g.entries key; sends = (h.2).answer ∷ []; effect = (h.2).effect }) (w.net.entries key)
-          (server_aborts S model W x bound w s key t at (soon_in_time w.net key is_soon) ((h.2).answer ∷ []) (w.net.entries key) (inl refl))
-          ((given_from_server told t.ask (h.2).effect (h.2).answer (h.2).given, inr (given_answers (w.net.numbers key) t.ask g.log told (h.2).effect (h.2).answer (h.2).given
-          (λ y is. (subst (IsOfRead (service_of S model w key) t.ask) is (h.2).of).0))), tt)
+          (server_aborts S model W x bound w s key t at (soon_in_time w.net key is_soon) ((h.2).answer ∷ []) (w.net.entries key) (inl refl)) (
+            (
+              given_from_server told t.ask (h.2).effect (h.2).answer (h.2).given,
+              inr (given_answers (w.net.numbers key) t.ask g.log told (h.2).effect (h.2).answer (h.2).given
+                  (λ y is. (subst (IsOfRead (service_of S model w key) t.ask) is (h.2).of).0)),
+            ),
+            tt,
+          )
           (h.2).of (inl h.1))
 
       pub copy_comes : IsFollowed (serves S model (over S w g) key ours)
@@ -566,10 +607,13 @@ module _ (S : Type 0) (model : StoreModel S) (opening : ℕ → S) (W : ℕ) (x 
         by true live = subst (λ (o : Option ServerTransaction). Ticks (server.server_ticks ticking o)) (sym same)
             (server_same (server.server_ticks ticking (w.net.entries key)) kept_ticks from_ticks
             (subst (IsServed (service_of S model w key)) (sym (ticks_quiet ticking (w.net.entries key))) tt)
-            (inr (inl (refl, holds_next (server.server_ticks ticking (w.net.entries key)) kept_ticks (service_of S model w key) no_apdu (λ abort. absurd abort)
-            (is_fresh u key t.ask)
-            (subst (λ (o : Option ServerTransaction). EntryIs (HoldsOn ticking (service_of S model w key) (is_fresh u key t.ask) (is_idle t.phase) t.ask no_apdu)
-            (server.server_ticks ticking o).entry) (sym is) (ticks_hold (is_fresh u key t.ask) e live h))))))
+            (inr (inl (
+              refl,
+              holds_next (server.server_ticks ticking (w.net.entries key)) kept_ticks (service_of S model w key) no_apdu (λ abort. absurd abort)
+                  (is_fresh u key t.ask)
+                  (subst (λ (o : Option ServerTransaction). EntryIs (HoldsOn ticking (service_of S model w key) (is_fresh u key t.ask) (is_idle t.phase) t.ask no_apdu)
+                  (server.server_ticks ticking o).entry) (sym is) (ticks_hold (is_fresh u key t.ask) e live h)),
+            ))))
 
     apart_tick : is_fresh u key t.ask ≡ true → is_idle t.phase ≡ true → (o : Option ServerTransaction) → g.entries key ≡ o → (e : ServerTransaction)
         → w.net.entries key ≡ Some e → IsLeftOf e o → Ticks (server.server_ticks ticking o)
@@ -604,8 +648,10 @@ module _ (S : Type 0) (model : StoreModel S) (opening : ℕ → S) (W : ℕ) (x 
         by : (b : Bool) → is_live (server_now w.net key) e ≡ b → Ticks (server.server_ticks ticking o)
         by true live = live_tick o left live
         by false dead = subst (λ (q : Option ServerTransaction). Ticks (server.server_ticks ticking q)) ours
-            (gone_tick (subst (IsGone (server_now w.net key)) (sym ours) (left_gone o left (dead_now e dead)),
-            subst (IsGone (server_now w.net key)) (sym theirs) (dead_now e dead)))
+            (gone_tick (
+              subst (IsGone (server_now w.net key)) (sym ours) (left_gone o left (dead_now e dead)),
+              subst (IsGone (server_now w.net key)) (sym theirs) (dead_now e dead),
+            ))
 
     pub ticks_on : Ticks (server.server_ticks ticking (g.entries key))
     ticks_on = by fit_at

@@ -1,13 +1,12 @@
 -- Steps of a world of bac_protocol that keep what holds of it: those of its machines, and others that no event makes, in which a server answers with Aborts
 -- in time, or a client gives up in time.
-use Rattle.std.proofs.Common.{◌≡◌, ℕ, ◌+◌, ◌-◌, ◌<◌, ◌≤◌, ◌⊎◌, Bool, true, false, ◌&&◌, not, List, [], ◌∷◌, ◌++◌, length, map, Option, Some, None, slice_get}
-use Rattle.std.proofs.Common.{if◌then◌else◌, nat_eq, nat_le, refl, ap, sym, subst, inl, inr, ◌∙◌, arith}
+use Rattle.std.proofs.Common.{◌≡◌, ℕ, ◌+◌, ◌-◌, ◌<◌, ◌≤◌, ◌⊎◌, Bool, true, false, List, [], ◌∷◌, length, Option, Some, None, slice_get}
+use Rattle.std.proofs.Common.{if◌then◌else◌, refl, sym, subst, inl, inr, ◌∙◌, arith}
 use Rattle.std.proofs.lemmas.Bool.Decides.{nat_tests}
 use Rattle.bac_apdu.specs.Apdu.{Apdu}
 use Rattle.bac_apdu.specs.Apdu.Apdu.{ConfirmedRequest, UnconfirmedRequest, SimpleAck, ComplexAck, SegmentAck, Error, Reject, Abort}
-use Rattle.bac_protocol.specs.declared.times.TheConstants.{DEADLINE, KEEP}
+use Rattle.bac_protocol.specs.declared.times.TheConstants.{KEEP}
 use Rattle.bac_protocol.specs.Pace.{IsTimely, Pace, Since, clock_at, most}
-use Rattle.bac_protocol.specs.Context.{Context}
 use Rattle.bac_protocol.specs.Service.{Ending, OTHER, Octets}
 use Rattle.bac_protocol.specs.Service.Ending.{Aborted}
 use Rattle.bac_protocol.specs.Wire.{Each, is_from_client}
@@ -22,13 +21,13 @@ use Rattle.bac_protocol.specs.Own.{IsOwnEntry}
 use Rattle.bac_protocol.specs.Transaction.{Copy, Key, Rules, client_context, ended_away, server_context}
 use Rattle.bac_protocol.specs.World.{Net, Strangers, World, asked_at, asked_away_at, client_acts, client_acts_away, client_now, client_restarted, is_id_held, is_room}
 use Rattle.bac_protocol.specs.World.{net_start, notes_change, passes, reacts, server_acts, server_now, server_restarted, serves, service_of, set_at}
-use Rattle.bac_protocol.specs.Claims.{EachCopy, IsBegunSince, IsBounded, Moments, client_until, moments_of, server_until}
-use Rattle.bac_protocol.proofs.Alone.{Transaction, client_does, one, sent, server_does}
+use Rattle.bac_protocol.specs.Claims.{EachCopy, IsBounded, Moments, client_until, moments_of, server_until}
+use Rattle.bac_protocol.proofs.Alone.{client_does, one, sent, server_does}
 use Rattle.bac_protocol.proofs.Calm.{Calm, IsBegunBy, IsCalm, calm_asked, calm_changed, calm_client, calm_client_restarted, calm_gets, calm_later, calm_server}
 use Rattle.bac_protocol.proofs.Calm.{calm_server_restarted, calm_start, calm_ticks, id_free, spent_free}
 use Rattle.bac_protocol.proofs.ClientKeeps.{client_gets_kept, client_ticks_kept}
 use Rattle.bac_protocol.proofs.Dead.{ended_is_silent}
-use Rattle.bac_protocol.proofs.Facts.{all_map, copies_go, down_same, each_sent, grows_same, up_same}
+use Rattle.bac_protocol.proofs.Facts.{copies_go, down_same, each_sent, grows_same, up_same}
 use Rattle.bac_protocol.proofs.Headline.{net_log}
 use Rattle.bac_protocol.proofs.Nets.{NetSound, log_away, net_asked, net_away, net_changed, net_client, net_client_restarted, net_far, net_later, net_server}
 use Rattle.bac_protocol.proofs.Nets.{net_server_restarted, net_starts, room_opens, sound_at}

@@ -1,5 +1,5 @@
 -- Runs that are computed, in which node 1 lets invoke IDs be used again. A store counts its writes, a reply tells how many there were, and choice 12 is a read.
-use Rattle.std.specs.Prelude.{◌≡◌, ℕ, suc, true, false, List, [], ◌∷◌, map, None, nat_eq, if◌then◌else◌}
+use Rattle.std.specs.Prelude.{◌≡◌, ℕ, suc, true, false, List, [], ◌∷◌, None, nat_eq, if◌then◌else◌}
 use Rattle.bac_apdu.specs.Apdu.{Apdu}
 use Rattle.bac_apdu.specs.Apdu.Apdu.{ConfirmedRequest, ComplexAck}
 use Rattle.bac_protocol.specs.Service.{Octets, Request, Reply}
