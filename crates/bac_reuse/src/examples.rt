@@ -1,0 +1,11 @@
+//! Runs that are computed, in which servers let invoke IDs be used again.
+
+ghost use Rattle.bac_reuse.specs.Examples.{WritesAreOnce, ReadsAreFresh, OneInvokeId};
+
+/// One invoke ID for ever: each write is performed once, each read as often as it comes, and a write's repeat gets the kept reply.
+#[tactic(auto, using(crate::proofs::Computed::writes_are_once, crate::proofs::Computed::reads_are_fresh, crate::proofs::Computed::one_invoke_id))]
+pub fn one_invoke_id_for_ever()
+    ensures writes { WritesAreOnce }
+    ensures reads { ReadsAreFresh }
+    ensures both { OneInvokeId }
+{}
