@@ -1,6 +1,6 @@
 -- Asks of lines, several at once.
-use Rattle.std.proofs.Common.{◌≡◌, ◌⊎◌, ℕ, suc, ◌+◌, ◌<◌, ◌&&◌, Bool, true, List, [], ◌∷◌, ◌++◌, length, map, max, Option, Some, None, Result, Ok, Err}
-use Rattle.std.proofs.Common.{refl, ap, sym, subst, ◌∙◌, arith, append_assoc, append-nil, add-zero, slice_get}
+use Rattle.std.proofs.Common.{◌≡◌, ◌⊎◌, ℕ, zero, suc, ◌+◌, ◌<◌, ◌&&◌, Bool, true, List, [], ◌∷◌, ◌++◌, length, map, max, Option, Some, None, Result, Ok, Err}
+use Rattle.std.proofs.Common.{refl, ap, sym, subst, ◌∙◌, arith, append_assoc, append-nil, add-zero, slice_get, slice_set}
 use Rattle.std.proofs.lemmas.List.Quantifiers.{position-Some}
 use Rattle.std.proofs.lemmas.Option.{get_or_from_slice_get}
 use Rattle.std.specs.List.{position}
@@ -34,18 +34,22 @@ pub one_more_end : (lines others : List LineQuestion) (line : LineQuestion) (so_
 one_more_end lines others line so_far all is before =
     append_assoc so_far (None ∷ []) (map no_end others) ∙ (ap (λ (l : List LineQuestion). so_far ++ map no_end l) (sym is) ∙ before)
 
+abbrev pub sky_with : List Waiting → List Flight → List (Option AskEnd) → Sky
+sky_with waiting flights ends = record { waiting = waiting; flights = flights; ends = ends }
+
 abbrev sky_of : List Waiting → List (Option AskEnd) → Sky
 sky_of waiting ends = record { waiting = waiting; flights = []; ends = ends }
 
 -- where no line is left, all wait
-pub all_wait : (place : ℕ) (lines left : List LineQuestion) (waiting : List Waiting) (ends : List (Option AskEnd)) → left ≡ []
-    → waiting ++ waiting_from place left ≡ waiting_from 0 lines → ends ++ map no_end left ≡ map no_end lines
-    → ◌≡◌ {A = Sky} (record { waiting = waiting; flights = []; ends = ends }) (new_sky lines)
-all_wait place lines left waiting ends none waits ended =
-    ap (λ (w : List Waiting). sky_of w ends)
+pub all_wait : (place : ℕ) (lines left : List LineQuestion) (waiting : List Waiting) (flights : List Flight) (ends : List (Option AskEnd)) → left ≡ []
+    → flights ≡ [] → waiting ++ waiting_from place left ≡ waiting_from 0 lines → ends ++ map no_end left ≡ map no_end lines
+    → ◌≡◌ {A = Sky} (record { waiting = waiting; flights = flights; ends = ends }) (new_sky lines)
+all_wait place lines left waiting flights ends none empty waits ended =
+    ap (λ (f : List Flight). sky_with waiting f ends) empty
+    ∙ (ap (λ (w : List Waiting). sky_of w ends)
     (sym (append-nil waiting) ∙ (ap (λ (l : List LineQuestion). waiting ++ waiting_from place l) (sym none) ∙ waits))
     ∙ ap (λ (e : List (Option AskEnd)). sky_of (waiting_from 0 lines) e)
-    (sym (append-nil ends) ∙ (ap (λ (l : List LineQuestion). ends ++ map no_end l) (sym none) ∙ ended))
+    (sym (append-nil ends) ∙ (ap (λ (l : List LineQuestion). ends ++ map no_end l) (sym none) ∙ ended)))
 
 -- the first line that may begin may begin
 pub next_begins : (share : ℕ) (flights : List Flight) (waiting : List Waiting) (at : ℕ) (line : Waiting) → position (may_begin share flights) waiting ≡ Some at
@@ -159,6 +163,23 @@ goes_on IsOn plan old new middle begun still before same goes =
 
 -- ---- the ask of a line
 
+set_still : {A : Type 0} (xs : List A) (i : ℕ) (x : A) → slice_get xs i ≡ Some x → slice_set xs i x ≡ xs
+set_still [] i x is = absurd cc
+set_still (y ∷ ys) zero x is = let same : x ≡ y = cc in ap (λ (z : _). z ∷ ys) same
+set_still (y ∷ ys) (suc i) x is = ap (λ (zs : _). y ∷ zs) (set_still ys i x is)
+
+-- what was there is there no longer
+pub end_read : (place : ℕ) (was told left : Option AskEnd) (old : Sky) → slice_get old.ends place ≡ Some was → told ≡ was → left ≡ None
+    → TakesEnd place told old (sky_with old.waiting old.flights (slice_set old.ends place left))
+end_read place was None left old is same none =
+    ap (λ (e : List (Option AskEnd)). sky_with old.waiting old.flights e)
+    (ap (λ (o : Option AskEnd). slice_set old.ends place o) (none ∙ same) ∙ set_still old.ends place was is)
+end_read place was (Some how) left old is same none =
+    record {
+      ended = is ∙ ap (λ (o : Option AskEnd). Some o) (sym same);
+      is = ap (λ (o : Option AskEnd). sky_with old.waiting old.flights (slice_set old.ends place o)) none;
+    }
+
 -- it had not ended
 pub none_taken : (place : ℕ) (told : Option AskEnd) (old new : Sky) → ((how : AskEnd) → told ≡ Some how → ⊥) → TakesEnd place told old new → new ≡ old
 none_taken place None old new never same = same
@@ -194,6 +215,13 @@ none_printed IsOn plan start old count =
           subst (λ (n : ℕ). PrintsFrom IsOn plan 0 n (more ++ []) all start last old new) (sym (add-zero left) ∙ same)
           (subst (λ (e : List Event). PrintsFrom IsOn plan 0 left e all start last old new) (sym (append-nil more)) prints);
     }
+
+-- where that is how it begins
+pub none_printed_of : (IsOn : Links) (plan : Plan) (at : Timed) (lines : List LineQuestion) (s : Sky) (old : Option (List ℕ)) (count : ℕ) → s ≡ new_sky lines
+    → IsPrintedSoFar IsOn plan (aloft at (new_sky lines)) old count 0 true (aloft at s) old
+none_printed_of IsOn plan at lines s old count is =
+    subst (λ (x : Sky). IsPrintedSoFar IsOn plan (aloft at (new_sky lines)) old count 0 true (aloft at x) old) (sym is)
+    (none_printed IsOn plan (aloft at (new_sky lines)) old count)
 
 pub one_more_printed : (IsOn : Links) (plan : Plan) (start here next : Aloft) (old text between : Option (List ℕ)) (count place : ℕ)
     (so_far succeeded now : Bool) → IsPrintedSoFar IsOn plan start old count place so_far here text → now ≡ so_far && succeeded

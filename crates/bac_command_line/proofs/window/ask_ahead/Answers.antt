@@ -1,6 +1,6 @@
 use Rattle.std.proofs.Common.{length, refl, arith}
 use Rattle.bac_command_line.specs.Online.{OnPort}
-use Rattle.bac_command_line.proofs.InFlight.{all_printed, one_more_printed}
+use Rattle.bac_command_line.proofs.InFlight.{all_printed, none_printed_of, one_more_printed}
 use Rattle.bac_command_line.proofs.Once.{asked_once}
 use Rattle.bac_command_line.proofs.window.ask_ahead.Goals as goal
 
@@ -19,3 +19,8 @@ returns-clause-asked g c =
       prints = prints;
       once = λ place. asked_once (OnPort g.M.Machine.is_bound g.M.Link.Link.failures g.M.Link.Link.calls) _ place (length c.args.lines.now) at.invariant.events at.all _ _ c.args.lines.now _ _ refl prints;
     }
+
+pub loop-place-init : goal.loop-place-init
+loop-place-init g c =
+    none_printed_of (OnPort g.M.Machine.is_bound g.M.Link.Link.failures g.M.Link.Link.calls) _ _ c.args.lines.now _ _ (length c.args.lines.now)
+    c.in-Ok-new.ensures

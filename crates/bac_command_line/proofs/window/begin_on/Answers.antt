@@ -1,20 +1,8 @@
--- At the node that asks, or at the next one.
-use Rattle.std.proofs.Common.{◌≡◌, true, false, sym, ◌∙◌, rules}
+-- At the next node.
+use Rattle.std.proofs.Common.{◌≡◌, true, sym, ◌∙◌, rules}
 use Rattle.bac_command_line.specs.Online.{OnPort}
-use Rattle.bac_command_line.proofs.Clients.{begun_anew, begun_free, begun_not}
+use Rattle.bac_command_line.proofs.Clients.{begun_anew}
 use Rattle.bac_command_line.proofs.window.begin_on.Goals as goal
-
-pub returns-then-clause-begun : goal.returns-then-clause-begun
-returns-then-clause-begun g c =
-    let no : c.is_spent.result ≡ false = search rules in
-    begun_free (OnPort g.M.Machine.is_bound g.M.Link.Link.failures g.M.Link.Link.calls) _ _ _ _ _ _ (sym c.is_spent.ensures ∙ no) c.in_ok-begun.ensures.begun
-
-pub returns-then-2-clause-begun : goal.returns-then-2-clause-begun
-returns-then-2-clause-begun g c =
-    let spent : c.is_spent.result ≡ true = search rules in
-    let busy : c.args.is_idle ≡ false = search rules in
-    begun_not (OnPort g.M.Machine.is_bound g.M.Link.Link.failures g.M.Link.Link.calls) _ _ _ c.in_ok-begun.begun _ _ busy (sym c.is_spent.ensures ∙ spent)
-    c.in_ok-begun.ensures.begun
 
 pub returns-clause-begun : goal.returns-clause-begun
 returns-clause-begun g c =

@@ -1,6 +1,5 @@
 -- The line that ended is the one that was printed.
-use Rattle.std.proofs.Common.{refl}
-use Rattle.std.proofs.lemmas.Option.{slice_get_read}
+use Rattle.std.proofs.lemmas.Option.{slice_get-get_or}
 use Rattle.bac_command_line.specs.InFlight.{plan_view}
 use Rattle.bac_command_line.specs.Online.{OnPort}
 use Rattle.bac_command_line.proofs.InFlight.{told_so}
@@ -8,7 +7,6 @@ use Rattle.bac_command_line.proofs.window.tell_line.Goals as goal
 
 pub returns-in-Ok-clause-told : goal.returns-in-Ok-clause-told
 returns-in-Ok-clause-told g c =
-    let e = c.index-plan-place.result in
-    told_so (OnPort g.M.Machine.is_bound g.M.Link.Link.failures g.M.Link.Link.calls) (plan_view c.args.plan.now) c.args.place e c.in-Ok.end _ _ _ _
-    c.print_line.result (slice_get_read c.args.plan.now.lines.now _ c.args.place e refl c.requires c.index-plan-place.is) c.in-Ok.ensures.ended
+    told_so (OnPort g.M.Machine.is_bound g.M.Link.Link.failures g.M.Link.Link.calls) (plan_view c.args.plan.now) c.args.place _ c.in-Ok.end _ _ _ _
+    c.print_line.result (slice_get-get_or c.args.plan.now.lines.now c.args.place _ c.requires) c.in-Ok.ensures.ended
     c.print_line.ensures.told

@@ -1,4 +1,4 @@
-use Rattle.std.proofs.Common.{◌<◌, ◌+◌, length, drop, refl, arith}
+use Rattle.std.proofs.Common.{◌<◌, ◌+◌, length, drop, refl, arith, rules}
 use Rattle.std.proofs.lemmas.List.{drop_all}
 use Rattle.std.proofs.lemmas.Option.{slice_get_read}
 use Rattle.bac_simulate.proofs.Appending.{drop_next}
@@ -19,5 +19,5 @@ loop-place-preserved c =
 pub returns : goal.returns
 returns c =
     let at = c.loop-place in
-    all_wait at.place c.args.lines.now (drop at.place c.args.lines.now) at.waiting.items at.ends.items (drop_all at.place c.args.lines.now (omega arith))
-    at.invariant.waiting at.invariant.ends
+    all_wait at.place c.args.lines.now (drop at.place c.args.lines.now) at.waiting.items _ at.ends.items (drop_all at.place c.args.lines.now (omega arith))
+    (search rules) at.invariant.waiting at.invariant.ends
