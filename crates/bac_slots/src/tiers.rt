@@ -173,8 +173,7 @@ fn at_in(rings: &Vec<Ring>, n: usize) -> u32
     requires within { n < length (concat rings.now.items) }
     ensures { slice_get (concat rings.now.items) n ≡ Some result }
 {
-    let which = n / EACH;
-    rings[which].at(n - which * EACH)
+    rings[n / EACH].at(n % EACH)
 }
 
 /// A number enters the rings before the n-th, and the last one leaves.
