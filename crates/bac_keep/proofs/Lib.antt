@@ -4,8 +4,10 @@ mod Finding
 pub mod Lists
 pub mod Maps
 pub mod Notes
+mod Outcomes
 pub mod Places
 mod Puts
+pub mod Refusals
 pub mod Restores
 pub mod Risings
 mod RowReading

@@ -1,5 +1,5 @@
 -- What holds while the rows of the table are read.
-use Rattle.std.proofs.Common.{◌≡◌, ◌≤◌, true, false, List, [], ◌∷◌, ◌++◌, Some, IsSome, refl, sym, ap, ◌∙◌, subst, append_assoc}
+use Rattle.std.proofs.Common.{◌≡◌, ◌≤◌, inl, inr, true, false, List, [], ◌∷◌, ◌++◌, Some, IsSome, refl, sym, ap, ◌∙◌, subst, append_assoc}
 use Rattle.std.proofs.lemmas.List.{append-nil}
 use Rattle.sqlite_value.specs.declared.keys.Order.{Order}
 use Rattle.sqlite_trees.specs.declared.store.Direction.TheVariants.{Forward}
@@ -8,6 +8,7 @@ use Rattle.sqlite_trees.specs.View.{View, IsClean, doubt, with_cursor, Advances}
 use Rattle.sqlite_trees.specs.Tree.{from_key, order_of, sought}
 use Rattle.sqlite_trees.specs.Tree.{Trees}
 use Rattle.bac_keep.specs.declared.cell.Cell.{Cell}
+use Rattle.bac_keep.specs.Refused.{Has, HasOtherRow, IsNoCell}
 use Rattle.bac_keep.specs.Rows.{AreCells, IsRowOf}
 use Rattle.bac_keep.specs.Steps.{IsReady, NoMore}
 
@@ -87,3 +88,17 @@ ends old mid new cs row so_far next =
       ap (λ (v : View). v.trees) next.1 ∙ so_far.trees,
       ap (λ (v : View). v.committed) next.1 ∙ so_far.committed,
     )
+
+has_there : (before : List Row) (row : Row) (after : List Row) → Has (before ++ row ∷ after) row
+has_there [] row after = inl refl
+has_there (r ∷ rs) row after = inr (has_there rs row after)
+
+-- the next row is no cell
+pub other_row : (old mid new : View) (cs : List Cell) (row : Row) → HasReadSome old cs mid → Advances mid new 0 row true → IsNoCell row → HasOtherRow (old.trees 0)
+other_row old mid new cs row so_far next no_cell =
+    let left : so_far.left ≡ row ∷ next.0 = some_is _ _ (sym so_far.cursor ∙ next.1) in
+    record {
+      row = row;
+      there = subst (λ (rs : List Row). Has rs row) (ap (λ (l : List Row). so_far.read ++ l) (sym left) ∙ so_far.rows) (has_there so_far.read row next.0);
+      other = no_cell;
+    }

@@ -1,9 +1,10 @@
 //! Opening a file.
-ghost use Rattle.std.specs.Prelude.{◌≡◌, false, IsTrue, IfOk};
+ghost use Rattle.std.specs.Prelude.{◌≡◌, false, true, IsTrue, IfOk};
 ghost use Rattle.sqlite_trees.specs.Tree.{Trees};
 ghost use Rattle.sqlite_trees.specs.View.{IsClean};
 ghost use Rattle.sqlite_store.specs.FileStore.{view};
 ghost use Rattle.sqlite.specs.Files.{HoldsDatabase, image_of};
+ghost use Rattle.bac_keep_file.specs.Made.{HasEmptyTable, HasNoTable};
 
 use crate::fault::OpenFault;
 use crate::table::store_of;
@@ -20,8 +21,8 @@ pub type KeptFile = FileStore<FileFrom<Unknown>>;
 /// there on without an error, so the log is short.
 const CHECKPOINT_FRAMES: usize = 100;
 
-/// Opens the database over a pair of files, which may be empty. Returns whether it made the table of cells. In files that had it, it
-/// finds just what they hold.
+/// Opens the database over a pair of files, which may be empty. Returns whether it made the table of cells: it does so only if the
+/// files have no table, and nothing is kept in the new one. In files that had the table, it finds just what they hold.
 pub fn open_files<D: Disk + Drop>(
     alloc: Global,
     files: Files<D>,
@@ -31,12 +32,14 @@ pub fn open_files<D: Disk + Drop>(
     requires db { IsTrue (D.Disk.is_usable files.db) }
     ensures found { IfOk result (λ r. r.1 ≡ false → IsClean (view r.0) → IsTrue (view r.0).is_open
         → (db : Trees) → HoldsDatabase (image_of D.Disk files) db → (view r.0).committed ≡ db) }
+    ensures made { IfOk result (λ r. r.1 ≡ true → IsClean (view r.0) → (db : Trees) → HoldsDatabase (image_of D.Disk files) db → HasNoTable db) }
+    ensures empty { IfOk result (λ r. r.1 ≡ true → IsClean (view r.0) → HasEmptyTable (view r.0)) }
 {
     let conn = match Connection::open_files_with(alloc, files, options, true) {
         Ok(conn) => conn,
         Err((error, _)) => return Err(OpenFault::from(error)),
     };
-    let (store, is_new) = store_of(conn)?;
+    let (store, is_new) = store_of(alloc, conn)?;
     Ok((store, is_new))
 }
 

@@ -1,8 +1,9 @@
 use Rattle.std.proofs.Common.{rules, arith, ◌≡◌, List, Bool, true, sym, subst}
 use Rattle.sqlite_trees.specs.View.{Advances}
 use Rattle.bac_keep.specs.declared.cell.Cell.{Cell}
+use Rattle.bac_keep.specs.Refused.{IsNoCell}
 use Rattle.bac_keep.specs.Rows.{IsRowOf}
-use Rattle.bac_keep.proofs.RowReading.{HasReadSome, begins, goes_on}
+use Rattle.bac_keep.proofs.RowReading.{HasReadSome, begins, goes_on, other_row}
 use Rattle.bac_keep.proofs.reading.read_cells.Goals as goal
 
 pub loop-init : goal.loop-init
@@ -28,3 +29,11 @@ loop-preserved g c = record {
       (c.in_ok-next.ensures.ok clean)));
   crash = λ db left. c.loop.invariant.crash db (c.in_ok-next.ensures.quiet.outcomes db left);
 }
+
+pub returns-in_default-clause-refused : goal.returns-in_default-clause-refused
+returns-in_default-clause-refused g c = λ clean.
+    let more : c.in_ok-next.field-0 ≡ true = search rules in
+    let other : IsNoCell c.next.new.row = search rules in
+    other_row _ _ _ _ _ (c.loop.invariant.some (omega (arith, clean, c.in_ok-next.ensures.quiet.clean)))
+    (subst (λ (b : Bool). Advances (g.S.Store.view c.loop.database) (g.S.Store.view c.next.new.self) 0 c.next.new.row b) more
+    (c.in_ok-next.ensures.ok clean)) other
