@@ -1,5 +1,5 @@
 -- Whether kept cells fit: what the code finds of one cell after another.
-use Rattle.std.proofs.Common.{◌≡◌, ◌≢◌, ◌⊎◌, inl, inr, ◌==◌, ℕ, zero, suc, ◌<◌, ◌≤◌, Bool, true, false, not, ◌&&◌, ◌||◌, List, [], ◌∷◌, ◌++◌, length, drop, get_or, Option, Some, None, is_none, refl, sym, ap, ◌∙◌, subst, arith, if◌then◌else◌}
+use Rattle.std.proofs.Common.{◌≡◌, ◌≢◌, inl, inr, ◌==◌, ℕ, zero, suc, ◌<◌, ◌≤◌, Bool, true, false, not, ◌&&◌, ◌||◌, List, [], ◌∷◌, ◌++◌, length, drop, get_or, Option, Some, None, is_none, refl, sym, ap, ◌∙◌, subst, arith, if◌then◌else◌}
 use Rattle.std.specs.List.{AllByRecursion}
 use Rattle.std.specs.Option.{option_map}
 use Rattle.std.proofs.lemmas.Bool.Decides.{nat_tests}
@@ -7,22 +7,21 @@ use Rattle.bac_value.specs.Value.{ObjectId}
 use Rattle.bac_value.specs.Views.{object_identifier_view}
 use Rattle.bac_value.specs.declared.value.ObjectIdentifier.{ObjectIdentifier}
 use Rattle.bac_store.specs.AtNode.{Change, IsFaultOf, change_fault, length_fault, or_fault, value_fault, whole}
-use Rattle.bac_store.specs.Kept.{IsInOrder}
 use Rattle.bac_store.specs.Limits.{FILE_LIMIT}
 use Rattle.bac_store.specs.Replies.{file_of}
 use Rattle.bac_store.specs.Stores.{File, Object, Property, Store, is_number, listed_in, object_in}
-use Rattle.bac_store.specs.Writes.{file_at, listed_at, listed_of}
+use Rattle.bac_store.specs.Writes.{file_at, listed_at}
 use Rattle.bac_store.specs.declared.change_fault.ChangeFault.{ChangeFault}
 use Rattle.bac_store.specs.declared.change_fault.ChangeFault.TheVariants as change
 use Rattle.bac_store.proofs.OrderLaws.{first_that-map}
 use Rattle.bac_keep.specs.declared.cell.Cell.{Cell}
 use Rattle.bac_keep.specs.declared.part.Part.TheVariants as part
-use Rattle.bac_keep.specs.Cells.{Cells, Fits, NUMBERS, file_place, value_place, with_cell}
+use Rattle.bac_keep.specs.Cells.{Cells, NUMBERS, file_place, value_place}
 use Rattle.bac_keep.specs.Overlay.{file_over, in_place, is_kept, joined, object_over, or_nothing, overlay, value_over}
 use Rattle.bac_keep.specs.Restored.{is_writable_file, is_writable_value}
 use Rattle.bac_keep.specs.Rows.{IsRising, held}
-use Rattle.bac_keep.proofs.Files.{parts_ignored}
-use Rattle.bac_keep.proofs.Notes.{file_flag_over, flag_over, number_over, object_there}
+use Rattle.bac_keep.proofs.Notes.{number_over, object_there}
+use Rattle.bac_keep.proofs.Restores.{file_flag, value_flag}
 use Rattle.bac_keep.proofs.Risings.{held_at, held_drop}
 use Rattle.bac_c.specs.Fitting.{AreFit, EachFits, IsFitAt, IsPartAt, IsUnfitAt, IsWrong, has_parts, is_part, octets_fit, parts_fit, property_fits, values_fit}
 use Rattle.bac_c.specs.Kept.{IsFaultFor, IsPlaceAt, fault_at, is_place, states_count}
@@ -78,17 +77,6 @@ module _ (cells : Cells) (document : Store) where
   values_there : (o : Object) (n : ℕ) → listed_in (object_over cells o) n ≡ option_map (value_over cells o.id) (listed_in o n)
   values_there o n = first_that-map (is_number n) (value_over cells o.id) (λ p. ap (λ m. m == n) (number_over cells o.id p)) o.properties
 
-  value_flag : (id : ObjectId) (n : ℕ) → is_writable_value (listed_at (overlay cells document) id n) ≡ is_writable_value (listed_at document id n)
-  value_flag id n = ap (λ x. is_writable_value (listed_of n x)) (object_there cells document id) ∙ go (object_in document id)
-    where
-      in_object : (o : Object) (x : Option Property) → is_writable_value (option_map (value_over cells o.id) x) ≡ is_writable_value x
-      in_object o None = refl
-      in_object o (Some p) = flag_over cells o.id p
-
-      go : (x : Option Object) → is_writable_value (listed_of n (option_map (object_over cells) x)) ≡ is_writable_value (listed_of n x)
-      go None = refl
-      go (Some o) = ap is_writable_value (values_there o n) ∙ in_object o (listed_in o n)
-
   value_fault_over : (id : ObjectId) (n : ℕ) (octets : List ℕ)
       → change_fault (overlay cells document) (Change.Value id n octets) ≡ change_fault document (Change.Value id n octets)
   value_fault_over id n octets = ap (λ x. of_object x) (object_there cells document id) ∙ go (object_in document id)
@@ -115,19 +103,8 @@ module _ (cells : Cells) (document : Store) where
 
   pub values_over : (id : ObjectId) (n : ℕ) (octets : List ℕ) → values_fit (overlay cells document) id n octets ≡ values_fit document id n octets
   values_over id n octets =
-      ap (λ b. not b || is_none (change_fault (overlay cells document) (Change.Value id n octets))) (value_flag id n)
+      ap (λ b. not b || is_none (change_fault (overlay cells document) (Change.Value id n octets))) (value_flag cells document id n)
       ∙ ap (λ x. not (is_writable_value (listed_at document id n)) || is_none x) (value_fault_over id n octets)
-
-  pub file_flag : (id : ObjectId) → is_writable_file (file_at (overlay cells document) id) ≡ is_writable_file (file_at document id)
-  file_flag id = ap (λ x. is_writable_file (file_of x)) (object_there cells document id) ∙ go (object_in document id)
-    where
-      in_object : (o : Object) (x : Option File) → is_writable_file (option_map (file_over cells o.id) x) ≡ is_writable_file x
-      in_object o None = refl
-      in_object o (Some f) = file_flag_over cells o.id f
-
-      go : (x : Option Object) → is_writable_file (file_of (option_map (object_over cells) x)) ≡ is_writable_file (file_of x)
-      go None = refl
-      go (Some o) = in_object o o.file
 
   pub octets_over : (id : ObjectId) (octets : List ℕ) → octets_fit (overlay cells document) id octets ≡ octets_fit document id octets
   octets_over id octets = ap (λ x. is_none (of_file (file_of x))) (object_there cells document id) ∙ go (object_in document id)
@@ -308,20 +285,6 @@ pub uncounted : (document : Store) (cells : Cells) (id : ObjectId) (octets : Lis
     → parts_fit document cells id (Some octets) ≡ false
 uncounted document cells id octets n states parts =
     ap (λ (x : List ℕ). parts_fit document cells id (Some x)) states ∙ ap (λ b. b && octets_fit document id (joined cells id n)) parts
-
--- the count of a file that the network may not write has no effect
-pub ignored_step : (cells : List Cell) (at : ℕ) (d : Cell) → at < length cells → get_or cells at d ≡ d → (document : Store) → IsInOrder document → (s : Store)
-    → (next : ℕ) → next ≡ suc at → s ≡ overlay (held (drop next cells)) document → (id : ObjectId) → Fits id → d.place ≡ file_place id 0
-    → is_writable_file (file_at document id) ≡ false → s ≡ overlay (held (drop at cells)) document
-ignored_step cells at d l is document order s next follows above id id_fits place fixed =
-    let rest = held (drop (suc at) cells) in
-    let on_top : held (drop at cells) ≡ with_cell (file_place id 0) d.octets.items rest =
-    ap held (held_drop cells at d l ∙ ap (λ (x : Cell). x ∷ drop (suc at) cells) is) ∙ ap (λ (p : ℕ). with_cell p d.octets.items rest) place in
-    above
-    ∙ ap (λ (n : ℕ). overlay (held (drop n cells)) document) follows
-    ∙ sym (parts_ignored id id_fits rest (with_cell (file_place id 0) d.octets.items rest) (λ q apart. rw (apart 0 (omega arith)) refl) document order
-    (inl (λ f found. sym (ap is_writable_file found) ∙ fixed)))
-    ∙ ap (λ (x : Cells). overlay x document) (sym on_top)
 
 -- ---- all of them
 

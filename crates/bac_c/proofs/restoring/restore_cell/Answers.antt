@@ -4,10 +4,10 @@ use Rattle.bac_value.specs.Views.{object_identifier_view}
 use Rattle.bac_keep.specs.Cells.{NUMBERS, file_place, value_place}
 use Rattle.bac_keep.specs.Restored.{with_kept_octets, with_kept_values}
 use Rattle.bac_keep.specs.Rows.{IsRising, held}
-use Rattle.bac_keep.proofs.Lists.{chunk_step, count_step, values_step}
+use Rattle.bac_keep.proofs.Lists.{chunk_step, count_gone, count_step, values_step}
 use Rattle.bac_c.specs.Fitting.{IsWrong, octets_fit, values_fit}
 use Rattle.bac_c.specs.declared.kept_fault.KeptFault.TheVariants as fault
-use Rattle.bac_c.proofs.Fits.{counted, file_under, ignored_step, is_chunk, is_file, is_fixed_file, is_value, joined_from, no_count, octets_under, one_fits, place_of, uncounted}
+use Rattle.bac_c.proofs.Fits.{counted, file_under, is_chunk, is_file, is_fixed_file, is_value, joined_from, no_count, octets_under, one_fits, place_of, uncounted}
 use Rattle.bac_c.proofs.Fits.{values_under, wrong_part, wrong_place}
 use Rattle.bac_c.proofs.restoring.restore_cell.Goals as goal
 
@@ -32,13 +32,11 @@ returns-in_err-restore_values-in-Some-Values-clause-fault c =
 pub returns-then-not-is_writable_as_file-clause-made : goal.returns-then-not-is_writable_as_file-clause-made
 returns-then-not-is_writable_as_file-clause-made c = λ rise.
     let object = c.in-Some-Count.object in
-    let id = object_identifier_view object in
     let cell = c.index-cells-at.result in
-    let rest = held (drop (c.args.at + 1) c.args.cells.now) in
-    let place : cell.place ≡ file_place id 0 = search rules in
-    ignored_step c.args.cells.now c.args.at cell c.requires.within (sym c.index-cells-at.is) c.args.document.now c.stores_are_in_order.ensures c.args.store.now
-    (c.args.at + 1) (omega arith) (c.requires.above rise) id (record { kind = object.kind_fits; instance = object.instance_fits }) place
-    (file_under rest c.args.document.now c.args.store.now (c.requires.above rise) id false (sym c.is_writable_as_file.ensures ∙ c.if-not-is_writable_as_file.true))
+    let place : cell.place ≡ file_place (object_identifier_view object) 0 = search rules in
+    count_gone c.args.cells.now c.args.at cell c.requires.within (sym c.index-cells-at.is) c.args.document.now c.stores_are_in_order.ensures c.args.store.now
+    (c.args.at + 1) (omega arith) (c.requires.above rise) (object_identifier_view object)
+    (record { kind = object.kind_fits; instance = object.instance_fits }) place (sym c.is_writable_as_file.ensures ∙ c.if-not-is_writable_as_file.true)
 
 pub returns-then-not-is_writable_as_file-clause-fits : goal.returns-then-not-is_writable_as_file-clause-fits
 returns-then-not-is_writable_as_file-clause-fits c = λ rise.
