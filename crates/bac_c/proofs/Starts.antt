@@ -44,8 +44,7 @@ pub bad_passed : (r : Rule) (objects copies : List Object) (stored : Result Stor
 bad_passed r objects copies stored (Ok x) f Ready same ready was is bad held = absurd is
 bad_passed r objects copies stored (Err e) f Ready same ready was is bad held =
     let failed : stored ≡ Err e = was ∙ ap Err (sym is) in
-    let told : IsErrOf stored fault.BadObject ↔ AreBad r copies = bad (λ memory. held (ap Err (ap error_in (sym failed ∙ memory)))) in
-    (
+    let told : IsErrOf stored fault.BadObject ↔ AreBad r copies = bad (λ memory. held (ap Err (ap error_in (sym failed ∙ memory)))) in (
       (λ b. (ready, subst (AreBad r) same (told.0 (failed ∙ ap Err (ap error_of b))))),
       (λ b. ap Err (ap error_in (sym failed ∙ told.1 (subst (AreBad r) (sym same) b.1)))),
     )
