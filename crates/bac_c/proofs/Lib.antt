@@ -1,6 +1,7 @@
 pub mod Copies
 pub mod Describes
 pub mod Files
+pub mod Fits
 pub mod Heap
 pub mod KeptPuts
 pub mod LetsGo
