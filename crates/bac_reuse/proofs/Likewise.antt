@@ -1,8 +1,8 @@
 -- Where no node lets invoke IDs be used again, a run is as ever; and where no node asks for a read, the log of a run has none.
-use Rattle.std.proofs.Common.{◌≡◌, ℕ, ◌⊎◌, Bool, true, false, ◌&&◌, not, List, [], ◌∷◌, Option, Some, None, slice_get, if◌then◌else◌, refl, ap, sym, subst, inl, inr, ◌∙◌}
+use Rattle.std.proofs.Common.{◌≡◌, ℕ, Bool, true, false, List, [], ◌∷◌, Option, Some, None, slice_get, if◌then◌else◌, refl, ap, subst, inl, inr, ◌∙◌}
 use Rattle.bac_apdu.specs.Apdu.{Apdu}
 use Rattle.bac_protocol.specs.Pace.{Pace}
-use Rattle.bac_protocol.specs.Service.{Ending, Octets, Reply, Request}
+use Rattle.bac_protocol.specs.Service.{Ending, Request}
 use Rattle.bac_protocol.specs.Wire.{is_from_client}
 use Rattle.bac_protocol.specs.Client as client
 use Rattle.bac_protocol.specs.Client.{Ask, ClientTransaction}

@@ -19,7 +19,7 @@ use Rattle.bac_protocol.specs.Log.{Fact, Has, IsOrderly, IsUnperformed, MayEnd, 
 use Rattle.bac_protocol.specs.Log.Fact.{Asked, Ended}
 use Rattle.bac_protocol.specs.Reuse.{is_transfer_over, server_hears}
 use Rattle.bac_protocol.specs.Transaction.{Copy, Key, Rules, ended, performed, server_context}
-use Rattle.bac_protocol.specs.World.{Net, Post, World, client_acts, client_now, is_room, post_of, reacts, server_acts, server_now, serves, service_of, set_at, stored}
+use Rattle.bac_protocol.specs.World.{Post, World, client_acts, client_now, is_room, post_of, reacts, server_acts, server_now, serves, service_of, set_at, stored}
 use Rattle.bac_protocol.specs.Claims.{IsBounded, Moments, moments_of}
 use Rattle.bac_protocol.proofs.Alone.{one}
 use Rattle.bac_protocol.proofs.Facts.{all_map, grows_same}
