@@ -83,9 +83,6 @@ module _ (c : Context) where
     first_steady : (ask : Ask) (g : Segment) (choice : ℕ) (octets : Octets) → IsSteady (client.on_first_segment c readable ask g choice octets)
     first_steady ask g choice octets = go (nat_eq choice ask.choice && (has_complex_ack ask.choice && (c.settings.limits.takes_segments && nat_eq g.number 0)))
       where
-        inc : Incoming
-        inc = incoming c.settings.window g.window
-
         go : (b : Bool) → IsSteady (if b then client.conf_segment_taken c readable ask.choice g.number (incoming c.settings.window g.window).window
             (takes (incoming c.settings.window g.window) g.number g.more octets) else Stays)
         go true = taken_steady ask.choice g.number (incoming c.settings.window g.window).window (takes (incoming c.settings.window g.window) g.number g.more octets)
@@ -299,14 +296,6 @@ module _ (c : Context) (readable : Readable) (number : ℕ) (ask : Ask) (log : L
   await_ends (Reject id reason) h = rejected reason
   await_ends (Abort true id reason) h = aborted reason
   await_ends _ h = absurd h
-
-  refusal_ends : (a : Apdu) → IsAnswer number ask log a → Ended (client.on_refusal a)
-  refusal_ends (SimpleAck id choice) h = inl refl
-  refusal_ends (ComplexAck id None choice octets) h = inl refl
-  refusal_ends (Error id choice class code) h = inl refl
-  refusal_ends (Reject id reason) h = rejected reason
-  refusal_ends (Abort true id reason) h = aborted reason
-  refusal_ends _ h = absurd h
 
   request_ends : (out : Outgoing) (all_sent : Bool) (a : Apdu) → IsAnswer number ask log a → Ended (client.segmented_request_on_apdu c readable ask out all_sent a)
   request_ends out true (SimpleAck id choice) h = simple_ends choice h

@@ -121,9 +121,6 @@ module _ (S : Type 0) (model : StoreModel S) (opening : ℕ → S) (W : ℕ) (x 
       answers : IsAnswer (w.net.numbers p.key) t.ask g.log p.copy.apdu → Goes (client.client_on_apdu told x.readable t p.copy.apdu)
       answers answer = go (answer_comes told x.readable (w.net.numbers p.key) t g.log was_asked p.key.invoke_id p.copy.apdu answer)
         where
-          r : client.Reaction
-          r = client.client_on_apdu told x.readable t p.copy.apdu
-
           go : (client.client_on_apdu told x.readable t p.copy.apdu ≡ client.client_on_apdu told x.readable t (Abort true p.key.invoke_id OTHER))
               ⊎ ((client.client_on_apdu told x.readable t p.copy.apdu ≡ Stays)
               ⊎ EndsAsAborted told (w.net.numbers p.key) g.log t (client.client_on_apdu told x.readable t p.copy.apdu)

@@ -90,18 +90,9 @@ given_from_server c ask (Some y) a h = subst IsFromServer (sym h) (reply_from_se
 
 module _ (c : Context) (service : Service) (ask : Ask) where
   module _ (choice : ℕ) (limits : Limits) (octets : Octets) (chosen : choice ≡ ask.choice) (same : octets ≡ join ask.pieces) (o : Option ServerTransaction) where
-    begun : ServerTransaction
-    begun = begins c choice limits (Some octets)
-
     abbrev Goes : (free : Bool) → Reaction → Type 0
     Goes free v = (BeginsRead c service ask free v × ((p : Option ServerTransaction) → server.idle_on_request c service p free choice limits octets ≡ v))
         ⊎ (((v ≡ server.rests o (server.server_abort c OTHER ∷ [])) × (free ≡ false)) ⊎ IsFreshRead c service ask o v)
-
-    at : (free : Bool) → Reaction → Reaction
-    at free r = reads_so c o free r
-
-    effect_is : reply → Effect
-    effect_is p = record { request = record { choice = choice; service = octets }; reply = p }
 
     of_read : (p : reply) → service choice octets ≡ Replies p → IsOfRead service ask (Some (record { request = record { choice = choice; service = octets }; reply = p }))
     of_read p is = (λ i. record { choice = chosen i; service = same i }, is)
@@ -216,9 +207,6 @@ module _ (c : Context) (service : Service) (ask : Ask) where
         → GoesAlone c service ask free e.begin (reusing_on_apdu c service reads (Some e) free a)
     alone_some e free live gives (ConfirmedRequest limits id None choice octets) is = go (is_over e.state) refl
       where
-        a : Apdu
-        a = ConfirmedRequest limits id None choice octets
-
         go : (b : Bool) → is_over e.state ≡ b → GoesAlone c service ask free e.begin (reusing_on_apdu c service reads (Some e) free (ConfirmedRequest limits id None choice octets))
         go true over = subst (GoesAlone c service ask free e.begin) (sym (ended_read e free live over limits id choice octets is.1))
             (alone_of free e.begin choice limits octets is.1 is.2)
@@ -254,9 +242,6 @@ module _ (c : Context) (service : Service) where
       → IsServedBy (idle_on_read c service o free choice limits octets)
   read_served o free choice limits octets = go (has_transfer (server.performs c service (begins c choice limits (Some octets)) [] octets).entry) free
     where
-      r : Reaction
-      r = server.performs c service (begins c choice limits (Some octets)) [] octets
-
       go : (b f : Bool) → IsServedBy (if b then (if f then server.performs c service (begins c choice limits (Some octets)) [] octets
           else server.rests o (server.server_abort c OTHER ∷ []))
           else record {
@@ -272,10 +257,6 @@ module _ (c : Context) (service : Service) where
       → IsServedBy (server.idle_on_segment c service o free choice limits g octets)
   segment_served o free choice limits g octets = go (nat_eq g.number 0) refl free
     where
-      first : Reaction
-      first = server.request_segment_taken c service (begins c choice limits None) g.number (incoming c.settings.window g.window).window
-          (takes (incoming c.settings.window g.window) g.number g.more octets)
-
       at : Option ServerTransaction → (b f : Bool) → Reaction
       at q b f = if not b then server.rests q [] else if f then server.request_segment_taken c service (begins c choice limits None) g.number
           (incoming c.settings.window g.window).window (takes (incoming c.settings.window g.window) g.number g.more octets)

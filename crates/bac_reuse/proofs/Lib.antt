@@ -8,3 +8,4 @@ pub mod Outcomes
 pub mod Simulated
 pub mod Followed
 pub mod Claimed
+pub mod Likewise

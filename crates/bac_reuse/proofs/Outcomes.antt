@@ -142,9 +142,6 @@ module _ (c : Context) (service : Service) (u : Reusing) (key : Key) (ask : Ask)
           → OutcomeOf true (ConfirmedRequest limits id None choice octets) o p
       gone_request limits id choice octets is = go (idle_on_read c service o room choice limits octets) ours (read_goes c service ask choice limits octets is.1 is.2 o room)
         where
-          a : Apdu
-          a = ConfirmedRequest limits id None choice octets
-
           ours : ours_does (ConfirmedRequest limits id None choice octets) o ≡ idle_on_read c service o room choice limits octets
           ours = ours_reuses (ConfirmedRequest limits id None choice octets) o
               ∙ gone_reuses c service u.reads o gone.0 room (ConfirmedRequest limits id None choice octets)

@@ -19,7 +19,7 @@ use Rattle.bac_protocol.specs.Log.{Fact, Has, IsOrderly, IsUnperformed, MayEnd, 
 use Rattle.bac_protocol.specs.Log.Fact.{Asked, Ended}
 use Rattle.bac_protocol.specs.Reuse.{is_transfer_over, server_hears}
 use Rattle.bac_protocol.specs.Transaction.{Copy, Key, Rules, ended, performed, server_context}
-use Rattle.bac_protocol.specs.World.{Net, Post, World, client_acts, client_now, is_room, post_of, reacts, server_acts, server_now, serves, service_of, set_at, stored}
+use Rattle.bac_protocol.specs.World.{Post, World, client_acts, client_now, is_room, post_of, reacts, server_acts, server_now, serves, service_of, set_at, stored}
 use Rattle.bac_protocol.specs.Claims.{IsBounded, Moments, moments_of}
 use Rattle.bac_protocol.proofs.Alone.{one}
 use Rattle.bac_protocol.proofs.Facts.{all_map, grows_same}
@@ -119,9 +119,6 @@ module _ (S : Type 0) (model : StoreModel S) (opening : ℕ → S) (W : ℕ) (x 
   moves f step v h = subst (λ (y : World S). IsFollowed (f y)) (sym h.4) (step h.0 h.1 h.2 h.3)
 
   module _ (w : World S) (g : Own) (s : KeptAt w) (l : Like w g) (key : Key) (t : ClientTransaction) (at : w.net.tickets key ≡ Some t) where
-    number : ℕ
-    number = w.net.numbers key
-
     was_asked : Has (Asked (w.net.numbers key) key.client key.server (request_of t.ask)) w.net.log
     was_asked = (sound_at W w.net key (Some t) at s.net).2.asked
 
@@ -129,15 +126,6 @@ module _ (S : Type 0) (model : StoreModel S) (opening : ℕ → S) (W : ℕ) (x 
 
     module _ (r : client.Reaction) (silent : is_idle t.phase ≡ true → r ≡ Stays)
         (steady : Each (AbortsIf (is_idle (after (client_now w.net key) t r).phase)) (client.sends_of r)) (o : Option Ending) where
-      next : ClientTransaction
-      next = after (client_now w.net key) t r
-
-      abbrev next_net : Net
-      next_net = client_acts w.net key t r
-
-      abbrev next_log : List Fact
-      next_log = ended (w.net.numbers key) o g.log
-
       abbrev acted : Own
       acted = record g { posts = g.posts ++ map (post_of key w.net.now) (client.sends_of r); log = ended (w.net.numbers key) o g.log }
 
@@ -318,9 +306,6 @@ module _ (S : Type 0) (model : StoreModel S) (opening : ℕ → S) (W : ℕ) (x 
           → Fit u k (server_now w.net k) (w.net.tickets k) (set_at g.entries key v.entry k) (set_at w.net.entries key v'.entry k)
       entry_fits fit k = go (decide_key key k)
         where
-          abbrev_fit : (o p : Option ServerTransaction) → Type 0
-          abbrev_fit o p = Fit u key (server_now w.net key) (w.net.tickets key) o p
-
           go : ((key ≡ k) ⊎ (key ≡ k → ⊥)) → Fit u k (server_now w.net k) (w.net.tickets k) (set_at g.entries key v.entry k) (set_at w.net.entries key v'.entry k)
           go (inl is) = subst (λ (j : Key). Fit u j (server_now w.net j) (w.net.tickets j) (set_at g.entries key v.entry j) (set_at w.net.entries key v'.entry j)) is
               (subst (λ (o : Option ServerTransaction). Fit u key (server_now w.net key) (w.net.tickets key) o (set_at w.net.entries key v'.entry key))
@@ -416,9 +401,6 @@ module _ (S : Type 0) (model : StoreModel S) (opening : ℕ → S) (W : ℕ) (x 
         → EntryIs (HoldsOn (server_context x key (server_now w.net key)) service b (is_idle t.phase) t.ask a) v.entry → EntryIs (Holds b (is_idle t.phase) t.ask) v.entry
     holds_next v kept service a gave_up b h = go v.entry refl b h
       where
-        c : Context
-        c = server_context x key (server_now w.net key)
-
         over_by : (d : ServerTransaction) → v.entry ≡ Some d → is_live (server_now w.net key) d ≡ true → (before : Transfer)
             → (is_transfer_over before ≡ true → is_idle t.phase ≡ true) → (st : State) → d.state ≡ st
             → OverBy (server_context x key (server_now w.net key)) service a before st → OverIf (is_idle t.phase ≡ true) st

@@ -107,3 +107,16 @@ OneInvokeId =
           ∷ Ended 0 (Answered (tells 0)) ∷ Performed 0 (write on) (tells 0) ∷ Asked 0 0 1 (write on) ∷ [];
       effects = 2;
     }
+
+-- Beyond: where what is called a read changes its store, its ask takes effect each time that its request comes.
+abbrev pub careless : StoreModel ℕ
+careless = record counting { after = λ s request. suc s }
+
+abbrev pub ReadsThatWrite : Type 0
+ReadsThatWrite =
+    seen (run_so ℕ careless (rules 32) reusing (reads 0 ∷ Deliver 0 true ∷ Deliver 0 true ∷ []) (start ℕ one_clock (λ node. 0) (λ node. 0)))
+    ≡ record {
+      sent = read_apdu ∷ told 12 0 ∷ told 12 1 ∷ [];
+      log = Performed 0 read (tells 1) ∷ Performed 0 read (tells 0) ∷ Asked 0 0 1 read ∷ [];
+      effects = 2;
+    }

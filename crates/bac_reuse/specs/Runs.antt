@@ -1,5 +1,5 @@
 -- Runs in which some servers let clients use an invoke ID again as soon as its transaction is over. All that is not said here is as in World of bac_protocol.
-use Rattle.std.specs.Prelude.{◌≡◌, ℕ, Bool, true, List, [], ◌∷◌, Option, Some, None, slice_get, if◌then◌else◌}
+use Rattle.std.specs.Prelude.{◌≡◌, ℕ, Bool, true, false, List, [], ◌∷◌, Option, Some, None, slice_get, if◌then◌else◌}
 use Rattle.bac_apdu.specs.Apdu.{Apdu}
 use Rattle.bac_protocol.specs.Service.{Request}
 use Rattle.bac_protocol.specs.Log.{StoreModel}
@@ -7,7 +7,7 @@ use Rattle.bac_protocol.specs.Reuse.{Reads, server_hears}
 use Rattle.bac_protocol.specs.Transaction.{Key, Rules, server_context}
 use Rattle.bac_protocol.specs.Wire.{is_from_client}
 use Rattle.bac_protocol.specs.World.{Event, Post, World, happens, is_deliverable, is_room, server_now, serves, serves_away, service_of, strays_to_client, takes_at_client}
-use Rattle.bac_protocol.specs.World.Event.{Deliver, Stray}
+use Rattle.bac_protocol.specs.World.Event.{MakeAsk, Deliver, Stray}
 
 -- which nodes let invoke IDs be used again, and which requests are reads
 pub record Reusing : Type 0 where
@@ -53,3 +53,13 @@ run_so S model x u (e ∷ es) w = run_so S model x u es (happens_so S model x u 
 -- a read changes no store
 abbrev pub ReadsChangeNothing : (S : Type 0) → StoreModel S → Reads → Type 0
 ReadsChangeNothing S model reads = (store : S) (request : Request) → reads request.choice ≡ true → model.after store request ≡ store
+
+-- in these events no node asks another one for a read
+abbrev pub AskNoRead : Reads → List Event → Type 0
+AskNoRead reads [] = Unit {0}
+AskNoRead reads (MakeAsk key choice whole front rest ∷ es) = (reads choice ≡ false) × AskNoRead reads es
+AskNoRead reads (e ∷ es) = AskNoRead reads es
+
+-- no node lets invoke IDs be used again
+abbrev pub NoneReuses : Reusing → Type 0
+NoneReuses u = (node : ℕ) → u.reuses node ≡ false

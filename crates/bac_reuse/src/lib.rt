@@ -6,16 +6,16 @@
 
 pub mod examples;
 
-ghost use Rattle.std.specs.Prelude.{ℕ, List};
+ghost use Rattle.std.specs.Prelude.{◌≡◌, ℕ, List};
 ghost use Rattle.bac_protocol.specs.Claims.{IsBounded};
 ghost use Rattle.bac_protocol.specs.Log.{Fact, StoreModel, IsOnce};
 ghost use Rattle.bac_protocol.specs.Pace.{Pace, IsTimely};
 ghost use Rattle.bac_protocol.specs.Reuse.{Reads};
 ghost use Rattle.bac_protocol.specs.Transaction.{Rules};
-ghost use Rattle.bac_protocol.specs.World.{Event, start};
+ghost use Rattle.bac_protocol.specs.World.{Event, World, run, start};
 ghost use Rattle.bac_reuse.specs.Claims.{AnswersAreOfTheirTime, WritesAreOnce};
 ghost use Rattle.bac_reuse.specs.Once.{HasNoRead, IsOnceSo};
-ghost use Rattle.bac_reuse.specs.Runs.{ReadsChangeNothing, Reusing, run_so};
+ghost use Rattle.bac_reuse.specs.Runs.{AskNoRead, NoneReuses, ReadsChangeNothing, Reusing, run_so};
 
 /// The headline in both modes: after every run, whichever nodes let invoke IDs be used again, where reads change no store. Each accepted ask that is no read
 /// takes effect at most once, and exactly once where a service answer reached its client; the request performed and the answer are its own, whole. A read is
@@ -41,4 +41,18 @@ pub fn right_logs<S>()
         → AnswersAreOfTheirTime S model reads opening log }
     ensures without_reads { (model : StoreModel S) (reads : Reads) (opening : ℕ → S) (log : List Fact) (stores : ℕ → S) → HasNoRead reads log
         → IsOnceSo S model reads opening log stores → IsOnce S model opening log stores }
+{}
+
+/// Where no node lets invoke IDs be used again, a run is one of bac_protocol, event for event.
+pub fn none_reuses<S>()
+    ensures { (model : StoreModel S) (rules : Rules) (reusing : Reusing) → NoneReuses reusing → (events : List Event) (world : World S)
+        → run_so S model rules reusing events world ≡ run S model rules events world }
+{}
+
+/// Where no node asks another one for a read, what is said of runs in which no invoke ID is used again holds word for word, whichever nodes let them be.
+pub fn at_most_once_without_reads<S>()
+    ensures { (model : StoreModel S) (opening : ℕ → S) (W : ℕ) (rules : Rules) → IsBounded W rules → (reusing : Reusing) → ReadsChangeNothing S model reusing.reads
+        → (pace : Pace) → IsTimely pace → (clocks : ℕ → ℕ) → (events : List Event) → AskNoRead reusing.reads events
+        → IsOnce S model opening (run_so S model rules reusing events (start S pace clocks opening)).net.log
+        (run_so S model rules reusing events (start S pace clocks opening)).stores }
 {}
