@@ -9,3 +9,4 @@ pub mod Simulated
 pub mod Followed
 pub mod Claimed
 pub mod Likewise
+pub mod StackReads

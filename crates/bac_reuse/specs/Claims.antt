@@ -1,5 +1,6 @@
 -- What a right log says of writes and of answers.
-use Rattle.std.specs.Prelude.{◌≡◌, ℕ, false, List, ◌∷◌, ◌++◌}
+use Rattle.std.specs.Prelude.{◌≡◌, ℕ, false, ◌||◌, List, ◌∷◌, ◌++◌, nat_eq}
+use Rattle.bac_service.specs.declared.service.TheConstants.{ATOMIC_READ_FILE, READ_PROPERTY}
 use Rattle.bac_protocol.specs.Service.{Reply, Request}
 use Rattle.bac_protocol.specs.Service.Ending.{Answered}
 use Rattle.bac_protocol.specs.Service.Outcome.{Replies}
@@ -31,3 +32,7 @@ pub record WasGiven (S : Type 0) (model : StoreModel S) (reads : Reads) (opening
 abbrev pub AnswersAreOfTheirTime : (S : Type 0) → StoreModel S → Reads → (opening : ℕ → S) → List Fact → Type 0
 AnswersAreOfTheirTime S model reads opening log =
     (newer older : List Fact) (n : ℕ) (p : Reply) → log ≡ newer ++ Ended n (Answered p) ∷ older → WasGiven S model reads opening n p older
+
+-- the reads of the stack's own services: ReadProperty and AtomicReadFile
+abbrev pub is_stack_read : Reads
+is_stack_read choice = nat_eq choice READ_PROPERTY || nat_eq choice ATOMIC_READ_FILE

@@ -6,14 +6,19 @@
 
 pub mod examples;
 
-ghost use Rattle.std.specs.Prelude.{◌≡◌, ℕ, List};
+ghost use Rattle.std.specs.Prelude.{◌≡◌, ℕ, true, List, Ok};
+ghost use Rattle.bac_value.specs.Octets.{IsBytes};
+ghost use Rattle.bac_service.specs.Services.{request_at};
+ghost use Rattle.bac_service.specs.Values.{Request};
+ghost use Rattle.bac_store.specs.Changes.{after};
+ghost use Rattle.bac_store.specs.Stores.{Store};
 ghost use Rattle.bac_protocol.specs.Claims.{IsBounded};
 ghost use Rattle.bac_protocol.specs.Log.{Fact, StoreModel, IsOnce};
 ghost use Rattle.bac_protocol.specs.Pace.{Pace, IsTimely};
 ghost use Rattle.bac_protocol.specs.Reuse.{Reads};
 ghost use Rattle.bac_protocol.specs.Transaction.{Rules};
 ghost use Rattle.bac_protocol.specs.World.{Event, World, run, start};
-ghost use Rattle.bac_reuse.specs.Claims.{AnswersAreOfTheirTime, WritesAreOnce};
+ghost use Rattle.bac_reuse.specs.Claims.{AnswersAreOfTheirTime, WritesAreOnce, is_stack_read};
 ghost use Rattle.bac_reuse.specs.Once.{HasNoRead, IsOnceSo};
 ghost use Rattle.bac_reuse.specs.Runs.{AskNoRead, NoneReuses, ReadsChangeNothing, Reusing, run_so};
 
@@ -55,4 +60,11 @@ pub fn at_most_once_without_reads<S>()
         → (pace : Pace) → IsTimely pace → (clocks : ℕ → ℕ) → (events : List Event) → AskNoRead reusing.reads events
         → IsOnce S model opening (run_so S model rules reusing events (start S pace clocks opening)).net.log
         (run_so S model rules reusing events (start S pace clocks opening)).stores }
+{}
+
+/// The stack's own reads, ReadProperty and AtomicReadFile, change no store, which is what these laws assume of reads.
+#[tactic(auto, using(crate::proofs::StackReads::stack_reads))]
+pub fn stack_reads_change_nothing()
+    ensures { (store : Store) (choice : ℕ) (octets : List ℕ) (request : Request) → IsBytes octets → request_at choice octets ≡ Ok request
+        → is_stack_read choice ≡ true → after store request ≡ store }
 {}
