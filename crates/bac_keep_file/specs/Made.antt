@@ -14,6 +14,12 @@ pub record HasNoTable (db : Trees) : Type 0 where
   pub described : IsDatabase (record { schema = schema; trees = db })
   pub none : schema.tables ≡ []
 
+-- one of the databases that may be found has no table
+pub record HasNone (may_find : Trees → Type 0) : Type 0 where
+  pub db : Trees
+  pub found : may_find db
+  pub none : HasNoTable db
+
 -- the table is there, and nothing is kept in it
 pub record HasEmptyTable (v : View) : Type 0 where
   pub ready : IsReady v
