@@ -1,5 +1,5 @@
 -- The node that goes on has an invoke ID and a slot for what is asked first.
-use Rattle.std.proofs.Common.{◌≡◌, Bool, true, false, Option, Some, None, Result, Ok, Err, refl, inl, inr}
+use Rattle.std.proofs.Common.{◌≡◌, Bool, true, false, Some, None, Result, Ok, Err, refl, inl, inr}
 use Rattle.std.specs.Prelude.{IfOk}
 use Rattle.bac_protocol.specs.Service.{Octets}
 use Rattle.bac_text.specs.declared.status.Status.{Status}

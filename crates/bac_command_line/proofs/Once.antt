@@ -1,5 +1,5 @@
 -- No line is asked twice.
-use Rattle.std.proofs.Common.{◌≡◌, ◌≢◌, ◌⊎◌, ◌≤◌, ◌<◌, ℕ, zero, suc, ◌+◌, Bool, true, false, List, [], ◌∷◌, ◌++◌, Option, Some, None, if◌then◌else◌, refl, sym, ap, ◌∙◌, inl, inr, arith, slice_get}
+use Rattle.std.proofs.Common.{◌≡◌, ◌≢◌, ◌⊎◌, ◌≤◌, ◌<◌, ℕ, zero, suc, ◌+◌, Bool, true, false, List, [], ◌∷◌, ◌++◌, Option, Some, None, if◌then◌else◌, refl, ap, ◌∙◌, inl, inr, arith, slice_get}
 use Rattle.std.proofs.Math.Dec.{eqb}
 use Rattle.std.proofs.lemmas.Bool.Decides.{eqb_tells}
 use Rattle.std.specs.List.{position, remove}
@@ -7,7 +7,7 @@ use Rattle.bac_requester.specs.declared.reaction.Ended.{Ended}
 use Rattle.bac_driver.specs.Runs.{Run, Timed}
 use Rattle.bac_driver.specs.declared.question.AskEnd.{AskEnd}
 use Rattle.bac_driver.specs.declared.wait_limit.WaitLimit.{WaitLimit}
-use Rattle.bac_command_line.specs.InFlight.{Aloft, BeginsLine, Event, GivesUp, Happens, IsTakenUp, Plan, PrintsFrom, PrintsNext, Sky, TakesTurn, all_noted, asks_in, closed_flight, ended_in, has_ticket, here, noted, noted_at, waiting_from}
+use Rattle.bac_command_line.specs.InFlight.{Aloft, BeginsLine, Event, GivesUp, Happens, IsTakenUp, Plan, PrintsFrom, Sky, TakesTurn, all_noted, asks_in, closed_flight, ended_in, has_ticket, here, noted, noted_at, waiting_from}
 use Rattle.bac_command_line.specs.InFlight.Event.{Began, Held, WentOn}
 use Rattle.bac_command_line.specs.Online.{Links}
 use Rattle.bac_command_line.specs.declared.flights.Begun.{Begun}
