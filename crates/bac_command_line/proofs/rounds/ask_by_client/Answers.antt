@@ -4,6 +4,6 @@ use Rattle.bac_command_line.proofs.rounds.ask_by_client.Goals as goal
 pub returns : goal.returns
 returns g c =
     lifted c.ask_and_report.result
-    (λ a. record { before = _; after = _; client = c.in-Ok-new.ensures.node; clock = c.in-Ok-new.ensures.clock; rounds = a })
-    (λ a. record { before = _; after = _; client = c.in-Ok-new.ensures.node; clock = c.in-Ok-new.ensures.clock; rounds = a }) (λ n. n)
+    (λ a. record { before = _; after = _; client = c.in-Ok.ensures.node; clock = c.in-Ok.ensures.clock; rounds = a })
+    (λ a. record { before = _; after = _; client = c.in-Ok.ensures.node; clock = c.in-Ok.ensures.clock; rounds = a }) (λ n. n)
     c.ask_and_report.ensures
