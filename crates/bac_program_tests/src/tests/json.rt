@@ -58,7 +58,7 @@ const CHECKED: &[JsonRow] = &[
         (
             "{\"fault\":{\"layer\":\"line\",\"number\":null,\"text\":\"moment goes back\",\"words\":\"moment goes back\"},\
              \"line\":2,\"type\":\"fault\"}\n\
-             {\"fault\":{\"layer\":\"apdu\",\"number\":1,\"text\":\"fault apdu 1\",\"words\":\"truncated\"},\"line\":3,\"type\":\"fault\"}\n\
+             {\"fault\":{\"layer\":\"apdu\",\"number\":5,\"text\":\"fault apdu 5\",\"words\":\"bad type\"},\"line\":3,\"type\":\"fault\"}\n\
              {\"fault\":{\"layer\":\"line\",\"number\":null,\"text\":\"not a capture line\",\"words\":\"not a capture line\"},\
              \"line\":4,\"type\":\"fault\"}\n\
              {\"bad\":3,\"good\":1,\"lines\":4,\"notes\":null,\"type\":\"summary\"}\n",
