@@ -259,9 +259,10 @@ bac_status bac_add_kept(bac_node *node, uint64_t place, const uint8_t *octets, s
 
 /* Starts the node as bac_start_restarted does, and each property and file that the network may write has what the listed cells have of it, where they have
  * something; limits and lists of values do not hold here. A cell has no effect if there is no such property or file any more, or the network may not write it
- * any more. Otherwise as bac_start_restarted, and after those BAC_BAD_VALUE: a cell does not fit, as the property has another kind now, or a part of a file is
- * missing, also where that file is gone. How long parts are is not looked at: keep each cell whole. The place of the cell, of a file that of the number of its
- * parts, is put out then, and only then; all stays listed, and another cell of that place may be listed before the next start. */
+ * any more. Otherwise as bac_start_restarted, and after those BAC_BAD_VALUE where a cell does not fit: the property has another kind now, or of a file a part is
+ * missing, a part has another length than its place allows (the last one 1 to 1,024 octets, each before it 1,024), or all parts together more than 60,000
+ * octets. Memory may be refused before that. The place of the cell, of a file that of the number of its parts, is put out with BAC_BAD_VALUE alone; all stays
+ * listed, and another cell of that place may be listed before the next start. */
 bac_status bac_start_kept(bac_node *node, const bac_settings *settings, uint64_t now, uint64_t *place);
 
 /* The same with objects of any type, as bac_start_described_restarted. */

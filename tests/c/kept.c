@@ -183,6 +183,8 @@ static int next_rows(bac_node *node, bool described)
     CALL(BAC_OK, lists(node, true));
     CALL(BAC_OK, bac_add_kept(node, PLACE_OF(ANALOG_VALUE, 1, VENDOR), REAL_10, 5)); /* a later one takes its place */
     CALL(BAC_OK, bac_add_kept(node, PLACE_OF(ANALOG_VALUE, 9, PRESENT_VALUE), ONE, 2)); /* of an object that is gone */
+    CALL(BAC_OK, bac_add_kept(node, PART_OF(2, 0), content + 3, 1));                    /* of a file that is gone, without its parts */
+    CALL(BAC_OK, bac_add_kept(node, PART_OF(3, 0), ONE, 2));                            /* and no number of parts */
     CALL(BAC_OK, lists_kept(node));
     CALL(BAC_OK, starts(node, &s, described, &place));
     CALL(BAC_OK, bac_get_value(node, &set, out, sizeof out, &len));
@@ -211,6 +213,7 @@ static int unfit_rows(bac_node *node, bool described)
     CALL(BAC_OK, lists(node, false));
     CALL(BAC_OK, lists_kept(node));
     CALL(BAC_OK, bac_add_kept(node, value, ONE, 2));
+    CALL(BAC_OK, bac_add_kept(node, PART_OF(1, 0), content + 60, 1)); /* 60 parts, of which the last is missing */
     CALL(BAC_OK, starts(node, &s, described, &place));
     CALL(BAC_OK, bac_get_value(node, &set, out, sizeof out, &len));
     HOLDS(place == 7 && len == 5 && memcmp(out, REAL_20, 5) == 0);
@@ -232,6 +235,20 @@ static int unfit_rows(bac_node *node, bool described)
     CALL(BAC_BAD_VALUE, starts(node, &s, described, &place));
     HOLDS(place == PART_OF(1, 0));
     CALL(BAC_OK, bac_add_kept(node, PART_OF(1, 59), content, 608));
+    static const size_t lengths[] = { 1025, 1023, 0 }; /* of a part before the last */
+    for (size_t i = 0; i < 3; i++) {
+        CALL(BAC_OK, bac_add_kept(node, PART_OF(1, 1), content, lengths[i]));
+        CALL(BAC_BAD_VALUE, starts(node, &s, described, &place));
+        HOLDS(place == PART_OF(1, 0));
+    }
+    CALL(BAC_OK, bac_add_kept(node, PART_OF(1, 0), content + 1, 1)); /* of the last one */
+    for (size_t i = 0; i < 3; i += 2) {
+        CALL(BAC_OK, bac_add_kept(node, PART_OF(1, 1), content, lengths[i]));
+        CALL(BAC_BAD_VALUE, starts(node, &s, described, &place));
+        HOLDS(place == PART_OF(1, 0));
+    }
+    CALL(BAC_OK, bac_add_kept(node, PART_OF(1, 1), content + 1, 1024));
+    CALL(BAC_OK, bac_add_kept(node, PART_OF(1, 0), content + 59, 1));
     CALL(BAC_OK, starts(node, &s, described, &place));
     bac_close(node);
     return 0;

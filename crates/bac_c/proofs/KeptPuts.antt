@@ -4,13 +4,9 @@ use Rattle.std.specs.List.{AllByRecursion, insert}
 use Rattle.std.specs.Prelude.{set}
 use Rattle.std.proofs.lemmas.Bool.Decides.{nat_tests}
 use Rattle.bac_keep.specs.declared.cell.Cell.{Cell}
-use Rattle.bac_store.specs.Stores.{Store}
 use Rattle.bac_keep.specs.Cells.{Cells, with_cell}
-use Rattle.bac_keep.specs.Overlay.{overlay}
 use Rattle.bac_keep.specs.Rows.{IsRising, held}
-use Rattle.bac_c.specs.Kept.{AreBelow, IsFaultAt, IsNextFrom, IsOf, IsOfList, cells_in, entry}
-use Rattle.bac_c.specs.declared.kept_fault.KeptFault.{KeptFault}
-use Rattle.bac_c.specs.declared.kept_fault.KeptFault.TheVariants as fault
+use Rattle.bac_c.specs.Kept.{AreBelow, IsNextFrom, cells_in, entry}
 
 -- one more cell is below
 pub one_more_below : (p at : ℕ) (cs : List Cell) (d : Cell) → at < length cs → (get_or cs at d).place < p → AreBelow p at cs → AreBelow p (suc at) cs
@@ -59,22 +55,22 @@ all_inserted p (suc at) x [] less all = (less, tt)
 all_inserted p (suc at) x (c ∷ cs) less all = (all.0, all_inserted p at x cs less all.1)
 
 -- the next cell has another place
-abbrev IsApartAt : (place index : ℕ) → List Cell → Type 0
+abbrev pub IsApartAt : (place index : ℕ) → List Cell → Type 0
 IsApartAt p i [] = Unit {0}
 IsApartAt p zero (c ∷ cs) = (c.place ≡ p) → ⊥
 IsApartAt p (suc i) (c ∷ cs) = IsApartAt p i cs
 
-apart_past : (p at : ℕ) (cs : List Cell) → length cs ≤ at → IsApartAt p at cs
+pub apart_past : (p at : ℕ) (cs : List Cell) → length cs ≤ at → IsApartAt p at cs
 apart_past p at [] l = tt
 apart_past p zero (c ∷ cs) l = absurd (omega (arith, l))
 apart_past p (suc at) (c ∷ cs) l = apart_past p at cs (omega (arith, l))
 
-apart_at : (p at : ℕ) (cs : List Cell) (d : Cell) → ((get_or cs at d).place ≡ p → ⊥) → IsApartAt p at cs
+pub apart_at : (p at : ℕ) (cs : List Cell) (d : Cell) → ((get_or cs at d).place ≡ p → ⊥) → IsApartAt p at cs
 apart_at p at [] d other = tt
 apart_at p zero (c ∷ cs) d other = other
 apart_at p (suc at) (c ∷ cs) d other = apart_at p at cs d other
 
-less_of : (p c : ℕ) → p ≤ c → (c ≡ p → ⊥) → p < c
+pub less_of : (p c : ℕ) → p ≤ c → (c ≡ p → ⊥) → p < c
 less_of p c le other = go (c == p) refl
   where
     go : (b : Bool) → (c == p) ≡ b → p < c
@@ -146,16 +142,6 @@ is_held (c ∷ cs) (suc at) d l = λ none. go ((get_or cs at d).place == c.place
     go true there none = cc
     go false there none = there none
 
-pub is_of : (cs : List Cell) (at : ℕ) (d : Cell) (p : ℕ) → at < length cs → get_or cs at d ≡ d → d.place ≡ p → IsOfList (fault.Wrong p) cs
-is_of cs at d p l is same = subst (λ (q : ℕ). held cs q ≢ None) (ap (λ (x : Cell). x.place) is ∙ same) (is_held cs at d l)
-
-pub fault_is_of : (cs : List Cell) (at : ℕ) (d : Cell) (p : ℕ) (e : KeptFault) → at < length cs → get_or cs at d ≡ d → d.place ≡ p → IsFaultAt p e → IsOfList e cs
-fault_is_of cs at d p (fault.Wrong q) l is same that = is_of cs at d q l is (same ∙ sym that)
-fault_is_of cs at d p fault.NoMemory l is same that = tt
-
-pub memory_is_of : (cs : List Cell) (e : KeptFault) → e ≡ fault.NoMemory → IsOfList e cs
-memory_is_of cs e is = subst (λ (x : KeptFault). IsOfList x cs) (sym is) tt
-
 -- ---- what a C program sees of a list of cells
 
 held_entries : (cs : List Cell) → cells_in (map entry cs) ≡ held cs
@@ -194,14 +180,9 @@ pub rising_end : (cs new : List Cell) (at : ℕ) (x : Cell) → new ≡ insert c
     → length cs ≤ at → IsRising new
 rising_end cs new at x is rise below next past = subst IsRising (sym is) (rises_at_end cs at x rise below next past)
 
-overlaid : (cs : List Cell) (document s : Store) → IsRising cs → (IsRising cs → s ≡ overlay (held cs) document) → s ≡ overlay (cells_in (map entry cs)) document
-overlaid cs document s rise is = is rise ∙ ap (λ (x : Cells). overlay x document) (sym (held_entries cs))
-
-pub overlaid_as : (cs shown : List Cell) (entries : List (ℕ × List ℕ)) (document s : Store) → shown ≡ cs → entries ≡ map entry cs → IsRising cs
-    → (IsRising shown → s ≡ overlay (held shown) document) → s ≡ overlay (cells_in entries) document
-overlaid_as cs shown entries document s same are rise is =
-    overlaid cs document s rise (subst (λ (x : List Cell). IsRising x → s ≡ overlay (held x) document) same is)
-    ∙ ap (λ (x : List (ℕ × List ℕ)). overlay (cells_in x) document) (sym are)
-
-pub fault_of_entries : (cs : List Cell) (e : KeptFault) → IsOfList e cs → IsOf e (cells_in (map entry cs))
-fault_of_entries cs e of = subst (λ (x : Cells). IsOf e x) (sym (held_entries cs)) of
+-- what is said of a list whose places rise is so of its cells
+pub of_entries : (P : Cells → Type 0) (cs shown : List Cell) (entries : List (ℕ × List ℕ)) → shown ≡ cs → entries ≡ map entry cs → IsRising cs
+    → (IsRising shown → P (held shown)) → P (cells_in entries)
+of_entries P cs shown entries same are rise is =
+    let here : P (held cs) = subst (λ (x : List Cell). IsRising x → P (held x)) same is rise in
+    subst (λ (x : List (ℕ × List ℕ)). P (cells_in x)) (sym are) (subst P (sym (held_entries cs)) here)

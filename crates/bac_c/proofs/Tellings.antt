@@ -16,7 +16,7 @@ use Rattle.bac_keep.specs.Made.Made.{Changed, Performed}
 use Rattle.bac_keep.specs.Noted.{chunk_count, octets_noted, values_noted, with_octets_of, with_property}
 use Rattle.bac_keep.specs.Overlay.{chunk, overlay, with_chunks, with_file}
 use Rattle.bac_c.specs.Telling.{CONTENTS, HasPlaces, Told, count_part, has_cell, octets_count, octets_told, part_told, put, put_all, put_first, put_made, value_told, values_count}
-use Rattle.bac_c.proofs.KeptNotes.{changed_octets, changed_value, performed_octets, performed_value}
+use Rattle.bac_keep.proofs.Notes.{changed_octets, changed_value, performed_octets, performed_value}
 
 -- ---- of a property
 

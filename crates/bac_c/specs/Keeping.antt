@@ -12,6 +12,7 @@ use Rattle.bac_node.specs.declared.config.Config.{Config}
 use Rattle.bac_keep.specs.Cells.{Cells, with_cell}
 use Rattle.bac_keep.specs.Overlay.{overlay}
 use Rattle.bac_c.specs.Asking.{identifier_of}
+use Rattle.bac_c.specs.Fitting.{AreFit}
 use Rattle.bac_c.specs.Kept.{cells_in}
 use Rattle.bac_c.specs.Performing.{is_done}
 use Rattle.bac_c.specs.Ranges.{is_reference}
@@ -78,12 +79,13 @@ HasPut place octets old new = MatchOption old ⊥ (λ d. MatchOption new ⊥ (Is
 
 -- ---- a node that is started with them
 
--- the node restarts at that moment, with the cells over the store of the objects
+-- each cell fits the store of the objects; the node restarts at that moment, with the cells over that store
 pub record IsRestored (Makes : List Object → Store → Type 0) (s : Settings) (now : ℕ) (objects : List Object) (cells : Cells) (node : Node) : Type 0 where
   pub config : Config
   pub says : IsConfigOf s config
   pub document : Store
   pub made : Makes objects document
+  pub fit : AreFit document cells
   pub fresh : node ≡ made_node config (overlay cells document) (Some now)
 
 abbrev pub IsRestoredNode : (List Object → Store → Type 0) → Settings → (now : ℕ) → List Object → Cells → Option Node → Type 0

@@ -1,8 +1,9 @@
 -- Cells that are kept for a node that is to be started.
-use Rattle.std.specs.Prelude.{◌≡◌, ◌≢◌, ◌<◌, ◌≤◌, ℕ, zero, suc, ◌-◌, ◌%◌, Bool, ◌&&◌, ◌||◌, nat_lt, List, [], ◌∷◌, None}
+use Rattle.std.specs.Prelude.{◌≡◌, ◌<◌, ◌≤◌, ℕ, zero, suc, ◌-◌, ◌%◌, Bool, true, false, ◌&&◌, ◌||◌, nat_lt, List, [], ◌∷◌}
+use Rattle.bac_store.specs.declared.change_fault.ChangeFault.{ChangeFault}
+use Rattle.bac_store.specs.declared.change_fault.ChangeFault.TheVariants as change
 use Rattle.bac_keep.specs.declared.cell.Cell.{Cell}
 use Rattle.bac_keep.specs.Cells.{Cells, FILES, NUMBERS, no_cells, with_cell}
-use Rattle.bac_keep.specs.Rows.{held}
 use Rattle.bac_c.specs.declared.kept_fault.KeptFault.{KeptFault}
 use Rattle.bac_c.specs.declared.kept_fault.KeptFault.TheVariants as fault
 
@@ -21,18 +22,21 @@ entry c = (c.place, c.octets.items)
 
 -- ---- faults
 
--- why the cell at a place is not restored
-abbrev pub IsFaultAt : (place : ℕ) → KeptFault → Type 0
-IsFaultAt place (fault.Wrong p) = p ≡ place
-IsFaultAt place fault.NoMemory = Unit {0}
+-- a change that the store refuses, of the cell at this place
+abbrev pub fault_at : (place : ℕ) → ChangeFault → KeptFault
+fault_at place change.NoMemory = fault.NoMemory
+fault_at place _ = fault.Wrong place
 
--- the cell that does not fit is one of these
-abbrev pub IsOf : KeptFault → Cells → Type 0
-IsOf (fault.Wrong p) cells = cells p ≢ None
-IsOf fault.NoMemory cells = Unit {0}
+-- memory was refused, or the cell at this place is wrong, and this is why
+abbrev pub IsFaultFor : (place : ℕ) → (why : Type 0) → KeptFault → Type 0
+IsFaultFor place why (fault.Wrong p) = (p ≡ place) × why
+IsFaultFor place why fault.NoMemory = Unit {0}
 
-abbrev pub IsOfList : KeptFault → List Cell → Type 0
-IsOfList e cells = IsOf e (held cells)
+-- the octets say how many parts a file has
+abbrev pub states_count : List ℕ → Bool
+states_count [] = false
+states_count (n ∷ []) = true
+states_count (n ∷ m ∷ more) = false
 
 -- ---- where a cell goes
 
@@ -47,3 +51,9 @@ abbrev pub IsNextFrom : (place index : ℕ) → List Cell → Type 0
 IsNextFrom p i [] = Unit {0}
 IsNextFrom p zero (c ∷ cs) = p ≤ c.place
 IsNextFrom p (suc i) (c ∷ cs) = IsNextFrom p i cs
+
+-- the cell at this index has this place
+abbrev pub IsPlaceAt : (place index : ℕ) → List Cell → Type 0
+IsPlaceAt p i [] = ⊥
+IsPlaceAt p zero (c ∷ cs) = c.place ≡ p
+IsPlaceAt p (suc i) (c ∷ cs) = IsPlaceAt p i cs

@@ -3,6 +3,7 @@ pub mod Changing
 pub mod Describing
 pub mod Devices
 pub mod Endings
+pub mod Fitting
 pub mod Keeping
 pub mod Kept
 pub mod Listing

@@ -1,10 +1,11 @@
 -- How a node is started.
-use Rattle.std.specs.Prelude.{◌≡◌, ℕ, Bool, ◌==◌, ◌&&◌, IsTrue, List, Option, Some, MatchOption, map}
+use Rattle.std.specs.Prelude.{◌≡◌, ℕ, Bool, ◌==◌, ◌&&◌, IsTrue, List, [], ◌∷◌, Option, Some, MatchOption, map}
 use Rattle.bac_apdu.specs.Spelling.{codes_fit}
-use Rattle.bac_store.specs.Described.{IsDescribedBy}
+use Rattle.bac_store.specs.Described.{AreDescribed, IsDescribedBy}
 use Rattle.bac_store.specs.Made.{IsMadeOf, IsRefused}
 use Rattle.bac_store.specs.declared.store_fault.StoreFault.TheVariants as store_fault
 use Rattle.bac_store.specs.House.{house}
+use Rattle.bac_store.specs.Objects.{AreDistinct}
 use Rattle.bac_store.specs.Stores.{Object, Store}
 use Rattle.bac_store.specs.Views.{object_view}
 use Rattle.bac_world.specs.Node.{Node}
@@ -13,7 +14,10 @@ use Rattle.bac_node.specs.declared.config.Config.{Config}
 use Rattle.bac_c.specs.Devices.{IsIdle}
 use Rattle.bac_c.specs.declared.device.Device.{Device}
 use Rattle.bac_c.specs.declared.records.Settings.{Settings}
+use Rattle.bac_c.specs.declared.rule.Rule.{Rule}
+use Rattle.bac_c.specs.declared.rule.Rule.TheVariants as rule
 use Rattle.bac_c.specs.declared.settings.TheConstants as settings
+use Rattle.bac_c.specs.Statuses.{ALREADY_STARTED, BAD_OBJECT, BAD_SETTINGS, BAD_VALUE, DONE, DUPLICATE, NOT_OPEN, NO_MEMORY}
 
 -- the objects are no store, though no two have one identifier
 abbrev pub IsBad : List Object → Type 0
@@ -37,30 +41,45 @@ pub record IsConfigOf (s : Settings) (c : Config) : Type 0 where
 abbrev pub listed_in : Device → List Object
 listed_in d = map object_view d.listed.items
 
--- the node is as it was made, with the store of these objects; it restarts at that moment, if there is one
-pub record IsStarted (restart : Option ℕ) (objects : List Object) (c : Config) (n : Node) : Type 0 where
-  pub store : Store
-  pub made : IsMadeOf objects store
-  pub fresh : n ≡ made_node c store restart
+-- ---- the rule by which objects make a store
 
-abbrev pub IsStartedOf : (restart : Option ℕ) → List Object → Config → Option Node → Type 0
-IsStartedOf restart objects c node = MatchOption node ⊥ (IsStarted restart objects c)
+abbrev pub makes : Rule → List Object → Store → Type 0
+makes rule.Plain = IsMadeOf
+makes rule.Described = IsDescribedBy
 
-pub record IsStartedWith (s : Settings) (restart : Option ℕ) (objects : List Object) (node : Option Node) : Type 0 where
+-- two have one identifier, where that has a status of its own
+abbrev pub HaveTwins : Rule → List Object → Type 0
+HaveTwins rule.Plain objects = AreDistinct objects → ⊥
+HaveTwins rule.Described objects = ⊥
+
+abbrev pub AreBad : Rule → List Object → Type 0
+AreBad rule.Plain objects = IsBad objects
+AreBad rule.Described objects = AreDescribed objects → ⊥
+
+-- the statuses of a start that only one rule has
+abbrev pub twin_statuses : Rule → List ℕ
+twin_statuses rule.Plain = DUPLICATE ∷ []
+twin_statuses rule.Described = []
+
+abbrev pub start_statuses : Rule → List ℕ
+start_statuses r = DONE ∷ NO_MEMORY ∷ NOT_OPEN ∷ ALREADY_STARTED ∷ BAD_SETTINGS ∷ BAD_OBJECT ∷ twin_statuses r
+
+-- of a start with kept cells
+abbrev pub kept_statuses : Rule → List ℕ
+kept_statuses r = DONE ∷ NO_MEMORY ∷ NOT_OPEN ∷ ALREADY_STARTED ∷ BAD_SETTINGS ∷ BAD_OBJECT ∷ BAD_VALUE ∷ twin_statuses r
+
+-- ---- a node that is started
+
+-- the node is as it was made, as the settings say, with the store that these objects make; it restarts at that moment, if there is one
+pub record IsStarted (Makes : List Object → Store → Type 0) (s : Settings) (restart : Option ℕ) (objects : List Object) (node : Node) : Type 0 where
   pub config : Config
   pub says : IsConfigOf s config
-  pub started : IsStartedOf restart objects config node
-
--- the same of a described store
-pub record IsDescribedWith (s : Settings) (restart : Option ℕ) (objects : List Object) (node : Node) : Type 0 where
-  pub config : Config
-  pub says : IsConfigOf s config
   pub store : Store
-  pub described : IsDescribedBy objects store
+  pub made : Makes objects store
   pub fresh : node ≡ made_node config store restart
 
-abbrev pub IsDescribedNode : Settings → (restart : Option ℕ) → List Object → Option Node → Type 0
-IsDescribedNode s restart objects node = MatchOption node ⊥ (IsDescribedWith s restart objects)
+abbrev pub IsStartedNode : (List Object → Store → Type 0) → Settings → (restart : Option ℕ) → List Object → Option Node → Type 0
+IsStartedNode makes s restart objects node = MatchOption node ⊥ (IsStarted makes s restart objects)
 
 pub record IsHouseWith (s : Settings) (node : Option Node) : Type 0 where
   pub config : Config
@@ -72,11 +91,8 @@ abbrev pub IsReady : Settings → Device → Type 0
 IsReady s d = IsIdle d × IsTrue (is_right s)
 
 -- the node runs with the listed objects, as the settings say
-abbrev pub HasStarted : Settings → (restart : Option ℕ) → (old new : Option Device) → Type 0
-HasStarted s restart old new = MatchOption old ⊥ (λ d. MatchOption new ⊥ (λ e. IsStartedWith s restart (listed_in d) e.node))
-
-abbrev pub HasDescribed : Settings → (restart : Option ℕ) → (old new : Option Device) → Type 0
-HasDescribed s restart old new = MatchOption old ⊥ (λ d. MatchOption new ⊥ (λ e. IsDescribedNode s restart (listed_in d) e.node))
+abbrev pub HasStarted : (List Object → Store → Type 0) → Settings → (restart : Option ℕ) → (old new : Option Device) → Type 0
+HasStarted makes s restart old new = MatchOption old ⊥ (λ d. MatchOption new ⊥ (λ e. IsStartedNode makes s restart (listed_in d) e.node))
 
 abbrev pub HasHouse : Settings → (new : Option Device) → Type 0
 HasHouse s new = MatchOption new ⊥ (λ e. IsHouseWith s e.node)

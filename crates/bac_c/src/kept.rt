@@ -2,7 +2,8 @@
 ghost use Rattle.std.specs.Prelude.{◌≡◌, ◌≤◌, [], length, IfErr, IfOk, OnErr, OnOk};
 ghost use Rattle.bac_keep.specs.Cells.{with_cell};
 ghost use Rattle.bac_keep.specs.Overlay.{overlay};
-ghost use Rattle.bac_c.specs.Kept.{AreBelow, IsNextFrom, IsOf, cells_in};
+ghost use Rattle.bac_c.specs.Fitting.{AreFit, IsWrong};
+ghost use Rattle.bac_c.specs.Kept.{AreBelow, IsNextFrom, cells_in};
 
 use crate::copying::copied_octets;
 use crate::kept_fault::KeptFault;
@@ -74,10 +75,10 @@ impl Kept {
     }
 
     /// The store that a document and these cells make, as [`restored`] says.
-    #[tactic(auto, using(crate::proofs::KeptPuts::fault_of_entries))]
     pub fn over(&self, alloc: Global, document: &Store) -> Result<Store, KeptFault>
         ensures made { IfOk result (λ s. s ≡ overlay (cells_in self.now) document.now) }
-        ensures fault { IfErr result (λ e. IsOf e (cells_in self.now)) }
+        ensures fit { OnOk result (AreFit document.now (cells_in self.now)) }
+        ensures fault { IfErr result (λ e. IsWrong e document.now (cells_in self.now)) }
     {
         let store = restored(alloc, document, &self.cells)?;
         Ok(store)

@@ -35,6 +35,7 @@ mod requests;
 mod restarting;
 mod restoring;
 mod results;
+mod rule;
 mod setting;
 mod settings;
 mod slots;

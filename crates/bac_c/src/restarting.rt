@@ -6,13 +6,13 @@ ghost use Rattle.bac_store.specs.Described.{AreDescribed, IsDescribedBy};
 ghost use Rattle.bac_store.specs.Made.{IsMadeOf};
 ghost use Rattle.bac_store.specs.Objects.{AreDistinct};
 ghost use Rattle.bac_c.specs.Devices.{Holds, IsIdle, IsQuiet};
+ghost use Rattle.bac_c.specs.Fitting.{AreFit, HasUnfit, IsUnfitAt};
 ghost use Rattle.bac_c.specs.Keeping.{HasRestored, IsRestoredNode};
 ghost use Rattle.bac_c.specs.Kept.{cells_in};
-ghost use Rattle.bac_c.specs.Starting.{IsBad, IsReady, is_right, listed_in};
+ghost use Rattle.bac_c.specs.Starting.{AreBad, HaveTwins, IsBad, IsReady, is_right, kept_statuses, listed_in, makes};
 ghost use Rattle.bac_c.specs.Statuses.{fault_number, is_one_of, status_of, DESCRIBED_RESTORING, RESTORING, WITH_CELLS};
 ghost use Rattle.bac_c.specs.Statuses.{ALREADY_STARTED, BAD_OBJECT, BAD_SETTINGS, BAD_VALUE, DONE, DUPLICATE, NOT_OPEN, NO_MEMORY};
 
-use crate::describing::described_store;
 use crate::device::{Device, no_outcome};
 use crate::fault::{Fault, status};
 use crate::handle::Handle;
@@ -20,8 +20,9 @@ use crate::kept::Kept;
 use crate::kept_fault::KeptFault;
 use crate::listed::copied_objects;
 use crate::records::Settings;
+use crate::rule::Rule;
 use crate::settings::config_of;
-use crate::starting::{node_of, store_of};
+use crate::starting::node_of;
 use bac_node::{Config, Node};
 use bac_store::Store;
 use std::alloc::Global;
@@ -39,7 +40,8 @@ fn restored_node(
     requires window { window_fits config.window ≡ true }
     ensures made { IfOk result (λ n. n ≡ made_node config (overlay (cells_in kept.now) document.now) (Some now)) }
     ensures few { IfErr result (λ e. IsTrue (is_one_of WITH_CELLS (fault_number e))) }
-    ensures place { IsErrOf result Fault.BadValue → cells_in kept.now place.new ≢ None }
+    ensures fit { OnOk result (AreFit document.now (cells_in kept.now)) }
+    ensures unfit { IsErrOf result Fault.BadValue → IsUnfitAt document.now (cells_in kept.now) place.new }
     ensures kept { (IsErrOf result Fault.BadValue → ⊥) → place.new ≡ place.old }
 {
     match kept.over(alloc, document) {
@@ -66,62 +68,29 @@ impl Device {
         self.outcome = no_outcome(alloc);
     }
 
-    /// Starts the node, which restarts at a moment, with the cells that are listed over the store of the objects that are listed. All stay listed where it is
-    /// not started; where a cell does not fit, its place is put out.
+    /// Starts the node, which restarts at a moment, with the cells that are listed over the store that the listed objects make by this rule. All stay listed
+    /// where it is not started; where a cell does not fit, its place is put out.
     pub fn start_kept(
         &mut self,
         alloc: Global,
+        rule: Rule,
         settings: &Settings,
         now: u64,
         place: &mut u64,
     ) -> Result<(), Fault>
-        ensures started { OnOk result (IsRestoredNode IsMadeOf settings.now now (listed_in self.old) (cells_in self.old.kept) self.new.node) }
+        ensures started { OnOk result (IsRestoredNode (makes rule) settings.now now (listed_in self.old) (cells_in self.old.kept) self.new.node) }
         ensures quiet { OnOk result (IsQuiet self.new) }
         ensures unlisted { OnOk result (self.new.listed.items ≡ []) }
         ensures unkept { OnOk result (self.new.kept ≡ []) }
         ensures again { IsErrOf result Fault.AlreadyStarted ↔ (self.old.node ≢ None) }
         ensures settings { IsErrOf result Fault.BadSettings ↔ IsIdle self.old × (IsTrue (is_right settings.now) → ⊥) }
         ensures duplicate { (IsErrOf result Fault.NoMemory → ⊥)
-            → (IsErrOf result Fault.Duplicate ↔ IsReady settings.now self.old × (AreDistinct (listed_in self.old) → ⊥)) }
-        ensures bad { (IsErrOf result Fault.NoMemory → ⊥) → (IsErrOf result Fault.BadObject ↔ IsReady settings.now self.old × IsBad (listed_in self.old)) }
-        ensures place { IsErrOf result Fault.BadValue → cells_in self.old.kept place.new ≢ None }
-        ensures kept { (IsErrOf result Fault.BadValue → ⊥) → place.new ≡ place.old }
-        ensures few { IsTrue (is_one_of RESTORING (status_of result)) }
-        ensures open { IsErrOf result Fault.NotOpen → ⊥ }
-        ensures err { OnErr result (self.new ≡ self.old) }
-    {
-        if self.node.is_some() {
-            return Err(Fault::AlreadyStarted);
-        }
-        let config = config_of(settings)?;
-        let Ok(objects) = copied_objects(alloc, &self.listed) else {
-            return Err(Fault::NoMemory);
-        };
-        let document = store_of(alloc, objects)?;
-        let node = restored_node(alloc, config, &document, &self.kept, now, place)?;
-        self.run(alloc, node);
-        Ok(())
-    }
-
-    /// The same with objects of any type.
-    pub fn start_described_kept(
-        &mut self,
-        alloc: Global,
-        settings: &Settings,
-        now: u64,
-        place: &mut u64,
-    ) -> Result<(), Fault>
-        ensures started { OnOk result (IsRestoredNode IsDescribedBy settings.now now (listed_in self.old) (cells_in self.old.kept) self.new.node) }
-        ensures quiet { OnOk result (IsQuiet self.new) }
-        ensures unlisted { OnOk result (self.new.listed.items ≡ []) }
-        ensures unkept { OnOk result (self.new.kept ≡ []) }
-        ensures again { IsErrOf result Fault.AlreadyStarted ↔ (self.old.node ≢ None) }
-        ensures settings { IsErrOf result Fault.BadSettings ↔ IsIdle self.old × (IsTrue (is_right settings.now) → ⊥) }
+            → (IsErrOf result Fault.Duplicate ↔ IsReady settings.now self.old × HaveTwins rule (listed_in self.old)) }
         ensures bad { (IsErrOf result Fault.NoMemory → ⊥)
-            → (IsErrOf result Fault.BadObject ↔ IsReady settings.now self.old × (AreDescribed (listed_in self.old) → ⊥)) }
-        ensures place { IsErrOf result Fault.BadValue → cells_in self.old.kept place.new ≢ None }
+            → (IsErrOf result Fault.BadObject ↔ IsReady settings.now self.old × AreBad rule (listed_in self.old)) }
+        ensures unfit { IsErrOf result Fault.BadValue → HasUnfit (makes rule) (listed_in self.old) (cells_in self.old.kept) place.new }
         ensures kept { (IsErrOf result Fault.BadValue → ⊥) → place.new ≡ place.old }
-        ensures few { IsTrue (is_one_of DESCRIBED_RESTORING (status_of result)) }
+        ensures few { IsTrue (is_one_of (kept_statuses rule) (status_of result)) }
         ensures open { IsErrOf result Fault.NotOpen → ⊥ }
         ensures err { OnErr result (self.new ≡ self.old) }
     {
@@ -132,11 +101,42 @@ impl Device {
         let Ok(objects) = copied_objects(alloc, &self.listed) else {
             return Err(Fault::NoMemory);
         };
-        let document = described_store(alloc, objects)?;
+        let document = rule.store(alloc, objects)?;
         let node = restored_node(alloc, config, &document, &self.kept, now, place)?;
         self.run(alloc, node);
         Ok(())
     }
+}
+
+/// Starts the node again with the objects that are listed and, over the store that they make by this rule, the cells that are listed.
+fn start_kept_by(
+    alloc: Global,
+    handle: &mut Handle,
+    rule: Rule,
+    settings: &Settings,
+    now: u64,
+    place: &mut u64,
+) -> u32
+    ensures went { result ≡ DONE → HasRestored (makes rule) settings.now now handle.old.parked.device handle.new.parked.device }
+    ensures quiet { result ≡ DONE → Holds IsQuiet handle.new.parked.device }
+    ensures unlisted { result ≡ DONE → Holds (λ d. (d.listed.items ≡ []) × (d.kept ≡ [])) handle.new.parked.device }
+    ensures closed { (result ≡ NOT_OPEN) ↔ (handle.old.parked.device ≡ None) }
+    ensures again { (result ≡ ALREADY_STARTED) ↔ Holds (λ d. d.node ≢ None) handle.old.parked.device }
+    ensures settings { (result ≡ BAD_SETTINGS) ↔ Holds (λ d. IsIdle d × (IsTrue (is_right settings.now) → ⊥)) handle.old.parked.device }
+    ensures duplicate { result ≢ NO_MEMORY
+        → ((result ≡ DUPLICATE) ↔ Holds (λ d. IsReady settings.now d × HaveTwins rule (listed_in d)) handle.old.parked.device) }
+    ensures bad { result ≢ NO_MEMORY → ((result ≡ BAD_OBJECT) ↔ Holds (λ d. IsReady settings.now d × AreBad rule (listed_in d)) handle.old.parked.device) }
+    ensures unfit { result ≡ BAD_VALUE → Holds (λ d. HasUnfit (makes rule) (listed_in d) (cells_in d.kept) place.new) handle.old.parked.device }
+    ensures kept { result ≢ BAD_VALUE → place.new ≡ place.old }
+    ensures few { IsTrue (is_one_of (kept_statuses rule) result) }
+    ensures err { result ≢ DONE → handle.new.parked.device ≡ handle.old.parked.device }
+{
+    let Some(mut device) = handle.take(alloc) else {
+        return status(Err(Fault::NotOpen));
+    };
+    let done = device.start_kept(alloc, rule, settings, now, place);
+    handle.put(device);
+    status(done)
 }
 
 /// Starts the node again with the objects that are listed and, over their values, the cells that are listed, at a moment in milliseconds, after an earlier life
@@ -158,17 +158,12 @@ pub extern "C" fn bac_start_kept(
     ensures duplicate { result ≢ NO_MEMORY
         → ((result ≡ DUPLICATE) ↔ Holds (λ d. IsReady settings.now d × (AreDistinct (listed_in d) → ⊥)) handle.old.parked.device) }
     ensures bad { result ≢ NO_MEMORY → ((result ≡ BAD_OBJECT) ↔ Holds (λ d. IsReady settings.now d × IsBad (listed_in d)) handle.old.parked.device) }
-    ensures place { result ≡ BAD_VALUE → Holds (λ d. cells_in d.kept place.new ≢ None) handle.old.parked.device }
+    ensures unfit { result ≡ BAD_VALUE → Holds (λ d. HasUnfit IsMadeOf (listed_in d) (cells_in d.kept) place.new) handle.old.parked.device }
     ensures kept { result ≢ BAD_VALUE → place.new ≡ place.old }
     ensures few { IsTrue (is_one_of RESTORING result) }
     ensures err { result ≢ DONE → handle.new.parked.device ≡ handle.old.parked.device }
 {
-    let Some(mut device) = handle.take(alloc) else {
-        return status(Err(Fault::NotOpen));
-    };
-    let done = device.start_kept(alloc, settings, now, place);
-    handle.put(device);
-    status(done)
+    start_kept_by(alloc, handle, Rule::Plain, settings, now, place)
 }
 
 /// The same with objects of any type.
@@ -188,15 +183,10 @@ pub extern "C" fn bac_start_described_kept(
     ensures settings { (result ≡ BAD_SETTINGS) ↔ Holds (λ d. IsIdle d × (IsTrue (is_right settings.now) → ⊥)) handle.old.parked.device }
     ensures bad { result ≢ NO_MEMORY
         → ((result ≡ BAD_OBJECT) ↔ Holds (λ d. IsReady settings.now d × (AreDescribed (listed_in d) → ⊥)) handle.old.parked.device) }
-    ensures place { result ≡ BAD_VALUE → Holds (λ d. cells_in d.kept place.new ≢ None) handle.old.parked.device }
+    ensures unfit { result ≡ BAD_VALUE → Holds (λ d. HasUnfit IsDescribedBy (listed_in d) (cells_in d.kept) place.new) handle.old.parked.device }
     ensures kept { result ≢ BAD_VALUE → place.new ≡ place.old }
     ensures few { IsTrue (is_one_of DESCRIBED_RESTORING result) }
     ensures err { result ≢ DONE → handle.new.parked.device ≡ handle.old.parked.device }
 {
-    let Some(mut device) = handle.take(alloc) else {
-        return status(Err(Fault::NotOpen));
-    };
-    let done = device.start_described_kept(alloc, settings, now, place);
-    handle.put(device);
-    status(done)
+    start_kept_by(alloc, handle, Rule::Described, settings, now, place)
 }

@@ -1,20 +1,33 @@
 //! The store that a document and kept cells make.
-ghost use Rattle.std.specs.Prelude.{◌≡◌, ◌<◌, ◌+◌, [], ◌∷◌, drop, length, IfErr, IfOk, OnOk};
+ghost use Rattle.std.specs.Prelude.{◌≡◌, ◌<◌, ◌+◌, [], ◌∷◌, drop, false, length, true, IfErr, IfOk, OnOk, Some};
 ghost use Rattle.bac_value.specs.Views.{object_identifier_view};
+ghost use Rattle.bac_store.specs.Writes.{file_at, listed_at};
+ghost use Rattle.bac_keep.specs.Cells.{file_place as plain_file_place};
 ghost use Rattle.bac_keep.specs.Overlay.{joined, overlay};
-ghost use Rattle.bac_keep.specs.Restored.{with_kept_octets, with_kept_values};
+ghost use Rattle.bac_keep.specs.Restored.{is_writable_file, is_writable_value, with_kept_octets, with_kept_values};
 ghost use Rattle.bac_keep.specs.Rows.{IsRising, held};
-ghost use Rattle.bac_c.specs.Kept.{IsFaultAt, IsOfList};
+ghost use Rattle.bac_c.specs.Fitting.{AreFit, EachFits, IsWrong, has_parts, is_part as plain_is_part, octets_fit, values_fit};
+ghost use Rattle.bac_c.specs.Kept.{IsFaultFor, IsPlaceAt, fault_at as plain_fault_at, states_count};
 
 use crate::kept_fault::KeptFault;
-use crate::places::{file_place, part_of};
+use crate::places::{CHUNK, file_place, part_of};
 use bac_keep::{Cell, Part};
 use bac_store::{ChangeFault, Store, stores_are_in_order};
 use bac_value::ObjectIdentifier;
 use std::alloc::Global;
 
-/// The octets of a file, whose number of chunks is in the cell at this index: those of the cells after it. None where one is missing.
-#[tactic(auto, using(crate::proofs::KeptPuts::is_of, crate::proofs::KeptPuts::memory_is_of))]
+/// Whether a part of a file can have these octets: the last one has 1 to 1,024, each one before it 1,024.
+fn is_part(octets: &[u8], is_last: bool) -> bool
+    ensures { result ≡ plain_is_part is_last (Some octets.now) }
+{
+    if is_last {
+        !octets.is_empty() && octets.len() <= CHUNK
+    } else {
+        octets.len() == CHUNK
+    }
+}
+
+/// The octets of a file, whose number of parts is in the cell at this index: those of the cells after it.
 fn octets_at(
     alloc: Global,
     cells: &[Cell],
@@ -22,22 +35,28 @@ fn octets_at(
     object: ObjectIdentifier,
     count: u8,
 ) -> Result<Vec<u8>, KeptFault>
-    requires { at < length cells.now }
+    requires within { at < length cells.now }
+    requires place { IsPlaceAt (plain_file_place (object_identifier_view object) 0) at cells.now }
     ensures made { IfOk result (λ v. IsRising cells.now → v.items ≡ joined (held (drop at cells.now)) (object_identifier_view object) count) }
-    ensures fault { IfErr result (λ e. IsOfList e cells.now) }
+    ensures fits { OnOk result (IsRising cells.now → has_parts (held cells.now) (object_identifier_view object) count count ≡ true) }
+    ensures fault { IfErr result (IsFaultFor (plain_file_place (object_identifier_view object) 0)
+        (IsRising cells.now → has_parts (held cells.now) (object_identifier_view object) count count ≡ false)) }
 {
-    let missing = KeptFault::Wrong {
-        place: cells[at].place,
+    let wrong = KeptFault::Wrong {
+        place: file_place(object, 0),
     };
     let mut octets = Vec::new(alloc);
     for part in 0..count {
         let next = at + 1 + usize::from(part);
         if next >= cells.len() {
-            return Err(missing);
+            return Err(wrong);
         }
         let cell = &cells[next];
         if cell.place != file_place(object, u32::from(part) + 1) {
-            return Err(missing);
+            return Err(wrong);
+        }
+        if !is_part(&cell.octets, part + 1 == count) {
+            return Err(wrong);
         }
         octets.extend_from_slice(&cell.octets)?;
     }
@@ -46,7 +65,7 @@ fn octets_at(
 
 /// Why a cell with this place is not restored.
 fn fault_at(place: u64, fault: ChangeFault) -> KeptFault
-    ensures { IsFaultAt place result }
+    ensures { result ≡ plain_fault_at place fault }
 {
     match fault {
         ChangeFault::NoMemory => KeptFault::NoMemory,
@@ -54,10 +73,10 @@ fn fault_at(place: u64, fault: ChangeFault) -> KeptFault
     }
 }
 
-/// The number of chunks that a cell states.
+/// The number of parts that a cell states.
 fn count_of(cell: &Cell) -> Result<u8, KeptFault>
     ensures made { IfOk result (λ n. cell.now.octets.items ≡ n ∷ []) }
-    ensures fault { IfErr result (IsFaultAt cell.now.place) }
+    ensures fault { IfErr result (IsFaultFor cell.now.place (states_count cell.now.octets.items ≡ false)) }
 {
     match cell.octets.as_slice() {
         [count] => Ok(*count),
@@ -65,7 +84,28 @@ fn count_of(cell: &Cell) -> Result<u8, KeptFault>
     }
 }
 
-/// Gives a property the values that are kept at this place, if they may be written.
+/// Whether the network may write a property that is listed.
+fn is_writable(store: &Store, object: ObjectIdentifier, property: u32) -> bool
+    ensures { result ≡ is_writable_value (listed_at store.now (object_identifier_view object) property) }
+{
+    match store.listed(object, property) {
+        Some(listed) => listed.writable,
+        None => false,
+    }
+}
+
+/// Whether the network may write a file.
+fn is_writable_as_file(store: &Store, object: ObjectIdentifier) -> bool
+    ensures { result ≡ is_writable_file (file_at store.now (object_identifier_view object)) }
+{
+    match store.file(object) {
+        Some(file) => file.writable,
+        None => false,
+    }
+}
+
+/// Gives a property the values that are kept at this place, if the network may write it.
+#[tactic(auto, using(crate::proofs::Fits::refused_for, crate::proofs::Fits::taken, crate::proofs::Fits::not_written))]
 fn restore_values(
     alloc: Global,
     store: &mut Store,
@@ -75,12 +115,10 @@ fn restore_values(
     octets: &[u8],
 ) -> Result<(), KeptFault>
     ensures made { OnOk result (store.new ≡ with_kept_values (object_identifier_view object) property octets.now store.old) }
-    ensures fault { IfErr result (IsFaultAt place) }
+    ensures fits { OnOk result (values_fit store.old (object_identifier_view object) property octets.now ≡ true) }
+    ensures fault { IfErr result (IsFaultFor place (values_fit store.old (object_identifier_view object) property octets.now ≡ false)) }
 {
-    let Some(listed) = store.listed(object, property) else {
-        return Ok(());
-    };
-    if !listed.writable {
+    if !is_writable(store, object, property) {
         return Ok(());
     }
     match store.set_value(alloc, object, property, octets) {
@@ -89,7 +127,8 @@ fn restore_values(
     }
 }
 
-/// Gives a file the octets that are kept, if they may be written. The number of its chunks has this place.
+/// Gives a file, which the network may write, the octets that are kept. The number of its parts has this place.
+#[tactic(auto, using(crate::proofs::Fits::octets_refused, crate::proofs::Fits::octets_taken))]
 fn restore_octets(
     alloc: Global,
     store: &mut Store,
@@ -97,15 +136,11 @@ fn restore_octets(
     object: ObjectIdentifier,
     octets: &[u8],
 ) -> Result<(), KeptFault>
+    requires { is_writable_file (file_at store.old (object_identifier_view object)) ≡ true }
     ensures made { OnOk result (store.new ≡ with_kept_octets (object_identifier_view object) octets.now store.old) }
-    ensures fault { IfErr result (IsFaultAt place) }
+    ensures fits { OnOk result (octets_fit store.old (object_identifier_view object) octets.now ≡ true) }
+    ensures fault { IfErr result (IsFaultFor place (octets_fit store.old (object_identifier_view object) octets.now ≡ false)) }
 {
-    let Some(file) = store.file(object) else {
-        return Ok(());
-    };
-    if !file.writable {
-        return Ok(());
-    }
     match store.set_file(alloc, object, octets) {
         Ok(()) => Ok(()),
         Err(fault) => Err(fault_at(place, fault)),
@@ -113,7 +148,6 @@ fn restore_octets(
 }
 
 /// Restores what the cell at this index has, on top of the cells after it.
-#[tactic(auto, using(crate::proofs::KeptPuts::is_of, crate::proofs::KeptPuts::fault_is_of))]
 fn restore_cell(
     alloc: Global,
     store: &mut Store,
@@ -123,8 +157,10 @@ fn restore_cell(
 ) -> Result<(), KeptFault>
     requires within { at < length cells.now }
     requires above { IsRising cells.now → store.old ≡ overlay (held (drop (at + 1) cells.now)) document.now }
+    requires others { IsRising cells.now → EachFits document.now (held cells.now) (drop (at + 1) cells.now) }
     ensures made { OnOk result (IsRising cells.now → store.new ≡ overlay (held (drop at cells.now)) document.now) }
-    ensures fault { IfErr result (λ e. IsOfList e cells.now) }
+    ensures fits { OnOk result (IsRising cells.now → EachFits document.now (held cells.now) (drop at cells.now)) }
+    ensures fault { IfErr result (λ e. IsRising cells.now → IsWrong e document.now (held cells.now)) }
 {
     stores_are_in_order(document);
     let cell = &cells[at];
@@ -135,6 +171,9 @@ fn restore_cell(
             Ok(())
         }
         Some(Part::Count { object }) => {
+            if !is_writable_as_file(store, object) {
+                return Ok(());
+            }
             let count = count_of(cell)?;
             let octets = octets_at(alloc, cells, at, object, count)?;
             restore_octets(alloc, store, cell.place, object, &octets)?;
@@ -147,12 +186,12 @@ fn restore_cell(
 /// The store that a document and cells make, whose places rise. Cells of no property and no file of the document, or of one that may not be written, have no
 /// effect.
 ///
-/// Returns `Wrong` with the place of a cell that the document has a property or a file for, which can't have what is kept, or of a file without one of its
-/// chunks; `NoMemory` if memory was refused.
-#[tactic(auto, using(crate::proofs::KeptPuts::memory_is_of))]
+/// Returns `Wrong` with the place of a cell that does not fit: the document has a property for it that can't have these values, or a file without one of its
+/// parts, with a part of another length than its place allows, or with too many octets; `NoMemory` if memory was refused.
 pub fn restored(alloc: Global, document: &Store, cells: &[Cell]) -> Result<Store, KeptFault>
     ensures made { IfOk result (λ s. IsRising cells.now → s ≡ overlay (held cells.now) document.now) }
-    ensures fault { IfErr result (λ e. IsOfList e cells.now) }
+    ensures fit { OnOk result (IsRising cells.now → AreFit document.now (held cells.now)) }
+    ensures fault { IfErr result (λ e. IsRising cells.now → IsWrong e document.now (held cells.now)) }
 {
     let mut store = document.copy(alloc)?;
     let count = cells.len();

@@ -52,14 +52,15 @@ both status.Output f a b = tt
 both status.Memory f a b = tt
 
 -- a node that was made as is said served
-pub served_so : {K : Type 0} (IsHonest IsOpen : K → Type 0) (kept noted : K → Store) (first last : K) (IsOn : Links) (IsClock : Clocks) (store : Store)
+pub served_so : {K B : Type 0} (IsHonest IsOpen : K → Type 0) (kept noted : K → Store) (base : K → B) (first last : K) (IsOn : Links) (IsClock : Clocks) (store : Store)
     (serving : Serving) (start : ℕ) (restart : Option ℕ) (address : Octets) (before after : Timed) (old new : Option (List ℕ)) (s : Status)
     → restart ≡ restart_of serving.restarted start → before.bound_node.node ≡ server_node serving.slots restart address store
     → IsOn serving.host serving.port address before.bound_node.failures before.bound_node.calls → HasTold IsClock start before.told
     → ByStatus s (RoundsText (patience_of serving start) (turns_of serving.turns) before after old new) ⊥ ⊥
-    → IsKeptByStatus s IsHonest IsOpen kept noted last after.bound_node.node.store → (IsHonest last → IsHonest first)
-    → IsServedInRounds store IsOn IsClock s serving (EndsWith IsHonest IsOpen kept noted first) old new
-served_so IsHonest IsOpen kept noted first last IsOn IsClock store serving start restart address before after old new s restarts node on clock reports all honest =
+    → IsKeptByStatus s IsHonest IsOpen kept noted last after.bound_node.node.store → (IsHonest last → IsHonest first) → base last ≡ base first
+    → IsServedInRounds store IsOn IsClock s serving (EndsWith IsHonest IsOpen kept noted base first) old new
+served_so IsHonest IsOpen kept noted base first last IsOn IsClock store serving start restart address before after old new s restarts node on clock reports all honest
+    same_base =
     lifted s (λ served. served) (λ (no : ⊥). absurd no) (λ (no : ⊥). absurd no) (both s serves reports all)
   where
     node_is : before.bound_node.node ≡ server_node serving.slots (restart_of serving.restarted start) address store
@@ -67,7 +68,7 @@ served_so IsHonest IsOpen kept noted first last IsOn IsClock store serving start
 
     serves : RoundsText (patience_of serving start) (turns_of serving.turns) before after old new
         → AllIsKept IsHonest IsOpen kept noted last after.bound_node.node.store
-        → ServesStore store IsOn IsClock serving (EndsWith IsHonest IsOpen kept noted first) old new
+        → ServesStore store IsOn IsClock serving (EndsWith IsHonest IsOpen kept noted base first) old new
     serves text kept_all =
         record {
           start = start;
@@ -76,5 +77,5 @@ served_so IsHonest IsOpen kept noted first last IsOn IsClock store serving start
           node = record { address = address; node = node_is; on = on };
           clock = clock;
           text = text;
-          ends = record { last = last; honest = honest; all = kept_all };
+          ends = record { last = last; honest = honest; same_base = same_base; all = kept_all };
         }

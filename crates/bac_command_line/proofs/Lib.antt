@@ -13,6 +13,8 @@ pub mod LastWords
 pub mod AskedOf
 pub mod Separated
 pub mod ReadLines
+pub mod Clients
 pub mod AskedLines
 pub mod InFlight
+pub mod Once
 pub mod Numbers

@@ -6,7 +6,7 @@ use Rattle.sqlite_trees.specs.View.{IsClean, View, doubt}
 use Rattle.bac_store.specs.Stores.{Store}
 use Rattle.bac_keep.specs.Overlay.{overlay}
 use Rattle.bac_keep.specs.Rows.{cells_of}
-use Rattle.bac_keep.specs.Settling.{settles}
+use Rattle.bac_keep.specs.Settling.{MayFind, settles}
 use Rattle.bac_keep.specs.Steps.{IsReady}
 use Rattle.bac_text.specs.declared.status.Status.{Status}
 use Rattle.bac_driver.specs.Rounds.{IsKept}
@@ -15,7 +15,7 @@ use Rattle.bac_command_line.specs.Online.{Clocks, Links}
 use Rattle.bac_command_line.specs.declared.serving.Serving.{Serving}
 use Rattle.bac_command_line.proofs.Statuses.{lifted}
 
-clean_before : (old new : Bool) → doubt old ≤ doubt new → doubt new ≡ 0 → doubt old ≡ 0
+pub clean_before : (old new : Bool) → doubt old ≤ doubt new → doubt new ≡ 0 → doubt old ≡ 0
 clean_before old new less clean = omega (arith, less, clean)
 
 -- where the next call changed nothing that it has
@@ -24,6 +24,7 @@ pub store_still : {D : Type 0} (view : D → View) (opened : D) (document store 
     → (IsClean (view new) → (view new).committed ≡ (view old).committed) → HasStore view opened document store old → HasStore view opened document store new
 store_still view opened document store old new honest ready noted kept has =
     record {
+      honest = λ clean. has.honest (clean_before _ _ honest clean);
       ready = ready;
       found = λ clean. has.found (clean_before _ _ honest clean);
       kept = λ clean. ap (λ (t : Trees). overlay (cells_of t) document) (kept clean) ∙ has.kept (clean_before _ _ honest clean);
@@ -59,28 +60,33 @@ module _ {D K : Type 0} (view : D → View) (database_of : K → D) (document_of
   pub kept_over : (IsDatabase : (path : List ℕ) → (is_new : Bool) → D → Type 0) (recovers : D → Trees → Type 0)
       → ((d : D) (db : Trees) → IsTrue (view d).is_open → recovers d db → db ≡ (view d).committed) → (path : List ℕ) (is_new : Bool) (opened : D)
       (document store : Store) (keeper first : K) (IsOn : Links) (IsClock : Clocks) (serving own : Serving) (old new : Option (List ℕ)) (s : Status)
-      → IsDatabase path is_new opened → first ≡ keeper → HasStore view opened document store (database_of keeper) → own ≡ restarted_by is_new serving
-      → IsServedInRounds store IsOn IsClock s own (EndsWith honest_of open_of kept_of noted_of first) old new
+      → IsDatabase path is_new opened → first ≡ keeper → document_of keeper ≡ document → HasStore view opened document store (database_of keeper) → own ≡ restarted_by is_new serving
+      → IsServedInRounds store IsOn IsClock s own (EndsWith honest_of open_of kept_of noted_of document_of first) old new
       → IsServedOver (OnDatabase IsDatabase view recovers) IsOn IsClock s serving path document old new
-  kept_over IsDatabase recovers settled path is_new opened document store keeper first IsOn IsClock serving own old new s made is has restarts served =
+  kept_over IsDatabase recovers settled path is_new opened document store keeper first IsOn IsClock serving own old new s made is below has restarts served =
       lifted s over (λ (no : ⊥). absurd no) (λ n. n) served where
         found : honest_of first → store ≡ overlay (cells_of (view opened).committed) document
         found = subst (λ (k : K). honest_of k → store ≡ overlay (cells_of (view opened).committed) document) (sym is) has.found
 
-        ends : (last : Store) → EndsWith honest_of open_of kept_of noted_of first last → OnDatabase IsDatabase view recovers path is_new document store last
+        clean_first : honest_of first → IsClean (view opened)
+        clean_first = subst (λ (k : K). honest_of k → IsClean (view opened)) (sym is) has.honest
+
+        ends : (last : Store) → EndsWith honest_of open_of kept_of noted_of document_of first last → OnDatabase IsDatabase view recovers path is_new document store last
         ends last e =
             record {
               opened = opened;
               made = made;
               ended = database_of e.last;
-              below = document_of e.last;
+              honest = λ clean. clean_first (e.honest clean);
               found = λ clean. found (e.honest clean);
               kept = λ clean at may.
                   let kept = e.all.is_kept clean in
-                  settles view recovers settled (database_of e.last) (document_of e.last) at kept.is_open may ∙ kept.kept_is;
+                  let over : document_of e.last ≡ document = e.same_base ∙ (ap document_of is ∙ below) in
+                  settles view recovers settled (database_of e.last) (document_of e.last) at kept.is_open
+                  (subst (λ (d : Store). MayFind recovers (database_of e.last) d at) (sym over) may) ∙ kept.kept_is;
             }
 
-        over : ServesStore store IsOn IsClock own (EndsWith honest_of open_of kept_of noted_of first) old new
+        over : ServesStore store IsOn IsClock own (EndsWith honest_of open_of kept_of noted_of document_of first) old new
             → ServesKept (OnDatabase IsDatabase view recovers) IsOn IsClock serving path old new document
         over serves =
             let by : ServesStore store IsOn IsClock own (OnDatabase IsDatabase view recovers path is_new document store) old new = record {

@@ -1,59 +1,57 @@
 -- The requests of lines, one line after the other.
-use Rattle.std.proofs.Common.{◌≡◌, ℕ, ◌+◌, true, List, [], ◌∷◌, ◌++◌, map, Option, Some, None, Result, Ok, Err, sym, ap, ◌∙◌, append_assoc, append-nil}
+use Rattle.std.proofs.Common.{◌≡◌, ◌⊎◌, ℕ, ◌+◌, true, List, [], ◌∷◌, ◌++◌, map, Option, Some, None, Result, Ok, Err, refl, sym, ap, subst, ◌∙◌, append_assoc, append-nil, inl, inr}
 use Rattle.std.proofs.lemmas.List.{map-append}
 use Rattle.bac_driver.specs.Views.{question_view}
-use Rattle.bac_commands.specs.Questions.{IsQuestion}
 use Rattle.bac_command_line.specs.declared.question_lines.LineQuestion as code
 use Rattle.bac_npdu.specs.Peers.{PeerView}
 use Rattle.bac_text.specs.Notes.{read_of}
-use Rattle.bac_command_line.specs.AskedLines.{AddsLine, Numbered, asked_by, before_others, line_view, numbered, questions_from, words_of}
+use Rattle.bac_command_line.specs.AskedLines.{AddsLine, AreQuestions, AsksIn, AsksWords, HaveBadLine, IsBadRead, Numbered, line_view, words_of}
 
 -- what the lines from here on ask, behind those so far, is what all lines ask
-pub one_more_read : (peer : PeerView) (number next : ℕ) (lines others : List (List ℕ)) (line : List ℕ) (old new more : List Numbered)
-    (all : Option (List Numbered)) → next ≡ number + 1 → lines ≡ line ∷ others → AddsLine peer number line old new
-    → ((rest : List Numbered) → questions_from peer number lines ≡ Some rest → all ≡ Some (old ++ rest))
-    → questions_from peer next others ≡ Some more → all ≡ Some (new ++ more)
-one_more_read peer number next lines others line old new more all on is adds before read =
-    before (adds.found ++ more)
-    (ap (questions_from peer number) is
-    ∙ ap (λ (o : Option (List Numbered)). before_others o (questions_from peer (number + 1) others)) adds.asked
-    ∙ ap (before_others (Some adds.found)) (ap (λ (n : ℕ). questions_from peer n others) (sym on) ∙ read))
-    ∙ ap Some (sym (append_assoc old adds.found more) ∙ ap (λ (l : List Numbered). l ++ more) (sym adds.is))
+pub one_more_read : (default : Option PeerView) (number : ℕ) (lines others : List (List ℕ)) (line : List ℕ) (old new more : List Numbered)
+    (All : List Numbered → Type 0) → lines ≡ line ∷ others → AddsLine default number line old new
+    → ((rest : List Numbered) → AreQuestions default number lines rest → All (old ++ rest)) → AreQuestions default (number + 1) others more → All (new ++ more)
+one_more_read default number lines others line old new more All is adds before read =
+    subst All (sym (append_assoc old adds.found more) ∙ ap (λ (l : List Numbered). l ++ more) (sym adds.is))
+    (before (adds.found ++ more)
+    (subst (λ (l : List (List ℕ)). AreQuestions default number l (adds.found ++ more)) (sym is)
+    (record { found = adds.found; rest = more; first = adds.asked; others = read; is = refl })))
 
--- where the next line is bad, or one behind it, they are not all requests
-pub bad_line_read : (peer : PeerView) (number : ℕ) (lines others : List (List ℕ)) (line : List ℕ) (all : Option (List Numbered)) → lines ≡ line ∷ others
-    → asked_by peer number (read_of true line) ≡ None → (questions_from peer number lines ≡ None → all ≡ None) → all ≡ None
-bad_line_read peer number lines others line all is bad whole =
-    whole
-    (ap (questions_from peer number) is ∙ ap (λ (o : Option (List Numbered)). before_others o (questions_from peer (number + 1) others)) bad)
+-- where the next line is bad, or one behind it, one of all is
+pub bad_line_read : (default : Option PeerView) (lines others : List (List ℕ)) (line : List ℕ) (Bad : Type 0) → lines ≡ line ∷ others
+    → IsBadRead default (read_of true line) → (HaveBadLine default lines → Bad) → Bad
+bad_line_read default lines others line Bad is bad whole = whole (subst (λ (l : List (List ℕ)). HaveBadLine default l) (sym is) (inl bad))
 
-pub none_more_read : (peer : PeerView) (number next : ℕ) (lines others : List (List ℕ)) (line : List ℕ) (old new : List Numbered)
-    (all : Option (List Numbered)) → next ≡ number + 1 → lines ≡ line ∷ others → AddsLine peer number line old new
-    → (questions_from peer number lines ≡ None → all ≡ None) → questions_from peer next others ≡ None → all ≡ None
-none_more_read peer number next lines others line old new all on is adds whole none =
-    whole
-    (ap (questions_from peer number) is
-    ∙ ap (λ (o : Option (List Numbered)). before_others o (questions_from peer (number + 1) others)) adds.asked
-    ∙ ap (before_others (Some adds.found)) (ap (λ (n : ℕ). questions_from peer n others) (sym on) ∙ none))
+pub others_bad : (default : Option PeerView) (lines others : List (List ℕ)) (line : List ℕ) (Bad : Type 0) → lines ≡ line ∷ others
+    → (HaveBadLine default lines → Bad) → HaveBadLine default others → Bad
+others_bad default lines others line Bad is whole bad = whole (subst (λ (l : List (List ℕ)). HaveBadLine default l) (sym is) (inr bad))
+
+-- where no line is left, all were read
+pub all_read : (default : Option PeerView) (number : ℕ) (lines : List (List ℕ)) (old : List Numbered) (All : List Numbered → Type 0) → lines ≡ []
+    → ((rest : List Numbered) → AreQuestions default number lines rest → All (old ++ rest)) → All old
+all_read default number lines old All none before =
+    subst All (append-nil old) (before [] (subst (λ (l : List (List ℕ)). AreQuestions default number l []) (sym none) refl))
 
 -- a note adds nothing
-pub note_adds : (peer : PeerView) (number : ℕ) (line : List ℕ) (old new : List code.LineQuestion) → read_of true line ≡ None → new ≡ old
-    → AddsLine peer number line (map line_view old) (map line_view new)
-note_adds peer number line old new none same =
+pub note_adds : (default : Option PeerView) (number : ℕ) (line : List ℕ) (old new : List code.LineQuestion) → read_of true line ≡ None → new ≡ old
+    → AddsLine default number line (map line_view old) (map line_view new)
+note_adds default number line old new none same =
     record {
       found = [];
-      asked = ap (asked_by peer number) none;
+      asked = subst (λ (r : Option (List ℕ)). AsksIn default number r []) (sym none) refl;
       is = ap (map line_view) same ∙ sym (append-nil (map line_view old));
     }
 
 -- a request adds what it asks
-pub request_adds : (peer : PeerView) (line read : List ℕ) (old new : List code.LineQuestion) (q : code.LineQuestion) → read_of true line ≡ Some read
-    → IsQuestion peer (words_of read) (question_view q.question) → new ≡ old ++ q ∷ []
-    → AddsLine peer q.number line (map line_view old) (map line_view new)
-request_adds peer line read old new q is asks pushed =
+pub request_adds : (default : Option PeerView) (line read : List ℕ) (old new : List code.LineQuestion) (q : code.LineQuestion)
+    → read_of true line ≡ Some read → AsksWords default (words_of read) (question_view q.question) → new ≡ old ++ q ∷ []
+    → AddsLine default q.number line (map line_view old) (map line_view new)
+request_adds default line read old new q is asks pushed =
     record {
       found = line_view q ∷ [];
-      asked = ap (asked_by peer q.number) is ∙ ap (numbered q.number) asks;
+      asked =
+          subst (λ (r : Option (List ℕ)). AsksIn default q.number r (line_view q ∷ [])) (sym is)
+          (record { question = question_view q.question; asks = asks; is = refl });
       is = ap (map line_view) pushed ∙ map-append line_view old (q ∷ []);
     }
 

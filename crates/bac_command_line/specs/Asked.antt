@@ -1,12 +1,13 @@
 -- What a client asks: the one question of some words, or those of lines.
 use Rattle.std.specs.Prelude.{ℕ, Bool, true, false, List, map, Option, Some}
 use Rattle.std.specs.Io.KnownBytes.{Keeps}
-use Rattle.bac_npdu.specs.Views.{peer_view}
+use Rattle.bac_npdu.specs.Peers.{PeerView}
+use Rattle.bac_protocol.specs.Service.{Octets}
 use Rattle.bac_text.specs.declared.status.Status.{Status}
 use Rattle.bac_driver.specs.Runs.{Timed}
 use Rattle.bac_driver.specs.Views.{question_view}
 use Rattle.bac_commands.specs.Statuses.{ByStatus}
-use Rattle.bac_command_line.specs.AskedLines.{AreRead, Numbered, line_view}
+use Rattle.bac_command_line.specs.AskedLines.{AreRead, line_view}
 use Rattle.bac_command_line.specs.Files.{OfFile}
 use Rattle.bac_command_line.specs.InFlight.{AsksLines}
 use Rattle.bac_command_line.specs.Online.{AsksOnce, ByClient, Clocks, Links}
@@ -15,13 +16,14 @@ use Rattle.bac_text.specs.declared.status.Status.TheVariants as status
 use Rattle.bac_command_line.specs.declared.asking.Asking.{Asking}
 use Rattle.bac_command_line.specs.declared.asking_lines.Unasked.{Unasked}
 use Rattle.bac_command_line.specs.declared.asking_lines.Unasked.TheVariants as unasked
+use Rattle.bac_command_line.specs.declared.question_lines.LineQuestion.{LineQuestion}
 use Rattle.bac_command_line.specs.declared.rounds.Asked.{Asked}
 use Rattle.bac_command_line.specs.declared.rounds.Asked.TheVariants as asked
 
 -- it was asked once
-abbrev pub AsksAll : Asking → Asked → Doing
-AsksAll asking (asked.One q) = AsksOnce asking (question_view q)
-AsksAll asking (asked.Lines lines) = AsksLines asking (map line_view lines.items)
+abbrev pub AsksAll : Links → Asking → Asked → Doing
+AsksAll IsOn asking (asked.One q) = AsksOnce asking (question_view q)
+AsksAll IsOn asking (asked.Lines lines) = AsksLines IsOn asking lines.items
 
 -- that was done; whether all succeeded is printed by the status
 abbrev pub ReportsDoing : Status → Doing → (before after : Timed) → (old new : Option (List ℕ)) → Type 0
@@ -29,13 +31,22 @@ ReportsDoing s Does before after old new = ByStatus s (Does true before after ol
 
 abbrev pub ReportsClient : Links → Clocks → Status → Asking → Asked → (old new : Option (List ℕ)) → Type 0
 ReportsClient IsOn IsClock s asking asked old new =
-    ByStatus s (ByClient IsOn IsClock asking (AsksAll asking asked) true old new) (ByClient IsOn IsClock asking (AsksAll asking asked) false old new) ⊥
+    ByStatus s (ByClient IsOn IsClock asking (AsksAll IsOn asking asked) true old new) (ByClient IsOn IsClock asking (AsksAll IsOn asking asked) false old new) ⊥
 
--- the lines that were read were asked
-pub record AsksRead (IsOn : Links) (IsClock : Clocks) (asking : Asking) (all : Bool) (old new : Option (List ℕ)) (content : Option (List ℕ)) : Type 0 where
-  pub lines : List Numbered
-  pub read : AreRead (peer_view asking.peer) (Some lines) content
-  pub asks : ByClient IsOn IsClock asking (AsksLines asking lines) all old new
+-- asked from that address of this machine
+abbrev pub from_host : (host : Octets) → Asking → Asking
+from_host host asking = record asking { host = host }
+
+abbrev pub AsksFromHost : Links → Clocks → Asking → List LineQuestion → (all : Bool) → (old new : Option (List ℕ)) → Type 0
+AsksFromHost IsOn IsClock asking lines all old new = ByClient IsOn IsClock asking (AsksLines IsOn asking lines) all old new
+
+-- the lines that were read were asked, from an address of this machine
+pub record AsksRead (IsOn : Links) (IsClock : Clocks) (asking : Asking) (default : Option PeerView) (all : Bool) (old new : Option (List ℕ))
+    (content : Option (List ℕ)) : Type 0 where
+  pub lines : List LineQuestion
+  pub read : AreRead default (Some (map line_view lines)) content
+  pub host : Octets
+  pub asks : AsksFromHost IsOn IsClock (from_host host asking) lines all old new
 
 -- the status that says why nothing is asked
 abbrev pub status_of : Unasked → Status
@@ -43,8 +54,9 @@ status_of (unasked.Unread s) = s
 status_of unasked.BadLine = status.CommandLine
 
 -- where a line is bad, or the file cannot be read, nothing was asked or printed
-abbrev pub AreAskedFrom : (IsFile : (path : List ℕ) → (content : Option (List ℕ)) → Type 0) → Links → Clocks → Status → Asking → (path : List ℕ)
-    → (old new : Option (List ℕ)) → Type 0
-AreAskedFrom IsFile IsOn IsClock s asking path old new =
-    ByStatus s (OfFile IsFile path (AsksRead IsOn IsClock asking true old new)) (OfFile IsFile path (AsksRead IsOn IsClock asking false old new))
+abbrev pub AreAskedFrom : (IsFile : (path : List ℕ) → (content : Option (List ℕ)) → Type 0) → Links → Clocks → Status → Asking
+    → (default : Option PeerView) → (path : List ℕ) → (old new : Option (List ℕ)) → Type 0
+AreAskedFrom IsFile IsOn IsClock s asking default path old new =
+    ByStatus s (OfFile IsFile path (AsksRead IsOn IsClock asking default true old new))
+    (OfFile IsFile path (AsksRead IsOn IsClock asking default false old new))
     (Keeps old new)

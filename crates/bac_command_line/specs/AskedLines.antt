@@ -1,5 +1,5 @@
--- What `ask --lines` asks and prints: one node asks the requests of some lines in turn.
-use Rattle.std.specs.Prelude.{◌≡◌, ℕ, ◌+◌, Bool, true, false, ◌==◌, List, [], ◌∷◌, ◌++◌, codes, decimal, Option, None, Some, IfSome}
+-- What `ask --lines` asks and prints: a client asks the requests of some lines in turn.
+use Rattle.std.specs.Prelude.{◌≡◌, ◌⊎◌, ℕ, ◌+◌, Bool, true, false, ◌==◌, List, [], ◌∷◌, ◌++◌, codes, decimal, if◌then◌else◌, Option, None, Some, IfSome}
 use Rattle.std.specs.Io.KnownBytes.{Appends}
 use Rattle.bac_npdu.specs.Peers.{PeerView}
 use Rattle.bac_service_text.specs.Dispatch.{request_of}
@@ -8,9 +8,12 @@ use Rattle.bac_text.specs.Notes.{read_of}
 use Rattle.bac_driver.specs.Asking.{Question}
 use Rattle.bac_driver.specs.Runs.{Timed}
 use Rattle.bac_driver.specs.Views.{question_view}
+use Rattle.bac_driver.specs.declared.question.AskEnd.{AskEnd}
 use Rattle.bac_value_text.specs.Splits.{split_by}
-use Rattle.bac_commands.specs.Questions.{question_of}
-use Rattle.bac_command_line.specs.Online.{AsksOnce}
+use Rattle.bac_commands.specs.Questions.{IsQuestion}
+use Rattle.bac_commands.specs.AskEnds.{PrintsEnd}
+use Rattle.bac_command_line.specs.Clients.{AsksOn}
+use Rattle.bac_command_line.specs.Online.{Links}
 use Rattle.bac_command_line.specs.Rounds.{DoesNothing, Doing, IsNext}
 use Rattle.bac_command_line.specs.declared.asking.Asking.{Asking}
 use Rattle.bac_command_line.specs.declared.question_lines.LineQuestion.{LineQuestion}
@@ -24,6 +27,38 @@ is_octet wanted octet = octet == wanted
 abbrev pub words_of : (line : List ℕ) → List (List ℕ)
 words_of line = split_by (is_octet 32) line
 
+-- a word that names whom a line is asked of begins with `@`
+abbrev pub is_address : (word : List ℕ) → Bool
+is_address [] = false
+is_address (octet ∷ text) = octet == 64
+
+abbrev pub names_peer : (words : List (List ℕ)) → Bool
+names_peer [] = false
+names_peer (word ∷ words) = is_address word
+
+-- the words of the request, behind that one
+abbrev pub request_words : (words : List (List ℕ)) → List (List ℕ)
+request_words [] = []
+request_words (word ∷ words) = if is_address word then words else word ∷ words
+
+-- a line that names no peer is asked of the one that is given for all
+abbrev pub IsAskedOf : (default : Option PeerView) → (words : List (List ℕ)) → PeerView → Type 0
+IsAskedOf default words peer = names_peer words ≡ false → default ≡ Some peer
+
+-- the address that it names is none, or it names none and none is given
+abbrev pub HasNoPeer : (default : Option PeerView) → (words : List (List ℕ)) → Type 0
+HasNoPeer default words = (names_peer words ≡ true) ⊎ (default ≡ None)
+
+-- that is what words ask
+pub record AsksWords (default : Option PeerView) (words : List (List ℕ)) (q : Question) : Type 0 where
+  pub peer : PeerView
+  pub of : IsAskedOf default words peer
+  pub is : IsQuestion peer (request_words words) q
+
+-- there is no peer for them, or they are no request
+abbrev pub IsBadLine : (default : Option PeerView) → (line : List ℕ) → Type 0
+IsBadLine default line = HasNoPeer default (words_of line) ⊎ (request_of (request_words (words_of line)) ≡ None)
+
 -- what a line asks, by its number
 pub record Numbered : Type 0 where
   pub number : ℕ
@@ -32,33 +67,47 @@ pub record Numbered : Type 0 where
 abbrev pub line_view : LineQuestion → Numbered
 line_view l = record { number = l.number; question = question_view l.question }
 
-abbrev pub numbered : (number : ℕ) → Option Question → Option (List Numbered)
-numbered number None = None
-numbered number (Some q) = Some (record { number = number; question = q } ∷ [])
+-- the line of that number asks that
+pub record AsksOne (default : Option PeerView) (number : ℕ) (line : List ℕ) (found : List Numbered) : Type 0 where
+  pub question : Question
+  pub asks : AsksWords default (words_of line) question
+  pub is : found ≡ record { number = number; question = question } ∷ []
 
--- by what is to be read of the line of that number: nothing of a note; None where the words are no request
-abbrev pub asked_by : PeerView → (number : ℕ) → (read : Option (List ℕ)) → Option (List Numbered)
-asked_by peer number None = Some []
-asked_by peer number (Some line) = numbered number (question_of peer (request_of (words_of line)))
+-- by what is to be read of a line: nothing of a note
+abbrev pub AsksIn : (default : Option PeerView) → (number : ℕ) → (read : Option (List ℕ)) → (found : List Numbered) → Type 0
+AsksIn default number None found = found ≡ []
+AsksIn default number (Some line) found = AsksOne default number line found
 
-abbrev pub before_others : Option (List Numbered) → (others : Option (List Numbered)) → Option (List Numbered)
-before_others None others = None
-before_others (Some found) None = None
-before_others (Some found) (Some others) = Some (found ++ others)
+-- that and what the others ask
+pub record IsFirst (First Others : List Numbered → Type 0) (all : List Numbered) : Type 0 where
+  pub found : List Numbered
+  pub rest : List Numbered
+  pub first : First found
+  pub others : Others rest
+  pub is : all ≡ found ++ rest
 
--- the requests of lines of which the first has that number; None where one is bad
-abbrev pub questions_from : PeerView → (number : ℕ) → List (List ℕ) → Option (List Numbered)
-questions_from peer number [] = Some []
-questions_from peer number (line ∷ lines) = before_others (asked_by peer number (read_of true line)) (questions_from peer (number + 1) lines)
+-- what lines ask, of which the first has that number
+abbrev pub AreQuestions : (default : Option PeerView) → (number : ℕ) → (lines : List (List ℕ)) → List Numbered → Type 0
+AreQuestions default number [] all = all ≡ []
+AreQuestions default number (line ∷ lines) all = IsFirst (AsksIn default number (read_of true line)) (AreQuestions default (number + 1) lines) all
 
--- those of a text; its lines are counted from 1
-abbrev pub questions_of : PeerView → (text : List ℕ) → Option (List Numbered)
-questions_of peer text = questions_from peer 1 (split_by (is_octet LINE_END) text)
+abbrev pub IsBadRead : (default : Option PeerView) → (read : Option (List ℕ)) → Type 0
+IsBadRead default None = ⊥
+IsBadRead default (Some line) = IsBadLine default line
+
+-- one of them is bad
+abbrev pub HaveBadLine : (default : Option PeerView) → (lines : List (List ℕ)) → Type 0
+HaveBadLine default [] = ⊥
+HaveBadLine default (line ∷ lines) = IsBadRead default (read_of true line) ⊎ HaveBadLine default lines
+
+-- the lines of a text; they are counted from 1
+abbrev pub lines_in : (text : List ℕ) → List (List ℕ)
+lines_in text = split_by (is_octet LINE_END) text
 
 -- what a line asks was added
-pub record AddsLine (peer : PeerView) (number : ℕ) (line : List ℕ) (old new : List Numbered) : Type 0 where
+pub record AddsLine (default : Option PeerView) (number : ℕ) (line : List ℕ) (old new : List Numbered) : Type 0 where
   pub found : List Numbered
-  pub asked : asked_by peer number (read_of true line) ≡ Some found
+  pub asked : AsksIn default number (read_of true line) found
   pub is : new ≡ old ++ found
 
 -- ---- asking them
@@ -67,22 +116,29 @@ abbrev pub number_text : (number : ℕ) → List ℕ
 number_text number = decimal number ++ codes ": "
 
 -- the request of a line was asked, and how that ended was printed behind the line's number
-pub record AsksLine (asking : Asking) (line : Numbered) (succeeded : Bool) (before after : Timed) (old new : Option (List ℕ)) : Type 0 where
+pub record AsksLine (IsOn : Links) (asking : Asking) (line : LineQuestion) (succeeded : Bool) (before after : Timed) (old new : Option (List ℕ)) : Type 0 where
   pub between : Option (List ℕ)
   pub number : Appends old between (number_text line.number)
-  pub asked : AsksOnce asking line.question succeeded before after between new
+  pub how : AskEnd
+  pub asks : AsksOn IsOn asking (question_view line.question) how before after
+  pub told : PrintsEnd asking.output_format (question_view line.question).request how succeeded between new
 
--- the requests of lines were asked by one node, one after the other
-abbrev pub AsksEach : Asking → List Numbered → Doing
-AsksEach asking [] all before after old new = DoesNothing all before after old new
-AsksEach asking (line ∷ lines) all before after old new = IsNext (AsksLine asking line) (AsksEach asking lines) all before after old new
+-- the requests of lines were asked, one after the other
+abbrev pub AsksEach : Links → Asking → List LineQuestion → Doing
+AsksEach IsOn asking [] all before after old new = DoesNothing all before after old new
+AsksEach IsOn asking (line ∷ lines) all before after old new =
+    IsNext (AsksLine IsOn asking line) (AsksEach IsOn asking lines) all before after old new
 
 -- a text is that of a file, where this is known
 abbrev pub IsTextOf : (text : List ℕ) → (content : Option (List ℕ)) → Type 0
 IsTextOf text content = IfSome content (λ file. text ≡ file)
 
+abbrev pub ReadsLines : (default : Option PeerView) → (lines : Option (List Numbered)) → (text : List ℕ) → Type 0
+ReadsLines default None text = HaveBadLine default (lines_in text)
+ReadsLines default (Some found) text = AreQuestions default 1 (lines_in text) found
+
 -- what the lines of a file ask, by the text that was read of it; None where one is bad
-pub record AreRead (peer : PeerView) (lines : Option (List Numbered)) (content : Option (List ℕ)) : Type 0 where
+pub record AreRead (default : Option PeerView) (lines : Option (List Numbered)) (content : Option (List ℕ)) : Type 0 where
   pub text : List ℕ
   pub known : IsTextOf text content
-  pub read : questions_of peer text ≡ lines
+  pub read : ReadsLines default lines text

@@ -23,16 +23,18 @@ pub record Names (object : List ℕ) (property : Option (List ℕ)) (s : Selecti
   pub object_is : object_of object ≡ Some (object_identifier_view s.object)
   pub property_is : IsPropertyOf property s.property
 
--- a database that the machine opened at a path, and that is so in the end: as long as it is honest, the next start finds the cells that it had committed but
--- those of the selection, whatever a power cut leaves
+-- a database that the machine opened at a path, and that is so in the end: as long as it is honest, it was so at first, what it has committed is what it had
+-- committed then but the cells of the selection, and the next start finds those, whatever a power cut leaves
 pub record OnForgotten {D : Type 0} (IsDatabase : (path : List ℕ) → (is_new : Bool) → D → Type 0) (view : D → View) (recovers : D → Trees → Type 0)
     (path : List ℕ) (s : Selection) : Type 0 where
   pub is_new : Bool
   pub opened : D
   pub made : IsDatabase path is_new opened
   pub ended : D
-  pub forgot : IsClean (view ended) → (db : Trees) → recovers ended db
-      → cells_of db ≡ without (is_selected (object_identifier_view s.object) s.property) (cells_of (view opened).committed)
+  pub honest : IsClean (view ended) → IsClean (view opened)
+  pub forgot : IsClean (view ended)
+      → cells_of (view ended).committed ≡ without (is_selected (object_identifier_view s.object) s.property) (cells_of (view opened).committed)
+  pub found : IsClean (view ended) → (db : Trees) → recovers ended db → cells_of db ≡ cells_of (view ended).committed
 
 -- What follows takes such a relation.
 abbrev pub Forgettings : Type 1

@@ -1,80 +1,101 @@
--- What `ask --lines --window` asks and prints: one node asks the requests of some lines, several at once.
-use Rattle.std.specs.Prelude.{◌≡◌, ◌⊎◌, ℕ, ◌==◌, ◌<◌, ◌≤◌, ◌++◌, max, Bool, true, false, ◌&&◌, List, [], ◌∷◌, length, Option, Some, None, position, slice_set}
+-- What `ask --lines --window` asks and prints: the requests of some lines, several at once.
+use Rattle.std.specs.Prelude.{◌≡◌, ◌⊎◌, ℕ, zero, suc, ◌+◌, ◌==◌, ◌<◌, ◌≤◌, ◌++◌, max, Bool, true, false, ◌&&◌, List, [], ◌∷◌, length, if◌then◌else◌, Option, Some, None, MatchOption}
+use Rattle.std.specs.Prelude.{count_by, map, nat_lt, position, slice_get, slice_set}
+use Rattle.std.specs.List.{remove}
+use Rattle.std.specs.Ordering.{eq_by_cmp, on}
 use Rattle.std.specs.Io.KnownBytes.{Appends}
+use Rattle.bac_npdu.specs.Peers.{peer_cmp}
+use Rattle.bac_npdu.specs.Views.{peer_view}
+use Rattle.bac_npdu.specs.declared.peer.Peer.{Peer}
 use Rattle.bac_driver.specs.Moments.{with_moment}
 use Rattle.bac_node.specs.declared.outcome.Outcome.{Outcome}
+use Rattle.bac_requester.specs.declared.ask_fault.AskFault.{AskFault}
 use Rattle.bac_requester.specs.declared.reaction.Ended.{Ended}
 use Rattle.bac_driver.specs.Asking as run
 use Rattle.bac_driver.specs.Asking.{Question}
 use Rattle.bac_driver.specs.Runs.{Run, Timed, timed}
 use Rattle.bac_driver.specs.Serving.{IsOver, TakesEarlyTurn}
-use Rattle.bac_driver.specs.Views.{turn_view}
+use Rattle.bac_driver.specs.Views.{question_view, turn_view}
 use Rattle.bac_driver.specs.declared.wait_limit.WaitLimit.{WaitLimit}
 use Rattle.bac_driver.specs.declared.question.AskEnd.{AskEnd}
 use Rattle.bac_driver.specs.declared.question.AskEnd.TheVariants as end
 use Rattle.bac_driver.specs.declared.turn.Turn.{Turn}
 use Rattle.bac_commands.specs.AskEnds.{PrintsEnd}
+use Rattle.bac_commands.specs.Spent.{is_spent}
 use Rattle.bac_commands.specs.declared.online.output_format.OutputFormat.{OutputFormat}
-use Rattle.bac_command_line.specs.AskedLines.{AsksEach, Numbered, number_text}
+use Rattle.bac_command_line.specs.AskedLines.{AsksEach, number_text}
 use Rattle.bac_command_line.specs.Asking.{patience_for}
+use Rattle.bac_command_line.specs.Clients.{IsRenewed}
+use Rattle.bac_command_line.specs.Online.{Links}
 use Rattle.bac_command_line.specs.Rounds.{DoesNothing, Doing}
 use Rattle.bac_command_line.specs.declared.asking.Asking.{Asking}
+use Rattle.bac_command_line.specs.declared.flights.Begun.{Begun}
+use Rattle.bac_command_line.specs.declared.flights.Begun.TheVariants as begun
 use Rattle.bac_command_line.specs.declared.flights.Flight.{Flight}
-use Rattle.bac_command_line.specs.declared.flights.Flight.TheVariants as flight
+use Rattle.bac_command_line.specs.declared.flights.Flights as code
+use Rattle.bac_command_line.specs.declared.flights.Waiting.{Waiting}
+use Rattle.bac_command_line.specs.declared.question_lines.LineQuestion.{LineQuestion}
+use Rattle.bac_command_line.specs.declared.window.Plan as code_plan
 
--- ---- one ask
+-- ---- the asks of the lines of a list
 
--- the node refused it
-abbrev pub IsRefused : Question → AskEnd → (old new : Timed) → Type 0
-IsRefused q (end.Ended how) old new = ⊥
-IsRefused q (end.Refused why) old new = run.IsRefused q why old new
-IsRefused q end.NoEnding old new = ⊥
+-- the lines whose asks have not begun, the asks that are under way, and how the ask of each line has ended, by its place, until that is printed
+pub record Sky : Type 0 where
+  pub waiting : List Waiting
+  pub flights : List Flight
+  pub ends : List (Option AskEnd)
 
--- it was accepted, and is waited for as from that moment on; or refused, and is over
-abbrev pub IsBegun : (timeout : Option ℕ) → (start : ℕ) → Question → Flight → (old new : Timed) → Type 0
-IsBegun timeout start q (flight.Open ticket wait_limit) old new = (wait_limit ≡ patience_for timeout start) × run.Asks q old ticket new
-IsBegun timeout start q (flight.Over end) old new = IsRefused q end old new
+abbrev pub sky : code.Flights → Sky
+sky f = record { waiting = f.waiting.items; flights = f.under_way.items; ends = f.ends.items }
 
--- an ask began, once the clock had printed that moment
-pub record BeginsAsk (asking : Asking) (q : Question) (f : Flight) (before after : Timed) : Type 0 where
-  pub start : ℕ
-  pub begun : IsBegun asking.timeout start q f (timed before.bound_node (with_moment before.told start)) after
+-- lines of which the first has that place
+abbrev pub waiting_from : (place : ℕ) → List LineQuestion → List Waiting
+waiting_from place [] = []
+waiting_from place (line ∷ lines) = record { place = place; peer = line.question.peer } ∷ waiting_from (place + 1) lines
+
+abbrev pub no_end : LineQuestion → Option AskEnd
+no_end line = None
+
+-- all wait
+abbrev pub new_sky : List LineQuestion → Sky
+new_sky lines = record { waiting = waiting_from 0 lines; flights = []; ends = map no_end lines }
+
+abbrev pub IsNewSky : List LineQuestion → Sky → Type 0
+IsNewSky lines s = s ≡ new_sky lines
 
 abbrev pub has_ticket : (ticket : ℕ) → Flight → Bool
-has_ticket wanted (flight.Open ticket wait_limit) = ticket == wanted
-has_ticket wanted (flight.Over end) = false
+has_ticket wanted f = f.ticket == wanted
 
--- how long it is waited for, where it is not over
-abbrev pub patience_of : Flight → Option WaitLimit
-patience_of (flight.Open ticket wait_limit) = Some wait_limit
-patience_of (flight.Over end) = None
+abbrev pub is_of : Peer → Flight → Bool
+is_of peer f = on peer_view (eq_by_cmp peer_cmp) f.line.peer peer
 
--- how it ended; one that is open is waited for no longer
-abbrev pub end_of : Flight → AskEnd
-end_of (flight.Open ticket wait_limit) = end.NoEnding
-end_of (flight.Over end) = end
+-- fewer than so many asks of its peer are under way, or none
+abbrev pub may_begin : (share : ℕ) → List Flight → Waiting → Bool
+may_begin share flights w = nat_lt (count_by (is_of w.peer) flights) (max share 1)
 
--- ---- those that have begun and are not yet printed, in the order of their lines
+-- how the ask of the line at that place has ended
+abbrev pub with_end : (place : ℕ) → AskEnd → Sky → Sky
+with_end place how s = record s { ends = slice_set s.ends place (Some how) }
 
--- what the node has become, what the clock has printed, and the asks that have begun and are not yet printed
-pub record Aloft : Type 0 where
-  pub at : Timed
-  pub flights : List Flight
+-- one that is under way is over
+abbrev pub closed_flight : Option Flight → (at : ℕ) → AskEnd → Sky → Sky
+closed_flight None at how s = s
+closed_flight (Some f) at how s = with_end f.line.place how (record s { flights = remove s.flights at })
 
-abbrev pub aloft : Timed → List Flight → Aloft
-aloft at flights = record { at = at; flights = flights }
+abbrev pub closed : (at : ℕ) → AskEnd → Sky → Sky
+closed at how s = closed_flight (slice_get s.flights at) at how s
 
-abbrev pub noted_at : Option ℕ → Ended → List Flight → List Flight
-noted_at None f fs = fs
-noted_at (Some place) f fs = slice_set fs place (flight.Over (end.Ended f.ending))
+abbrev pub noted_at : Option ℕ → Ended → Sky → Sky
+noted_at None f s = s
+noted_at (Some at) f s = closed at (end.Ended f.ending) s
 
 -- the ask whose ticket has ended is over
-abbrev pub noted : Ended → List Flight → List Flight
-noted f fs = noted_at (position (has_ticket f.ticket) fs) f fs
+abbrev pub noted : Ended → Sky → Sky
+noted f s = noted_at (position (has_ticket f.ticket) s.flights) f s
 
-abbrev pub all_noted : List Ended → List Flight → List Flight
-all_noted [] fs = fs
-all_noted (f ∷ more) fs = all_noted more (noted f fs)
+abbrev pub all_noted : List Ended → Sky → Sky
+all_noted [] s = s
+all_noted (f ∷ more) s = all_noted more (noted f s)
 
 -- the tickets that a step of a turn ended
 abbrev pub ended_in : Option Outcome → List Ended
@@ -83,123 +104,228 @@ ended_in (Some o) = o.ended.items
 
 abbrev pub first_patience : List Flight → Option WaitLimit
 first_patience [] = None
-first_patience (f ∷ fs) = patience_of f
+first_patience (f ∷ fs) = Some f.wait_limit
 
--- the first was taken off
-pub record TakesFirst (end : AskEnd) (old new : List Flight) : Type 0 where
-  pub first : Flight
-  pub is : old ≡ first ∷ new
-  pub end_is : end ≡ end_of first
+-- the ask of a line that waits is under way
+pub record AddsFlight (at ticket : ℕ) (wait_limit : WaitLimit) (old new : Sky) : Type 0 where
+  pub line : Waiting
+  pub is : slice_get old.waiting at ≡ Some line
+  pub waiting : new.waiting ≡ remove old.waiting at
+  pub flights : new.flights ≡ old.flights ++ record { line = line; ticket = ticket; wait_limit = wait_limit } ∷ []
+  pub ends : new.ends ≡ old.ends
 
--- ---- asks begin
+-- it has ended before it began
+pub record EndsWaiting (at : ℕ) (how : AskEnd) (old new : Sky) : Type 0 where
+  pub line : Waiting
+  pub is : slice_get old.waiting at ≡ Some line
+  pub waiting : new.waiting ≡ remove old.waiting at
+  pub flights : new.flights ≡ old.flights
+  pub ends : new.ends ≡ slice_set old.ends line.place (Some how)
 
--- the ask of a line began, where fewer than so many had begun and were not yet printed, and then the others
-pub record BeginsFirst (asking : Asking) (window : ℕ) (line : Numbered) (Others : Aloft → Aloft → Type 0) (old new : Aloft) : Type 0 where
-  pub room : length old.flights < max window 1
-  pub flight : Flight
-  pub middle : Aloft
-  pub begins : BeginsAsk asking line.question flight old.at middle.at
-  pub is : middle.flights ≡ old.flights ++ flight ∷ []
-  pub others : Others middle new
+-- it was there, and is kept no longer
+pub record IsTaken (place : ℕ) (how : AskEnd) (old new : Sky) : Type 0 where
+  pub ended : slice_get old.ends place ≡ Some (Some how)
+  pub is : new ≡ record old { ends = slice_set old.ends place None }
 
-abbrev pub BeginsEach : Asking → (window : ℕ) → List Numbered → (old new : Aloft) → Type 0
-BeginsEach asking window [] old new = new ≡ old
-BeginsEach asking window (line ∷ lines) old new = BeginsFirst asking window line (BeginsEach asking window lines) old new
+abbrev pub TakesEnd : (place : ℕ) → Option AskEnd → (old new : Sky) → Type 0
+TakesEnd place None old new = new ≡ old
+TakesEnd place (Some how) old new = IsTaken place how old new
 
--- asks of lines that wait began, in order, until none was left or so many had begun and were not yet printed
-pub record BeginsMore (asking : Asking) (window : ℕ) (waiting : List Numbered) (old : Aloft) (rest : List Numbered) (new : Aloft) : Type 0 where
-  pub begun : List Numbered
-  pub are : waiting ≡ begun ++ rest
-  pub begins : BeginsEach asking window begun old new
-  pub full : (rest ≡ []) ⊎ (max window 1 ≤ length new.flights)
+-- ---- an ask begins
 
--- ---- the first ends
+-- it was accepted, and is waited for as from that moment on; or refused
+abbrev pub IsBegun : (timeout : Option ℕ) → (start : ℕ) → Question → Begun → (old new : Timed) → Type 0
+IsBegun timeout start q (begun.Accepted ticket wait_limit) old new = (wait_limit ≡ patience_for timeout start) × run.Asks q old ticket new
+IsBegun timeout start q (begun.Refused why) old new = run.IsRefused q why old new
 
--- a turn with that wait_limit, and how tickets ended in it
+-- the node was asked to begin, once the clock had printed that moment
+pub record BeginsAsk (asking : Asking) (q : Question) (b : Begun) (before after : Timed) : Type 0 where
+  pub start : ℕ
+  pub begun : IsBegun asking.timeout start q b (timed before.bound_node (with_moment before.told start)) after
+
+-- the node had no invoke ID or no slot left for it
+abbrev pub begins_spent : Begun → Bool
+begins_spent (begun.Accepted ticket wait_limit) = false
+begins_spent (begun.Refused why) = is_spent why
+
+pub record FindsSpent (asking : Asking) (q : Question) (before after : Timed) : Type 0 where
+  pub refusal : Begun
+  pub spent : begins_spent refusal ≡ true
+  pub refuses : BeginsAsk asking q refusal before after
+
+-- and the next node was asked to begin
+pub record BeginsAnew (IsOn : Links) (asking : Asking) (q : Question) (b : Begun) (before after : Timed) : Type 0 where
+  pub refused : Timed
+  pub finds : FindsSpent asking q before refused
+  pub fresh : Timed
+  pub renewed : IsRenewed IsOn asking.host refused fresh
+  pub begins : BeginsAsk asking q b fresh after
+
+-- an ask began at the node that asks, or, where that has nothing left for it and none of its asks is under way, at the next one, which has
+pub record BeginsFree (IsOn : Links) (asking : Asking) (q : Question) (is_idle : Bool) (b : Begun) (before after : Timed) : Type 0 where
+  pub free : begins_spent b ≡ false
+  pub begins : BeginsAsk asking q b before after ⊎ ((is_idle ≡ true) × BeginsAnew IsOn asking q b before after)
+
+-- None where some are
+abbrev pub BeginsOn : Links → Asking → Question → (is_idle : Bool) → Option Begun → (before after : Timed) → Type 0
+BeginsOn IsOn asking q is_idle None before after = (is_idle ≡ false) × FindsSpent asking q before after
+BeginsOn IsOn asking q is_idle (Some b) before after = BeginsFree IsOn asking q is_idle b before after
+
+-- ---- what happens until the ask of a line has ended
+
+-- what is asked: these lines, so many at once, and so many of one peer
+pub record Plan : Type 0 where
+  pub asking : Asking
+  pub lines : List LineQuestion
+  pub window : ℕ
+  pub share : ℕ
+
+abbrev pub plan_view : code_plan.Plan → Plan
+plan_view p = record { asking = p.asking.now; lines = p.lines.now; window = p.window; share = p.share }
+
+-- what the node that asks has become, what the clock has printed, and the asks of the lines
+pub record Aloft : Type 0 where
+  pub at : Timed
+  pub sky : Sky
+
+abbrev pub aloft : Timed → Sky → Aloft
+aloft at s = record { at = at; sky = s }
+
+abbrev pub is_idle : List Flight → Bool
+is_idle flights = length flights == 0
+
+-- what comes of a line that waits
+abbrev pub IsTakenUp : (at : ℕ) → Begun → (old new : Sky) → Type 0
+IsTakenUp at (begun.Accepted ticket wait_limit) old new = AddsFlight at ticket wait_limit old new
+IsTakenUp at (begun.Refused why) old new = EndsWaiting at (end.Refused why) old new
+
+-- the ask of a line that waits began: there was room for it, and for one more of its peer
+pub record BeginsLine (IsOn : Links) (plan : Plan) (place : ℕ) (old new : Aloft) : Type 0 where
+  pub room : length old.sky.flights < max plan.window 1
+  pub at : ℕ
+  pub waiting : Waiting
+  pub is : slice_get old.sky.waiting at ≡ Some waiting
+  pub share : may_begin plan.share old.sky.flights waiting ≡ true
+  pub same : waiting.place ≡ place
+  pub line : LineQuestion
+  pub line_is : slice_get plan.lines place ≡ Some line
+  pub begun : Begun
+  pub begins : BeginsOn IsOn plan.asking (question_view line.question) (is_idle old.sky.flights) (Some begun) old.at new.at
+  pub taken : IsTakenUp at begun old.sky new.sky
+
+-- the node had nothing left for a line, and some of its asks were under way: the line waits on
+pub record HoldsLine (IsOn : Links) (plan : Plan) (place : ℕ) (old new : Aloft) : Type 0 where
+  pub line : LineQuestion
+  pub line_is : slice_get plan.lines place ≡ Some line
+  pub holds : BeginsOn IsOn plan.asking (question_view line.question) (is_idle old.sky.flights) None old.at new.at
+  pub same : new.sky ≡ old.sky
+
+-- a turn was taken as long as the first that is under way is waited for, and how tickets ended in it was noted
 pub record TakesTurn (p : WaitLimit) (old new : Aloft) : Type 0 where
   pub turn : Turn
   pub takes : TakesEarlyTurn p old.at (turn_view turn) new.at
-  pub noted : new.flights ≡ all_noted (ended_in turn.ticked) (all_noted (ended_in turn.heard) old.flights)
+  pub noted : new.sky ≡ all_noted (ended_in turn.ticked) (all_noted (ended_in turn.heard) old.sky)
 
--- or no time was left for one
-abbrev pub GoesOn : WaitLimit → (went : Bool) → (old new : Aloft) → Type 0
-GoesOn p true old new = TakesTurn p old new
-GoesOn p false old new = IsOver p old.at new.at × (new.flights ≡ old.flights)
+-- or no time was left for that one
+pub record GivesUp (p : WaitLimit) (old new : Aloft) : Type 0 where
+  pub over : IsOver p old.at new.at
+  pub closed : new.sky ≡ closed 0 end.NoEnding old.sky
 
--- a turn as long as the first is waited for
-abbrev pub WaitsOnce : (old : Aloft) → WaitLimit → (new : Aloft) → Type 0
-WaitsOnce old p new = (first_patience old.flights ≡ Some p) × TakesTurn p old new
+abbrev pub GoesOn : WaitLimit → (old new : Aloft) → Type 0
+GoesOn p old new = (first_patience old.sky.flights ≡ Some p) × (TakesTurn p old new ⊎ GivesUp p old new)
 
-pub record Waits (turns : ℕ) (old new : Aloft) : Type 0 where
-  pub waited : List WaitLimit
-  pub all : length waited ≡ turns
-  pub run : Run WaitsOnce waited old new
+-- or none is under way
+abbrev pub MayGoOn : (old new : Aloft) → Type 0
+MayGoOn old new = MatchOption (first_patience old.sky.flights) (new ≡ old) (λ p. GoesOn p old new)
 
--- no more time was left for the first
-pub record RunsOut (old new : Aloft) : Type 0 where
-  pub wait_limit : WaitLimit
-  pub waiting : first_patience old.flights ≡ Some wait_limit
-  pub over : GoesOn wait_limit false old new
+-- what can happen: the ask of the line at a place began, or had to wait; or what is under way went on
+pub data Event : Type 0 where
+  Began : (place : ℕ) → Event
+  Held : (place : ℕ) → Event
+  WentOn : (p : WaitLimit) → Event
 
--- the first was over, or as many turns were taken as may be
-abbrev pub IsDone : (turns : ℕ) → (old new : Aloft) → Type 0
-IsDone turns old new = ((first_patience old.flights ≡ None) ⊎ (turns ≡ 100000)) × (new ≡ old)
+abbrev pub Happens : Links → Plan → Aloft → Event → Aloft → Type 0
+Happens IsOn plan old (Began place) new = BeginsLine IsOn plan place old new
+Happens IsOn plan old (Held place) new = HoldsLine IsOn plan place old new
+Happens IsOn plan old (WentOn p) new = GoesOn p old new
 
--- turns were taken until the first was over, or no more time was left for it, and it was taken off
-pub record EndsFirst (end : AskEnd) (old new : Aloft) : Type 0 where
-  pub turns : ℕ
-  pub most : turns ≤ 100000
-  pub waited : Aloft
-  pub waits : Waits turns old waited
-  pub stopped : Aloft
-  pub stops : IsDone turns waited stopped ⊎ RunsOut waited stopped
-  pub takes : TakesFirst end stopped.flights new.flights
-  pub same : new.at ≡ stopped.at
+-- how often the ask of a line began
+abbrev pub here : (place at : ℕ) → ℕ
+here place at = if at == place then 1 else 0
+
+abbrev pub asks_in : (place : ℕ) → List Event → ℕ
+asks_in place [] = 0
+asks_in place (Began at ∷ events) = here place at + asks_in place events
+asks_in place (Held at ∷ events) = asks_in place events
+asks_in place (WentOn p ∷ events) = asks_in place events
+
+-- these happened, one after the other
+pub record Goes (IsOn : Links) (plan : Plan) (old new : Aloft) : Type 0 where
+  pub events : List Event
+  pub run : Run (Happens IsOn plan) events old new
+
+-- they happened until the ask of the line at that place had ended, so
+pub record EndsLine (IsOn : Links) (plan : Plan) (place : ℕ) (how : AskEnd) (old new : Aloft) : Type 0 where
+  pub ended : Aloft
+  pub goes : Goes IsOn plan old ended
+  pub taken : IsTaken place how ended.sky new.sky
+  pub same : new.at ≡ ended.at
 
 -- ---- how it is printed
 
 -- how the ask of a line ended was printed behind the line's number; whether it succeeded
-pub record PrintsLine (output_format : OutputFormat) (line : Numbered) (end : AskEnd) (succeeded : Bool) (old new : Option (List ℕ)) : Type 0 where
+pub record PrintsLine (output_format : OutputFormat) (line : LineQuestion) (end : AskEnd) (succeeded : Bool) (old new : Option (List ℕ)) : Type 0 where
   pub between : Option (List ℕ)
   pub numbered : Appends old between (number_text line.number)
-  pub told : PrintsEnd output_format line.question.request end succeeded between new
+  pub told : PrintsEnd output_format (question_view line.question).request end succeeded between new
 
 -- ---- all lines
 
--- what is left to be asked and printed: by the lines that wait to be asked
+-- the ask of the line at that place ended and was printed
+pub record TellsLine (IsOn : Links) (plan : Plan) (place : ℕ) (succeeded : Bool) (before after : Aloft) (old new : Option (List ℕ)) : Type 0 where
+  pub line : LineQuestion
+  pub line_is : slice_get plan.lines place ≡ Some line
+  pub how : AskEnd
+  pub ends : EndsLine IsOn plan place how before after
+  pub tells : PrintsLine plan.asking.output_format line how succeeded old new
+
+-- what is left to be asked and printed, and what happens until then
 abbrev pub Printing : Type 1
-Printing = (waiting : List Numbered) → (all : Bool) → (before : Aloft) → (after : Timed) → (old new : Option (List ℕ)) → Type 0
+Printing = (events : List Event) → (all : Bool) → (before : Aloft) → (after : Timed) → (old new : Option (List ℕ)) → Type 0
 
--- as many asks as may began; the first that was not yet printed, which is that of this line, ended and was printed; and then the others
-pub record PrintsNext (asking : Asking) (window : ℕ) (line : Numbered) (Others : Printing) (waiting : List Numbered) (all : Bool) (before : Aloft)
-    (after : Timed) (old new : Option (List ℕ)) : Type 0 where
-  pub rest : List Numbered
-  pub begun : Aloft
-  pub begins : BeginsMore asking window waiting before rest begun
-  pub end : AskEnd
-  pub ended : Aloft
-  pub ends : EndsFirst end begun ended
+-- the line at that place was printed; and then the others
+pub record PrintsNext (IsOn : Links) (plan : Plan) (place : ℕ) (Others : Printing) (events : List Event) (all : Bool) (before : Aloft) (after : Timed)
+    (old new : Option (List ℕ)) : Type 0 where
   pub succeeded : Bool
+  pub middle : Aloft
   pub between : Option (List ℕ)
-  pub tells : PrintsLine asking.output_format line end succeeded old between
-  pub more : Bool
-  pub others : Others rest more ended after between new
-  pub is : all ≡ succeeded && more
+  pub first : TellsLine IsOn plan place succeeded before middle old between
+  pub later : List Event
+  pub rest : Bool
+  pub others : Others later rest middle after between new
+  pub are : events ≡ later ++ first.ends.goes.events
+  pub is : all ≡ succeeded && rest
 
--- by the lines that are still to be printed
-abbrev pub PrintsEach : Asking → (window : ℕ) → (untold : List Numbered) → Printing
-PrintsEach asking window [] waiting all before after old new = DoesNothing all before.at after old new
-PrintsEach asking window (line ∷ untold) waiting all before after old new =
-    PrintsNext asking window line (PrintsEach asking window untold) waiting all before after old new
+-- so many lines, of which the first has that place
+abbrev pub PrintsFrom : Links → Plan → (place count : ℕ) → Printing
+PrintsFrom IsOn plan place zero events all before after old new = (events ≡ []) × DoesNothing all before.at after old new
+PrintsFrom IsOn plan place (suc count) events all before after old new =
+    PrintsNext IsOn plan place (PrintsFrom IsOn plan (place + 1) count) events all before after old new
 
--- the requests of lines were asked by one node, so many at once, and printed in order
-abbrev pub AsksAhead : Asking → (window : ℕ) → List Numbered → Doing
-AsksAhead asking window lines all before after old new = PrintsEach asking window lines lines all (aloft before []) after old new
+-- the requests of lines were asked, so many at once, none of them twice, and printed in order
+pub record AsksAhead (IsOn : Links) (asking : Asking) (window : ℕ) (lines : List LineQuestion) (all : Bool) (before after : Timed) (old new : Option (List ℕ)) :
+    Type 0 where
+  pub share : ℕ
+  pub events : List Event
+  pub prints :
+      PrintsFrom IsOn (record { asking = asking; lines = lines; window = window; share = share }) 0 (length lines) events all (aloft before (new_sky lines))
+      after old new
+  pub once : (place : ℕ) → asks_in place events ≤ 1
 
 -- so many at once as is wanted; without it one after the other
-abbrev pub AsksLinesBy : (window : Option ℕ) → Asking → List Numbered → Doing
-AsksLinesBy None asking lines all before after old new = AsksEach asking lines all before after old new
-AsksLinesBy (Some window) asking lines all before after old new = AsksAhead asking window lines all before after old new
+abbrev pub AsksLinesBy : (window : Option ℕ) → Links → Asking → List LineQuestion → Doing
+AsksLinesBy None IsOn asking lines all before after old new = AsksEach IsOn asking lines all before after old new
+AsksLinesBy (Some window) IsOn asking lines all before after old new = AsksAhead IsOn asking window lines all before after old new
 
-abbrev pub AsksLines : Asking → List Numbered → Doing
-AsksLines asking lines all before after old new = AsksLinesBy asking.window asking lines all before after old new
+abbrev pub AsksLines : Links → Asking → List LineQuestion → Doing
+AsksLines IsOn asking lines all before after old new = AsksLinesBy asking.window IsOn asking lines all before after old new

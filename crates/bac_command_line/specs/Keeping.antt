@@ -35,23 +35,24 @@ pub record OfDocument (IsFile : (path : List ℕ) → (content : Option (List �
 
 -- ---- the database
 
--- a database that was opened, over a document: as long as it is honest, it has committed what makes the store, and nothing waits for a commit
+-- a database that was opened, over a document: as long as it is honest, it was so at first, it has committed what makes the store, and nothing waits for a commit
 pub record HasStore {D : Type 0} (view : D → View) (opened : D) (document store : Store) (database : D) : Type 0 where
+  pub honest : IsClean (view database) → IsClean (view opened)
   pub ready : IsClean (view database) → IsReady (view database)
   pub found : IsClean (view database) → store ≡ overlay (cells_of (view opened).committed) document
   pub kept : IsClean (view database) → overlay (cells_of (view database).committed) document ≡ store
   pub noted : IsClean (view database) → overlay (cells_of (view database).trees) document ≡ store
 
--- a database that the machine opened at a path, and that is so in the end: as long as it is honest, the first store is what it had committed over the document,
--- and the next start, over the document that the keeper has in the end, finds the last one, whatever a power cut leaves
+-- a database that the machine opened at a path, and that is so in the end: as long as it is honest, it was so at first, the first store is what it had
+-- committed over the document, and the next start, over that document, finds the last one, whatever a power cut leaves
 pub record OnDatabase {D : Type 0} (IsDatabase : (path : List ℕ) → (is_new : Bool) → D → Type 0) (view : D → View) (recovers : D → Trees → Type 0)
     (path : List ℕ) (is_new : Bool) (document first last : Store) : Type 0 where
   pub opened : D
   pub made : IsDatabase path is_new opened
   pub ended : D
-  pub below : Store
+  pub honest : IsClean (view ended) → IsClean (view opened)
   pub found : IsClean (view ended) → first ≡ overlay (cells_of (view opened).committed) document
-  pub kept : IsClean (view ended) → (s : Store) → MayFind recovers ended below s → s ≡ last
+  pub kept : IsClean (view ended) → (s : Store) → MayFind recovers ended document s → s ≡ last
 
 -- What follows takes such a relation.
 abbrev pub Databases : Type 1
@@ -59,10 +60,11 @@ Databases = (path : List ℕ) → (is_new : Bool) → (document first last : Sto
 
 -- ---- serving
 
--- a keeper, which began as that one, keeps a store
-pub record EndsWith {K : Type 0} (IsHonest IsOpen : K → Type 0) (kept noted : K → Store) (first : K) (store : Store) : Type 0 where
+-- a keeper, which began as that one, keeps a store, over what it lay over at first
+pub record EndsWith {K B : Type 0} (IsHonest IsOpen : K → Type 0) (kept noted : K → Store) (base : K → B) (first : K) (store : Store) : Type 0 where
   pub last : K
   pub honest : IsHonest last → IsHonest first
+  pub same_base : base last ≡ base first
   pub all : AllIsKept IsHonest IsOpen kept noted last store
 
 -- a node with a store served in rounds from a moment on, how many requests it performed was printed, and this is so of its store in the end

@@ -1,5 +1,6 @@
 pub mod Files
 pub mod Lines
+pub mod Json
 pub mod Serving
 pub mod Asking
 pub mod Given
@@ -7,6 +8,7 @@ pub mod FileWords
 pub mod Rounds
 pub mod ClientPairs
 pub mod Online
+pub mod Clients
 pub mod AskedLines
 pub mod InFlight
 pub mod Asked

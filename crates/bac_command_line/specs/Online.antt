@@ -8,7 +8,6 @@ use Rattle.bac_driver.specs.Moments.{Told, with_moment}
 use Rattle.bac_driver.specs.Udp.{LOCAL_HOST}
 use Rattle.bac_node.specs.Fresh.{large_slots_fit}
 use Rattle.bac_npdu.specs.Peers.{PeerView}
-use Rattle.bac_npdu.specs.Views.{peer_view}
 use Rattle.bac_service.specs.Values.{Request}
 use Rattle.bac_service_text.specs.Dispatch.{request_of}
 use Rattle.bac_service_text.specs.declared.form_fault.FormFault.{FormFault}
@@ -76,10 +75,15 @@ pub record IsAt (IsOn : Links) (host : Octets) (port : ℕ) (node_at : (address 
 abbrev pub IsHouseAt : Links → (host : Octets) → (first_id : ℕ) → BoundNode → Type 0
 IsHouseAt IsOn host first_id bound_node = IsAt IsOn host FREE (house_node first_id) bound_node
 
--- one with a slot for each invoke ID of a peer
+-- one that asks for lists
 pub record IsClientAt (IsOn : Links) (host : Octets) (first_id : ℕ) (bound_node : BoundNode) : Type 0 where
   pub port : ℕ
   pub at : IsAt IsOn host port (client_node first_id) bound_node
+
+-- its invoke IDs begin anywhere
+pub record IsClient (IsOn : Links) (host : Octets) (bound_node : BoundNode) : Type 0 where
+  pub first_id : ℕ
+  pub at : IsClientAt IsOn host first_id bound_node
 
 -- ---- serving
 
@@ -135,15 +139,14 @@ pub record AsksOnce (asking : Asking) (q : Question) (succeeded : Bool) (before 
 pub record ByClient (IsOn : Links) (IsClock : Clocks) (asking : Asking) (Round : Doing) (all : Bool) (old new : Option (List ℕ)) : Type 0 where
   pub before : Timed
   pub after : Timed
-  pub first_id : ℕ
-  pub client : IsClientAt IsOn asking.host first_id before.bound_node
+  pub client : IsClient IsOn asking.host before.bound_node
   pub clock : IsClock before.told
   pub rounds : AreRounds asking.rounds Round all before after old new
 
 -- the question that some words are was asked
-pub record Asks (IsOn : Links) (IsClock : Clocks) (asking : Asking) (succeeded : Bool) (words : List (List ℕ)) (old new : Option (List ℕ)) : Type 0 where
+pub record Asks (IsOn : Links) (IsClock : Clocks) (asking : Asking) (peer : PeerView) (succeeded : Bool) (words : List (List ℕ)) (old new : Option (List ℕ)) : Type 0 where
   pub question : Question
-  pub is : IsQuestion (peer_view asking.peer) words question
+  pub is : IsQuestion peer words question
   pub asks : ByClient IsOn IsClock asking (AsksOnce asking question) succeeded old new
 
 -- the words are no request that can be printed so, and nothing was printed
@@ -151,28 +154,28 @@ pub record IsNoRequest (asking : Asking) (words : List (List ℕ)) (old new : Op
   pub none : is_request_for asking.output_format.style (request_of words) ≡ false
   pub keeps : Keeps old new
 
-abbrev pub IsAsked : Links → Clocks → Status → Asking → (words : List (List ℕ)) → (old new : Option (List ℕ)) → Type 0
-IsAsked IsOn IsClock s asking words old new =
-    ByStatus s (Asks IsOn IsClock asking true words old new) (Asks IsOn IsClock asking false words old new) (IsNoRequest asking words old new)
+abbrev pub IsAsked : Links → Clocks → Status → Asking → PeerView → (words : List (List ℕ)) → (old new : Option (List ℕ)) → Type 0
+IsAsked IsOn IsClock s asking peer words old new =
+    ByStatus s (Asks IsOn IsClock asking peer true words old new) (Asks IsOn IsClock asking peer false words old new) (IsNoRequest asking words old new)
 
 -- the same where octets stand in hexadecimal in the place of the last word: those of a file, where they are known
-pub record AsksWith (IsOn : Links) (IsClock : Clocks) (asking : Asking) (succeeded : Bool) (words : List (List ℕ)) (old new : Option (List ℕ))
-    (content : Option (List ℕ)) : Type 0 where
+pub record AsksWith (IsOn : Links) (IsClock : Clocks) (asking : Asking) (peer : PeerView) (succeeded : Bool) (words : List (List ℕ))
+    (old new : Option (List ℕ)) (content : Option (List ℕ)) : Type 0 where
   pub octets : List ℕ
   pub known : IfSome content (λ file. octets ≡ file)
-  pub asks : Asks IsOn IsClock asking succeeded (with_octets octets words) old new
+  pub asks : Asks IsOn IsClock asking peer succeeded (with_octets octets words) old new
 
 abbrev pub IsAskedOf : (IsFile : (path : List ℕ) → (content : Option (List ℕ)) → Type 0) → (file : Option (List ℕ)) → Links → Clocks → Status → Asking
-    → (words : List (List ℕ)) → (old new : Option (List ℕ)) → Type 0
-IsAskedOf IsFile None IsOn IsClock s asking words old new = IsAsked IsOn IsClock s asking words old new
-IsAskedOf IsFile (Some path) IsOn IsClock s asking words old new =
-    ByStatus s (OfFile IsFile path (AsksWith IsOn IsClock asking true words old new)) (OfFile IsFile path (AsksWith IsOn IsClock asking false words old new))
+    → PeerView → (words : List (List ℕ)) → (old new : Option (List ℕ)) → Type 0
+IsAskedOf IsFile None IsOn IsClock s asking peer words old new = IsAsked IsOn IsClock s asking peer words old new
+IsAskedOf IsFile (Some path) IsOn IsClock s asking peer words old new =
+    ByStatus s (OfFile IsFile path (AsksWith IsOn IsClock asking peer true words old new)) (OfFile IsFile path (AsksWith IsOn IsClock asking peer false words old new))
     (Keeps old new)
 
 -- where the last word names a file, its octets stand there
-abbrev pub IsAskedFrom : (IsFile : (path : List ℕ) → (content : Option (List ℕ)) → Type 0) → Links → Clocks → Status → Asking → (words : List (List ℕ))
-    → (old new : Option (List ℕ)) → Type 0
-IsAskedFrom IsFile IsOn IsClock s asking words old new = IsAskedOf IsFile (file_of words) IsOn IsClock s asking words old new
+abbrev pub IsAskedFrom : (IsFile : (path : List ℕ) → (content : Option (List ℕ)) → Type 0) → Links → Clocks → Status → Asking → PeerView
+    → (words : List (List ℕ)) → (old new : Option (List ℕ)) → Type 0
+IsAskedFrom IsFile IsOn IsClock s asking peer words old new = IsAskedOf IsFile (file_of words) IsOn IsClock s asking peer words old new
 
 -- ---- two nodes
 

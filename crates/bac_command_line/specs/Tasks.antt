@@ -1,10 +1,12 @@
 -- What a command line asks for, and what the status of doing it says.
 use Rattle.std.specs.Prelude.{⊤, ℕ, List, Option, map}
 use Rattle.std.specs.Option.{option_map}
+use Rattle.bac_npdu.specs.Views.{peer_view}
 use Rattle.bac_text.specs.declared.status.Status.{Status}
 use Rattle.bac_text.specs.declared.status.Status.TheVariants as status
 use Rattle.bac_command_line.specs.Asked.{AreAskedFrom}
 use Rattle.bac_command_line.specs.Files.{IsChartedFile, IsCheckedFile, IsExplainedFile, IsShownFile, IsSimulatedFile}
+use Rattle.bac_command_line.specs.Json as json
 use Rattle.bac_command_line.specs.Keeping.{Databases, IsListed, IsServedKept}
 use Rattle.bac_command_line.specs.Lines.{AreCheckedLines, IsDecodedFrom}
 use Rattle.bac_command_line.specs.Stores.{IsAnsweredFrom, IsServedFrom}
@@ -26,6 +28,9 @@ abbrev pub IsPerformed : (IsAt : (path : List ℕ) → (content : Option (List �
 IsPerformed IsAt IsOn IsClock IsOnDatabase (task.Answer datagram objects) s old new =
     IsAnsweredFrom IsAt (option_map (λ p. p.now) objects) datagram.now s old new
 IsPerformed IsAt IsOn IsClock IsOnDatabase (task.Decode in_words datagram) s old new = IsDecodedFrom IsAt in_words datagram.now s old new
+IsPerformed IsAt IsOn IsClock IsOnDatabase (task.DecodeJson datagram) s old new = json.IsDecodedFrom IsAt datagram.now s old new
+IsPerformed IsAt IsOn IsClock IsOnDatabase (task.CheckJson capture) s old new = json.IsCheckedFile IsAt capture.path.now capture.port s old new
+IsPerformed IsAt IsOn IsClock IsOnDatabase (task.CheckJsonLines path) s old new = json.AreCheckedLines IsAt path.now s old new
 IsPerformed IsAt IsOn IsClock IsOnDatabase (task.Check named capture) s old new = IsCheckedFile IsAt named capture.path.now capture.port s old new
 IsPerformed IsAt IsOn IsClock IsOnDatabase (task.CheckLines path) s old new = AreCheckedLines IsAt path.now s old new
 IsPerformed IsAt IsOn IsClock IsOnDatabase (task.Explain capture) s old new = IsExplainedFile IsAt capture.path.now capture.port s old new
@@ -38,7 +43,9 @@ IsPerformed IsAt IsOn IsClock IsOnDatabase (task.ServeKept serving objects path)
     IsServedKept IsAt (option_map (λ p. p.now) objects) IsOnDatabase IsOn IsClock s serving path.now old new
 IsPerformed IsAt IsOn IsClock IsOnDatabase (task.Keep path) s old new = IsListed s old new
 IsPerformed IsAt IsOn IsClock IsOnDatabase (task.Forget forgetting) s old new = IsListed s old new
-IsPerformed IsAt IsOn IsClock IsOnDatabase (task.Ask asking words) s old new = IsAskedFrom IsAt IsOn IsClock s asking (map (λ w. w.now) words.now) old new
-IsPerformed IsAt IsOn IsClock IsOnDatabase (task.AskLines asking path) s old new = AreAskedFrom IsAt IsOn IsClock s asking path.now old new
+IsPerformed IsAt IsOn IsClock IsOnDatabase (task.Ask asking peer words) s old new =
+    IsAskedFrom IsAt IsOn IsClock s asking (peer_view peer) (map (λ w. w.now) words.now) old new
+IsPerformed IsAt IsOn IsClock IsOnDatabase (task.AskLines asking default path) s old new =
+    AreAskedFrom IsAt IsOn IsClock s asking (option_map peer_view default) path.now old new
 IsPerformed IsAt IsOn IsClock IsOnDatabase task.Pair s old new = IsPair IsOn IsClock s old new
 IsPerformed IsAt IsOn IsClock IsOnDatabase (task.Tell telling) s old new = IsTold s

@@ -1,5 +1,5 @@
 //! IPv4 addresses, UDP ports and the ways behind routers as words.
-use bac_npdu::{LinkAddress, Route};
+use bac_npdu::{LinkAddress, Peer, Route};
 use std::net::Ipv4Addr;
 
 /// The address of this machine that no other one reaches.
@@ -51,6 +51,21 @@ pub(crate) fn read_route(text: &str) -> Option<Route> {
     let mut address = [0; MOST_OCTETS];
     hex::decode_to_slice(digits, &mut address[..count]).ok()?;
     Route::new(network.parse().ok()?, &address[..count])
+}
+
+/// The node that a text as `192.168.1.20:47809` or `192.168.1.20/5:2A` is: an address, and the way on from there where it is behind a router.
+pub(crate) fn read_peer(text: &str) -> Option<Peer> {
+    match text.split_once('/') {
+        Some((address, way)) => {
+            let link = read_link(address)?;
+            let route = Some(read_route(way)?);
+            Some(Peer { link, route })
+        }
+        None => {
+            let link = read_link(text)?;
+            Some(Peer { link, route: None })
+        }
+    }
 }
 
 /// The address from which one on the loopback is reached, or any other.

@@ -1,5 +1,5 @@
-//! Whom a node is to ask, how long it waits, how the end is printed, and how often.
-ghost use Rattle.std.specs.Prelude.{◌≡◌, IfSome};
+//! From where a node is to ask, how long it waits, how the end is printed, and how often.
+ghost use Rattle.std.specs.Prelude.{◌≡◌};
 ghost use Rattle.bac_command_line.specs.Asking.{patience_for};
 ghost use Rattle.bac_command_line.specs.Given.{AreRoundsOf, IsFlag, IsGiven, IsManner, IsNumber, rounds_by, style_by};
 ghost use Rattle.bac_command_line.specs.Rounds.{next_from};
@@ -7,6 +7,7 @@ ghost use Rattle.bac_command_line.specs.Serving.{turns_of};
 
 use crate::address::{EVERY_HOST, LOCAL_HOST, host_towards, link_at, read_link, read_route};
 use crate::online::Machine;
+use crate::question_lines::LineQuestion;
 use bac_commands::{OutputFormat, Style};
 use bac_driver::WaitLimit;
 use bac_npdu::{LinkAddress, Peer, Route};
@@ -40,11 +41,9 @@ impl Rounds {
     }
 }
 
-/// Whom a node is to ask, how long it waits, and how the end is printed.
+/// From where a node is to ask, how long it waits, and how the end is printed.
 #[derive(Clone, Copy, Debug)]
 pub(crate) struct Asking {
-    /// The node that is asked.
-    pub peer: Peer,
     /// The IPv4 address of the one that asks.
     pub host: [u8; 4],
     /// After so many seconds it waits no longer; None where it waits until the ask has ended.
@@ -55,22 +54,25 @@ pub(crate) struct Asking {
     pub shows_progress: bool,
     /// How often it asks the same; None where it asks once.
     pub rounds: Option<Rounds>,
-    /// So many asks of lines at most have begun and are not yet printed; None where each is asked once the one before is printed.
+    /// So many asks of lines are under way at most; None where each is asked once the one before is printed.
     pub window: Option<u64>,
 }
 
 impl Asking {
-    /// The same, asked from the address of this machine that the node sees, where that could be any and the machine tells it.
-    pub(crate) fn from_source<M: Machine>(self, machine: &M) -> Asking
+    /// The same, asked from the address of this machine that a peer sees, where the machine tells it.
+    pub(crate) fn towards<M: Machine>(self, machine: &M, peer: Peer) -> Asking
         ensures { result ≡ record self { host = result.host } }
     {
-        if self.host != EVERY_HOST {
-            return self;
-        }
-        match machine.source_towards(self.peer.link) {
-            Some(host) => Asking { host, ..self },
-            None => self,
-        }
+        let host = source_towards(machine, peer.link);
+        Asking { host, ..self }
+    }
+
+    /// The same, asked from the address of this machine that all peers of these lines see; where there is none such, from any.
+    pub(crate) fn towards_all<M: Machine>(self, machine: &M, lines: &[LineQuestion]) -> Asking
+        ensures { result ≡ record self { host = result.host } }
+    {
+        let host = source_towards_all(machine, lines);
+        Asking { host, ..self }
     }
 
     /// How long its turns wait, where it begins at that moment: until something is due, and when it waits no longer.
@@ -86,6 +88,32 @@ impl Asking {
             until,
         }
     }
+}
+
+/// The address of this machine that one on the loopback sees, or the one that is asked there; any where the machine tells none.
+fn source_towards<M: Machine>(machine: &M, link: LinkAddress) -> [u8; 4] {
+    let host = host_towards(link);
+    if host != EVERY_HOST {
+        return host;
+    }
+    machine.source_towards(link).unwrap_or(EVERY_HOST)
+}
+
+/// The address of this machine that all peers of these lines see; where there is none such, any.
+fn source_towards_all<M: Machine>(machine: &M, lines: &[LineQuestion]) -> [u8; 4] {
+    let Some((first, others)) = lines.split_first() else {
+        return EVERY_HOST;
+    };
+    let mut last = first.question.peer.link;
+    let host = source_towards(machine, last);
+    for line in others {
+        let link = line.question.peer.link;
+        if link != last && source_towards(machine, link) != host {
+            return EVERY_HOST;
+        }
+        last = link;
+    }
+    host
 }
 
 /// The address that is asked: that behind `--to`, or a port of this machine.
@@ -159,19 +187,33 @@ fn rounds_of(given: &ArgMatches<'_>) -> Option<Rounds>
     rounds_by(every, times)
 }
 
-/// None where there is no address, or what is given is none.
-pub(crate) fn asking_of(given: &ArgMatches<'_>, shows_progress: bool) -> Option<Asking>
-    ensures { IfSome result (IsGiven given.now) }
-{
+/// The node that is asked. None where there is no address, or what is given is none.
+pub(crate) fn peer_of(given: &ArgMatches<'_>) -> Option<Peer> {
     let link = link_of(given)?;
     let route = route_of(given)?;
-    Some(Asking {
-        peer: Peer { link, route },
-        host: host_towards(link),
+    Some(Peer { link, route })
+}
+
+/// The node that is asked for the lines that name none, if there is one. None where what is given is no address.
+pub(crate) fn default_of(given: &ArgMatches<'_>) -> Option<Option<Peer>> {
+    let has_link = given.get_str("to").is_some() || given.get_one::<u16>("port").is_some();
+    if has_link || given.get_str("route").is_some() {
+        Some(Some(peer_of(given)?))
+    } else {
+        Some(None)
+    }
+}
+
+/// How it is asked, from any address of this machine.
+pub(crate) fn asking_of(given: &ArgMatches<'_>, shows_progress: bool) -> Asking
+    ensures { IsGiven given.now result }
+{
+    Asking {
+        host: EVERY_HOST,
         timeout: number_of(given, "timeout"),
         output_format: manner_of(given),
         shows_progress,
         rounds: rounds_of(given),
         window: number_of(given, "window"),
-    })
+    }
 }

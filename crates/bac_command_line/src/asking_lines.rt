@@ -1,44 +1,134 @@
-//! Requests of lines, asked by one node: what `ask --lines` does.
+//! Requests of lines, asked one after the other: what `ask --lines` does.
 ghost use Rattle.std.specs.Prelude.{◌≡◌, ◌&&◌, map, None, Some, IfErr, IfOk, IsErrOf};
+ghost use Rattle.std.specs.Option.{option_map};
 ghost use Rattle.bac_npdu.specs.Views.{peer_view};
 ghost use Rattle.bac_driver.specs.Runs.{timed};
+ghost use Rattle.bac_driver.specs.Views.{question_view};
 ghost use Rattle.bac_text.specs.Statuses.{IsFailure, IsStop};
 ghost use Rattle.bac_command_line.specs.Asked.{AreAskedFrom, status_of};
 ghost use Rattle.bac_command_line.specs.AskedLines.{AreRead, AsksEach, AsksLine, IsTextOf, line_view};
+ghost use Rattle.bac_command_line.specs.Clients.{AsksFrom, AsksOn, ends_spent};
 ghost use Rattle.bac_command_line.specs.Files.{OfFile, OnFile};
 ghost use Rattle.bac_command_line.specs.Online.{OnClock, OnPort};
 
 use crate::asking::Asking;
+use crate::client::Client;
+use crate::ends::{print_end, print_number};
 use crate::environment::Environment;
 use crate::files::{OpenFiles, opened};
 use crate::objects::octets_of;
-use crate::online::{Machine, ask_once};
+use crate::online::Machine;
 use crate::question_lines::{LineQuestion, questions_in};
 use crate::rounds::{Asked, ask_by_client};
 use crate::station::Station;
-use bac_driver::{Clock, Link};
-use bac_text::{Status, output_failed};
+use bac_commands::{AskCommand, ask_unprinted, is_spent};
+use bac_driver::{AskEnd, Clock, Link, Question};
+use bac_npdu::Peer;
+use bac_text::Status;
 use std::alloc::Global;
+use std::io;
 use std::io::Write;
 
-/// A node asks what a line asks; how that ended is printed behind the line's number. Answers whether it succeeded.
-fn ask_line<L: Link, C: Clock, O: Write, E: Write>(
+/// A node asks from the moment of the clock on. Answers how that ended.
+fn ask_from<L: Link, C: Clock, E: Write>(
     asking: &Asking,
     station: &mut Station<L, C>,
+    question: &Question,
+    err: &mut E,
+) -> Result<AskEnd, Status>
+    ensures asked { IfOk result (λ end. AsksFrom asking.now (question_view question.now) end
+        (timed station.old.bound_node (C.told station.old.clock)) (timed station.new.bound_node (C.told station.new.clock))) }
+    ensures failed { IfErr result IsFailure }
+{
+    let command = AskCommand {
+        question,
+        wait_limit: asking.wait_limit(station.clock.now()),
+        output_format: asking.output_format,
+        shows_progress: asking.shows_progress,
+    };
+    match ask_unprinted(&mut station.bound_node, &mut station.clock, &command, err) {
+        Ok(end) => Ok(end),
+        Err(fault) => Err(fault.report(err)),
+    }
+}
+
+/// Whether an ask ended since its node has no invoke ID or no slot left for it.
+fn ends_spent(end: &AskEnd) -> bool
+    ensures { result ≡ ends_spent end.now }
+{
+    match end {
+        AskEnd::Refused(fault) => is_spent(*fault),
+        AskEnd::Ended(_) => false,
+        AskEnd::NoEnding => false,
+    }
+}
+
+/// A client asks; where its node has nothing left for that, the next one does. Answers how that ended.
+fn ask_on<M: Machine, E: Write>(
+    asking: &Asking,
+    client: &mut Client<'_, M>,
+    question: &Question,
+    err: &mut E,
+) -> Result<AskEnd, Status>
+    ensures asked { IfOk result (λ end. AsksOn (OnPort M.is_bound M.Link.failures M.Link.calls) asking.now (question_view question.now) end
+        (timed client.old.station.bound_node (M.Timer.told client.old.station.clock))
+        (timed client.new.station.bound_node (M.Timer.told client.new.station.clock))) }
+    ensures failed { IfErr result IsFailure }
+{
+    let end = ask_from(asking, &mut client.station, question, err)?;
+    if !ends_spent(&end) {
+        return Ok(end);
+    }
+    client.renew(asking.host, err)?;
+    ask_from(asking, &mut client.station, question, err)
+}
+
+/// The line says that there is no link from which it could be asked.
+pub(crate) fn print_unasked<O: Write>(line: &LineQuestion, out: &mut O) -> io::Result<()> {
+    let number = line.number;
+    writeln!(out, "{number}: link fault")?;
+    out.flush()
+}
+
+/// Behind the number of a line, it says that there is no link from which it could be asked, and so do the others.
+fn print_stranded<O: Write>(others: &[LineQuestion], out: &mut O) -> io::Result<()> {
+    writeln!(out, "link fault")?;
+    out.flush()?;
+    for line in others {
+        print_unasked(line, out)?;
+    }
+    Ok(())
+}
+
+/// A client asks what a line asks; how that ended is printed behind the line's number. Answers whether it succeeded. Where there is no link for its next node,
+/// this line and the others say so.
+fn ask_line<M: Machine, O: Write, E: Write>(
+    asking: &Asking,
+    client: &mut Client<'_, M>,
     line: &LineQuestion,
+    others: &[LineQuestion],
     out: &mut O,
     err: &mut E,
 ) -> Result<bool, Status>
-    ensures asked { IfOk result (λ succeeded. AsksLine asking.now (line_view line.now) succeeded
-        (timed station.old.bound_node (C.told station.old.clock)) (timed station.new.bound_node (C.told station.new.clock))
+    ensures asked { IfOk result (λ succeeded. AsksLine (OnPort M.is_bound M.Link.failures M.Link.calls) asking.now line.now succeeded
+        (timed client.old.station.bound_node (M.Timer.told client.old.station.clock))
+        (timed client.new.station.bound_node (M.Timer.told client.new.station.clock))
         (O.contents out.old) (O.contents out.new)) }
     ensures failed { IfErr result IsFailure }
 {
-    let number = line.number;
-    if let Err(error) = write!(out, "{number}: ") {
-        return Err(output_failed(err, &error));
-    }
-    ask_once(asking, station, &line.question, out, err)
+    let alloc = client.station.alloc;
+    print_number(line, out, err)?;
+    let end = match ask_on(asking, client, &line.question, err) {
+        Ok(end) => end,
+        Err(status) => {
+            if client.is_stranded {
+                // if that fails too, only the status is left
+                let _ = print_stranded(others, out);
+            }
+            return Err(status);
+        }
+    };
+    print_end(alloc, asking.output_format, line, &end, out, err)
 }
 
 pub(crate) fn both(first: bool, second: bool) -> bool
@@ -47,22 +137,23 @@ pub(crate) fn both(first: bool, second: bool) -> bool
     first && second
 }
 
-/// A node asks what lines ask, one after the other. Answers whether all succeeded.
-pub(crate) fn ask_each<L: Link, C: Clock, O: Write, E: Write>(
+/// A client asks what lines ask, one after the other. Answers whether all succeeded.
+pub(crate) fn ask_each<M: Machine, O: Write, E: Write>(
     asking: &Asking,
-    station: &mut Station<L, C>,
+    client: &mut Client<'_, M>,
     lines: &[LineQuestion],
     out: &mut O,
     err: &mut E,
 ) -> Result<bool, Status>
-    ensures asked { IfOk result (λ all. AsksEach asking.now (map line_view lines.now) all
-        (timed station.old.bound_node (C.told station.old.clock)) (timed station.new.bound_node (C.told station.new.clock))
+    ensures asked { IfOk result (λ all. AsksEach (OnPort M.is_bound M.Link.failures M.Link.calls) asking.now lines.now all
+        (timed client.old.station.bound_node (M.Timer.told client.old.station.clock))
+        (timed client.new.station.bound_node (M.Timer.told client.new.station.clock))
         (O.contents out.old) (O.contents out.new)) }
     ensures failed { IfErr result IsFailure }
 {
     let mut all = true;
     for (place, line) in lines.iter().enumerate() {
-        let succeeded = ask_line(asking, station, line, out, err)?;
+        let succeeded = ask_line(asking, client, line, &lines[place + 1..], out, err)?;
         all = both(all, succeeded);
     }
     Ok(all)
@@ -106,42 +197,45 @@ fn text_at<F: OpenFiles, E: Write>(
 fn questions_at<F: OpenFiles, E: Write>(
     alloc: Global,
     files: &F,
-    asking: &Asking,
+    default: Option<Peer>,
     path: &str,
     err: &mut E,
 ) -> Result<Vec<LineQuestion>, Unasked>
-    ensures read { IfOk result (λ lines. OfFile (OnFile F.is_file F.File.remaining) path.now (AreRead (peer_view asking.now.peer) (Some (map line_view lines.items)))) }
-    ensures bad { IsErrOf result Unasked.BadLine → OfFile (OnFile F.is_file F.File.remaining) path.now (AreRead (peer_view asking.now.peer) None) }
+    ensures read { IfOk result (λ lines. OfFile (OnFile F.is_file F.File.remaining) path.now (AreRead (option_map peer_view default) (Some (map line_view lines.items)))) }
+    ensures bad { IsErrOf result Unasked.BadLine → OfFile (OnFile F.is_file F.File.remaining) path.now (AreRead (option_map peer_view default) None) }
     ensures told { IfErr result (λ why. IsStop (status_of why)) }
 {
     let text = match text_at(alloc, files, path, err) {
         Ok(text) => text,
         Err(status) => return Err(Unasked::Unread(status)),
     };
-    match questions_in(alloc, asking.peer, &text, err) {
+    match questions_in(alloc, default, &text, err) {
         Ok(lines) => Ok(lines),
         Err(Status::CommandLine) => Err(Unasked::BadLine),
         Err(status) => Err(Unasked::Unread(status)),
     }
 }
 
-/// A client asks what the lines of a file ask, one after the other, in rounds where they are wanted; how each ask ended is printed behind the line's number.
+/// A client asks what the lines of a file ask, in rounds where they are wanted; how each ask ended is printed behind the line's number. Lines that name no peer
+/// are asked of that one, if there is one.
 /// A file that cannot be opened or read: `cannot read` on `err`. Where words are no request, `err` says the line and which is bad, and nothing is asked.
 pub(crate) fn ask_lines<F: OpenFiles, M: Machine, O: Write, E: Write>(
     environment: &Environment<'_, F, M>,
     asking: &Asking,
+    default: Option<Peer>,
     path: &str,
     out: &mut O,
     err: &mut E,
 ) -> Status
     ensures { AreAskedFrom (OnFile F.is_file F.File.remaining) (OnPort M.is_bound M.Link.failures M.Link.calls) (OnClock M.is_made M.Timer.told) result
-        asking.now path.now (O.contents out.old) (O.contents out.new) }
+        asking.now (option_map peer_view default) path.now (O.contents out.old) (O.contents out.new) }
 {
     let alloc = environment.alloc;
-    match questions_at(alloc, environment.files, asking, path, err) {
+    match questions_at(alloc, environment.files, default, path, err) {
         Ok(lines) => {
+            let asking = asking.towards_all(environment.machine, &lines);
             let asked = Asked::Lines(lines);
-            ask_by_client(alloc, environment.machine, asking, &asked, out, err)
+            ask_by_client(alloc, environment.machine, &asking, &asked, out, err)
         }
         Err(why) => why.status(),
     }

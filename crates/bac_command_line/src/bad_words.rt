@@ -5,6 +5,7 @@ use bac_commands::Style;
 use bac_service_text::bad_word;
 use bac_text::{Status, no_memory};
 use std::alloc::{AllocError, Global};
+use std::io;
 use std::io::Write;
 
 /// Why words are refused of which each alone is good, where the answer is to be printed so.
@@ -75,4 +76,25 @@ pub(crate) fn print_bad_line<E: Write>(
     let _ = write!(err, "line {number}: ");
     let _ = err.write_all(&text);
     Status::CommandLine
+}
+
+/// Complains of the line with that number, which is asked of no peer: its first word is none, or it names none.
+pub(crate) fn print_no_peer<E: Write>(number: u64, words: &[&[u8]], err: &mut E) -> Status
+    ensures { IsStop result }
+{
+    // if that fails too, only the status is left
+    let _ = match words.first() {
+        Some(word) if word.first() == Some(&b'@') => print_bad_address(number, *word, err),
+        _ => writeln!(
+            err,
+            "line {number}: no address: @A.B.C.D[:P][/NET:MAC] before the request wanted, or --to"
+        ),
+    };
+    Status::CommandLine
+}
+
+fn print_bad_address<E: Write>(number: u64, word: &[u8], err: &mut E) -> io::Result<()> {
+    write!(err, "line {number}: bad address: \"")?;
+    err.write_all(word)?;
+    writeln!(err, "\" is no @A.B.C.D[:P][/NET:MAC]")
 }

@@ -11,6 +11,7 @@ use crate::files::{OpenFiles, chart, check, explain, show, simulate};
 use crate::forgetting::forget_kept;
 use crate::grammar::matches;
 use crate::help::tell;
+use crate::json::{check_json, check_json_lines, decode_json};
 use crate::keeping::serve_kept;
 use crate::lines::{check_lines, decode};
 use crate::listing::list_kept;
@@ -42,6 +43,9 @@ fn perform<F: OpenFiles, M: Machine, O: Write, E: Write>(
         Task::Decode { in_words, datagram } => {
             decode(alloc, files, in_words, datagram, out, err)
         }
+        Task::DecodeJson(datagram) => decode_json(alloc, files, datagram, out, err),
+        Task::CheckJson(capture) => check_json(alloc, files, &capture, out, err),
+        Task::CheckJsonLines(path) => check_json_lines(alloc, files, path, out, err),
         Task::Check { named, capture } => check(alloc, files, named, &capture, out, err),
         Task::CheckLines(path) => check_lines(alloc, files, path, out, err),
         Task::Explain(capture) => explain(alloc, files, &capture, out, err),
@@ -56,8 +60,16 @@ fn perform<F: OpenFiles, M: Machine, O: Write, E: Write>(
         } => serve_kept(environment, &serving, objects, path, out, err),
         Task::Keep(path) => list_kept(environment, path, out, err),
         Task::Forget(forgetting) => forget_kept(environment, forgetting, out, err),
-        Task::Ask { asking, words } => { file_words::ask(environment, &asking, words, out, err) }
-        Task::AskLines { asking, path } => { ask_lines(environment, &asking, path, out, err) }
+        Task::Ask {
+            asking,
+            peer,
+            words,
+        } => file_words::ask(environment, &asking, peer, words, out, err),
+        Task::AskLines {
+            asking,
+            default,
+            path,
+        } => ask_lines(environment, &asking, default, path, out, err),
         Task::Pair => online::pair(alloc, environment.machine, out, err),
         Task::Tell(telling) => tell(telling, out, err),
     }

@@ -1,7 +1,10 @@
 //! How the end of the ask of a line is printed.
 ghost use Rattle.std.specs.Prelude.{IfErr, IfOk};
+ghost use Rattle.std.specs.Io.KnownBytes.{Appends};
+ghost use Rattle.bac_driver.specs.Views.{question_view};
 ghost use Rattle.bac_text.specs.Statuses.{IsFailure};
-ghost use Rattle.bac_command_line.specs.AskedLines.{line_view};
+ghost use Rattle.bac_commands.specs.AskEnds.{PrintsEnd};
+ghost use Rattle.bac_command_line.specs.AskedLines.{number_text};
 ghost use Rattle.bac_command_line.specs.InFlight.{PrintsLine};
 
 use crate::question_lines::LineQuestion;
@@ -9,23 +12,42 @@ use bac_commands::OutputFormat;
 use bac_driver::AskEnd;
 use bac_text::{Status, output_failed};
 use std::alloc::Global;
-use std::io;
 use std::io::Write;
 
-/// The line's number, and behind it how the ask ended.
-fn print_numbered<O: Write, E: Write>(
+/// Prints the number of a line.
+pub(crate) fn print_number<O: Write, E: Write>(
+    line: &LineQuestion,
+    out: &mut O,
+    err: &mut E,
+) -> Result<(), Status>
+    ensures numbered { IfOk result (λ _. Appends (O.contents out.old) (O.contents out.new) (number_text line.now.number)) }
+    ensures failed { IfErr result IsFailure }
+{
+    let number = line.number;
+    match write!(out, "{number}: ") {
+        Ok(()) => Ok(()),
+        Err(error) => Err(output_failed(err, &error)),
+    }
+}
+
+/// Prints how the ask of a line ended, without the line's number. Answers whether it succeeded.
+pub(crate) fn print_end<O: Write, E: Write>(
     alloc: Global,
     output_format: OutputFormat,
     line: &LineQuestion,
     end: &AskEnd,
     out: &mut O,
     err: &mut E,
-) -> io::Result<bool>
-    ensures { IfOk result (λ succeeded. PrintsLine output_format (line_view line.now) end.now succeeded (O.contents out.old) (O.contents out.new)) }
+) -> Result<bool, Status>
+    ensures told { IfOk result (λ succeeded. PrintsEnd output_format (question_view line.now.question).request end.now succeeded
+        (O.contents out.old) (O.contents out.new)) }
+    ensures failed { IfErr result IsFailure }
 {
-    let number = line.number;
-    write!(out, "{number}: ")?;
-    bac_commands::print_ask_end(alloc, output_format, &line.question.request, end, out, err)
+    let request = &line.question.request;
+    match bac_commands::print_ask_end(alloc, output_format, request, end, out, err) {
+        Ok(succeeded) => Ok(succeeded),
+        Err(error) => Err(output_failed(err, &error)),
+    }
 }
 
 /// Prints how the ask of a line ended, behind the line's number. Answers whether it succeeded.
@@ -37,11 +59,9 @@ pub(crate) fn print_line<O: Write, E: Write>(
     out: &mut O,
     err: &mut E,
 ) -> Result<bool, Status>
-    ensures told { IfOk result (λ succeeded. PrintsLine output_format (line_view line.now) end.now succeeded (O.contents out.old) (O.contents out.new)) }
+    ensures told { IfOk result (λ succeeded. PrintsLine output_format line.now end.now succeeded (O.contents out.old) (O.contents out.new)) }
     ensures failed { IfErr result IsFailure }
 {
-    match print_numbered(alloc, output_format, line, end, out, err) {
-        Ok(succeeded) => Ok(succeeded),
-        Err(error) => Err(output_failed(err, &error)),
-    }
+    print_number(line, out, err)?;
+    print_end(alloc, output_format, line, end, out, err)
 }

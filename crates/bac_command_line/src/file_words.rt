@@ -1,6 +1,7 @@
 //! Words of a request, of which the last may name a file: `put file:1 0 @FILE`.
 ghost use Rattle.std.specs.Prelude.{◌≡◌, ◌++◌, ◌∷◌, [], map, string_bytes, IfErr, IfOk, MatchOption};
 ghost use Rattle.std.specs.Option.{option_map};
+ghost use Rattle.bac_npdu.specs.Views.{peer_view};
 ghost use Rattle.bac_text.specs.Statuses.{IsStop};
 ghost use Rattle.bac_command_line.specs.Files.{OfFile, OnFile};
 ghost use Rattle.bac_command_line.specs.FileWords.{AreDigitsOf, IsBefore, file_of, path_of};
@@ -12,6 +13,7 @@ use crate::files::{OpenFiles, opened};
 use crate::objects::octets_of;
 use crate::online;
 use crate::online::Machine;
+use bac_npdu::Peer;
 use bac_text::{Status, no_memory};
 use std::alloc::{AllocError, Global};
 use std::io::Write;
@@ -69,16 +71,17 @@ fn with_last<'a>(
 pub(crate) fn ask<F: OpenFiles, M: Machine, O: Write, E: Write>(
     environment: &Environment<'_, F, M>,
     asking: &Asking,
+    peer: Peer,
     words: &[&str],
     out: &mut O,
     err: &mut E,
 ) -> Status
     ensures { IsAskedFrom (OnFile F.is_file F.File.remaining) (OnPort M.is_bound M.Link.failures M.Link.calls) (OnClock M.is_made M.Timer.told) result
-        asking.now (map (λ w. w.now) words.now) (O.contents out.old) (O.contents out.new) }
+        asking.now (peer_view peer) (map (λ w. w.now) words.now) (O.contents out.old) (O.contents out.new) }
 {
     let alloc = environment.alloc;
     let Some((front, path)) = file_in(words) else {
-        return online::ask(alloc, environment.machine, asking, words, out, err);
+        return online::ask(environment, asking, peer, words, out, err);
     };
     let digits = match digits_of(alloc, environment.files, path, err) {
         Ok(digits) => digits,
@@ -87,5 +90,5 @@ pub(crate) fn ask<F: OpenFiles, M: Machine, O: Write, E: Write>(
     let Ok(meant) = with_last(alloc, front, digits.as_str()) else {
         return no_memory(err);
     };
-    online::ask(alloc, environment.machine, asking, &meant, out, err)
+    online::ask(environment, asking, peer, &meant, out, err)
 }

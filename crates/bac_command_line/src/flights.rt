@@ -1,124 +1,256 @@
-//! The asks of a node that have begun and are not yet printed.
-ghost use Rattle.std.specs.Prelude.{◌≡◌, ◌<◌, ◌+◌, ◌↔◌, ◌++◌, ◌∷◌, [], length, max, IfErr, IfOk, IsTrue};
+//! The asks of the lines of a list: those that wait, those that are under way, and how the others ended.
+ghost use Rattle.std.specs.Prelude.{◌≡◌, ◌<◌, ◌↔◌, Some, count_by, length, max, slice_get, IfErr, IfOk, IsTrue};
 ghost use Rattle.std.specs.List.{position};
 ghost use Rattle.bac_text.specs.Statuses.{IsFailure};
-ghost use Rattle.bac_command_line.specs.InFlight.{TakesFirst, all_noted, end_of, ended_in, first_patience, has_ticket, noted, patience_of};
+ghost use Rattle.bac_command_line.specs.InFlight.{AddsFlight, EndsWaiting, IsNewSky, IsTakenUp, TakesEnd, all_noted, begins_spent, closed, ended_in, first_patience, has_ticket, is_idle, is_of, may_begin, noted, sky, with_end};
 
+use crate::question_lines::LineQuestion;
+use bac_commands::is_spent;
 use bac_driver::{AskEnd, Turn, WaitLimit};
 use bac_node::Outcome;
-use bac_requester::Ended;
+use bac_npdu::Peer;
+use bac_requester::{AskFault, Ended};
 use bac_text::{Status, no_memory};
-use std::alloc::Global;
+use std::alloc::{AllocError, Global};
+use std::collections::VecDeque;
 use std::io::Write;
+use std::mem;
 
-/// What has become of an ask.
-#[derive(Drop)]
-pub(crate) enum Flight {
-    /// It has begun: its ticket, and how long it is waited for.
-    Open { ticket: u64, wait_limit: WaitLimit },
-    /// It is over.
-    Over(AskEnd),
+/// What a node says to an ask.
+#[derive(Clone, Copy, Debug)]
+pub(crate) enum Begun {
+    /// It is under way: its ticket, and how long it is waited for.
+    Accepted { ticket: u64, wait_limit: WaitLimit },
+    /// It is refused.
+    Refused(AskFault),
+}
+
+impl Begun {
+    /// Whether the node has no invoke ID or no slot left for it.
+    pub(crate) fn is_spent(&self) -> bool
+        ensures { result ≡ begins_spent self.now }
+    {
+        match self {
+            Begun::Accepted { .. } => false,
+            Begun::Refused(fault) => is_spent(*fault),
+        }
+    }
+}
+
+/// A line of a list whose ask has not begun.
+#[derive(Clone, Copy, Debug)]
+pub(crate) struct Waiting {
+    /// Its place among the lines, counted from 0.
+    pub place: usize,
+    /// Whom it is asked of.
+    pub peer: Peer,
+}
+
+/// The ask of a line, which is under way.
+#[derive(Clone, Copy, Debug)]
+pub(crate) struct Flight {
+    pub line: Waiting,
+    pub ticket: u64,
+    /// How long it is waited for.
+    pub wait_limit: WaitLimit,
 }
 
 impl Flight {
     fn has_ticket(&self, wanted: u64) -> bool
         ensures { result ≡ has_ticket wanted self.now }
     {
-        match self {
-            Flight::Open { ticket, .. } => *ticket == wanted,
-            Flight::Over(_) => false,
-        }
+        self.ticket == wanted
     }
 
-    /// None where it is over.
-    fn wait_limit(&self) -> Option<WaitLimit>
-        ensures { result ≡ patience_of self.now }
+    fn is_of(&self, peer: &Peer) -> bool
+        ensures { result ≡ is_of peer.now self.now }
     {
-        match self {
-            Flight::Open { wait_limit, .. } => Some(*wait_limit),
-            Flight::Over(_) => None,
-        }
-    }
-
-    /// How it ended; one that is open is waited for no longer.
-    fn end(self) -> AskEnd
-        ensures { result ≡ end_of self }
-    {
-        match self {
-            Flight::Open { .. } => AskEnd::NoEnding,
-            Flight::Over(end) => end,
-        }
+        self.line.peer == *peer
     }
 }
 
-/// Asks in the order in which they began.
+/// The asks of the lines of a list.
 #[derive(Drop)]
 pub(crate) struct Flights {
-    asks: Vec<Flight>,
+    /// The lines whose asks have not begun, in order.
+    waiting: VecDeque<Waiting>,
+    /// In the order in which they began.
+    under_way: Vec<Flight>,
+    /// How the ask of each line has ended, by its place; None where it has not, or that is printed.
+    ends: Vec<Option<AskEnd>>,
 }
 
 impl Flights {
-    /// None.
-    pub(crate) fn new(alloc: Global) -> Flights
-        ensures { result.asks.items ≡ [] }
+    /// Those of these lines: all wait.
+    pub(crate) fn new(alloc: Global, lines: &[LineQuestion]) -> Result<Flights, AllocError>
+        ensures { IfOk result (λ f. IsNewSky lines.now (sky f)) }
     {
-        Flights {
-            asks: Vec::new(alloc),
+        let mut waiting = VecDeque::new(alloc);
+        let mut ends = Vec::new(alloc);
+        for (place, line) in lines.iter().enumerate() {
+            let peer = line.question.peer;
+            waiting.push_back(Waiting { place, peer })?;
+            ends.push(None)?;
         }
+        Ok(Flights {
+            waiting,
+            under_way: Vec::new(alloc),
+            ends,
+        })
     }
 
-    /// Whether there are fewer than so many, or none.
-    pub(crate) fn has_room(&self, window: u64) -> bool
-        ensures { IsTrue result ↔ (length self.now.asks.items < max window 1) }
+    /// Whether none is under way.
+    pub(crate) fn is_idle(&self) -> bool
+        ensures { result ≡ is_idle self.now.under_way.items }
     {
-        (self.asks.len() as u64) < window.max(1)
+        self.under_way.is_empty()
     }
 
-    /// One more. Where memory is refused, `err` and the status say so.
-    pub(crate) fn add<E: Write>(&mut self, flight: Flight, err: &mut E) -> Result<(), Status>
-        ensures added { IfOk result (λ _. self.new.asks.items ≡ self.old.asks.items ++ flight ∷ []) }
+    /// Whether there are fewer than so many under way, or none.
+    pub(crate) fn has_room(&self, window: u64) -> bool
+        ensures { IsTrue result ↔ (length self.now.under_way.items < max window 1) }
+    {
+        (self.under_way.len() as u64) < window.max(1)
+    }
+
+    /// How many are under way of which that peer is asked.
+    fn count_of(&self, peer: &Peer) -> usize
+        ensures { result ≡ count_by (is_of peer.now) self.now.under_way.items }
+    {
+        self.under_way.iter().filter(|ask| ask.is_of(peer)).count()
+    }
+
+    /// Whether fewer than so many asks of its peer are under way, or none.
+    fn may_begin(&self, line: &Waiting, share: u64) -> bool
+        ensures { result ≡ may_begin share self.now.under_way.items line.now }
+    {
+        (self.count_of(&line.peer) as u64) < share.max(1)
+    }
+
+    /// The place among those that wait of the first whose ask may begin, where so many asks of a peer may be under way.
+    pub(crate) fn next_to_begin(&self, share: u64) -> Option<usize>
+        ensures { result ≡ position (may_begin share self.now.under_way.items) self.now.waiting.items }
+    {
+        self.waiting
+            .iter()
+            .position(|line| self.may_begin(line, share))
+    }
+
+    /// The line at that place among those that wait.
+    pub(crate) fn waiting_at(&self, at: usize) -> Waiting
+        requires { at < length self.now.waiting.items }
+        ensures { slice_get self.now.waiting.items at ≡ Some result }
+    {
+        self.waiting[at]
+    }
+
+    /// The ask of that line is under way. Where memory is refused, `err` and the status say so.
+    fn add<E: Write>(
+        &mut self,
+        at: usize,
+        ticket: u64,
+        wait_limit: WaitLimit,
+        err: &mut E,
+    ) -> Result<(), Status>
+        requires { at < length self.old.waiting.items }
+        ensures added { IfOk result (λ _. AddsFlight at ticket wait_limit (sky self.old) (sky self.new)) }
         ensures failed { IfErr result IsFailure }
     {
-        match self.asks.push(flight) {
-            Ok(()) => Ok(()),
-            Err(_) => Err(no_memory(err)),
+        let flight = Flight {
+            line: self.waiting[at],
+            ticket,
+            wait_limit,
+        };
+        if self.under_way.push(flight).is_err() {
+            return Err(no_memory(err));
+        }
+        self.waiting.remove(at);
+        Ok(())
+    }
+
+    /// Notes how the ask of the line at that place among all has ended.
+    fn set_end(&mut self, place: usize, end: AskEnd)
+        ensures { sky self.new ≡ with_end place end (sky self.old) }
+    {
+        if place < self.ends.len() {
+            self.ends[place] = Some(end);
         }
     }
 
-    /// How long the first is waited for; None where it is over, or there is none.
-    pub(crate) fn first_patience(&self) -> Option<WaitLimit>
-        ensures { result ≡ first_patience self.now.asks.items }
+    /// The ask of that line among those that wait has ended before it began.
+    fn end_waiting(&mut self, at: usize, end: AskEnd)
+        requires { at < length self.old.waiting.items }
+        ensures { EndsWaiting at end (sky self.old) (sky self.new) }
     {
-        self.asks.first()?.wait_limit()
+        let place = self.waiting[at].place;
+        self.waiting.remove(at);
+        self.set_end(place, end);
     }
 
-    /// Takes off the first, and answers how it ended.
-    pub(crate) fn take_first(&mut self) -> AskEnd
-        requires { 0 < length self.old.asks.items }
-        ensures { TakesFirst result self.old.asks.items self.new.asks.items }
+    /// A node was asked to begin the ask of that line among those that wait. Where memory is refused, `err` and the status say so.
+    pub(crate) fn take_up<E: Write>(
+        &mut self,
+        at: usize,
+        begun: Begun,
+        err: &mut E,
+    ) -> Result<(), Status>
+        requires { at < length self.old.waiting.items }
+        ensures taken { IfOk result (λ _. IsTakenUp at begun (sky self.old) (sky self.new)) }
+        ensures failed { IfErr result IsFailure }
     {
-        self.asks.remove(0).end()
+        match begun {
+            Begun::Accepted { ticket, wait_limit } => self.add(at, ticket, wait_limit, err),
+            Begun::Refused(fault) => {
+                self.end_waiting(at, AskEnd::Refused(fault));
+                Ok(())
+            }
+        }
+    }
+
+    /// How long the first that is under way is waited for.
+    pub(crate) fn first_patience(&self) -> Option<WaitLimit>
+        ensures { result ≡ first_patience self.now.under_way.items }
+    {
+        let first = self.under_way.first()?;
+        Some(first.wait_limit)
+    }
+
+    /// The ask at that place among those that are under way is over.
+    fn close(&mut self, at: usize, end: AskEnd)
+        requires { at < length self.old.under_way.items }
+        ensures { sky self.new ≡ closed at end (sky self.old) }
+    {
+        let flight = self.under_way.remove(at);
+        self.set_end(flight.line.place, end);
+    }
+
+    /// The first that is under way is waited for no longer.
+    pub(crate) fn give_up_first(&mut self)
+        requires { 0 < length self.old.under_way.items }
+        ensures { sky self.new ≡ closed 0 AskEnd.NoEnding (sky self.old) }
+    {
+        self.close(0, AskEnd::NoEnding);
     }
 
     /// The place of the first that has that ticket.
     fn place_of(&self, ticket: u64) -> Option<usize>
-        ensures { result ≡ position (has_ticket ticket) self.now.asks.items }
+        ensures { result ≡ position (has_ticket ticket) self.now.under_way.items }
     {
-        self.asks.iter().position(|ask| ask.has_ticket(ticket))
+        self.under_way.iter().position(|ask| ask.has_ticket(ticket))
     }
 
     /// Notes how a ticket ended.
     fn note(&mut self, finish: Ended)
-        ensures { self.new.asks.items ≡ noted finish self.old.asks.items }
+        ensures { sky self.new ≡ noted finish (sky self.old) }
     {
-        let Some(place) = self.place_of(finish.ticket) else {
+        let Some(at) = self.place_of(finish.ticket) else {
             return;
         };
-        self.asks[place] = Flight::Over(AskEnd::Ended(finish.ending));
+        self.close(at, AskEnd::Ended(finish.ending));
     }
 
     fn note_each(&mut self, finishes: Vec<Ended>)
-        ensures { self.new.asks.items ≡ all_noted finishes.items self.old.asks.items }
+        ensures { sky self.new ≡ all_noted finishes.items (sky self.old) }
     {
         for finish in finishes {
             self.note(finish);
@@ -127,7 +259,7 @@ impl Flights {
 
     /// Notes how tickets ended in a step of a turn.
     fn note_step(&mut self, step: Option<Outcome>)
-        ensures { self.new.asks.items ≡ all_noted (ended_in step) self.old.asks.items }
+        ensures { sky self.new ≡ all_noted (ended_in step) (sky self.old) }
     {
         if let Some(outcome) = step {
             self.note_each(outcome.ended);
@@ -136,9 +268,19 @@ impl Flights {
 
     /// Notes how tickets ended in a turn.
     pub(crate) fn note_turn(&mut self, turn: Turn)
-        ensures { self.new.asks.items ≡ all_noted (ended_in turn.ticked) (all_noted (ended_in turn.heard) self.old.asks.items) }
+        ensures { sky self.new ≡ all_noted (ended_in turn.ticked) (all_noted (ended_in turn.heard) (sky self.old)) }
     {
         self.note_step(turn.heard);
         self.note_step(turn.ticked);
+    }
+
+    /// How the ask of the line at that place among all has ended, where it has; it is kept no longer.
+    pub(crate) fn take_end(&mut self, place: usize) -> Option<AskEnd>
+        ensures { TakesEnd place result (sky self.old) (sky self.new) }
+    {
+        if place >= self.ends.len() {
+            return None;
+        }
+        mem::replace(&mut self.ends[place], None)
     }
 }

@@ -32,6 +32,7 @@ fn needed<'a>(arg: Arg<'a>, need: Need) -> Result<Arg<'a>, clap::Error> {
     match need {
         Need::Always => Ok(arg.required(true)),
         Need::Unless(other) => Ok(arg.required_unless_present(other)?),
+        Need::UnlessAny(others) => Ok(arg.required_unless_present_any(others)?),
         Need::Never => Ok(arg),
         Need::Beside(other) => Ok(arg.requires_arg(other)?),
     }

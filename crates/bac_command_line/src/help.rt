@@ -43,7 +43,7 @@ pub(crate) fn write_form<O: Write>(out: &mut O, hyphens: &str, word: &Word) -> i
 fn need_words(need: Need) -> &'static str {
     match need {
         Need::Always => " (required)",
-        Need::Unless(_) | Need::Never | Need::Beside(_) => "",
+        Need::Unless(_) | Need::UnlessAny(_) | Need::Never | Need::Beside(_) => "",
     }
 }
 

@@ -136,7 +136,7 @@ fn keeper_over<S: Store + Drop, E: Write>(
 {
     let (mut keeper, store) = match CellKeeper::open(alloc, document, database) {
         Ok(opened) => opened,
-        Err(fault) => return Err(print_not_kept(alloc, path, fault, err)),
+        Err((fault, _)) => return Err(print_not_kept(alloc, path, fault, err)),
     };
     match tell_idle(alloc, path, &mut keeper, err) {
         Ok(()) => Ok((keeper, store)),
@@ -155,7 +155,7 @@ fn serve_round<M: Machine, K: Keeper, O: Write, E: Write>(
 ) -> Status
     requires { K.IsHonest (keeper_in round) → IsKept K.IsOpen K.kept K.noted (keeper_in round) store }
     ensures { IsServedInRounds store (OnPort M.is_bound M.Link.failures M.Link.calls) (OnClock M.is_made M.Timer.told) result serving.now
-        (EndsWith K.IsHonest K.IsOpen K.kept K.noted (keeper_in round)) (O.contents out.old) (O.contents out.new) }
+        (EndsWith K.IsHonest K.IsOpen K.kept K.noted K.base (keeper_in round)) (O.contents out.old) (O.contents out.new) }
 {
     let (alloc, machine) = environment;
     let bound = match machine.bind(serving.host, serving.port) {

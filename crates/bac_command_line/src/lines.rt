@@ -10,7 +10,7 @@ use std::alloc::Global;
 use std::io::Write;
 
 /// What stands for standard input in the place of a datagram.
-const STANDARD_INPUT: &str = "-";
+pub(crate) const STANDARD_INPUT: &str = "-";
 
 /// The layers of the datagrams in a file, one on each line, in words or not. A file that cannot be opened: `cannot read` on `err`.
 fn decode_lines<F: OpenFiles, O: Write, E: Write>(

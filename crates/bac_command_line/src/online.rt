@@ -12,6 +12,8 @@ use crate::address::LOCAL_HOST;
 use crate::asking::Asking;
 use crate::bad_words::print_bad_words;
 use crate::client_pair::ClientPair;
+use crate::environment::Environment;
+use crate::files::OpenFiles;
 use crate::rounds::{Asked, ask_by_client};
 use crate::serving::{Serving, print_listening, print_not_bound, serve_from};
 use crate::station::Station;
@@ -131,11 +133,11 @@ fn is_printed_by(style: Style, question: &Question) -> bool
 }
 
 /// The same where it can be printed so; `NoForm` also where it can't.
-fn asked_in(alloc: Global, asking: &Asking, words: &[&str]) -> Result<Question, FormFault>
-    ensures { ReadsAsked asking.now.output_format.style (peer_view asking.now.peer) (map (λ w. w.now) words.now) result }
+fn asked_in(alloc: Global, style: Style, peer: Peer, words: &[&str]) -> Result<Question, FormFault>
+    ensures { ReadsAsked style (peer_view peer) (map (λ w. w.now) words.now) result }
 {
-    let question = question_in(alloc, asking.peer, words)?;
-    if is_printed_by(asking.output_format.style, &question) {
+    let question = question_in(alloc, peer, words)?;
+    if is_printed_by(style, &question) {
         Ok(question)
     } else {
         Err(FormFault::NoForm)
@@ -180,19 +182,20 @@ pub(crate) fn ask_once<L: Link, C: Clock, O: Write, E: Write>(
 
 /// A client asks a node, in rounds where they are wanted; how each ask ended is printed as is wanted. Words that are no request: `bad words` on `err`, and in
 /// words which is bad.
-pub(crate) fn ask<M: Machine, O: Write, E: Write>(
-    alloc: Global,
-    machine: &M,
+pub(crate) fn ask<F: OpenFiles, M: Machine, O: Write, E: Write>(
+    environment: &Environment<'_, F, M>,
     asking: &Asking,
+    peer: Peer,
     words: &[&str],
     out: &mut O,
     err: &mut E,
 ) -> Status
-    ensures { IsAsked (OnPort M.is_bound M.Link.failures M.Link.calls) (OnClock M.is_made M.Timer.told) result asking.now (map (λ w. w.now) words.now)
+    ensures { IsAsked (OnPort M.is_bound M.Link.failures M.Link.calls) (OnClock M.is_made M.Timer.told) result asking.now (peer_view peer) (map (λ w. w.now) words.now)
         (O.contents out.old) (O.contents out.new) }
 {
+    let alloc = environment.alloc;
     let style = asking.output_format.style;
-    let question = match asked_in(alloc, asking, words) {
+    let question = match asked_in(alloc, style, peer, words) {
         Ok(question) => question,
         Err(FormFault::NoForm) => {
             return match print_bad_words(alloc, style, words, err) {
@@ -203,7 +206,7 @@ pub(crate) fn ask<M: Machine, O: Write, E: Write>(
         Err(FormFault::NoMemory) => return no_memory(err),
     };
     let asked = Asked::One(question);
-    ask_by_client(alloc, machine, asking, &asked, out, err)
+    ask_by_client(alloc, environment.machine, asking, &asked, out, err)
 }
 
 /// Two nodes at free ports, both new: one asks the other.

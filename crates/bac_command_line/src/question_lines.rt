@@ -1,14 +1,14 @@
 //! Requests of lines: those of a text, each by its number.
-ghost use Rattle.std.specs.Prelude.{◌≡◌, map, true, IfErr, IfOk, IsErrOf, None, Some};
+ghost use Rattle.std.specs.Prelude.{◌≡◌, ◌<◌, length, map, true, IfErr, IfOk, IfSome, IsErrOf, IsTrue, None};
+ghost use Rattle.std.specs.Option.{option_map};
 ghost use Rattle.bac_npdu.specs.Views.{peer_view};
 ghost use Rattle.bac_driver.specs.Views.{question_view};
-ghost use Rattle.bac_commands.specs.Questions.{IsQuestion, question_of};
-ghost use Rattle.bac_service_text.specs.Dispatch.{request_of};
 ghost use Rattle.bac_text.specs.Statuses.{IsStop};
 ghost use Rattle.bac_text.specs.Notes.{read_of as read_in};
-ghost use Rattle.bac_command_line.specs.AskedLines.{AddsLine, asked_by, line_view, questions_from, questions_of, words_of};
+ghost use Rattle.bac_command_line.specs.AskedLines.{AddsLine, AreQuestions, AsksWords, HasNoPeer, HaveBadLine, IsAskedOf, IsBadLine, IsBadRead, is_address, line_view, lines_in, names_peer, request_words, words_of};
 
-use crate::bad_words::print_bad_line;
+use crate::address::read_peer;
+use crate::bad_words::{print_bad_line, print_no_peer};
 use crate::parts::parts_of;
 use bac_commands::read_question;
 use bac_driver::Question;
@@ -17,6 +17,7 @@ use bac_service_text::FormFault;
 use bac_text::{Status, no_memory, read_of};
 use std::alloc::Global;
 use std::io::Write;
+use std::str;
 
 /// What a line asks.
 #[derive(Drop)]
@@ -26,24 +27,78 @@ pub(crate) struct LineQuestion {
     pub question: Question,
 }
 
-/// What the words of a line ask of a peer. Where they are no request, `err` and the status say so.
+/// Whether a word names whom a line is asked of.
+fn is_address(word: &[u8]) -> bool
+    ensures { result ≡ is_address word.now }
+{
+    match word.split_first() {
+        Some((octet, _)) => *octet == b'@',
+        None => false,
+    }
+}
+
+/// Whether the first word names whom a line is asked of.
+fn names_peer(words: &[&[u8]]) -> bool
+    ensures is { result ≡ names_peer (map (λ w. w.now) words.now) }
+    ensures some { IsTrue result → 0 < length words.now }
+{
+    match words.first() {
+        Some(first) => is_address(*first),
+        None => false,
+    }
+}
+
+/// The words of a line's request: those behind the one that names a peer, if the first does.
+fn request_words<'w, 'a>(words: &'w [&'a [u8]]) -> &'w [&'a [u8]]
+    ensures { map (λ w. w.now) result.now ≡ request_words (map (λ w. w.now) words.now) }
+{
+    if names_peer(words) {
+        &words[1..]
+    } else {
+        words
+    }
+}
+
+/// The peer that a word as `@192.168.1.20:47809` or `@192.168.1.20/5:2A` names. None where it names none.
+fn peer_named(word: &[u8]) -> Option<Peer> {
+    let (_, text) = word.split_first()?;
+    read_peer(str::from_utf8(text).ok()?)
+}
+
+/// Whom a line with these words is asked of: the peer that the first names, otherwise that one. None where there is none.
+fn peer_of(default: Option<Peer>, words: &[&[u8]]) -> Option<Peer>
+    ensures some { IfSome result (λ p. IsAskedOf (option_map peer_view default) (map (λ w. w.now) words.now) (peer_view p)) }
+    ensures none { result ≡ None → HasNoPeer (option_map peer_view default) (map (λ w. w.now) words.now) }
+{
+    if names_peer(words) {
+        peer_named(words[0])
+    } else {
+        default
+    }
+}
+
+/// What a line asks, where lines that name no peer are asked of that one. Where it asks nothing of anyone, `err` and the status say so.
 fn question_in<E: Write>(
     alloc: Global,
-    peer: Peer,
+    default: Option<Peer>,
     number: u64,
     line: &[u8],
     err: &mut E,
 ) -> Result<Question, Status>
-    ensures question { IfOk result (λ q. IsQuestion (peer_view peer) (words_of line.now) (question_view q)) }
-    ensures refused { IsErrOf result Status.CommandLine → question_of (peer_view peer) (request_of (words_of line.now)) ≡ None }
+    ensures question { IfOk result (λ q. AsksWords (option_map peer_view default) (words_of line.now) (question_view q)) }
+    ensures refused { IsErrOf result Status.CommandLine → IsBadLine (option_map peer_view default) line.now }
     ensures told { IfErr result IsStop }
 {
     let Ok(words) = parts_of(alloc, b' ', line) else {
         return Err(no_memory(err));
     };
-    match read_question(alloc, peer, &words) {
+    let Some(peer) = peer_of(default, &words) else {
+        return Err(print_no_peer(number, &words, err));
+    };
+    let request = request_words(&words);
+    match read_question(alloc, peer, request) {
         Ok(question) => Ok(question),
-        Err(FormFault::NoForm) => Err(print_bad_line(alloc, number, &words, err)),
+        Err(FormFault::NoForm) => Err(print_bad_line(alloc, number, request, err)),
         Err(FormFault::NoMemory) => Err(no_memory(err)),
     }
 }
@@ -51,58 +106,59 @@ fn question_in<E: Write>(
 /// Adds what a line asks; nothing where it is a note.
 fn add_line<E: Write>(
     alloc: Global,
-    peer: Peer,
+    default: Option<Peer>,
     number: u64,
     line: &[u8],
     questions: &mut Vec<LineQuestion>,
     err: &mut E,
 ) -> Result<(), Status>
-    ensures added { IfOk result (λ _. AddsLine (peer_view peer) number line.now (map line_view questions.old.items) (map line_view questions.new.items)) }
-    ensures refused { IsErrOf result Status.CommandLine → asked_by (peer_view peer) number (read_in true line.now) ≡ None }
+    ensures added { IfOk result (λ _. AddsLine (option_map peer_view default) number line.now (map line_view questions.old.items) (map line_view questions.new.items)) }
+    ensures refused { IsErrOf result Status.CommandLine → IsBadRead (option_map peer_view default) (read_in true line.now) }
     ensures told { IfErr result IsStop }
 {
     let Some(read) = read_of(true, line) else {
         return Ok(());
     };
-    let question = question_in(alloc, peer, number, read, err)?;
+    let question = question_in(alloc, default, number, read, err)?;
     match questions.push(LineQuestion { number, question }) {
         Ok(()) => Ok(()),
         Err(_) => Err(no_memory(err)),
     }
 }
 
-/// What these lines ask of a peer.
+/// What these lines ask.
 fn questions_among<E: Write>(
     alloc: Global,
-    peer: Peer,
+    default: Option<Peer>,
     lines: &[&[u8]],
     err: &mut E,
 ) -> Result<Vec<LineQuestion>, Status>
-    ensures read { IfOk result (λ v. questions_from (peer_view peer) 1 (map (λ l. l.now) lines.now) ≡ Some (map line_view v.items)) }
-    ensures refused { IsErrOf result Status.CommandLine → questions_from (peer_view peer) 1 (map (λ l. l.now) lines.now) ≡ None }
+    ensures read { IfOk result (λ v. AreQuestions (option_map peer_view default) 1 (map (λ l. l.now) lines.now) (map line_view v.items)) }
+    ensures refused { IsErrOf result Status.CommandLine → HaveBadLine (option_map peer_view default) (map (λ l. l.now) lines.now) }
     ensures told { IfErr result IsStop }
 {
     let mut questions = Vec::new(alloc);
     for (place, line) in lines.iter().enumerate() {
-        add_line(alloc, peer, place as u64 + 1, *line, &mut questions, err)?;
+        add_line(alloc, default, place as u64 + 1, *line, &mut questions, err)?;
     }
     Ok(questions)
 }
 
-/// What the lines of a text ask of a peer: a request a line, its words separated by single spaces. Lines may end in CRLF; blank ones and those that begin with
-/// `#` are passed over. Where the words of one are no request, `err` and the status say so.
+/// What the lines of a text ask: a request a line, its words separated by single spaces. The first may be `@` and the peer that is asked, as
+/// `@192.168.1.20:47809`, or `@192.168.1.20/5:2A` behind a router; the others are asked of that one, if there is one. Lines may end in CRLF; blank ones and those
+/// that begin with `#` are passed over. Where a line names no peer, or its words are no request, `err` and the status say so.
 pub(crate) fn questions_in<E: Write>(
     alloc: Global,
-    peer: Peer,
+    default: Option<Peer>,
     text: &[u8],
     err: &mut E,
 ) -> Result<Vec<LineQuestion>, Status>
-    ensures read { IfOk result (λ v. questions_of (peer_view peer) text.now ≡ Some (map line_view v.items)) }
-    ensures refused { IsErrOf result Status.CommandLine → questions_of (peer_view peer) text.now ≡ None }
+    ensures read { IfOk result (λ v. AreQuestions (option_map peer_view default) 1 (lines_in text.now) (map line_view v.items)) }
+    ensures refused { IsErrOf result Status.CommandLine → HaveBadLine (option_map peer_view default) (lines_in text.now) }
     ensures told { IfErr result IsStop }
 {
     let Ok(lines) = parts_of(alloc, b'\n', text) else {
         return Err(no_memory(err));
     };
-    questions_among(alloc, peer, &lines, err)
+    questions_among(alloc, default, &lines, err)
 }

@@ -193,6 +193,7 @@ pub(crate) fn serve_kept_from<L: Link, C: Clock, K: Keeper, O: Write, E: Write>(
         (timed server.new.bound_node (C.told server.new.clock)) (O.contents out.old) (O.contents out.new)) ⊥ ⊥ }
     ensures all { IsKeptByStatus result K.IsHonest K.IsOpen K.kept K.noted (keeper_of server.new.round) server.new.bound_node.node.store }
     ensures honest { K.IsHonest (keeper_of server.new.round) → K.IsHonest (keeper_of server.old.round) }
+    ensures base { K.base (keeper_of server.new.round) ≡ K.base (keeper_of server.old.round) }
     ensures kept { EndsKept Unseen (patience_of serving.now start) (turns_of serving.now.turns) K.IsHonest K.IsOpen K.kept K.noted K.may_find
         (keeper_of server.new.round) (unwatched (timed server.old.bound_node (C.told server.old.clock)))
         (unwatched (timed server.new.bound_node (C.told server.new.clock))) }

@@ -1,7 +1,10 @@
 //! The files, sockets and clock of a system.
-ghost use Rattle.std.specs.Prelude.{◌≡◌, ⊤};
+ghost use Rattle.std.specs.Prelude.{◌≡◌, ⊤, true};
 ghost use Rattle.bac_driver.specs.Clocks.{latest_told};
 ghost use Rattle.bac_driver.specs.Udp.{bound_host, bound_port, udp_address};
+ghost use Rattle.bac_keep_file.specs.Made.{HasEmptyTable};
+ghost use Rattle.sqlite_store.specs.FileStore.{view};
+ghost use Rattle.sqlite_trees.specs.View.{IsClean};
 
 use crate::client_pair::{ClientPair, pair_at};
 use crate::files::OpenFiles;
@@ -56,7 +59,7 @@ impl<'a> Machine for System<'a, HostRuntime> {
 
     ghost is_made = { λ c. latest_told c ≡ 0 };
 
-    ghost is_database = { λ _ _ _. ⊤ };
+    ghost is_database = { λ _ is_new d. is_new ≡ true → IsClean (view d) → HasEmptyTable (view d) };
 
     fn bind(&self, host: [u8; 4], port: u16) -> io::Result<(UdpLink, LinkAddress)> {
         let link = UdpLink::bind_at(self.runtime, host, port)?;

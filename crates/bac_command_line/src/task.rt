@@ -1,11 +1,12 @@
 //! What a command line asks for.
-use crate::asking::{Asking, asking_of};
+use crate::asking::{Asking, asking_of, default_of, peer_of};
 use crate::files::{CaptureFile, ScriptFile};
 use crate::forgetting::Forgetting;
 use crate::help::Telling;
 use crate::online::Machine;
 use crate::serving::{Serving, serving_of};
 use bac_explain_report::ChartFormat;
+use bac_npdu::Peer;
 use bac_simulate::View;
 use clap::ArgMatches;
 
@@ -21,6 +22,8 @@ pub(crate) enum Task<'m, 'a> {
         in_words: bool,
         datagram: &'a str,
     },
+    /// The same as objects of JSON.
+    DecodeJson(&'a str),
     /// What is bad of this capture; other functions are counted by name or not.
     Check {
         named: bool,
@@ -28,6 +31,10 @@ pub(crate) enum Task<'m, 'a> {
     },
     /// The bad lines of the capture in this file, which has notes.
     CheckLines(&'a str),
+    /// What is bad of this capture, as objects of JSON.
+    CheckJson(CaptureFile<'a>),
+    /// The bad lines of the capture in this file, which has notes, as objects of JSON.
+    CheckJsonLines(&'a str),
     /// The transactions of this capture.
     Explain(CaptureFile<'a>),
     /// The datagrams of this capture, drawn as that.
@@ -60,11 +67,13 @@ pub(crate) enum Task<'m, 'a> {
     /// The request that some words are.
     Ask {
         asking: Asking,
+        peer: Peer,
         words: &'m [&'a str],
     },
-    /// The requests of the lines of this file.
+    /// The requests of the lines of this file; those of lines that name no peer are asked of this one.
     AskLines {
         asking: Asking,
+        default: Option<Peer>,
         path: &'a str,
     },
     /// Two nodes.
@@ -110,13 +119,14 @@ impl<'m, 'a> Task<'m, 'a> {
     /// The same; a client asks from the address of this machine that the node sees, where the machine tells it.
     pub(crate) fn from_source<M: Machine>(self, machine: &M) -> Task<'m, 'a> {
         match self {
-            Task::Ask { asking, words } => Task::Ask {
-                asking: asking.from_source(machine),
+            Task::Ask {
+                asking,
+                peer,
                 words,
-            },
-            Task::AskLines { asking, path } => Task::AskLines {
-                asking: asking.from_source(machine),
-                path,
+            } => Task::Ask {
+                asking: asking.towards(machine, peer),
+                peer,
+                words,
             },
             task => task,
         }
@@ -135,14 +145,22 @@ pub(crate) fn task_of<'m, 'a>(
             let objects = given.get_str("objects");
             Some(Task::Answer { datagram, objects })
         }
+        ("decode", given) if given.get_flag("json") => {
+            Some(Task::DecodeJson(given.get_str("HEX")?))
+        }
         ("decode", given) => {
             let datagram = given.get_str("HEX")?;
             let in_words = given.get_flag("text");
             Some(Task::Decode { in_words, datagram })
         }
         ("check", given) if given.get_flag("notes") => {
-            Some(Task::CheckLines(given.get_str("FILE")?))
+            let path = given.get_str("FILE")?;
+            if given.get_flag("json") {
+                return Some(Task::CheckJsonLines(path));
+            }
+            Some(Task::CheckLines(path))
         }
+        ("check", given) if given.get_flag("json") => Some(Task::CheckJson(capture_of(given)?)),
         ("check", given) => {
             let capture = capture_of(given)?;
             let named = given.get_flag("text");
@@ -189,12 +207,22 @@ pub(crate) fn task_of<'m, 'a>(
             Some(Task::Keep(path))
         }
         ("ask", given) => {
-            let asking = asking_of(given, shows_progress)?;
+            let asking = asking_of(given, shows_progress);
             if let Some(path) = given.get_str("lines") {
-                return Some(Task::AskLines { asking, path });
+                let default = default_of(given)?;
+                return Some(Task::AskLines {
+                    asking,
+                    default,
+                    path,
+                });
             }
+            let peer = peer_of(given)?;
             let words = given.get_strs("WORDS")?;
-            Some(Task::Ask { asking, words })
+            Some(Task::Ask {
+                asking,
+                peer,
+                words,
+            })
         }
         ("pair", _) => Some(Task::Pair),
         ("help", given) if given.get_flag("man") => Some(Task::Tell(Telling::Manual)),

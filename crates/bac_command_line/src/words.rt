@@ -21,6 +21,8 @@ pub(crate) enum Need {
     Always,
     /// If that word is absent.
     Unless(&'static str),
+    /// Where none of these is given.
+    UnlessAny(&'static [&'static str]),
     Never,
     /// Never, and it is allowed only together with that word.
     Beside(&'static str),
@@ -85,6 +87,13 @@ const DECODE: &[Word] = &[
         against: &[],
         help: "Prints objects, properties, errors, reasons and faults by their names, and values by their kinds",
     },
+    Word {
+        name: "json",
+        form: WordForm::Flag,
+        need: Need::Never,
+        against: &["text"],
+        help: "Prints each datagram as an object of JSON, one a line",
+    },
 ];
 
 /// Examples for `check`.
@@ -121,6 +130,13 @@ const CHECK: &[Word] = &[
         need: Need::Never,
         against: &["notes"],
         help: "For pcap and pcapng: prints how many frames carry each other BVLC function, by name",
+    },
+    Word {
+        name: "json",
+        form: WordForm::Flag,
+        need: Need::Never,
+        against: &["text"],
+        help: "Prints each bad frame or line, and the counts, as an object of JSON, one a line",
     },
 ];
 
@@ -351,6 +367,7 @@ Example: bac ask --port 47808 --text read analog-input:5 present-value
 Example: bac ask --to 192.168.1.20 --route 5:2A --timeout 3 read device:7 object-name
 Example: bac ask --to 192.168.1.20 write analog-value:1 present-value real:72.5 priority 8
 Example: bac ask --to 192.168.1.20 --text --lines requests.txt --window 8
+Example: bac ask --text --lines points.txt --window 64 --every 10
 Example: bac ask --to 192.168.1.20 --text --every 60 read analog-input:5 present-value
 Example: bac ask --port 47808 put file:1 0 @log.bin
 Example: bac ask --port 47808 --raw get file:1 0 1000 > log.bin";
@@ -360,7 +377,7 @@ const ASK: &[Word] = &[
     Word {
         name: "port",
         form: WordForm::Number("P", 65_535),
-        need: Need::Unless("to"),
+        need: Need::UnlessAny(&["to", "lines"]),
         against: &[],
         help: "The UDP port of the node to ask, on 127.0.0.1; 1 to 65535",
     },
@@ -411,21 +428,21 @@ const ASK: &[Word] = &[
         form: WordForm::Text("FILE"),
         need: Need::Never,
         against: &["WORDS", "raw"],
-        help: "Asks the requests in FILE, one a line, in turn by one node, and prefixes each result with its line number; `-` reads standard input. Skips blank lines and lines that begin with `#`; words are separated by single spaces, and `@FILE` is not allowed. A bad line is reported before anything is asked",
+        help: "Asks the requests in FILE, one a line, in turn, and prefixes each result with its line number; `-` reads standard input. A line may begin with the address of its own node, `@A.B.C.D[:P]` or `@A.B.C.D[:P]/NET:MAC`; the others are asked of the node that --to or --port gives. Skips blank lines and lines that begin with `#`; words are separated by single spaces, and `@FILE` is not allowed. A bad line is reported before anything is asked",
     },
     Word {
         name: "window",
         form: WordForm::Number("N", 256),
         need: Need::Beside("lines"),
         against: &["WORDS"],
-        help: "Has up to N requests outstanding, 1 to 256; results are printed in the order of the lines. By default each waits for the one before",
+        help: "Has up to N requests under way, 1 to 256, of which each node of the list has an equal share; results are printed in the order of the lines. By default each waits for the one before",
     },
     Word {
         name: "every",
         form: WordForm::Number("S", 1_000_000_000),
         need: Need::Never,
         against: &[],
-        help: "Repeats the requests in rounds: one begins S seconds, 1 to 1000000000, after the one before began, or at once if that took longer. A node asks another at most 256 times in 135 seconds",
+        help: "Repeats the requests in rounds: one begins S seconds, 1 to 1000000000, after the one before began, or at once if that took longer",
     },
     Word {
         name: "times",

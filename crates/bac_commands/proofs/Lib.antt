@@ -7,3 +7,4 @@ pub mod PrintedAnswers
 pub mod Reported
 pub mod Logging
 pub mod Unwatched
+pub mod FreshClients

@@ -98,7 +98,8 @@ broken_of IsHonest may_find keeper old new b = record { unsent = b.unsent; finds
 pub ends_of : {S K : Type 0} (Sees : Watcher S) (p : WaitLimit) (rounds : ℕ) (IsHonest IsOpen : K → Type 0) (kept noted : K → Store)
     (may_find : K → Store → Type 0) (keeper : K) (before after : Observed S) → EndsKept Sees p rounds IsHonest IsOpen kept noted may_find keeper before after
     → EndsKept Unseen p rounds IsHonest IsOpen kept noted may_find keeper (unwatched before.timed) (unwatched after.timed)
-ends_of Sees p rounds IsHonest IsOpen kept noted may_find keeper before after (inl all) = inl all
+ends_of Sees p rounds IsHonest IsOpen kept noted may_find keeper before after (inl all) =
+    inl (record { effects = all.effects; serves = serves_of Sees p rounds all.effects before after all.serves; all = all.all })
 ends_of Sees p rounds IsHonest IsOpen kept noted may_find keeper before after (inr b) =
     inr (record {
       effects = b.effects;

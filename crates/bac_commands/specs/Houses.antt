@@ -32,9 +32,17 @@ abbrev pub server_node : (slots : ℕ) → (restart : Option ℕ) → (link : Oc
 server_node slots None link store = node_of slots link store
 server_node slots (Some now) link store = restarted now store (node_of slots link store)
 
--- one that asks for a list: a slot for each invoke ID of a peer
+-- the same with so many slots for asks of its own
+abbrev pub with_asks : (slots : ℕ) → Node → Node
+with_asks slots n = record n { clients = record n.clients { capacity = slots } }
+
+-- one that asks for lists: 65,536 slots for its asks, and 256 for those of others
+abbrev pub asking_node : (link : Octets) → Store → Node
+asking_node link store = with_asks 65536 (node_of 256 link store)
+
+-- the one with the house store, whose invoke IDs begin at that one
 abbrev pub client_node : (first_id : ℕ) → (link : Octets) → Node
-client_node first_id link = with_first_id first_id (node_of 256 link house)
+client_node first_id link = with_first_id first_id (asking_node link house)
 
 -- the one of 64 slots with the house store, whose invoke IDs begin at that one
 abbrev pub house_node : (first_id : ℕ) → (link : Octets) → Node

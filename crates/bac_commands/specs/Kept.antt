@@ -37,11 +37,18 @@ ReportsKept s Sees p rounds before after old new = ByStatus s (KeptText Sees p r
 pub record AllIsKept {K : Type 0} (IsHonest IsOpen : K → Type 0) (kept noted : K → Store) (keeper : K) (s : Store) : Type 0 where
   pub is_kept : IsHonest keeper → IsKept IsOpen kept noted keeper s
 
--- that is so afterwards, or a round stopped
+-- all rounds were taken, or as many as there was time for, and that is so afterwards
+pub record AllRoundsAreKept {S K : Type 0} (Sees : Watcher S) (p : WaitLimit) (rounds : ℕ) (IsHonest IsOpen : K → Type 0) (kept noted : K → Store) (keeper : K)
+    (before after : Observed S) : Type 0 where
+  pub effects : ℕ
+  pub serves : ServesRounds Sees p rounds effects before after
+  pub all : AllIsKept IsHonest IsOpen kept noted keeper after.timed.bound_node.node.store
+
+-- that is so, or a round stopped
 abbrev pub EndsKept : {S K : Type 0} → Watcher S → WaitLimit → (rounds : ℕ) → (IsHonest IsOpen : K → Type 0) → (kept noted : K → Store)
     → (may_find : K → Store → Type 0) → (keeper : K) → (before after : Observed S) → Type 0
 EndsKept Sees p rounds IsHonest IsOpen kept noted may_find keeper before after =
-    AllIsKept IsHonest IsOpen kept noted keeper after.timed.bound_node.node.store ⊎ BreaksOff Sees p rounds IsHonest may_find keeper before after
+    AllRoundsAreKept Sees p rounds IsHonest IsOpen kept noted keeper before after ⊎ BreaksOff Sees p rounds IsHonest may_find keeper before after
 
 -- that is so where all went well
 abbrev pub IsKeptByStatus : {K : Type 0} → Status → (IsHonest IsOpen : K → Type 0) → (kept noted : K → Store) → K → Store → Type 0

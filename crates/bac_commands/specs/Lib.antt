@@ -16,3 +16,4 @@ pub mod LogWords
 pub mod Lines
 pub mod Logs
 pub mod Kept
+pub mod Spent

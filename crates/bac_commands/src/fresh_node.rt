@@ -1,7 +1,7 @@
 //! The node that each command makes.
 ghost use Rattle.std.specs.Prelude.{◌≡◌, true, false, IfOk, IsErrOf};
 ghost use Rattle.bac_node.specs.Fresh.{large_slots_fit};
-ghost use Rattle.bac_commands.specs.Houses.{node_of, node_with, server_node};
+ghost use Rattle.bac_commands.specs.Houses.{asking_node, node_of, node_with, server_node};
 
 use bac_apdu::Limits;
 use bac_node::{Config, NewNodeFault, Node};
@@ -69,4 +69,22 @@ pub(crate) fn node_with(alloc: Global, link: LinkAddress, store: Store) -> Resul
     ensures { IfOk result (λ n. n ≡ node_with link store) }
 {
     node_of(alloc, SLOTS, link, store)
+}
+
+/// A node of that link with a store, windows of 32 segments, 65,536 slots for asks of its own and 256 for those of others.
+pub(crate) fn asking_node(alloc: Global, link: LinkAddress, store: Store) -> Result<Node, NoMemory>
+    ensures { IfOk result (λ n. n ≡ asking_node link store) }
+{
+    let config = Config {
+        link,
+        limits: LIMITS,
+        window: 32,
+        client_slots: 65_536,
+        reply_slots: 256,
+    };
+    match Node::with_large_tables(alloc, config, store) {
+        Ok(node) => Ok(node),
+        Err(NewNodeFault::NoMemory) => Err(NoMemory),
+        Err(NewNodeFault::BadSlots | NewNodeFault::BadWindow) => unreachable!(),
+    }
 }

@@ -22,8 +22,8 @@ pub use facts::{
     print_fault, print_nothing, print_performed, print_refused, print_sent,
 };
 pub use online::{
-    AskCommand, CommandError, KeptServer, OutputFormat, Style, TURNS, ask, bound_client,
-    bound_house, bound_server, clock_fault, link_fault, pair, print_ask_end, read_question, serve,
-    serve_kept,
+    AskCommand, CommandError, KeptServer, OutputFormat, Style, TURNS, ask, ask_unprinted,
+    bound_client, bound_house, bound_server, clock_fault, is_spent, link_fault, pair,
+    print_ask_end, read_question, serve, serve_kept,
 };
 pub use serving::{Logged, ServeCommand, serve_kept_logged, serve_logged};

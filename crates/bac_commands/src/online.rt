@@ -13,7 +13,7 @@ mod serving;
 mod success;
 
 pub use ask_end::print_ask_end;
-pub use asking::{AskCommand, TURNS, ask};
+pub use asking::{AskCommand, TURNS, ask, ask_unprinted, is_spent};
 pub use bound_node::{bound_client, bound_house, bound_server};
 pub use command_error::{CommandError, clock_fault, link_fault};
 pub use keeping::{KeptServer, serve_kept};

@@ -1,5 +1,5 @@
 //! A node that serves, and whose turns are logged.
-ghost use Rattle.std.specs.Prelude.{IsTrue};
+ghost use Rattle.std.specs.Prelude.{◌≡◌, IsTrue};
 ghost use Rattle.bac_driver.specs.Kept.{keeper_of};
 ghost use Rattle.bac_driver.specs.Rounds.{IsKept};
 ghost use Rattle.bac_driver.specs.Runs.{timed};
@@ -71,6 +71,7 @@ pub fn serve_kept_logged<L: Link, C: Clock, K: Keeper, O: Write, E: Write>(
 ) -> Logged
     requires { K.IsHonest (keeper_of server.old.round) → IsKept K.IsOpen K.kept K.noted (keeper_of server.old.round) server.old.bound_node.node.store }
     ensures honest { K.IsHonest (keeper_of server.new.round) → K.IsHonest (keeper_of server.old.round) }
+    ensures base { K.base (keeper_of server.new.round) ≡ K.base (keeper_of server.old.round) }
     ensures logged { IsLogged result.status result.whole command.now.serves_from command.now.limit.wait_limit command.now.limit.turns
         K.IsHonest K.IsOpen K.kept K.noted K.may_find (keeper_of server.new.round)
         (timed server.old.bound_node (C.told server.old.clock)) (timed server.new.bound_node (C.told server.new.clock))

@@ -4,3 +4,4 @@ pub mod Loops
 pub mod HeldTurns
 pub mod ChangesOfTurns
 pub mod RoundsTaken
+pub mod RoundsStopped

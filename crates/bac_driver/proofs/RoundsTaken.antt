@@ -9,11 +9,10 @@ use Rattle.bac_world.specs.Node.{Node}
 use Rattle.bac_driver.specs.Calls.{Call, Calls, received, with_call}
 use Rattle.bac_driver.specs.Moments.{Told, with_moment}
 use Rattle.bac_driver.specs.Observed.{Observed, observed}
-use Rattle.bac_driver.specs.Rounds.{AreReceives, BreaksOff, BreaksRound, FindsNoMore, FindsOneOf, HasNoted}
-use Rattle.bac_driver.specs.Rounds.{HoldsEarlyTurn, HoldsMore, HoldsOne, HoldsSeenTurn, HoldsTurnAtOnce, HoldsTurnFrom, IsAsHeld, IsHeldAtMost, IsHeldOn}
+use Rattle.bac_driver.specs.Rounds.{AreReceives, FindsNoMore, FindsOneOf, HasNoted, HoldsMore, HoldsOne, HoldsSeenTurn, HoldsTurnAtOnce, HoldsTurnFrom}
 use Rattle.bac_driver.specs.Rounds.{IsKept, MOST_COUNTED, OnlyReceives, ROUND, StopsRounds, TakesRound, TakesRounds}
 use Rattle.bac_driver.specs.Rounds.{in_order, sends_of_all}
-use Rattle.bac_driver.specs.Runs.{Run, Timed, timed}
+use Rattle.bac_driver.specs.Runs.{Timed, timed}
 use Rattle.bac_driver.specs.Seen.{Watcher, seen}
 use Rattle.bac_driver.specs.Serving.{IsBefore, performed_in}
 use Rattle.bac_driver.specs.Turns.{IsCarried, Turn, with_calls}
@@ -115,109 +114,6 @@ held_next Sees from to began turn node buffer old new began_is holds node_is buf
       is = subst (λ (m : ℕ). HoldsTurnFrom m AT_ONCE old turn new) began_is holds;
       sees = seen_by Sees from to turn node buffer new node_is buffer_is sees;
     }
-
--- ---- a round that stops
-
-in_order_length : (turns : List Turn) → length (in_order turns) ≡ length turns
-in_order_length [] = refl
-in_order_length (turn ∷ before) =
-    let all = length-append (in_order before) (turn ∷ []) in
-    let shorter = in_order_length before in
-    omega (arith, all, shorter)
-
-held_run : {S : Type 0} (Sees : Watcher S) (turns : List Turn) (old new : Observed S) → Run (HoldsSeenTurn Sees HoldsTurnAtOnce) turns old new
-    → Run HoldsTurnAtOnce turns old.timed new.timed
-held_run {S} Sees [] old new run = ap (λ (o : Observed S). o.timed) run
-held_run Sees (turn ∷ before) old new run =
-    record { middle = run.middle.timed; so_far = held_run Sees before old run.middle run.so_far; last = run.last.is }
-
-all_turns : (before turns more : List Turn) → turns ≡ before ++ in_order more → length turns ≡ length before + length more
-all_turns before turns more are =
-    ap length are ∙ length-append before (in_order more) ∙ ap (λ (n : ℕ). length before + n) (in_order_length more)
-
-pub none_held : (holds : Timed → Turn → Timed → Type 0) (old new : Timed) → new.bound_node.node ≡ old.bound_node.node → IsHeldAtMost holds old new
-none_held holds old new same = inl same
-
-pub one_held : (holds : Timed → Turn → Timed → Type 0) (turn : Turn) (old new : Timed) → holds old turn new → IsHeldAtMost holds old new
-one_held holds turn old new held = inr (record { turn = turn; held = held })
-
-pub held_early : (p : WaitLimit) (began : ℕ) (old new : Timed) (told : Told) → IsBefore began p.until → told ≡ with_moment old.told began
-    → IsHeldAtMost (HoldsTurnFrom began p) (timed old.bound_node told) new → IsHeldAtMost (HoldsEarlyTurn p) old new
-held_early p began old new told early told_is (inl same) = inl same
-held_early p began old new told early told_is (inr h) =
-    inr (record {
-      turn = h.turn;
-      held =
-          record {
-            began = began;
-            early = early;
-            holds = subst (λ (t : Told). HoldsTurnFrom began p (timed old.bound_node t) h.turn new) told_is h.held;
-          };
-    })
-
--- after some turns one more was held, or none was
-pub held_on : {S : Type 0} (Sees : Watcher S) (before turns : List Turn) (began : ℕ) (old middle : Observed S) (new : Timed)
-    → HoldsMore Sees before turns old middle → length turns < ROUND → began ≡ middle.timed.bound_node.node.latest
-    → IsHeldAtMost (HoldsTurnFrom began AT_ONCE) middle.timed new → IsHeldOn (length before) old.timed new
-held_on Sees before turns began old middle new some few began_is (inl same) =
-    let all = all_turns before turns some.more some.are in
-    record {
-      more = some.more;
-      middle = middle.timed;
-      goes_on = held_run Sees some.more old middle some.goes_on;
-      node = same;
-      most = omega (arith, all, few);
-    }
-held_on Sees before turns began old middle new some few began_is (inr h) =
-    let all = all_turns before turns some.more some.are in
-    record {
-      more = h.turn ∷ some.more;
-      middle = new;
-      goes_on =
-          record {
-            middle = middle.timed;
-            so_far = held_run Sees some.more old middle some.goes_on;
-            last = subst (λ (m : ℕ). HoldsTurnFrom m AT_ONCE middle.timed h.turn new) began_is h.held;
-          };
-      node = refl;
-      most = omega (arith, all, few);
-    }
-
--- the first turn was held, or none was
-pub held_first : (p : WaitLimit) (old new : Timed) → IsHeldAtMost (HoldsEarlyTurn p) old new → IsAsHeld p old new
-held_first p old new (inl same) = inl same
-held_first p old new (inr h) =
-    inr (record {
-      first = h.turn;
-      begun = new;
-      begins = h.held;
-      goes_on = record { more = []; middle = new; goes_on = refl; node = refl; most = omega arith };
-    })
-
--- the first turn was held, and then so many others
-pub held_others : {S : Type 0} (Sees : Watcher S) (p : WaitLimit) (first : List Turn) (old begun : Observed S) (new : Timed)
-    → HoldsOne Sees p first old begun → IsHeldOn (length first) begun.timed new → IsAsHeld p old.timed new
-held_others Sees p first old begun new one others =
-    inr (record {
-      first = one.first;
-      begun = begun.timed;
-      begins = one.begins.is;
-      goes_on = subst (λ (n : ℕ). IsHeldOn n begun.timed new) (ap length one.are) others;
-    })
-
--- all turns of the round were held
-pub held_all : {S : Type 0} (Sees : Watcher S) (p : WaitLimit) (first turns : List Turn) (old begun new : Observed S) → HoldsOne Sees p first old begun
-    → HoldsMore Sees first turns begun new → length turns ≤ ROUND → IsAsHeld p old.timed new.timed
-held_all Sees p first turns old begun new one some few =
-    let all = all_turns first turns some.more some.are in
-    held_others Sees p first old begun new.timed one
-    (record {
-      more = some.more;
-      middle = new.timed;
-      goes_on = held_run Sees some.more begun new some.goes_on;
-      node = refl;
-      most = omega (arith, all, few);
-    })
 
 -- ---- a round
 
@@ -326,21 +222,6 @@ over_once r is_over is_few is over = subst (λ (o : Option ℕ). MatchOption o i
 pub whatever : {A E : Type 0} (r : Result A E) (P : Type 0) → P → OnErr r P
 whatever (Ok x) P is = tt
 whatever (Err e) P is = is
-
--- after some rounds one stopped
-pub breaks_off : {S K A E : Type 0} (Sees : Watcher S) (p : WaitLimit) (rounds all effects : ℕ) (IsHonest : K → Type 0) (may_find : K → Store → Type 0)
-    (keeper : K) (old middle new : Observed S) (r : Result A E) → rounds < all → TakesRounds Sees p rounds effects old middle
-    → IsAsHeld p middle.timed new.timed → OnlyReceives middle.timed.bound_node.calls new.timed.bound_node.calls
-    → FindsOneOf IsHonest may_find middle.timed.bound_node.node.store new.timed.bound_node.node.store keeper
-    → OnErr r (BreaksOff Sees p all IsHonest may_find keeper old new)
-breaks_off Sees p rounds all effects IsHonest may_find keeper old middle new r fewer before as_held receives finds =
-    whatever r (BreaksOff Sees p all IsHonest may_find keeper old new)
-    (record {
-      effects = effects;
-      stops =
-          stops_early Sees p rounds all effects (BreaksRound IsHonest may_find keeper) old middle new fewer before
-          (record { unsent = record { limit = p; as_held = as_held; receives = receives }; finds = finds });
-    })
 
 -- one more turn has room
 pub one_longer : (xs after : List Turn) (turn : Turn) → after ≡ xs ++ turn ∷ [] → length xs < ROUND → length after ≤ ROUND

@@ -10,14 +10,19 @@ use Rattle.bac_transaction.specs.Sends.{Datagram}
 use Rattle.bac_world.specs.Node.{Node}
 use Rattle.bac_world.specs.Services.{Performed}
 use Rattle.bac_driver.specs.BoundNodes.{BoundNode}
-use Rattle.bac_driver.specs.Calls.{Call, Calls}
+use Rattle.bac_driver.specs.Calls.{Call, Calls, one_more, with_call}
+use Rattle.bac_driver.specs.Calls.Call.{FailedReceive}
 use Rattle.bac_driver.specs.Moments.{with_moment}
 use Rattle.bac_driver.specs.Observed.{IsOverUnseen, Observed, observed}
-use Rattle.bac_driver.specs.Runs.{Run, Timed, timed}
+use Rattle.bac_driver.specs.Runs.{CannotReceive, GoesBack, Run, Timed, timed}
 use Rattle.bac_driver.specs.Seen.{Watcher, seen}
 use Rattle.bac_driver.specs.Serving.{IsBefore, performed_in}
 use Rattle.bac_driver.specs.Turns.{Hears, IsCarried, Receives, Ticks, Turn, performed_of, sends_of, with_calls}
 use Rattle.bac_driver.specs.Waits.{AT_ONCE}
+use Rattle.bac_driver.specs.declared.fault.RoundFault.{RoundFault}
+use Rattle.bac_driver.specs.declared.fault.RoundFault.TheVariants as round
+use Rattle.bac_driver.specs.declared.fault.TurnFault.{TurnFault}
+use Rattle.bac_driver.specs.declared.fault.TurnFault.TheVariants as fault
 use Rattle.bac_driver.specs.declared.wait_limit.WaitLimit.{WaitLimit}
 
 -- the greatest number of turns in a round
@@ -146,38 +151,96 @@ pub record OnlyReceives (old new : Calls) : Type 0 where
   pub are : AreReceives more
   pub is : new ≡ with_calls old more
 
--- the node is as after a turn that was held so
-pub record IsHeld (holds : Timed → Turn → Timed → Type 0) (old new : Timed) : Type 0 where
+-- the link could not receive; the clock was not asked again
+pub record LinkFails (old new : Timed) : Type 0 where
+  pub told : new.told ≡ old.told
+  pub node : new.bound_node.node ≡ old.bound_node.node
+  pub count : new.bound_node.failures ≡ one_more old.bound_node.failures
+  pub calls : new.bound_node.calls ≡ with_call old.bound_node.calls FailedReceive
+
+-- why a turn was not held that was to begin at that moment
+abbrev pub HoldFails : TurnFault → (began : ℕ) → (old new : Timed) → Type 0
+HoldFails fault.Link began old new = (old.bound_node.node.latest ≤ began) × LinkFails old new
+HoldFails fault.ClockBack began old new = (began < old.bound_node.node.latest) × (new ≡ old)
+
+-- a turn was held so, and what it changed could not be noted
+pub record CannotNote (holds : Timed → Turn → Timed → Type 0) (old new : Timed) : Type 0 where
   pub turn : Turn
   pub held : holds old turn new
+  pub changed : changes_store turn ≡ true
 
--- that is so, or the node is as before
-abbrev pub IsHeldAtMost : (holds : Timed → Turn → Timed → Type 0) → (old new : Timed) → Type 0
-IsHeldAtMost holds old new = (new.bound_node.node ≡ old.bound_node.node) ⊎ IsHeld holds old new
+-- why a turn that was to begin at that moment was not held, or was held and not noted
+abbrev pub TurnStops : RoundFault → (began : ℕ) → WaitLimit → (old new : Timed) → Type 0
+TurnStops round.Link began p old new = HoldFails fault.Link began old new
+TurnStops round.ClockBack began p old new = HoldFails fault.ClockBack began old new
+TurnStops (round.Keep why) began p old new = CannotNote (HoldsTurnFrom began p) old new
 
--- after so many turns of a round the node is as after some more, which did not wait
-pub record IsHeldOn (before : ℕ) (old new : Timed) : Type 0 where
+-- the same of the first turn of a round
+abbrev pub FirstStops : RoundFault → WaitLimit → (old new : Timed) → Type 0
+FirstStops round.Link p old new = CannotReceive old new
+FirstStops round.ClockBack p old new = GoesBack old new
+FirstStops (round.Keep why) p old new = CannotNote (HoldsEarlyTurn p) old new
+
+-- after some turns in that order, more turns that did not wait; a round has room for all of them
+pub record HoldsOn (before turns : List Turn) (old new : Timed) : Type 0 where
   pub more : List Turn
-  pub middle : Timed
-  pub goes_on : Run HoldsTurnAtOnce more old middle
-  pub node : new.bound_node.node ≡ middle.bound_node.node
-  pub most : before + length more ≤ ROUND
+  pub goes_on : Run HoldsTurnAtOnce more old new
+  pub are : turns ≡ before ++ in_order more
+  pub most : length turns ≤ ROUND
 
--- the node is as after turns of a round that were held: the first one waited as the limit says, and the others did not wait
-pub record IsHeldInRound (p : WaitLimit) (old new : Timed) : Type 0 where
+-- after such turns, which leave room for one more, the link could not receive
+pub record CannotReceiveOn (before : List Turn) (old new : Timed) : Type 0 where
+  pub turns : List Turn
+  pub middle : Timed
+  pub holds : HoldsOn before turns old middle
+  pub room : length turns < ROUND
+  pub fails : LinkFails middle new
+
+-- after such turns, which changed the store, that could not be noted or kept
+pub record CannotKeepOn (before : List Turn) (old new : Timed) : Type 0 where
+  pub turns : List Turn
+  pub holds : HoldsOn before turns old new
+  pub changed : change_store turns ≡ true
+
+-- why a round stopped after some turns in that order; no later turn begins at a moment of the clock, so the clock can't be why
+abbrev pub MoreStops : RoundFault → (before : List Turn) → (old new : Timed) → Type 0
+MoreStops round.Link before old new = CannotReceiveOn before old new
+MoreStops round.ClockBack before old new = ⊥
+MoreStops (round.Keep why) before old new = CannotKeepOn before old new
+
+-- the turns of a round so far: the first one waited as the limit says, and the others did not wait
+pub record HoldsSome (p : WaitLimit) (turns : List Turn) (old new : Timed) : Type 0 where
   pub first : Turn
   pub begun : Timed
   pub begins : HoldsEarlyTurn p old first begun
-  pub goes_on : IsHeldOn 1 begun new
+  pub others : HoldsOn (first ∷ []) turns begun new
 
--- that is so, or the node is as before
-abbrev pub IsAsHeld : WaitLimit → (old new : Timed) → Type 0
-IsAsHeld p old new = (new.bound_node.node ≡ old.bound_node.node) ⊎ IsHeldInRound p old new
+-- after such turns, which leave room for one more, the link could not receive
+pub record CannotReceiveMore (p : WaitLimit) (old new : Timed) : Type 0 where
+  pub turns : List Turn
+  pub middle : Timed
+  pub holds : HoldsSome p turns old middle
+  pub room : length turns < ROUND
+  pub fails : LinkFails middle new
 
--- a round stopped before it sent anything: the node is as before it, or as after the turns that it held, the first of which waited as some limit says
+-- it is as after such turns, which changed the store
+pub record CannotKeep (p : WaitLimit) (old new : Timed) : Type 0 where
+  pub turns : List Turn
+  pub holds : HoldsSome p turns old new
+  pub changed : change_store turns ≡ true
+
+-- why a round stopped before it sent anything. The link could not receive, for the first turn or for a later one; the clock had gone back when the round
+-- began, and nothing has changed; or what its turns changed could not be noted or kept, and it is just as after these turns.
+abbrev pub RoundFails : RoundFault → WaitLimit → (old new : Timed) → Type 0
+RoundFails round.Link p old new = CannotReceive old new ⊎ CannotReceiveMore p old new
+RoundFails round.ClockBack p old new = GoesBack old new
+RoundFails (round.Keep why) p old new = CannotKeep p old new
+
+-- a round stopped before it sent anything, for some fault; its first turn waited as some limit says
 pub record StopsUnsent (old new : Timed) : Type 0 where
+  pub why : RoundFault
   pub limit : WaitLimit
-  pub as_held : IsAsHeld limit old new
+  pub fails : RoundFails why limit old new
   pub receives : OnlyReceives old.bound_node.calls new.bound_node.calls
 
 -- ---- the keeper
@@ -255,3 +318,8 @@ pub record BreaksOff {S K : Type 0} (Sees : Watcher S) (p : WaitLimit) (rounds :
     (old new : Observed S) : Type 0 where
   pub effects : ℕ
   pub stops : StopsRounds Sees p rounds effects (BreaksRound IsHonest may_find keeper) old new
+
+-- why serving in rounds stopped: after some rounds, one stopped for that fault
+pub record ServingStops {S : Type 0} (Sees : Watcher S) (p : WaitLimit) (rounds : ℕ) (why : RoundFault) (old new : Observed S) : Type 0 where
+  pub effects : ℕ
+  pub stops : StopsRounds Sees p rounds effects (λ (before after : Observed S). RoundFails why p before.timed after.timed) old new

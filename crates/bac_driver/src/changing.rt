@@ -1,5 +1,5 @@
 //! What turns change in the store of the node, and that the keeper of the store is told of it. `holding` calls it.
-ghost use Rattle.std.specs.Prelude.{◌≡◌, false, IfSome, OnOk};
+ghost use Rattle.std.specs.Prelude.{◌≡◌, true, false, IfSome, OnErr, OnOk};
 ghost use Rattle.bac_service.specs.Views.{owned_reply_view};
 ghost use Rattle.bac_store.specs.Changes.{is_done as is_done_in};
 ghost use Rattle.bac_node.specs.Views.{performed_view};
@@ -58,7 +58,9 @@ pub(crate) fn note_turn<K: Keeper>(
     ensures noted { OnOk result (K.IsHonest keeper.new → HasNoted K.IsOpen K.noted keeper.new store.now) }
     ensures kept { OnOk result (K.IsHonest keeper.new → K.kept keeper.new ≡ K.kept keeper.old) }
     ensures same { OnOk result (changes_store_in (turn_view turn.now) ≡ false → keeper.new ≡ keeper.old) }
+    ensures changed { OnErr result (changes_store_in (turn_view turn.now) ≡ true) }
     ensures crash { FindsNoMore K.IsHonest K.may_find keeper.old keeper.new }
+    ensures base { K.base keeper.new ≡ K.base keeper.old }
 {
     writes_change_one_thing();
     let Some(act) = turn.effect() else {

@@ -42,10 +42,10 @@ impl From<LinkFault> for TurnFault {
 /// Why a round stopped. Nothing of it was sent.
 #[derive(Clone, Copy, Debug, PartialEq, Eq, Error)]
 pub enum RoundFault {
-    /// The link could not receive.
+    /// The link could not receive, in the first turn or a later one.
     #[error("the link could not receive")]
     Link,
-    /// The moment is before the latest one of the node.
+    /// The moment at which the round began is before the latest one of the node; nothing is received.
     #[error("the clock went back")]
     ClockBack,
     /// What the node changed in its store could not be noted or kept.

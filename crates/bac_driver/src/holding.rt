@@ -1,6 +1,6 @@
 //! A turn whose sends are held until what it changed is kept. `rounds` calls it; all here is private to the crate.
-ghost use Rattle.std.specs.Prelude.{◌≡◌, false, IfOk, OnErr, OnOk};
-ghost use Rattle.bac_driver.specs.Rounds.{FindsNoMore, HasNoted, HoldsTurnFrom, IsHeldAtMost, OnlyReceives, changes_store};
+ghost use Rattle.std.specs.Prelude.{◌≡◌, false, IfErr, IfOk, OnOk};
+ghost use Rattle.bac_driver.specs.Rounds.{FindsNoMore, HasNoted, HoldFails, HoldsTurnFrom, OnlyReceives, TurnStops, changes_store};
 ghost use Rattle.bac_driver.specs.Runs.{timed};
 ghost use Rattle.bac_driver.specs.Views.{turn_view};
 
@@ -23,8 +23,8 @@ impl<L: Link> BoundNode<L> {
     ) -> Result<Turn, TurnFault>
         ensures holds { IfOk result (λ t. HoldsTurnFrom began wait_limit.now (timed self.old (C.told clock.old)) (turn_view t)
             (timed self.new (C.told clock.new))) }
+        ensures failed { IfErr result (λ e. HoldFails e began (timed self.old (C.told clock.old)) (timed self.new (C.told clock.new))) }
         ensures unsent { OnlyReceives self.old.calls self.new.calls }
-        ensures err { OnErr result (self.new.node ≡ self.old.node) }
     {
         let received = self.receive(began, wait_limit)?;
         let now = clock.now().max(began);
@@ -42,13 +42,13 @@ impl<L: Link> BoundNode<L> {
         requires { K.IsHonest keeper.old → HasNoted K.IsOpen K.noted keeper.old self.old.node.store }
         ensures holds { IfOk result (λ t. HoldsTurnFrom began wait_limit.now (timed self.old (C.told clock.old)) (turn_view t)
             (timed self.new (C.told clock.new))) }
-        ensures as_held { OnErr result (IsHeldAtMost (HoldsTurnFrom began wait_limit.now) (timed self.old (C.told clock.old))
-            (timed self.new (C.told clock.new))) }
+        ensures stopped { IfErr result (λ e. TurnStops e began wait_limit.now (timed self.old (C.told clock.old)) (timed self.new (C.told clock.new))) }
         ensures unsent { OnlyReceives self.old.calls self.new.calls }
         ensures noted { OnOk result (K.IsHonest keeper.new → HasNoted K.IsOpen K.noted keeper.new self.new.node.store) }
         ensures kept { OnOk result (K.IsHonest keeper.new → K.kept keeper.new ≡ K.kept keeper.old) }
         ensures same { IfOk result (λ t. changes_store (turn_view t) ≡ false → keeper.new ≡ keeper.old) }
         ensures crash { FindsNoMore K.IsHonest K.may_find keeper.old keeper.new }
+        ensures base { K.base keeper.new ≡ K.base keeper.old }
     {
         let turn = self.hold_turn(began, clock, wait_limit)?;
         note_turn(keeper, &turn, self.node().store())?;

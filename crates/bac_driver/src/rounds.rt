@@ -1,12 +1,12 @@
 //! Rounds of a bound node whose store is kept: it takes turns and holds what they send, keeps what they changed, and then sends.
 //!
 //! Programs call it; the methods and their contracts are the interface.
-ghost use Rattle.std.specs.Prelude.{◌≡◌, ◌⊎◌, ◌<◌, ◌≤◌, ◌∷◌, ◌++◌, ◌||◌, [], true, false, length, IfOk, IfSome, MatchOption, OnErr, OnOk};
+ghost use Rattle.std.specs.Prelude.{◌≡◌, ◌⊎◌, ◌<◌, ◌≤◌, ◌∷◌, ◌++◌, ◌||◌, [], true, false, length, IfErr, IfOk, IfSome, MatchOption, OnErr, OnOk};
 ghost use Rattle.bac_store.specs.Stores.{Store as Objects};
 ghost use Rattle.bac_driver.specs.Kept.{keeper_of, turns_of};
 ghost use Rattle.bac_driver.specs.Observed.{IsOverUnseen, observed};
-ghost use Rattle.bac_driver.specs.Rounds.{BreaksOff, FindsNoMore, FindsOneOf, HasNoted, HoldsEarlyTurn, HoldsMore, HoldsOne, IsAsHeld, IsHeldAtMost, IsHeldOn};
-ghost use Rattle.bac_driver.specs.Rounds.{IsKept, OnlyReceives, ServesRounds, TakesRound};
+ghost use Rattle.bac_driver.specs.Rounds.{BreaksOff, FindsNoMore, FindsOneOf, FirstStops, HasNoted, HoldsMore, HoldsOne, IsKept, MoreStops};
+ghost use Rattle.bac_driver.specs.Rounds.{OnlyReceives, RoundFails, ServesRounds, ServingStops, TakesRound};
 ghost use Rattle.bac_driver.specs.Rounds.{ROUND as MOST, change_store};
 ghost use Rattle.bac_driver.specs.Runs.{timed};
 ghost use Rattle.bac_driver.specs.Views.{turn_view};
@@ -95,8 +95,10 @@ impl<K: Keeper> Round<K> {
         ensures same { change_store (turns_of self.old) ≡ false → keeper_of self.new ≡ keeper_of self.old }
         ensures kept { OnOk result (change_store (turns_of self.old) ≡ true → K.IsHonest (keeper_of self.new)
             → (K.kept (keeper_of self.new) ≡ K.noted (keeper_of self.old)) × (K.noted (keeper_of self.new) ≡ K.noted (keeper_of self.old))) }
+        ensures changed { OnErr result (change_store (turns_of self.old) ≡ true) }
         ensures crash { K.IsHonest (keeper_of self.new) → (s : Objects) → K.may_find (keeper_of self.new) s
             → K.may_find (keeper_of self.old) s ⊎ (s ≡ K.noted (keeper_of self.old)) }
+        ensures base { K.base (keeper_of self.new) ≡ K.base (keeper_of self.old) }
     {
         if self.is_changed {
             self.keeper.keep()?;
@@ -124,12 +126,12 @@ impl<L: Link> BoundNode<L> {
             (observed (timed self.new (C.told clock.new)) (O.state observer.new out.new))) }
         ensures same { OnOk result (change_store (turns_of round.new) ≡ false → keeper_of round.new ≡ keeper_of round.old) }
         ensures idle { IfOk result (λ is_taken. is_taken ≡ false → keeper_of round.new ≡ keeper_of round.old) }
-        ensures as_held { OnErr result (IsHeldAtMost (HoldsEarlyTurn wait_limit.now) (timed self.old (C.told clock.old))
-            (timed self.new (C.told clock.new))) }
+        ensures stopped { IfErr result (λ e. FirstStops e wait_limit.now (timed self.old (C.told clock.old)) (timed self.new (C.told clock.new))) }
         ensures unsent { OnlyReceives self.old.calls self.new.calls }
         ensures noted { OnOk result (K.IsHonest (keeper_of round.new) → HasNoted K.IsOpen K.noted (keeper_of round.new) self.new.node.store) }
         ensures kept { OnOk result (K.IsHonest (keeper_of round.new) → K.kept (keeper_of round.new) ≡ K.kept (keeper_of round.old)) }
         ensures crash { FindsNoMore K.IsHonest K.may_find (keeper_of round.old) (keeper_of round.new) }
+        ensures base { K.base (keeper_of round.new) ≡ K.base (keeper_of round.old) }
     {
         round.clear();
         let began = clock.now();
@@ -157,11 +159,12 @@ impl<L: Link> BoundNode<L> {
             (observed (timed self.new (C.told clock.new)) (O.state observer.new out.new))) }
         ensures most { OnOk result (length (turns_of round.new) ≤ MOST) }
         ensures same { OnOk result (change_store (turns_of round.new) ≡ false → keeper_of round.new ≡ keeper_of round.old) }
-        ensures as_held { OnErr result (IsHeldOn (length (turns_of round.old)) (timed self.old (C.told clock.old)) (timed self.new (C.told clock.new))) }
+        ensures stopped { IfErr result (λ e. MoreStops e (turns_of round.old) (timed self.old (C.told clock.old)) (timed self.new (C.told clock.new))) }
         ensures unsent { OnlyReceives self.old.calls self.new.calls }
         ensures noted { OnOk result (K.IsHonest (keeper_of round.new) → HasNoted K.IsOpen K.noted (keeper_of round.new) self.new.node.store) }
         ensures kept { OnOk result (K.IsHonest (keeper_of round.new) → K.kept (keeper_of round.new) ≡ K.kept (keeper_of round.old)) }
         ensures crash { FindsNoMore K.IsHonest K.may_find (keeper_of round.old) (keeper_of round.new) }
+        ensures base { K.base (keeper_of round.new) ≡ K.base (keeper_of round.old) }
     {
         for _ in 1..ROUND {
             if !round.may_go_on() {
@@ -182,9 +185,10 @@ impl<L: Link> BoundNode<L> {
     /// Returns how many requests were performed, 0 to 32; None where the time is over, and then nothing has changed. A round that changes nothing asks the
     /// keeper for nothing.
     ///
-    /// `Link` where the link could not receive, `ClockBack` where the clock went back, `Keep` where the keeper could not note or keep. Then nothing of the
-    /// round was sent, the node is as before the round or as after the turns that it held, and it must not serve on: it may have performed what is not kept.
-    /// A power cut then leaves the store before the round, or all that its turns made of it.
+    /// `Link` where the link could not receive; the node is as after the turns that it held before. `ClockBack` where the clock gave a moment before the node's
+    /// latest one when the round began; nothing has changed. `Keep` where the keeper could not note or keep what the turns changed; the node is as after these
+    /// turns. Then nothing of the round was sent, and the node must not serve on: it may have performed what is not kept. A power cut then leaves the store
+    /// before the round, or all that its turns made of it.
     pub fn round_before<C: Clock, K: Keeper, W, O: Observer<W>>(
         &mut self,
         clock: &mut C,
@@ -202,10 +206,11 @@ impl<L: Link> BoundNode<L> {
             (observed (timed self.new (C.told clock.new)) (O.state observer.new out.new))) (λ effects. effects ≤ MOST)) }
         ensures idle { OnOk result (change_store (turns_of round.new) ≡ false → keeper_of round.new ≡ keeper_of round.old) }
         ensures kept { OnOk result (K.IsHonest (keeper_of round.new) → IsKept K.IsOpen K.kept K.noted (keeper_of round.new) self.new.node.store) }
-        ensures as_held { OnErr result (IsAsHeld wait_limit.now (timed self.old (C.told clock.old)) (timed self.new (C.told clock.new))) }
+        ensures failed { IfErr result (λ e. RoundFails e wait_limit.now (timed self.old (C.told clock.old)) (timed self.new (C.told clock.new))) }
         ensures unsent { OnErr result (OnlyReceives self.old.calls self.new.calls) }
         ensures honest { K.IsHonest (keeper_of round.new) → K.IsHonest (keeper_of round.old) }
         ensures crash { FindsOneOf K.IsHonest K.may_find self.old.node.store self.new.node.store (keeper_of round.new) }
+        ensures base { K.base (keeper_of round.new) ≡ K.base (keeper_of round.old) }
     {
         let is_taken = self.hold_first(clock, wait_limit, round, observer, out)?;
         if !is_taken {
@@ -220,8 +225,8 @@ impl<L: Link> BoundNode<L> {
     /// Serves as [`serve_observed`](BoundNode::serve_observed), but in rounds, as [`round_before`](BoundNode::round_before) takes them: what a client is told
     /// is kept. `limit.turns` is the number of rounds. Returns how many requests the node performed, at most 2^64 - 1.
     ///
-    /// The faults are those of a round. The rounds before are kept, and all that they send has left; nothing of the last one was sent, and the node is as
-    /// after the turns that it held.
+    /// The faults are those of the round that stopped. The rounds before are kept, and all that they send has left; nothing of the last one was sent, and the
+    /// node is as after the turns that it held.
     pub fn serve_kept<C: Clock, K: Keeper, W, O: Observer<W>>(
         &mut self,
         clock: &mut C,
@@ -236,9 +241,13 @@ impl<L: Link> BoundNode<L> {
             (observed (timed self.new (C.told clock.new)) (O.state observer.new out.new))) }
         ensures kept { OnOk result (K.IsHonest (keeper_of round.new) → IsKept K.IsOpen K.kept K.noted (keeper_of round.new) self.new.node.store) }
         ensures honest { K.IsHonest (keeper_of round.new) → K.IsHonest (keeper_of round.old) }
+        ensures failed { IfErr result (λ e. ServingStops O.Sees limit.now.wait_limit limit.now.turns e
+            (observed (timed self.old (C.told clock.old)) (O.state observer.old out.old))
+            (observed (timed self.new (C.told clock.new)) (O.state observer.new out.new))) }
         ensures broken_off { OnErr result (BreaksOff O.Sees limit.now.wait_limit limit.now.turns K.IsHonest K.may_find (keeper_of round.new)
             (observed (timed self.old (C.told clock.old)) (O.state observer.old out.old))
             (observed (timed self.new (C.told clock.new)) (O.state observer.new out.new))) }
+        ensures base { K.base (keeper_of round.new) ≡ K.base (keeper_of round.old) }
     {
         let mut effects = 0u64;
         for _ in 0..limit.turns {

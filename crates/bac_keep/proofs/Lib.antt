@@ -1,12 +1,15 @@
-mod Chunks
-mod Files
+pub mod Chunks
+pub mod Files
 mod Finding
-mod Lists
-mod Maps
-mod Notes
-mod Places
+mod Gaps
+pub mod Lists
+pub mod Maps
+pub mod Notes
+mod Outcomes
+pub mod Places
 mod Puts
-mod Restores
-mod Risings
+pub mod Refusals
+pub mod Restores
+pub mod Risings
 mod RowReading
-mod Values
+pub mod Values

@@ -1,14 +1,15 @@
 -- A cell of a list, on top of the cells after it.
-use Rattle.std.proofs.Common.{◌≡◌, ℕ, suc, ◌<◌, ◌≤◌, List, [], ◌∷◌, ◌++◌, length, drop, get_or, Some, None, refl, sym, ap, ◌∙◌, subst, arith}
+use Rattle.std.proofs.Common.{◌≡◌, ℕ, suc, ◌<◌, ◌≤◌, false, List, [], ◌∷◌, ◌++◌, length, drop, get_or, Some, None, refl, sym, ap, ◌∙◌, subst, arith}
 use Rattle.bac_value.specs.Value.{ObjectId}
 use Rattle.bac_store.specs.Kept.{IsInOrder}
 use Rattle.bac_store.specs.Stores.{Store}
+use Rattle.bac_store.specs.Writes.{file_at}
 use Rattle.bac_keep.specs.declared.cell.Cell.{Cell}
 use Rattle.bac_keep.specs.Cells.{Cells, Fits, NUMBERS, file_place, value_place, with_cell}
 use Rattle.bac_keep.specs.Overlay.{joined, or_nothing, overlay}
-use Rattle.bac_keep.specs.Restored.{with_kept_octets, with_kept_values}
+use Rattle.bac_keep.specs.Restored.{is_writable_file, with_kept_octets, with_kept_values}
 use Rattle.bac_keep.specs.Rows.{IsRising, held}
-use Rattle.bac_keep.proofs.Restores.{chunk_restored, count_restored, nothing_over, value_restored}
+use Rattle.bac_keep.proofs.Restores.{chunk_restored, count_ignored, count_restored, file_flag, nothing_over, value_restored}
 use Rattle.bac_keep.proofs.Risings.{held_at, held_drop, nothing_after}
 
 -- no cells yet
@@ -60,6 +61,16 @@ module _ (cells : List Cell) (at : ℕ) (d : Cell) (l : at < length cells) (is :
       ∙ ap (λ (x : List ℕ). with_kept_octets id x (overlay rest document)) (join ∙ ap (λ (x : Cells). joined x id count) top)
       ∙ sym (count_restored rest document order id id_fits count small)
       ∙ ap (λ (x : Cells). overlay x document) (sym top)
+
+  -- the number of chunks of a file that may not be written
+  pub count_gone : d.place ≡ file_place id 0 → is_writable_file (file_at s id) ≡ false → s ≡ overlay (held (drop at cells)) document
+  count_gone place fixed =
+      let gone : is_writable_file (file_at document id) ≡ false =
+      sym (file_flag rest document id) ∙ ap (λ (x : Store). is_writable_file (file_at x id)) (sym under) ∙ fixed in
+      under
+      ∙ sym (count_ignored rest document order id id_fits d.octets.items gone)
+      ∙ ap (λ (p : ℕ). overlay (with_cell p d.octets.items rest) document) (sym place)
+      ∙ ap (λ (x : Cells). overlay x document) (sym on_top)
 
   pub chunk_step : (k : ℕ) → k < 255 → d.place ≡ file_place id (suc k) → IsRising cells → s ≡ overlay (held (drop at cells)) document
   chunk_step k small place rise =

@@ -29,7 +29,7 @@ part_is_apart : (id : ObjectId) (k : ℕ) → (file_place id 0 == file_place id 
 part_is_apart id k = grind (arith, nat_tests)
 
 module _ (cells : Cells) (document : Store) where
-  value_flag : (id : ObjectId) (n : ℕ) → is_writable_value (listed_at (overlay cells document) id n) ≡ is_writable_value (listed_at document id n)
+  pub value_flag : (id : ObjectId) (n : ℕ) → is_writable_value (listed_at (overlay cells document) id n) ≡ is_writable_value (listed_at document id n)
   value_flag id n = ap (λ x. is_writable_value (listed_of n x)) (object_there cells document id) ∙ go (object_in document id)
     where
       in_object : (o : Object) (x : Option Property) → is_writable_value (option_map (value_over cells o.id) x) ≡ is_writable_value x
@@ -42,7 +42,7 @@ module _ (cells : Cells) (document : Store) where
           ap is_writable_value (first_that-map (is_number n) (value_over cells o.id) (λ p. ap (λ m. m == n) (number_over cells o.id p)) o.properties)
           ∙ in_object o (listed_in o n)
 
-  file_flag : (id : ObjectId) → is_writable_file (file_at (overlay cells document) id) ≡ is_writable_file (file_at document id)
+  pub file_flag : (id : ObjectId) → is_writable_file (file_at (overlay cells document) id) ≡ is_writable_file (file_at document id)
   file_flag id = ap (λ x. is_writable_file (file_of x)) (object_there cells document id) ∙ go (object_in document id)
     where
       in_object : (o : Object) (x : Option File) → is_writable_file (option_map (file_over cells o.id) x) ≡ is_writable_file x
@@ -92,6 +92,13 @@ module _ (cells : Cells) (document : Store) where
         go false e =
             parts_ignored id id_fits cells new (part_differs 0 (count ∷ []) (omega arith)) document order (inl (λ f found. sym (ap is_writable_file found) ∙ e))
             ∙ ap (λ b. if b then with_object id (with_octets (λ old. octets)) (overlay cells document) else overlay cells document) (sym (file_flag id ∙ e))
+
+    -- the number of chunks of a file that the document does not have, or that may not be written, whatever it is
+    pub count_ignored : (v : List ℕ) → is_writable_file (file_at document id) ≡ false
+        → overlay (with_cell (file_place id 0) v cells) document ≡ overlay cells document
+    count_ignored v fixed =
+        parts_ignored id id_fits cells (with_cell (file_place id 0) v cells) (part_differs 0 v (omega arith)) document order
+        (inl (λ f found. sym (ap is_writable_file found) ∙ fixed))
 
     pub chunk_restored : (k : ℕ) (v : List ℕ) → k < 255 → cells (file_place id 0) ≡ None
         → overlay (with_cell (file_place id (suc k)) v cells) document ≡ overlay cells document

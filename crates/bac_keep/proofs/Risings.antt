@@ -50,11 +50,11 @@ pub table : (v : View) → IsReady v → (v.is_broken ≡ false → IsOrdered v.
 table v ready ordered = (subst (λ (s : Shape). IsShaped s (v.trees 0)) ready.table (ordered ready.sound 0)).0
 
 -- no cell of them has a place that is below all of theirs
-none_below : (q : ℕ) (cs : List Cell) → AllByRecursion (λ (d : Cell). q < d.place) cs → held cs q ≡ None
+pub none_below : (q : ℕ) (cs : List Cell) → AllByRecursion (λ (d : Cell). q < d.place) cs → held cs q ≡ None
 none_below q [] all = refl
 none_below q (c ∷ cs) all = let apart : (q == c.place) ≡ false = (let l : q < c.place = all.0 in grind (arith, nat_tests)) in rw apart (none_below q cs all.1)
 
-weaker : (q p : ℕ) → q ≤ p → (cs : List Cell) → AllByRecursion (λ (d : Cell). p < d.place) cs → AllByRecursion (λ (d : Cell). q < d.place) cs
+pub weaker : (q p : ℕ) → q ≤ p → (cs : List Cell) → AllByRecursion (λ (d : Cell). p < d.place) cs → AllByRecursion (λ (d : Cell). q < d.place) cs
 weaker q p le [] all = tt
 weaker q p le (c ∷ cs) all = (omega (arith, le, all.0), weaker q p le cs all.1)
 
@@ -64,7 +64,7 @@ nothing_after [] at d rise l q le = absurd (omega (arith, l))
 nothing_after (c ∷ cs) zero d rise l q le = none_below q cs (weaker q c.place le cs rise.0)
 nothing_after (c ∷ cs) (suc at) d rise l q le = nothing_after cs at d rise.1 (omega (arith, l)) q le
 
-above_at : (p : ℕ) (cs : List Cell) (j : ℕ) (d : Cell) → AllByRecursion (λ (x : Cell). p < x.place) cs → j < length cs → p < (get_or cs j d).place
+pub above_at : (p : ℕ) (cs : List Cell) (j : ℕ) (d : Cell) → AllByRecursion (λ (x : Cell). p < x.place) cs → j < length cs → p < (get_or cs j d).place
 above_at p [] j d all l = absurd (omega (arith, l))
 above_at p (c ∷ cs) zero d all l = all.0
 above_at p (c ∷ cs) (suc j) d all l = above_at p cs j d all.1 (omega (arith, l))
@@ -85,11 +85,26 @@ held_at (c ∷ cs) zero j d rise le l = found_at (c ∷ cs) j d rise l
 held_at (c ∷ cs) (suc at) zero d rise le l = absurd (omega (arith, le))
 held_at (c ∷ cs) (suc at) (suc j) d rise le l = held_at cs at j d rise.1 (omega (arith, le)) (omega (arith, l))
 
+-- at the place of a cell, and above it, the cells from it on are all
+pub held_above : (cs : List Cell) (at : ℕ) (d : Cell) → IsRising cs → at < length cs → (q : ℕ) → (get_or cs at d).place ≤ q
+    → held (drop at cs) q ≡ held cs q
+held_above [] at d rise l q le = absurd (omega (arith, l))
+held_above (c ∷ cs) zero d rise l q le = refl
+held_above (c ∷ cs) (suc at) d rise l q le =
+    let up : c.place < (get_or cs at d).place = above_at c.place cs at d rise.0 (omega (arith, l)) in
+    let apart : (q == c.place) ≡ false = grind (arith, nat_tests, le) in
+    rw apart (held_above cs at d rise.1 (omega (arith, l)) q le)
+
 -- the cell at a place in the list, on top of those after it
 pub held_drop : (cs : List Cell) (at : ℕ) (d : Cell) → at < length cs → drop at cs ≡ get_or cs at d ∷ drop (suc at) cs
 held_drop [] at d l = absurd (omega (arith, l))
 held_drop (c ∷ cs) zero d l = refl
 held_drop (c ∷ cs) (suc at) d l = held_drop cs at d (omega (arith, l))
+
+-- the cells that were read are those of the table, and they rise
+pub read_rising : (v : View) (cells : List Cell) → IsReady v → (v.is_broken ≡ false → IsOrdered v.shape v.trees) → AreCells (v.trees 0) cells
+    → IsRising cells × (held cells ≡ cells_of v.trees)
+read_rising v cells ready ordered are = (rising (v.trees 0) cells are (table v ready ordered), λ i q. sym (found-held (v.trees 0) cells are q) i)
 
 -- the store of a document and the cells that were read
 pub opened : (v : View) (cells : List Cell) (document s : Store) → IsReady v → (v.is_broken ≡ false → IsOrdered v.shape v.trees) → AreCells (v.trees 0) cells

@@ -1,13 +1,16 @@
 -- What holds while the rows of the table are read.
-use Rattle.std.proofs.Common.{◌≡◌, ◌≤◌, true, false, List, [], ◌∷◌, ◌++◌, Some, IsSome, refl, sym, ap, ◌∙◌, subst, append_assoc}
+use Rattle.std.proofs.Common.{◌⊎◌, ℕ, ◌≡◌, ◌≤◌, inl, inr, true, false, List, [], ◌∷◌, ◌++◌, Some, IsSome, refl, sym, ap, ◌∙◌, subst, append_assoc}
 use Rattle.std.proofs.lemmas.List.{append-nil}
 use Rattle.sqlite_value.specs.declared.keys.Order.{Order}
 use Rattle.sqlite_trees.specs.declared.store.Direction.TheVariants.{Forward}
 use Rattle.sqlite_value.specs.Order.{Row}
-use Rattle.sqlite_trees.specs.View.{View, IsClean, doubt, with_cursor, Advances}
+use Rattle.sqlite_trees.specs.View.{View, IsClean, doubt, with_cursor, Advances, HasCause}
+use Rattle.sqlite_trees.specs.declared.error.StoreError.{StoreError}
+use Rattle.sqlite_trees.specs.declared.error.StoreError.TheVariants as failure
 use Rattle.sqlite_trees.specs.Tree.{from_key, order_of, sought}
 use Rattle.sqlite_trees.specs.Tree.{Trees}
 use Rattle.bac_keep.specs.declared.cell.Cell.{Cell}
+use Rattle.bac_keep.specs.Refused.{Has, HasOtherRow, IsNoCell}
 use Rattle.bac_keep.specs.Rows.{AreCells, IsRowOf}
 use Rattle.bac_keep.specs.Steps.{IsReady, NoMore}
 
@@ -22,10 +25,11 @@ pub record HasReadSome (old : View) (cells : List Cell) (new : View) : Type 0 wh
   pub are : AreCells read cells
   pub rows : read ++ left ≡ old.trees 0
 
-pub record IsReading {S : Type 0} (view : S → View) (recovers : S → Trees → Type 0) (old : S) (cells : List Cell) (new : S) : Type 0 where
+pub record IsReading {S : Type 0} (view : S → View) (faults : S → ℕ) (recovers : S → Trees → Type 0) (old : S) (cells : List Cell) (new : S) : Type 0 where
   pub clean : doubt (view old).is_clean ≤ doubt (view new).is_clean
   pub live : IsSome ((view new).cursors 0)
   pub some : IsClean (view new) → HasReadSome (view old) cells (view new)
+  pub counts : faults old ≤ faults new
   pub crash : NoMore recovers old new
 
 no_key : (o : Order) (es : List Row) → from_key o [] es ≡ es
@@ -87,3 +91,30 @@ ends old mid new cs row so_far next =
       ap (λ (v : View). v.trees) next.1 ∙ so_far.trees,
       ap (λ (v : View). v.committed) next.1 ∙ so_far.committed,
     )
+
+has_there : (before : List Row) (row : Row) (after : List Row) → Has (before ++ row ∷ after) row
+has_there [] row after = inl refl
+has_there (r ∷ rs) row after = inr (has_there rs row after)
+
+-- the next row is no cell
+pub other_row : (old mid new : View) (cs : List Cell) (row : Row) → HasReadSome old cs mid → Advances mid new 0 row true → IsNoCell row → HasOtherRow (old.trees 0)
+other_row old mid new cs row so_far next no_cell =
+    let left : so_far.left ≡ row ∷ next.0 = some_is _ _ (sym so_far.cursor ∙ next.1) in
+    record {
+      row = row;
+      there = subst (λ (rs : List Row). Has rs row) (ap (λ (l : List Row). so_far.read ++ l) (sym left) ∙ so_far.rows) (has_there so_far.read row next.0);
+      other = no_cell;
+    }
+
+-- a database that is not broken fails for the disk, or for memory
+pub failed_for : (old : View) (failed : Type 0) (e : StoreError) → old.is_broken ≡ false → HasCause old failed ⊥ e → (e ≡ failure.OutOfMemory) ⊎ failed
+failed_for old failed failure.OutOfMemory sound cause = inl refl
+failed_for old failed failure.Io sound cause = inr cause
+failed_for old failed failure.Corrupt sound cause = inr cause
+failed_for old failed failure.Full sound cause = inr cause
+failed_for old failed failure.Broken sound cause = absurd (cc)
+failed_for old failed failure.Unstorable sound cause = absurd cause
+
+pub or_earlier : {Here Before After : Type 0} → (Before → After) → Here ⊎ Before → Here ⊎ After
+or_earlier longer (inl here) = inl here
+or_earlier longer (inr before) = inr (longer before)

@@ -3,6 +3,7 @@ pub mod Made
 pub mod Noted
 pub mod Overlay
 pub mod Parts
+pub mod Refused
 pub mod Restored
 pub mod Rows
 pub mod Settling

@@ -1,9 +1,9 @@
 -- What a place is for.
-use Rattle.std.specs.Prelude.{ℕ, suc, ◌<◌}
+use Rattle.std.specs.Prelude.{ℕ, suc, ◌+◌, ◌-◌, ◌%◌, ◌<◌, ◌≤◌, ◌⊎◌}
 use Rattle.bac_value.specs.Views.{object_identifier_view}
 use Rattle.bac_keep.specs.declared.part.Part.{Part}
 use Rattle.bac_keep.specs.declared.part.Part.TheVariants as part
-use Rattle.bac_keep.specs.Cells.{NUMBERS, file_place, value_place}
+use Rattle.bac_keep.specs.Cells.{FILES, NUMBERS, file_place, value_place}
 
 abbrev pub place_for : Part → ℕ
 place_for (part.Values id n) = value_place (object_identifier_view id) n
@@ -15,3 +15,7 @@ abbrev pub IsSmall : Part → Type 0
 IsSmall (part.Values id n) = n < NUMBERS
 IsSmall (part.Count id) = Unit {0}
 IsSmall (part.Chunk id k) = k < 255
+
+-- above the places of all files, or of a chunk with too high a number
+abbrev pub IsForNothing : ℕ → Type 0
+IsForNothing place = (FILES + FILES ≤ place) ⊎ ((FILES ≤ place) × (255 < (place - FILES) % NUMBERS))

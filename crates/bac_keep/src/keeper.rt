@@ -28,6 +28,11 @@ pub trait Keeper: Drop {
     /// The next start may find this store after a power cut at this moment.
     ghost may_find: { Self → Objects → Type 0 };
 
+    /// What the kept store lies over. No call changes it.
+    ghost Base: { Type 0 };
+
+    ghost base: { Self → Base };
+
     /// Notes what a node has made of its store, which it is now. The next start does not find it before `keep`.
     fn note(&mut self, made: &Made<'_>, store: &Store) -> Result<(), KeepFault>
         requires open { IsHonest self.old → IsOpen self.old }
@@ -37,7 +42,8 @@ pub trait Keeper: Drop {
         ensures open { OnOk result (IsHonest self.new → IsOpen self.new) }
         ensures noted { OnOk result (IsHonest self.new → noted self.new ≡ store.now) }
         ensures kept { OnOk result (IsHonest self.new → kept self.new ≡ kept self.old) }
-        ensures crash { IsHonest self.new → (s : Objects) → may_find self.new s → may_find self.old s };
+        ensures crash { IsHonest self.new → (s : Objects) → may_find self.new s → may_find self.old s }
+        ensures base { base self.new ≡ base self.old };
 
     /// Keeps all that was noted. At Ok it is on the disk.
     fn keep(&mut self) -> Result<(), KeepFault>
@@ -46,7 +52,8 @@ pub trait Keeper: Drop {
         ensures open { OnOk result (IsHonest self.new → IsOpen self.new) }
         ensures kept { OnOk result (IsHonest self.new → kept self.new ≡ noted self.old) }
         ensures noted { OnOk result (IsHonest self.new → noted self.new ≡ noted self.old) }
-        ensures crash { IsHonest self.new → (s : Objects) → may_find self.new s → may_find self.old s ⊎ (s ≡ noted self.old) };
+        ensures crash { IsHonest self.new → (s : Objects) → may_find self.new s → may_find self.old s ⊎ (s ≡ noted self.old) }
+        ensures base { base self.new ≡ base self.old };
 
     /// While no call has failed, the next start finds what is kept, and nothing else.
     ghost settled: { (k : Self) (s : Objects) → IsHonest k → IsOpen k → may_find k s → s ≡ kept k };
@@ -66,6 +73,10 @@ impl Keeper for KeepsNothing {
     ghost noted = { λ _. [] };
 
     ghost may_find = { λ _ _. ⊤ };
+
+    ghost Base = { Unit {0} };
+
+    ghost base = { λ _. tt };
 
     fn note(&mut self, _made: &Made<'_>, _store: &Store) -> Result<(), KeepFault> {
         Ok(())

@@ -20,7 +20,7 @@ pub use cell::Cell;
 pub use cells::CellKeeper;
 pub use fault::KeepFault;
 pub use keeper::{Keeper, KeepsNothing};
-pub use laws::cells_are_writes;
+pub use laws::{cells_are_writes, power_cuts_leave_one_of_two};
 pub use listing::kept_cells;
 pub use made::Made;
 pub use part::Part;

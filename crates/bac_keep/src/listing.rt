@@ -1,5 +1,5 @@
 //! What a database keeps, for people, and forgetting some of it.
-ghost use Rattle.std.specs.Prelude.{◌≤◌, IfOk, OnOk};
+ghost use Rattle.std.specs.Prelude.{◌≡◌, ◌≤◌, IsTrue, IfOk, OnOk};
 ghost use Rattle.sqlite_trees.specs.View.{IsClean, doubt};
 ghost use Rattle.bac_keep.specs.Rows.{AreCells};
 ghost use Rattle.bac_keep.specs.Steps.{IsReady, NoMore};
@@ -41,6 +41,8 @@ pub fn kept_cells<S: Store>(alloc: Global, database: &mut S) -> Result<Vec<Cell>
     ensures clean { doubt (S.view database.old).is_clean ≤ doubt (S.view database.new).is_clean }
     ensures cells { IfOk result (λ cs. IsClean (S.view database.new) → AreCells ((S.view database.old).committed 0) cs.items) }
     ensures ready { OnOk result (IsClean (S.view database.new) → IsReady (S.view database.new)) }
+    ensures committed { IsClean (S.view database.new) → IsTrue (S.view database.new).is_open
+        → (S.view database.new).committed ≡ (S.view database.old).committed }
     ensures crash { NoMore S.recovers database.old database.new }
 {
     make_ready(database)?;

@@ -1,8 +1,8 @@
 //! What a place is for.
-ghost use Rattle.std.specs.Prelude.{◌≡◌, ◌<◌, ◌^◌, IfSome};
+ghost use Rattle.std.specs.Prelude.{◌≡◌, ◌<◌, ◌%◌, ◌^◌, None, IfSome};
 ghost use Rattle.bac_value.specs.Views.{object_identifier_view};
 ghost use Rattle.bac_keep.specs.Cells.{value_place};
-ghost use Rattle.bac_keep.specs.Parts.{IsSmall, place_for};
+ghost use Rattle.bac_keep.specs.Parts.{IsForNothing, IsSmall, place_for};
 
 use crate::cell::{FILES, INSTANCES, NUMBERS};
 use bac_value::ObjectIdentifier;
@@ -36,6 +36,7 @@ fn object_of(number: u64) -> (ObjectIdentifier, u32)
     requires { number < 2 ^ 54 }
     ensures is { number ≡ value_place (object_identifier_view result.0) result.1 }
     ensures small { result.1 < 2 ^ 22 }
+    ensures rest { result.1 ≡ number % 2 ^ 22 }
 {
     let object = number / NUMBERS;
     let id = ObjectIdentifier {
@@ -49,6 +50,7 @@ fn object_of(number: u64) -> (ObjectIdentifier, u32)
 pub(crate) fn part_of(place: u64) -> Option<Part>
     ensures is { IfSome result (λ p. place ≡ place_for p) }
     ensures small { IfSome result IsSmall }
+    ensures none { result ≡ None → IsForNothing place }
 {
     if place < FILES {
         let (object, property) = object_of(place);

@@ -36,6 +36,7 @@ pub fn note_request<K: Keeper>(
     ensures noted { OnOk result (K.IsHonest keeper.new → K.noted keeper.new ≡ store.now) }
     ensures kept { OnOk result (K.IsHonest keeper.new → K.kept keeper.new ≡ K.kept keeper.old) }
     ensures crash { K.IsHonest keeper.new → (s : Objects) → K.may_find keeper.new s → K.may_find keeper.old s }
+    ensures base { K.base keeper.new ≡ K.base keeper.old }
 {
     writes_change_one_thing();
     if !is_done(reply) {

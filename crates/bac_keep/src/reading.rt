@@ -1,8 +1,10 @@
 //! Reading the cells of a database.
-ghost use Rattle.std.specs.Prelude.{◌≡◌, ◌≤◌, ◌<◌, ◌^◌, pos, IfOk, IfSome, OnOk};
+ghost use Rattle.std.specs.Prelude.{◌≡◌, ◌≤◌, ◌<◌, ◌^◌, ℕ, pos, None, IfErr, IfOk, IfSome, OnOk};
 ghost use Rattle.sqlite_value.specs.Order.{column};
 ghost use Rattle.sqlite_value.specs.declared.value.Value.TheVariants.{Int};
+ghost use Rattle.sqlite_disk.specs.Disk.{MoreFaults};
 ghost use Rattle.sqlite_trees.specs.View.{IsClean, doubt};
+ghost use Rattle.bac_keep.specs.Refused.{IsNoCell, IsUnreadable};
 ghost use Rattle.bac_keep.specs.Rows.{AreCells, IsRowOf};
 ghost use Rattle.bac_keep.specs.Steps.{IsReady, NoMore};
 
@@ -16,7 +18,8 @@ use std::alloc::{AllocError, Global};
 
 /// The place of a row.
 fn place_of(row: &Row) -> Option<u64>
-    ensures { IfSome result (λ p. column row.now 0 ≡ Int (pos p)) }
+    ensures is { IfSome result (λ p. column row.now 0 ≡ Int (pos p)) }
+    ensures none { result ≡ None → (p : ℕ) → ¬ (column row.now 0 ≡ Int (pos p)) }
 {
     match row.get(0) {
         ValueRef::Int(place) => u64::try_from(place).ok(),
@@ -26,7 +29,8 @@ fn place_of(row: &Row) -> Option<u64>
 
 /// The cell of a row, if it has one.
 fn cell_of(alloc: Global, row: &Row) -> Result<Option<Cell>, AllocError>
-    ensures { IfOk result (λ c. IfSome c (λ c. IsRowOf c.place c.octets.items row.now)) }
+    ensures is { IfOk result (λ c. IfSome c (λ c. IsRowOf c.place c.octets.items row.now)) }
+    ensures none { IfOk result (λ c. c ≡ None → IsNoCell row.now) }
 {
     let Some(place) = place_of(row) else {
         return Ok(None);
@@ -46,6 +50,8 @@ pub(crate) fn read_cells<S: Store>(alloc: Global, database: &mut S) -> Result<Ve
     ensures ready { OnOk result (IsClean (S.view database.new) → IsReady (S.view database.new)) }
     ensures trees { OnOk result (IsClean (S.view database.new) → (S.view database.new).trees ≡ (S.view database.old).trees) }
     ensures committed { OnOk result (IsClean (S.view database.new) → (S.view database.new).committed ≡ (S.view database.old).committed) }
+    ensures refused { IfErr result (λ e. IsClean (S.view database.new) → IsUnreadable ((S.view database.old).trees 0) (MoreFaults (S.faults database.old) (S.faults database.new)) e) }
+    ensures counts { S.faults database.old ≤ S.faults database.new }
     ensures crash { NoMore S.recovers database.old database.new }
 {
     let mut cells = Vec::new(alloc);
@@ -60,5 +66,6 @@ pub(crate) fn read_cells<S: Store>(alloc: Global, database: &mut S) -> Result<Ve
         };
         cells.push(cell)?;
     }
-    Err(KeepFault::BadRow)
+    // No memory holds so many cells.
+    Err(KeepFault::NoMemory)
 }

@@ -1,6 +1,6 @@
 -- What is left once the cells of a selection are deleted.
 use Rattle.std.proofs.Common.{◌≡◌, ◌⊎◌, inl, inr, ◌≤◌, ◌==◌, ◌&&◌, ◌||◌, ℕ, pos, Bool, true, false, if◌then◌else◌, List, [], ◌∷◌, ◌++◌, length, None}
-use Rattle.std.proofs.Common.{IsTrue, refl, sym, ap, ◌∙◌, eqb-true, filter}
+use Rattle.std.proofs.Common.{IsTrue, arith, refl, sym, ap, ◌∙◌, eqb-true, filter}
 use Rattle.std.specs.Ordering.{is_eq}
 use Rattle.sqlite_value.specs.declared.value.Value.{Value}
 use Rattle.sqlite_value.specs.declared.value.Value.TheVariants.{Int}
@@ -8,7 +8,7 @@ use Rattle.sqlite_value.specs.Order.{Row, value_cmp}
 use Rattle.sqlite_trees.specs.Tree.{Trees, has_rowid}
 use Rattle.sqlite_trees.specs.View.{IsClean, View, doubt}
 use Rattle.bac_keep.specs.declared.cell.Cell.{Cell}
-use Rattle.bac_keep.specs.Cells.{Cells}
+use Rattle.bac_keep.specs.Cells.{Cells, no_cells}
 use Rattle.bac_keep.specs.Rows.{AreCells, cells_of, found}
 use Rattle.bac_keep.specs.Steps.{HasCells, IsReady, NoMore}
 use Rattle.bac_keep_file.specs.Forgotten.{AreSelected, has_place, is_place, without}
@@ -152,3 +152,13 @@ pub still_committed : {S : Type 0} (view : S → View) (recovers : S → Trees �
     → (old new : S) → IsTrue (view old).is_open → IsTrue (view new).is_open → NoMore recovers old new → (view new).committed ≡ (view old).committed
 still_committed view recovers settled stays old new was_open is_open more =
     settled old (view new).committed was_open (more (view new).committed (stays new is_open))
+
+-- ---- nothing is kept
+
+no_rows : (rows : List Row) → AreCells rows [] → rows ≡ []
+no_rows [] are = refl
+no_rows (r ∷ rs) are = absurd are
+
+pub empty_table : (before now : Trees) (cells : List Cell) → length cells ≡ 0 → AreCells (before 0) cells → now ≡ before → cells_of now ≡ no_cells
+empty_table before now [] none are same = ap (λ (db : Trees). cells_of db) same ∙ ap found (no_rows (before 0) are)
+empty_table before now (c ∷ cs) none are same = absurd (omega (arith, none))

@@ -1,11 +1,16 @@
 //! The table of cells.
-ghost use Rattle.std.specs.Prelude.{◌≡◌, ◌≤◌, false, IsTrue, IfOk};
+ghost use Rattle.std.specs.Prelude.{◌≡◌, ◌≤◌, false, true, IsTrue, IfOk, OnOk};
 ghost use Rattle.sqlite_trees.specs.View.{IsClean, doubt};
 ghost use Rattle.sqlite.specs.Held.{state};
+ghost use Rattle.bac_keep_file.specs.Made.{HasEmptyTable, HasNoTable};
 
 use crate::fault::OpenFault;
+use bac_keep::{KeepFault, kept_cells};
 use sqlite::{Alter, Connection};
 use sqlite_schema::schema::Table;
+use sqlite_trees::error::StoreError;
+use sqlite_trees::store::Store;
+use std::alloc::Global;
 
 /// The statement that makes the table of a new file. The octets of a cell are those at its place; the other columns are for people:
 /// the object's type and instance, and the number of the property or of the part of the file.
@@ -28,7 +33,9 @@ fn is_of_cells(table: &Table) -> bool {
 
 /// Makes the table where there is none. Returns whether it made it; `Foreign` if the first table is another.
 fn make_table<S: Alter + Drop>(conn: &mut Connection<S>) -> Result<bool, OpenFault>
-    ensures { IfOk result (λ made. made ≡ false → conn.new ≡ conn.old) }
+    ensures same { IfOk result (λ made. made ≡ false → conn.new ≡ conn.old) }
+    ensures none { IfOk result (λ made. made ≡ true → IsTrue (state S.Store conn.old).is_open → HasNoTable (state S.Store conn.old).now.trees) }
+    ensures clean { doubt (state S.Store conn.old).is_clean ≤ doubt (state S.Store conn.new).is_clean }
 {
     let Some(first) = conn.schema().tables.as_slice().first() else {
         conn.execute(TABLE, &[])?;
@@ -50,12 +57,46 @@ fn into_store<S: Alter + Drop>(conn: Connection<S>) -> S
     conn.into_store()
 }
 
+/// The fault of a new table that can't be read back.
+fn unread(fault: KeepFault) -> OpenFault {
+    match fault {
+        KeepFault::NoMemory | KeepFault::Database(StoreError::OutOfMemory) => OpenFault::NoMemory,
+        _ => OpenFault::Disk,
+    }
+}
+
+/// Reads a new table back, which has to be empty. Returns `Disk` if it is not.
+fn read_back<S: Store>(alloc: Global, database: &mut S) -> Result<(), OpenFault>
+    ensures clean { doubt (S.view database.old).is_clean ≤ doubt (S.view database.new).is_clean }
+    ensures empty { OnOk result (IsClean (S.view database.new) → HasEmptyTable (S.view database.new)) }
+{
+    match kept_cells(alloc, database) {
+        Ok(cells) => {
+            if cells.is_empty() {
+                Ok(())
+            } else {
+                Err(OpenFault::Disk)
+            }
+        }
+        Err(fault) => Err(unread(fault)),
+    }
+}
+
 /// The store of a connection, with the table, which is made where there is none; and whether it was made.
-pub(crate) fn store_of<S: Alter + Drop>(mut conn: Connection<S>) -> Result<(S, bool), OpenFault>
-    ensures clean { IfOk result (λ r. r.1 ≡ false → IsClean (S.Store.view r.0) → IsClean (S.Store.view conn.store)) }
+pub(crate) fn store_of<S: Alter + Drop>(
+    alloc: Global,
+    mut conn: Connection<S>,
+) -> Result<(S, bool), OpenFault>
+    ensures clean { IfOk result (λ r. IsClean (S.Store.view r.0) → IsClean (S.Store.view conn.store)) }
+    ensures none { IfOk result (λ r. r.1 ≡ true → IsTrue (state S.Store conn).is_open → HasNoTable (state S.Store conn).now.trees) }
+    ensures empty { IfOk result (λ r. r.1 ≡ true → IsClean (S.Store.view r.0) → HasEmptyTable (S.Store.view r.0)) }
     ensures same { IfOk result (λ r. r.1 ≡ false → IsClean (S.Store.view r.0) → IsTrue (S.Store.view r.0).is_open
         → (S.Store.view r.0).committed ≡ (state S.Store conn).committed.trees) }
 {
     let is_new = make_table(&mut conn)?;
-    Ok((into_store(conn), is_new))
+    let mut store = into_store(conn);
+    if is_new {
+        read_back(alloc, &mut store)?;
+    }
+    Ok((store, is_new))
 }

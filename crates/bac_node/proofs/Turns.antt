@@ -6,6 +6,7 @@ use Rattle.bac_npdu.specs.Peers.{PeerView}
 use Rattle.bac_store.specs.Stores.{Store}
 use Rattle.bac_transaction.specs.Ends as ends
 use Rattle.bac_transaction.specs.Ends.{ServerEnd, ServerTurn, requester_tick, responder_on_apdu, responder_tick}
+use Rattle.bac_transaction.specs.Reuse.{responder_reusing}
 use Rattle.bac_transaction.specs.Meanings.{EndedView, IsEndedView}
 use Rattle.bac_transaction.specs.Sends.{Datagram, IsSent, Pairwise}
 use Rattle.bac_transaction.specs.Services as server
@@ -16,10 +17,11 @@ use Rattle.bac_requester.specs.declared.reaction.Reaction.{Reaction}
 use Rattle.bac_responder.specs.Turns.{AreActed, IsServed, performed_by}
 use Rattle.bac_responder.specs.Views.{acted_view}
 use Rattle.bac_responder.specs.declared.served.Act.{Act}
-use Rattle.bac_world.specs.Node.{Node, Outcome, IsHeardBy}
+use Rattle.bac_world.specs.Node.{Node, Outcome, IsHeardBy, IsServerTurn}
 use Rattle.bac_world.specs.Services.{ArePerformed, store_after}
 use Rattle.bac_world.proofs.Pairs.{pairwise_join}
 use Rattle.bac_node.specs.Calls.{IsTickOfBoth}
+use Rattle.bac_node.specs.Reuse.{IsHeardReusingBy}
 use Rattle.bac_node.specs.Views.{performed_view}
 
 -- The server's end.
@@ -34,12 +36,11 @@ store_so : (s : Store) (x : Option Act) → server.store_after s (performed_by (
 store_so s None = refl
 store_so s (Some x) = refl
 
-pub server_turned : (now : ℕ) (old : Node) (v : ServerEnd) (t : Store) (peer : PeerView) (a : Apdu) (sent : List Datagram) (x : Option Act) (o : Outcome)
-    → IsServed (responder_on_apdu old.settings now (service_of old.store) peer a old.servers) old.store sent (acted_view x) v t
+pub server_turned_by : (turn : ServerTurn) (now : ℕ) (old : Node) (v : ServerEnd) (t : Store) (sent : List Datagram) (x : Option Act) (o : Outcome)
+    → IsServed turn old.store sent (acted_view x) v t
     → o.sends ≡ sent → o.ended ≡ [] → o.performed ≡ option_map performed_view x → o.dropped ≡ None
-    → IsHeardBy true peer a now old (record old { latest = now; servers = v; store = t }) o
-server_turned now old v t peer a sent x o did sends ended performed dropped =
-    let turn : ServerTurn = responder_on_apdu old.settings now (service_of old.store) peer a old.servers in
+    → IsServerTurn turn now old (record old { latest = now; servers = v; store = t }) o
+server_turned_by turn now old v t sent x o did sends ended performed dropped =
     let store : t ≡ store_after old.store o.performed = did.store ∙ store_so old.store x ∙ ap (store_after old.store) (sym performed) in
     record {
       node = ap (λ e. record old { latest = now; servers = e; store = t }) did.end
@@ -49,6 +50,18 @@ server_turned now old v t peer a sent x o did sends ended performed dropped =
       performed = subst (λ p. ArePerformed old.store turn.act p) (sym performed) (performed_so old.store turn.act x did.act);
       dropped = dropped;
     }
+
+pub server_turned : (now : ℕ) (old : Node) (v : ServerEnd) (t : Store) (peer : PeerView) (a : Apdu) (sent : List Datagram) (x : Option Act) (o : Outcome)
+    → IsServed (responder_on_apdu old.settings now (service_of old.store) peer a old.servers) old.store sent (acted_view x) v t
+    → o.sends ≡ sent → o.ended ≡ [] → o.performed ≡ option_map performed_view x → o.dropped ≡ None
+    → IsHeardBy true peer a now old (record old { latest = now; servers = v; store = t }) o
+server_turned now old v t peer a = server_turned_by (responder_on_apdu old.settings now (service_of old.store) peer a old.servers) now old v t
+
+pub server_turned_reusing : (now : ℕ) (old : Node) (v : ServerEnd) (t : Store) (peer : PeerView) (a : Apdu) (sent : List Datagram) (x : Option Act) (o : Outcome)
+    → IsServed (responder_reusing old.settings now (service_of old.store) peer a old.servers) old.store sent (acted_view x) v t
+    → o.sends ≡ sent → o.ended ≡ [] → o.performed ≡ option_map performed_view x → o.dropped ≡ None
+    → IsHeardReusingBy true peer a now old (record old { latest = now; servers = v; store = t }) o
+server_turned_reusing now old v t peer a = server_turned_by (responder_reusing old.settings now (service_of old.store) peer a old.servers) now old v t
 
 -- A tick.
 

@@ -4,3 +4,4 @@ pub mod Fresh
 pub mod Calls
 pub mod Capacities
 pub mod Waiting
+pub mod Reuse

@@ -15,6 +15,6 @@ mod reading;
 pub use cause::Cause;
 pub use config::Config;
 pub use fault::{NewNodeFault, NodeFault};
-pub use law::capacities_stay;
+pub use law::{capacities_stay, hears_as_ever};
 pub use node::Node;
 pub use outcome::Outcome;

@@ -29,6 +29,7 @@ ghost use Rattle.bac_world.specs.Keys.{HasKeysApart};
 ghost use Rattle.bac_world.specs.Node.{NodeOn, NodeTick, IsHeardBy, restarted, store_after_restart, with_change};
 ghost use Rattle.bac_node.specs.Calls.{Dispatches, IsAsked, IsForNoneOpen, IsNotHeard, IsTickOfBoth, Refuses, ticked};
 ghost use Rattle.bac_node.specs.Fresh.{fresh_node, has_large_slots, has_slots, has_slots_within, made_node, slots_within, window_fits, with_first_id};
+ghost use Rattle.bac_node.specs.Reuse.{DispatchesReusing, IsHeardReusingBy, NodeHears, NodeReusing};
 ghost use Rattle.bac_node.specs.Views.{outcome_view, settings_of};
 ghost use Rattle.bac_node.specs.Waiting.{IsDueBy, MovesAt, RestsUntil};
 ghost use Rattle.bac_requester.specs.Timers.{LAST_MOMENT};
@@ -361,6 +362,58 @@ impl Node {
         }
     }
 
+    /// As `on`, of a node that lets clients use an invoke ID again as soon as its transaction is over (clause 5.4). Call one of both for all datagrams.
+    ///
+    /// ReadProperty and AtomicReadFile are performed each time that they come, from the store as it then is, unless a request of their peer and invoke ID still
+    /// goes on; they take a slot only where their reply goes in segments. A kept reply of another request goes again to that request alone: another one ends it
+    /// and is performed.
+    ///
+    /// The faults are those of `on`.
+    pub fn on_reusing(
+        &mut self,
+        now: u64,
+        from: LinkAddress,
+        octets: &[u8],
+    ) -> Result<Outcome, NodeFault>
+        ensures went { IfOk result (λ o. NodeReusing now from octets.now self.old self.new (outcome_view o)) }
+        ensures early { IsErrOf result NodeFault.ClockBack ↔ (now < self.old.latest) }
+        ensures dropped { IsNotHeard self.old.link from octets.now → IsErrOf result NodeFault.NoMemory → ⊥ }
+        ensures none_open { IsForNoneOpen from octets.now self.old.clients → IsErrOf result NodeFault.NoMemory → ⊥ }
+        ensures err { OnErr result (self.new ≡ self.old) }
+    {
+        if self.is_before(now) {
+            return Err(NodeFault::ClockBack);
+        }
+        match read_from(self.link, from, octets) {
+            Err(why) => {
+                self.latest = now;
+                Ok(Outcome::dropped(self.alloc, why))
+            }
+            Ok((peer, apdu)) => Ok(self.dispatch_reusing(now, &peer, &apdu)?),
+        }
+    }
+
+    /// A datagram comes to a node of either setting: as `on_reusing` where `reuse` is true, otherwise as `on`.
+    pub fn hear(
+        &mut self,
+        reuse: bool,
+        now: u64,
+        from: LinkAddress,
+        octets: &[u8],
+    ) -> Result<Outcome, NodeFault>
+        ensures went { IfOk result (λ o. NodeHears reuse now from octets.now self.old self.new (outcome_view o)) }
+        ensures early { IsErrOf result NodeFault.ClockBack ↔ (now < self.old.latest) }
+        ensures dropped { IsNotHeard self.old.link from octets.now → IsErrOf result NodeFault.NoMemory → ⊥ }
+        ensures none_open { IsForNoneOpen from octets.now self.old.clients → IsErrOf result NodeFault.NoMemory → ⊥ }
+        ensures err { OnErr result (self.new ≡ self.old) }
+    {
+        if reuse {
+            self.on_reusing(now, from, octets)
+        } else {
+            self.on(now, from, octets)
+        }
+    }
+
     /// Gives an APDU to the end that it is for: to the server's where the client of a transaction sends such, otherwise to the client's.
     fn dispatch(&mut self, now: u64, peer: &Peer, apdu: &Apdu<'_>) -> Result<Outcome, NoMemory>
         ensures dispatches { Dispatches now (peer_view peer.now) (apdu_view apdu.now) self.old result self.new }
@@ -369,6 +422,24 @@ impl Node {
     {
         if is_from_client(apdu) {
             self.responder_on_apdu(now, peer, apdu)
+        } else {
+            self.requester_on_apdu(now, peer, apdu)
+        }
+    }
+
+    /// As `dispatch`, where invoke IDs may be used again.
+    fn dispatch_reusing(
+        &mut self,
+        now: u64,
+        peer: &Peer,
+        apdu: &Apdu<'_>,
+    ) -> Result<Outcome, NoMemory>
+        ensures dispatches { DispatchesReusing now (peer_view peer.now) (apdu_view apdu.now) self.old result self.new }
+        ensures none_open { is_from_client (apdu_view apdu.now) ≡ false
+            → HasNoneOpen self.old.clients (key_of (peer_view peer.now) (apdu_view apdu.now)) → IsErr result → ⊥ }
+    {
+        if is_from_client(apdu) {
+            self.responder_reusing(now, peer, apdu)
         } else {
             self.requester_on_apdu(now, peer, apdu)
         }
@@ -396,6 +467,33 @@ impl Node {
         Ok(Outcome {
             sends,
             effect: act,
+            ended: Vec::new(self.alloc),
+            dropped: None,
+        })
+    }
+
+    /// An APDU for the server's end, where invoke IDs may be used again.
+    fn responder_reusing(
+        &mut self,
+        now: u64,
+        peer: &Peer,
+        apdu: &Apdu<'_>,
+    ) -> Result<Outcome, NoMemory>
+        ensures heard { IfOk result (λ o. IsHeardReusingBy true (peer_view peer.now) (apdu_view apdu.now) now self.old self.new (outcome_view o)) }
+        ensures err { OnErr result (self.new ≡ self.old) }
+    {
+        let Served { sends, act: effect } = self.servers.on_reusing(
+            self.alloc,
+            &self.settings,
+            now,
+            peer,
+            apdu,
+            &mut self.store,
+        )?;
+        self.latest = now;
+        Ok(Outcome {
+            sends,
+            effect,
             ended: Vec::new(self.alloc),
             dropped: None,
         })

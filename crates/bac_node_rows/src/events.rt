@@ -1,8 +1,9 @@
 //! What a line of a row does to a node. A line is a moment, a verb and its words.
 //!
-//! `from PEER HEX`: an APDU arrives in a plain frame. `hear PEER HEX`: a datagram arrives. `ask PEER LIMITS REQUEST`, `tick`, `prepare` (a tick that is only
-//! prepared), `begin ID` (where invoke IDs begin), `restart`, `set OBJECT PROPERTY HEX` and `file OBJECT HEX` are calls of the node. `due` prints when something
-//! is next due, `count` how many slots are held and how many entries live, and `compare` whether the node and its store are as new.
+//! `from PEER HEX`: an APDU arrives in a plain frame; `reuse PEER HEX`: one arrives at a node that lets invoke IDs be used again. `hear PEER HEX`: a datagram
+//! arrives. `ask PEER LIMITS REQUEST`, `tick`, `prepare` (a tick that is only prepared), `begin ID` (where invoke IDs begin), `restart`,
+//! `set OBJECT PROPERTY HEX` and `file OBJECT HEX` are calls of the node. `due` prints when something is next due, `count` how many slots are held and how many
+//! entries live, and `compare` whether the node and its store are as new.
 use crate::scene::{limits_of, link, nodes_of};
 use crate::telling::{framed, print_outcome, print_sends};
 use crate::words::{change_of, first, octets_of, request_of};
@@ -76,7 +77,7 @@ fn hears(
     let (peer, digits) = words.split_once(' ')?;
     let from = link(peer.parse::<u8>().ok()?);
     let octets = datagram_of(alloc, verb, digits)?;
-    told(alloc, node.on(now, from, &octets), out)
+    told(alloc, node.hear(verb == "reuse", now, from, &octets), out)
 }
 
 fn prepares(alloc: Global, node: &Node, now: u64, out: &mut Vec<u8>) -> Option<Came> {
@@ -191,7 +192,7 @@ pub(crate) fn happens(
     let now = moment.parse::<u64>().ok()?;
     let (verb, words) = first(line);
     match verb.as_bytes() {
-        b"from" | b"hear" => hears(alloc, node, now, verb, words, out),
+        b"from" | b"hear" | b"reuse" => hears(alloc, node, now, verb, words, out),
         b"tick" => told(alloc, node.tick(now), out),
         b"prepare" => prepares(alloc, node, now, out),
         b"ask" => asks(alloc, node, now, words, out),

@@ -10,9 +10,11 @@ use Rattle.bac_world.specs.Once.Fact.{Restarted}
 use Rattle.bac_world.specs.World.{with_clock}
 use Rattle.bac_journal.proofs.Lists.{get_set}
 use Rattle.bac_driver.specs.BoundNodes.{BoundNode}
+use Rattle.bac_driver.specs.Rounds.{in_order}
 use Rattle.bac_plant.specs.Cuts.{CutPlant, or_else, with_losing}
-use Rattle.bac_plant.specs.NextCuts.{CanStart, CanStartHeld, FoundStoresGoOn, KeptStoresGoOn, LostTurnsGoOn, StepsGoOn}
-use Rattle.bac_plant.specs.Steps.{with_station}
+use Rattle.bac_plant.specs.NextCuts.{CanStart, FoundStoresGoOn, KeptStoresGoOn, LostTurnsGoOn, StepsGoOn}
+use Rattle.bac_plant.specs.Rounds.{HasStopped, IsAsHeldInChain}
+use Rattle.bac_plant.specs.Steps.{AreSent, with_station}
 
 same_number : (i : ℕ) → nat_eq i i ≡ true
 same_number i = go (nat_eq i i) refl
@@ -59,19 +61,22 @@ can_start overtake stands s same c i at exact after is = record {
       ∙ get_set c.plant.stations i after (slice_get_within c.plant.stations i stands at);
 }
 
+-- the node is as after the held turns, however the round went on
+node_held : (before after : BoundNode) (as_held : IsAsHeldInChain before after) → after.node ≡ as_held.held.node
+node_held before after as_held = go as_held.ends
+  where
+    go : HasStopped as_held.held after ⊎ AreSent (in_order as_held.turns) as_held.held after → after.node ≡ as_held.held.node
+    go (inl (inl same)) = ap (λ (b : BoundNode). b.node) same
+    go (inl (inr fails)) = fails.node
+    go (inr sent) = sent.node
+
 pub found_stores_go_on : {K : Type 0} (IsHonest : K → Type 0) (may_find : K → Store → Type 0) (overtake : ℕ)
     → FoundStoresGoOn IsHonest may_find overtake
 found_stores_go_on IsHonest may_find overtake keeper before after as_held finds honest s may = go (finds.crash honest s may)
   where
-    go : (s ≡ before.node.store) ⊎ (s ≡ after.node.store) → CanStart overtake before s ⊎ CanStartHeld overtake before s
+    go : (s ≡ before.node.store) ⊎ (s ≡ after.node.store) → CanStart overtake before s ⊎ CanStart overtake as_held.held s
     go (inl is) = inl (can_start overtake before s is)
-    go (inr is) = inr (record {
-      turns = as_held.turns;
-      held = as_held.held;
-      chain = as_held.chain;
-      most = as_held.most;
-      starts = can_start overtake as_held.held s (is ∙ ap (λ (n : Node). n.store) as_held.node);
-    })
+    go (inr is) = inr (can_start overtake as_held.held s (is ∙ ap (λ (n : Node). n.store) (node_held before after as_held)))
 
 pub kept_stores_go_on : {K : Type 0} (IsHonest IsOpen : K → Type 0) (kept noted : K → Store) (may_find : K → Store → Type 0)
     → ((k : K) (s : Store) → IsHonest k → IsOpen k → may_find k s → s ≡ kept k) → (overtake : ℕ)

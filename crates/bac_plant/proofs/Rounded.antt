@@ -4,15 +4,18 @@ use Rattle.bac_store.specs.Stores.{Store}
 use Rattle.bac_driver.specs.BoundNodes.{BoundNode}
 use Rattle.bac_driver.specs.Moments.{with_moment}
 use Rattle.bac_driver.specs.Observed.{Observed, observed}
-use Rattle.bac_driver.specs.Rounds.{BreaksOff, HoldsEarlyTurn, HoldsSeenTurn, HoldsTurnAtOnce, HoldsTurnFrom, IsAsHeld, ROUND, ServesRounds}
-use Rattle.bac_driver.specs.Rounds.{TakesRound, in_order, sends_of_all}
+use Rattle.bac_driver.specs.Rounds.{BreaksOff, HoldsEarlyTurn, HoldsSeenTurn, HoldsSome, HoldsTurnAtOnce, HoldsTurnFrom, LinkFails, ROUND, RoundFails}
+use Rattle.bac_driver.specs.Rounds.{ServesRounds, TakesRound, in_order, sends_of_all}
 use Rattle.bac_driver.specs.Runs.{Run, Timed, timed}
 use Rattle.bac_driver.specs.Seen.{Watcher}
 use Rattle.bac_driver.specs.Serving.{performed_in}
 use Rattle.bac_driver.specs.Turns.{IsCarried, Turn}
 use Rattle.bac_driver.specs.Waits.{AT_ONCE}
+use Rattle.bac_driver.specs.declared.fault.RoundFault.{RoundFault}
+use Rattle.bac_driver.specs.declared.fault.RoundFault.TheVariants as fault
 use Rattle.bac_driver.specs.declared.wait_limit.WaitLimit.{WaitLimit}
-use Rattle.bac_plant.specs.Rounds.{HeldChain, HoldsTurnOnce, IsAsHeldInChain, RoundChain, RoundInChain, ServesRoundsInChain, StopsRoundsInChain}
+use Rattle.bac_plant.specs.Rounds.{FailsOnce, HasStopped, HeldChain, HoldsTurnOnce, IsAsHeldInChain, RoundChain, RoundInChain, ServesRoundsInChain}
+use Rattle.bac_plant.specs.Rounds.{StopsInRound, StopsRoundsInChain}
 
 -- Lists of turns.
 
@@ -65,24 +68,48 @@ early_chain p old first new h = record {
   last = held_once h.began p (timed old.bound_node (with_moment old.told h.began)) first new h.holds;
 }
 
--- the node is as after the turns that it held
-pub as_held_in_chain : (p : WaitLimit) (old new : Timed) → IsAsHeld p old new → IsAsHeldInChain old.bound_node new.bound_node
-as_held_in_chain p old new (inl same) = record { turns = []; held = old.bound_node; chain = refl; most = omega arith; node = same }
-as_held_in_chain p old new (inr h) =
-    let o = h.goes_on in
-    let all = length-append o.more (h.first ∷ []) in
-    let few = o.most in
+-- The turns of a round that stopped.
+
+none_held : (before after : BoundNode) → HasStopped before after → StopsInRound before after
+none_held before after stopped =
     record {
-      turns = o.more ++ h.first ∷ [];
-      held = o.middle.bound_node;
-      chain = run_after HoldsTurnOnce (h.first ∷ []) o.more old.bound_node h.begun.bound_node o.middle.bound_node (early_chain p old h.first h.begun h.begins)
-          (run_of HoldsTurnAtOnce HoldsTurnOnce (λ (t : Timed). t.bound_node) held_at_once o.more h.begun o.middle o.goes_on);
-      most = omega (arith, all, few);
-      node = o.node;
+      as_held = record { turns = []; held = before; chain = refl; most = omega arith; ends = inl stopped };
+      stopped = stopped;
     }
 
+some_held : (p : WaitLimit) (turns : List Turn) (old held : Timed) (after : BoundNode) → HoldsSome p turns old held → HasStopped held.bound_node after
+    → StopsInRound old.bound_node after
+some_held p turns old held after h stopped =
+    let more = h.others.more in
+    let all : List Turn = more ++ h.first ∷ [] in
+    let order : turns ≡ in_order all = h.others.are ∙ sym (in_order_last more h.first) in
+    record {
+      as_held =
+          record {
+            turns = all;
+            held = held.bound_node;
+            chain = run_after HoldsTurnOnce (h.first ∷ []) more old.bound_node h.begun.bound_node held.bound_node
+                (early_chain p old h.first h.begun h.begins)
+                (run_of HoldsTurnAtOnce HoldsTurnOnce (λ (t : Timed). t.bound_node) held_at_once more h.begun held h.others.goes_on);
+            most = subst (λ (n : ℕ). n ≤ ROUND) (ap length order ∙ in_order_length all) h.others.most;
+            ends = inl stopped;
+          };
+      stopped = stopped;
+    }
+
+fails_once : (old new : Timed) → LinkFails old new → FailsOnce old.bound_node new.bound_node
+fails_once old new f = record { node = f.node; count = f.count; calls = f.calls }
+
+pub stops_in_round : (why : RoundFault) (p : WaitLimit) (old new : Timed) → RoundFails why p old new → StopsInRound old.bound_node new.bound_node
+stops_in_round fault.Link p old new (inl f) =
+    none_held old.bound_node new.bound_node (inr (record { node = f.node; count = f.count; calls = f.calls }))
+stops_in_round fault.Link p old new (inr f) =
+    some_held p f.turns old f.middle new.bound_node f.holds (inr (fails_once f.middle new f.fails))
+stops_in_round fault.ClockBack p old new f = none_held old.bound_node new.bound_node (inl f.same)
+stops_in_round (fault.Keep what) p old new f = some_held p f.turns old new new.bound_node f.holds (inl refl)
+
 pub round_held : (before : BoundNode) (effects : ℕ) (after : BoundNode) → RoundInChain before effects after → IsAsHeldInChain before after
-round_held before effects after r = record { turns = r.turns; held = r.middle; chain = r.held; most = r.most; node = r.sent.node }
+round_held before effects after r = record { turns = r.turns; held = r.middle; chain = r.held; most = r.most; ends = inr r.sent }
 
 module _ {S : Type 0} (Sees : Watcher S) where
   more_chain : (turns : List Turn) (old new : Observed S) → Run (HoldsSeenTurn Sees HoldsTurnAtOnce) turns old new
@@ -142,7 +169,7 @@ module _ {S : Type 0} (Sees : Watcher S) where
           counts = s.takes.counts;
           middle = s.middle.timed.bound_node;
           chain = rounds_chain s.takes.counts old s.middle s.takes.run;
-          as_held = as_held_in_chain s.stopped.unsent.limit s.middle.timed new.timed s.stopped.unsent.as_held;
+          stops = stops_in_round s.stopped.unsent.why s.stopped.unsent.limit s.middle.timed new.timed s.stopped.unsent.fails;
           unsent = s.stopped.unsent.receives;
           finds = s.stopped.finds;
         }

@@ -1,16 +1,16 @@
 -- Whatever a call promises, and whatever a power cut leaves, can be the next step of a plant with power cuts.
-use Rattle.std.specs.Prelude.{◌≡◌, ◌⊎◌, ◌≤◌, ℕ, List, Some, None, length, slice_get}
+use Rattle.std.specs.Prelude.{◌≡◌, ◌⊎◌, ℕ, Some, None, slice_get}
 use Rattle.bac_protocol.specs.Pace.{clock_at}
 use Rattle.bac_store.specs.Stores.{Store}
 use Rattle.bac_world.specs.Node.{restarted}
 use Rattle.bac_driver.specs.BoundNodes.{BoundNode}
-use Rattle.bac_driver.specs.Rounds.{FindsOneOf, IsKept, ROUND}
+use Rattle.bac_driver.specs.Rounds.{FindsOneOf, IsKept}
 use Rattle.bac_driver.specs.Turns.{Turn}
 use Rattle.bac_plant.specs.Cuts.{CutPlant, CutPlantStep, CutStep, real, station_of}
 use Rattle.bac_plant.specs.Network.{HandsOver, Source}
 use Rattle.bac_plant.specs.NextSteps.{LeadsTo}
 use Rattle.bac_plant.specs.Plants.{shows}
-use Rattle.bac_plant.specs.Rounds.{HeldChain, IsAsHeldInChain}
+use Rattle.bac_plant.specs.Rounds.{IsAsHeldInChain}
 use Rattle.bac_plant.specs.Steps.{HoldsSomeTurn, Step}
 
 -- there is a plant after the step, and that station is this one
@@ -37,20 +37,12 @@ CanStart overtake stands s =
     (c : CutPlant) (i : ℕ) → slice_get c.plant.stations i ≡ Some stands → (exact : ℕ) (after : BoundNode)
     → after.node ≡ restarted (clock_at c.plant.time.pace exact).shows s stands.node → LeadsOn overtake c (CutStep.Cuts i exact) i after
 
--- a station that stands as after held turns of one round can start again with this store
-pub record CanStartHeld (overtake : ℕ) (before : BoundNode) (s : Store) : Type 0 where
-  pub turns : List Turn
-  pub held : BoundNode
-  pub chain : HeldChain turns before held
-  pub most : length turns ≤ ROUND
-  pub starts : CanStart overtake held s
-
 -- whatever store an honest keeper finds after a cut in a round, also in one that stopped: a station that stands as before the round, which is lost then, can
--- start with that store, or one that stands as after turns that it held can
+-- start with that store, or one that stands as after all turns that the round held can
 abbrev pub FoundStoresGoOn : {K : Type 0} → (IsHonest : K → Type 0) → (may_find : K → Store → Type 0) → (overtake : ℕ) → Type 0
 FoundStoresGoOn {K} IsHonest may_find overtake =
-    (keeper : K) (before after : BoundNode) → IsAsHeldInChain before after → FindsOneOf IsHonest may_find before.node.store after.node.store keeper
-    → IsHonest keeper → (s : Store) → may_find keeper s → CanStart overtake before s ⊎ CanStartHeld overtake before s
+    (keeper : K) (before after : BoundNode) (as_held : IsAsHeldInChain before after) → FindsOneOf IsHonest may_find before.node.store after.node.store keeper
+    → IsHonest keeper → (s : Store) → may_find keeper s → CanStart overtake before s ⊎ CanStart overtake as_held.held s
 
 -- between rounds: with whatever store an honest keeper finds that keeps the store of a station, that station can start
 abbrev pub KeptStoresGoOn : {K : Type 0} → (IsHonest IsOpen : K → Type 0) → (kept noted : K → Store) → (may_find : K → Store → Type 0) → (overtake : ℕ) → Type 0

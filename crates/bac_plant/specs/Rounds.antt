@@ -1,7 +1,9 @@
 -- The rounds that one station takes, whatever others do between their turns.
-use Rattle.std.specs.Prelude.{◌≡◌, ◌≤◌, ℕ, min, List, length}
+use Rattle.std.specs.Prelude.{◌≡◌, ◌⊎◌, ◌≤◌, ℕ, min, List, length}
 use Rattle.bac_store.specs.Stores.{Store}
 use Rattle.bac_driver.specs.BoundNodes.{BoundNode}
+use Rattle.bac_driver.specs.Calls.{one_more, with_call}
+use Rattle.bac_driver.specs.Calls.Call.{FailedReceive}
 use Rattle.bac_driver.specs.Rounds.{FindsOneOf, MOST_COUNTED, OnlyReceives, ROUND, in_order, total}
 use Rattle.bac_driver.specs.Runs.{Run}
 use Rattle.bac_driver.specs.Serving.{performed_in}
@@ -17,13 +19,28 @@ pub record HoldsTurnOnce (before : BoundNode) (turn : Turn) (after : BoundNode) 
 abbrev pub HeldChain : List Turn → (before after : BoundNode) → Type 0
 HeldChain turns before after = Run HoldsTurnOnce turns before after
 
--- the node is as after held turns of one round, or as before where there are none: so it is after each round, also one that stopped before it sent anything
+-- a link could not receive: its count and its calls change, and the buffer may
+pub record FailsOnce (before after : BoundNode) : Type 0 where
+  pub node : after.node ≡ before.node
+  pub count : after.failures ≡ one_more before.failures
+  pub calls : after.calls ≡ with_call before.calls FailedReceive
+
+-- a round stopped before it sent anything: it is as after the turns that it held, or then its link could not receive
+abbrev pub HasStopped : (held after : BoundNode) → Type 0
+HasStopped held after = (after ≡ held) ⊎ FailsOnce held after
+
+-- turns of one round were held, or none was, and then the round stopped, or all that they hold was sent, in their order: so it is after each round
 pub record IsAsHeldInChain (before after : BoundNode) : Type 0 where
   pub turns : List Turn
   pub held : BoundNode
   pub chain : HeldChain turns before held
   pub most : length turns ≤ ROUND
-  pub node : after.node ≡ held.node
+  pub ends : HasStopped held after ⊎ AreSent (in_order turns) held after
+
+-- that is so of a round that stopped
+pub record StopsInRound (before after : BoundNode) : Type 0 where
+  pub as_held : IsAsHeldInChain before after
+  pub stopped : HasStopped as_held.held after
 
 -- a round: at most 32 turns are held, and then all that they hold is sent, in their order; so many requests were performed in it
 pub record RoundInChain (before : BoundNode) (effects : ℕ) (after : BoundNode) : Type 0 where
@@ -44,12 +61,11 @@ pub record ServesRoundsInChain (effects : ℕ) (before after : BoundNode) : Type
   pub chain : RoundChain counts before after
   pub counted : effects ≡ min (total counts) MOST_COUNTED
 
--- a chain of rounds, after which one stopped before it sent anything: the node is as after turns that it held, and a power cut leaves the store before it, or
--- that which the node then has
+-- a chain of rounds, after which one stopped before it sent anything, and a power cut leaves the store before it, or that which the node then has
 pub record StopsRoundsInChain {K : Type 0} (IsHonest : K → Type 0) (may_find : K → Store → Type 0) (keeper : K) (before after : BoundNode) : Type 0 where
   pub counts : List ℕ
   pub middle : BoundNode
   pub chain : RoundChain counts before middle
-  pub as_held : IsAsHeldInChain middle after
+  pub stops : StopsInRound middle after
   pub unsent : OnlyReceives middle.calls after.calls
   pub finds : FindsOneOf IsHonest may_find middle.node.store after.node.store keeper

@@ -16,10 +16,11 @@ ghost use Rattle.bac_driver.specs.Asking.{AskingEnds, AskingFails, Question};
 ghost use Rattle.bac_driver.specs.Observed.{Observed};
 ghost use Rattle.bac_driver.specs.Pairs.{Pair, Round, TakesRound, turn_of_first};
 ghost use Rattle.bac_driver.specs.Rounds as kept_rounds;
-ghost use Rattle.bac_driver.specs.Rounds.{BreaksOff, IsAsHeld, ServesRounds};
+ghost use Rattle.bac_driver.specs.Rounds.{BreaksOff, RoundFails, ServesRounds};
 ghost use Rattle.bac_driver.specs.Runs.{GoesBack, Run, Timed};
 ghost use Rattle.bac_driver.specs.Serving.{Serves, ServingFails, performed_in};
 ghost use Rattle.bac_driver.specs.declared.question.AskEnd.TheVariants as end;
+ghost use Rattle.bac_driver.specs.declared.fault.RoundFault.{RoundFault};
 ghost use Rattle.bac_driver.specs.declared.fault.TurnFault.{TurnFault};
 ghost use Rattle.bac_driver.specs.declared.wait_limit.WaitLimit.{WaitLimit};
 ghost use Rattle.bac_requester.specs.declared.ending.Ending.{Ending};
@@ -30,7 +31,7 @@ ghost use Rattle.bac_plant.specs.NextCuts.{FoundStoresGoOn, KeptStoresGoOn, Lost
 ghost use Rattle.bac_plant.specs.NextSteps.{AsksGoOn, ChangesGoOn, FailuresGoOn, HeldSendsGoOn, HeldTurnsGoOn, IsReached, RestartsGoOn, StrangersAskedGoOn};
 ghost use Rattle.bac_plant.specs.NextSteps.{TurnsGoOn};
 ghost use Rattle.bac_plant.specs.Plants.{Plant, nodes_of, world_of};
-ghost use Rattle.bac_plant.specs.Rounds.{HeldChain, IsAsHeldInChain, RoundInChain, ServesRoundsInChain, StopsRoundsInChain};
+ghost use Rattle.bac_plant.specs.Rounds.{HeldChain, IsAsHeldInChain, RoundInChain, ServesRoundsInChain, StopsInRound, StopsRoundsInChain};
 ghost use Rattle.bac_plant.specs.Steps.{PlantRun, Step};
 ghost use Rattle.bac_plant.specs.Steps.Step.{SendsHeld};
 
@@ -89,16 +90,16 @@ pub fn chains_are_steps()
 {}
 
 /// What `round_before` and `serve_kept` promise of a station is a chain of rounds: turns whose sends are held, one after the other, and then all that they
-/// hold is sent. By `calls_go_on` each of these is a step. Where serving stops for a fault, so are the rounds before; and whether a round ends well or fails,
-/// its node is as after turns that it held. The turns that a station holds in a run of a plant, also in a round that a power cut takes back, where it does
-/// nothing else, are such a chain too, whatever other stations do between them; and with the sends of all that they hold they are a round.
+/// hold is sent. By `calls_go_on` each of these is a step. Where serving stops for a fault, so are the rounds before; and a round that fails is such turns too,
+/// after which its link may have failed to receive, as a step does. The turns that a station holds in a run of a plant, also in a round that a power cut takes
+/// back, where it does nothing else, are such a chain too, whatever other stations do between them; and with the sends of all that they hold they are a round.
 #[tactic(auto, using(crate::proofs::Holding::held_chain))]
 pub fn rounds_are_events<W, O: Observer<W>, K: Keeper>()
     ensures round { (p : WaitLimit) (old : Observed O.State) (effects : ℕ) (new : Observed O.State) → kept_rounds.TakesRound O.Sees p old effects new
         → RoundInChain old.timed.bound_node effects new.timed.bound_node }
     ensures held { (p : WaitLimit) (old : Observed O.State) (effects : ℕ) (new : Observed O.State) → kept_rounds.TakesRound O.Sees p old effects new
         → IsAsHeldInChain old.timed.bound_node new.timed.bound_node }
-    ensures failed { (p : WaitLimit) (old new : Timed) → IsAsHeld p old new → IsAsHeldInChain old.bound_node new.bound_node }
+    ensures failed { (why : RoundFault) (p : WaitLimit) (old new : Timed) → RoundFails why p old new → StopsInRound old.bound_node new.bound_node }
     ensures served { (p : WaitLimit) (rounds effects : ℕ) (old new : Observed O.State) → ServesRounds O.Sees p rounds effects old new
         → ServesRoundsInChain effects old.timed.bound_node new.timed.bound_node }
     ensures stopped { (p : WaitLimit) (rounds : ℕ) (keeper : K) (old new : Observed O.State)
@@ -137,7 +138,7 @@ pub fn cut_rounds_are_restarts()
 
 /// In a plant with power cuts each step of a station that loses no round can be the next one, and so can each turn of a round that is lost. Whatever store an
 /// honest keeper finds after a cut in a round, also in one that failed, the start with that store is the restart of a station that stands as before the round,
-/// or as after turns that it held; whatever it finds between rounds, it is the restart of the station as it stands.
+/// or as after all turns that it held; whatever it finds between rounds, it is the restart of the station as it stands.
 pub fn cuts_go_on<K: Keeper>()
     ensures steps { (overtake : ℕ) (c : CutPlant) → StepsGoOn overtake c }
     ensures lost_turns { (overtake : ℕ) (c : CutPlant) → LostTurnsGoOn overtake c }

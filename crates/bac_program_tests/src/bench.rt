@@ -22,12 +22,18 @@ pub(crate) enum Behind {
     Houses,
     /// The same; of answers that wait the one that was sent last comes first.
     Backwards,
+    /// The same, and the system refuses each link but the first.
+    HousesOnce,
     /// Nobody.
     Nobody,
     /// Who is asked answers with this datagram.
     Answer(&'static [u8]),
     /// Who is asked answers each request, by its invoke ID, with this service data of a ComplexACK of ReadProperty.
     Read(&'static [u8]),
+    /// The same; of answers that wait the one that was sent last comes first.
+    Reads(&'static [u8]),
+    /// The same, and the system refuses each link but the first.
+    ReadsOnce(&'static [u8]),
     /// So many requests wait at each link.
     Requests(u8),
     /// These come at each link, one after the other: the last octet of the port of 127.0.0.1 that sent one, and it in hexadecimal.
@@ -83,15 +89,32 @@ fn read_answer(alloc: Global, request: &[u8], data: &[u8]) -> Option<Vec<u8>> {
     Some(answer)
 }
 
+impl Behind {
+    /// Whether all answers wait.
+    fn keeps_all(self) -> bool {
+        matches!(
+            self,
+            Behind::Backwards | Behind::HousesOnce | Behind::Reads(_) | Behind::ReadsOnce(_)
+        )
+    }
+
+    /// Whether the system refuses each link but the first.
+    fn has_one_link(self) -> bool {
+        matches!(self, Behind::HousesOnce | Behind::ReadsOnce(_))
+    }
+}
+
 impl BenchLink {
     /// What answers a datagram to that address, if something does.
     fn answer_from(&self, to: [u8; 6], octets: &[u8]) -> Option<Vec<u8>> {
         match self.behind {
-            Behind::Houses | Behind::Backwards if HOUSES.contains(&to) => house_answer(
-                self.alloc, octets,
-            ),
+            Behind::Houses | Behind::Backwards | Behind::HousesOnce if HOUSES.contains(&to) => {
+                house_answer(self.alloc, octets)
+            }
             Behind::Answer(answer) => answer.to_vec(self.alloc).ok(),
-            Behind::Read(data) => read_answer(self.alloc, octets, data),
+            Behind::Read(data) | Behind::Reads(data) | Behind::ReadsOnce(data) => {
+                read_answer(self.alloc, octets, data)
+            }
             _ => None,
         }
     }
@@ -113,7 +136,7 @@ impl BenchLink {
     fn keep(&mut self, from: [u8; 6], answer: Vec<u8>) -> Result<(), LinkFault>
         ensures { self.new.failures ≡ (if is_ok result then self.old.failures else one_more self.old.failures) }
     {
-        if !matches!(self.behind, Behind::Backwards) {
+        if !self.behind.keeps_all() {
             self.answers.clear();
         }
         match self.answers.push((from, answer)) {
@@ -248,6 +271,13 @@ impl BenchMachine {
         }
     }
 
+    /// Whether the system refuses the next link.
+    fn has_no_link(&self) -> bool {
+        let behind = self.bench.behind;
+        matches!(behind, Behind::Nothing)
+            || (behind.has_one_link() && self.last_free.get() > 50_000)
+    }
+
     fn link(&self) -> BenchLink {
         let requests = match self.bench.behind {
             Behind::Requests(count) => count,
@@ -278,7 +308,7 @@ impl Machine for BenchMachine {
     ghost is_database = { λ _ _ _. ⊤ };
 
     fn bind(&self, host: [u8; 4], port: u16) -> io::Result<(BenchLink, [u8; 6])> {
-        if matches!(self.bench.behind, Behind::Nothing) {
+        if self.has_no_link() {
             return Err(io::Error::from(io::ErrorKind::AddrInUse));
         }
         let [high, low] = self.port(port).to_be_bytes();

@@ -8,6 +8,7 @@ use std::test::Fail;
 
 mod answers;
 mod asked_lines;
+mod asked_many;
 mod asked_rounds;
 mod asked_window;
 mod client_pairs;
@@ -15,6 +16,7 @@ mod decoded;
 mod files;
 mod forgotten;
 mod help;
+mod json;
 mod kept;
 mod logged;
 mod not_asked;
@@ -80,7 +82,7 @@ const DEAF: Bench = Bench {
 };
 
 /// A folder whose `capture` is empty.
-const EMPTY: Folder = Folder { text: "" };
+const EMPTY: Folder<'static> = Folder { text: "" };
 
 /// The words of a command line, after the name of the program.
 fn words_of(alloc: Global, line: &str) -> Result<Vec<String>, Fail> {
@@ -107,7 +109,7 @@ fn run_words<F: OpenFiles, M: Machine>(
 }
 
 /// What comes of a command line on a bench, beside a file of that text.
-fn run_on(alloc: Global, text: &'static str, bench: Bench, line: &str) -> Result<Printed, Fail> {
+fn run_on(alloc: Global, text: &str, bench: Bench, line: &str) -> Result<Printed, Fail> {
     let words = words_of(alloc, line)?;
     let machine = BenchMachine::new(alloc, bench);
     Ok(run_words(alloc, &words, &Folder { text }, &machine))

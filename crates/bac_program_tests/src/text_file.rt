@@ -17,15 +17,16 @@ pub(crate) fn copy_front(octets: &[u8], buffer: &mut [u8]) -> usize
 
 /// A file that is read. Where its text ends it ends too, or it fails.
 #[derive(Clone, Copy)]
-pub(crate) struct TextFile {
-    rest: &'static [u8],
+pub(crate) struct TextFile<'t> {
+    rest: &'t [u8],
     fault: Option<ErrorKind>,
 }
 
-impl Read for TextFile {
+impl Read for TextFile<'_> {
     fn read(&mut self, buffer: &mut [u8]) -> io::Result<usize> {
-        let len = copy_front(self.rest, buffer);
-        self.rest = &self.rest[len..];
+        let rest = self.rest;
+        let len = copy_front(rest, buffer);
+        self.rest = &rest[len..];
         match self.fault {
             Some(fault) if len == 0 => Err(io::Error::from(fault)),
             _ => Ok(len),
@@ -36,12 +37,12 @@ impl Read for TextFile {
 /// The files `capture` and `-`, which have a text, as have those that are databases, `broken` and `starving`, which fail behind it, and `starved`, which can't be opened for want of memory. There are no
 /// others.
 #[derive(Clone, Copy)]
-pub(crate) struct Folder {
-    pub text: &'static str,
+pub(crate) struct Folder<'t> {
+    pub text: &'t str,
 }
 
-impl Folder {
-    fn file(&self, fault: Option<ErrorKind>) -> io::Result<TextFile> {
+impl<'t> Folder<'t> {
+    fn file(&self, fault: Option<ErrorKind>) -> io::Result<TextFile<'t>> {
         Ok(TextFile {
             rest: self.text.as_bytes(),
             fault,
@@ -49,12 +50,12 @@ impl Folder {
     }
 }
 
-impl OpenFiles for Folder {
-    type File = TextFile;
+impl<'t> OpenFiles for Folder<'t> {
+    type File = TextFile<'t>;
 
     ghost is_file = { λ _ _. ⊤ };
 
-    fn open(&self, path: &str) -> io::Result<TextFile> {
+    fn open(&self, path: &str) -> io::Result<TextFile<'t>> {
         match path {
             "capture" | "-" | "empty" | "odd" | "locked" | "damaged" => self.file(None),
             "broken" => self.file(Some(ErrorKind::PermissionDenied)),

@@ -10,3 +10,4 @@ pub mod Copies
 pub mod Same
 pub mod Begun
 pub mod Rests
+pub mod Reused

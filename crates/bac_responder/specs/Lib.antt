@@ -8,4 +8,5 @@ pub mod Reactions
 pub mod Reading
 pub mod Preparing
 pub mod Segments
+pub mod Reuse
 pub mod Timers

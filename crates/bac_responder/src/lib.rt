@@ -21,6 +21,7 @@ mod reading;
 mod repeats;
 mod replying;
 mod responder;
+mod reusing;
 mod segmented_request;
 mod segmented_response;
 mod served;

@@ -23,7 +23,7 @@ use bac_value::NoMemory;
 use std::alloc::Global;
 
 /// What was sent, and what was performed for that transaction.
-fn served(key: PeerKey, performed: Performed) -> Served
+pub(crate) fn served(key: PeerKey, performed: Performed) -> Served
     ensures sends { result.sends.items ≡ performed.sends.items }
     ensures act { acted_view result.act ≡ acted_of (peer_key_view key) (performed_view performed.effect) }
 {
@@ -38,7 +38,7 @@ fn served(key: PeerKey, performed: Performed) -> Served
 }
 
 /// Whether an APDU begins a request: one without SEG, or its segment 0.
-fn begins_request(apdu: &Apdu<'_>) -> bool
+pub(crate) fn begins_request(apdu: &Apdu<'_>) -> bool
     ensures { result ≡ begins_request (apdu_view apdu.now) }
 {
     match apdu {
@@ -52,7 +52,7 @@ fn begins_request(apdu: &Apdu<'_>) -> bool
 }
 
 /// Whether an APDU begins a request, a slot has no live entry, and the end does not wait after a restart. For any other APDU no entry is looked at.
-fn has_place<S: SlotTable<PeerKey, ServerTransaction>>(
+pub(crate) fn has_place<S: SlotTable<PeerKey, ServerTransaction>>(
     aged: &AgedTable<ServerRules, S>,
     restart: Option<u64>,
     now: u64,

@@ -7,6 +7,7 @@ ghost use Rattle.bac_slots.specs.Slots.{value_at};
 ghost use Rattle.bac_protocol.specs.Context.{Settings as Set};
 ghost use Rattle.bac_protocol.specs.declared.times.TheConstants.{KEEP as KEPT_FOR};
 ghost use Rattle.bac_transaction.specs.Ends.{first_after, is_slot_live, responder_on_apdu, responder_tick};
+ghost use Rattle.bac_transaction.specs.Reuse.{responder_reusing};
 ghost use Rattle.bac_transaction.specs.Tables.{IsOrderlyServer};
 ghost use Rattle.bac_transaction.specs.Sends.{Pairwise, IsSent};
 ghost use Rattle.bac_transaction.specs.Keys.{same_key};
@@ -16,11 +17,11 @@ ghost use Rattle.bac_responder.specs.Timers.{LAST_MOMENT};
 ghost use Rattle.bac_responder.specs.Short.{AreRequestsShort};
 ghost use Rattle.bac_responder.specs.Views.{end_of, Serves};
 
-use crate::ServerTransaction;
 use crate::aging::{ServerRules, ShortRequests};
 use crate::lookup::on_apdu;
 use crate::served::Served;
 use crate::ticking::{nothing_due, prepare};
+use crate::{ServerTransaction, reusing};
 use bac_apdu::Apdu;
 use bac_npdu::Peer;
 use bac_slots::{
@@ -148,6 +149,36 @@ impl<S: SlotTable<PeerKey, ServerTransaction> + Drop> Responder<S> {
             moment: now,
         };
         on_apdu(alloc, &context, &mut self.aged, self.restart, apdu, store)
+    }
+
+    /// As `on`, of a node that lets clients use an invoke ID again as soon as its transaction is over (clause 5.4). Call one of both for all APDUs.
+    ///
+    /// An entry is over once the last of its reply was sent, or its request was given up. Such an entry ends when a read comes without segments (ReadProperty,
+    /// AtomicReadFile), or another request than the kept one; segments end it only where it began without. The request is then performed, or begins to be
+    /// received; the kept one still gets the kept reply. Where no entry of its peer and invoke ID goes on, a read whose reply is one APDU is performed: it needs
+    /// no free slot, no entry is kept of it, and the end does not turn it away while it waits after a restart.
+    pub fn on_reusing(
+        &mut self,
+        alloc: Global,
+        settings: &Settings,
+        now: u64,
+        peer: &Peer,
+        apdu: &Apdu<'_>,
+        store: &mut Store,
+    ) -> Result<Served, NoMemory>
+        ensures { Serves (responder_reusing (settings_view settings.now) now (service_of store.old) (peer_view peer.now) (apdu_view apdu.now) self.old) self.old
+            store.old result self.new store.new }
+    {
+        let key = PeerKey {
+            peer: *peer,
+            invoke_id: invoke_id_of(apdu),
+        };
+        let context = Context {
+            settings: *settings,
+            key,
+            moment: now,
+        };
+        reusing::on_apdu(alloc, &context, &mut self.aged, self.restart, apdu, store)
     }
 
     /// What a tick sends, in ascending order of peer and invoke ID: the windows of replies that no SegmentACK came for in 2,000 ms, while a retry is left.

@@ -10,3 +10,5 @@ pub mod Numbers
 pub mod Aging
 pub mod Removed
 pub mod Fronts
+pub mod Moves
+pub mod Rings

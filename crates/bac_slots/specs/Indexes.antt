@@ -1,5 +1,6 @@
 -- The index of a table: the places of its slots in order of insertion, sorted by key.
-use Rattle.std.specs.Prelude.{◌≡◌, ℕ, ◌-◌, ◌<◌, ◌≤◌, Bool, List, [], ◌∷◌, map, length, slice_get, Some, None, Result, Ok, Err, if◌then◌else◌, nat_lt}
+use Rattle.std.specs.Prelude.{◌≡◌, ℕ, ◌-◌, ◌<◌, ◌≤◌, Bool, List, [], ◌∷◌, ◌++◌, map, length, slice_get, take, drop, Some, None, Result, Ok, Err}
+use Rattle.std.specs.Prelude.{if◌then◌else◌, nat_lt}
 use Rattle.std.specs.declared.cmp.Ordering.{Ordering}
 use Rattle.std.specs.declared.cmp.Ordering.TheVariants.{Less, Greater}
 use Rattle.bac_slots.specs.declared.slot.Slot.{Slot}
@@ -40,3 +41,12 @@ AllBelow {K} {T} cmp key n os = (k : ℕ) (s : Slot K T) → k < n → slice_get
 
 abbrev pub AllAbove : {K T : Type 0} → (K → K → Ordering) → K → ℕ → List (Slot K T) → Type 0
 AllAbove {K} {T} cmp key n os = (k : ℕ) (s : Slot K T) → n ≤ k → slice_get os k ≡ Some s → cmp s.key key ≡ Greater
+
+-- the numbers of a ring whose first one is in the cell at `head`
+abbrev pub turned : (head : ℕ) → (cells : List ℕ) → List ℕ
+turned head cells = drop head cells ++ take head cells
+
+-- each ring has so many numbers
+abbrev pub AreFull : (each : ℕ) → (rings : List (List ℕ)) → Type 0
+AreFull each [] = Unit {0}
+AreFull each (ring ∷ rings) = (length ring ≡ each) × AreFull each rings

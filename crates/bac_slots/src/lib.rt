@@ -13,15 +13,18 @@ mod ages;
 mod comparing;
 mod each;
 mod entering;
+mod filling;
 mod index_slots;
 mod laws;
 mod places;
 mod plain_slots;
 mod removing;
+mod ring;
 mod slot;
 mod slot_table;
 mod sweeping;
 mod ticking;
+mod tiers;
 
 pub use aged::{Aged, Ticks};
 pub use aged_table::{AgedTable, empty_table};

@@ -1,9 +1,9 @@
 //! Places of slots, kept in an order; the first place can be removed without passing over the others.
 ghost use Rattle.std.specs.Prelude.{◌≡◌, ◌-◌, ◌^◌, ◌+◌, ◌<◌, ◌≤◌, [], length, map, Some, IfOk, slice_get};
-ghost use Rattle.std.specs.Prelude.{vec_capacity};
 ghost use Rattle.std.specs.List.{insert, remove};
 ghost use Rattle.bac_slots.specs.Indexes.{lowered, Avoids};
 
+use crate::tiers::Tiers;
 use std::alloc::{AllocError, Global};
 use std::marker::Model;
 
@@ -13,19 +13,19 @@ pub(crate) const MOST_PLACES: u32 = 2_147_483_648;
 /// Places of slots, with a capacity. Each place is kept as a number that is greater by how often the first place was removed.
 #[derive(Drop)]
 pub(crate) struct Places {
-    numbers: Vec<u32>,
+    numbers: Tiers,
     gone: u32,
 }
 
 impl Model for Places {
-    ghost use Rattle.std.specs.Prelude.{◌≡◌, ℕ, ◌^◌, ◌≤◌, List, map, vec_capacity};
+    ghost use Rattle.std.specs.Prelude.{◌≡◌, ℕ, ◌^◌, ◌≤◌, List, map};
     ghost use Rattle.bac_slots.specs.Indexes.{places_of, AllFrom};
 
     ghost Value = { List ℕ × ℕ };
 
-    ghost view = { λ p. (places_of p.gone p.numbers.items, vec_capacity p.numbers) };
+    ghost view = { λ p. (places_of p.gone p.numbers.0, p.numbers.1) };
 
-    ghost invariant = { λ p. (p.gone ≤ 2 ^ 31) × AllFrom p.gone p.numbers.items };
+    ghost invariant = { λ p. (p.gone ≤ 2 ^ 31) × AllFrom p.gone p.numbers.0 };
 }
 
 impl Places {
@@ -34,7 +34,7 @@ impl Places {
         ensures { IfOk result (λ p. (p.0 ≡ []) × (room ≤ p.1)) }
     {
         Ok(Places {
-            numbers: Vec::with_capacity(alloc, room)?,
+            numbers: Tiers::new(alloc, room)?,
             gone: 0,
         })
     }
@@ -51,7 +51,7 @@ impl Places {
         requires { n < length self.now.0 }
         ensures { slice_get self.now.0 n ≡ Some result }
     {
-        (self.numbers[n] - self.gone) as usize
+        (self.numbers.at(n) - self.gone) as usize
     }
 
     /// Inserts a place before the n-th.
@@ -62,10 +62,7 @@ impl Places {
         ensures places { self.new.0 ≡ insert self.old.0 n place }
         ensures room { self.old.1 ≤ self.new.1 }
     {
-        match self.numbers.insert(n, place as u32 + self.gone) {
-            Ok(()) => {}
-            Err(_) => unreachable!(),
-        }
+        self.numbers.insert(n, place as u32 + self.gone);
     }
 
     /// Removes the n-th place, which differs from all others; places greater than it become one less.
@@ -73,36 +70,15 @@ impl Places {
         requires within { n < length self.old.0 }
         requires once { Avoids place (remove self.old.0 n) }
         ensures places { self.new.0 ≡ map (lowered place) (remove self.old.0 n) }
-        ensures room { self.new.1 ≡ self.old.1 }
+        ensures room { self.old.1 ≤ self.new.1 }
     {
         self.numbers.remove(n);
         if place == 0 && self.gone < MOST_PLACES {
             self.gone += 1;
         } else {
-            settle(&mut self.numbers, self.gone, place);
+            self.numbers.settle(self.gone, place);
             self.gone = 0;
         }
-    }
-}
-
-/// Makes each number the place itself; places greater than `gone` become one less.
-fn settle(numbers: &mut Vec<u32>, first: u32, gone: usize)
-    ensures numbers { numbers.new.items ≡ map (λ n. lowered gone (n - first)) numbers.old.items }
-    ensures capacity { vec_capacity numbers.new ≡ vec_capacity numbers.old }
-{
-    for number in numbers.iter_mut() {
-        *number = settled(*number, first, gone);
-    }
-}
-
-fn settled(number: u32, first: u32, gone: usize) -> u32
-    ensures { result ≡ lowered gone (number - first) }
-{
-    let place = number.saturating_sub(first);
-    if gone < place as usize {
-        place - 1
-    } else {
-        place
     }
 }
 

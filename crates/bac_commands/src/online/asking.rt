@@ -1,14 +1,17 @@
 //! `bac ask`: a node that asks.
-ghost use Rattle.std.specs.Prelude.{IfOk};
+ghost use Rattle.std.specs.Prelude.{◌≡◌, IfOk};
+ghost use Rattle.bac_driver.specs.Asking.{AskingEnds};
 ghost use Rattle.bac_driver.specs.Runs.{timed};
 ghost use Rattle.bac_driver.specs.Views.{question_view};
 ghost use Rattle.bac_commands.specs.AskEnds.{Asked, ReportsAsking};
+ghost use Rattle.bac_commands.specs.Spent.{is_spent};
 
 use super::ask_end::print_ask_end;
 use super::command_error::CommandError;
 use super::output_format::OutputFormat;
 use super::progress::Progress;
-use bac_driver::{BoundNode, Clock, Link, Question, RunLimit, WaitLimit};
+use bac_driver::{AskEnd, BoundNode, Clock, Link, Question, RunLimit, WaitLimit};
+use bac_requester::AskFault;
 use bac_text::Status;
 use std::alloc::Global;
 use std::io::Write;
@@ -29,6 +32,45 @@ pub struct AskCommand<'a> {
     pub shows_progress: bool,
 }
 
+/// Whether an ask was refused since its node has no invoke ID left for the peer, or no slot: a node that has asked nothing never refuses one for that.
+pub fn is_spent(fault: AskFault) -> bool
+    ensures { result ≡ is_spent fault }
+{
+    match fault {
+        AskFault::NoSlot => true,
+        AskFault::NoInvokeId => true,
+        AskFault::NeedsSegments => false,
+        AskFault::TooLong => false,
+        AskFault::SelfPeer => false,
+        AskFault::ClockBack => false,
+        AskFault::NoMemory => false,
+    }
+}
+
+/// A node asks, and takes at most 100,000 turns on its link until the ask has ended. Answers how it did; nothing is printed of that. Where progress is shown,
+/// one line of `err`, a terminal, has it until then, as [`ask`] says.
+///
+/// `Link` where the link can't receive, `Clock` where the clock goes back.
+pub fn ask_unprinted<L: Link, C: Clock, E: Write>(
+    bound_node: &mut BoundNode<L>,
+    clock: &mut C,
+    command: &AskCommand<'_>,
+    err: &mut E,
+) -> Result<AskEnd, CommandError>
+    ensures { IfOk result (λ end. AskingEnds (question_view command.now.question.now) end command.now.wait_limit 100000
+        (timed bound_node.old (C.told clock.old)) (timed bound_node.new (C.told clock.new))) }
+{
+    let limit = RunLimit {
+        turns: TURNS,
+        wait_limit: command.wait_limit,
+    };
+    let mut progress = Progress::new(command.shows_progress);
+    let ended = bound_node.ask_observed(clock, command.question, &limit, &mut progress, err);
+    progress.end(err);
+    let end = ended?;
+    Ok(end)
+}
+
 /// Asks, and prints how that ended. Answers whether the ask succeeded.
 fn ask_and_print<L: Link, C: Clock, O: Write, E: Write>(
     alloc: Global,
@@ -41,14 +83,7 @@ fn ask_and_print<L: Link, C: Clock, O: Write, E: Write>(
     ensures { IfOk result (λ succeeded. Asked command.now.output_format succeeded (question_view command.now.question.now) command.now.wait_limit
         (timed bound_node.old (C.told clock.old)) (timed bound_node.new (C.told clock.new)) (O.contents out.old) (O.contents out.new)) }
 {
-    let limit = RunLimit {
-        turns: TURNS,
-        wait_limit: command.wait_limit,
-    };
-    let mut progress = Progress::new(command.shows_progress);
-    let ended = bound_node.ask_observed(clock, command.question, &limit, &mut progress, err);
-    progress.end(err);
-    let end = ended?;
+    let end = ask_unprinted(bound_node, clock, command, err)?;
     let request = &command.question.request;
     let succeeded = print_ask_end(alloc, command.output_format, request, &end, out, err)?;
     Ok(succeeded)

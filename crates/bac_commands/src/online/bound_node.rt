@@ -3,7 +3,7 @@ ghost use Rattle.std.specs.Prelude.{◌≡◌, false, IfOk, IsErrOf};
 ghost use Rattle.bac_node.specs.Fresh.{large_slots_fit};
 ghost use Rattle.bac_commands.specs.Houses.{client_node, house_node, server_node};
 
-use crate::fresh_node::{node_of, node_with, server_node};
+use crate::fresh_node::{asking_node, node_with, server_node};
 use bac_driver::{BoundNode, Link};
 use bac_node::NewNodeFault;
 use bac_npdu::LinkAddress;
@@ -51,10 +51,7 @@ pub fn bound_house<L: Link>(
     BoundNode::new(alloc, node, link)
 }
 
-/// How many slots a node has that asks for a list: one for each invoke ID.
-const IDS: usize = 256;
-
-/// The same with 256 slots at each end.
+/// The same of a node that asks for lists: it has 65,536 slots for asks of its own, and 256 for those of others.
 pub fn bound_client<L: Link>(
     alloc: Global,
     link: L,
@@ -66,7 +63,7 @@ pub fn bound_client<L: Link>(
     ensures calls { IfOk result (λ s. s.calls ≡ L.calls link) }
 {
     let store = house(alloc)?;
-    let mut node = node_of(alloc, IDS, address, store)?;
+    let mut node = asking_node(alloc, address, store)?;
     node.set_first_invoke_id(first_id);
     BoundNode::new(alloc, node, link)
 }

@@ -1,5 +1,5 @@
 //! `bac serve --keep`: a node that serves in rounds, and whose store is kept.
-ghost use Rattle.std.specs.Prelude.{IfOk, OnOk};
+ghost use Rattle.std.specs.Prelude.{◌≡◌, IfOk, OnOk};
 ghost use Rattle.bac_driver.specs.Kept.{keeper_of};
 ghost use Rattle.bac_driver.specs.Observed.{observed};
 ghost use Rattle.bac_driver.specs.Rounds.{IsKept};
@@ -47,6 +47,7 @@ fn serve_rounds<L: Link, C: Clock, K: Keeper, V: Observer<E>, O: Write, E: Write
         (observed (timed server.new.bound_node (C.told server.new.clock)) (V.state watch.new err.new)) (O.contents out.old) (O.contents out.new)) }
     ensures all { OnOk result (AllIsKept K.IsHonest K.IsOpen K.kept K.noted (keeper_of server.new.round) server.new.bound_node.node.store) }
     ensures honest { K.IsHonest (keeper_of server.new.round) → K.IsHonest (keeper_of server.old.round) }
+    ensures base { K.base (keeper_of server.new.round) ≡ K.base (keeper_of server.old.round) }
     ensures kept { EndsKept Unseen limit.now.wait_limit limit.now.turns K.IsHonest K.IsOpen K.kept K.noted K.may_find (keeper_of server.new.round)
         (unwatched (timed server.old.bound_node (C.told server.old.clock))) (unwatched (timed server.new.bound_node (C.told server.new.clock))) }
 {
@@ -73,6 +74,7 @@ pub fn serve_kept<L: Link, C: Clock, K: Keeper, V: Observer<E>, O: Write, E: Wri
         (observed (timed server.new.bound_node (C.told server.new.clock)) (V.state watch.new err.new)) (O.contents out.old) (O.contents out.new) }
     ensures all { IsKeptByStatus result K.IsHonest K.IsOpen K.kept K.noted (keeper_of server.new.round) server.new.bound_node.node.store }
     ensures honest { K.IsHonest (keeper_of server.new.round) → K.IsHonest (keeper_of server.old.round) }
+    ensures base { K.base (keeper_of server.new.round) ≡ K.base (keeper_of server.old.round) }
     ensures kept { EndsKept Unseen limit.now.wait_limit limit.now.turns K.IsHonest K.IsOpen K.kept K.noted K.may_find (keeper_of server.new.round)
         (unwatched (timed server.old.bound_node (C.told server.old.clock))) (unwatched (timed server.new.bound_node (C.told server.new.clock))) }
 {

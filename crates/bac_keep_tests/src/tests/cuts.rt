@@ -59,14 +59,20 @@ pub(super) fn options() -> Options {
 
 /// Takes the rounds over a new database. Returns how many were kept, and the database.
 fn play<S: Store + Drop>(alloc: Global, database: S) -> Result<(usize, S), KeepFault> {
-    let (mut keeper, mut store) = CellKeeper::open(alloc, house(alloc)?, database)?;
+    let (mut keeper, mut store) = match CellKeeper::open(alloc, house(alloc)?, database) {
+        Ok(opened) => opened,
+        Err((fault, _)) => return Err(fault),
+    };
     let kept = keep_rounds(alloc, &mut keeper, &mut store, ROUNDS);
     Ok((kept, keeper.into_database()))
 }
 
 /// The store that the next start finds.
 pub(super) fn found<S: Store + Drop>(alloc: Global, database: S) -> Result<Objects, KeepFault> {
-    let (_keeper, store) = CellKeeper::open(alloc, house(alloc)?, database)?;
+    let (_keeper, store) = match CellKeeper::open(alloc, house(alloc)?, database) {
+        Ok(opened) => opened,
+        Err((fault, _)) => return Err(fault),
+    };
     Ok(store)
 }
 

@@ -80,7 +80,10 @@ fn database(alloc: Global) -> Result<MemStore, KeepFault> {
 /// Keeps the write over the document with Unsigned 0. Returns the database.
 fn written<S: Store + Drop>(alloc: Global, database: S) -> Result<S, KeepFault> {
     let first = document(alloc, 1, b"\x21\x00", true)?;
-    let (mut keeper, mut store) = CellKeeper::open(alloc, first, database)?;
+    let (mut keeper, mut store) = match CellKeeper::open(alloc, first, database) {
+        Ok(opened) => opened,
+        Err((fault, _)) => return Err(fault),
+    };
     if keep_rounds(alloc, &mut keeper, &mut store, WRITE) != 1 {
         return Err(KeepFault::Shut);
     }
@@ -95,7 +98,10 @@ fn finds<S: Store + Drop>(
     wanted: &Objects,
 ) -> Result<bool, KeepFault> {
     let database = written(alloc, database)?;
-    let (_keeper, store) = CellKeeper::open(alloc, next, database)?;
+    let (_keeper, store) = match CellKeeper::open(alloc, next, database) {
+        Ok(opened) => opened,
+        Err((fault, _)) => return Err(fault),
+    };
     Ok(store.same(wanted))
 }
 

@@ -51,7 +51,10 @@ const FILE: Selection = Selection {
 
 /// A database that keeps all rounds over the house.
 fn kept<S: Store + Drop>(alloc: Global, database: S) -> Result<S, KeepFault> {
-    let (mut keeper, mut store) = CellKeeper::open(alloc, house(alloc)?, database)?;
+    let (mut keeper, mut store) = match CellKeeper::open(alloc, house(alloc)?, database) {
+        Ok(opened) => opened,
+        Err((fault, _)) => return Err(fault),
+    };
     if keep_rounds(alloc, &mut keeper, &mut store, ALL) != ALL.len() {
         return Err(KeepFault::Shut);
     }

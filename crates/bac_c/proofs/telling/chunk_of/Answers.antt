@@ -1,7 +1,7 @@
 -- The last chunk may be short.
 use Rattle.std.proofs.Common.{arith, ◌≡◌, ◌+◌, ◌-◌, ◌*◌, ap, take, drop, ℕ}
 use Rattle.bac_keep.specs.Overlay.{CHUNK}
-use Rattle.bac_c.proofs.KeptChunks.{last_chunk}
+use Rattle.bac_keep.proofs.Chunks.{last_chunk}
 use Rattle.bac_c.proofs.telling.chunk_of.Goals as goal
 
 pub returns-then-octets-start-le-CHUNK : goal.returns-then-octets-start-le-CHUNK

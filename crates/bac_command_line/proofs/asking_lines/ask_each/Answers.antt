@@ -1,9 +1,10 @@
-use Rattle.std.proofs.Common.{◌≡◌, ◌<◌, ◌+◌, length, map, drop, refl, arith}
-use Rattle.std.proofs.lemmas.List.{drop_all, length-map}
+use Rattle.std.proofs.Common.{◌<◌, ◌+◌, length, drop, refl, arith}
+use Rattle.std.proofs.lemmas.List.{drop_all}
 use Rattle.std.proofs.lemmas.Option.{slice_get_read}
 use Rattle.bac_driver.specs.Runs.{timed}
-use Rattle.bac_simulate.proofs.Appending.{drop_seen}
-use Rattle.bac_command_line.specs.AskedLines.{AsksEach, line_view}
+use Rattle.bac_simulate.proofs.Appending.{drop_next}
+use Rattle.bac_command_line.specs.AskedLines.{AsksEach}
+use Rattle.bac_command_line.specs.Online.{OnPort}
 use Rattle.bac_command_line.proofs.AskedLines.{all_asked, one_more_asked}
 use Rattle.bac_command_line.proofs.asking_lines.ask_each.Goals as goal
 
@@ -12,18 +13,17 @@ loop-place-preserved g c =
     let at = c.loop-place in
     let e = c.index-lines-place.result in
     let lt : at.place < length c.args.lines.now = omega arith in
-    λ all last end more. one_more_asked c.args.asking.now (drop at.place (map line_view c.args.lines.now))
-    (drop (at.place + 1) (map line_view c.args.lines.now)) (line_view e) at.all _ _ all _ _ last _ _ end
-    (λ b t o. AsksEach c.args.asking.now (map line_view c.args.lines.now) b (timed c.args.station.now.bound_node (g.C.Clock.told c.args.station.now.clock)) t
-    (g.O.Write.contents c.args.out.now) o)
-    (drop_seen line_view c.args.lines.now at.place e (slice_get_read c.args.lines.now _ at.place e refl lt c.index-lines-place.is))
+    λ all last end more. one_more_asked (OnPort g.M.Machine.is_bound g.M.Link.Link.failures g.M.Link.Link.calls) c.args.asking.now
+    (drop at.place c.args.lines.now) (drop (at.place + 1) c.args.lines.now) e at.all _ _ all _ _ last _ _ end
+    (λ b t o. AsksEach (OnPort g.M.Machine.is_bound g.M.Link.Link.failures g.M.Link.Link.calls) c.args.asking.now c.args.lines.now b
+    (timed c.args.client.now.station.bound_node (g.M.Timer.Clock.told c.args.client.now.station.clock)) t (g.O.Write.contents c.args.out.now) o)
+    (drop_next c.args.lines.now at.place e (slice_get_read c.args.lines.now _ at.place e refl lt c.index-lines-place.is))
     c.both-all.ensures c.in_ok-succeeded.ensures.asked at.invariant more
 
 pub returns-clause-asked : goal.returns-clause-asked
 returns-clause-asked g c =
     let at = c.loop-place in
-    let same : length (map line_view c.args.lines.now) ≡ length c.args.lines.now = length-map c.args.lines.now line_view in
-    all_asked c.args.asking.now (drop at.place (map line_view c.args.lines.now)) at.all _ _
-    (λ b t o. AsksEach c.args.asking.now (map line_view c.args.lines.now) b (timed c.args.station.now.bound_node (g.C.Clock.told c.args.station.now.clock)) t
-    (g.O.Write.contents c.args.out.now) o)
-    (drop_all at.place (map line_view c.args.lines.now) (omega (arith, same))) at.invariant
+    all_asked (OnPort g.M.Machine.is_bound g.M.Link.Link.failures g.M.Link.Link.calls) c.args.asking.now (drop at.place c.args.lines.now) at.all _ _
+    (λ b t o. AsksEach (OnPort g.M.Machine.is_bound g.M.Link.Link.failures g.M.Link.Link.calls) c.args.asking.now c.args.lines.now b
+    (timed c.args.client.now.station.bound_node (g.M.Timer.Clock.told c.args.client.now.station.clock)) t (g.O.Write.contents c.args.out.now) o)
+    (drop_all at.place c.args.lines.now (omega arith)) at.invariant

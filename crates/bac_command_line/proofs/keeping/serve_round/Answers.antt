@@ -6,7 +6,7 @@ use Rattle.bac_command_line.proofs.keeping.serve_round.Goals as goal
 
 pub returns : goal.returns
 returns g c =
-    served_so g.K.Keeper.IsHonest g.K.Keeper.IsOpen g.K.Keeper.kept g.K.Keeper.noted _ _
+    served_so g.K.Keeper.IsHonest g.K.Keeper.IsOpen g.K.Keeper.kept g.K.Keeper.noted g.K.Keeper.base _ _
     (OnPort g.M.Machine.is_bound g.M.Link.Link.failures g.M.Link.Link.calls) (OnClock g.M.Machine.is_made g.M.Timer.Clock.told) _ _ c.now-start.result
     c.restart-restart.result c.in-Ok.bound.1 _ _ _ _ c.serve_kept_from.result c.restart-restart.ensures c.in-Ok-bound_server.ensures.node
     (record { link = c.in-Ok.bound.0; bound = c.in-Ok.ensures; failed = c.in-Ok-bound_server.ensures.failures; made = c.in-Ok-bound_server.ensures.calls })
@@ -16,3 +16,4 @@ returns g c =
       is = c.now-start.ensures.tells;
     })
     c.serve_kept_from.ensures.printed c.serve_kept_from.ensures.all c.serve_kept_from.ensures.honest
+    c.serve_kept_from.ensures.base

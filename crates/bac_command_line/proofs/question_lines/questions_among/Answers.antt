@@ -1,11 +1,12 @@
-use Rattle.std.proofs.Common.{◌≡◌, ◌<◌, ◌+◌, [], length, map, drop, Some, ap, ◌∙◌, refl, append-nil, arith}
+use Rattle.std.proofs.Common.{◌≡◌, ◌<◌, ◌+◌, List, length, map, drop, arith}
 use Rattle.std.proofs.lemmas.List.{drop_all, length-map}
 use Rattle.std.proofs.lemmas.Result.{err_from_is_err_and}
 use Rattle.std.proofs.lemmas.Option.{slice_get-get_or}
+use Rattle.std.specs.Option.{option_map}
 use Rattle.bac_npdu.specs.Views.{peer_view}
 use Rattle.bac_simulate.proofs.Appending.{drop_seen}
-use Rattle.bac_command_line.specs.AskedLines.{line_view, questions_from}
-use Rattle.bac_command_line.proofs.ReadLines.{bad_line_read, none_more_read, one_more_read, same_fault}
+use Rattle.bac_command_line.specs.AskedLines.{AreQuestions, HaveBadLine, Numbered, line_view}
+use Rattle.bac_command_line.proofs.ReadLines.{all_read, bad_line_read, one_more_read, others_bad, same_fault}
 use Rattle.bac_command_line.proofs.question_lines.questions_among.Goals as goal
 
 pub loop-place-preserved : goal.loop-place-preserved
@@ -14,20 +15,17 @@ loop-place-preserved g c =
     let lt : at.place < length c.args.lines.now = omega arith in
     let next = drop_seen (λ p. p.now) c.args.lines.now at.place _ (slice_get-get_or c.args.lines.now at.place _ lt) in
     record {
-      good = λ more read. one_more_read (peer_view c.args.peer) (at.place + 1) (at.place + 1 + 1) (drop at.place (map (λ p. p.now) c.args.lines.now))
-          (drop (at.place + 1) (map (λ p. p.now) c.args.lines.now)) _ _ _ more
-          (questions_from (peer_view c.args.peer) 1 (map (λ p. p.now) c.args.lines.now)) refl next c.in_ok-add_line.ensures.added at.invariant.good read;
-      bad = λ none. none_more_read (peer_view c.args.peer) (at.place + 1) (at.place + 1 + 1) (drop at.place (map (λ p. p.now) c.args.lines.now))
-          (drop (at.place + 1) (map (λ p. p.now) c.args.lines.now)) _ _ _
-          (questions_from (peer_view c.args.peer) 1 (map (λ p. p.now) c.args.lines.now)) refl next c.in_ok-add_line.ensures.added at.invariant.bad none;
+      good = λ more read. one_more_read (option_map peer_view c.args.default) (at.place + 1) (drop at.place (map (λ p. p.now) c.args.lines.now)) (drop (at.place + 1) (map (λ p. p.now) c.args.lines.now)) _ _ _ more
+          (λ (all : List Numbered). AreQuestions (option_map peer_view c.args.default) 1 (map (λ p. p.now) c.args.lines.now) all) next c.in_ok-add_line.ensures.added at.invariant.good read;
+      bad = λ bad. others_bad (option_map peer_view c.args.default) (drop at.place (map (λ p. p.now) c.args.lines.now)) (drop (at.place + 1) (map (λ p. p.now) c.args.lines.now)) _ (HaveBadLine (option_map peer_view c.args.default) (map (λ p. p.now) c.args.lines.now)) next at.invariant.bad bad;
     }
 
 pub returns-clause-read : goal.returns-clause-read
 returns-clause-read g c =
     let at = c.loop-place in
     let same : length (map (λ p. p.now) c.args.lines.now) ≡ length c.args.lines.now = length-map c.args.lines.now (λ p. p.now) in
-    at.invariant.good [] (ap (questions_from (peer_view c.args.peer) (at.place + 1)) (drop_all at.place (map (λ p. p.now) c.args.lines.now) (omega (arith, same))))
-    ∙ ap Some (append-nil (map line_view at.questions.items))
+    all_read (option_map peer_view c.args.default) (at.place + 1) (drop at.place (map (λ p. p.now) c.args.lines.now)) (map line_view at.questions.items) (λ (all : List Numbered). AreQuestions (option_map peer_view c.args.default) 1 (map (λ p. p.now) c.args.lines.now) all)
+    (drop_all at.place (map (λ p. p.now) c.args.lines.now) (omega (arith, same))) at.invariant.good
 
 pub returns-in_err-add_line-clause-refused : goal.returns-in_err-add_line-clause-refused
 returns-in_err-add_line-clause-refused g c =
@@ -35,7 +33,6 @@ returns-in_err-add_line-clause-refused g c =
     let lt : at.place < length c.args.lines.now = omega arith in
     let p = err_from_is_err_and c.from_residual.result c.from_residual.ensures.1 in
     rw (p.1, p.2)
-    (λ e. bad_line_read (peer_view c.args.peer) (at.place + 1) (drop at.place (map (λ p. p.now) c.args.lines.now))
-    (drop (at.place + 1) (map (λ p. p.now) c.args.lines.now)) _ (questions_from (peer_view c.args.peer) 1 (map (λ p. p.now) c.args.lines.now))
+    (λ e. bad_line_read (option_map peer_view c.args.default) (drop at.place (map (λ p. p.now) c.args.lines.now)) (drop (at.place + 1) (map (λ p. p.now) c.args.lines.now)) _ (HaveBadLine (option_map peer_view c.args.default) (map (λ p. p.now) c.args.lines.now))
     (drop_seen (λ p. p.now) c.args.lines.now at.place _ (slice_get-get_or c.args.lines.now at.place _ lt)) (c.in_err-add_line.ensures.refused (same_fault _ _ e))
     at.invariant.bad)

@@ -3,11 +3,12 @@ use Rattle.std.proofs.Common.{◌≡◌, ℕ, ◌+◌, ◌&&◌, Bool, List, Opt
 use Rattle.bac_driver.specs.Runs.{Timed, timed}
 use Rattle.bac_command_line.specs.Asked.{AsksAll}
 use Rattle.bac_command_line.specs.Rounds.{AreRoundsFrom}
+use Rattle.bac_command_line.specs.Online.{OnPort}
 use Rattle.bac_command_line.proofs.rounds.ask_rounds.Given as goal
 
 abbrev pub invariant-loop : goal.invariant-loop
 invariant-loop g l = (left : ℕ) → left + l.counter ≡ l.times → (all : Bool) (last : Timed) (end : Option (List ℕ))
-    → AreRoundsFrom (AsksAll l.asking l.asked) l.rounds.every left l.from all (timed l.station.bound_node (g.C.Clock.told l.station.clock)) last
+    → AreRoundsFrom (AsksAll (OnPort g.M.Machine.is_bound g.M.Link.Link.failures g.M.Link.Link.calls) l.asking l.asked) l.rounds.every left l.from all (timed l.client.station.bound_node (g.M.Timer.Clock.told l.client.station.clock)) last
     (g.O.Write.contents l.out) end
-    → AreRoundsFrom (AsksAll l.asking l.asked) l.rounds.every l.times 0 (l.all && all) (timed l.fn.station.bound_node (g.C.Clock.told l.fn.station.clock)) last
+    → AreRoundsFrom (AsksAll (OnPort g.M.Machine.is_bound g.M.Link.Link.failures g.M.Link.Link.calls) l.asking l.asked) l.rounds.every l.times 0 (l.all && all) (timed l.fn.client.station.bound_node (g.M.Timer.Clock.told l.fn.client.station.clock)) last
     (g.O.Write.contents l.fn.out) end

@@ -1,36 +1,26 @@
-use Rattle.std.proofs.Common.{◌≡◌, ◌<◌, ◌+◌, length, map, drop, refl, arith}
-use Rattle.std.proofs.lemmas.List.{drop_all, length-map}
-use Rattle.std.proofs.lemmas.Option.{slice_get_read}
-use Rattle.bac_driver.specs.Runs.{timed}
-use Rattle.bac_simulate.proofs.Appending.{drop_seen}
-use Rattle.bac_command_line.specs.AskedLines.{line_view}
-use Rattle.bac_command_line.specs.InFlight.{AsksAhead}
-use Rattle.bac_command_line.proofs.InFlight.{all_told, one_more_told}
+use Rattle.std.proofs.Common.{length, refl, arith}
+use Rattle.bac_command_line.specs.Online.{OnPort}
+use Rattle.bac_command_line.proofs.InFlight.{all_printed, none_printed_of, one_more_printed}
+use Rattle.bac_command_line.proofs.Once.{asked_once}
 use Rattle.bac_command_line.proofs.window.ask_ahead.Goals as goal
 
 pub loop-place-preserved : goal.loop-place-preserved
 loop-place-preserved g c =
     let at = c.loop-place in
-    let e = c.index-lines-place.result in
-    let lt : at.place < length c.args.lines.now = omega arith in
-    record {
-      kept = omega (arith, at.invariant.kept, c.in_ok-waiting.ensures.kept, c.in_ok-end.ensures.fewer);
-      whole = λ all last text more. one_more_told c.args.asking.now c.args.window (drop at.place (map line_view c.args.lines.now))
-          (drop (at.place + 1) (map line_view c.args.lines.now)) (map line_view at.waiting.now) (map line_view c.in_ok-waiting.waiting.now) (line_view e)
-          at.all _ _ all _ _ _ c.in_ok-end.end last _ _ text
-          (λ b t o. AsksAhead c.args.asking.now c.args.window (map line_view c.args.lines.now) b
-          (timed c.args.station.now.bound_node (g.C.Clock.told c.args.station.now.clock)) t
-          (g.O.Write.contents c.args.out.now) o)
-          (drop_seen line_view c.args.lines.now at.place e (slice_get_read c.args.lines.now _ at.place e refl lt c.index-lines-place.is))
-          c.both-all.ensures c.in_ok-waiting.ensures.begun c.in_ok-end.ensures.ended c.in_ok-succeeded.ensures.told at.invariant.whole more;
-    }
+    one_more_printed (OnPort g.M.Machine.is_bound g.M.Link.Link.failures g.M.Link.Link.calls) _ _ _ _ _ _ _ (length c.args.lines.now) at.place at.all _ _ at.invariant c.both-all.ensures c.in_ok-succeeded.ensures.told
 
 pub returns-clause-asked : goal.returns-clause-asked
 returns-clause-asked g c =
     let at = c.loop-place in
-    let same : length (map line_view c.args.lines.now) ≡ length c.args.lines.now = length-map c.args.lines.now line_view in
-    all_told c.args.asking.now c.args.window (drop at.place (map line_view c.args.lines.now)) (map line_view at.waiting.now) at.all _ _
-    (λ b t o. AsksAhead c.args.asking.now c.args.window (map line_view c.args.lines.now) b
-    (timed c.args.station.now.bound_node (g.C.Clock.told c.args.station.now.clock)) t
-    (g.O.Write.contents c.args.out.now) o)
-    (drop_all at.place (map line_view c.args.lines.now) (omega (arith, same))) at.invariant.whole
+    let prints = all_printed (OnPort g.M.Machine.is_bound g.M.Link.Link.failures g.M.Link.Link.calls) _ _ _ _ _ (length c.args.lines.now) at.place at.all (omega arith) at.invariant in
+    record {
+      share = c.in-Ok.share;
+      events = at.invariant.events;
+      prints = prints;
+      once = λ place. asked_once (OnPort g.M.Machine.is_bound g.M.Link.Link.failures g.M.Link.Link.calls) _ place (length c.args.lines.now) at.invariant.events at.all _ _ c.args.lines.now _ _ refl prints;
+    }
+
+pub loop-place-init : goal.loop-place-init
+loop-place-init g c =
+    none_printed_of (OnPort g.M.Machine.is_bound g.M.Link.Link.failures g.M.Link.Link.calls) _ _ c.args.lines.now _ _ (length c.args.lines.now)
+    c.in-Ok-new.ensures

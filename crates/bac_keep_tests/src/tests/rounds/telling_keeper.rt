@@ -30,6 +30,10 @@ impl Keeper for TellingKeeper<'_> {
 
     ghost may_find = { λ _ _. ⊤ };
 
+    ghost Base = { Unit {0} };
+
+    ghost base = { λ _. tt };
+
     fn note(&mut self, _made: &Made<'_>, _store: &Store) -> Result<(), KeepFault> {
         add(self.steps, Step::Noted);
         Ok(())

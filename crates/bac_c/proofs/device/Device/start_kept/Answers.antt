@@ -1,14 +1,13 @@
 -- The node that is started has the cells over the store of the copies.
 use Rattle.std.proofs.Common.{map, ap, ◌∙◌}
-use Rattle.bac_store.specs.Made.{IsMadeOf}
 use Rattle.bac_store.specs.Views.{object_view}
 use Rattle.bac_c.specs.Kept.{cells_in}
-use Rattle.bac_c.specs.Starting.{listed_in}
+use Rattle.bac_c.specs.Starting.{listed_in, makes}
 use Rattle.bac_c.proofs.Starts.{restored_with}
 use Rattle.bac_c.proofs.device.Device.start_kept.Goals as goal
 
 pub returns-clause-started : goal.returns-clause-started
 returns-clause-started c =
-    restored_with IsMadeOf c.args.settings.now c.in_ok-config.config c.args.now (listed_in c.args.self.now) (map object_view c.in-Ok.objects.items) (cells_in c.args.self.now.kept)
-    c.in_ok-document.document c.in_ok-node.node c.in_ok-config.ensures.says (c.in-Ok.ensures ∙ ap (map object_view) c.deref.ensures.value) c.in_ok-document.ensures.made
-    c.in_ok-node.ensures.made _ c.run.ensures.node
+    restored_with (makes c.args.rule) (listed_in c.args.self.now) (map object_view c.in-Ok.objects.items) c.in_ok-document.document
+    (c.in-Ok.ensures ∙ ap (map object_view) c.deref.ensures.value) c.in_ok-document.ensures.made c.args.settings.now c.in_ok-config.config c.args.now
+    (cells_in c.args.self.now.kept) c.in_ok-node.node c.in_ok-config.ensures.says c.in_ok-node.ensures.fit c.in_ok-node.ensures.made _ c.run.ensures.node

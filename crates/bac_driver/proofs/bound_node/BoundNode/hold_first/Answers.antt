@@ -3,7 +3,8 @@ use Rattle.std.proofs.Common.{◌∙◌, rules}
 use Rattle.bac_driver.specs.Runs.{timed}
 use Rattle.bac_driver.specs.Views.{turn_view}
 use Rattle.bac_driver.proofs.ChangesOfTurns.{unchanged_one}
-use Rattle.bac_driver.proofs.RoundsTaken.{held_early, held_one, no_calls, whatever}
+use Rattle.bac_driver.proofs.RoundsStopped.{first_stops, of_fault}
+use Rattle.bac_driver.proofs.RoundsTaken.{held_one, no_calls}
 use Rattle.bac_driver.proofs.bound_node.BoundNode.hold_first.Goals as goal
 
 pub returns-then-not-is_before-clause-unsent : goal.returns-then-not-is_before-clause-unsent
@@ -20,8 +21,8 @@ returns-clause-same g c = λ none.
     ∙ c.in_ok-turn.ensures.same (unchanged_one _ _ _ c.clear.ensures.turns c.add.ensures.turns none)
     ∙ c.clear.ensures.keeper
 
-pub returns-in_err-turn-clause-as_held : goal.returns-in_err-turn-clause-as_held
-returns-in_err-turn-clause-as_held g c =
-    whatever _ _
-    (held_early c.args.wait_limit.now c.now-began.result (timed c.args.self.now (g.C.Clock.told c.args.clock.now)) _ _ (search rules) (search rules)
-    c.in_err-turn.ensures.as_held)
+pub returns-in_err-turn-clause-stopped : goal.returns-in_err-turn-clause-stopped
+returns-in_err-turn-clause-stopped g c =
+    of_fault _ c.from_residual.result _ c.from_residual.ensures.1
+    (first_stops _ c.args.wait_limit.now c.now-began.result (timed c.args.self.now (g.C.Clock.told c.args.clock.now)) _ _ (search rules) (search rules)
+    c.in_err-turn.ensures.stopped)

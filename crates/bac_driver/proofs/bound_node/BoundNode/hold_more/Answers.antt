@@ -5,8 +5,8 @@ use Rattle.bac_driver.specs.Kept.{keeper_of}
 use Rattle.bac_driver.specs.Rounds.{FindsNoMore, HasNoted}
 use Rattle.bac_driver.specs.Views.{turn_view}
 use Rattle.bac_driver.proofs.ChangesOfTurns.{unchanged_after, unchanged_before}
-use Rattle.bac_driver.proofs.RoundsTaken.{finds_no_more, finds_same, held_next, held_on, no_calls, none_more, one_longer, one_more_held}
-use Rattle.bac_driver.proofs.RoundsTaken.{receives_more, whatever}
+use Rattle.bac_driver.proofs.RoundsStopped.{more_stops, of_fault}
+use Rattle.bac_driver.proofs.RoundsTaken.{finds_no_more, finds_same, held_next, no_calls, none_more, one_longer, one_more_held, receives_more}
 use Rattle.bac_driver.proofs.bound_node.BoundNode.hold_more.Goals as goal
 
 pub loop-init : goal.loop-init
@@ -19,6 +19,7 @@ loop-init g c =
       noted = c.requires.noted;
       kept = λ honest. refl;
       crash = finds_same _ _ _;
+      base = refl;
     }
 
 pub loop-preserved : goal.loop-preserved
@@ -48,6 +49,7 @@ loop-preserved g c =
       crash =
           subst (λ k. FindsNoMore g.K.Keeper.IsHonest g.K.Keeper.may_find (keeper_of c.args.round.now) k) (sym c.add.ensures.keeper)
           (finds_no_more _ _ _ _ _ c.loop.invariant.crash c.in_ok-turn.ensures.crash);
+      base = ap g.K.Keeper.base c.add.ensures.keeper ∙ c.in_ok-turn.ensures.base ∙ c.loop.invariant.base;
     }
 
 pub returns-in_err-turn-clause-unsent : goal.returns-in_err-turn-clause-unsent
@@ -56,9 +58,9 @@ returns-in_err-turn-clause-unsent g c = receives_more _ _ _ c.loop.invariant.uns
 pub returns-in_err-turn-clause-crash : goal.returns-in_err-turn-clause-crash
 returns-in_err-turn-clause-crash g c = finds_no_more _ _ _ _ _ c.loop.invariant.crash c.in_err-turn.ensures.crash
 
-pub returns-in_err-turn-clause-as_held : goal.returns-in_err-turn-clause-as_held
-returns-in_err-turn-clause-as_held g c =
+pub returns-in_err-turn-clause-stopped : goal.returns-in_err-turn-clause-stopped
+returns-in_err-turn-clause-stopped g c =
     let goes : c.may_go_on.result ≡ true = search rules in
-    whatever _ _
-    (held_on g.O.Observer.Sees _ _ _ _ _ _ c.loop.invariant.taken (c.may_go_on.ensures goes)
-    (c.latest-began.ensures ∙ ap (λ (n : Node). n.latest) c.node.ensures) c.in_err-turn.ensures.as_held)
+    of_fault _ c.from_residual.result _ c.from_residual.ensures.1
+    (more_stops g.O.Observer.Sees _ _ _ _ _ _ _ c.loop.invariant.taken (c.may_go_on.ensures goes)
+    (c.latest-began.ensures ∙ ap (λ (n : Node). n.latest) c.node.ensures) c.in_err-turn.ensures.stopped)

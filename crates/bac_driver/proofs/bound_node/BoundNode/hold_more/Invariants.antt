@@ -18,4 +18,5 @@ invariant-loop g l =
       noted : g.K.Keeper.IsHonest (keeper_of l.round) → HasNoted g.K.Keeper.IsOpen g.K.Keeper.noted (keeper_of l.round) l.self.node.store;
       kept : g.K.Keeper.IsHonest (keeper_of l.round) → g.K.Keeper.kept (keeper_of l.round) ≡ g.K.Keeper.kept (keeper_of l.initial.round);
       crash : FindsNoMore g.K.Keeper.IsHonest g.K.Keeper.may_find (keeper_of l.initial.round) (keeper_of l.round);
+      base : g.K.Keeper.base (keeper_of l.round) ≡ g.K.Keeper.base (keeper_of l.initial.round);
     }

@@ -3,7 +3,8 @@ use Rattle.std.proofs.Common.{◌≡◌, ◌∙◌, true, ap, arith, length, map
 use Rattle.bac_driver.specs.Serving.{performed_in}
 use Rattle.bac_driver.specs.Views.{turn_view}
 use Rattle.bac_driver.proofs.ChangesOfTurns.{few_performed}
-use Rattle.bac_driver.proofs.RoundsTaken.{held_all, held_first, held_others, receives_more, round_taken, whatever}
+use Rattle.bac_driver.proofs.RoundsStopped.{fails_first, fails_later, fails_to_keep, of_fault}
+use Rattle.bac_driver.proofs.RoundsTaken.{receives_more, round_taken, whatever}
 use Rattle.bac_driver.proofs.bound_node.BoundNode.round_before.Goals as goal
 
 pub returns-in_err-hold_more-clause-unsent : goal.returns-in_err-hold_more-clause-unsent
@@ -12,21 +13,22 @@ returns-in_err-hold_more-clause-unsent g c = whatever _ _ (receives_more _ _ _ c
 pub returns-in_err-keep-clause-unsent : goal.returns-in_err-keep-clause-unsent
 returns-in_err-keep-clause-unsent g c = whatever _ _ (receives_more _ _ _ c.in_ok-is_taken.ensures.unsent c.in_ok-hold_more.ensures.unsent)
 
-pub returns-in_err-is_taken-clause-as_held : goal.returns-in_err-is_taken-clause-as_held
-returns-in_err-is_taken-clause-as_held g c = whatever _ _ (held_first c.args.wait_limit.now _ _ c.in_err-is_taken.ensures.as_held)
+pub returns-in_err-is_taken-clause-failed : goal.returns-in_err-is_taken-clause-failed
+returns-in_err-is_taken-clause-failed g c =
+    of_fault _ c.from_residual.result _ c.from_residual.ensures.1 (fails_first _ c.args.wait_limit.now _ _ c.in_err-is_taken.ensures.stopped)
 
-pub returns-in_err-hold_more-clause-as_held : goal.returns-in_err-hold_more-clause-as_held
-returns-in_err-hold_more-clause-as_held g c =
+pub returns-in_err-hold_more-clause-failed : goal.returns-in_err-hold_more-clause-failed
+returns-in_err-hold_more-clause-failed g c =
     let taken : c.in_ok-is_taken.is_taken ≡ true = search rules in
-    whatever _ _
-    (held_others g.O.Observer.Sees c.args.wait_limit.now _ _ _ _ (c.in_ok-is_taken.ensures.taken taken) c.in_err-hold_more.ensures.as_held)
+    of_fault _ c.from_residual-in_err-hold_more.result _ c.from_residual-in_err-hold_more.ensures.1
+    (fails_later g.O.Observer.Sees _ c.args.wait_limit.now _ _ _ _ (c.in_ok-is_taken.ensures.taken taken) c.in_err-hold_more.ensures.stopped)
 
-pub returns-in_err-keep-clause-as_held : goal.returns-in_err-keep-clause-as_held
-returns-in_err-keep-clause-as_held g c =
+pub returns-in_err-keep-clause-failed : goal.returns-in_err-keep-clause-failed
+returns-in_err-keep-clause-failed g c =
     let taken : c.in_ok-is_taken.is_taken ≡ true = search rules in
-    whatever _ _
-    (held_all g.O.Observer.Sees c.args.wait_limit.now _ _ _ _ _ (c.in_ok-is_taken.ensures.taken taken) c.in_ok-hold_more.ensures.taken
-    c.in_ok-hold_more.ensures.most)
+    of_fault _ c.from_residual-in_err-keep.result _ c.from_residual-in_err-keep.ensures.1
+    (fails_to_keep g.O.Observer.Sees c.args.wait_limit.now _ _ _ _ _ (c.in_ok-is_taken.ensures.taken taken) c.in_ok-hold_more.ensures.taken
+    c.in_ok-hold_more.ensures.most c.in_err-keep.ensures.changed)
 
 pub returns-clause-over : goal.returns-clause-over
 returns-clause-over g c =

@@ -1,4 +1,5 @@
 -- So many rounds were taken, and what they changed is kept.
+use Rattle.std.proofs.Common.{◌≡◌}
 use Rattle.bac_driver.specs.Kept.{keeper_of}
 use Rattle.bac_driver.specs.Observed.{observed}
 use Rattle.bac_driver.specs.Rounds.{IsKept, TakesRounds}
@@ -13,4 +14,5 @@ invariant-loop g l =
           (observed (timed l.self (g.C.Clock.told l.clock)) (g.O.Observer.state l.observer l.out));
       kept : g.K.Keeper.IsHonest (keeper_of l.round) → IsKept g.K.Keeper.IsOpen g.K.Keeper.kept g.K.Keeper.noted (keeper_of l.round) l.self.node.store;
       honest : g.K.Keeper.IsHonest (keeper_of l.round) → g.K.Keeper.IsHonest (keeper_of l.initial.round);
+      base : g.K.Keeper.base (keeper_of l.round) ≡ g.K.Keeper.base (keeper_of l.initial.round);
     }

@@ -1,5 +1,5 @@
 -- An end moves at that moment, or at the latest one of the node.
-use Rattle.std.proofs.Common.{◌<◌, refl, min, subst, ap, max, sym, ◌∙◌}
+use Rattle.std.proofs.Common.{◌<◌, min, subst, ap, max}
 use Rattle.bac_requester.specs.Timers.{LAST_MOMENT}
 use Rattle.bac_node.proofs.Waits.{moves_at}
 use Rattle.bac_node.proofs.node.Node.first_due.Goals as goal

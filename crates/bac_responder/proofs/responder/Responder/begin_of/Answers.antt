@@ -1,5 +1,5 @@
 -- The entry of the key says it.
-use Rattle.std.proofs.Common.{Option, Some, sym, ap, ◌∙◌}
+use Rattle.std.proofs.Common.{Some, sym, ap, ◌∙◌}
 use Rattle.std.specs.Option.{option_map}
 use Rattle.bac_slots.specs.Slots.{value_at}
 use Rattle.bac_protocol.specs.Server.{ServerTransaction}

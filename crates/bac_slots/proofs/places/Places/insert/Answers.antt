@@ -8,11 +8,11 @@ pub invariant_of-self : goal.invariant_of-self
 invariant_of-self c =
     let i = c.self.inside in (
       c.self.invariant.0,
-      subst (λ l. AllFrom i.gone l) (sym c.in-Ok.ensures.items)
-          (from_insert i.gone i.numbers.items c.args.n (c.args.place + i.gone) c.self.invariant.1 (omega arith)),
+      subst (λ l. AllFrom i.gone l) (sym c.insert.ensures.numbers)
+          (from_insert i.gone i.numbers.0 c.args.n (c.args.place + i.gone) c.self.invariant.1 (omega arith)),
     )
 
 pub returns-clause-places : goal.returns-clause-places
 returns-clause-places c =
     let i = c.self.inside in
-    rw (← c.self.view_is) (ap (λ l. places_of i.gone l) c.in-Ok.ensures.items ∙ places_insert i.gone i.numbers.items c.args.n c.args.place)
+    rw (← c.self.view_is) (ap (λ l. places_of i.gone l) c.insert.ensures.numbers ∙ places_insert i.gone i.numbers.0 c.args.n c.args.place)

@@ -8,23 +8,23 @@ invariant_of-self c =
     let once = rw (← c.self.view_is) at c.requires.once in
     let i = c.self.inside in (
       omega (arith, c.if-self-lt-MOST_PLACES.true),
-      (took_first i.gone i.numbers.items c.remove.new.self.items c.args.n c.args.place c.self.invariant.1 c.remove.ensures.items c.if-place-eq0.true once).0,
+      (took_first i.gone i.numbers.0 c.remove.new.self.0 c.args.n c.args.place c.self.invariant.1 c.remove.ensures.numbers c.if-place-eq0.true once).0,
     )
 
 pub invariant_of-self-else-place-eq0 : goal.invariant_of-self-else-place-eq0
 invariant_of-self-else-place-eq0 c =
-    (omega arith, from_zero c.settle.new.numbers.items)
+    (omega arith, from_zero c.settle.new.self.0)
 
 pub returns-then-self-lt-MOST_PLACES-clause-places : goal.returns-then-self-lt-MOST_PLACES-clause-places
 returns-then-self-lt-MOST_PLACES-clause-places c =
     let once = rw (← c.self.view_is) at c.requires.once in
     let i = c.self.inside in
     rw (← c.self.view_is)
-    ((took_first i.gone i.numbers.items c.remove.new.self.items c.args.n c.args.place c.self.invariant.1 c.remove.ensures.items c.if-place-eq0.true once).1)
+    ((took_first i.gone i.numbers.0 c.remove.new.self.0 c.args.n c.args.place c.self.invariant.1 c.remove.ensures.numbers c.if-place-eq0.true once).1)
 
 pub returns-else-place-eq0-clause-places : goal.returns-else-place-eq0-clause-places
 returns-else-place-eq0-clause-places c =
     let i = c.self.inside in
     rw (← c.self.view_is)
-    (took_other i.gone i.numbers.items c.remove.new.self.items c.settle.new.numbers.items c.args.n c.args.place c.remove.ensures.items
+    (took_other i.gone i.numbers.0 c.remove.new.self.0 c.settle.new.self.0 c.args.n c.args.place c.remove.ensures.numbers
     c.settle.ensures.numbers)

@@ -1,0 +1,11 @@
+-- What has happened so far.
+use Rattle.bac_driver.specs.Runs.{timed}
+use Rattle.bac_command_line.specs.InFlight.{Goes, aloft, plan_view, sky}
+use Rattle.bac_command_line.specs.Online.{OnPort}
+use Rattle.bac_command_line.proofs.window.end_line.Given as goal
+
+abbrev pub invariant-loop : goal.invariant-loop
+invariant-loop g l =
+    Goes (OnPort g.M.Machine.is_bound g.M.Link.Link.failures g.M.Link.Link.calls) (plan_view l.plan)
+    (aloft (timed l.fn.client.station.bound_node (g.M.Timer.Clock.told l.fn.client.station.clock)) (sky l.fn.flights))
+    (aloft (timed l.client.station.bound_node (g.M.Timer.Clock.told l.client.station.clock)) (sky l.flights))

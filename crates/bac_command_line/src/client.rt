@@ -1,0 +1,177 @@
+//! Who asks: a node at a port of its own, and once that has no invoke ID or no slot left, the next one at another port.
+ghost use Rattle.std.specs.Prelude.{IfErr, IfOk};
+ghost use Rattle.bac_driver.specs.Runs.{timed};
+ghost use Rattle.bac_text.specs.Statuses.{IsFailure};
+ghost use Rattle.bac_command_line.specs.Clients.{IsRenewed};
+ghost use Rattle.bac_command_line.specs.Online.{IsClient, OnClock, OnPort};
+
+use crate::client_pair::ClientPair;
+use crate::online::Machine;
+use crate::past_ports::PastPorts;
+use crate::station::Station;
+use bac_commands::{bound_client, clock_fault, link_fault};
+use bac_npdu::LinkAddress;
+use bac_text::{Status, no_memory};
+use std::alloc::Global;
+use std::io::{ErrorKind, Write};
+
+/// A link of a new node, its own address, and the pair with which the node begins.
+#[derive(Drop)]
+struct NewLink<L> {
+    link: L,
+    address: LinkAddress,
+    pair: ClientPair,
+}
+
+/// Why there is no link of a new node.
+#[derive(Clone, Copy, Debug, PartialEq, Eq)]
+enum NoLink {
+    /// The time of day can't be read.
+    NoClock,
+    /// The system refuses the link, or so many ports are taken.
+    NotBound,
+}
+
+impl NoLink {
+    /// Complains of it.
+    fn report<E: Write>(self, err: &mut E) -> Status
+        ensures { IsFailure result }
+    {
+        match self {
+            NoLink::NoClock => clock_fault(err),
+            NoLink::NotBound => link_fault(err),
+        }
+    }
+}
+
+/// How many pairs a client tries at the most, where their ports are taken.
+const MOST_TRIES: u32 = 4_096;
+
+/// How many pairs it looks at, where it asked from their ports a short time before: those of one port pass in 3 milliseconds.
+const MOST_LOOKS: u32 = 1_000_000;
+
+/// The pair of a machine; where the client asked from its port a short time before, a later pair.
+fn pair_apart<M: Machine>(machine: &M, past: &PastPorts, now: u64) -> Option<ClientPair> {
+    for _ in 0..MOST_LOOKS {
+        let pair = machine.pair()?;
+        if !past.holds(pair.port, now) {
+            return Some(pair);
+        }
+    }
+    machine.pair()
+}
+
+/// A link of a new node at an IPv4 address of this machine, with the machine's pair. Where that port is taken, or the client has left it a short time before
+/// that moment, it is that of a later pair.
+fn bind_apart<M: Machine>(
+    machine: &M,
+    host: [u8; 4],
+    past: &PastPorts,
+    now: u64,
+) -> Result<NewLink<M::Link>, NoLink>
+    ensures { IfOk result (λ c. M.is_bound host c.pair.port c.link c.address) }
+{
+    for _ in 0..MOST_TRIES {
+        let Some(pair) = pair_apart(machine, past, now) else {
+            return Err(NoLink::NoClock);
+        };
+        match machine.bind(host, pair.port) {
+            Ok(bound) => {
+                return Ok(NewLink {
+                    link: bound.0,
+                    address: bound.1,
+                    pair,
+                });
+            }
+            Err(error) if error.kind() == ErrorKind::AddrInUse => {}
+            Err(_) => return Err(NoLink::NotBound),
+        }
+    }
+    Err(NoLink::NotBound)
+}
+
+/// The port of a link address (clause J.1.2).
+fn port_of(address: LinkAddress) -> u16 {
+    let [_, _, _, _, high, low] = address;
+    u16::from_be_bytes([high, low])
+}
+
+/// A node that asks, on a machine where others can follow it.
+#[derive(Drop)]
+pub(crate) struct Client<'m, M: Machine> {
+    machine: &'m M,
+    /// The node that asks now.
+    pub station: Station<M::Link, M::Timer>,
+    past: PastPorts,
+    /// Whether no link could be bound for the next node.
+    pub is_stranded: bool,
+}
+
+impl<'m, M: Machine> Client<'m, M> {
+    /// One that has asked nothing, at an IPv4 address of this machine, with the machine's pair. Where there is no link, clock or memory for it, `err` and the
+    /// status say so.
+    pub(crate) fn new<E: Write>(
+        alloc: Global,
+        machine: &'m M,
+        host: [u8; 4],
+        err: &mut E,
+    ) -> Result<Client<'m, M>, Status>
+        ensures node { IfOk result (λ c. IsClient (OnPort M.is_bound M.Link.failures M.Link.calls) host c.station.bound_node) }
+        ensures clock { IfOk result (λ c. OnClock M.is_made M.Timer.told (M.Timer.told c.station.clock)) }
+        ensures failed { IfErr result IsFailure }
+    {
+        let past = PastPorts::new(alloc);
+        let bound = match bind_apart(machine, host, &past, 0) {
+            Ok(bound) => bound,
+            Err(none) => return Err(none.report(err)),
+        };
+        let Some(clock) = machine.timer() else {
+            return Err(clock_fault(err));
+        };
+        let first_id = bound.pair.first_id;
+        let Ok(bound_node) = bound_client(alloc, bound.link, bound.address, first_id) else {
+            return Err(no_memory(err));
+        };
+        let station = Station {
+            alloc,
+            bound_node,
+            clock,
+        };
+        Ok(Client {
+            machine,
+            station,
+            past,
+            is_stranded: false,
+        })
+    }
+
+    /// The next node, on a link of its own at another port; the one before asks no more. Where there is none, `err` and the status say so, and nothing has
+    /// changed but whether it is stranded.
+    pub(crate) fn renew<E: Write>(&mut self, host: [u8; 4], err: &mut E) -> Result<(), Status>
+        ensures renewed { IfOk result (λ _. IsRenewed (OnPort M.is_bound M.Link.failures M.Link.calls) host
+            (timed self.old.station.bound_node (M.Timer.told self.old.station.clock))
+            (timed self.new.station.bound_node (M.Timer.told self.new.station.clock))) }
+        ensures failed { IfErr result IsFailure }
+    {
+        let alloc = self.station.alloc;
+        let node = self.station.bound_node.node();
+        let now = node.latest();
+        let port = port_of(node.link());
+        let bound = match bind_apart(self.machine, host, &self.past, now) {
+            Ok(bound) => bound,
+            Err(none) => {
+                self.is_stranded = true;
+                return Err(none.report(err));
+            }
+        };
+        if self.past.leave(port, now).is_err() {
+            return Err(no_memory(err));
+        }
+        let first_id = bound.pair.first_id;
+        let Ok(bound_node) = bound_client(alloc, bound.link, bound.address, first_id) else {
+            return Err(no_memory(err));
+        };
+        self.station.bound_node = bound_node;
+        Ok(())
+    }
+}

@@ -1,0 +1,84 @@
+//! What `decode --json` and `check --json` do. The path `-` is standard input.
+ghost use Rattle.bac_command_line.specs.Files.{OnFile};
+ghost use Rattle.bac_command_line.specs.Json.{AreDecodedLines, AreCheckedLines, IsCheckedFile, IsDecodedFrom};
+
+use crate::files::{CaptureFile, OpenFiles, reader_of};
+use crate::lines::STANDARD_INPUT;
+use crate::reasons::{Digits, print_bad_digit};
+use bac_capture::Ports;
+use bac_json_report::{
+    check_json_lines_over, check_json_over, decode_json_lines_over, decode_json_over,
+};
+use bac_text::Status;
+use std::alloc::Global;
+use std::io::Write;
+
+/// The datagrams in a file, one on each line, as objects. A file that cannot be opened: `cannot read` on `err`.
+fn decode_lines<F: OpenFiles, O: Write, E: Write>(
+    alloc: Global,
+    files: &F,
+    path: &str,
+    out: &mut O,
+    err: &mut E,
+) -> Status
+    ensures { AreDecodedLines (OnFile F.is_file F.File.remaining) path.now result (O.contents out.old) (O.contents out.new) }
+{
+    match reader_of(alloc, files, path, err) {
+        Ok(mut input) => decode_json_lines_over(alloc, &mut input, out, err),
+        Err(status) => status,
+    }
+}
+
+/// A datagram, or where `-` stands in its place those on standard input, one on each line, as objects.
+pub(crate) fn decode_json<F: OpenFiles, O: Write, E: Write>(
+    alloc: Global,
+    files: &F,
+    datagram: &str,
+    out: &mut O,
+    err: &mut E,
+) -> Status
+    ensures { IsDecodedFrom (OnFile F.is_file F.File.remaining) datagram.now result (O.contents out.old) (O.contents out.new) }
+{
+    if datagram == STANDARD_INPUT {
+        decode_lines(alloc, files, datagram, out, err)
+    } else {
+        let status = decode_json_over(alloc, datagram, out, err);
+        print_bad_digit(status, datagram, Digits::Grouped, err);
+        status
+    }
+}
+
+/// Checks the capture in a file, and prints objects. A file that cannot be opened: `cannot read` on `err`.
+pub(crate) fn check_json<F: OpenFiles, O: Write, E: Write>(
+    alloc: Global,
+    files: &F,
+    capture: &CaptureFile<'_>,
+    out: &mut O,
+    err: &mut E,
+) -> Status
+    ensures { IsCheckedFile (OnFile F.is_file F.File.remaining) capture.now.path.now capture.now.port result (O.contents out.old) (O.contents out.new) }
+{
+    match reader_of(alloc, files, capture.path, err) {
+        Ok(mut input) => {
+            let ports = Ports { also: capture.port };
+            check_json_over(alloc, &mut input, ports, out, err)
+        }
+        Err(status) => status,
+    }
+}
+
+/// Checks the capture of lines and notes in a file, and prints objects. A file that cannot be opened: `cannot read` on `err`.
+pub(crate) fn check_json_lines<F: OpenFiles, O: Write, E: Write>(
+    alloc: Global,
+    files: &F,
+    path: &str,
+    out: &mut O,
+    err: &mut E,
+) -> Status
+    ensures { AreCheckedLines (OnFile F.is_file F.File.remaining) path.now result (O.contents out.old) (O.contents out.new) }
+{
+    match reader_of(alloc, files, path, err) {
+        Ok(mut input) => check_json_lines_over(alloc, true, &mut input, out, err),
+        Err(status) => status,
+    }
+}

@@ -1,0 +1,3 @@
+pub mod Elements
+pub mod Utf8
+pub mod Sole

@@ -1,0 +1,6 @@
+pub mod Forms
+pub mod Values
+pub mod Requests
+pub mod Replies
+pub mod Layers
+pub mod Datagrams

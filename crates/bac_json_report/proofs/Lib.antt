@@ -1,0 +1,3 @@
+pub mod LinesSeen
+pub mod Printed
+pub mod Checked

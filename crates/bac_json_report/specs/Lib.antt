@@ -1,0 +1,7 @@
+pub mod Lines
+pub mod Faults
+pub mod Datagrams
+pub mod LineReports
+pub mod Decoded
+pub mod CheckedLines
+pub mod CheckedFiles

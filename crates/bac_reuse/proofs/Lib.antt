@@ -1,0 +1,12 @@
+pub mod Computed
+pub mod Machine
+pub mod FreshReads
+pub mod Clients
+pub mod WorldSteps
+pub mod Beside
+pub mod Outcomes
+pub mod Simulated
+pub mod Followed
+pub mod Claimed
+pub mod Likewise
+pub mod StackReads

@@ -1,0 +1,30 @@
+-- Which logs are right where some servers let invoke IDs be used again: as in Log of bac_protocol, but a read may be performed more than once.
+use Rattle.std.specs.Prelude.{◌≡◌, ℕ, ◌⊎◌, true, false, List, [], ◌∷◌, if◌then◌else◌, nat_eq}
+use Rattle.bac_protocol.specs.Service.Outcome.{Replies}
+use Rattle.bac_protocol.specs.Log.{Fact, Has, StoreModel, AreSame, IsUnperformed, MayEnter}
+use Rattle.bac_protocol.specs.Log.Fact.{Asked, Performed}
+use Rattle.bac_protocol.specs.Reuse.{Reads}
+
+-- a request is performed as it was asked, with the reply of its server's store as it then is; one that is no read was not performed before
+abbrev pub MayEnterSo : (S : Type 0) → StoreModel S → Reads → Fact → List Fact → (old new : ℕ → S) → Type 0
+MayEnterSo S model reads (Performed n r p) log old new =
+    (c : ℕ)
+    × (s : ℕ)
+    × Has (Asked n c s r) log
+    × (IsUnperformed n log ⊎ (reads r.choice ≡ true))
+    × (model.outcome (old s) r.choice r.service ≡ Replies p)
+    × ((node : ℕ) → new node ≡ (if nat_eq node s then model.after (old s) r else old node))
+MayEnterSo S model reads f log old new = MayEnter S model f log old new
+
+-- The log is right, and leads from the opening stores to these. An ask that is no read is performed at most once, and a read each time that its server takes
+-- it: as it was asked, with the reply of the server's store as it then was. Every ask ends at most once, and is answered with a reply with which it was
+-- performed before. Stores change by performed requests, by changes at their nodes, and by restarts of these alone.
+abbrev pub IsOnceSo : (S : Type 0) → StoreModel S → Reads → (opening : ℕ → S) → List Fact → (stores : ℕ → S) → Type 0
+IsOnceSo S model reads opening [] stores = AreSame S opening stores
+IsOnceSo S model reads opening (f ∷ log) stores = (old : ℕ → S) × MayEnterSo S model reads f log old stores × IsOnceSo S model reads opening log old
+
+-- nothing that was performed is a read
+abbrev pub HasNoRead : Reads → List Fact → Type 0
+HasNoRead reads [] = Unit {0}
+HasNoRead reads (Performed n r p ∷ log) = (reads r.choice ≡ false) × HasNoRead reads log
+HasNoRead reads (f ∷ log) = HasNoRead reads log

@@ -1,0 +1,17 @@
+//! Runs that are computed, in which servers let invoke IDs be used again.
+
+ghost use Rattle.bac_reuse.specs.Examples.{WritesAreOnce, ReadsAreFresh, OneInvokeId, ReadsThatWrite};
+
+/// One invoke ID for ever: each write is performed once, each read as often as it comes, and a write's repeat gets the kept reply.
+#[tactic(auto, using(crate::proofs::Computed::writes_are_once, crate::proofs::Computed::reads_are_fresh, crate::proofs::Computed::one_invoke_id))]
+pub fn one_invoke_id_for_ever()
+    ensures writes { WritesAreOnce }
+    ensures reads { ReadsAreFresh }
+    ensures both { OneInvokeId }
+{}
+
+/// Beyond the assumption on reads: one that changes its store takes effect twice.
+#[tactic(auto, using(crate::proofs::Computed::reads_that_write))]
+pub fn reads_that_write()
+    ensures { ReadsThatWrite }
+{}

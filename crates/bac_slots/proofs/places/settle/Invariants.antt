@@ -1,8 +1,0 @@
--- The numbers so far are settled.
-use Rattle.std.proofs.Common.{◌≡◌, ◌-◌, ◌++◌, map, take, drop}
-use Rattle.bac_slots.specs.Indexes.{lowered}
-use Rattle.bac_slots.proofs.places.settle.Given as goal
-
-abbrev pub invariant-loop-number : goal.invariant-loop-number
-invariant-loop-number l =
-    l.number-items ≡ map (λ n. lowered l.gone (n - l.first)) (take l.number-index l.fn.numbers.items) ++ drop l.number-index l.fn.numbers.items

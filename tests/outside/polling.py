@@ -1,0 +1,88 @@
+"""Many servers polled by one `bac ask --every`, while some are dead.
+
+    python3 tests/outside/polling.py PROGRAM [SERVERS [DEAD [ROUNDS [POINTS]]]]
+
+Each server is a process of its own at an address of 127.0.0.0/8; the last of them are never started. One list has so many points of each, server after server, and
+is asked in rounds, one a second. It prints how many lines were answered and how many were not, how long after the round before the rounds began, and how long the
+live servers' lines took in the first one; the status is 1 where a line of a live server was not answered, one of a dead one was, or lines are missing or out of
+order."""
+
+import collections
+import subprocess
+import sys
+import tempfile
+import time
+
+PORT = 47808
+POINTS = ['analog-input:5 present-value', 'analog-value:1 present-value', 'device:1 object-name']
+TIMEOUT = 2
+
+
+def address_of(place):
+    return f'127.0.{1 + place // 250}.{1 + place % 250}'
+
+
+def list_of(servers, points):
+    """A line for each point of each server, server after server."""
+    return ''.join(f'@{address_of(place)} read {POINTS[point % len(POINTS)]}\n' for place in range(servers) for point in range(points))
+
+
+def started(program, servers, seconds):
+    """The processes of the servers, once each listens."""
+    found = []
+    for place in range(servers):
+        words = [program, 'serve', '--port', str(PORT), '--at', address_of(place), '--seconds', str(seconds)]
+        found.append(subprocess.Popen(words, stdout=subprocess.DEVNULL, stderr=subprocess.PIPE, text=True))
+    for process in found:
+        if not process.stderr.readline().startswith('listening '):
+            raise SystemExit('a server does not listen')
+    return found
+
+
+def rounds_of(process, lines):
+    """For each round how its lines ended, and when its first and last came."""
+    found, current = [], []
+    for line in process.stdout:
+        current.append((time.monotonic(), line.rstrip('\n').split(': ', 1)))
+        if len(current) == lines:
+            found.append(current)
+            current = []
+    return found, current
+
+
+def main(program, servers=200, dead=2, rounds=10, points=1):
+    lines, alive = servers * points, servers - dead
+    processes = started(program, alive, 60 + rounds * 10)
+    try:
+        with tempfile.NamedTemporaryFile('w', suffix='.txt') as file:
+            file.write(list_of(servers, points))
+            file.flush()
+            words = ['--text', '--timeout', str(TIMEOUT), '--window', '64', '--every', '1', '--times', str(rounds), '--lines', file.name]
+            asking = subprocess.Popen([program, 'ask', *words], stdout=subprocess.PIPE, stderr=subprocess.PIPE, text=True)
+            found, left = rounds_of(asking, lines)
+            complaint = asking.stderr.read()
+            status = asking.wait()
+    finally:
+        for process in processes:
+            process.kill()
+            process.wait()
+    counts, wrong = collections.Counter(), 0
+    for current in found:
+        for place, (_, (number, ended)) in enumerate(current):
+            is_alive = place // points < alive
+            counts['answered' if ended.startswith('answered') else ended] += 1
+            wrong += int(number) != place + 1 or ended.startswith('answered') != is_alive
+    begins = [current[0][0] for current in found]
+    gaps = [later - before for before, later in zip(begins, begins[1:])]
+    told = ' '.join(f'{kind.replace(" ", "-")}={count}' for kind, count in sorted(counts.items()))
+    live = [current[alive * points - 1][0] - current[0][0] for current in found]
+    print(f'servers={servers} dead={dead} rounds={len(found)} lines={lines} {told} status={status}')
+    print(f'rounds began after {min(gaps, default=0):.2f} to {max(gaps, default=0):.2f} s; the lines of live servers were printed within {max(live, default=0):.3f} s')
+    if wrong or left or complaint or len(found) != rounds or status != (1 if dead else 0):
+        print(f'WRONG: {wrong} lines, {len(left)} left over, {complaint!r}')
+        return 1
+    return 0
+
+
+if __name__ == '__main__':
+    sys.exit(main(sys.argv[1], *map(int, sys.argv[2:])))
