@@ -2,7 +2,7 @@
 """`bac explain` of generated captures: explain.py PROGRAM FIRST COUNT [--tshark]
 
 Seeds FIRST and on, COUNT of them, each with transactions of three clients and two servers (exchanges.py) as capture files in several formats. What the rules of
-docs/COMMANDS.md, told again in transactions.py, make of the frames has to be what `bac explain` prints, but for the words of requests and answers; so too where more
+docs/COMMANDS.md, told again in transactions.py, make of the frames has to be what `bac explain` prints, but for the words of requests and answers; so too with filters, and where more
 transactions are open than may be. And README.md has to be right about docs/lost.pcapng. With --tshark, text2pcap and mergecap write the files as pcapng, editcap as
 pcap with micro- and nanoseconds, and tshark tells the frames' moments and addresses; what it shows of their APDUs has to be what was read from the octets here.
 """
@@ -19,7 +19,7 @@ from pathlib import Path
 import captures
 import exchanges
 from sightings import SEGMENT_ACK, seen
-from transactions import Watch
+from transactions import Selection, Watch
 
 BEGIN = 1_000_000_000_000  # milliseconds since 1970
 FIELDS = ['frame.time_epoch', 'ip.src', 'udp.srcport', 'ip.dst', 'udp.dstport', 'bacapp.type', 'bacapp.invoke_id', 'bacapp.sequence_number',
@@ -64,8 +64,8 @@ def frames_of(seed, sent):
     return found
 
 
-def watched(frames):
-    watch = Watch()
+def watched(frames, selection=Selection()):
+    watch = Watch(selection)
     for number, (moment, _, why, it) in enumerate(frames, 1):
         if why:
             watch.see_unread(number, why)
@@ -157,10 +157,9 @@ def without_words(line):
 
 def is_explained(program, path, watch, title):
     """Whether `bac explain` prints those lines of a file, and ends with their status."""
-    done = subprocess.run([program, 'explain', str(path)], capture_output=True, text=True, timeout=120)
+    done = subprocess.run([program, 'explain', *watch.selection.words(), str(path)], capture_output=True, text=True, timeout=120)
     ours = [without_words(line) for line in done.stdout.split('\n')[:-1]]
-    status = 1 if watch.findings or watch.unread else 0
-    if ours == watch.lines and done.returncode == status and not done.stderr:
+    if ours == watch.lines and done.returncode == watch.status() and not done.stderr:
         return True
     differ = [(one, two) for one, two in zip(ours, watch.lines) if one != two]
     print(f'WRONG {title}: {differ[:3]}, {len(ours)} lines, not {len(watch.lines)}, status {done.returncode}, {done.stderr}')
@@ -176,13 +175,27 @@ def is_readme_right(program):
     return bool(block) and done.stdout == ''.join(f'{line[4:]}\n' for line in block.split('\n'))
 
 
-def written(program, folder, title, frames):
-    """Whether a capture is explained in each format; and what has to be printed."""
+def selections(seed, frames):
+    """Some filters: each alone, and more at once."""
+    chance = random.Random(seed)
+    ends = [end for _, _, _, it in frames if it for end in (it.source.end, it.to.end)]
+    one, other = chance.choice(ends), chance.choice(ends)
+    slower = chance.choice([1, 10, 100, 1_000, 3_000, 10_000])
+    yield from [Selection(fail=True), Selection(unanswered=True), Selection(findings=True), Selection(slower=slower), Selection(peer=str(one.host))]
+    for _ in range(4):
+        peer = chance.choice([None, str(one), str(other.host)])
+        yield Selection(*(chance.randrange(2) == 0 for _ in range(2)), chance.choice([None, slower]), peer, chance.randrange(2) == 0)
+
+
+def written(program, folder, title, frames, seed):
+    """Whether a capture is explained in each format, and with filters; and what has to be printed."""
     watch, right = watched(frames), True
     for name, write in WRITERS.items():
         path = folder / 'capture'
         path.write_bytes(write([(moment, whole) for moment, whole, _, _ in frames]))
         right &= is_explained(program, path, watch, f'{title}, {name}')
+    for selection in selections(seed, frames):
+        right &= is_explained(program, path, watched(frames, selection), f'{title}, {selection}')
     return right, watch
 
 
@@ -214,12 +227,12 @@ def main(words):
             if by_tshark:
                 right, watch = written_by_tshark(program, Path(name), f'seed {seed}', found)
             else:
-                right, watch = written(program, Path(name), f'seed {seed}', frames_of(seed, in_order(found)))
+                right, watch = written(program, Path(name), f'seed {seed}', frames_of(seed, in_order(found)), seed)
             findings, lines, frames, wrong = findings + findings_of(watch), lines + len(watch.lines), frames + watch.frames, wrong + (not right)
             if int(count) == 1:
                 print(watch.lines[-1])
         if not by_tshark:
-            right, watch = written(program, Path(name), 'crowd', frames_of(0, exchanges.crowd()))
+            right, watch = written(program, Path(name), 'crowd', frames_of(0, exchanges.crowd()), 0)
             wrong += not right
             print(f'crowd: {watch.lines[-1]}')
     print('\n'.join(f'{number} times {finding}' for finding, number in findings.most_common()))

@@ -100,12 +100,16 @@ class Transaction:
     broken_off: bool = False
     naks: int = 0
     gave_up: bool = False
+    findings: int = 0
 
     def ending(self):
         """How it counts, whatever was seen of an answer whose end was not."""
         if self.answer and self.answer.whole:
             return {REJECT: 'rejected', ABORT: 'aborted'}.get(self.answer.apdu.kind, 'answered')
         return 'aborted' if self.gave_up or (self.answer and self.broken_off) else 'unanswered'
+
+    def is_unanswered(self):
+        return self.answer is None or not (self.answer.whole or self.broken_off)
 
     def last_line(self):
         if self.gave_up:
@@ -168,9 +172,41 @@ def counts(sent):
 
 
 @dataclass
+class Selection:
+    """The filters, and --fail."""
+
+    unanswered: bool = False
+    findings: bool = False
+    slower: int | None = None
+    peer: str | None = None
+    fail: bool = False
+
+    def words(self):
+        flags = [f'--{name}' for name in ('unanswered', 'findings', 'fail') if getattr(self, name)]
+        return flags + [word for name in ('slower', 'peer') if getattr(self, name) is not None for word in (f'--{name}', str(getattr(self, name)))]
+
+    def is_narrow(self):
+        return self.unanswered or self.findings or self.slower is not None or self.peer is not None
+
+    def has_peer(self, key):
+        ends = [end.split('/')[0] for end in key[:2]]
+        return self.peer is None or any(self.peer in (end, end.split(':')[0]) for end in ends)
+
+    def passes(self, key, it):
+        """Whether a transaction is printed; None stands for an answer to no request."""
+        if not self.has_peer(key):
+            return False
+        if it is None:
+            return not self.unanswered and self.slower is None
+        slow = self.slower is None or it.is_unanswered() or it.delay() > self.slower
+        return slow and (it.is_unanswered() or not self.unanswered) and (it.findings > 0 or not self.findings)
+
+
+@dataclass
 class Watch:
     """The open transactions, in the order of their beginning, and what is to be printed."""
 
+    selection: Selection = field(default_factory=Selection)
     open: dict = field(default_factory=dict)
     lines: list = field(default_factory=list)
     ends: dict = field(default_factory=lambda: {'answered': 0, 'rejected': 0, 'aborted': 0, 'unanswered': 0})
@@ -178,10 +214,15 @@ class Watch:
     frames: int = 0
     unread: int = 0
     slowest: int | None = None
+    shown: int = 0
+    wrong: int = 0
 
     def close(self, key):
         it = self.open.pop(key)
-        self.lines += [f'transaction {key[0]} > {key[1]} id {key[2]}', *it.lines()]
+        if self.selection.passes(key, it):
+            self.lines += [f'transaction {key[0]} > {key[1]} id {key[2]}', *it.lines()]
+            self.shown += 1
+            self.wrong += it.is_unanswered() or it.findings > 0
         if it.answer:
             self.slowest = max(self.slowest or 0, it.delay())
         self.ends[it.ending()] += 1
@@ -236,7 +277,16 @@ class Watch:
             self.close(first)
         finding = {'asks': self.asks, 'answers': self.answers, 'gives up': self.gives_up}.get(seen.apdu.role(), self.takes)(seen)
         if finding:
-            self.findings += 1
+            self.find(seen, finding)
+
+    def find(self, seen, finding):
+        """What is wrong with a frame is of its transaction, if there is one."""
+        it = self.awaited(seen)
+        self.findings += 1
+        if it:
+            it.findings += 1
+        if self.selection.passes(seen.key, it):
+            self.wrong += it is None
             self.lines.append(f'frame {seen.number}: {finding}, {seen.key[0]} > {seen.key[1]} id {seen.key[2]}')
 
     def see_unread(self, number, why):
@@ -250,4 +300,9 @@ class Watch:
             self.close(key)
         ends = ' '.join(f'{name}={number}' for name, number in self.ends.items())
         slowest = '-' if self.slowest is None else self.slowest
+        if self.selection.is_narrow():
+            self.lines.append(f'shown={self.shown} of {sum(self.ends.values())}')
         self.lines.append(f'transactions={sum(self.ends.values())} {ends} slowest={slowest} findings={self.findings} frames={self.frames} unread={self.unread}')
+
+    def status(self):
+        return 1 if self.unread or (self.wrong if self.selection.fail else self.findings) else 0

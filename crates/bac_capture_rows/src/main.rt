@@ -1,4 +1,4 @@
-//! Plays rows of text from standard input and prints the result of each: frames of each link layer, capture files, the datagrams of transactions, and what
+//! Plays rows of text from standard input and prints the result of each: frames of each link layer, capture files, the datagrams of transactions, what `explain` prints with options, and what
 //! `explain` says of made-up worlds.
 //!
 //! The file stdin beside src/ holds the rows, and stdout what the program has to print, which was worked out by hand from the RFCs, from the descriptions of the
@@ -11,6 +11,7 @@ mod frames;
 mod printing;
 mod rows;
 mod seen;
+mod selected;
 mod transactions;
 mod words;
 mod worlds;

@@ -2,7 +2,7 @@
 use crate::seen::file_of;
 use crate::words::octets_of;
 use bac_capture::{Ports, check_capture_over};
-use bac_explain_report::{ChartFormat, chart_over, explain_over};
+use bac_explain_report::{ChartFormat, ReportOptions, chart_over, explain_over};
 use std::alloc::Global;
 use std::io::{BufRead, BufReader, Write};
 
@@ -14,8 +14,8 @@ pub(crate) enum Print {
     /// The datagrams that are faulty, and counts, without other functions by name or with them.
     Check,
     Named,
-    /// The transactions.
-    Explain,
+    /// The transactions, as those options say.
+    Explain(ReportOptions),
     /// A chart of them.
     Chart(ChartFormat),
 }
@@ -31,7 +31,7 @@ pub(crate) fn status_of<R: BufRead, O: Write>(
     let status = match print {
         Print::Check => check_capture_over(alloc, input, PORTS, false, out, err),
         Print::Named => check_capture_over(alloc, input, PORTS, true, out, err),
-        Print::Explain => explain_over(alloc, input, PORTS, out, err),
+        Print::Explain(options) => explain_over(alloc, options, input, PORTS, out, err),
         Print::Chart(form) => chart_over(alloc, form, input, PORTS, out, err),
     };
     status.code()

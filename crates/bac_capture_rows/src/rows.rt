@@ -1,5 +1,6 @@
 //! Rows one after the other.
 use crate::printing::{Print, print_end_of_chart, print_octets, print_seen};
+use crate::selected::{ALL, options_of};
 use crate::words::first;
 use crate::{failing, frames, transactions, worlds};
 use bac_explain_report::ChartFormat;
@@ -16,6 +17,8 @@ enum Kind {
     Worlds,
     /// A capture file of datagrams that are seen.
     Seen(Print),
+    /// A capture file of datagrams that are seen, behind a line of options.
+    Selected,
     /// A capture file in hexadecimal digits.
     File(Print),
     /// How a chart ends.
@@ -29,13 +32,14 @@ const KINDS: &[(&str, Kind)] = &[
     ("frames", Kind::Frames),
     ("transaction", Kind::Transaction),
     ("worlds", Kind::Worlds),
-    ("explain", Kind::Seen(Print::Explain)),
+    ("explain", Kind::Seen(Print::Explain(ALL))),
+    ("explain-with", Kind::Selected),
     ("chart", Kind::Seen(Print::Chart(ChartFormat::Chart))),
     ("mermaid", Kind::Seen(Print::Chart(ChartFormat::Mermaid))),
     ("end", Kind::End),
     ("check", Kind::File(Print::Check)),
     ("named", Kind::File(Print::Named)),
-    ("explain-file", Kind::File(Print::Explain)),
+    ("explain-file", Kind::File(Print::Explain(ALL))),
     ("chart-file", Kind::File(Print::Chart(ChartFormat::Chart))),
     (
         "mermaid-file",
@@ -61,6 +65,10 @@ fn play_lines(alloc: Global, kind: Kind, lines: &str, out: &mut Vec<u8>) -> Opti
         Kind::Transaction => transactions::play(alloc, lines, out),
         Kind::Worlds => worlds::play(alloc, lines, out),
         Kind::Seen(print) => print_seen(alloc, print, lines, out),
+        Kind::Selected => {
+            let (options, lines) = lines.split_once('\n')?;
+            print_seen(alloc, Print::Explain(options_of(options)?), lines, out)
+        }
         Kind::File(print) => print_octets(alloc, print, lines, out),
         Kind::End => print_end_of_chart(alloc, lines, out),
         Kind::Input => failing::input(alloc, lines, out),

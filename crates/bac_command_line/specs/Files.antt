@@ -4,6 +4,7 @@ use Rattle.bac_capture.specs.Checked.{IsReportOf}
 use Rattle.bac_chart.specs.declared.drawing.ChartFormat.{ChartFormat}
 use Rattle.bac_explain_report.specs.Charted as charted
 use Rattle.bac_explain_report.specs.Explained as explained
+use Rattle.bac_explain_report.specs.declared.selection.ReportOptions.{ReportOptions}
 use Rattle.bac_text.specs.declared.status.Status.{Status}
 use Rattle.bac_simulate.specs.Drawn.{ShowsAs}
 use Rattle.bac_simulate.specs.Runs.{SimulatesAs}
@@ -34,10 +35,10 @@ abbrev pub IsCheckedFile : (IsAt : (path : List ℕ) → (content : Option (List
     → (old new : Option (List ℕ)) → Type 0
 IsCheckedFile IsAt named path also s old new = IsPrintedFile IsAt path s (λ content. IsReportOf also named content old new s)
 
--- the capture in the file was explained to its end
-abbrev pub IsExplainedFile : (IsAt : (path : List ℕ) → (content : Option (List ℕ)) → Type 0) → (path : List ℕ) → (also : Option ℕ) → Status
+-- the capture in the file was explained to its end, as those options say
+abbrev pub IsExplainedFile : (IsAt : (path : List ℕ) → (content : Option (List ℕ)) → Type 0) → ReportOptions → (path : List ℕ) → (also : Option ℕ) → Status
     → (old new : Option (List ℕ)) → Type 0
-IsExplainedFile IsAt path also s old new = IsPrintedFile IsAt path s (λ content. explained.IsReportOf also content old new s)
+IsExplainedFile IsAt o path also s old new = IsPrintedFile IsAt path s (λ content. explained.IsReportOf o also content old new s)
 
 -- the datagrams of the capture in the file were drawn to its end
 abbrev pub IsChartedFile : (IsAt : (path : List ℕ) → (content : Option (List ℕ)) → Type 0) → ChartFormat → (path : List ℕ) → (also : Option ℕ) → Status

@@ -4,6 +4,7 @@ pub mod Json
 pub mod Serving
 pub mod Asking
 pub mod Given
+pub mod Selecting
 pub mod FileWords
 pub mod Rounds
 pub mod ClientPairs

@@ -38,6 +38,14 @@ pub(crate) fn read_link(text: &str) -> Option<LinkAddress> {
     }
 }
 
+/// The address that a text as `192.168.1.20` or `192.168.1.20:47809` is, and its port if there is one.
+pub(crate) fn read_end(text: &str) -> Option<([u8; 4], Option<u16>)> {
+    match text.split_once(':') {
+        Some((host, port)) => Some((read_host(host)?, Some(read_port(port)?))),
+        None => Some((read_host(text)?, None)),
+    }
+}
+
 /// The most octets of a device's address on its network.
 const MOST_OCTETS: usize = 8;
 

@@ -133,14 +133,14 @@ fn route_of(given: &ArgMatches<'_>) -> Option<Option<Route>> {
 }
 
 /// Whether a flag is given.
-fn flag_of(given: &ArgMatches<'_>, name: &str) -> bool
+pub(crate) fn flag_of(given: &ArgMatches<'_>, name: &str) -> bool
     ensures { IsFlag given.now name.now result }
 {
     given.get_flag(name)
 }
 
 /// The number behind a word, where it is given.
-fn number_of(given: &ArgMatches<'_>, name: &str) -> Option<u64>
+pub(crate) fn number_of(given: &ArgMatches<'_>, name: &str) -> Option<u64>
     ensures { IsNumber given.now name.now result }
 {
     given.get_one(name)

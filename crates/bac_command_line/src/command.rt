@@ -48,7 +48,7 @@ fn perform<F: OpenFiles, M: Machine, O: Write, E: Write>(
         Task::CheckJsonLines(path) => check_json_lines(alloc, files, path, out, err),
         Task::Check { named, capture } => check(alloc, files, named, &capture, out, err),
         Task::CheckLines(path) => check_lines(alloc, files, path, out, err),
-        Task::Explain(capture) => explain(alloc, files, &capture, out, err),
+        Task::Explain { options, capture } => { explain(alloc, files, options, &capture, out, err) }
         Task::Chart { form, capture } => chart(alloc, files, form, &capture, out, err),
         Task::Simulate(script) => simulate(alloc, files, &script, out, err),
         Task::Show { view, script } => show(alloc, files, view, &script, out, err),

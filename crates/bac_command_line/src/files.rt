@@ -6,7 +6,7 @@ ghost use Rattle.bac_command_line.specs.Files.{IsChartedFile, IsCheckedFile, IsE
 
 use crate::reasons::print_unread;
 use bac_capture::{Ports, check_capture_over};
-use bac_explain_report::{ChartFormat, chart_over, explain_over};
+use bac_explain_report::{ChartFormat, ReportOptions, chart_over, explain_over};
 use bac_simulate::{View, show_over, simulate_lines_over};
 use bac_text::{Status, no_memory};
 use std::alloc::Global;
@@ -97,20 +97,21 @@ pub(crate) fn check<F: OpenFiles, O: Write, E: Write>(
     }
 }
 
-/// Explains the capture in a file of pcap or pcapng. A file that cannot be opened: `cannot read` on `err`.
+/// Explains the capture in a file of pcap or pcapng, as those options say. A file that cannot be opened: `cannot read` on `err`.
 pub(crate) fn explain<F: OpenFiles, O: Write, E: Write>(
     alloc: Global,
     files: &F,
+    options: ReportOptions,
     capture: &CaptureFile<'_>,
     out: &mut O,
     err: &mut E,
 ) -> Status
-    ensures { IsExplainedFile (OnFile F.is_file F.File.remaining) capture.now.path.now capture.now.port result (O.contents out.old) (O.contents out.new) }
+    ensures { IsExplainedFile (OnFile F.is_file F.File.remaining) options capture.now.path.now capture.now.port result (O.contents out.old) (O.contents out.new) }
 {
     match reader_of(alloc, files, capture.path, err) {
         Ok(mut input) => {
             let ports = Ports { also: capture.port };
-            explain_over(alloc, &mut input, ports, out, err)
+            explain_over(alloc, options, &mut input, ports, out, err)
         }
         Err(status) => status,
     }

@@ -32,6 +32,7 @@ mod peers;
 mod question_lines;
 mod reasons;
 mod rounds;
+mod selecting;
 mod serving;
 mod station;
 mod system;

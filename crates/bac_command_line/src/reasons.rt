@@ -2,7 +2,7 @@
 ghost use Rattle.std.specs.Prelude.{◌≡◌};
 ghost use Rattle.bac_text.specs.declared.status.Status.TheVariants as status;
 
-use crate::address::{read_host, read_link, read_route};
+use crate::address::{read_end, read_host, read_link, read_route};
 use bac_objects::{DocumentFault, document_findings};
 use bac_text::{Status, complain};
 use clap::ArgMatches;
@@ -63,6 +63,15 @@ fn bad_node<'a>(given: &ArgMatches<'a>) -> Option<(&'a str, &'static str)> {
     }
 }
 
+/// The text behind `--peer` that is no address, and the form that is wanted.
+fn bad_peer<'a>(given: &ArgMatches<'a>) -> Option<(&'a str, &'static str)> {
+    let peer = given.get_str("peer")?;
+    match read_end(peer) {
+        Some(_) => None,
+        None => Some((peer, "A.B.C.D or A.B.C.D:P")),
+    }
+}
+
 /// Complains of a text that is no address: `bad address`, and which and what is wanted.
 fn print_bad_address<E: Write>(bad: Option<(&str, &'static str)>, err: &mut E) -> Status
     ensures { result ≡ status.CommandLine }
@@ -80,6 +89,7 @@ pub(crate) fn print_no_task<E: Write>(matches: &ArgMatches<'_>, err: &mut E) -> 
     ensures { result ≡ status.CommandLine }
 {
     match matches.subcommand() {
+        Some(("explain", given)) => print_bad_address(bad_peer(given), err),
         Some(("serve", given)) => print_bad_address(bad_host(given), err),
         Some(("ask", given)) => print_bad_address(bad_node(given), err),
         _ => complain(err, "no command", Status::CommandLine),

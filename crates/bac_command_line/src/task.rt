@@ -4,8 +4,9 @@ use crate::files::{CaptureFile, ScriptFile};
 use crate::forgetting::Forgetting;
 use crate::help::Telling;
 use crate::online::Machine;
+use crate::selecting::options_of;
 use crate::serving::{Serving, serving_of};
-use bac_explain_report::ChartFormat;
+use bac_explain_report::{ChartFormat, ReportOptions};
 use bac_npdu::Peer;
 use bac_simulate::View;
 use clap::ArgMatches;
@@ -35,8 +36,11 @@ pub(crate) enum Task<'m, 'a> {
     CheckJson(CaptureFile<'a>),
     /// The bad lines of the capture in this file, which has notes, as objects of JSON.
     CheckJsonLines(&'a str),
-    /// The transactions of this capture.
-    Explain(CaptureFile<'a>),
+    /// The transactions of this capture, as those options say.
+    Explain {
+        options: ReportOptions,
+        capture: CaptureFile<'a>,
+    },
     /// The datagrams of this capture, drawn as that.
     Chart {
         form: ChartFormat,
@@ -170,7 +174,10 @@ pub(crate) fn task_of<'m, 'a>(
             let capture = capture_of(given)?;
             match form_of(given) {
                 Some(form) => Some(Task::Chart { form, capture }),
-                None => Some(Task::Explain(capture)),
+                None => Some(Task::Explain {
+                    options: options_of(given)?,
+                    capture,
+                }),
             }
         }
         ("simulate", given) => {

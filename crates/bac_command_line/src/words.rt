@@ -143,7 +143,9 @@ const CHECK: &[Word] = &[
 /// Examples for `explain`.
 const EXPLAIN_EXAMPLES: &str = "\
 Example: bac explain capture.pcapng
-Example: bac explain --chart capture.pcapng";
+Example: bac explain --chart capture.pcapng
+Example: bac explain --peer 192.168.1.20 --slower 1000 capture.pcapng
+Example: bac explain --unanswered --fail capture.pcapng";
 
 /// What `explain` takes.
 const EXPLAIN: &[Word] = &[
@@ -174,6 +176,41 @@ const EXPLAIN: &[Word] = &[
         need: Need::Never,
         against: &["chart"],
         help: "Prints that chart as a Mermaid `sequenceDiagram`",
+    },
+    Word {
+        name: "unanswered",
+        form: WordForm::Flag,
+        need: Need::Never,
+        against: &["chart", "mermaid"],
+        help: "Prints only transactions without an answer",
+    },
+    Word {
+        name: "findings",
+        form: WordForm::Flag,
+        need: Need::Never,
+        against: &["chart", "mermaid"],
+        help: "Prints only transactions with a finding",
+    },
+    Word {
+        name: "slower",
+        form: WordForm::Number("MS", 1_000_000_000),
+        need: Need::Never,
+        against: &["chart", "mermaid"],
+        help: "Prints only transactions whose answer took more than MS milliseconds, 1 to 1000000000, or which have none",
+    },
+    Word {
+        name: "peer",
+        form: WordForm::Text("A.B.C.D[:P]"),
+        need: Need::Never,
+        against: &["chart", "mermaid"],
+        help: "Prints only transactions whose client or server has this IPv4 address, and this UDP port if one is given",
+    },
+    Word {
+        name: "fail",
+        form: WordForm::Flag,
+        need: Need::Never,
+        against: &["chart", "mermaid"],
+        help: "Ends with status 1 if a transaction that is printed is unanswered or has a finding, or a frame cannot be read",
     },
 ];
 

@@ -12,7 +12,7 @@ use Rattle.bac_explain.specs.declared.table.TheConstants.{OPEN_LIMIT}
 use Rattle.bac_explain.specs.Keys.{Key, same_key}
 use Rattle.bac_explain.specs.Sent.{is_other, place_of}
 use Rattle.bac_explain.specs.Transactions.{TransactionView, first_finding, first_request, is_live, is_awaited, requested, reuse_finding}
-use Rattle.bac_explain.specs.Transactions.{answered, acknowledged, given_up}
+use Rattle.bac_explain.specs.Transactions.{answered, acknowledged, given_up, noted}
 
 abbrev pub Transactions : Type 0
 Transactions = List (Slot Key TransactionView)
@@ -84,10 +84,10 @@ unheard finding slots = record { slots = slots; closed = None; finding = finding
 abbrev pub goes_on : Key → Transactions → TransactionView × Option Finding → Heard
 goes_on key slots next = record { slots = with_value same_key key next.0 slots; closed = None; finding = next.1 }
 
--- a transaction is added, as the last
+-- a transaction is added, as the last, with what is wrong with its request
 abbrev pub begins_in : Key → ℕ → TransactionView → Option Finding → Option ClosedView × Transactions → Heard
 begins_in key now t finding room =
-    record { slots = room.1 ++ record { key = key; begin = now; value = t } ∷ []; closed = room.0; finding = finding }
+    record { slots = room.1 ++ record { key = key; begin = now; value = noted finding t } ∷ []; closed = room.0; finding = finding }
 
 abbrev pub begins : Key → ℕ → TransactionView → Option Finding → Transactions → Heard
 begins key now t finding slots = begins_in key now t finding (room_for key slots)

@@ -19,7 +19,7 @@ use Rattle.bac_explain.specs.Sent.{SentView, first_sent, counted, place_of, with
 use Rattle.bac_explain.specs.Wholes.{is_server_abort}
 
 -- its request, whether that came soon after another with its key, the first of its replies, whether an Abort of the server was seen within
--- that, how many negative SegmentACKs were seen, and whether an Abort of the client was
+-- that, how many negative SegmentACKs were seen, whether an Abort of the client was, and how many of its APDUs had something wrong
 pub record TransactionView : Type 0 where
   pub request : SentView
   pub reused : Bool
@@ -27,6 +27,7 @@ pub record TransactionView : Type 0 where
   pub broken_off : Bool
   pub naks : ℕ
   pub gave_up : Bool
+  pub findings : ℕ
 
 abbrev pub first_request : ℕ → Option ℕ → List ℕ → (reused : Bool) → TransactionView
 first_request now number octets reused = record {
@@ -36,7 +37,16 @@ first_request now number octets reused = record {
   broken_off = false;
   naks = 0;
   gave_up = false;
+  findings = 0;
 }
+
+-- what is wrong with one of its APDUs, if anything, is counted
+abbrev pub noted : Option Finding → TransactionView → TransactionView
+noted None t = t
+noted (Some finding) t = record t { findings = one_more t.findings }
+
+abbrev pub with_noted : TransactionView × Option Finding → TransactionView × Option Finding
+with_noted n = (noted n.1 n.0, n.1)
 
 -- its request was first seen at most 65,000 ms ago: the time for which a server of this profile remembers it
 abbrev pub is_live : ℕ → TransactionView → Bool
@@ -89,7 +99,7 @@ request_finding Other number s = None
 
 -- its request is seen again, or another segment of it
 abbrev pub requested : ℕ → Place → Option ℕ → List ℕ → TransactionView → TransactionView × Option Finding
-requested now place number octets t = (
+requested now place number octets t = with_noted (
   record t { request = counted now place number octets t.request; answer = option_map with_asked_again t.answer },
   request_finding place number t.request,
 )
@@ -125,9 +135,12 @@ answered_after now number octets (Some first) t =
     if breaks_off first octets then (record t { broken_off = true }, None) else counted_answer now number octets first t
 
 -- a reply is seen, or a segment of one: the first is kept; one of another service than requested is ignored
-abbrev pub answered : ℕ → Option ℕ → List ℕ → TransactionView → TransactionView × Option Finding
-answered now number octets t =
+abbrev pub answer_taken : ℕ → Option ℕ → List ℕ → TransactionView → TransactionView × Option Finding
+answer_taken now number octets t =
     if is_of_service t.request.octets octets then answered_after now number octets t.answer t else (t, Some OtherService)
+
+abbrev pub answered : ℕ → Option ℕ → List ℕ → TransactionView → TransactionView × Option Finding
+answered now number octets t = with_noted (answer_taken now number octets t)
 
 -- segments of its request or its reply are acknowledged
 abbrev pub segments_taken : Taken → TransactionView → TransactionView
@@ -140,7 +153,7 @@ nak_counted false t = (t, None)
 
 -- a SegmentACK is seen, negative or not
 abbrev pub acknowledged : Taken → TransactionView → TransactionView × Option Finding
-acknowledged a t = nak_counted a.nak (segments_taken a t)
+acknowledged a t = with_noted (nak_counted a.nak (segments_taken a t))
 
 -- an Abort of the client is seen
 abbrev pub given_up : TransactionView → TransactionView

@@ -20,6 +20,7 @@ transaction_view t = record {
   broken_off = t.broken_off;
   naks = t.naks;
   gave_up = t.gave_up;
+  findings = t.findings;
 }
 
 abbrev pub slots_view : List (Slot TransactionKey Transaction) → Transactions

@@ -83,6 +83,18 @@ impl Explainer {
         }
     }
 
+    /// The transaction with this key, if it awaits replies.
+    pub fn awaited(&self, now: u64, key: &TransactionKey) -> Option<&Transaction>
+        ensures { option_map (λ t. transaction_view t.now) result ≡ awaited now (key_view key.now) self.now }
+    {
+        let transaction = find(&self.table, key)?;
+        if transaction.is_awaited(now) {
+            Some(transaction)
+        } else {
+            None
+        }
+    }
+
     /// How a request relates to that of the live transaction with its key; None if there is no such transaction.
     fn place(
         &self,
@@ -118,6 +130,8 @@ impl Explainer {
     ) -> Heard
         ensures { IsHeard (begins (key_view key) now (transaction_view transaction) finding self.old) self.new result }
     {
+        let mut transaction = transaction;
+        transaction.note(finding);
         let closed = enter(&mut self.table, key, now, transaction);
         Heard { finding, closed }
     }

@@ -1,8 +1,8 @@
 //! One transaction, as it was seen.
 ghost use Rattle.std.specs.Prelude.{◌≡◌, ◌-◌, IfOk, OnErr, nat_le, Some};
 ghost use Rattle.std.specs.Option.{option_map};
-ghost use Rattle.bac_explain.specs.Transactions.{acknowledged, again_finding, answer_finding, answered, breaks_off, first_finding, first_request, given_up};
-ghost use Rattle.bac_explain.specs.Transactions.{is_awaited, is_live, is_old, nak_counted, other_answer, request_finding, requested, reuse_finding};
+ghost use Rattle.bac_explain.specs.Transactions.{acknowledged, again_finding, answer_finding, answer_taken, answered, breaks_off, first_finding, first_request, given_up};
+ghost use Rattle.bac_explain.specs.Transactions.{is_awaited, is_live, is_old, nak_counted, noted, other_answer, request_finding, requested, reuse_finding};
 ghost use Rattle.bac_explain.specs.Transactions.{segment_finding, segments_taken};
 ghost use Rattle.bac_explain.specs.Views.{transaction_view};
 ghost use Rattle.bac_explain.specs.SentViews.{sent_view};
@@ -33,6 +33,8 @@ pub struct Transaction {
     pub naks: u64,
     /// Whether an Abort of the client was seen.
     pub gave_up: bool,
+    /// How many of its APDUs had something wrong; the count saturates.
+    pub findings: u64,
 }
 
 /// What is wrong with the first APDU that is seen of a request or a reply.
@@ -131,6 +133,7 @@ impl Transaction {
             broken_off: false,
             naks: 0,
             gave_up: false,
+            findings: 0,
         })
     }
 
@@ -159,6 +162,15 @@ impl Transaction {
         }
     }
 
+    /// Counts what is wrong with one of its APDUs, if anything.
+    pub(crate) fn note(&mut self, finding: Option<Finding>)
+        ensures { transaction_view self.new ≡ noted finding (transaction_view self.old) }
+    {
+        if finding.is_some() {
+            self.findings = one_more(self.findings);
+        }
+    }
+
     /// Its request is seen again, or another segment of it.
     pub(crate) fn requested(
         &mut self,
@@ -175,6 +187,7 @@ impl Transaction {
         if let Some(answer) = &mut self.answer {
             answer.ask_again();
         }
+        self.note(finding);
         finding
     }
 
@@ -201,16 +214,16 @@ impl Transaction {
         }
     }
 
-    /// A reply is seen, or a segment of one. Nothing changes if an allocation fails.
-    pub(crate) fn answered(
+    /// A reply is seen, or a segment of one: what is wrong with it is not yet counted. Nothing changes if an allocation fails.
+    fn take_answer(
         &mut self,
         alloc: Global,
         now: u64,
         number: Option<u8>,
         octets: &[u8],
     ) -> Result<Option<Finding>, AllocError>
-        ensures seen { IfOk result (λ _. transaction_view self.new ≡ (answered now number octets.now (transaction_view self.old)).0) }
-        ensures finding { IfOk result (λ f. f ≡ (answered now number octets.now (transaction_view self.old)).1) }
+        ensures seen { IfOk result (λ _. transaction_view self.new ≡ (answer_taken now number octets.now (transaction_view self.old)).0) }
+        ensures finding { IfOk result (λ f. f ≡ (answer_taken now number octets.now (transaction_view self.old)).1) }
         ensures err { OnErr result (transaction_view self.new ≡ transaction_view self.old) }
     {
         if !is_of_service(&self.request.octets, octets) {
@@ -229,6 +242,23 @@ impl Transaction {
         if let Some(answer) = &mut self.answer {
             answer.count(now, place, number, octets);
         }
+        Ok(finding)
+    }
+
+    /// A reply is seen, or a segment of one. Nothing changes if an allocation fails.
+    pub(crate) fn answered(
+        &mut self,
+        alloc: Global,
+        now: u64,
+        number: Option<u8>,
+        octets: &[u8],
+    ) -> Result<Option<Finding>, AllocError>
+        ensures seen { IfOk result (λ _. transaction_view self.new ≡ (answered now number octets.now (transaction_view self.old)).0) }
+        ensures finding { IfOk result (λ f. f ≡ (answered now number octets.now (transaction_view self.old)).1) }
+        ensures err { OnErr result (transaction_view self.new ≡ transaction_view self.old) }
+    {
+        let finding = self.take_answer(alloc, now, number, octets)?;
+        self.note(finding);
         Ok(finding)
     }
 
@@ -253,7 +283,9 @@ impl Transaction {
             return None;
         }
         self.naks = one_more(self.naks);
-        Some(Finding::NegativeAck)
+        let finding = Some(Finding::NegativeAck);
+        self.note(finding);
+        finding
     }
 
     /// An Abort of the client is seen.

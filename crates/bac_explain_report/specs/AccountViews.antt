@@ -11,7 +11,7 @@ use Rattle.bac_explain_report.specs.declared.frame_report.FrameReport.{FrameRepo
 use Rattle.bac_explain_report.specs.declared.frame_report.FrameReport.TheVariants as told
 
 abbrev pub account_view : Account → plain.Account
-account_view a = record { slots = a.explainer; tally = a.tally }
+account_view a = record { options = a.options; slots = a.explainer; tally = a.tally }
 
 abbrev pub hearing_view : Hearing → HearingView
 hearing_view h = record {

@@ -1,5 +1,5 @@
 -- The endings of transactions, as far as they were seen.
-use Rattle.std.specs.Prelude.{ℕ, Bool, ◌||◌, List, codes, Option, Some, None, Result, Ok, Err, if◌then◌else◌}
+use Rattle.std.specs.Prelude.{ℕ, ◌-◌, Bool, true, not, ◌||◌, List, codes, Option, Some, None, Result, Ok, Err, if◌then◌else◌}
 use Rattle.bac_apdu.specs.Apdu.{Apdu, Reject, Abort}
 use Rattle.bac_apdu.specs.Reading.{apdu_at}
 use Rattle.bac_apdu.specs.declared.fault.ApduFault.{ApduFault}
@@ -41,3 +41,19 @@ ending_in broken_off gave_up (Some s) = seen_ending broken_off gave_up s
 
 abbrev pub ending_of : TransactionView → Ending
 ending_of t = ending_in t.broken_off t.gave_up t.answer
+
+-- the end of no answer was seen, nor an Abort of the server within one; the client may have given up
+abbrev pub is_unanswered_in : (broken_off : Bool) → Option SentView → Bool
+is_unanswered_in broken_off None = true
+is_unanswered_in broken_off (Some s) = not (s.whole || broken_off)
+
+abbrev pub is_unanswered : TransactionView → Bool
+is_unanswered t = is_unanswered_in t.broken_off t.answer
+
+-- how long after the request the reply began, in milliseconds
+abbrev pub delay_in : (asked : ℕ) → Option SentView → Option ℕ
+delay_in asked None = None
+delay_in asked (Some s) = Some (s.moment - asked)
+
+abbrev pub delay_of : TransactionView → Option ℕ
+delay_of t = delay_in t.request.moment t.answer

@@ -1,5 +1,5 @@
 -- What `bac explain` prints for a capture file, and its status.
-use Rattle.std.specs.Prelude.{◌≡◌, ℕ, ◌++◌, List, codes, decimal, Option, Some, None}
+use Rattle.std.specs.Prelude.{◌≡◌, ℕ, ◌++◌, List, [], codes, decimal, Option, Some, None, if◌then◌else◌}
 use Rattle.bac_capture.specs.declared.fault.FileFault.{FileFault}
 use Rattle.bac_capture.specs.Blocks.{FrameView}
 use Rattle.bac_capture.specs.FileReports.{no_heading, no_report}
@@ -10,6 +10,9 @@ use Rattle.bac_explain_report.specs.Accounts.{Account, FrameReportView, fresh, f
 use Rattle.bac_explain_report.specs.Rest.{AreBlocks}
 use Rattle.bac_explain_report.specs.Tallies.{status_of}
 use Rattle.bac_explain_report.specs.FrameReports.{IsFrameReport}
+use Rattle.bac_explain_report.specs.Selections.{is_narrow}
+use Rattle.bac_explain_report.specs.declared.selection.ReportOptions.{ReportOptions}
+use Rattle.bac_explain_report.specs.declared.selection.Selection.{Selection}
 use Rattle.bac_explain_report.specs.declared.tally.Tally.{Tally}
 
 -- ---- the summary
@@ -28,6 +31,13 @@ summary_text t =
     endings_text t ++ (codes " slowest=" ++ (slowest_text t.slowest ++ (codes " findings=" ++ (decimal t.findings
     ++ (codes " frames=" ++ (decimal t.frames ++ (codes " unread=" ++ (decimal t.unread ++ codes "\n"))))))))
 
+-- how many of the transactions were printed, where a filter is given
+abbrev pub shown_line : Selection → Tally → List ℕ
+shown_line s t = if is_narrow s then codes "shown=" ++ (decimal t.shown ++ (codes " of " ++ (decimal t.transactions ++ codes "\n"))) else []
+
+abbrev pub last_lines : Selection → Tally → List ℕ
+last_lines s t = shown_line s t ++ summary_text t
+
 -- ---- a file
 
 -- the report on the frame is printed with its number, and this is the next state
@@ -42,15 +52,15 @@ SeesFrame also frame a text next = IsPrintedNext (frame_heard also frame a) text
 abbrev pub BreaksFile : Prints FileFault Account
 BreaksFile fault a text next = IsPrintedNext (broken_off fault a) text next
 
--- below the frames the transactions that are open are printed, and then the summary
+-- below the frames the transactions that are open are printed as far as they pass, and then the last lines
 pub record EndsFile (a : Account) (text : List ℕ) (status : Status) : Type 0 where
   pub rest : List ℕ
   pub tally : Tally
-  pub are : AreBlocks a.slots a.tally rest tally
-  pub told : text ≡ rest ++ summary_text tally
-  pub is : status ≡ status_of tally
+  pub are : AreBlocks a.options.selection a.slots a.tally rest tally
+  pub told : text ≡ rest ++ last_lines a.options.selection tally
+  pub is : status ≡ status_of a.options.strict tally
 
 -- a file is explained frame by frame, and no other input
-abbrev pub IsReportOf : Option ℕ → Option (List ℕ) → Option (List ℕ) → Option (List ℕ) → Status → Type 0
-IsReportOf also input old new status =
-    report.IsReportOf Account (SeesFrame also) BreaksFile no_heading EndsFile no_report fresh input old new status
+abbrev pub IsReportOf : ReportOptions → Option ℕ → Option (List ℕ) → Option (List ℕ) → Option (List ℕ) → Status → Type 0
+IsReportOf o also input old new status =
+    report.IsReportOf Account (SeesFrame also) BreaksFile no_heading EndsFile no_report (fresh o) input old new status

@@ -15,7 +15,7 @@ use Rattle.bac_explain_report.specs.declared.unread.Unread.{Unread}
 abbrev pub unread_line : ℕ → Unread → List ℕ
 unread_line number why = codes "frame " ++ (decimal number ++ (codes ": " ++ (unread_text why ++ codes "\n")))
 
--- what is wrong with it, and in which transaction
+-- what is wrong with it, and in which transaction; nothing where that is not printed
 abbrev pub finding_line : ℕ → Key → Option Finding → List ℕ
 finding_line number key None = []
 finding_line number key (Some finding) =

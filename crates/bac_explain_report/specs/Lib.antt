@@ -2,6 +2,7 @@ pub mod Keys
 pub mod RequestWords
 pub mod AnswerWords
 pub mod Endings
+pub mod Selections
 pub mod Blocks
 pub mod Tallies
 pub mod Unread

@@ -1,14 +1,14 @@
 -- Counts of frames and transactions.
-use Rattle.std.specs.Prelude.{ℕ, ◌+◌, ◌-◌, ◌^◌, ◌==◌, ◌&&◌, min, max, Option, Some, None, if◌then◌else◌}
-use Rattle.bac_explain.specs.Sent.{SentView}
+use Rattle.std.specs.Prelude.{ℕ, ◌+◌, ◌-◌, ◌^◌, ◌==◌, ◌&&◌, Bool, min, max, Option, Some, None, if◌then◌else◌}
 use Rattle.bac_explain.specs.Tables.{ClosedView}
-use Rattle.bac_explain.specs.Transactions.{TransactionView}
 use Rattle.bac_explain.specs.declared.finding.Finding.{Finding}
 use Rattle.bac_text.specs.declared.status.Status.{Status}
 use Rattle.bac_text.specs.declared.status.Status.TheVariants.{Done, Faulty}
-use Rattle.bac_explain_report.specs.Endings.{ending_of}
+use Rattle.bac_explain_report.specs.Endings.{delay_of, ending_of}
+use Rattle.bac_explain_report.specs.Selections.{is_wrong, passes}
 use Rattle.bac_explain_report.specs.declared.ending.Ending.{Ending}
 use Rattle.bac_explain_report.specs.declared.ending.Ending.TheVariants.{Answered, Rejected, Aborted, Unanswered}
+use Rattle.bac_explain_report.specs.declared.selection.Selection.{Selection}
 use Rattle.bac_explain_report.specs.declared.tally.Tally.{Tally}
 
 abbrev pub no_frames : Tally
@@ -22,6 +22,8 @@ no_frames = record {
   aborted = 0;
   unanswered = 0;
   slowest = None;
+  shown = 0;
+  wrong = 0;
 }
 
 -- counts saturate
@@ -53,22 +55,27 @@ abbrev pub with_delay : Option ℕ → Tally → Tally
 with_delay None t = t
 with_delay (Some delay) t = record t { slowest = later t.slowest delay }
 
-abbrev pub delay_in : (asked : ℕ) → Option SentView → Option ℕ
-delay_in asked None = None
-delay_in asked (Some s) = Some (s.moment - asked)
+abbrev pub more_if : Bool → ℕ → ℕ
+more_if b count = if b then one_more count else count
 
-abbrev pub delay_of : TransactionView → Option ℕ
-delay_of t = delay_in t.request.moment t.answer
+-- one more transaction that is printed or not, and wrong or not
+abbrev pub with_shown : (shown wrong : Bool) → Tally → Tally
+with_shown shown wrong t = record t { shown = more_if shown t.shown; wrong = more_if (shown && wrong) t.wrong }
 
 -- one more closed transaction
-abbrev pub with_block : ClosedView → Tally → Tally
-with_block c t =
-    with_delay (delay_of c.transaction) (with_ending (ending_of c.transaction) (record t { transactions = one_more t.transactions }))
+abbrev pub with_block : Selection → ClosedView → Tally → Tally
+with_block s c t =
+    with_shown (passes s c.key c.transaction) (is_wrong c.transaction)
+    (with_delay (delay_of c.transaction) (with_ending (ending_of c.transaction) (record t { transactions = one_more t.transactions })))
 
-abbrev pub with_blocks : Option ClosedView → Tally → Tally
-with_blocks None t = t
-with_blocks (Some c) t = with_block c t
+abbrev pub with_blocks : Selection → Option ClosedView → Tally → Tally
+with_blocks s None t = t
+with_blocks s (Some c) t = with_block s c t
 
--- whether there is no finding, and every frame could be read
-abbrev pub status_of : Tally → Status
-status_of t = if (t.findings == 0) && (t.unread == 0) then Done else Faulty
+-- a finding that is printed is of no transaction, or of one that is counted when it is closed
+abbrev pub with_alone : (is_alone : Bool) → Tally → Tally
+with_alone is_alone t = record t { wrong = more_if is_alone t.wrong }
+
+-- whether every frame could be read, and there is no finding; for a strict report, whether nothing that was printed is wrong
+abbrev pub status_of : (strict : Bool) → Tally → Status
+status_of strict t = if ((if strict then t.wrong else t.findings) == 0) && (t.unread == 0) then Done else Faulty

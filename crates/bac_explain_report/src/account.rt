@@ -1,38 +1,69 @@
-//! The state of `explain`: the open transactions, and the counts.
+//! The state of `explain`: what is printed, the open transactions, and the counts.
 ghost use Rattle.std.specs.Prelude.{◌≡◌, IfOk};
 ghost use Rattle.std.specs.Option.{option_map};
 ghost use Rattle.bac_capture.specs.BlockViews.{frame_view};
+ghost use Rattle.bac_explain.specs.KeyViews.{key_view};
 ghost use Rattle.bac_explain.specs.Sightings.{sighting_view};
-ghost use Rattle.bac_explain_report.specs.Accounts.{fresh, frame_heard, broken_off, sighting_heard};
+ghost use Rattle.bac_explain.specs.Tables.{awaited};
+ghost use Rattle.bac_explain_report.specs.Accounts.{fresh, frame_heard, broken_off, is_alone, sighting_heard};
 ghost use Rattle.bac_explain_report.specs.AccountViews.{account_view, report_view};
+ghost use Rattle.bac_explain_report.specs.Selections.{told_finding};
 
 use crate::frame_report::{FrameReport, Hearing};
 use crate::seeing::seen_of;
+use crate::selection::ReportOptions;
 use crate::tally::Tally;
 use crate::unread::Unread;
 use bac_capture::{FileFault, Frame, Ports};
-use bac_explain::{Explainer, Sighting};
+use bac_explain::{Explainer, Finding, Sighting, TransactionKey};
 use std::alloc::{AllocError, Global};
 
-/// The open transactions, and the counts.
+/// What is printed, the open transactions, and the counts.
 #[derive(Drop)]
 pub(crate) struct Account {
     pub alloc: Global,
+    pub options: ReportOptions,
     pub explainer: Explainer,
     pub tally: Tally,
 }
 
 impl Account {
     /// The state before the first frame. Returns an Err if the allocation of the table of transactions fails.
-    pub(crate) fn new(alloc: Global) -> Result<Account, AllocError>
-        ensures { IfOk result (λ a. account_view a ≡ fresh) }
+    pub(crate) fn new(alloc: Global, options: ReportOptions) -> Result<Account, AllocError>
+        ensures { IfOk result (λ a. account_view a ≡ fresh options) }
     {
         let explainer = Explainer::new(alloc)?;
         Ok(Account {
             alloc,
+            options,
             explainer,
             tally: Tally::NONE,
         })
+    }
+
+    /// What is wrong with an APDU, if it is to be printed: its transaction passes as it stands.
+    fn told_finding(
+        &self,
+        now: u64,
+        key: TransactionKey,
+        finding: Option<Finding>,
+    ) -> Option<Finding>
+        ensures { result ≡ told_finding self.now.options.selection (key_view key) (awaited now (key_view key) self.now.explainer) finding }
+    {
+        let finding = finding?;
+        let selection = self.options.selection;
+        let takes = match self.explainer.awaited(now, &key) {
+            Some(transaction) => selection.passes(key, transaction),
+            None => selection.takes_alone(key),
+        };
+        if takes { Some(finding) } else { None }
+    }
+
+    /// Whether a finding that is printed is of no transaction.
+    fn is_alone(&self, now: u64, key: TransactionKey, told: Option<Finding>) -> bool
+        ensures { result ≡ is_alone (awaited now (key_view key) self.now.explainer) told }
+    {
+        told.is_some() && self.explainer.awaited(now, &key).is_none()
     }
 
     /// Handles an APDU of a transaction. Returns the report on its frame.
@@ -47,16 +78,19 @@ impl Account {
             sighting.role,
             sighting.octets,
         )?;
+        let selection = self.options.selection;
+        let finding = self.told_finding(now, sighting.key, heard.finding);
         self.tally = self
             .tally
-            .with_blocks(&over)
-            .with_blocks(&heard.closed)
-            .with_finding(heard.finding);
+            .with_blocks(selection, &over)
+            .with_blocks(selection, &heard.closed)
+            .with_finding(heard.finding)
+            .with_alone(self.is_alone(now, sighting.key, finding));
         Ok(FrameReport::Heard(Hearing {
             key: sighting.key,
-            over,
-            closed: heard.closed,
-            finding: heard.finding,
+            over: selection.shown(over),
+            closed: selection.shown(heard.closed),
+            finding,
         }))
     }
 

@@ -3,7 +3,7 @@ ghost use Rattle.std.specs.Prelude.{◌≡◌, ◌||◌};
 ghost use Rattle.bac_apdu.specs.Views.{apdu_view};
 ghost use Rattle.bac_explain.specs.SentViews.{sent_view};
 ghost use Rattle.bac_explain.specs.Views.{transaction_view};
-ghost use Rattle.bac_explain_report.specs.Endings.{answer_ending, apdu_ending, ending_name, ending_of, no_answer_ending, seen_ending};
+ghost use Rattle.bac_explain_report.specs.Endings.{answer_ending, apdu_ending, delay_of, ending_name, ending_of, is_unanswered, no_answer_ending, seen_ending};
 
 use bac_apdu::{Apdu, read};
 use bac_explain::{Sent, Transaction};
@@ -83,5 +83,25 @@ pub(crate) fn ending_of(transaction: &Transaction) -> Ending
     match &transaction.answer {
         Some(answer) => seen_ending(transaction.broken_off, transaction.gave_up, answer),
         None => no_answer_ending(transaction.gave_up),
+    }
+}
+
+/// Whether the end of no answer was seen, nor an Abort of the server within one. The client may have given up.
+pub(crate) fn is_unanswered(transaction: &Transaction) -> bool
+    ensures { result ≡ is_unanswered (transaction_view transaction.now) }
+{
+    match &transaction.answer {
+        None => true,
+        Some(answer) => !(answer.whole || transaction.broken_off),
+    }
+}
+
+/// The delay of the reply of a transaction, in milliseconds.
+pub(crate) fn delay_of(transaction: &Transaction) -> Option<u64>
+    ensures { result ≡ delay_of (transaction_view transaction.now) }
+{
+    match &transaction.answer {
+        None => None,
+        Some(answer) => Some(answer.moment.saturating_sub(transaction.request.moment)),
     }
 }

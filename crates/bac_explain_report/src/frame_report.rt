@@ -13,7 +13,7 @@ use bac_explain::{Closed, Finding, TransactionKey};
 use bac_value::NoMemory;
 use std::alloc::{AllocError, Global};
 
-/// The report on an APDU of a transaction.
+/// The report on an APDU of a transaction, as far as it is printed.
 #[derive(Debug, Drop)]
 pub(crate) struct Hearing {
     /// Its transaction.

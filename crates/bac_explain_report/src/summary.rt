@@ -1,7 +1,8 @@
 //! The summary at the end.
 ghost use Rattle.std.specs.Prelude.{◌≡◌, IfOk, string_bytes};
-ghost use Rattle.bac_explain_report.specs.Explained.{endings_text, slowest_text, summary_text};
+ghost use Rattle.bac_explain_report.specs.Explained.{endings_text, last_lines, shown_line, slowest_text, summary_text};
 
+use crate::selection::Selection;
 use crate::tally::Tally;
 use std::alloc::{AllocError, Global};
 
@@ -30,7 +31,7 @@ fn endings_text(alloc: Global, tally: Tally) -> Result<String, AllocError>
 }
 
 /// The summary: how many transactions there are and how they ended, the slowest reply, and the numbers of findings, frames and unread frames.
-pub(crate) fn summary_text(alloc: Global, tally: Tally) -> Result<String, AllocError>
+fn summary_text(alloc: Global, tally: Tally) -> Result<String, AllocError>
     ensures { IfOk result (λ t. string_bytes t ≡ summary_text tally) }
 {
     let endings = endings_text(alloc, tally)?;
@@ -41,4 +42,29 @@ pub(crate) fn summary_text(alloc: Global, tally: Tally) -> Result<String, AllocE
     format!(in alloc;
         "{endings} slowest={slowest} findings={findings} frames={frames} unread={unread}\n"
     )
+}
+
+/// How many of the transactions were printed, where a filter is given.
+fn shown_line(alloc: Global, selection: Selection, tally: Tally) -> Result<String, AllocError>
+    ensures { IfOk result (λ t. string_bytes t ≡ shown_line selection tally) }
+{
+    if !selection.is_narrow() {
+        return Ok(String::new(alloc));
+    }
+    let shown = tally.shown;
+    let all = tally.transactions;
+    format!(in alloc; "shown={shown} of {all}\n")
+}
+
+/// The last lines: how many transactions were printed, where a filter is given, and the summary.
+pub(crate) fn last_lines(
+    alloc: Global,
+    selection: Selection,
+    tally: Tally,
+) -> Result<String, AllocError>
+    ensures { IfOk result (λ t. string_bytes t ≡ last_lines selection tally) }
+{
+    let shown = shown_line(alloc, selection, tally)?;
+    let summary = summary_text(alloc, tally)?;
+    format!(in alloc; "{shown}{summary}")
 }

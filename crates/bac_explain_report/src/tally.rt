@@ -2,11 +2,11 @@
 ghost use Rattle.std.specs.Prelude.{◌≡◌};
 ghost use Rattle.std.specs.Option.{option_map};
 ghost use Rattle.bac_explain.specs.Closings.{closed_view};
-ghost use Rattle.bac_explain.specs.Views.{transaction_view};
-ghost use Rattle.bac_explain_report.specs.Tallies.{delay_of, later, one_more, status_of, with_block, with_blocks, with_delay, with_ending, with_finding, with_frame, with_unread};
+ghost use Rattle.bac_explain_report.specs.Tallies.{later, more_if, one_more, status_of, with_alone, with_block, with_blocks, with_delay, with_ending, with_finding, with_frame, with_shown, with_unread};
 
-use crate::ending::{Ending, ending_of};
-use bac_explain::{Closed, Finding, Transaction};
+use crate::ending::{Ending, delay_of, ending_of};
+use crate::selection::{Selection, is_wrong};
+use bac_explain::{Closed, Finding};
 use bac_text::Status;
 
 /// Counts of the frames and transactions so far. Each count saturates.
@@ -23,6 +23,10 @@ pub(crate) struct Tally {
     pub unanswered: u64,
     /// The greatest delay of a first reply after its request, in milliseconds; None if there is no reply.
     pub slowest: Option<u64>,
+    /// Transactions that were printed.
+    pub shown: u64,
+    /// Those of them that are unanswered or have a finding, and printed findings of no transaction.
+    pub wrong: u64,
 }
 
 fn one_more(count: u64) -> u64
@@ -41,14 +45,11 @@ fn later(slowest: Option<u64>, delay: u64) -> Option<u64>
     }
 }
 
-/// The delay of the reply of a transaction, in milliseconds.
-fn delay_of(transaction: &Transaction) -> Option<u64>
-    ensures { result ≡ delay_of (transaction_view transaction.now) }
+/// One more than a count, or the same.
+fn more_if(more: bool, count: u64) -> u64
+    ensures { result ≡ more_if more count }
 {
-    match &transaction.answer {
-        None => None,
-        Some(answer) => Some(answer.moment.saturating_sub(transaction.request.moment)),
-    }
+    if more { one_more(count) } else { count }
 }
 
 impl Tally {
@@ -62,6 +63,8 @@ impl Tally {
         aborted: 0,
         unanswered: 0,
         slowest: None,
+        shown: 0,
+        wrong: 0,
     };
 
     pub(crate) fn with_frame(self) -> Tally
@@ -129,33 +132,60 @@ impl Tally {
         }
     }
 
-    /// The counts with one more closed transaction.
-    pub(crate) fn with_block(self, closed: &Closed) -> Tally
-        ensures { result ≡ with_block (closed_view closed.now) self }
+    fn with_shown(self, shown: bool, wrong: bool) -> Tally
+        ensures { result ≡ with_shown shown wrong self }
     {
+        Tally {
+            shown: more_if(shown, self.shown),
+            wrong: more_if(shown && wrong, self.wrong),
+            ..self
+        }
+    }
+
+    /// The counts with one more closed transaction, which is printed if it passes.
+    pub(crate) fn with_block(self, selection: Selection, closed: &Closed) -> Tally
+        ensures { result ≡ with_block selection (closed_view closed.now) self }
+    {
+        let transaction = &closed.transaction;
         let counted = Tally {
             transactions: one_more(self.transactions),
             ..self
         };
         counted
-            .with_ending(ending_of(&closed.transaction))
-            .with_delay(delay_of(&closed.transaction))
+            .with_ending(ending_of(transaction))
+            .with_delay(delay_of(transaction))
+            .with_shown(
+                selection.passes(closed.key, transaction),
+                is_wrong(transaction),
+            )
     }
 
-    pub(crate) fn with_blocks(self, closed: &Option<Closed>) -> Tally
-        ensures { result ≡ with_blocks (option_map closed_view closed.now) self }
+    pub(crate) fn with_blocks(self, selection: Selection, closed: &Option<Closed>) -> Tally
+        ensures { result ≡ with_blocks selection (option_map closed_view closed.now) self }
     {
         match closed {
             None => self,
-            Some(closed) => self.with_block(closed),
+            Some(closed) => self.with_block(selection, closed),
         }
     }
 
-    /// `Done` if there is no finding and every frame could be read, otherwise `Faulty`.
-    pub(crate) fn status(self) -> Status
-        ensures { result ≡ status_of self }
+    /// The counts with a printed finding of no transaction, if it is one.
+    pub(crate) fn with_alone(self, is_alone: bool) -> Tally
+        ensures { result ≡ with_alone is_alone self }
     {
-        if self.findings == 0 && self.unread == 0 {
+        Tally {
+            wrong: more_if(is_alone, self.wrong),
+            ..self
+        }
+    }
+
+    /// `Done` if there is no finding and every frame could be read, otherwise `Faulty`. If it is strict, what was printed counts in
+    /// place of the findings.
+    pub(crate) fn status(self, strict: bool) -> Status
+        ensures { result ≡ status_of strict self }
+    {
+        let faults = if strict { self.wrong } else { self.findings };
+        if faults == 0 && self.unread == 0 {
             Status::Done
         } else {
             Status::Faulty

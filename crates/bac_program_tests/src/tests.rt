@@ -13,6 +13,7 @@ mod asked_rounds;
 mod asked_window;
 mod client_pairs;
 mod decoded;
+mod explained;
 mod files;
 mod forgotten;
 mod help;

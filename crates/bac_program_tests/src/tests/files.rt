@@ -230,6 +230,37 @@ transactions=0 answered=0 rejected=0 aborted=0 unanswered=0 slowest=- findings=0
         "explain missing",
         ("", "cannot read\nmissing: entity not found\n", 2),
     ),
+    (
+        NO_FRAME,
+        "explain --peer 10.0.0 capture",
+        (
+            "",
+            "bad address\n\"10.0.0\" is no A.B.C.D or A.B.C.D:P\n",
+            2,
+        ),
+    ),
+    (
+        NO_FRAME,
+        "explain --peer 10.0.0.9:0 capture",
+        (
+            "",
+            "bad address\n\"10.0.0.9:0\" is no A.B.C.D or A.B.C.D:P\n",
+            2,
+        ),
+    ),
+    (
+        "\n\r\r\n\0\0",
+        "explain --fail --unanswered capture",
+        (
+            "\
+frame 1: file ends early
+shown=0 of 0
+transactions=0 answered=0 rejected=0 aborted=0 unanswered=0 slowest=- findings=0 frames=1 unread=1
+",
+            "",
+            1,
+        ),
+    ),
     ("", "explain starved", ("", "no memory\n", 4)),
     (NO_FRAME, "explain broken", ("", "cannot read\n", 2)),
     (NO_FRAME, "explain starving", ("", "no memory\n", 4)),

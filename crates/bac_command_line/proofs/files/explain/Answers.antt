@@ -7,6 +7,6 @@ use Rattle.bac_command_line.proofs.files.explain.Goals as goal
 pub returns-in-Ok : goal.returns-in-Ok
 returns-in-Ok g c =
     printed_file _ c.args.capture.now.path.now _
-    (λ (content : Option (List ℕ)). IsReportOf c.args.capture.now.port content (g.O.Write.contents c.args.out.now)
+    (λ (content : Option (List ℕ)). IsReportOf c.args.options c.args.capture.now.port content (g.O.Write.contents c.args.out.now)
     (g.O.Write.contents c.explain_over.new.out) c.explain_over.result)
     c.explain_over.result c.in-Ok.ensures.at c.explain_over.ensures

@@ -1,0 +1,82 @@
+//! The line of options of a row: `unanswered`, `findings`, `slower MS`, `peer HOST` or `peer HOST:PORT`, where HOST is the number of a host, and `fail`.
+use crate::words::{first, number};
+use bac_explain_report::{PeerFilter, ReportOptions, Selection};
+
+/// No option.
+pub(crate) const ALL: ReportOptions = ReportOptions {
+    selection: Selection::ALL,
+    strict: false,
+};
+
+/// The address of the host of a number, and a port or any.
+fn filter_of(word: &str) -> Option<PeerFilter> {
+    let (host, port) = match word.split_once(':') {
+        Some((host, port)) => (host, Some(port.parse::<u16>().ok()?)),
+        None => (word, None),
+    };
+    let host = [10, 0, 0, host.parse::<u8>().ok()?];
+    Some(PeerFilter { host, port })
+}
+
+/// A selection with the option of this name too, and what follows that.
+fn with_filter<'a>(
+    selection: Selection,
+    name: &str,
+    rest: &'a str,
+) -> Option<(Selection, &'a str)> {
+    match name {
+        "unanswered" => Some((
+            Selection {
+                unanswered: true,
+                ..selection
+            },
+            rest,
+        )),
+        "findings" => Some((
+            Selection {
+                findings: true,
+                ..selection
+            },
+            rest,
+        )),
+        "slower" => {
+            let (limit, rest) = first(rest);
+            let slower = Some(number(limit)?);
+            Some((
+                Selection {
+                    slower,
+                    ..selection
+                },
+                rest,
+            ))
+        }
+        "peer" => {
+            let (peer, rest) = first(rest);
+            let peer = Some(filter_of(peer)?);
+            Some((Selection { peer, ..selection }, rest))
+        }
+        _ => None,
+    }
+}
+
+/// The options of a line: at most five.
+pub(crate) fn options_of(line: &str) -> Option<ReportOptions> {
+    let mut options = ALL;
+    let mut rest = line;
+    for _ in 0..5 {
+        let (name, more) = first(rest);
+        match name {
+            "" => return Some(options),
+            "fail" => {
+                options.strict = true;
+                rest = more;
+            }
+            _ => {
+                let (selection, more) = with_filter(options.selection, name, more)?;
+                options.selection = selection;
+                rest = more;
+            }
+        }
+    }
+    if rest.is_empty() { Some(options) } else { None }
+}
