@@ -334,6 +334,13 @@ const SERVE: &[Word] = &[
         help: "The server ran before and has lost what it remembered: it refuses new requests for 65 seconds, until no repeat of an old one should arrive",
     },
     Word {
+        name: "strict",
+        form: WordForm::Flag,
+        need: Need::Never,
+        against: &[],
+        help: "Lets no client use an invoke ID again within 65 seconds: an equal request gets the old answer, another one is refused. So it is with --turns",
+    },
+    Word {
         name: "objects",
         form: WordForm::Text("FILE"),
         need: Need::Never,

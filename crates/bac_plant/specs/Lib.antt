@@ -8,3 +8,6 @@ pub mod Rounds
 pub mod Cuts
 pub mod NextCuts
 pub mod Example
+pub mod ReusingWorlds
+pub mod ReusingLogs
+pub mod ReusingPlants

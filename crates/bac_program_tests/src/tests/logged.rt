@@ -39,6 +39,40 @@ const REQUEST_LINES: &str = "\
 8500 127.0.0.1:47809 id 5 write analog-value:1 present-value real 180.0: answered written
 ";
 
+/// The first three of them, where an invoke ID may be used again.
+const FRESH_LINES: &str = "\
+listening 127.0.0.1:47808, 5 objects, 65536 slots
+1500 127.0.0.1:47809 id 1 read analog-input:5 present-value: answered real 72.3
+2500 127.0.0.1:47809 id 1 read analog-input:5 present-value: answered real 72.3
+3500 127.0.0.1:47809 id 1 read analog-input:9 present-value: answered error object unknown-object (1:31)
+";
+
+/// And where it may not.
+const STRICT_LINES: &str = "\
+listening 127.0.0.1:47808, 5 objects, 65536 slots
+1500 127.0.0.1:47809 id 1 read analog-input:5 present-value: answered real 72.3
+2500 127.0.0.1:47809 id 1 read analog-input:5 present-value: repeat, answered real 72.3
+3500 127.0.0.1:47809 id 1 read analog-input:9 present-value: aborted other (0)
+";
+
+const WRITE_180: &str = "810A001801040005050F0C0080000119553E44433400003F";
+
+/// Writes with one invoke ID: one, a repeat of it, another value, and the first one again.
+const WRITES: Datagrams = &[
+    (0xC1, WRITE_180),
+    (0xC1, WRITE_180),
+    (0xC1, "810A001801040005050F0C0080000119553E4441A000003F"),
+    (0xC1, WRITE_180),
+];
+
+const WRITE_LINES: &str = "\
+listening 127.0.0.1:47808, 5 objects, 65536 slots
+1500 127.0.0.1:47809 id 5 write analog-value:1 present-value real 180.0: answered written
+2500 127.0.0.1:47809 id 5 write analog-value:1 present-value real 180.0: repeat, answered written
+3500 127.0.0.1:47809 id 5 write analog-value:1 present-value real 20.0: answered written
+4500 127.0.0.1:47809 id 5 write analog-value:1 present-value real 180.0: answered written
+";
+
 /// No whole BVLL, a broadcast, another version, a frame for elsewhere, a network message, no APDU, and one from the server's own link.
 const DROPPED: Datagrams = &[
     (0xC1, "810A"),
@@ -120,6 +154,22 @@ const ROWS: &[(Behind, &str, Ending)] = &[
         Behind::Datagrams(REQUESTS),
         "serve --turns 8 --log",
         ("served 4\n", REQUEST_LINES, 0),
+    ),
+    // the last turn begins three seconds after the start
+    (
+        Behind::Datagrams(REQUESTS),
+        "serve --seconds 3 --log",
+        ("served 3\n", FRESH_LINES, 0),
+    ),
+    (
+        Behind::Datagrams(REQUESTS),
+        "serve --seconds 3 --strict --log",
+        ("served 1\n", STRICT_LINES, 0),
+    ),
+    (
+        Behind::Datagrams(WRITES),
+        "serve --seconds 4 --log",
+        ("served 3\n", WRITE_LINES, 0),
     ),
     (
         Behind::Datagrams(DROPPED),

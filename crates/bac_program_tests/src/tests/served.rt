@@ -65,10 +65,20 @@ const SERVED: &[BenchRow] = &[
     ),
     (
         MANY_REQUESTS,
-        "serve --port 47808 --seconds 2 --slots 7 --at 192.168.1.20",
+        "serve --port 47808 --seconds 2 --slots 7 --strict --at 192.168.1.20",
         (
             "served 7\n",
             "listening 192.168.1.20:47808, 5 objects, 7 slots\n",
+            0,
+        ),
+    ),
+    // the reads take no slot
+    (
+        MANY_REQUESTS,
+        "serve --port 47808 --seconds 2 --slots 7",
+        (
+            "served 10\n",
+            "listening 127.0.0.1:47808, 5 objects, 7 slots\n",
             0,
         ),
     ),
