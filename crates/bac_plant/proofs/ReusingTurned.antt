@@ -17,7 +17,7 @@ use Rattle.bac_plant.specs.Events.{events_in, events_of, heard_events, ticked_ev
 use Rattle.bac_plant.specs.Network.{HandsOver, IsOfStation, Source}
 use Rattle.bac_plant.specs.Network.Source.{Noise, Nowhere, Station, Stranger}
 use Rattle.bac_plant.specs.Plants.{Plant, nodes_of, shows, world_of}
-use Rattle.bac_plant.specs.ReusingPlants.{HappensSo, PlantStepSo, SettingsStay, StrictRunsAreRuns, TurnsAreEventsSo, reuse_of, settings_of}
+use Rattle.bac_plant.specs.ReusingPlants.{HappensSo, PlantStepSo, RunsWithoutReuse, SettingsStay, TurnsAreEventsSo, reuse_of, settings_of}
 use Rattle.bac_plant.specs.ReusingWorlds.{AreLoggedSo, DeliversIfSo, DeliversSo, HearsSo, Reuses, WorldRunSo}
 use Rattle.bac_plant.specs.Steps.{HappensAt, PlantStep, Step}
 use Rattle.bac_plant.specs.Steps.Step.{Begins, BeginsAway, Changes, FailsToReceive, Holds, Passes, Restarts, SendsHeld, Takes}
@@ -299,10 +299,10 @@ happens_at overtake old i source turn middle after new false off h = record {
   is = h.is;
 }
 
-strict_step : (overtake : ℕ) (old : Plant) (step : Step) (new : Plant) → ((j : ℕ) → settings_of old.stations j ≡ false) → PlantStepSo overtake old step new
+step_without_reuse : (overtake : ℕ) (old : Plant) (step : Step) (new : Plant) → ((j : ℕ) → settings_of old.stations j ≡ false) → PlantStepSo overtake old step new
     → PlantStep overtake old step new
-strict_step overtake old (Passes by own) new none s = s
-strict_step overtake old (Takes i source turn) new none s =
+step_without_reuse overtake old (Passes by own) new none s = s
+step_without_reuse overtake old (Takes i source turn) new none s =
     let off = sym (ap reuse_of s.at) ∙ none i in
     record {
       before = s.before;
@@ -312,12 +312,12 @@ strict_step overtake old (Takes i source turn) new none s =
       takes = s.takes;
       happens = happens_at overtake old i source turn s.takes.is.acts.middle s.after new s.before.reuse off s.happens;
     }
-strict_step overtake old (FailsToReceive i) new none s = s
-strict_step overtake old (Begins i server limits r) new none s = s
-strict_step overtake old (BeginsAway i peer limits r) new none s = s
-strict_step overtake old (Changes i c) new none s = s
-strict_step overtake old (Restarts i exact store) new none s = s.restarts
-strict_step overtake old (Holds i source turn) new none s =
+step_without_reuse overtake old (FailsToReceive i) new none s = s
+step_without_reuse overtake old (Begins i server limits r) new none s = s
+step_without_reuse overtake old (BeginsAway i peer limits r) new none s = s
+step_without_reuse overtake old (Changes i c) new none s = s
+step_without_reuse overtake old (Restarts i exact store) new none s = s.restarts
+step_without_reuse overtake old (Holds i source turn) new none s =
     let off = sym (ap reuse_of s.at) ∙ none i in
     record {
       before = s.before;
@@ -327,12 +327,12 @@ strict_step overtake old (Holds i source turn) new none s =
       holds = s.holds;
       happens = happens_at overtake old i source turn s.holds.takes.middle s.after new s.before.reuse off s.happens;
     }
-strict_step overtake old (SendsHeld i turns) new none s = s
+step_without_reuse overtake old (SendsHeld i turns) new none s = s
 
-pub strict_runs : StrictRunsAreRuns
-strict_runs overtake [] old new none run = run
-strict_runs overtake (step ∷ before) old new none run = record {
+pub runs_without_reuse : RunsWithoutReuse
+runs_without_reuse overtake [] old new none run = run
+runs_without_reuse overtake (step ∷ before) old new none run = record {
   middle = run.middle;
-  so_far = strict_runs overtake before old run.middle none run.so_far;
-  last = strict_step overtake run.middle step new (λ j. settings_stay overtake before old run.middle run.so_far j ∙ none j) run.last;
+  so_far = runs_without_reuse overtake before old run.middle none run.so_far;
+  last = step_without_reuse overtake run.middle step new (λ j. settings_stay overtake before old run.middle run.so_far j ∙ none j) run.last;
 }

@@ -9,5 +9,4 @@ pub mod Cuts
 pub mod NextCuts
 pub mod Example
 pub mod ReusingWorlds
-pub mod ReusingLogs
 pub mod ReusingPlants

@@ -1,10 +1,9 @@
 -- Plants whose stations may let clients use an invoke ID again as soon as its transaction is over. All that is not said here is as in Steps.
 use Rattle.std.specs.Prelude.{◌≡◌, ℕ, Bool, false, List, ◌++◌, Option, Some, None, slice_get}
-use Rattle.bac_protocol.specs.Pace.{IsTimely}
 use Rattle.bac_store.specs.Stores.{Store}
 use Rattle.bac_world.specs.Node.{Node}
 use Rattle.bac_world.specs.Once.{Fact}
-use Rattle.bac_world.specs.World.{AreEnded, Copy, IsBounded, IsFresh, stores_of}
+use Rattle.bac_world.specs.World.{AreEnded, Copy}
 use Rattle.bac_driver.specs.BoundNodes.{BoundNode}
 use Rattle.bac_driver.specs.Runs.{Run}
 use Rattle.bac_driver.specs.Rounds.{sends_in}
@@ -12,7 +11,6 @@ use Rattle.bac_driver.specs.Turns.{Turn, ended_of, performed_of}
 use Rattle.bac_plant.specs.Events.{events_of}
 use Rattle.bac_plant.specs.Network.{HandsOver, Source}
 use Rattle.bac_plant.specs.Plants.{Plant, nodes_of, shows, world_of}
-use Rattle.bac_plant.specs.ReusingLogs.{IsOnceSo}
 use Rattle.bac_plant.specs.ReusingWorlds.{AreLoggedSo, Reuses, WorldRunSo}
 use Rattle.bac_plant.specs.Steps.{BecomeCopies, HoldsSomeTurn, IsSomeTurn, PlantRun, PlantStep, RestartsAt, Step, with_station}
 use Rattle.bac_plant.specs.Steps.Step.{Holds, Restarts, Takes}
@@ -86,13 +84,7 @@ abbrev pub TurnsAreEventsSo : Type 0
 TurnsAreEventsSo = (overtake : ℕ) (steps : List Step) (old new : Plant) → PlantRunSo overtake steps old new
     → WorldRunSo overtake (settings_of old.stations) (world_of old) (events_of steps) (world_of new)
 
--- after a run of a fresh plant the log is right with the stores: an accepted write takes effect at most once, and exactly once where a service answer reached
--- its client, and each answer is a reply with which its request was performed
-abbrev pub TurnsAreOnceSo : Type 0
-TurnsAreOnceSo = (W overtake : ℕ) (old new : Plant) → IsFresh (world_of old) → IsTimely old.time.pace → IsBounded W overtake (world_of old)
-    → (steps : List Step) → PlantRunSo overtake steps old new → IsOnceSo (stores_of (nodes_of old.stations)) new.log (stores_of (nodes_of new.stations))
-
 -- where no station lets invoke IDs be used again, such a run is one of Steps
-abbrev pub StrictRunsAreRuns : Type 0
-StrictRunsAreRuns = (overtake : ℕ) (steps : List Step) (old new : Plant) → ((station : ℕ) → settings_of old.stations station ≡ false)
+abbrev pub RunsWithoutReuse : Type 0
+RunsWithoutReuse = (overtake : ℕ) (steps : List Step) (old new : Plant) → ((station : ℕ) → settings_of old.stations station ≡ false)
     → PlantRunSo overtake steps old new → PlantRun overtake steps old new

@@ -31,7 +31,7 @@ ghost use Rattle.bac_plant.specs.NextCuts.{FoundStoresGoOn, KeptStoresGoOn, Lost
 ghost use Rattle.bac_plant.specs.NextSteps.{AsksGoOn, ChangesGoOn, FailuresGoOn, HeldSendsGoOn, HeldTurnsGoOn, IsReached, RestartsGoOn, StrangersAskedGoOn};
 ghost use Rattle.bac_plant.specs.NextSteps.{TurnsGoOn};
 ghost use Rattle.bac_plant.specs.Plants.{Plant, nodes_of, world_of};
-ghost use Rattle.bac_plant.specs.ReusingPlants.{SettingsStay, StrictRunsAreRuns, TurnsAreEventsSo};
+ghost use Rattle.bac_plant.specs.ReusingPlants.{RunsWithoutReuse, SettingsStay, TurnsAreEventsSo};
 ghost use Rattle.bac_plant.specs.Rounds.{HeldChain, IsAsHeldInChain, RoundInChain, ServesRoundsInChain, StopsInRound, StopsRoundsInChain};
 ghost use Rattle.bac_plant.specs.Steps.{PlantRun, Step};
 ghost use Rattle.bac_plant.specs.Steps.Step.{SendsHeld};
@@ -56,11 +56,11 @@ pub fn turns_are_events()
 
 /// The turns of stations some of which let clients use an invoke ID again as soon as its transaction is over are events of a world in which these nodes do so.
 /// No step changes such a setting; where no station has it, a run is one of the law above.
-#[tactic(auto, using(crate::proofs::ReusingTurned::settings_stay, crate::proofs::ReusingTurned::run_events_so, crate::proofs::ReusingTurned::strict_runs))]
+#[tactic(auto, using(crate::proofs::ReusingTurned::settings_stay, crate::proofs::ReusingTurned::run_events_so, crate::proofs::ReusingTurned::runs_without_reuse))]
 pub fn reusing_turns_are_events()
     ensures settings { SettingsStay }
     ensures events { TurnsAreEventsSo }
-    ensures strict { StrictRunsAreRuns }
+    ensures without { RunsWithoutReuse }
 {}
 
 /// After each run of a fresh plant, whatever a call promises of a station, at the moment of its clock and by a datagram that the network may hand over, is a

@@ -2,4 +2,3 @@ pub mod Runs
 pub mod Once
 pub mod Claims
 pub mod Examples
-pub mod Moves
