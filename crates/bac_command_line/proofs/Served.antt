@@ -16,8 +16,8 @@ pub served_so : (IsOn : Links) (IsClock : Clocks) (store : Store) (serving : Ser
     (turns : ℕ) (before after : Timed) (old new : Option (List ℕ)) (s : Status) → restart ≡ restart_of serving.restarted start
     → p ≡ patience_of serving start → turns ≡ turns_of serving.turns → before.bound_node.node ≡ server_node serving.slots restart address store
     → IsOn serving.host serving.port address before.bound_node.failures before.bound_node.calls → HasTold IsClock start before.told
-    → ReportsServing s p turns before after old new → IsServedBy store IsOn IsClock s serving old new
-served_so IsOn IsClock store serving start restart address p turns before after old new s restarts waits most node on clock reports =
+    → before.bound_node.reuse ≡ serving.reuse → ReportsServing s p turns before after old new → IsServedBy store IsOn IsClock s serving old new
+served_so IsOn IsClock store serving start restart address p turns before after old new s restarts waits most node on clock reuse reports =
     lifted s served (λ (no : ⊥). absurd no) (λ (no : ⊥). absurd no) reports where
       node_is : before.bound_node.node ≡ server_node serving.slots (restart_of serving.restarted start) address store
       node_is = subst (λ (r : Option ℕ). before.bound_node.node ≡ server_node serving.slots r address store) restarts node
@@ -28,7 +28,7 @@ served_so IsOn IsClock store serving start restart address p turns before after 
             start = start;
             before = before;
             after = after;
-            node = record { address = address; node = node_is; on = on };
+            node = record { address = address; node = node_is; reuse_is = reuse; on = on };
             clock = clock;
             text =
                 subst (λ (n : ℕ). ServedText (patience_of serving start) n before after old new) most

@@ -65,20 +65,21 @@ Clocks = Told → Type 0
 abbrev pub FREE : ℕ
 FREE = 0
 
--- a node on a link at a port: that node, by its address
-pub record IsAt (IsOn : Links) (host : Octets) (port : ℕ) (node_at : (address : Octets) → Node) (bound_node : BoundNode) : Type 0 where
+-- a node on a link at a port: that node, by its address, with that setting of whether it lets clients use an invoke ID again
+pub record IsAt (IsOn : Links) (host : Octets) (port : ℕ) (node_at : (address : Octets) → Node) (reuse : Bool) (bound_node : BoundNode) : Type 0 where
   pub address : Octets
   pub node : bound_node.node ≡ node_at address
+  pub reuse_is : bound_node.reuse ≡ reuse
   pub on : IsOn host port address bound_node.failures bound_node.calls
 
 -- one with the house store, to which nothing has happened, at any free port; its invoke IDs begin at that one
 abbrev pub IsHouseAt : Links → (host : Octets) → (first_id : ℕ) → BoundNode → Type 0
-IsHouseAt IsOn host first_id bound_node = IsAt IsOn host FREE (house_node first_id) bound_node
+IsHouseAt IsOn host first_id bound_node = IsAt IsOn host FREE (house_node first_id) false bound_node
 
 -- one that asks for lists
 pub record IsClientAt (IsOn : Links) (host : Octets) (first_id : ℕ) (bound_node : BoundNode) : Type 0 where
   pub port : ℕ
-  pub at : IsAt IsOn host port (client_node first_id) bound_node
+  pub at : IsAt IsOn host port (client_node first_id) false bound_node
 
 -- its invoke IDs begin anywhere
 pub record IsClient (IsOn : Links) (host : Octets) (bound_node : BoundNode) : Type 0 where
@@ -99,7 +100,8 @@ pub record Serves (store : Store) (IsOn : Links) (IsClock : Clocks) (serving : S
   pub before : Timed
   pub after : Timed
   pub node :
-      IsAt IsOn serving.host serving.port (λ address. server_node serving.slots (restart_of serving.restarted start) address store) before.bound_node
+      IsAt IsOn serving.host serving.port (λ address. server_node serving.slots (restart_of serving.restarted start) address store) serving.reuse
+      before.bound_node
   pub clock : HasTold IsClock start before.told
   pub text : ServedText (patience_of serving start) (turns_of serving.turns) before after old new
 

@@ -169,11 +169,19 @@ fn serve_round<M: Machine, K: Keeper, O: Write, E: Write>(
     let start = timer.now();
     let objects = store.object_count();
     let restart = serving.restart(start);
-    let bound_node = match bound_server(alloc, bound.0, address, store, serving.slots, restart) {
+    let mut bound_node = match bound_server(
+        alloc,
+        bound.0,
+        address,
+        store,
+        serving.slots,
+        restart,
+    ) {
         Ok(bound_node) => bound_node,
         Err(NewNodeFault::BadSlots) => return complain(err, "bad slots", Status::CommandLine),
         Err(_) => return no_memory(err),
     };
+    bound_node.set_reuse(serving.reuse);
     print_listening(serving, address, objects, start, err);
     let mut server = KeptServer {
         bound_node,

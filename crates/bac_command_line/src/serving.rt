@@ -40,6 +40,8 @@ pub(crate) struct Serving {
     pub slots: usize,
     /// Whether it served before, and lost what it remembered.
     pub restarted: bool,
+    /// Whether it lets clients use an invoke ID again as soon as its transaction is over.
+    pub reuse: bool,
     /// Whether its turns are logged.
     pub log: bool,
 }
@@ -240,6 +242,7 @@ pub(crate) fn serving_of(given: &ArgMatches<'_>) -> Option<Serving> {
         seconds: given.get_one("seconds"),
         slots: slots.unwrap_or(slots_without_word(turns)),
         restarted: given.get_flag("restarted"),
+        reuse: given.get_flag("reuse"),
         log: given.get_flag("log"),
     })
 }

@@ -334,6 +334,13 @@ const SERVE: &[Word] = &[
         help: "The server ran before and has lost what it remembered: it refuses new requests for 65 seconds, until no repeat of an old one should arrive",
     },
     Word {
+        name: "reuse",
+        form: WordForm::Flag,
+        need: Need::Never,
+        against: &[],
+        help: "Lets clients use an invoke ID again at once, as some of other makes do: without it they get old answers, and refusals, for up to 65 seconds",
+    },
+    Word {
         name: "objects",
         form: WordForm::Text("FILE"),
         need: Need::Never,

@@ -6,6 +6,7 @@ use Rattle.bac_protocol.specs.Wire.{is_from_client}
 use Rattle.bac_store.specs.Stores.{Store}
 use Rattle.bac_transaction.specs.Ends.{Act}
 use Rattle.bac_world.specs.Node.{IsHeardBy, Node, NodeOn, Outcome}
+use Rattle.bac_node.specs.Reuse.{IsHeardReusingBy, NodeHears, NodeReusing}
 use Rattle.bac_world.specs.Services.{ArePerformed, Performed, store_after}
 use Rattle.bac_driver.specs.Rounds.{HoldsTurnFrom, IsReplied}
 use Rattle.bac_driver.specs.Runs.{Timed}
@@ -32,6 +33,22 @@ store_on now from octets old new o (inr z) = go (is_from_client z.apdu) z.heard
     go true turn = ap (λ (n : Node). n.store) turn.node
     go false turn = ap (λ (n : Node). n.store) turn.node ∙ sym (ap (store_after old.store) turn.performed)
 
+store_reusing : (now : ℕ) (from octets : Octets) (old new : Node) (o : Outcome) → NodeReusing now from octets old new o
+    → new.store ≡ store_after old.store o.performed
+store_reusing now from octets old new o (inl d) =
+    ap (λ (n : Node). n.store) d.node ∙ sym (ap (λ (x : Outcome). store_after old.store x.performed) d.outcome)
+store_reusing now from octets old new o (inr z) = go (is_from_client z.apdu) z.heard
+  where
+    go : (server : Bool) → IsHeardReusingBy server z.peer z.apdu now old new o → new.store ≡ store_after old.store o.performed
+    go true turn = ap (λ (n : Node). n.store) turn.node
+    go false turn = ap (λ (n : Node). n.store) turn.node ∙ sym (ap (store_after old.store) turn.performed)
+
+-- of a node of either setting
+store_hears : (reuse : Bool) (now : ℕ) (from octets : Octets) (old new : Node) (o : Outcome) → NodeHears reuse now from octets old new o
+    → new.store ≡ store_after old.store o.performed
+store_hears true now from octets old new o hears = store_reusing now from octets old new o hears
+store_hears false now from octets old new o hears = store_on now from octets old new o hears
+
 replied_on : (now : ℕ) (from octets : Octets) (old new : Node) (o : Outcome) → NodeOn now from octets old new o → IfSome o.performed (IsReplied old.store)
 replied_on now from octets old new o (inl d) = none_replied old.store o.performed (ap (λ (x : Outcome). x.performed) d.outcome)
 replied_on now from octets old new o (inr z) = go (is_from_client z.apdu) z.heard
@@ -40,20 +57,34 @@ replied_on now from octets old new o (inr z) = go (is_from_client z.apdu) z.hear
     go true turn = are_replied old.store _ o.performed turn.performed
     go false turn = none_replied old.store o.performed turn.performed
 
+replied_reusing : (now : ℕ) (from octets : Octets) (old new : Node) (o : Outcome) → NodeReusing now from octets old new o
+    → IfSome o.performed (IsReplied old.store)
+replied_reusing now from octets old new o (inl d) = none_replied old.store o.performed (ap (λ (x : Outcome). x.performed) d.outcome)
+replied_reusing now from octets old new o (inr z) = go (is_from_client z.apdu) z.heard
+  where
+    go : (server : Bool) → IsHeardReusingBy server z.peer z.apdu now old new o → IfSome o.performed (IsReplied old.store)
+    go true turn = are_replied old.store _ o.performed turn.performed
+    go false turn = none_replied old.store o.performed turn.performed
+
+replied_hears : (reuse : Bool) (now : ℕ) (from octets : Octets) (old new : Node) (o : Outcome) → NodeHears reuse now from octets old new o
+    → IfSome o.performed (IsReplied old.store)
+replied_hears true now from octets old new o hears = replied_reusing now from octets old new o hears
+replied_hears false now from octets old new o hears = replied_on now from octets old new o hears
+
 -- ---- both steps
 
-store_heard : (now : ℕ) (buffer : Octets) (came : Option (Octets × ℕ)) (old new : Node) (heard : Option Outcome) → Hears now buffer came old new heard
-    → new.store ≡ store_after old.store (performed_of heard)
-store_heard now buffer None old new heard hears =
+store_heard : (reuse : Bool) (now : ℕ) (buffer : Octets) (came : Option (Octets × ℕ)) (old new : Node) (heard : Option Outcome)
+    → Hears reuse now buffer came old new heard → new.store ≡ store_after old.store (performed_of heard)
+store_heard reuse now buffer None old new heard hears =
     ap (λ (n : Node). n.store) hears.1 ∙ sym (ap (λ (h : Option Outcome). store_after old.store (performed_of h)) hears.0)
-store_heard now buffer (Some d) old new None hears = ap (λ (n : Node). n.store) hears.same
-store_heard now buffer (Some d) old new (Some o) hears = store_on now d.0 (take d.1 buffer) old new o hears
+store_heard reuse now buffer (Some d) old new None hears = ap (λ (n : Node). n.store) hears.same
+store_heard reuse now buffer (Some d) old new (Some o) hears = store_hears reuse now d.0 (take d.1 buffer) old new o hears
 
-replied_heard : (now : ℕ) (buffer : Octets) (came : Option (Octets × ℕ)) (old new : Node) (heard : Option Outcome) → Hears now buffer came old new heard
-    → IfSome (performed_of heard) (IsReplied old.store)
-replied_heard now buffer None old new heard hears = none_replied old.store (performed_of heard) (ap performed_of hears.0)
-replied_heard now buffer (Some d) old new None hears = tt
-replied_heard now buffer (Some d) old new (Some o) hears = replied_on now d.0 (take d.1 buffer) old new o hears
+replied_heard : (reuse : Bool) (now : ℕ) (buffer : Octets) (came : Option (Octets × ℕ)) (old new : Node) (heard : Option Outcome)
+    → Hears reuse now buffer came old new heard → IfSome (performed_of heard) (IsReplied old.store)
+replied_heard reuse now buffer None old new heard hears = none_replied old.store (performed_of heard) (ap performed_of hears.0)
+replied_heard reuse now buffer (Some d) old new None hears = tt
+replied_heard reuse now buffer (Some d) old new (Some o) hears = replied_hears reuse now d.0 (take d.1 buffer) old new o hears
 
 store_ticked : (now : ℕ) (old new : Node) (ticked : Option Outcome) → Ticks now old new ticked → new.store ≡ old.store
 store_ticked now old new None ticks = ap (λ (n : Node). n.store) ticks.same
@@ -65,11 +96,11 @@ pub store_held : (began : ℕ) (p : WaitLimit) (turn : Turn) (old new : Timed) �
     → new.bound_node.node.store ≡ store_after old.bound_node.node.store (performed_of turn.heard)
 store_held began p turn old new holds =
     store_ticked _ holds.takes.middle new.bound_node.node turn.ticked holds.takes.ticks
-    ∙ store_heard _ _ turn.received holds.middle.node holds.takes.middle turn.heard holds.takes.hears
+    ∙ store_heard holds.middle.reuse _ _ turn.received holds.middle.node holds.takes.middle turn.heard holds.takes.hears
     ∙ ap (λ (n : Node). store_after n.store (performed_of turn.heard)) holds.receives.node
 
 pub replied_held : (began : ℕ) (p : WaitLimit) (turn : Turn) (old new : Timed) → HoldsTurnFrom began p old turn new
     → IfSome (performed_of turn.heard) (IsReplied old.bound_node.node.store)
 replied_held began p turn old new holds =
     subst (λ (n : Node). IfSome (performed_of turn.heard) (IsReplied n.store)) holds.receives.node
-    (replied_heard _ _ turn.received holds.middle.node holds.takes.middle turn.heard holds.takes.hears)
+    (replied_heard holds.middle.reuse _ _ turn.received holds.middle.node holds.takes.middle turn.heard holds.takes.hears)

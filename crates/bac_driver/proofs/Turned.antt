@@ -5,6 +5,7 @@ use Rattle.std.proofs.lemmas.List.{append-nil, map-append, take_more}
 use Rattle.bac_protocol.specs.Service.{Octets}
 use Rattle.bac_protocol.specs.Wire.{is_from_client}
 use Rattle.bac_world.specs.Node.{IsHeardBy, Node, NodeOn, Outcome}
+use Rattle.bac_node.specs.Reuse.{IsHeardReusingBy, NodeHears, NodeReusing}
 use Rattle.bac_transaction.specs.Sends.{Datagram}
 use Rattle.bac_driver.specs.Calls.{Calls, MOST}
 use Rattle.bac_driver.specs.BoundNodes.{BoundNode}
@@ -13,13 +14,27 @@ use Rattle.bac_driver.specs.Turns.{Acts, Hears, Ticks, Turn, call_of, counted, w
 use Rattle.bac_driver.proofs.Counts.{counted_both, with_more}
 
 -- a datagram that comes at a moment leaves the latest one of the node no later
-pub heard_in_time : (now : ℕ) (from octets : Octets) (old new : Node) (o : Outcome) → NodeOn now from octets old new o → new.latest ≤ now
-heard_in_time now from octets old new o (inl d) = subst (λ (n : Node). n.latest ≤ now) (sym d.node) (omega arith)
-heard_in_time now from octets old new o (inr z) = go (is_from_client z.apdu) z.heard
+on_in_time : (now : ℕ) (from octets : Octets) (old new : Node) (o : Outcome) → NodeOn now from octets old new o → new.latest ≤ now
+on_in_time now from octets old new o (inl d) = subst (λ (n : Node). n.latest ≤ now) (sym d.node) (omega arith)
+on_in_time now from octets old new o (inr z) = go (is_from_client z.apdu) z.heard
   where
     go : (server : Bool) → IsHeardBy server z.peer z.apdu now old new o → new.latest ≤ now
     go true turn = subst (λ (n : Node). n.latest ≤ now) (sym turn.node) (omega arith)
     go false turn = subst (λ (n : Node). n.latest ≤ now) (sym turn.node) (omega arith)
+
+-- nor where clients may use invoke IDs again
+reusing_in_time : (now : ℕ) (from octets : Octets) (old new : Node) (o : Outcome) → NodeReusing now from octets old new o → new.latest ≤ now
+reusing_in_time now from octets old new o (inl d) = subst (λ (n : Node). n.latest ≤ now) (sym d.node) (omega arith)
+reusing_in_time now from octets old new o (inr z) = go (is_from_client z.apdu) z.heard
+  where
+    go : (server : Bool) → IsHeardReusingBy server z.peer z.apdu now old new o → new.latest ≤ now
+    go true turn = subst (λ (n : Node). n.latest ≤ now) (sym turn.node) (omega arith)
+    go false turn = subst (λ (n : Node). n.latest ≤ now) (sym turn.node) (omega arith)
+
+pub heard_in_time : (reuse : Bool) (now : ℕ) (from octets : Octets) (old new : Node) (o : Outcome) → NodeHears reuse now from octets old new o
+    → new.latest ≤ now
+heard_in_time true now from octets old new o hears = reusing_in_time now from octets old new o hears
+heard_in_time false now from octets old new o hears = on_in_time now from octets old new o hears
 
 -- what a step sends goes to the link
 pub record IsSentBy (sends : List Datagram) (lost : ℕ) (failures after : ℕ) (calls calls_after : Calls) : Type 0 where
@@ -68,26 +83,27 @@ one_more_sent view turns i turn lost more now f g h l m n within is sends after 
 
 -- what the node makes of what had come, over the octets that the bound node had in its buffer
 pub taken : (now : ℕ) (seen : Octets) (before old new : BoundNode) (middle : Node) (turn : Turn) → before ≡ old → seen ≡ before.buffer → turn.at ≡ now
-    → turn.lost ≡ 0 → new.calls ≡ before.calls → new.failures ≡ before.failures → new.buffer ≡ before.buffer
-    → Hears now seen turn.received before.node middle turn.heard → Ticks now middle new.node turn.ticked → IsTaken now old turn new
-taken now seen before old new middle turn is seen_is at none calls failures same hears ticks =
+    → turn.lost ≡ 0 → new.calls ≡ before.calls → new.failures ≡ before.failures → new.buffer ≡ before.buffer → new.reuse ≡ before.reuse
+    → Hears before.reuse now seen turn.received before.node middle turn.heard → Ticks now middle new.node turn.ticked → IsTaken now old turn new
+taken now seen before old new middle turn is seen_is at none calls failures same reuse hears ticks =
     subst (λ (o : BoundNode). IsTaken now o turn new) is
     (record {
       at = at;
       middle = middle;
-      hears = subst (λ (b : Octets). Hears now b turn.received before.node middle turn.heard) seen_is hears;
+      hears = subst (λ (b : Octets). Hears before.reuse now b turn.received before.node middle turn.heard) seen_is hears;
       ticks = ticks;
       lost = none;
       calls = calls;
       failures = failures;
       buffer = same;
+      reuse = reuse;
     })
 
 -- a turn that sends then what it sends, from a bound node that is so after both steps
 pub acted : (now : ℕ) (old middle before new : BoundNode) (turn sent : Turn) (lost : ℕ) → before ≡ middle → IsTaken now old turn middle
-    → sent ≡ record turn { lost = lost } → new.node ≡ before.node → new.buffer ≡ before.buffer
+    → sent ≡ record turn { lost = lost } → new.node ≡ before.node → new.buffer ≡ before.buffer → new.reuse ≡ before.reuse
     → IsSentBy (sends_in turn) lost before.failures new.failures before.calls new.calls → Acts now old sent new
-acted now old middle before new turn sent lost same taken is node buffer sends =
+acted now old middle before new turn sent lost same taken is node buffer reuse sends =
     let takes = subst (λ (m : BoundNode). IsTaken now old turn m) (sym same) taken in
     subst (λ (t : Turn). Acts now old t new) (sym is)
     (record {
@@ -102,4 +118,5 @@ acted now old middle before new turn sent lost same taken is node buffer sends =
             most = sends.most;
           };
       buffer = buffer ∙ takes.buffer;
+      reuse = reuse ∙ takes.reuse;
     })

@@ -1,5 +1,5 @@
 -- A bound node: a node on its link.
-use Rattle.std.specs.Prelude.{ℕ}
+use Rattle.std.specs.Prelude.{ℕ, Bool}
 use Rattle.bac_protocol.specs.Service.{Octets}
 use Rattle.bac_driver.specs.Calls.{Calls}
 use Rattle.bac_world.specs.Node.{Node}
@@ -8,9 +8,11 @@ use Rattle.bac_world.specs.Node.{Node}
 abbrev pub BUFFER : ℕ
 BUFFER = 2048
 
--- a node; how many calls of its link failed, and which calls were made, where the link keeps them; and the buffer for what comes
+-- a node; how many calls of its link failed, and which calls were made, where the link keeps them; the buffer for what comes; and whether the node lets clients
+-- use an invoke ID again as soon as its transaction is over
 pub record BoundNode : Type 0 where
   pub node : Node
   pub failures : ℕ
   pub calls : Calls
   pub buffer : Octets
+  pub reuse : Bool

@@ -1,14 +1,15 @@
 -- One turn of a node on a link: it takes the datagram that has come, does all that is due, and sends what both return.
-use Rattle.std.specs.Prelude.{◌≡◌, ℕ, zero, suc, ◌+◌, ◌≤◌, ◌<◌, List, [], ◌++◌, map, length, take, Option, Some, None, Ok, IfSome}
+use Rattle.std.specs.Prelude.{◌≡◌, ℕ, zero, suc, ◌+◌, ◌≤◌, ◌<◌, Bool, List, [], ◌++◌, map, length, take, Option, Some, None, Ok, IfSome}
 use Rattle.std.specs.Option.{option_map}
 use Rattle.bac_protocol.specs.Service.{Octets}
 use Rattle.bac_transaction.specs.Sends.{Datagram}
 use Rattle.bac_transaction.specs.Meanings.{EndedView}
 use Rattle.bac_driver.specs.Calls.{Call, Calls, one_more, received, with_call}
 use Rattle.bac_driver.specs.Calls.Call.{Send}
-use Rattle.bac_world.specs.Node.{Cause, Node, Outcome, NodeOn, NodeTick}
+use Rattle.bac_world.specs.Node.{Cause, Node, Outcome, NodeTick}
 use Rattle.bac_world.specs.Services.{Performed}
 use Rattle.bac_node.specs.Calls.{IsForNoneOpen, IsNotHeard}
+use Rattle.bac_node.specs.Reuse.{NodeHears}
 use Rattle.bac_node.specs.Waiting.{IsDueBy}
 use Rattle.bac_requester.specs.Timers.{LAST_MOMENT}
 use Rattle.bac_driver.specs.BoundNodes.{BoundNode}
@@ -66,14 +67,14 @@ pub record IsUnheard (from octets : Octets) (old new : Node) : Type 0 where
   pub same : new ≡ old
 
 -- the node takes a datagram, or drops it
-abbrev pub HearsOne : (now : ℕ) → (from octets : Octets) → (old new : Node) → (heard : Option Outcome) → Type 0
-HearsOne now from octets old new None = IsUnheard from octets old new
-HearsOne now from octets old new (Some o) = NodeOn now from octets old new o
+abbrev pub HearsOne : (reuse : Bool) → (now : ℕ) → (from octets : Octets) → (old new : Node) → (heard : Option Outcome) → Type 0
+HearsOne reuse now from octets old new None = IsUnheard from octets old new
+HearsOne reuse now from octets old new (Some o) = NodeHears reuse now from octets old new o
 
 -- the one that came, if one did; its octets are the first of the buffer
-abbrev pub Hears : (now : ℕ) → (buffer : Octets) → (came : Option (Octets × ℕ)) → (old new : Node) → (heard : Option Outcome) → Type 0
-Hears now buffer None old new heard = (heard ≡ None) × (new ≡ old)
-Hears now buffer (Some d) old new heard = HearsOne now d.0 (take d.1 buffer) old new heard
+abbrev pub Hears : (reuse : Bool) → (now : ℕ) → (buffer : Octets) → (came : Option (Octets × ℕ)) → (old new : Node) → (heard : Option Outcome) → Type 0
+Hears reuse now buffer None old new heard = (heard ≡ None) × (new ≡ old)
+Hears reuse now buffer (Some d) old new heard = HearsOne reuse now d.0 (take d.1 buffer) old new heard
 
 -- a tick failed to allocate, and nothing has changed: so it may be where something is due
 pub record IsUnticked (now : ℕ) (old new : Node) : Type 0 where
@@ -115,15 +116,17 @@ pub record Receives (p : WaitLimit) (now : ℕ) (old : BoundNode) (came : Option
   pub told : new.calls ≡ with_call old.calls (received wait new.buffer (Ok came))
   pub count : new.failures ≡ old.failures
   pub node : new.node ≡ old.node
+  pub reuse : new.reuse ≡ old.reuse
 
 -- the node took what had come and did all that was due, and what it sent went to the link
 pub record Acts (now : ℕ) (old : BoundNode) (turn : Turn) (new : BoundNode) : Type 0 where
   pub at : turn.at ≡ now
   pub middle : Node
-  pub hears : Hears now old.buffer turn.received old.node middle turn.heard
+  pub hears : Hears old.reuse now old.buffer turn.received old.node middle turn.heard
   pub ticks : Ticks now middle new.node turn.ticked
   pub carried : IsCarried (sends_of turn.heard ++ sends_of turn.ticked) turn.lost old new
   pub buffer : new.buffer ≡ old.buffer
+  pub reuse : new.reuse ≡ old.reuse
 
 -- both, one after the other, each at its moment
 pub record IsTurn (p : WaitLimit) (began now : ℕ) (old : BoundNode) (turn : Turn) (new : BoundNode) : Type 0 where

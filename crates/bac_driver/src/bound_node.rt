@@ -1,7 +1,7 @@
 //! A bound node: a node on its link, with a buffer for what comes, and one turn of it.
 //!
 //! Programs, `serving`, `asking` and `pairing` call it. The methods and their contracts are the interface; the fields and the private methods may change.
-ghost use Rattle.std.specs.Prelude.{◌≡◌, ◌↔◌, ◌<◌, ◌≤◌, length, map, IfOk, IfErr, IfSome, IsErrOf, OnErr};
+ghost use Rattle.std.specs.Prelude.{◌≡◌, ◌↔◌, ◌<◌, ◌≤◌, false, length, map, IfOk, IfErr, IfSome, IsErrOf, OnErr};
 ghost use Rattle.bac_driver.specs.Calls.{one_more, with_call};
 ghost use Rattle.bac_driver.specs.Calls.Call.{FailedReceive};
 ghost use Rattle.bac_node.specs.Calls.{Refuses};
@@ -39,6 +39,7 @@ pub struct BoundNode<L: Link> {
     node: Node,
     link: L,
     buffer: Vec<u8>,
+    reuse: bool,
 }
 
 impl<L: Link> Model for BoundNode<L> {
@@ -47,21 +48,44 @@ impl<L: Link> Model for BoundNode<L> {
 
     ghost Value = { stations.BoundNode };
 
-    ghost view = { λ s. record { node = s.node; failures = L.failures s.link; calls = L.calls s.link; buffer = s.buffer.items } };
+    ghost view = { λ s. record { node = s.node; failures = L.failures s.link; calls = L.calls s.link; buffer = s.buffer.items; reuse = s.reuse } };
 
     ghost invariant = { λ s. length s.buffer.items ≡ stations.BUFFER };
 }
 
 impl<L: Link> BoundNode<L> {
-    /// Binds a node to a link. `NoMemory` where the buffer can't be allocated.
+    /// Binds a node to a link. It does not let clients use invoke IDs again ([`set_reuse`](BoundNode::set_reuse)). `NoMemory` where the buffer can't be
+    /// allocated.
     pub fn new(alloc: Global, node: Node, link: L) -> Result<BoundNode<L>, NoMemory>
         ensures node { IfOk result (λ s. s.node ≡ node) }
         ensures failures { IfOk result (λ s. s.failures ≡ L.failures link) }
         ensures calls { IfOk result (λ s. s.calls ≡ L.calls link) }
+        ensures reuse { IfOk result (λ s. s.reuse ≡ false) }
     {
         let mut buffer = Vec::new(alloc);
         buffer.resize(BUFFER, 0)?;
-        Ok(BoundNode { node, link, buffer })
+        Ok(BoundNode {
+            node,
+            link,
+            buffer,
+            reuse: false,
+        })
+    }
+
+    /// Sets whether its node lets clients use an invoke ID again as soon as its transaction is over (clause 5.4): where `reuse` is true, it takes datagrams as
+    /// [`Node::on_reusing`](bac_node::Node::on_reusing) does, otherwise as [`Node::on`](bac_node::Node::on). Call it before the first turn, and keep the
+    /// setting: a node takes all its datagrams one way.
+    pub fn set_reuse(&mut self, reuse: bool)
+        ensures { self.new ≡ record self.old { reuse = reuse } }
+    {
+        self.reuse = reuse;
+    }
+
+    /// Whether its node lets clients use invoke IDs again.
+    pub fn reuse(&self) -> bool
+        ensures { result ≡ self.now.reuse }
+    {
+        self.reuse
     }
 
     /// Its node.
@@ -110,6 +134,7 @@ impl<L: Link> BoundNode<L> {
         ensures told { IsErrOf result TurnFault.Link → self.new.calls ≡ with_call self.old.calls FailedReceive }
         ensures unsent { OnlyReceives self.old.calls self.new.calls }
         ensures err { OnErr result (self.new.node ≡ self.old.node) }
+        ensures reuse { self.new.reuse ≡ self.old.reuse }
     {
         if now < self.node.latest() {
             return Err(TurnFault::ClockBack);
@@ -125,7 +150,7 @@ impl<L: Link> BoundNode<L> {
         ensures taken { IsTaken now self.old (turn_view result) self.new }
         ensures received { result.received ≡ received }
     {
-        let heard = on_received(&mut self.node, now, received, &self.buffer);
+        let heard = on_received(&mut self.node, self.reuse, now, received, &self.buffer);
         let ticked = on_due(&mut self.node, now);
         Turn {
             at: now,
@@ -141,6 +166,7 @@ impl<L: Link> BoundNode<L> {
         ensures carried { IsCarried (sends_of_all (map turn_view turns.now)) result self.old self.new }
         ensures node { self.new.node ≡ self.old.node }
         ensures buffer { self.new.buffer ≡ self.old.buffer }
+        ensures reuse { self.new.reuse ≡ self.old.reuse }
     {
         send_turns(&mut self.link, turns)
     }
@@ -151,6 +177,7 @@ impl<L: Link> BoundNode<L> {
         requires timely { self.old.node.latest ≤ now }
         ensures acted { Acts now self.old (turn_view result) self.new }
         ensures received { result.received ≡ received }
+        ensures reuse { self.new.reuse ≡ self.old.reuse }
     {
         let mut turn = self.take(now, received);
         turn.lost = send_turn(&mut self.link, &turn);
@@ -173,6 +200,7 @@ impl<L: Link> BoundNode<L> {
         ensures failed { IsErrOf result TurnFault.Link → self.new.failures ≡ one_more self.old.failures }
         ensures told { IsErrOf result TurnFault.Link → self.new.calls ≡ with_call self.old.calls FailedReceive }
         ensures err { OnErr result (self.new.node ≡ self.old.node) }
+        ensures reuse { self.new.reuse ≡ self.old.reuse }
     {
         let received = self.receive(now, &WaitLimit::BRIEF)?;
         Ok(self.act(now, received))
@@ -193,6 +221,7 @@ impl<L: Link> BoundNode<L> {
         ensures failed { IsErrOf result TurnFault.Link → self.new.failures ≡ one_more self.old.failures }
         ensures told { IsErrOf result TurnFault.Link → self.new.calls ≡ with_call self.old.calls FailedReceive }
         ensures err { OnErr result (self.new.node ≡ self.old.node) }
+        ensures reuse { self.new.reuse ≡ self.old.reuse }
         ensures clock { OnErr result (C.told clock.new ≡ C.told clock.old) }
     {
         let received = self.receive(began, wait_limit)?;

@@ -12,18 +12,19 @@ use bac_node::{Node, NodeFault, Outcome};
 #[tactic(auto, using(crate::proofs::Turned::heard_in_time))]
 pub(crate) fn on_received(
     node: &mut Node,
+    reuse: bool,
     now: u64,
     received: Received,
     buffer: &[u8],
 ) -> Option<Outcome>
     requires within { IfSome received (λ d. d.1 ≤ length buffer.now) }
     requires timely { node.old.latest ≤ now }
-    ensures heard { Hears now buffer.now received node.old node.new (option_map outcome_view result) }
+    ensures heard { Hears reuse now buffer.now received node.old node.new (option_map outcome_view result) }
     ensures timely { node.new.latest ≤ now }
 {
     let datagram = received?;
     let from = datagram.0;
-    match node.on(now, from, &buffer[..datagram.1]) {
+    match node.hear(reuse, now, from, &buffer[..datagram.1]) {
         Ok(outcome) => Some(outcome),
         Err(NodeFault::NoMemory) => None,
         Err(NodeFault::ClockBack) => unreachable!(),

@@ -64,7 +64,7 @@ asked_due = record { rests = asked_rests; moves = asked_moves }
 -- The ask.
 
 abbrev ASKED : BoundNode
-ASKED = record { node = ASKED_NODE; failures = 0; calls = with_calls (Some []) (map call_of (datagram (link 1) ASK ∷ [])); buffer = [] }
+ASKED = record { node = ASKED_NODE; failures = 0; calls = with_calls (Some []) (map call_of (datagram (link 1) ASK ∷ [])); buffer = []; reuse = false }
 
 abbrev begun : IsBegun 0 (question (peer_at (link 1)) LIMITS REQUEST) (station 0) 0 ASKED
 begun = record {
@@ -75,6 +75,7 @@ begun = record {
   lost = 0;
   carried = record { order = refl; count = refl; most = omega arith };
   buffer = refl;
+  reuse = refl;
 }
 
 abbrev FIRST : Plant
@@ -161,13 +162,13 @@ answered_turns = record {
       so_far = record {
         middle = FIRST;
         so_far = record { middle = OPENING; so_far = refl; last = asked };
-        last = idle_step 253 FIRST 0 ASKED refl (Some T_OUT) asked_due asked_calm;
+        last = idle_step 253 FIRST 0 ASKED refl refl (Some T_OUT) asked_due asked_calm;
       };
-      last = hearing_step 253 IDLE 1 (station 1) refl None fresh_due 0 (link 0) (copy 0 1 ASK).octets request_comes THIRD served_hears
+      last = hearing_step 253 IDLE 1 (station 1) refl refl None fresh_due 0 (link 0) (copy 0 1 ASK).octets request_comes THIRD served_hears
           (node_in THIRD 1) served_is served_calm;
     };
-    last = hearing_step 253 SERVED 0 waiting refl (Some T_OUT) asked_due 1 (link 1) (copy 1 0 ANSWER).octets answer_comes LAST answered_hears (node_in LAST 0)
-        answered_is answered_calm;
+    last = hearing_step 253 SERVED 0 waiting refl refl (Some T_OUT) asked_due 1 (link 1) (copy 1 0 ANSWER).octets answer_comes LAST answered_hears
+        (node_in LAST 0) answered_is answered_calm;
   };
   log = refl;
 }
@@ -193,7 +194,7 @@ abbrev SENT : Plant
 SENT = with_station HELD 1 sent_station
 
 sends_held : AreSent (served_turn ∷ []) held_station sent_station
-sends_held = record { lost = 0; carried = record { order = refl; count = refl; most = omega arith }; node = refl; buffer = refl }
+sends_held = record { lost = 0; carried = record { order = refl; count = refl; most = omega arith }; node = refl; buffer = refl; reuse = refl }
 
 answer_comes_again : IsOfStation 253 SENT 0 1 (link 1) (copy 1 0 ANSWER).octets
 answer_comes_again = record { copy = copy 1 0 ANSWER; there = refl; to = refl; sender = refl; whole = refl; young = omega arith; few = omega arith }
@@ -216,14 +217,14 @@ answered_round = record {
         so_far = record {
           middle = FIRST;
           so_far = record { middle = OPENING; so_far = refl; last = asked };
-          last = idle_step 253 FIRST 0 ASKED refl (Some T_OUT) asked_due asked_calm;
+          last = idle_step 253 FIRST 0 ASKED refl refl (Some T_OUT) asked_due asked_calm;
         };
-        last = holding_step 253 IDLE 1 (station 1) refl None fresh_due 0 (link 0) (copy 0 1 ASK).octets request_comes THIRD served_hears
+        last = holding_step 253 IDLE 1 (station 1) refl refl None fresh_due 0 (link 0) (copy 0 1 ASK).octets request_comes THIRD served_hears
             (node_in THIRD 1) served_is served_calm;
       };
       last = record { before = held_station; at = refl; after = sent_station; sends = sends_held; is = refl };
     };
-    last = hearing_step 253 SENT 0 waiting refl (Some T_OUT) asked_due 1 (link 1) (copy 1 0 ANSWER).octets answer_comes_again LAST answered_hears
+    last = hearing_step 253 SENT 0 waiting refl refl (Some T_OUT) asked_due 1 (link 1) (copy 1 0 ANSWER).octets answer_comes_again LAST answered_hears
         (node_in LAST 0) answered_is answered_calm;
   };
   log = refl;
@@ -251,7 +252,7 @@ idle_run : CutPlantRun 253 (Goes (Takes 0 Nowhere (turn_by_none 0)) ∷ Goes (Be
 idle_run = record {
   middle = cut_plant FIRST;
   so_far = record { middle = CUT_OPENING; so_far = refl; last = record { free = refl; goes = asked; same = refl } };
-  last = record { free = refl; goes = idle_step 253 FIRST 0 ASKED refl (Some T_OUT) asked_due asked_calm; same = refl };
+  last = record { free = refl; goes = idle_step 253 FIRST 0 ASKED refl refl (Some T_OUT) asked_due asked_calm; same = refl };
 }
 
 loses : LosesTurnAt 253 (cut_plant IDLE) 1 (Station 0) served_turn (record { plant = IDLE; losing = losing_one })
@@ -259,9 +260,9 @@ loses = record {
   before = station 1;
   at = refl;
   after = held_station;
-  holds = holds_now 253 IDLE 1 (station 1) refl None fresh_due 0 (link 0) (copy 0 1 ASK).octets request_comes THIRD served_hears
+  holds = holds_now 253 IDLE 1 (station 1) refl refl None fresh_due 0 (link 0) (copy 0 1 ASK).octets request_comes THIRD served_hears
       (node_in THIRD 1) served_is served_calm;
-  comes = comes_now 253 IDLE 1 (station 1) refl None fresh_due 0 (link 0) (copy 0 1 ASK).octets request_comes THIRD served_hears
+  comes = comes_now 253 IDLE 1 (station 1) refl refl None fresh_due 0 (link 0) (copy 0 1 ASK).octets request_comes THIRD served_hears
       (node_in THIRD 1) served_is served_calm;
   is = refl;
 }
@@ -298,7 +299,7 @@ cut_rounds = record {
       so_far = idle_run;
       last = record {
         free = refl;
-        goes = holding_step 253 IDLE 1 (station 1) refl None fresh_due 0 (link 0) (copy 0 1 ASK).octets request_comes THIRD served_hears
+        goes = holding_step 253 IDLE 1 (station 1) refl refl None fresh_due 0 (link 0) (copy 0 1 ASK).octets request_comes THIRD served_hears
             (node_in THIRD 1) served_is served_calm;
         same = refl;
       };

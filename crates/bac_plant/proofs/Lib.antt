@@ -9,3 +9,4 @@ pub mod CutNext
 pub mod Holding
 pub mod Resting
 pub mod Answered
+pub mod ReusingTurned

@@ -1,5 +1,5 @@
 -- Whatever a call promises after a run can be the next step.
-use Rattle.std.proofs.Common.{◌≡◌, ℕ, List, [], ◌∷◌, ◌++◌, ◌⊎◌, length, take, Option, Some, None, slice_get, slice_set, refl, sym, subst, inl, inr}
+use Rattle.std.proofs.Common.{◌≡◌, ℕ, false, List, [], ◌∷◌, ◌++◌, ◌⊎◌, length, take, Option, Some, None, slice_get, slice_set, refl, sym, subst, inl, inr}
 use Rattle.std.proofs.lemmas.Option.{slice_get_within}
 use Rattle.bac_apdu.specs.Apdu.{Limits}
 use Rattle.bac_service.specs.Values.{Request}
@@ -104,7 +104,7 @@ module _ (W overtake : ℕ) (p : Plant) (on : CanGoOn W overtake (world_of p)) (
       (on.outside i sender sent outside a b o at
       (subst (λ l. NodeOn (shows p i) l sent a b o) link_is (subst (λ os. NodeOn (shows p i) from os a b o) whole h))).0
 
-  came_enters : (source : Source) (d : Octets × ℕ) (buffer : Octets) (heard : Option Outcome) → turns.HearsOne (shows p i) d.0 (take d.1 buffer) a b heard
+  came_enters : (source : Source) (d : Octets × ℕ) (buffer : Octets) (heard : Option Outcome) → turns.HearsOne false (shows p i) d.0 (take d.1 buffer) a b heard
       → HandsOver overtake p i source (Some d) buffer → MayEnter (world_of p) i b heard
   came_enters source d buffer None h from = tt
   came_enters Nowhere d buffer (Some o) h from = absurd from
@@ -114,7 +114,7 @@ module _ (W overtake : ℕ) (p : Plant) (on : CanGoOn W overtake (world_of p)) (
   came_enters (Noise sender octets) d buffer (Some o) h from =
       outside_enters sender octets d.0 (take d.1 buffer) o from.link_is from.whole (inr from.meaningless) h
 
-  heard_enters : (source : Source) (came : Option (Octets × ℕ)) (buffer : Octets) (heard : Option Outcome) → turns.Hears (shows p i) buffer came a b heard
+  heard_enters : (source : Source) (came : Option (Octets × ℕ)) (buffer : Octets) (heard : Option Outcome) → turns.Hears false (shows p i) buffer came a b heard
       → HandsOver overtake p i source came buffer → MayEnter (world_of p) i b heard
   heard_enters source (Some d) buffer heard h from = came_enters source d buffer heard h from
   heard_enters source None buffer None h from = tt
@@ -144,7 +144,7 @@ module _ (W overtake : ℕ) (p : Plant) (r : IsReached W overtake p) (i : ℕ) (
   stands after = get_set p.stations i after (slice_get_within p.stations i before at)
 
   -- a turn, whose node is the middle one between hearing and the tick
-  module _ (turn : Turn) (after : BoundNode) (middle : Node) (hears : turns.Hears (shows p i) after.buffer turn.received before.node middle turn.heard)
+  module _ (turn : Turn) (after : BoundNode) (middle : Node) (hears : turns.Hears false (shows p i) after.buffer turn.received before.node middle turn.heard)
       (ticks : turns.Ticks (shows p i) middle after.node turn.ticked) (source : Source) (from : HandsOver overtake p i source turn.received after.buffer) where
     first : MayEnter (world_of p) i middle turn.heard
     first = heard_enters W overtake p goes_on i before.node middle first_at source turn.received after.buffer turn.heard hears from
@@ -197,17 +197,17 @@ module _ (W overtake : ℕ) (p : Plant) (r : IsReached W overtake p) (i : ℕ) (
       stands after,
     )
 
-  turn_leads : (turn : Turn) (after : BoundNode) → IsSomeTurn (shows p i) before turn after → (source : Source)
+  turn_leads : before.reuse ≡ false → (turn : Turn) (after : BoundNode) → IsSomeTurn (shows p i) before turn after → (source : Source)
       → HandsOver overtake p i source turn.received after.buffer → LeadsTo overtake p (Takes i source turn) i after
-  turn_leads turn after t source from =
-      let m = may_happen turn after t.is.acts.middle (turn_hears (shows p i) before turn after t) t.is.acts.ticks source from in
-      record { new = m.0; goes = record { before = before; at = at; after = after; takes = t; happens = m.1 }; there = m.2 }
+  turn_leads off turn after t source from =
+      let m = may_happen turn after t.is.acts.middle (turn_hears (shows p i) before turn after t off) t.is.acts.ticks source from in
+      record { new = m.0; goes = record { before = before; at = at; off = off; after = after; takes = t; happens = m.1 }; there = m.2 }
 
-  held_leads : (turn : Turn) (after : BoundNode) → HoldsSomeTurn (shows p i) before turn after → (source : Source)
+  held_leads : before.reuse ≡ false → (turn : Turn) (after : BoundNode) → HoldsSomeTurn (shows p i) before turn after → (source : Source)
       → HandsOver overtake p i source turn.received after.buffer → LeadsTo overtake p (Holds i source turn) i after
-  held_leads turn after t source from =
-      let m = may_happen turn after t.takes.middle (held_hears (shows p i) before turn after t) t.takes.ticks source from in
-      record { new = m.0; goes = record { before = before; at = at; after = after; holds = t; happens = m.1 }; there = m.2 }
+  held_leads off turn after t source from =
+      let m = may_happen turn after t.takes.middle (held_hears (shows p i) before turn after t off) t.takes.ticks source from in
+      record { new = m.0; goes = record { before = before; at = at; off = off; after = after; holds = t; happens = m.1 }; there = m.2 }
 
   ask_leads : (server : ℕ) (link : Octets) → link_at (nodes_of p.stations) server ≡ Some link → (limits : Limits) (request : Request) (ticket : ℕ)
       (after : BoundNode) → IsBegun (shows p i) (question (peer_at link) limits request) before ticket after
@@ -237,10 +237,10 @@ module _ (W overtake : ℕ) (p : Plant) (r : IsReached W overtake p) (i : ℕ) (
       }
 
 pub turns_go_on : (W overtake : ℕ) (p : Plant) → IsReached W overtake p → TurnsGoOn overtake p
-turns_go_on W overtake p r i before at turn after t source from = turn_leads W overtake p r i before at turn after t source from
+turns_go_on W overtake p r i before at off turn after t source from = turn_leads W overtake p r i before at off turn after t source from
 
 pub held_turns_go_on : (W overtake : ℕ) (p : Plant) → IsReached W overtake p → HeldTurnsGoOn overtake p
-held_turns_go_on W overtake p r i before at turn after t source from = held_leads W overtake p r i before at turn after t source from
+held_turns_go_on W overtake p r i before at off turn after t source from = held_leads W overtake p r i before at off turn after t source from
 
 pub held_sends_go_on : (overtake : ℕ) (p : Plant) → HeldSendsGoOn overtake p
 held_sends_go_on overtake p i before at turns after sends = record {
@@ -273,6 +273,7 @@ failures_go_on overtake p i old new at failed = record {
     node = failed.node;
     count = failed.count;
     calls = failed.calls;
+    reuse = failed.reuse;
     is = refl;
   };
   there = get_set p.stations i new.bound_node (slice_get_within p.stations i old.bound_node at);

@@ -1,5 +1,5 @@
 -- When a node rests, so that its link waits; and turns at whose tick nothing is due.
-use Rattle.std.proofs.Common.{◌≡◌, ℕ, [], ◌++◌, length, map, take, slice_get, Option, Some, None, Ok, refl, sym, ap, subst, ◌∙◌, arith}
+use Rattle.std.proofs.Common.{◌≡◌, ℕ, Bool, false, [], ◌++◌, length, map, take, slice_get, Option, Some, None, Ok, refl, sym, ap, subst, ◌∙◌, arith}
 use Rattle.std.proofs.Math.Seq.{take-length}
 use Rattle.bac_protocol.specs.Service.{Octets}
 use Rattle.bac_slots.specs.Slots.{EachSlot, in_order}
@@ -13,6 +13,7 @@ use Rattle.bac_protocol.specs.Context.{Settings}
 use Rattle.bac_world.specs.Node.{Node, NodeOn, NodeTick, Outcome}
 use Rattle.bac_world.specs.World.{AreLogged, Hears, World}
 use Rattle.bac_world.proofs.Pairs.{append_none, pairwise_none}
+use Rattle.bac_node.specs.Reuse.{NodeHears}
 use Rattle.bac_node.specs.Waiting.{RestsUntil}
 use Rattle.bac_driver.specs.BoundNodes.{BoundNode}
 use Rattle.bac_driver.specs.Calls.{received, with_call}
@@ -96,6 +97,7 @@ after_turn now b from octets n o =
       failures = b.failures;
       calls = with_calls (with_call b.calls (received 0 octets (Ok (Some (from, length octets))))) (map call_of (o.sends ++ []));
       buffer = octets;
+      reuse = b.reuse;
     }
 
 abbrev pub after_held : ℕ → BoundNode → (from octets : Octets) → Node → BoundNode
@@ -104,15 +106,17 @@ after_held now b from octets n = record (came b from octets) { node = ticked now
 receives_it : (now : ℕ) (b : BoundNode) (due : Option ℕ) → IsDue b.node due → (from octets : Octets)
     → Receives AT_ONCE now b (Some (from, length octets)) (came b from octets)
 receives_it now b due is from octets =
-    record { within = omega arith; wait = 0; waits = waits_not now b.node due is; told = refl; count = refl; node = refl }
+    record { within = omega arith; wait = 0; waits = waits_not now b.node due is; told = refl; count = refl; node = refl; reuse = refl }
 
-hears_it : (now : ℕ) (b : BoundNode) (from octets : Octets) (n : Node) (o : Outcome) → NodeOn now from octets b.node n o
-    → NodeOn now from (take (length octets) octets) b.node n o
-hears_it now b from octets n o on = subst (λ os. NodeOn now from os b.node n o) (sym (take-length octets)) on
+hears_it : (now : ℕ) (b : BoundNode) → b.reuse ≡ false → (from octets : Octets) (n : Node) (o : Outcome) → NodeOn now from octets b.node n o
+    → NodeHears b.reuse now from (take (length octets) octets) b.node n o
+hears_it now b off from octets n o on =
+    subst (λ (r : Bool). NodeHears r now from (take (length octets) octets) b.node n o) (sym off)
+    (subst (λ os. NodeOn now from os b.node n o) (sym (take-length octets)) on)
 
-takes_turn : (now : ℕ) (b : BoundNode) (due : Option ℕ) → IsDue b.node due → (from octets : Octets) (n : Node) (o : Outcome) → NodeOn now from octets b.node n o
-    → IsCalm now n → IsSomeTurn now b (turn_by now from octets o) (after_turn now b from octets n o)
-takes_turn now b due is from octets n o on calm = record {
+takes_turn : (now : ℕ) (b : BoundNode) → b.reuse ≡ false → (due : Option ℕ) → IsDue b.node due → (from octets : Octets) (n : Node) (o : Outcome)
+    → NodeOn now from octets b.node n o → IsCalm now n → IsSomeTurn now b (turn_by now from octets o) (after_turn now b from octets n o)
+takes_turn now b off due is from octets n o on calm = record {
   limit = AT_ONCE;
   began = now;
   is = record {
@@ -121,17 +125,18 @@ takes_turn now b due is from octets n o on calm = record {
     acts = record {
       at = refl;
       middle = n;
-      hears = hears_it now b from octets n o on;
+      hears = hears_it now b off from octets n o on;
       ticks = ticks now n calm;
       carried = record { order = refl; count = refl; most = omega arith };
       buffer = refl;
+      reuse = refl;
     };
   };
 }
 
-holds_turn : (now : ℕ) (b : BoundNode) (due : Option ℕ) → IsDue b.node due → (from octets : Octets) (n : Node) (o : Outcome)
+holds_turn : (now : ℕ) (b : BoundNode) → b.reuse ≡ false → (due : Option ℕ) → IsDue b.node due → (from octets : Octets) (n : Node) (o : Outcome)
     → NodeOn now from octets b.node n o → IsCalm now n → HoldsSomeTurn now b (turn_by now from octets o) (after_held now b from octets n)
-holds_turn now b due is from octets n o on calm = record {
+holds_turn now b off due is from octets n o on calm = record {
   limit = AT_ONCE;
   began = now;
   middle = came b from octets;
@@ -139,12 +144,13 @@ holds_turn now b due is from octets n o on calm = record {
   takes = record {
     at = refl;
     middle = n;
-    hears = hears_it now b from octets n o on;
+    hears = hears_it now b off from octets n o on;
     ticks = ticks now n calm;
     lost = refl;
     calls = refl;
     failures = refl;
     buffer = refl;
+    reuse = refl;
   };
 }
 
@@ -160,7 +166,7 @@ takes_none now b due is calm = record {
   began = now;
   is = record {
     middle = record b { calls = with_call b.calls (received 0 b.buffer (Ok None)) };
-    receives = record { within = tt; wait = 0; waits = waits_not now b.node due is; told = refl; count = refl; node = refl };
+    receives = record { within = tt; wait = 0; waits = waits_not now b.node due is; told = refl; count = refl; node = refl; reuse = refl };
     acts = record {
       at = refl;
       middle = b.node;
@@ -168,6 +174,7 @@ takes_none now b due is calm = record {
       ticks = ticks now b.node calm;
       carried = record { order = refl; count = refl; most = omega arith };
       buffer = refl;
+      reuse = refl;
     };
   };
 }
@@ -178,7 +185,8 @@ abbrev pub next_plant : Plant → ℕ → BoundNode → World → Plant
 next_plant p i b w = record (with_station p i b) { copies = w.copies; log = w.log }
 
 -- what a node hears in the world is a turn of its station
-module _ (overtake : ℕ) (old : Plant) (i : ℕ) (b : BoundNode) (at : slice_get old.stations i ≡ Some b) (due : Option ℕ) (is : IsDue b.node due) where
+module _ (overtake : ℕ) (old : Plant) (i : ℕ) (b : BoundNode) (at : slice_get old.stations i ≡ Some b) (off : b.reuse ≡ false) (due : Option ℕ)
+    (is : IsDue b.node due) where
   module _ (number : ℕ) (from octets : Octets) (comes : IsOfStation overtake old i number from octets) (w : World) (h : Hears (world_of old) i from octets w)
       (n : Node) (same : h.after ≡ n) (calm : IsCalm (shows old i) n) where
     was : h.before ≡ b.node
@@ -212,13 +220,14 @@ module _ (overtake : ℕ) (old : Plant) (i : ℕ) (b : BoundNode) (at : slice_ge
     hearing_step = record {
       before = b;
       at = at;
+      off = off;
       after = after_turn (shows old i) b from octets n h.outcome;
-      takes = takes_turn (shows old i) b due is from octets n h.outcome on calm;
+      takes = takes_turn (shows old i) b off due is from octets n h.outcome on calm;
       happens = happens (after_turn (shows old i) b from octets n h.outcome) refl;
     }
 
     pub holds_now : HoldsSomeTurn (shows old i) b (turn_by (shows old i) from octets h.outcome) (after_held (shows old i) b from octets n)
-    holds_now = holds_turn (shows old i) b due is from octets n h.outcome on calm
+    holds_now = holds_turn (shows old i) b off due is from octets n h.outcome on calm
 
     pub comes_now : HandsOver overtake old i (Station number) (Some (from, length octets)) octets
     comes_now = subst (λ os. IsOfStation overtake old i number from os) (sym (take-length octets)) comes
@@ -229,6 +238,7 @@ module _ (overtake : ℕ) (old : Plant) (i : ℕ) (b : BoundNode) (at : slice_ge
     holding_step = record {
       before = b;
       at = at;
+      off = off;
       after = after_held (shows old i) b from octets n;
       holds = holds_now;
       happens = happens (after_held (shows old i) b from octets n) refl;
@@ -239,6 +249,7 @@ module _ (overtake : ℕ) (old : Plant) (i : ℕ) (b : BoundNode) (at : slice_ge
   idle_step calm = record {
     before = b;
     at = at;
+    off = off;
     after = after_none (shows old i) b;
     takes = takes_none (shows old i) b due is calm;
     happens = record {

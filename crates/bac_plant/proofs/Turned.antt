@@ -60,7 +60,7 @@ on_link now from octets a b o (inr d) = go (is_from_client d.apdu) d.heard
     go true t = ap (λ (n : Node). n.link) t.node
     go false t = ap (λ (n : Node). n.link) t.node
 
-pub hears_link : (now : ℕ) (buffer : Octets) (came : Option (Octets × ℕ)) (a b : Node) (heard : Option Outcome) → turns.Hears now buffer came a b heard
+pub hears_link : (now : ℕ) (buffer : Octets) (came : Option (Octets × ℕ)) (a b : Node) (heard : Option Outcome) → turns.Hears false now buffer came a b heard
     → b.link ≡ a.link
 hears_link now buffer None a b heard h = ap (λ (n : Node). n.link) h.1
 hears_link now buffer (Some d) a b None h = ap (λ (n : Node). n.link) h.same
@@ -198,7 +198,7 @@ module _ (overtake : ℕ) (p : Plant) (i : ℕ) (a b : Node) (at : slice_get (no
   heard_as sender sent from octets link_is whole h =
       subst (λ l. Hears (world_of p) i l sent After) link_is (subst (λ os. Hears (world_of p) i from os After) whole h)
 
-  came_run : (source : Source) (d : Octets × ℕ) (buffer : Octets) (heard : Option Outcome) → turns.HearsOne (shows p i) d.0 (take d.1 buffer) a b heard
+  came_run : (source : Source) (d : Octets × ℕ) (buffer : Octets) (heard : Option Outcome) → turns.HearsOne false (shows p i) d.0 (take d.1 buffer) a b heard
       → HandsOver overtake p i source (Some d) buffer → AreCopied (nodes_of p.stations) p.time.now i (sends_of heard) cs
       → AreEnded p.notes i (ended_of heard) p.log between → AreLogged (nodes_of p.stations) p.notes i b (performed_of heard) between log
       → WorldRun overtake (world_of p) (heard_events i source heard) After
@@ -225,8 +225,8 @@ module _ (overtake : ℕ) (p : Plant) (i : ℕ) (a b : Node) (at : slice_get (no
     refl,
   )
 
-  pub heard_run : (source : Source) (came : Option (Octets × ℕ)) (buffer : Octets) (heard : Option Outcome) → turns.Hears (shows p i) buffer came a b heard
-      → HandsOver overtake p i source came buffer → AreCopied (nodes_of p.stations) p.time.now i (sends_of heard) cs
+  pub heard_run : (source : Source) (came : Option (Octets × ℕ)) (buffer : Octets) (heard : Option Outcome)
+      → turns.Hears false (shows p i) buffer came a b heard → HandsOver overtake p i source came buffer → AreCopied (nodes_of p.stations) p.time.now i (sends_of heard) cs
       → AreEnded p.notes i (ended_of heard) p.log between → AreLogged (nodes_of p.stations) p.notes i b (performed_of heard) between log
       → WorldRun overtake (world_of p) (heard_events i source heard) After
   heard_run source (Some d) buffer heard h from copied ended logged = came_run source d buffer heard h from copied ended logged
@@ -263,24 +263,25 @@ run_join overtake (e ∷ es) fs u v w h k = (h.0, h.1, run_join overtake es fs h
 
 -- what its node hears, by the buffer that the turn leaves
 hears_by : (now : ℕ) (first received after : BoundNode) (turn : turns.Turn) (middle : Node) → received.node ≡ first.node → after.buffer ≡ received.buffer
-    → turns.Hears now received.buffer turn.received received.node middle turn.heard
-    → turns.Hears now after.buffer turn.received first.node middle turn.heard
-hears_by now first received after turn middle node buffer hears =
-    subst (λ n. turns.Hears now after.buffer turn.received n middle turn.heard) node
-    (subst (λ l. turns.Hears now l turn.received received.node middle turn.heard) (sym buffer) hears)
+    → received.reuse ≡ false → turns.Hears received.reuse now received.buffer turn.received received.node middle turn.heard
+    → turns.Hears false now after.buffer turn.received first.node middle turn.heard
+hears_by now first received after turn middle node buffer off hears =
+    subst (λ n. turns.Hears false now after.buffer turn.received n middle turn.heard) node
+    (subst (λ l. turns.Hears false now l turn.received received.node middle turn.heard) (sym buffer)
+    (subst (λ (r : Bool). turns.Hears r now received.buffer turn.received received.node middle turn.heard) off hears))
 
-pub turn_hears : (now : ℕ) (before : BoundNode) (turn : turns.Turn) (after : BoundNode) (t : IsSomeTurn now before turn after)
-    → turns.Hears now after.buffer turn.received before.node t.is.acts.middle turn.heard
-turn_hears now before turn after t =
-    hears_by now before t.is.middle after turn t.is.acts.middle t.is.receives.node t.is.acts.buffer t.is.acts.hears
+pub turn_hears : (now : ℕ) (before : BoundNode) (turn : turns.Turn) (after : BoundNode) (t : IsSomeTurn now before turn after) → before.reuse ≡ false
+    → turns.Hears false now after.buffer turn.received before.node t.is.acts.middle turn.heard
+turn_hears now before turn after t off =
+    hears_by now before t.is.middle after turn t.is.acts.middle t.is.receives.node t.is.acts.buffer (t.is.receives.reuse ∙ off) t.is.acts.hears
 
-pub held_hears : (now : ℕ) (before : BoundNode) (turn : turns.Turn) (after : BoundNode) (t : HoldsSomeTurn now before turn after)
-    → turns.Hears now after.buffer turn.received before.node t.takes.middle turn.heard
-held_hears now before turn after t =
-    hears_by now before t.middle after turn t.takes.middle t.receives.node t.takes.buffer t.takes.hears
+pub held_hears : (now : ℕ) (before : BoundNode) (turn : turns.Turn) (after : BoundNode) (t : HoldsSomeTurn now before turn after) → before.reuse ≡ false
+    → turns.Hears false now after.buffer turn.received before.node t.takes.middle turn.heard
+held_hears now before turn after t off =
+    hears_by now before t.middle after turn t.takes.middle t.receives.node t.takes.buffer (t.receives.reuse ∙ off) t.takes.hears
 
 module _ (overtake : ℕ) (old : Plant) (i : ℕ) (before : BoundNode) (at : slice_get old.stations i ≡ Some before) (source : Source) (turn : turns.Turn)
-    (middle : Node) (after : BoundNode) (hears : turns.Hears (shows old i) after.buffer turn.received before.node middle turn.heard)
+    (middle : Node) (after : BoundNode) (hears : turns.Hears false (shows old i) after.buffer turn.received before.node middle turn.heard)
     (ticks : turns.Ticks (shows old i) middle after.node turn.ticked) (new : Plant) (t : HappensAt overtake old i source turn middle after new) where
   first_at : slice_get (nodes_of old.stations) i ≡ Some before.node
   first_at = node_at old.stations i before at
@@ -317,12 +318,12 @@ module _ (overtake : ℕ) (old : Plant) (i : ℕ) (before : BoundNode) (at : sli
 pub turn_run : (overtake : ℕ) (old : Plant) (i : ℕ) (source : Source) (turn : turns.Turn) (new : Plant) → TakesTurnAt overtake old i source turn new
     → WorldRun overtake (world_of old) (turn_events i source turn) (world_of new)
 turn_run overtake old i source turn new t =
-    happens_run overtake old i t.before t.at source turn t.takes.is.acts.middle t.after (turn_hears (shows old i) t.before turn t.after t.takes)
+    happens_run overtake old i t.before t.at source turn t.takes.is.acts.middle t.after (turn_hears (shows old i) t.before turn t.after t.takes t.off)
     t.takes.is.acts.ticks new t.happens
 
 -- that what it sends is held makes no difference to its world
 pub held_run : (overtake : ℕ) (old : Plant) (i : ℕ) (source : Source) (turn : turns.Turn) (new : Plant) → HoldsTurnAt overtake old i source turn new
     → WorldRun overtake (world_of old) (turn_events i source turn) (world_of new)
 held_run overtake old i source turn new t =
-    happens_run overtake old i t.before t.at source turn t.holds.takes.middle t.after (held_hears (shows old i) t.before turn t.after t.holds)
+    happens_run overtake old i t.before t.at source turn t.holds.takes.middle t.after (held_hears (shows old i) t.before turn t.after t.holds t.off)
     t.holds.takes.ticks new t.happens

@@ -8,3 +8,5 @@ pub mod Rounds
 pub mod Cuts
 pub mod NextCuts
 pub mod Example
+pub mod ReusingWorlds
+pub mod ReusingPlants

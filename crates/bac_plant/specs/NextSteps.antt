@@ -1,5 +1,5 @@
 -- After each run of a plant, whatever a call promises can be its next step.
-use Rattle.std.specs.Prelude.{◌≡◌, ℕ, List, Option, Some, None, slice_get}
+use Rattle.std.specs.Prelude.{◌≡◌, ℕ, false, List, Option, Some, None, slice_get}
 use Rattle.bac_apdu.specs.Apdu.{Limits}
 use Rattle.bac_npdu.specs.Peers.{PeerView}
 use Rattle.bac_service.specs.Values.{Request}
@@ -33,17 +33,20 @@ pub record LeadsTo (overtake : ℕ) (p : Plant) (step : Step) (station : ℕ) (a
   pub goes : PlantStep overtake p step new
   pub there : slice_get new.stations station ≡ Some after
 
--- each turn of a station at the moment of its clock, by a datagram that the network may hand over
+-- each turn of a station at the moment of its clock, by a datagram that the network may hand over, where it lets no client use an invoke ID again before the life
+-- of its entry is over
 abbrev pub TurnsGoOn : (overtake : ℕ) → Plant → Type 0
 TurnsGoOn overtake p =
-    (i : ℕ) (before : BoundNode) → slice_get p.stations i ≡ Some before → (turn : Turn) (after : BoundNode) → IsSomeTurn (shows p i) before turn after
-    → (source : Source) → HandsOver overtake p i source turn.received after.buffer → LeadsTo overtake p (Takes i source turn) i after
+    (i : ℕ) (before : BoundNode) → slice_get p.stations i ≡ Some before → before.reuse ≡ false → (turn : Turn) (after : BoundNode)
+    → IsSomeTurn (shows p i) before turn after → (source : Source) → HandsOver overtake p i source turn.received after.buffer
+    → LeadsTo overtake p (Takes i source turn) i after
 
 -- the same of each turn of a round, whose sends are held
 abbrev pub HeldTurnsGoOn : (overtake : ℕ) → Plant → Type 0
 HeldTurnsGoOn overtake p =
-    (i : ℕ) (before : BoundNode) → slice_get p.stations i ≡ Some before → (turn : Turn) (after : BoundNode) → HoldsSomeTurn (shows p i) before turn after
-    → (source : Source) → HandsOver overtake p i source turn.received after.buffer → LeadsTo overtake p (Holds i source turn) i after
+    (i : ℕ) (before : BoundNode) → slice_get p.stations i ≡ Some before → before.reuse ≡ false → (turn : Turn) (after : BoundNode)
+    → HoldsSomeTurn (shows p i) before turn after → (source : Source) → HandsOver overtake p i source turn.received after.buffer
+    → LeadsTo overtake p (Holds i source turn) i after
 
 -- each time that a station sends what turns hold
 abbrev pub HeldSendsGoOn : (overtake : ℕ) → Plant → Type 0
@@ -76,7 +79,7 @@ ChangesGoOn overtake p =
     (i : ℕ) (before : BoundNode) → slice_get p.stations i ≡ Some before → (c : Change) → change_fault before.node.store c ≡ None
     → LeadsTo overtake p (Changes i c) i (record before { node = with_change c before.node })
 
--- each restart with a new clock, whatever its new link and buffer are
+-- each restart with a new clock, whatever its new link, buffer and setting are
 abbrev pub RestartsGoOn : (overtake : ℕ) → Plant → Type 0
 RestartsGoOn overtake p =
     (i : ℕ) (before : BoundNode) → slice_get p.stations i ≡ Some before → (exact : ℕ) (store : Option Store) (after : BoundNode)

@@ -1,5 +1,5 @@
 -- What happens in a plant: time passes, and a station does what a call of bac_driver promises, at the moment that its clock shows.
-use Rattle.std.specs.Prelude.{◌≡◌, ℕ, List, ◌∷◌, ◌++◌, length, Option, Some, None, slice_get, slice_set}
+use Rattle.std.specs.Prelude.{◌≡◌, ℕ, false, List, ◌∷◌, ◌++◌, length, Option, Some, None, slice_get, slice_set}
 use Rattle.bac_apdu.specs.Apdu.{Limits}
 use Rattle.bac_npdu.specs.Peers.{PeerView}
 use Rattle.bac_service.specs.Values.{Request}
@@ -72,10 +72,11 @@ pub record HappensAt (overtake : ℕ) (old : Plant) (i : ℕ) (source : Source) 
   pub entered : AreEntered old i middle turn log
   pub is : new ≡ record (with_station old i after) { copies = old.copies ++ sent; log = log }
 
--- a station takes a turn
+-- a station takes a turn; it lets no client use an invoke ID again before the life of its entry is over
 pub record TakesTurnAt (overtake : ℕ) (old : Plant) (i : ℕ) (source : Source) (turn : Turn) (new : Plant) : Type 0 where
   pub before : BoundNode
   pub at : slice_get old.stations i ≡ Some before
+  pub off : before.reuse ≡ false
   pub after : BoundNode
   pub takes : IsSomeTurn (shows old i) before turn after
   pub happens : HappensAt overtake old i source turn takes.is.acts.middle after new
@@ -90,10 +91,12 @@ pub record HoldsSomeTurn (now : ℕ) (before : BoundNode) (turn : Turn) (after :
   pub receives : Receives limit began before turn.received middle
   pub takes : IsTaken now middle turn after
 
--- a station takes such a turn: what it is to send is among the copies from now on
+-- a station takes such a turn, and lets no client use an invoke ID again before the life of its entry is over: what it is to send is among the copies from now
+-- on
 pub record HoldsTurnAt (overtake : ℕ) (old : Plant) (i : ℕ) (source : Source) (turn : Turn) (new : Plant) : Type 0 where
   pub before : BoundNode
   pub at : slice_get old.stations i ≡ Some before
+  pub off : before.reuse ≡ false
   pub after : BoundNode
   pub holds : HoldsSomeTurn (shows old i) before turn after
   pub happens : HappensAt overtake old i source turn holds.takes.middle after new
@@ -104,6 +107,7 @@ pub record AreSent (turns : List Turn) (before after : BoundNode) : Type 0 where
   pub carried : IsCarried (sends_of_all turns) lost before after
   pub node : after.node ≡ before.node
   pub buffer : after.buffer ≡ before.buffer
+  pub reuse : after.reuse ≡ before.reuse
 
 -- a station sends what turns hold: that is among the copies
 pub record SendsHeldAt (old : Plant) (i : ℕ) (turns : List Turn) (new : Plant) : Type 0 where
@@ -123,6 +127,7 @@ pub record FailsAt (old : Plant) (i : ℕ) (new : Plant) : Type 0 where
   pub node : after.node ≡ before.node
   pub count : after.failures ≡ one_more before.failures
   pub calls : after.calls ≡ with_call before.calls FailedReceive
+  pub reuse : after.reuse ≡ before.reuse
   pub is : new ≡ with_station old i after
 
 -- ---- an ask
@@ -176,7 +181,7 @@ pub record ChangesAt (old : Plant) (i : ℕ) (c : at_node.Change) (new : Plant) 
   pub may : change_fault before.node.store c ≡ None
   pub is : new ≡ record (with_station old i (record before { node = with_change c before.node })) { log = Changed i c ∷ old.log }
 
--- a station restarts with a new clock, and with any link and buffer: its node waits, and has the store that it had or another one
+-- a station restarts with a new clock, and with any link, buffer and setting: its node waits, and has the store that it had or another one
 pub record RestartsAt (old : Plant) (i exact : ℕ) (store : Option Store) (new : Plant) : Type 0 where
   pub before : BoundNode
   pub at : slice_get old.stations i ≡ Some before

@@ -31,6 +31,7 @@ ghost use Rattle.bac_plant.specs.NextCuts.{FoundStoresGoOn, KeptStoresGoOn, Lost
 ghost use Rattle.bac_plant.specs.NextSteps.{AsksGoOn, ChangesGoOn, FailuresGoOn, HeldSendsGoOn, HeldTurnsGoOn, IsReached, RestartsGoOn, StrangersAskedGoOn};
 ghost use Rattle.bac_plant.specs.NextSteps.{TurnsGoOn};
 ghost use Rattle.bac_plant.specs.Plants.{Plant, nodes_of, world_of};
+ghost use Rattle.bac_plant.specs.ReusingPlants.{RunsWithoutReuse, SettingsStay, TurnsAreEventsSo};
 ghost use Rattle.bac_plant.specs.Rounds.{HeldChain, IsAsHeldInChain, RoundInChain, ServesRoundsInChain, StopsInRound, StopsRoundsInChain};
 ghost use Rattle.bac_plant.specs.Steps.{PlantRun, Step};
 ghost use Rattle.bac_plant.specs.Steps.Step.{SendsHeld};
@@ -39,9 +40,9 @@ use bac_driver::Observer;
 use bac_keep::Keeper;
 
 /// The turns that stations take, also those of a round, whose sends are held, their asks, changes and restarts are events of a world: a run of a plant is the
-/// run of its world through the events of its steps. After a run of a fresh plant the log, which has all that turns returned as performed and ended, is right
-/// with the stores. Whatever strangers send, what a station performs for one of them under one invoke ID, between two of its restarts, it performs in entries
-/// that began more than 65,000 ms apart.
+/// run of its world through the events of its steps. No station lets a client use an invoke ID again. After a run of a fresh plant the log, which has all that
+/// turns returned as performed and ended, is right with the stores. Whatever strangers send, what a station performs for one of them under one invoke ID,
+/// between two of its restarts, it performs in entries that began more than 65,000 ms apart.
 #[tactic(auto, using(crate::proofs::Runs::run_events))]
 pub fn turns_are_events()
     ensures events { (overtake : ℕ) (steps : List Step) (old new : Plant) → PlantRun overtake steps old new
@@ -51,6 +52,15 @@ pub fn turns_are_events()
         → IsOnce (stores_of (nodes_of old.stations)) new.log (stores_of (nodes_of new.stations)) }
     ensures apart { (W overtake : ℕ) (old new : Plant) → IsFresh (world_of old) → IsTimely old.time.pace → IsBounded W overtake (world_of old)
         → (steps : List Step) → PlantRun overtake steps old new → AreServedApart (world_of new) }
+{}
+
+/// The turns of stations some of which let clients use an invoke ID again as soon as its transaction is over are events of a world in which these nodes do so.
+/// No step changes such a setting; where no station has it, a run is one of the law above.
+#[tactic(auto, using(crate::proofs::ReusingTurned::settings_stay, crate::proofs::ReusingTurned::run_events_so, crate::proofs::ReusingTurned::runs_without_reuse))]
+pub fn reusing_turns_are_events()
+    ensures settings { SettingsStay }
+    ensures events { TurnsAreEventsSo }
+    ensures without { RunsWithoutReuse }
 {}
 
 /// After each run of a fresh plant, whatever a call promises of a station, at the moment of its clock and by a datagram that the network may hand over, is a

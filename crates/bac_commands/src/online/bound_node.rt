@@ -12,7 +12,7 @@ use bac_value::NoMemory;
 use std::alloc::Global;
 
 /// A node of that address that serves a store, on that link, with so many slots at each end, 1 to 65,536. Where a moment is given, in milliseconds, it restarts
-/// then: it turns new requests away while no more than 65,000 ms have passed since.
+/// then: it turns new requests away while no more than 65,000 ms have passed since. It lets no client use an invoke ID again (`BoundNode::set_reuse`).
 ///
 /// `BadSlots` where there can't be so many slots, `NoMemory` where memory is refused.
 pub fn bound_server<L: Link>(
@@ -26,6 +26,7 @@ pub fn bound_server<L: Link>(
     ensures node { IfOk result (λ s. s.node ≡ server_node slots restart address store) }
     ensures failures { IfOk result (λ s. s.failures ≡ L.failures link) }
     ensures calls { IfOk result (λ s. s.calls ≡ L.calls link) }
+    ensures reuse { IfOk result (λ s. s.reuse ≡ false) }
     ensures slots { IsErrOf result NewNodeFault.BadSlots → large_slots_fit slots ≡ false }
     ensures window { IsErrOf result NewNodeFault.BadWindow → ⊥ }
 {
@@ -44,6 +45,7 @@ pub fn bound_house<L: Link>(
     ensures node { IfOk result (λ s. s.node ≡ house_node first_id address) }
     ensures failures { IfOk result (λ s. s.failures ≡ L.failures link) }
     ensures calls { IfOk result (λ s. s.calls ≡ L.calls link) }
+    ensures reuse { IfOk result (λ s. s.reuse ≡ false) }
 {
     let store = house(alloc)?;
     let mut node = node_with(alloc, address, store)?;
@@ -61,6 +63,7 @@ pub fn bound_client<L: Link>(
     ensures node { IfOk result (λ s. s.node ≡ client_node first_id address) }
     ensures failures { IfOk result (λ s. s.failures ≡ L.failures link) }
     ensures calls { IfOk result (λ s. s.calls ≡ L.calls link) }
+    ensures reuse { IfOk result (λ s. s.reuse ≡ false) }
 {
     let store = house(alloc)?;
     let mut node = asking_node(alloc, address, store)?;

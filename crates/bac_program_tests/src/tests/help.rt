@@ -39,6 +39,7 @@ const WORDS: &[(&str, &str)] = &[
         "--to <A.B.C.D[:P]>",
     ),
     ("serve --help", "--restarted"),
+    ("serve --help", "--reuse"),
     ("keep --help", "--forget <T:I>"),
     ("keep plant.db present-value", "--forget <T:I>"),
     ("keep plant.db --forget", "--forget <T:I>"),

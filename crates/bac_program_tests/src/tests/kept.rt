@@ -18,7 +18,8 @@ const WRITTEN: Bench = Bench {
     }),
 };
 
-/// Command lines, and their endings: all requests that wait are performed in one round, and nothing is performed in the first 65,000 ms of a file that was there.
+/// Command lines, and their endings: all requests that wait are performed in one round, and nothing is performed in the first 65,000 ms of a file that was there,
+/// but reads where an invoke ID may be used again.
 const ROWS: &[(&str, Ending)] = &[
     (
         "serve --port 47808 --turns 1 --keep new",
@@ -27,6 +28,10 @@ const ROWS: &[(&str, Ending)] = &[
     (
         "serve --port 47808 --turns 1 --keep empty",
         ("served 0\n", "serving from 65001\n", 0),
+    ),
+    (
+        "serve --port 47808 --turns 1 --keep empty --reuse",
+        ("served 3\n", "serving from 65001\n", 0),
     ),
     (
         "serve --port 47808 --turns 1 --keep old",

@@ -39,6 +39,48 @@ const REQUEST_LINES: &str = "\
 8500 127.0.0.1:47809 id 5 write analog-value:1 present-value real 180.0: answered written
 ";
 
+/// The same, where an invoke ID may be used again.
+const REUSING_LINES: &str = "\
+1500 127.0.0.1:47809 id 1 read analog-input:5 present-value: answered real 72.3
+2500 127.0.0.1:47809 id 1 read analog-input:5 present-value: answered real 72.3
+3500 127.0.0.1:47809 id 1 read analog-input:9 present-value: answered error object unknown-object (1:31)
+4500 127.0.0.1:47810 id 1 read analog-input:9 present-value: answered error object unknown-object (1:31)
+5500 127.0.0.1:47809/5:2A id 2 read analog-input:5 present-value: answered real 72.3
+6500 127.0.0.1:47809 id 3 service 12: rejected missing-required-parameter (5)
+7500 127.0.0.1:47809 id 4 service 99: rejected unrecognized-service (9)
+8500 127.0.0.1:47809 id 5 write analog-value:1 present-value real 180.0: answered written
+";
+
+const WRITE_180: &str = "810A001801040005050F0C0080000119553E44433400003F";
+
+/// Requests with one invoke ID: a write, a repeat of it, a write of another value, the first one again, a read of the value, and the first one again.
+const WRITES: Datagrams = &[
+    (0xC1, WRITE_180),
+    (0xC1, WRITE_180),
+    (0xC1, "810A001801040005050F0C0080000119553E4441A000003F"),
+    (0xC1, WRITE_180),
+    (0xC1, "810A001101040005050C0C008000011955"),
+    (0xC1, WRITE_180),
+];
+
+const WRITE_LINES: &str = "\
+1500 127.0.0.1:47809 id 5 write analog-value:1 present-value real 180.0: answered written
+2500 127.0.0.1:47809 id 5 write analog-value:1 present-value real 180.0: repeat, answered written
+3500 127.0.0.1:47809 id 5 write analog-value:1 present-value real 20.0: aborted other (0)
+4500 127.0.0.1:47809 id 5 write analog-value:1 present-value real 180.0: repeat, answered written
+5500 127.0.0.1:47809 id 5 read analog-value:1 present-value: aborted other (0)
+6500 127.0.0.1:47809 id 5 write analog-value:1 present-value real 180.0: repeat, answered written
+";
+
+const REUSING_WRITE_LINES: &str = "\
+1500 127.0.0.1:47809 id 5 write analog-value:1 present-value real 180.0: answered written
+2500 127.0.0.1:47809 id 5 write analog-value:1 present-value real 180.0: repeat, answered written
+3500 127.0.0.1:47809 id 5 write analog-value:1 present-value real 20.0: answered written
+4500 127.0.0.1:47809 id 5 write analog-value:1 present-value real 180.0: answered written
+5500 127.0.0.1:47809 id 5 read analog-value:1 present-value: answered real 180.0
+6500 127.0.0.1:47809 id 5 write analog-value:1 present-value real 180.0: answered written
+";
+
 /// No whole BVLL, a broadcast, another version, a frame for elsewhere, a network message, no APDU, and one from the server's own link.
 const DROPPED: Datagrams = &[
     (0xC1, "810A"),
@@ -122,6 +164,21 @@ const ROWS: &[(Behind, &str, Ending)] = &[
         ("served 4\n", REQUEST_LINES, 0),
     ),
     (
+        Behind::Datagrams(REQUESTS),
+        "serve --turns 8 --reuse --log",
+        ("served 6\n", REUSING_LINES, 0),
+    ),
+    (
+        Behind::Datagrams(WRITES),
+        "serve --turns 6 --log",
+        ("served 1\n", WRITE_LINES, 0),
+    ),
+    (
+        Behind::Datagrams(WRITES),
+        "serve --turns 6 --reuse --log",
+        ("served 5\n", REUSING_WRITE_LINES, 0),
+    ),
+    (
         Behind::Datagrams(DROPPED),
         "serve --port 47808 --turns 7 --log",
         ("served 0\n", DROPPED_LINES, 0),
@@ -162,6 +219,19 @@ const ROWS: &[(Behind, &str, Ending)] = &[
             "\
 serving from 65501
 1500 127.0.0.1:47809 id 1 read analog-input:5 present-value: aborted other (0), restarted
+",
+            0,
+        ),
+    ),
+    // such a read changes nothing, and is performed at once
+    (
+        Behind::Datagrams(TWO),
+        "serve --port 47808 --turns 1 --restarted --reuse --log",
+        (
+            "served 1\n",
+            "\
+serving from 65501
+1500 127.0.0.1:47809 id 1 read analog-input:5 present-value: answered real 72.3
 ",
             0,
         ),

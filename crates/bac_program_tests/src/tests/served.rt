@@ -72,6 +72,21 @@ const SERVED: &[BenchRow] = &[
             0,
         ),
     ),
+    // these are reads, which take no slot where an invoke ID may be used again
+    (
+        MANY_REQUESTS,
+        "serve --port 47808 --seconds 2 --slots 7 --reuse",
+        (
+            "served 10\n",
+            "listening 127.0.0.1:47808, 5 objects, 7 slots\n",
+            0,
+        ),
+    ),
+    (
+        FIVE_REQUESTS,
+        "serve --port 47808 --turns 9 --slots 2 --reuse",
+        ("served 5\n", "", 0),
+    ),
     (
         MANY_REQUESTS,
         "serve --port 47808 --seconds 1 --turns 3",

@@ -1,19 +1,27 @@
--- The bound_node is on a link that was bound, the clock was made, and it printed when serving began.
-use Rattle.std.proofs.Common.{refl}
+-- The bound node is on a link that was bound, with its setting, the clock was made, and it printed when serving began.
+use Rattle.std.proofs.Common.{refl, ap, ◌∙◌}
+use Rattle.bac_driver.specs.BoundNodes.{BoundNode}
 use Rattle.bac_command_line.specs.Online.{OnClock, OnPort}
 use Rattle.bac_command_line.proofs.KeptServed.{served_so}
 use Rattle.bac_command_line.proofs.keeping.serve_round.Goals as goal
 
 pub returns : goal.returns
 returns g c =
+    let set = c.set_reuse.ensures in
     served_so g.K.Keeper.IsHonest g.K.Keeper.IsOpen g.K.Keeper.kept g.K.Keeper.noted g.K.Keeper.base _ _
     (OnPort g.M.Machine.is_bound g.M.Link.Link.failures g.M.Link.Link.calls) (OnClock g.M.Machine.is_made g.M.Timer.Clock.told) _ _ c.now-start.result
-    c.restart-restart.result c.in-Ok.bound.1 _ _ _ _ c.serve_kept_from.result c.restart-restart.ensures c.in-Ok-bound_server.ensures.node
-    (record { link = c.in-Ok.bound.0; bound = c.in-Ok.ensures; failed = c.in-Ok-bound_server.ensures.failures; made = c.in-Ok-bound_server.ensures.calls })
+    c.restart-restart.result c.in-Ok.bound.1 _ _ _ _ c.serve_kept_from.result c.restart-restart.ensures
+    (ap (λ (b : BoundNode). b.node) set ∙ c.in-Ok-bound_server.ensures.node)
+    (record {
+      link = c.in-Ok.bound.0;
+      bound = c.in-Ok.ensures;
+      failed = ap (λ (b : BoundNode). b.failures) set ∙ c.in-Ok-bound_server.ensures.failures;
+      made = ap (λ (b : BoundNode). b.calls) set ∙ c.in-Ok-bound_server.ensures.calls;
+    })
     (record {
       before = g.M.Timer.Clock.told c.in-Some.timer;
       made = record { timer = c.in-Some.timer; made = c.in-Some.ensures; is = refl };
       is = c.now-start.ensures.tells;
     })
-    c.serve_kept_from.ensures.printed c.serve_kept_from.ensures.all c.serve_kept_from.ensures.honest
+    (ap (λ (b : BoundNode). b.reuse) set) c.serve_kept_from.ensures.printed c.serve_kept_from.ensures.all c.serve_kept_from.ensures.honest
     c.serve_kept_from.ensures.base

@@ -14,6 +14,7 @@ returns-clause-node g c =
                 record {
                   address = bound.address;
                   node = c.in-Ok-bound_client.ensures.node;
+                  reuse_is = c.in-Ok-bound_client.ensures.reuse;
                   on =
                       record {
                         link = bound.link;

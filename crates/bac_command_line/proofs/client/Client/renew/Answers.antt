@@ -16,6 +16,7 @@ returns-clause-renewed g c =
                       record {
                         address = bound.address;
                         node = c.in-Ok-bound_client.ensures.node;
+                        reuse_is = c.in-Ok-bound_client.ensures.reuse;
                         on =
                             record {
                               link = bound.link;
