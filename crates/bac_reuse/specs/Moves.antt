@@ -1,0 +1,71 @@
+-- Single moves of a net in which some servers let clients use an invoke ID again, for whoever joins it with nodes. All that is not said here is as in Moves of
+-- bac_protocol: the stores are left out, and a delivery says what its server's service makes of requests.
+use Rattle.std.specs.Prelude.{◌≡◌, ◌⊎◌, ℕ, Bool, true, List, [], ◌∷◌, Option, Some, None, slice_get, if◌then◌else◌}
+use Rattle.bac_apdu.specs.Apdu.{Apdu}
+use Rattle.bac_protocol.specs.Client.{ClientTransaction, request_of}
+use Rattle.bac_protocol.specs.Log.{Fact, Has, IsUnended, IsUnendedAway, IsUnperformed, MayEnd, WasAskedAway, asks_in}
+use Rattle.bac_protocol.specs.Log.Fact.{Asked, AskedAway, Changed, Ended, EndedAway, Performed, Restarted, Served}
+use Rattle.bac_protocol.specs.Moves.{Move, moved, strayed_to_client, taken_by_client}
+use Rattle.bac_protocol.specs.Moves.Move.{Arrives, Strays}
+use Rattle.bac_protocol.specs.Own.{IsOwnEntry}
+use Rattle.bac_protocol.specs.Reuse.{server_hears}
+use Rattle.bac_protocol.specs.Server.{Service}
+use Rattle.bac_protocol.specs.Transaction.{Key, Rules, server_context}
+use Rattle.bac_protocol.specs.Wire.{is_from_client}
+use Rattle.bac_protocol.specs.World.{Net, Post, is_deliverable, is_room, server_acts, server_acts_away, server_now}
+use Rattle.bac_reuse.specs.Runs.{Reusing}
+
+-- a copy reaches its server, whose service says so
+abbrev pub taken_by_server_so : Rules → Reusing → Net → Post → (free : Bool) → Service → Net
+taken_by_server_so x u n p free service =
+    server_acts n p.key
+    (server_hears (u.reuses p.key.server) (server_context x p.key (server_now n p.key)) service u.reads (n.entries p.key) (is_room n p.key free) p.copy.apdu)
+
+-- the copy of that number arrives, if it is deliverable
+abbrev pub arrived_so : Rules → Reusing → Net → (number : ℕ) → (free : Bool) → Service → Option Post → Net
+arrived_so x u n number free service None = n
+arrived_so x u n number free service (Some p) =
+    if is_deliverable x n number p
+    then (if is_from_client p.copy.apdu then taken_by_server_so x u n p free service else taken_by_client x n p (n.tickets p.key))
+    else n
+
+-- a stranger's APDU reaches a node's server
+abbrev pub strayed_to_server_so : Rules → Reusing → Net → Key → (free : Bool) → Service → Apdu → Net
+strayed_to_server_so x u n key free service a =
+    server_acts_away n key
+    (server_hears (u.reuses key.server) (server_context x key (server_now n key)) service u.reads (n.far.entries key) (is_room n key free) a)
+
+-- the net after a move
+abbrev pub moved_so : Rules → Reusing → Net → Move → Net
+moved_so x u n (Arrives number free service) = arrived_so x u n number free service (slice_get n.posts number)
+moved_so x u n (Strays key free service a) =
+    if is_from_client a then strayed_to_server_so x u n key free service a else strayed_to_client x n key a (n.far.tickets key)
+moved_so x u n m = moved x n m
+
+-- a net to which such moves lead
+pub data IsReachedSo (x : Rules) (u : Reusing) (from : Net) : Net → Type 0 where
+  Still : IsReachedSo x u from from
+  Moved : (n : Net) (m : Move) → IsReachedSo x u from n → IsReachedSo x u from (moved_so x u n m)
+
+-- the log is right, where stores are not looked at: an ask is performed once, or is a read at a server that lets invoke IDs be used again
+abbrev pub IsOrderlySo : Reusing → List Fact → Type 0
+IsOrderlySo u [] = Unit {0}
+IsOrderlySo u (Asked n c s r ∷ log) = (n ≡ asks_in log) × IsOrderlySo u log
+IsOrderlySo u (Performed n r p ∷ log) =
+    ((c : ℕ) × (s : ℕ) × Has (Asked n c s r) log × (IsUnperformed n log ⊎ ((u.reuses s ≡ true) × (u.reads r.choice ≡ true)))) × IsOrderlySo u log
+IsOrderlySo u (Ended n how ∷ log) = MayEnd n how log × IsUnended n log × IsOrderlySo u log
+IsOrderlySo u (Changed s c ∷ log) = IsOrderlySo u log
+IsOrderlySo u (Restarted s o ∷ log) = IsOrderlySo u log
+IsOrderlySo u (Served q s i b r p ∷ log) = IsOrderlySo u log
+IsOrderlySo u (AskedAway n c q r ∷ log) = (n ≡ asks_in log) × IsOrderlySo u log
+IsOrderlySo u (EndedAway n how ∷ log) = WasAskedAway n log × IsUnendedAway n log × IsOrderlySo u log
+
+-- what is to be known of it, as IsInOrder of bac_protocol says it of a net in which no invoke ID is used again
+pub record IsInOrderSo (u : Reusing) (n : Net) : Type 0 where
+  pub orderly : IsOrderlySo u n.log
+  pub counted : n.asks ≡ asks_in n.log
+  pub asked : (key : Key) (t : ClientTransaction) → n.tickets key ≡ Some t → Has (Asked (n.numbers key) key.client key.server (request_of t.ask)) n.log
+  pub posted : (number : ℕ) (p : Post) → slice_get n.posts number ≡ Some p → n.tickets p.key ≡ None → ⊥
+  pub own : (key : Key) → IsOwnEntry key.invoke_id (n.entries key)
+  pub away : (key : Key) (t : ClientTransaction) → n.far.tickets key ≡ Some t → WasAskedAway (n.far.numbers key) n.log
+  pub apart : (a b : Key) (s t : ClientTransaction) → n.far.tickets a ≡ Some s → n.far.tickets b ≡ Some t → n.far.numbers a ≡ n.far.numbers b → a ≡ b
