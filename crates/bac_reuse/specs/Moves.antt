@@ -1,18 +1,22 @@
 -- Single moves of a net in which some servers let clients use an invoke ID again, for whoever joins it with nodes. All that is not said here is as in Moves of
 -- bac_protocol: the stores are left out, and a delivery says what its server's service makes of requests.
-use Rattle.std.specs.Prelude.{◌≡◌, ◌⊎◌, ℕ, Bool, true, List, [], ◌∷◌, Option, Some, None, slice_get, if◌then◌else◌}
+use Rattle.std.specs.Prelude.{◌≡◌, ◌<◌, ◌≤◌, ◌+◌, ◌⊎◌, ℕ, Bool, true, false, List, [], ◌∷◌, Option, Some, None, slice_get, if◌then◌else◌}
 use Rattle.bac_apdu.specs.Apdu.{Apdu}
+use Rattle.bac_protocol.specs.Times.{KEEP}
+use Rattle.bac_protocol.specs.Pace.{IsShown}
+use Rattle.bac_protocol.specs.Service.{Reply, Request}
+use Rattle.bac_protocol.specs.Wire.{is_from_client}
 use Rattle.bac_protocol.specs.Client.{ClientTransaction, request_of}
+use Rattle.bac_protocol.specs.Server.{Service, is_none_live}
 use Rattle.bac_protocol.specs.Log.{Fact, Has, IsUnended, IsUnendedAway, IsUnperformed, MayEnd, WasAskedAway, asks_in}
 use Rattle.bac_protocol.specs.Log.Fact.{Asked, AskedAway, Changed, Ended, EndedAway, Performed, Restarted, Served}
+use Rattle.bac_protocol.specs.Transaction.{Key, Rules, server_context}
+use Rattle.bac_protocol.specs.World.{Net, Post, is_deliverable, is_id_held, is_room, server_acts, server_acts_away, server_now}
+use Rattle.bac_protocol.specs.Claims.{HasSinceRestart}
 use Rattle.bac_protocol.specs.Moves.{Move, moved, strayed_to_client, taken_by_client}
 use Rattle.bac_protocol.specs.Moves.Move.{Arrives, Strays}
 use Rattle.bac_protocol.specs.Own.{IsOwnEntry}
 use Rattle.bac_protocol.specs.Reuse.{server_hears}
-use Rattle.bac_protocol.specs.Server.{Service}
-use Rattle.bac_protocol.specs.Transaction.{Key, Rules, server_context}
-use Rattle.bac_protocol.specs.Wire.{is_from_client}
-use Rattle.bac_protocol.specs.World.{Net, Post, is_deliverable, is_room, server_acts, server_acts_away, server_now}
 use Rattle.bac_reuse.specs.Runs.{Reusing}
 
 -- a copy reaches its server, whose service says so
@@ -60,12 +64,44 @@ IsOrderlySo u (Served q s i b r p ∷ log) = IsOrderlySo u log
 IsOrderlySo u (AskedAway n c q r ∷ log) = (n ≡ asks_in log) × IsOrderlySo u log
 IsOrderlySo u (EndedAway n how ∷ log) = WasAskedAway n log × IsUnendedAway n log × IsOrderlySo u log
 
--- what is to be known of it, as IsInOrder of bac_protocol says it of a net in which no invoke ID is used again
+-- what such a server performs for strangers is of entries apart, as AreSpaced of bac_protocol has it: here it is said of servers that do not let invoke IDs be
+-- used again
+abbrev pub AreSpacedSo : Reusing → List Fact → Type 0
+AreSpacedSo u [] = Unit {0}
+AreSpacedSo u (Served q s i b r p ∷ log) =
+    (u.reuses s ≡ false → (a : ℕ) (r' : Request) (p' : Reply) → HasSinceRestart s (Served q s i a r' p') log → a + KEEP < b) × AreSpacedSo u log
+AreSpacedSo u (f ∷ log) = AreSpacedSo u log
+
+-- and it begins no entry for them while it waits after a restart
+pub record AreServedApartSo (u : Reusing) (n : Net) : Type 0 where
+  pub spaced : AreSpacedSo u n.log
+  pub waited : (q s i b : ℕ) (r : Request) (p : Reply) → u.reuses s ≡ false → HasSinceRestart s (Served q s i b r p) n.log → n.serves_from s ≤ b
+
+-- the clocks of a transaction show whole milliseconds
+pub record IsTicking (n : Net) (key : Key) : Type 0 where
+  pub some : 0 < n.pace.grain
+  pub client : IsShown n.pace (n.client_clocks key.client)
+  pub server : IsShown n.pace (n.server_clocks key.server)
+
+-- what is known of it, as IsInOrder of bac_protocol says it of a net in which no invoke ID is used again
 pub record IsInOrderSo (u : Reusing) (n : Net) : Type 0 where
+  -- the log is right, where stores are not looked at, and asks are numbered by those before them
   pub orderly : IsOrderlySo u n.log
   pub counted : n.asks ≡ asks_in n.log
+  -- a ticket's request is the one that was asked under its number, no later than now
   pub asked : (key : Key) (t : ClientTransaction) → n.tickets key ≡ Some t → Has (Asked (n.numbers key) key.client key.server (request_of t.ask)) n.log
+  pub made : (key : Key) (t : ClientTransaction) → n.tickets key ≡ Some t → n.made key ≤ n.now
+  -- where copies or an entry are, there is a ticket
   pub posted : (number : ℕ) (p : Post) → slice_get n.posts number ≡ Some p → n.tickets p.key ≡ None → ⊥
+  pub entered : (key : Key) → n.tickets key ≡ None → n.entries key ≡ None
+  -- entries are their transaction's own
   pub own : (key : Key) → IsOwnEntry key.invoke_id (n.entries key)
+  -- no entry is live for an invoke ID that is free, where the client does not wait after a restart
+  pub dead : (key : Key) → is_id_held n key ≡ false → is_none_live (server_now n key) (n.entries key) ≡ true
+  -- clocks show whole milliseconds
+  pub ticking : (key : Key) → IsTicking n key
+  -- an ask of a stranger was made under the number that its ticket has, and no two have one number
   pub away : (key : Key) (t : ClientTransaction) → n.far.tickets key ≡ Some t → WasAskedAway (n.far.numbers key) n.log
   pub apart : (a b : Key) (s t : ClientTransaction) → n.far.tickets a ≡ Some s → n.far.tickets b ≡ Some t → n.far.numbers a ≡ n.far.numbers b → a ≡ b
+  -- what strangers had performed is of entries apart
+  pub served_apart : AreServedApartSo u n
