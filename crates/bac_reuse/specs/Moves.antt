@@ -2,7 +2,7 @@
 -- bac_protocol: the stores are left out, and a delivery says what its server's service makes of requests.
 use Rattle.std.specs.Prelude.{◌≡◌, ◌<◌, ◌≤◌, ◌+◌, ◌⊎◌, ℕ, Bool, true, false, List, [], ◌∷◌, Option, Some, None, slice_get, if◌then◌else◌}
 use Rattle.bac_apdu.specs.Apdu.{Apdu}
-use Rattle.bac_protocol.specs.Times.{KEEP}
+use Rattle.bac_protocol.specs.declared.times.TheConstants.{KEEP}
 use Rattle.bac_protocol.specs.Pace.{IsShown}
 use Rattle.bac_protocol.specs.Service.{Reply, Request}
 use Rattle.bac_protocol.specs.Wire.{is_from_client}
@@ -51,12 +51,16 @@ pub data IsReachedSo (x : Rules) (u : Reusing) (from : Net) : Net → Type 0 whe
   Still : IsReachedSo x u from from
   Moved : (n : Net) (m : Move) → IsReachedSo x u from n → IsReachedSo x u from (moved_so x u n m)
 
--- the log is right, where stores are not looked at: an ask is performed once, or is a read at a server that lets invoke IDs be used again
+-- ask n may be performed: it was made, and was not performed before, or is a read at a server that lets invoke IDs be used again
+abbrev pub MayBePerformed : Reusing → ℕ → Request → List Fact → Type 0
+MayBePerformed u n r log =
+    (c : ℕ) × (s : ℕ) × Has (Asked n c s r) log × (IsUnperformed n log ⊎ ((u.reuses s ≡ true) × (u.reads r.choice ≡ true)))
+
+-- the log is right, where stores are not looked at
 abbrev pub IsOrderlySo : Reusing → List Fact → Type 0
 IsOrderlySo u [] = Unit {0}
 IsOrderlySo u (Asked n c s r ∷ log) = (n ≡ asks_in log) × IsOrderlySo u log
-IsOrderlySo u (Performed n r p ∷ log) =
-    ((c : ℕ) × (s : ℕ) × Has (Asked n c s r) log × (IsUnperformed n log ⊎ ((u.reuses s ≡ true) × (u.reads r.choice ≡ true)))) × IsOrderlySo u log
+IsOrderlySo u (Performed n r p ∷ log) = MayBePerformed u n r log × IsOrderlySo u log
 IsOrderlySo u (Ended n how ∷ log) = MayEnd n how log × IsUnended n log × IsOrderlySo u log
 IsOrderlySo u (Changed s c ∷ log) = IsOrderlySo u log
 IsOrderlySo u (Restarted s o ∷ log) = IsOrderlySo u log
