@@ -98,9 +98,9 @@ swapped true true o = refl
 swapped true false o = refl
 swapped false b o = refl
 
-nothing_left : (b : Bool) → None ≡ (if b then None else None)
-nothing_left true = refl
-nothing_left false = refl
+either_way : (b : Bool) (o : Option ServerTransaction) → o ≡ (if b then o else o)
+either_way true o = refl
+either_way false o = refl
 
 module _ (x : Rules) (u : Reusing) (n : Net) (h : AwayLeft u n) where
   -- the tables with these entries
@@ -141,7 +141,7 @@ module _ (x : Rules) (u : Reusing) (n : Net) (h : AwayLeft u n) where
       c : Context
       c = server_context x key (server_now n key)
 
-      abbrev hears : Bool → server.Reaction
+      hears : Bool → server.Reaction
       hears b = server_hears b c service u.reads (n.far.entries key) (is_room n key free) a
 
       go : (b : Bool) → u.reuses key.server ≡ b → AwayLeft u (server_acts_away n key (hears (u.reuses key.server)))
@@ -233,7 +233,7 @@ move_left x u n g calm h (TicksEntryAway key) = ticks_left x u (over n g) h key
 
 pub start_left : (u : Reusing) (pace : Pace) (clocks : ℕ → ℕ) → AwayLeft u (net_start pace clocks)
 start_left u pace clocks = subst (λ (f : Key → Option ServerTransaction). AwayIn (λ node. clock_at pace (clocks node)) (λ node. 0)
-    (record { numbers = λ key. 0; tickets = λ key. None; entries = f }) []) (λ i k. nothing_left (u.reuses k.server) i) (away_starts (λ node. clock_at pace (clocks node)))
+    (record { numbers = λ key. 0; tickets = λ key. None; entries = f }) []) (λ i k. either_way (u.reuses k.server) None i) (away_starts (λ node. clock_at pace (clocks node)))
 
 -- What it says.
 
@@ -244,11 +244,12 @@ since_left u q s i b r p (Restarted z o ∷ log) on h = (h.0, since_left u q s i
 since_left u q s i b r p (Served c z j d y a ∷ log) on (inl is) =
     let same : z ≡ s = cc in
     subst (λ e. HasSinceRestart s (Served q s i b r p) (if e then log_left u log else Served c z j d y a ∷ log_left u log)) (sym (ap u.reuses same ∙ on)) (inl is)
-since_left u q s i b r p (Served c z j d y a ∷ log) on (inr h) = go (u.reuses z)
+since_left u q s i b r p (Served c z j d y a ∷ log) on (inr h) = go (u.reuses z) (since_left u q s i b r p log on h)
   where
-    go : (e : Bool) → HasSinceRestart s (Served q s i b r p) (if e then log_left u log else Served c z j d y a ∷ log_left u log)
-    go true = since_left u q s i b r p log on h
-    go false = inr (since_left u q s i b r p log on h)
+    go : (e : Bool) → HasSinceRestart s (Served q s i b r p) (log_left u log)
+        → HasSinceRestart s (Served q s i b r p) (if e then log_left u log else Served c z j d y a ∷ log_left u log)
+    go true k = k
+    go false k = inr k
 since_left u q s i b r p (Asked m c z y ∷ log) on (inl is) = absurd cc
 since_left u q s i b r p (Asked m c z y ∷ log) on (inr h) = since_left u q s i b r p log on h
 since_left u q s i b r p (Performed m y a ∷ log) on (inl is) = absurd cc

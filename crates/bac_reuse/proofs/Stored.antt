@@ -113,7 +113,7 @@ module _ (S : Type 0) (model : StoreModel S) (opening : ℕ → S) (W : ℕ) (x 
 
     -- Copies.
 
-    service_here : Key → Service
+    abbrev service_here : Key → Service
     service_here key = service_of S model w key
 
     module _ (number : ℕ) (free : Bool) (p : Post) (at : slice_get w.net.posts number ≡ Some p) (may : is_deliverable x w.net number p ≡ true) where
@@ -217,7 +217,7 @@ module _ (S : Type 0) (model : StoreModel S) (opening : ℕ → S) (W : ℕ) (x 
         v : server.Reaction
         v = server_hears (u.reuses key.server) (server_context x key (server_now w.net key)) (service_here key) u.reads (w.net.far.entries key) (is_room w.net key free) a
 
-        abbrev way : Bool → Net
+        way : Bool → Net
         way b = if b then strayed_to_server_so x u w.net key free (service_here key) a else strayed_to_client x w.net key a (w.net.far.tickets key)
 
         reached : (b : Bool) → is_from_client a ≡ b → IsReachedHere (way b)

@@ -5,6 +5,7 @@
 #![tactic(auto)]
 
 pub mod examples;
+pub mod moves;
 
 ghost use Rattle.std.specs.Prelude.{◌≡◌, ℕ, true, List, Ok};
 ghost use Rattle.bac_value.specs.Octets.{IsBytes};
