@@ -23,7 +23,11 @@ delivers_as false w c w' d = d
 step_as : (overtake : ℕ) (w : World) (e : Event) (w' : World) → WorldStep overtake w e w' → WorldStepSo overtake (reuses_in None) w e w'
 step_as overtake w (Ask client server limits r) w' s = s
 step_as overtake w (AskAway client peer limits r) w' s = s
-step_as overtake w (Deliver number) w' s = record { copy = s.copy; there = s.there; goes = delivers_as (is_deliverable overtake w.time.pace.life w.time.now number w.copies s.copy) w s.copy w' s.goes }
+step_as overtake w (Deliver number) w' s = record {
+  copy = s.copy;
+  there = s.there;
+  goes = delivers_as (is_deliverable overtake w.time.pace.life w.time.now number w.copies s.copy) w s.copy w' s.goes;
+}
 step_as overtake w (Noise node from octets) w' (inl s) = inl (record { fit = s.meaningless; hears = hears_as w node from octets w' s.hears })
 step_as overtake w (Noise node from octets) w' (inr s) = inr s
 step_as overtake w (Stray node from octets) w' (inl s) = inl (record { fit = s.stranger; hears = hears_as w node from octets w' s.hears })

@@ -1,6 +1,6 @@
 -- Nets of machines that moves lead to, in either setting: what is known of them, and each move by itself.
-use Rattle.std.proofs.Common.{◌≡◌, ℕ, ◌-◌, ◌≤◌, ◌<◌, Bool, true, false, ◌&&◌, List, [], ◌∷◌, Option, Some, None, slice_get, nat_le, refl, ap, subst, ◌∙◌, arith, inl}
-use Rattle.std.proofs.Common.{if◌then◌else◌}
+use Rattle.std.proofs.Common.{◌≡◌, ℕ, ◌-◌, ◌≤◌, ◌<◌, Bool, true, false, ◌&&◌, List, [], ◌∷◌, Option, Some, None, slice_get, nat_le}
+use Rattle.std.proofs.Common.{refl, ap, subst, inl, ◌∙◌, arith, if◌then◌else◌}
 use Rattle.std.proofs.lemmas.Bool.Decides.{nat_tests}
 use Rattle.bac_protocol.specs.Pace.{Pace, IsTimely, goes_on}
 use Rattle.bac_protocol.specs.World.{client_now, server_now, passes}
@@ -21,17 +21,19 @@ use Rattle.bac_protocol.specs.World.{client_restarted, server_restarted, server_
 use Rattle.bac_apdu.specs.Apdu.{Apdu}
 use Rattle.bac_protocol.specs.Claims.{IsBounded, AreServedApart, AreSpaced}
 use Rattle.bac_protocol.specs.Own.{IsOwnEntry}
-use Rattle.bac_protocol.specs.Moves.{Move, moved, arrived, taken_by_client, taken_by_server, strayed_to_client, strayed_to_server, ticket_ticked, ticket_ticked_away, IsReached, IsInOrder}
-use Rattle.bac_protocol.specs.Moves.Move.{Asks, Arrives, TicksTicket, TicksEntry, Passes, Changes, RestartsClient, RestartsServer, Strays, AsksAway, TicksTicketAway, TicksEntryAway}
+use Rattle.bac_protocol.specs.Moves.{Move, moved, arrived, taken_by_client, taken_by_server, strayed_to_client, strayed_to_server, ticket_ticked}
+use Rattle.bac_protocol.specs.Moves.{ticket_ticked_away, IsReached, IsInOrder}
+use Rattle.bac_protocol.specs.Moves.Move.{Asks, Arrives, TicksTicket, TicksEntry, Passes, Changes, RestartsClient, RestartsServer, Strays, AsksAway}
+use Rattle.bac_protocol.specs.Moves.Move.{TicksTicketAway, TicksEntryAway}
 use Rattle.bac_protocol.specs.Moves.{IsReached as ever}
 use Rattle.bac_protocol.proofs.Nets.{sound_at}
 use Rattle.bac_protocol.proofs.SingleMoves.{in_order, reached_net, reached_calm}
 use Rattle.bac_transaction.specs.Reuse.{is_read}
 use Rattle.bac_reuse.specs.Moves.{IsInOrderSo, IsOrderlySo, IsReachedSo, AreSpacedSo, IsTicking, arrived_so, moved_so, taken_by_server_so, strayed_to_server_so}
 use Rattle.bac_reuse.specs.Moves.{IsReachedSo as again}
-use Rattle.bac_world.proofs.Pending.{in_order_so}
+use Rattle.bac_reuse.proofs.ReusingMoves.{in_order_so}
 use Rattle.bac_reuse.specs.Runs.{Reusing}
-use Rattle.bac_world.proofs.Orderly.{was_below_so}
+use Rattle.bac_world.proofs.Orderly.{away_asked_below}
 use Rattle.bac_world.proofs.Settings.{Setting, reuses_in, reusing_in}
 
 -- moves of that setting lead to the net
@@ -127,7 +129,8 @@ unheard x set n s m h = subst (λ (y : Net). Sound x set y) (alike x set n m h) 
 -- a copy reaches its server
 abbrev taken : Rules → Setting → Net → Post → (free : Bool) → Service → Net
 taken x set n p free service = server_acts n p.key
-    (server_hears (reuses_in set p.key.server) (server_context x p.key (server_now n p.key)) service is_read (n.entries p.key) (is_room n p.key free) p.copy.apdu)
+    (server_hears (reuses_in set p.key.server) (server_context x p.key (server_now n p.key)) service is_read (n.entries p.key) (is_room n p.key free)
+    p.copy.apdu)
 
 -- a copy arrives
 arrives : (x : Rules) (set : Setting) (n : Net) (number : ℕ) (p : Post) → slice_get n.posts number ≡ Some p → is_deliverable x n number p ≡ true
@@ -148,7 +151,8 @@ strayed x set n key free service a = server_acts_away n key
     (server_hears (reuses_in set key.server) (server_context x key (server_now n key)) service is_read (n.far.entries key) (is_room n key free) a)
 
 strays : (x : Rules) (set : Setting) (n : Net) (key : Key) (free : Bool) (service : Service) (a : Apdu)
-    → moves_to x set n (Strays key free service a) ≡ (if is_from_client a then strayed x set n key free service a else strayed_to_client x n key a (n.far.tickets key))
+    → moves_to x set n (Strays key free service a)
+    ≡ (if is_from_client a then strayed x set n key free service a else strayed_to_client x n key a (n.far.tickets key))
 strays x None n key free service a = refl
 strays x (Some u) n key free service a = refl
 
@@ -228,7 +232,7 @@ module _ (W : ℕ) (x : Rules) (set : Setting) (bound : IsBounded W x) where
 
   pub away_below : (n : Net) → Sound x set n → (key : Key) (t : ClientTransaction) → n.far.tickets key ≡ Some t → n.far.numbers key < n.asks
   away_below n s key t is =
-      let lt = was_below_so (reusing_in set) n.log (orderly n s) (n.far.numbers key) (away_of n s key t is) in let e = counted n s in omega arith
+      let lt = away_asked_below (reusing_in set) n.log (orderly n s) (n.far.numbers key) (away_of n s key t is) in let e = counted n s in omega arith
 
   pub strays_at_client : (n : Net) → Sound x set n → (key : Key) (t : ClientTransaction) → n.far.tickets key ≡ Some t → (a : Apdu) → is_from_client a ≡ false
       → Sound x set (client_acts_away n key t (client.client_on_apdu (client_context x key (client_now n key)) x.readable t a))

@@ -46,16 +46,16 @@ module _ (u : Reusing) where
   away_below n c q r (g ∷ log) o (inr h) =
       let lt = away_below n c q r log (rest g log o) h in let le = asks_grow g log in omega arith
 
-  pub was_below_so : (log : List Fact) → IsOrderlySo u log → (n : ℕ) → WasAskedAway n log → n < asks_in log
-  was_below_so log o n h = away_below n h.0 h.1 h.2 log o h.3
+  pub away_asked_below : (log : List Fact) → IsOrderlySo u log → (n : ℕ) → WasAskedAway n log → n < asks_in log
+  away_asked_below log o n h = away_below n h.0 h.1 h.2 log o h.3
 
   -- the two facts that a log has of one ask are one
-  pub asked_once_so : (log : List Fact) → IsOrderlySo u log → (n c s d t : ℕ) (q r : Request) → Has (Asked n c s q) log → Has (Asked n d t r) log
+  pub one_ask : (log : List Fact) → IsOrderlySo u log → (n c s d t : ℕ) (q r : Request) → Has (Asked n c s q) log → Has (Asked n d t r) log
       → (s ≡ t) × (q ≡ r)
-  asked_once_so [] o n c s d t q r h k = absurd h
-  asked_once_so (g ∷ log) o n c s d t q r (inl e) (inl f) = let same : Asked n c s q ≡ Asked n d t r = sym e ∙ f in (cc, cc)
-  asked_once_so (g ∷ log) o n c s d t q r (inl e) (inr k) =
+  one_ask [] o n c s d t q r h k = absurd h
+  one_ask (g ∷ log) o n c s d t q r (inl e) (inl f) = let same : Asked n c s q ≡ Asked n d t r = sym e ∙ f in (cc, cc)
+  one_ask (g ∷ log) o n c s d t q r (inl e) (inr k) =
       let at = asked_at n c s q g log e o in let lt = asked_below n d t r log (rest g log o) k in absurd (omega arith)
-  asked_once_so (g ∷ log) o n c s d t q r (inr h) (inl f) =
+  one_ask (g ∷ log) o n c s d t q r (inr h) (inl f) =
       let at = asked_at n d t r g log f o in let lt = asked_below n c s q log (rest g log o) h in absurd (omega arith)
-  asked_once_so (g ∷ log) o n c s d t q r (inr h) (inr k) = asked_once_so log (rest g log o) n c s d t q r h k
+  one_ask (g ∷ log) o n c s d t q r (inr h) (inr k) = one_ask log (rest g log o) n c s d t q r h k

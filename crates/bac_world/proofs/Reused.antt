@@ -29,15 +29,17 @@ module _ (c : Context) (service : Service) (free : Bool) where
 
   idle_alike : (e : ServerTransaction) → is_live c.now e ≡ false → (a : Apdu)
       → IsSameReaction c.now (server.idle_on_apdu c service (Some e) free a) (server.idle_on_apdu c service None free a)
-  idle_alike e dead a = subst (λ b. IsSameReaction c.now (if b then server.live_on_apdu c service e e.state a else server.idle_on_apdu c service (Some e) free a)
+  idle_alike e dead a = subst
+      (λ b. IsSameReaction c.now (if b then server.live_on_apdu c service e e.state a else server.idle_on_apdu c service (Some e) free a)
       (server_on_apdu c service (if b then Some e else None) free a)) dead (gets_same c service (Some e) free a)
 
   read_alike : (e : ServerTransaction) → is_live c.now e ≡ false → (r : Reaction) → IsSameReaction c.now (reads_so c (Some e) free r) (reads_so c None free r)
   read_alike e dead r = go (has_transfer r.entry) free
     where
-      go : (b d : Bool) → IsSameReaction c.now
-          (if b then (if d then r else server.rests (Some e) (server.server_abort c OTHER ∷ [])) else record { entry = Some e; sends = r.sends; effect = r.effect })
-          (if b then (if d then r else server.rests None (server.server_abort c OTHER ∷ [])) else record { entry = None; sends = r.sends; effect = r.effect })
+      one : Option ServerTransaction → (b d : Bool) → Reaction
+      one o b d = if b then (if d then r else server.rests o (server.server_abort c OTHER ∷ [])) else record { entry = o; sends = r.sends; effect = r.effect }
+
+      go : (b d : Bool) → IsSameReaction c.now (one (Some e) b d) (one None b d)
       go true true = record { entry = refl; sends = refl; effect = refl }
       go true false = record { entry = dead_is e dead; sends = refl; effect = refl }
       go false d = record { entry = dead_is e dead; sends = refl; effect = refl }
@@ -175,7 +177,8 @@ module _ (p : PeerKey) where
   each_left P [] h = tt
   each_left P (s ∷ slots) h = go (same_key s.key p) (each_left P slots h.1)
     where
-      go : (b : Bool) → EachSlot ServerTransaction P (without same_key p slots) → EachSlot ServerTransaction P (if b then slots else s ∷ without same_key p slots)
+      go : (b : Bool) → EachSlot ServerTransaction P (without same_key p slots)
+          → EachSlot ServerTransaction P (if b then slots else s ∷ without same_key p slots)
       go true again = h.1
       go false again = (h.0, again)
 

@@ -42,7 +42,7 @@ use Rattle.bac_world.specs.World.{told}
 use Rattle.bac_world.proofs.Bridge.{here_at, there_at}
 use Rattle.bac_protocol.specs.Pace.{Clock}
 use Rattle.bac_world.proofs.Machines.{Sound, orderly, asked_of, own_of, gets_at_server, ticket_of}
-use Rattle.bac_world.proofs.Orderly.{asked_once_so}
+use Rattle.bac_world.proofs.Orderly.{one_ask}
 use Rattle.bac_world.proofs.Settings.{Setting, reuses_in, reusing_in, end_heard, hears_at}
 use Rattle.bac_world.proofs.Pairs.{pairwise_join}
 use Rattle.bac_world.proofs.Logs.{FactMeans, WasAskedAs, asked_as, unperformed}
@@ -170,7 +170,7 @@ module _ (links : ℕ → Option Octets) (apart : (i j : ℕ) (l : Octets) → l
       log_is = logged.log ∙ ap (λ (m : ℕ). Fact.Performed m d.request d.reply ∷ w.log) number_is
 
       one : (key.server ≡ right.0.1) × (request_of t.ask ≡ e.request)
-      one = asked_once_so (reusing_in set) n.log right.1 (n.numbers key) key.client key.server right.0.0 right.0.1 (request_of t.ask) e.request
+      one = one_ask (reusing_in set) n.log right.1 (n.numbers key) key.client key.server right.0.0 right.0.1 (request_of t.ask) e.request
           (asked_of W x set bound n h.sound key t is) right.0.2
 
       asked : WasAskedAs (n.numbers key) key.client key.server e.request w.log

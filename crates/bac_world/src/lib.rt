@@ -24,9 +24,9 @@ pub fn at_most_once()
         → IsOnce (stores_of w.nodes) w'.log (stores_of w'.nodes) }
 {}
 
-/// The same of worlds some of whose nodes let clients use an invoke ID again as soon as its transaction is over, whatever the setting of each node: every accepted
-/// ask takes effect at most once, but for a read at such a node, which it performs each time that it takes its request. Every ask ends at most once, and is
-/// answered with a reply that its server's store gave to it before.
+/// The same of worlds some of whose nodes let clients use an invoke ID again as soon as its transaction is over, whatever the setting of each node: every
+/// accepted ask takes effect at most once, but for a read at such a node, which it performs each time that it takes its request. Every ask ends at most once,
+/// and is answered with a reply that its server's store gave to it before.
 pub fn at_most_once_where_reused()
     ensures { (W overtake : ℕ) (u : Reuses) (w w' : World) → IsFresh w → IsTimely w.time.pace → IsBounded W overtake w → (events : List Event)
         → WorldRunSo overtake u w events w' → IsOnceSo u (stores_of w.nodes) w'.log (stores_of w'.nodes) }
