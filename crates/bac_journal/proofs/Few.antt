@@ -426,9 +426,9 @@ module _ (W : ℕ) (x : Rules) (bound : IsBounded W x) where
   reached_small pace clocks _ Still = (λ key. tt, λ key. tt)
   reached_small pace clocks _ (Moved n m h) = moved_small n (reached_small pace clocks n h) m
 
-  pub entries_few : (n : Net) → Sound x n → (key : Key) → EntryFew W (n.entries key)
+  pub entries_few : (n : Net) → Sound x None n → (key : Key) → EntryFew W (n.entries key)
   entries_few n s = (reached_small s.0 s.1 n s.3).0
 
   -- those of strangers too
-  pub far_entries_few : (n : Net) → Sound x n → (key : Key) → EntryFew W (n.far.entries key)
+  pub far_entries_few : (n : Net) → Sound x None n → (key : Key) → EntryFew W (n.far.entries key)
   far_entries_few n s = (reached_small s.0 s.1 n s.3).1

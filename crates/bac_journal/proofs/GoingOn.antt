@@ -296,7 +296,7 @@ node_there nodes i l at = go (slice_get nodes i) refl at
     go (Some a) e f = (a, e)
 
 module _ (links : ℕ → Option Octets) (apart : (i j : ℕ) (l : Octets) → links i ≡ Some l → links j ≡ Some l → i ≡ j) (W : ℕ) (x : Rules)
-    (bound : IsBoundedNet W x) (w : World) (n : Net) (h : Over links apart W x w n) where
+    (bound : IsBoundedNet W x) (w : World) (n : Net) (h : Over links apart W x None w n) where
   Result : ℕ → Node → Outcome → Type 0
   Result = Enters links apart W x bound w n h
 
@@ -355,6 +355,6 @@ runs_can_go_on W overtake w w' f timely b events run =
     let x = rules_of overtake w in
     let bound = rules_bounded W overtake w b in
     let reached = run_over (link_at w.nodes) f.apart W x bound refl (stores_of w.nodes) events w w' (net_start w.time.pace (λ i. (w.time.clocks i).exact))
-    (fresh_over W overtake w f timely b)
+    (fresh_over None W overtake w f timely b)
     (subst (λ l. IsOnce (stores_of w.nodes) l (stores_of w.nodes)) (sym f.log) (λ node. refl)) run in
     opens (link_at w.nodes) f.apart W x bound w' reached.0 reached.1 (tidy_run overtake events w w' (tidy_fresh w f timely) run) overtake

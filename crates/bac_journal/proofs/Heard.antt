@@ -39,7 +39,7 @@ use Rattle.bac_journal.proofs.Few.{client_gets_few, server_gets_few, entries_few
 use Rattle.bac_journal.proofs.Copied.{paired_length, sent_length, leave_all, can_end}
 
 module _ (links : ℕ → Option Octets) (apart : (i j : ℕ) (l : Octets) → links i ≡ Some l → links j ≡ Some l → i ≡ j) (W : ℕ) (x : Rules)
-    (bound : IsBounded W x) (w : World) (n : Net) (h : Over links apart W x w n) where
+    (bound : IsBounded W x) (w : World) (n : Net) (h : Over links apart W x None w n) where
   pub record Enters (i : ℕ) (b : Node) (o : Outcome) : Type 0 where
     pub can : CanEnter w i b o
     pub few : length o.sends ≤ W + 1
@@ -71,7 +71,7 @@ module _ (links : ℕ → Option Octets) (apart : (i j : ℕ) (l : Octets) → l
     abbrev q : PeerKey
     q = slot_key l p.key.invoke_id
 
-    fits : Fits links apart W x w n n p.key.server a
+    fits : Fits links apart W x None w n n p.key.server a
     fits = h.nodes p.key.server a node
 
     abbrev context : Context
@@ -136,10 +136,10 @@ module _ (links : ℕ → Option Octets) (apart : (i j : ℕ) (l : Octets) → l
 
     own : Each (λ y. (is_from_client y ≡ false) × (invoke_id_of y ≡ p.key.invoke_id)) u.sends
     own = each_of_server key.invoke_id u.sends
-        (server_sends_own.gets context service (n.entries key) free apdu (own_of W x bound n h.sound key)).0
+        (server_sends_own.gets context service (n.entries key) free apdu (own_of W x None bound n h.sound key)).0
 
     ticket : (t : ClientTransaction) × (n.tickets p.key ≡ Some t)
-    ticket = ticket_of W x bound n h.sound number p at
+    ticket = ticket_of W x None bound n h.sound number p at
 
     of_client : (d : Option Performed) → o.performed ≡ d → AreOfPeer w p.key.server b d
     of_client None is = tt
@@ -179,7 +179,7 @@ module _ (links : ℕ → Option Octets) (apart : (i j : ℕ) (l : Octets) → l
     still : Turn (stays a.clients) → Enters p.key.client b o
     still t = nothing_enters p.key.client b o (pairwise_none IsSent o.sends t.sends) (pairwise_none IsEndedView o.ended t.ended) t.performed
 
-    at_client : Fits links apart W x w n n p.key.client a
+    at_client : Fits links apart W x None w n n p.key.client a
     at_client = h.nodes p.key.client a node
 
     goes : (k : ℕ) (t : ClientTransaction) → value_at same_key (slot_key l p.key.invoke_id) a.clients.slots ≡ Some (record { number = k; held = Open t })

@@ -59,7 +59,7 @@ performed_key store p None d done = absurd done
 performed_key store p (Some x) d done = (x, refl, done.key)
 
 module _ (links : ℕ → Option Octets) (apart : (i j : ℕ) (l : Octets) → links i ≡ Some l → links j ≡ Some l → i ≡ j) (W : ℕ) (x : Rules)
-    (bound : IsBounded W x) (w : World) (n : Net) (h : Over links apart W x w n) (i : ℕ) (peer : PeerView) (apdu : Apdu)
+    (bound : IsBounded W x) (w : World) (n : Net) (h : Over links apart W x None w n) (i : ℕ) (peer : PeerView) (apdu : Apdu)
     (stranger : (k : ℕ) → links k ≡ Some peer.link → ⊥) (a b : Node) (o : Outcome) (node : slice_get w.nodes i ≡ Some a) where
   abbrev p : PeerKey
   p = heard_key peer apdu
@@ -67,7 +67,7 @@ module _ (links : ℕ → Option Octets) (apart : (i j : ℕ) (l : Octets) → l
   g : IsStranger links apart (heard_key peer apdu)
   g = record { none = stranger }
 
-  fits : Fits links apart W x w n n i a
+  fits : Fits links apart W x None w n n i a
   fits = h.nodes i a node
 
   small : a.settings.window ≤ W

@@ -40,7 +40,7 @@ use Rattle.bac_journal.proofs.Few.{asks_few}
 use Rattle.bac_journal.proofs.Copied.{every_join, paired_length, sent_length, each_found, can_all, leave_all, leave_away, can_end}
 
 module _ (links : ℕ → Option Octets) (apart : (i j : ℕ) (l : Octets) → links i ≡ Some l → links j ≡ Some l → i ≡ j) (W : ℕ) (x : Rules)
-    (bound : IsBounded W x) (w : World) (n : Net) (h : Over links apart W x w n) where
+    (bound : IsBounded W x) (w : World) (n : Net) (h : Over links apart W x None w n) where
   -- Ticks.
 
   module _ (i : ℕ) (a : Node) (at : slice_get w.nodes i ≡ Some a) (c : Settings) where
@@ -50,7 +50,7 @@ module _ (links : ℕ → Option Octets) (apart : (i j : ℕ) (l : Octets) → l
     abbrev entries : List ServerSlot
     entries = a.servers.slots
 
-    fits : Fits links apart W x w n n i a
+    fits : Fits links apart W x None w n n i a
     fits = h.nodes i a at
 
     peer_is : (q : PeerKey) → (k : IsKnown links apart q) → q ≡ slot_key k.link q.invoke_id
@@ -167,7 +167,7 @@ module _ (links : ℕ → Option Octets) (apart : (i j : ℕ) (l : Octets) → l
         let live' : is_live (there_at n i) d ≡ true = ap (λ (t : ℕ). is_live t d) (ap (λ (y : Clock). y.shows) (h.there i)) ∙ live in
         let here : n.entries key ≡ Some d = live_own d live' (n.entries key)
         (ap (live_entry (there_at n i)) (sym there) ∙ fits.servers.found k.node k.link q.invoke_id k.at) in
-        let own : IsOwnEntry q.invoke_id (Some d) = subst (IsOwnEntry q.invoke_id) here (own_of W x bound n h.sound key) in
+        let own : IsOwnEntry q.invoke_id (Some d) = subst (IsOwnEntry q.invoke_id) here (own_of W x None bound n h.sound key) in
         let sends : List Apdu = (server_ticks (context_of c (told w i) q) (Some d)).sends in
         leave_all links apart w h.linked false key i k.node a.link k.link (record { between = (refl, refl); from = fits.link; to = k.at })
         w.notes (entry_asked key d here) sends ds

@@ -70,11 +70,11 @@ node_at l (Some b) e = (b, refl)
 
 -- no ask of a net of a world was made later than now, and no client restarted later
 pub bounded_over : (links : ℕ → Option Octets) (apart : (i j : ℕ) (l : Octets) → links i ≡ Some l → links j ≡ Some l → i ≡ j) (W : ℕ) (x : Rules)
-    (w : World) (n : Net) → Over links apart W x w n → Bounded n
+    (w : World) (n : Net) → Over links apart W x None w n → Bounded n
 bounded_over links apart W x w n over = reached_bounded x over.sound.0 over.sound.1 n over.sound.3
 
 module _ (links : ℕ → Option Octets) (apart : (i j : ℕ) (l : Octets) → links i ≡ Some l → links j ≡ Some l → i ≡ j) (W : ℕ) (x : Rules)
-    (bound : claims.IsBounded W x) (readable : x.readable ≡ reads_reply) (old : World) (n : Net) (h : Over links apart W x old n)
+    (bound : claims.IsBounded W x) (readable : x.readable ≡ reads_reply) (old : World) (n : Net) (h : Over links apart W x None old n)
     (c s : ℕ) (limits : Limits) (r : Request) (asked : World) (a : IsAsked old c s limits r asked)
     (p : Parts links apart W x bound readable old n c s limits r asked a) where
   abbrev pub key : Key
@@ -86,7 +86,7 @@ module _ (links : ℕ → Option Octets) (apart : (i j : ℕ) (l : Octets) → l
   abbrev pub made : Net
   made = asked_net links apart W x bound readable old n h c s limits r asked a p
 
-  pub made_over : Over links apart W x asked made
+  pub made_over : Over links apart W x None asked made
   made_over = asked_over links apart W x bound readable old n h c s limits r asked a p
 
   pub made_bounded : Bounded made

@@ -242,7 +242,7 @@ answer_ends now peer a old new o gets from apart number t there late = record { 
 -- Nodes of a world that was reached.
 
 module _ (links : ℕ → Option Octets) (apart : (i j : ℕ) (l : Octets) → links i ≡ Some l → links j ≡ Some l → i ≡ j) (W : ℕ) (x : Rules)
-    (bound : claims.IsBounded W x) (w : World) (n : Net) (over : Over links apart W x w n) (i : ℕ) (a : Node) (at : slice_get w.nodes i ≡ Some a) where
+    (bound : claims.IsBounded W x) (w : World) (n : Net) (over : Over links apart W x None w n) (i : ℕ) (a : Node) (at : slice_get w.nodes i ≡ Some a) where
   pub record IsTicketOf (p : PeerKey) (number : ℕ) (t : ClientTransaction) : Type 0 where
     pub server : ℕ
     pub link : Octets
@@ -331,7 +331,7 @@ module _ (links : ℕ → Option Octets) (apart : (i j : ℕ) (l : Octets) → l
   same_key_of p q number t u (inr one) (inr two) =
       let numbers : n.far.numbers (out_key i p) ≡ n.far.numbers (out_key i q) =
       (let e : Some (n.far.numbers (out_key i p)) ≡ Some (n.far.numbers (out_key i q)) = sym one.number_is ∙ two.number_is in cc) in
-      out_one i p q (away_apart W x bound n over.sound (out_key i p) (out_key i q) t u one.ticket two.ticket numbers)
+      out_one i p q (away_apart W x None bound n over.sound (out_key i p) (out_key i q) t u one.ticket two.ticket numbers)
   same_key_of p q number t u (inl one) (inl two) =
       let numbers : n.numbers (node_key i one.server p.invoke_id) ≡ n.numbers (node_key i two.server q.invoke_id) =
       (let e : Some (n.numbers (node_key i one.server p.invoke_id)) ≡ Some (n.numbers (node_key i two.server q.invoke_id)) =
@@ -355,5 +355,5 @@ nodes_in_order W overtake opening reached fresh timely bounded events run i a at
     let x : Rules = rules_of overtake opening in
     let bound = rules_bounded W overtake opening bounded in
     let f = on_run (link_at opening.nodes) fresh.apart W x bound refl events opening reached (opened_net opening)
-    (fresh_over W overtake opening fresh timely bounded) run in
+    (fresh_over None W overtake opening fresh timely bounded) run in
     tickets_apart (link_at opening.nodes) fresh.apart W x bound reached f.net f.over i a at

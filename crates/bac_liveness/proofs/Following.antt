@@ -33,7 +33,8 @@ use Rattle.bac_world.specs.Laws.{IsMeaningless}
 use Rattle.bac_world.proofs.NodeLaws.{drops_exactly}
 use Rattle.bac_world.proofs.Pairs.{IsPaired, pairwise_get}
 use Rattle.bac_world.proofs.Bridge.{here_at, IsCopyOf, IsBetween, key_of, slot_key, framed_means, later_alike}
-use Rattle.bac_world.proofs.Steps.{Over, Goes}
+use Rattle.bac_world.proofs.Steps.{Over, Goes, acts_as}
+use Rattle.bac_world.proofs.Heard.{heard_as}
 use Rattle.bac_world.proofs.StrangersHeard.{hears_stranger}
 use Rattle.bac_world.proofs.StrangersAsked.{asks_away_over}
 use Rattle.bac_protocol.specs.World.{client_acts_away, server_acts_away}
@@ -75,14 +76,14 @@ module _ (links : ℕ → Option Octets) (apart : (i j : ℕ) (l : Octets) → l
       IsAccepted (x.settings c) (here_at n c) (peer_at a.link) (choice_of r) a.asks.octets a.before.clients a.accepted
 
   -- the end's outcome, with the net's settings and moment
-  pub accepted : (w : World) (n : Net) → Over links apart W x w n → (c s : ℕ) (limits : Limits) (r : Request) (w' : World) (a : IsAsked w c s limits r w')
+  pub accepted : (w : World) (n : Net) → Over links apart W x None w n → (c s : ℕ) (limits : Limits) (r : Request) (w' : World) (a : IsAsked w c s limits r w')
       → requester_ask (x.settings c) (here_at n c) (peer_at a.link) limits (choice_of r) a.asks.octets a.before.clients ≡ AskOutcome.Asked a.accepted
   accepted w n h c s limits r w' a =
       let of : Settings → ℕ → AskOutcome = λ y now. requester_ask y now (peer_at a.link) limits (choice_of r) a.asks.octets a.before.clients in
       subst (λ (y : Settings). of y (here_at n c) ≡ AskOutcome.Asked a.accepted) (h.nodes c a.before a.at).settings
       (subst (λ (y : ℕ). of a.before.settings y ≡ AskOutcome.Asked a.accepted) (sym (ap (λ (y : Clock). y.shows) (h.here c))) a.asks.accepted)
 
-  module _ (w : World) (n : Net) (h : Over links apart W x w n) (c s : ℕ) (limits : Limits) (r : Request) (w' : World) (a : IsAsked w c s limits r w')
+  module _ (w : World) (n : Net) (h : Over links apart W x None w n) (c s : ℕ) (limits : Limits) (r : Request) (w' : World) (a : IsAsked w c s limits r w')
       (p : Parts w n c s limits r w' a) where
     abbrev pub asked_key : Key
     asked_key = key_of c s p.id
@@ -98,8 +99,8 @@ module _ (links : ℕ → Option Octets) (apart : (i j : ℕ) (l : Octets) → l
     abbrev pub asked_net : Net
     asked_net = asked_at x n (key_of c s p.id) (ask_of (here_at n c) (choice_of r) p.whole p.front p.rest)
 
-    pub asked_over : Over links apart W x w' asked_net
-    asked_over = (asks_with links apart W x bound w w' n h c s limits r a (sym (h.linked s) ∙ a.peer) p).bridge
+    pub asked_over : Over links apart W x None w' asked_net
+    asked_over = (asks_with links apart W x None bound w w' n h c s limits r a (sym (h.linked s) ∙ a.peer) p).bridge
 
   -- A copy that is heard.
 
@@ -119,25 +120,25 @@ module _ (links : ℕ → Option Octets) (apart : (i j : ℕ) (l : Octets) → l
     pub acts : Acts w c.to after outcome w'
     pub heard : IsHeardBy (is_from_client p.copy.apdu) (peer_at link) p.copy.apdu (told w c.to) before after outcome
 
-  module _ (w w' : World) (n : Net) (h : Over links apart W x w n) (number : ℕ) (p : Post) (c : Copy) (t : IsTaken w w' n number p c) where
+  module _ (w w' : World) (n : Net) (h : Over links apart W x None w n) (number : ℕ) (p : Post) (c : Copy) (t : IsTaken w w' n number p c) where
     pub comes : Comes x n number p
-    comes = record { at = t.at; arrives = may_arrive W x bound n number p t.young t.few }
+    comes = record { at = t.at; arrives = may_arrive W x None bound n number p t.young t.few }
 
     -- what a server makes of it
     abbrev pub served_reaction : server.Reaction
-    served_reaction = served_so links apart W x n p (service_of t.before.store) t.before.servers
+    served_reaction = served_so links apart W x None n p (service_of t.before.store) t.link t.before.servers
 
     pub record IsServedBy : Type 0 where
       pub node : slice_get w.nodes p.key.server ≡ Some t.before
-      pub over : Over links apart W x w' (server_acts n p.key served_reaction)
+      pub over : Over links apart W x None w' (server_acts n p.key served_reaction)
       pub performed : ArePerformed t.before.store (act_at (slot_key t.link p.key.invoke_id) served_reaction.effect) t.outcome.performed
 
     served_by : (up : Bool) → up ≡ true → is_from_client p.copy.apdu ≡ up → IsBetween up p.key c.from c.to
         → IsHeardBy up (peer_at t.link) p.copy.apdu (told w c.to) t.before t.after t.outcome → IsServedBy
     served_by false is up between turn = absurd cc
     served_by true is up between turn =
-        let s = serves links apart W x bound w w' n h number p c t.at t.copied t.young t.few up between.0 between.1 t.before t.after t.outcome t.node
-        t.link t.from (service_of t.before.store) turn t.acts in
+        let s = serves links apart W x None bound w w' n h number p c t.at t.copied t.young t.few up between.0 between.1 t.before t.after t.outcome t.node
+        t.link t.from (service_of t.before.store) turn (acts_as w w' c.to t.after t.outcome t.acts) in
         record { node = subst (λ (i : ℕ). slice_get w.nodes i ≡ Some t.before) between.1 t.node; over = s.0.bridge; performed = s.1 }
 
     -- by a server
@@ -145,17 +146,17 @@ module _ (links : ℕ → Option Octets) (apart : (i j : ℕ) (l : Octets) → l
     served_over up = served_by (is_from_client p.copy.apdu) up refl t.copied.between t.heard
 
     told_by : (up : Bool) → up ≡ false → is_from_client p.copy.apdu ≡ up → IsBetween up p.key c.from c.to
-        → IsHeardBy up (peer_at t.link) p.copy.apdu (told w c.to) t.before t.after t.outcome → Over links apart W x w' (taken_by_client x n p (n.tickets p.key))
+        → IsHeardBy up (peer_at t.link) p.copy.apdu (told w c.to) t.before t.after t.outcome → Over links apart W x None w' (taken_by_client x n p (n.tickets p.key))
     told_by true is down between turn = absurd cc
     told_by false is down between turn =
-        (hears links apart W x bound readable w w' n h number p c t.at t.copied t.young t.few down between.0 between.1 t.before t.after t.outcome t.node
+        (hears links apart W x None bound readable w w' n h number p c t.at t.copied t.young t.few down between.0 between.1 t.before t.after t.outcome t.node
         t.link t.from turn t.acts).bridge
 
     -- or by a client
-    pub told_over : is_from_client p.copy.apdu ≡ false → Over links apart W x w' (taken_by_client x n p (n.tickets p.key))
+    pub told_over : is_from_client p.copy.apdu ≡ false → Over links apart W x None w' (taken_by_client x n p (n.tickets p.key))
     told_over down = told_by (is_from_client p.copy.apdu) down refl t.copied.between t.heard
 
-  module _ (w w' : World) (n : Net) (h : Over links apart W x w n) (number : ℕ) (c : Copy) (there : slice_get w.copies number ≡ Some c) where
+  module _ (w w' : World) (n : Net) (h : Over links apart W x None w n) (number : ℕ) (c : Copy) (there : slice_get w.copies number ≡ Some c) where
     pub post : IsPaired (IsCopyOf links apart) n.posts number c
     post = pairwise_get (IsCopyOf links apart) n.posts w.copies number c h.posts there
 
@@ -236,13 +237,13 @@ module _ (links : ℕ → Option Octets) (apart : (i j : ℕ) (l : Octets) → l
     -- these events lead there; a client that does not restart in them has restarted as long ago as before
     pub record Followed (events : List Event) (w : World) (n : Net) : Type 0 where
       pub net : Net
-      pub over : Over links apart W x w net
+      pub over : Over links apart W x None w net
       pub path : Path x Q n net
       pub lives : (i : ℕ) → RunsOn i events → net.restarted i ≡ n.restarted i
 
-    same_followed : (events : List Event) (w w' : World) (n : Net) → Over links apart W x w n → w' ≡ w → Followed events w' n
+    same_followed : (events : List Event) (w w' : World) (n : Net) → Over links apart W x None w n → w' ≡ w → Followed events w' n
     same_followed events w w' n h is =
-        record { net = n; over = subst (λ (u : World). Over links apart W x u n) (sym is) h; path = Here; lives = λ i on. refl }
+        record { net = n; over = subst (λ (u : World). Over links apart W x None u n) (sym is) h; path = Here; lives = λ i on. refl }
 
     leads_path : (n m : Net) → Leads x n m → Path x Q n m
     leads_path n _ Leads.Here = Here
@@ -272,7 +273,7 @@ module _ (links : ℕ → Option Octets) (apart : (i j : ℕ) (l : Octets) → l
     leads_lives n _ (Leads.TicksTicketAway m key t before there) i = leads_lives n m before i
 
     -- what a node does with strangers
-    aside : (events : List Event) (w w' : World) (n : Net) → (m : Net) × Goes links apart W x w w' m × IsAside n m → Followed events w' n
+    aside : (events : List Event) (w w' : World) (n : Net) → (m : Net) × Goes links apart W x None w w' m × IsAside n m → Followed events w' n
     aside events w w' n h = record {
       net = h.0;
       over = h.1.bridge;
@@ -280,11 +281,11 @@ module _ (links : ℕ → Option Octets) (apart : (i j : ℕ) (l : Octets) → l
       lives = λ i on. ap (λ (k : Net). k.restarted i) h.2.is;
     }
 
-    dropped : (events : List Event) (w w' : World) (n : Net) → Over links apart W x w n → (i : ℕ) (a b : Node) (o : Outcome) → slice_get w.nodes i ≡ Some a
+    dropped : (events : List Event) (w w' : World) (n : Net) → Over links apart W x None w n → (i : ℕ) (a b : Node) (o : Outcome) → slice_get w.nodes i ≡ Some a
         → Acts w i b o w' → (from octets : Octets) → IsDropped (told w i) from octets a b o → Followed events w' n
     dropped events w w' n h i a b o at acts from octets d = record {
       net = n;
-      over = (quiet links apart W x w w' n h i a b o at acts (ap (λ (y : Outcome). y.performed) d.outcome)
+      over = (quiet links apart W x None w w' n h i a b o at acts (ap (λ (y : Outcome). y.performed) d.outcome)
           (ap (λ (y : Outcome). y.sends) d.outcome) (ap (λ (y : Outcome). y.ended) d.outcome) d.node).bridge;
       path = Here;
       lives = λ j on. refl;
@@ -301,7 +302,7 @@ module _ (links : ℕ → Option Octets) (apart : (i j : ℕ) (l : Octets) → l
     told_lives n p None i = refl
     told_lives n p (Some t) i = refl
 
-    heard : (events : List Event) (w w' : World) (n : Net) (h : Over links apart W x w n) (number : ℕ) → Gives w n (Deliver number) → (p : Post) (c : Copy)
+    heard : (events : List Event) (w w' : World) (n : Net) (h : Over links apart W x None w n) (number : ℕ) → Gives w n (Deliver number) → (p : Post) (c : Copy)
         → IsTaken w w' n number p c → Followed events w' n
     heard events w w' n h number gives p c t = go (is_from_client p.copy.apdu) refl
       where
@@ -310,7 +311,7 @@ module _ (links : ℕ → Option Octets) (apart : (i j : ℕ) (l : Octets) → l
             let s = served_over w w' n h number p c t up in
             let comes_now = comes w w' n h number p c t in
             record {
-              net = server_acts n p.key (served_so links apart W x n p (service_of t.before.store) t.before.servers);
+              net = server_acts n p.key (served_so links apart W x None n p (service_of t.before.store) t.link t.before.servers);
               over = s.over;
               path = subst (λ (b : Bool). Path x Q n (server_acts n p.key (server.server_on_apdu (server_context x p.key (server_now n p.key))
                   (service_of t.before.store) (n.entries p.key) b p.copy.apdu)))
@@ -326,7 +327,7 @@ module _ (links : ℕ → Option Octets) (apart : (i j : ℕ) (l : Octets) → l
           lives = λ i on. told_lives n p (n.tickets p.key) i;
         }
 
-    module _ (events : List Event) (w w' : World) (n : Net) (h : Over links apart W x w n) (number : ℕ) (gives : Gives w n (Deliver number)) (c : Copy)
+    module _ (events : List Event) (w w' : World) (n : Net) (h : Over links apart W x None w n) (number : ℕ) (gives : Gives w n (Deliver number)) (c : Copy)
         (there : slice_get w.copies number ≡ Some c) where
       arrives : w.time.now - c.moment ≤ w.time.pace.life → later c.key number w.copies ≤ x.overtake → Delivers w c w' → Followed events w' n
       arrives young few y = on y.hears.on
@@ -341,7 +342,7 @@ module _ (links : ℕ → Option Octets) (apart : (i j : ℕ) (l : Octets) → l
       delivered true false young few same = same_followed events w w' n h same
       delivered true true young few y = arrives (grind (arith, nat_tests)) (grind (arith, nat_tests)) y
 
-    noise : (events : List Event) (w w' : World) (n : Net) → Over links apart W x w n → (i : ℕ) (from octets : Octets) → HearsNoise w i from octets w'
+    noise : (events : List Event) (w w' : World) (n : Net) → Over links apart W x None w n → (i : ℕ) (from octets : Octets) → HearsNoise w i from octets w'
         → Followed events w' n
     noise events w w' n h i from octets d = on d.hears.on
       where
@@ -349,16 +350,17 @@ module _ (links : ℕ → Option Octets) (apart : (i j : ℕ) (l : Octets) → l
         on (inl z) = dropped events w w' n h i d.hears.before d.hears.after d.hears.outcome d.hears.at d.hears.acts from octets z
         on (inr z) = absurd (d.meaningless z.peer z.apdu z.means)
 
-    stray : (events : List Event) (w w' : World) (n : Net) → Over links apart W x w n → (i : ℕ) (from octets : Octets) → HearsStranger w i from octets w'
+    stray : (events : List Event) (w w' : World) (n : Net) → Over links apart W x None w n → (i : ℕ) (from octets : Octets) → HearsStranger w i from octets w'
         → Followed events w' n
     stray events w w' n h i from octets d = on d.hears.on
       where
         on : NodeOn (told w i) from octets d.hears.before d.hears.after d.hears.outcome → Followed events w' n
         on (inl z) = dropped events w w' n h i d.hears.before d.hears.after d.hears.outcome d.hears.at d.hears.acts from octets z
-        on (inr z) = aside events w w' n (hears_stranger links apart W x bound readable w w' n h i from d.stranger d.hears.before d.hears.after
-            d.hears.outcome d.hears.at d.hears.acts octets z)
+        on (inr z) = aside events w w' n (hears_stranger links apart W x None bound readable w w' n h i from d.stranger d.hears.before d.hears.after
+            d.hears.outcome d.hears.at (acts_as w w' i d.hears.after d.hears.outcome d.hears.acts) octets
+            (heard_as (told w i) from octets d.hears.before d.hears.after d.hears.outcome z))
 
-    asks : (events : List Event) (w w' : World) (n : Net) → Over links apart W x w n → (c s : ℕ) (limits : Limits) (r : Request) → IsAsked w c s limits r w'
+    asks : (events : List Event) (w w' : World) (n : Net) → Over links apart W x None w n → (c s : ℕ) (limits : Limits) (r : Request) → IsAsked w c s limits r w'
         → Followed events w' n
     asks events w w' n h c s limits r a =
         let p = accepted_is (x.settings c) (here_at n c) (peer_at a.link) (choice_of r) a.asks.octets a.before.clients a.accepted limits
@@ -379,11 +381,11 @@ module _ (links : ℕ → Option Octets) (apart : (i j : ℕ) (l : Octets) → l
         go true e = let same : node ≡ i = grind (arith, nat_tests) in absurd (other same)
         go false e = refl
 
-    pub step_followed : (w w' : World) (n : Net) → Over links apart W x w n → (e : Event) → Gives w n e → WorldStep x.overtake w e w' → Followed (e ∷ []) w' n
+    pub step_followed : (w w' : World) (n : Net) → Over links apart W x None w n → (e : Event) → Gives w n e → WorldStep x.overtake w e w' → Followed (e ∷ []) w' n
     step_followed w w' n h (Ask c s limits r) gives (inl a) = asks (Ask c s limits r ∷ []) w w' n h c s limits r a
     step_followed w w' n h (Ask c s limits r) gives (inr a) = same_followed (Ask c s limits r ∷ []) w w' n h a.same
     step_followed w w' n h (AskAway c peer limits r) gives (inl a) =
-        aside (AskAway c peer limits r ∷ []) w w' n (asks_away_over links apart W x bound w w' n h c peer limits r a)
+        aside (AskAway c peer limits r ∷ []) w w' n (asks_away_over links apart W x None bound w w' n h c peer limits r a)
     step_followed w w' n h (AskAway c peer limits r) gives (inr a) = same_followed (AskAway c peer limits r ∷ []) w w' n h a.same
     step_followed w w' n h (Deliver number) gives d = delivered (Deliver number ∷ []) w w' n h number gives d.copy d.there
         (nat_le (w.time.now - d.copy.moment) w.time.pace.life) (nat_le (later d.copy.key number w.copies) x.overtake) refl refl d.goes
@@ -392,35 +394,35 @@ module _ (links : ℕ → Option Octets) (apart : (i j : ℕ) (l : Octets) → l
     step_followed w w' n h (Stray node from octets) gives (inl d) = stray (Stray node from octets ∷ []) w w' n h node from octets d
     step_followed w w' n h (Stray node from octets) gives (inr d) = same_followed (Stray node from octets ∷ []) w w' n h d.same
     step_followed w w' n h (Tick node) gives d = record {
-      net = (tick_over links apart W x bound w w' n h node d).0;
-      over = (tick_over links apart W x bound w w' n h node d).1.bridge;
-      path = leads_path n (tick_over links apart W x bound w w' n h node d).0 (tick_leads links apart W x bound w w' n h node d);
-      lives = λ i on. leads_lives n (tick_over links apart W x bound w w' n h node d).0 (tick_leads links apart W x bound w w' n h node d) i;
+      net = (tick_over links apart W x None bound w w' n h node d).0;
+      over = (tick_over links apart W x None bound w w' n h node d).1.bridge;
+      path = leads_path n (tick_over links apart W x None bound w w' n h node d).0 (tick_leads links apart W x None bound w w' n h node d);
+      lives = λ i on. leads_lives n (tick_over links apart W x None bound w w' n h node d).0 (tick_leads links apart W x None bound w w' n h node d) i;
     }
     step_followed w w' n h (Advance by own) gives is = record {
       net = machine.passes n by own own;
-      over = subst (λ (u : World). Over links apart W x u (machine.passes n by own own)) (sym is)
-          (advanced_over links apart W x bound readable w n h by own);
+      over = subst (λ (u : World). Over links apart W x None u (machine.passes n by own own)) (sym is)
+          (advanced_over links apart W x None bound readable w n h by own);
       path = Then n (machine.passes n by own own) Here (Step.Passes by own own);
       lives = λ i on. refl;
     }
     step_followed w w' n h (Change node change) gives s = record {
       net = notes_change n node [];
-      over = changed_over links apart W x bound readable w w' n h node change s;
+      over = changed_over links apart W x None bound readable w w' n h node change s;
       path = Then n (notes_change n node []) Here (Step.Changes node []);
       lives = λ i on. refl;
     }
     step_followed w w' n h (Restart node exact store) gives s = record {
       net = restarted_net n node exact;
-      over = restarted_over links apart W x bound w w' n h node exact store s;
+      over = restarted_over links apart W x None bound w w' n h node exact store s;
       path = Then (client_restarted n node exact) (restarted_net n node exact) (Then n (client_restarted n node exact) Here (Step.RestartsClient node exact))
           (Step.RestartsServer node exact None);
       lives = λ i on. restart_lives n node exact i on.0;
     }
 
     -- and every run, where what is said of its events gives that
-    module _ (P : World → Event → Type 0) (so : (w : World) (n : Net) → Over links apart W x w n → (e : Event) → P w e → Gives w n e) where
-      pub run_followed : (events : List Event) (w w' : World) (n : Net) → Over links apart W x w n → (run : WorldRun x.overtake w events w')
+    module _ (P : World → Event → Type 0) (so : (w : World) (n : Net) → Over links apart W x None w n → (e : Event) → P w e → Gives w n e) where
+      pub run_followed : (events : List Event) (w w' : World) (n : Net) → Over links apart W x None w n → (run : WorldRun x.overtake w events w')
           → Throughout x.overtake P w events w' run → Followed events w' n
       run_followed [] w w' n h run each = same_followed [] w w' n h run
       run_followed (e ∷ es) w w' n h run each =

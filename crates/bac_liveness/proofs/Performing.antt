@@ -48,7 +48,7 @@ is_none now (Some e) h = go (is_live now e) h
     go false h = refl
 
 module _ (links : ℕ → Option Octets) (apart : (i j : ℕ) (l : Octets) → links i ≡ Some l → links j ≡ Some l → i ≡ j) (W : ℕ) (x : Rules)
-    (bound : claims.IsBounded W x) (readable : x.readable ≡ reads_reply) (old : World) (n : Net) (h : Over links apart W x old n)
+    (bound : claims.IsBounded W x) (readable : x.readable ≡ reads_reply) (old : World) (n : Net) (h : Over links apart W x None old n)
     (c s : ℕ) (limits : Limits) (r : Request) (asked : World) (a : IsAsked old c s limits r asked)
     (p : Parts links apart W x bound readable old n c s limits r asked a) where
   abbrev its_key : Key
@@ -63,7 +63,7 @@ module _ (links : ℕ → Option Octets) (apart : (i j : ℕ) (l : Octets) → l
   client_settings : a.before.settings ≡ x.settings c
   client_settings = (h.nodes c a.before a.at).settings
 
-  module _ (w : World) (m : Net) (over : Over links apart W x w m) (node : Node) (at : slice_get w.nodes s ≡ Some node) where
+  module _ (w : World) (m : Net) (over : Over links apart W x None w m) (node : Node) (at : slice_get w.nodes s ≡ Some node) where
     fits : NodeFits links apart x (here_at m s) (there_at m s) w.notes m s node
     fits = over.nodes s node at
 

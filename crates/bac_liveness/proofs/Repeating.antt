@@ -73,7 +73,7 @@ effect_kind readable store q choice text reply (Some v) done is = subst (λ z. K
     (reply_kind choice text store v.request reply v.reply done.what.request done.what.reply done.what.means)
 
 module _ (links : ℕ → Option Octets) (apart : (i j : ℕ) (l : Octets) → links i ≡ Some l → links j ≡ Some l → i ≡ j) (W : ℕ) (x : Rules)
-    (bound : claims.IsBounded W x) (readable : x.readable ≡ reads_reply) (opening : Stores) (old : World) (n : Net) (h : Over links apart W x old n)
+    (bound : claims.IsBounded W x) (readable : x.readable ≡ reads_reply) (opening : Stores) (old : World) (n : Net) (h : Over links apart W x None old n)
     (c s : ℕ) (limits : Limits) (r : Request) (asked : World) (a : IsAsked old c s limits r asked)
     (p : Parts links apart W x bound readable old n c s limits r asked a) (whole : p.whole ≡ true)
     (once : (events : List Event) (w : World) → WorldRun x.overtake asked events w → IsOnce opening w.log (stores_of w.nodes)) where
@@ -103,7 +103,7 @@ module _ (links : ℕ → Option Octets) (apart : (i j : ℕ) (l : Octets) → l
 
   -- A copy of the request that comes finds its server.
 
-  module _ (w w' : World) (m : Net) (over : Over links apart W x w m) (number : ℕ) (y : Post) (d : Copy)
+  module _ (w w' : World) (m : Net) (over : Over links apart W x None w m) (number : ℕ) (y : Post) (d : Copy)
       (t : IsTaken links apart W x bound readable w w' m number y d) (is : y.key ≡ its_key) (apdu : y.copy.apdu ≡ request_to x its_key its_ask) where
     so : IsServedBy links apart W x bound readable w w' m over number y d t
     so = served_over links apart W x bound readable w w' m over number y d t (ap is_from_client apdu)
@@ -139,7 +139,7 @@ module _ (links : ℕ → Option Octets) (apart : (i j : ℕ) (l : Octets) → l
         performed = subst (λ (v : server.Reaction). ArePerformed t.before.store (act_at (slot_key t.link y.key.invoke_id) v.effect) t.outcome.performed)
             reaction_is so.performed
 
-  gives : (w : World) (m : Net) → Over links apart W x w m → (e : Event) → Finding w e → Gives links apart W x bound readable Goes w m e
+  gives : (w : World) (m : Net) → Over links apart W x None w m → (e : Event) → Finding w e → Gives links apart W x bound readable Goes w m e
   gives w m over (Event.Ask client server' limits' r') f = tt
   gives w m over (Event.AskAway client peer limits' r') f = tt
   gives w m over (Deliver number) f = λ w' y d t up on none.
@@ -173,7 +173,7 @@ module _ (links : ℕ → Option Octets) (apart : (i j : ℕ) (l : Octets) → l
   followed events w run each = run_followed links apart W x bound readable Goes Finding gives events asked w first
       (made_over links apart W x bound readable old n h c s limits r asked a p) run each
 
-  wait_limit : (w : World) (m : Net) → Over links apart W x w m → told w c < told old c + PATIENCE → client_now m its_key < its_ask.first + PATIENCE
+  wait_limit : (w : World) (m : Net) → Over links apart W x None w m → told w c < told old c + PATIENCE → client_now m its_key < its_ask.first + PATIENCE
   wait_limit w m over young =
       let one : here_at m c ≡ told w c = ap (λ (y : Clock). y.shows) (over.here c) in
       let two : here_at n c ≡ told old c = ap (λ (y : Clock). y.shows) (h.here c) in
@@ -194,7 +194,7 @@ module _ (links : ℕ → Option Octets) (apart : (i j : ℕ) (l : Octets) → l
   on_of events w f life young = on_soon events w f (soon_of f.net its_key its_ask.first n.now (asked_in events w f) (lives events w f life)
       (let lt = wait_limit w f.net f.over young in omega arith))
 
-  soon_in : (w : World) (m : Net) → Over links apart W x w m → IsSoon old w → SoonIn m n.now
+  soon_in : (w : World) (m : Net) → Over links apart W x None w m → IsSoon old w → SoonIn m n.now
   soon_in w m over soon = subst (λ (q : Pace). m.now ≤ n.now + most q DEADLINE) (sym over.pace)
       (let one = over.now in let two = h.now in let le = soon in omega arith)
 
@@ -202,13 +202,13 @@ module _ (links : ℕ → Option Octets) (apart : (i j : ℕ) (l : Octets) → l
   spelled = subst (λ (z : Octets). SpellsRequest (choice_of r) r z) (sym p.joined) a.asks.spelled
 
   -- as a value
-  answered_as : (w : World) (m : Net) (log : List octets.Fact) → Pairwise FactMeans log w.log → IsOnce opening w.log (stores_of w.nodes)
+  answered_as : (w : World) (m : Net) (log : List octets.Fact) → Pairwise (FactMeans None) log w.log → IsOnce opening w.log (stores_of w.nodes)
       → machine.IsAnswered n.asks its_ask log → IsAnswered (length old.notes) r w.log
   answered_as w m log means right k = subst (λ (i : ℕ). IsAnswered i r w.log) h.asks
       (answered_values opening (stores_of w.nodes) n.asks (request_of its_ask) k.0 log w.log means right k.1 r spelled k.2)
 
   -- the ticket at its client
-  waiting : (w : World) (m : Net) → Over links apart W x w m → client_now m its_key < its_ask.first + PATIENCE → (o : On m) → (t : ClientTransaction)
+  waiting : (w : World) (m : Net) → Over links apart W x None w m → client_now m its_key < its_ask.first + PATIENCE → (o : On m) → (t : ClientTransaction)
       → m.tickets its_key ≡ Some t
       → t.phase ≡ AwaitConfirmation → (T_OUT ≤ client_now m its_key - t.since → 0 < t.repeats) → IsWaiting w c a.link a.accepted.invoke_id
   waiting w m over young o t at waits left = go (value_at same_key (slot_key a.link p.id) node.0.clients.slots) refl
@@ -258,7 +258,7 @@ module _ (links : ℕ → Option Octets) (apart : (i j : ℕ) (l : Octets) → l
 
   -- A copy of the request brings an answer.
 
-  module _ (w served : World) (m : Net) (over : Over links apart W x w m) (on : On m) (soon : SoonIn m n.now)
+  module _ (w served : World) (m : Net) (over : Over links apart W x None w m) (on : On m) (soon : SoonIn m n.now)
       (number : ℕ) (d : Copy) (may : MayArrive x.overtake w number d) (q : IsRequest a.sent d) (f : Finding w (Deliver number))
       (did : WorldStep x.overtake w (Deliver number) served) where
     abbrev y : IsPaired (IsCopyOf links apart) m.posts number d
@@ -313,7 +313,7 @@ module _ (links : ℕ → Option Octets) (apart : (i j : ℕ) (l : Octets) → l
 
   -- An answer is delivered.
 
-  module _ (events : List Event) (w answered : World) (run : WorldRun x.overtake asked events w) (m : Net) (over : Over links apart W x w m)
+  module _ (events : List Event) (w answered : World) (run : WorldRun x.overtake asked events w) (m : Net) (over : Over links apart W x None w m)
       (kept : StaysSince m its_key n.now) (on : On m) (young : client_now m its_key < its_ask.first + PATIENCE) (number : ℕ) (d : Copy)
       (may : MayArrive x.overtake w number d)
       (from : IsFromServer c s a.accepted.invoke_id d) (did : WorldStep x.overtake w (Deliver number) answered) where
@@ -340,11 +340,11 @@ module _ (links : ℕ → Option Octets) (apart : (i j : ℕ) (l : Octets) → l
     abbrev hears : ClientTransaction → Apdu → client.Reaction
     hears t y = client.client_on_apdu (client_context x its_key (client_now m its_key)) x.readable t y
 
-    last_over : Over links apart W x answered (client_acts m its_key on.ticket.ticket (hears on.ticket.ticket (answer_to x its_key its_ask fine.0)))
-    last_over = subst (λ (y : Apdu). Over links apart W x answered (client_acts m its_key on.ticket.ticket (hears on.ticket.ticket y))) fine.1
-        (subst (λ (k : Key). Over links apart W x answered (client_acts m k on.ticket.ticket
+    last_over : Over links apart W x None answered (client_acts m its_key on.ticket.ticket (hears on.ticket.ticket (answer_to x its_key its_ask fine.0)))
+    last_over = subst (λ (y : Apdu). Over links apart W x None answered (client_acts m its_key on.ticket.ticket (hears on.ticket.ticket y))) fine.1
+        (subst (λ (k : Key). Over links apart W x None answered (client_acts m k on.ticket.ticket
         (client.client_on_apdu (client_context x k (client_now m k)) x.readable on.ticket.ticket z.other.copy.apdu))) key_is
-        (subst (λ (o : Option ClientTransaction). Over links apart W x answered (taken_by_client x m z.other o)) (ap m.tickets key_is ∙ on.ticket.at)
+        (subst (λ (o : Option ClientTransaction). Over links apart W x None answered (taken_by_client x m z.other o)) (ap m.tickets key_is ∙ on.ticket.at)
         (told_over links apart W x bound readable w answered m over number z.other d heard down)))
 
     abbrev log_after : ℕ → List octets.Fact
@@ -377,7 +377,7 @@ repeats_suffice W overtake opening reached fresh timely bounded events run c s l
     let x : Rules = rules_of overtake opening in
     let bound = rules_bounded W overtake opening bounded in
     let f = on_run links fresh.apart W x bound refl events opening reached (opened_net opening)
-    (fresh_over W overtake opening fresh timely bounded) run in
+    (fresh_over None W overtake opening fresh timely bounded) run in
     let p = accepted_whole (x.settings c) (here_at f.net c) (peer_at a.link) (choice_of r) a.asks.octets a.before.clients a.accepted limits
     (accepted links fresh.apart W x bound refl reached f.net f.over c s limits r asked a)
     (subst (λ (z : Settings). request_way_of z limits a.asks.octets ≡ InOne) (f.over.nodes c a.before a.at).settings in_one) in

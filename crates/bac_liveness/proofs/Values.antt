@@ -1,4 +1,5 @@
 -- What a log of octets says of an ask, as values.
+use Rattle.std.specs.Prelude.{None}
 use Rattle.std.proofs.Common.{◌≡◌, ℕ, true, List, [], ◌∷◌, refl, sym, ap, subst, inl, inr, ◌∙◌}
 use Rattle.bac_service.specs.Values.{Request, Complex, choice_of, complex_choice_of}
 use Rattle.bac_service.specs.Values.Complex.{FileRead, StreamWritten, RecordsWritten, PropertyRead}
@@ -140,14 +141,14 @@ answered_with opening stores n p (Ended m Expired ∷ log) once (inl e) = absurd
 -- Between the logs.
 
 -- an answer in octets is one as a value
-answered_as : (n : ℕ) (p : machine.Reply) (log : List octets.Fact) (values : List Fact) → Pairwise FactMeans log values
+answered_as : (n : ℕ) (p : machine.Reply) (log : List octets.Fact) (values : List Fact) → Pairwise (FactMeans None) log values
     → octets.Has (octets.Fact.Ended n (machine.Ending.Answered p)) log → (v : plain.Reply) × Has (Ended n (Answered v)) values
 answered_as n p [] values h k = absurd k
 answered_as n p (f ∷ log) [] h k = absurd h
 answered_as n p (f ∷ log) (v ∷ values) h (inr k) = let again = answered_as n p log values h.1 k in (again.0, inr again.1)
-answered_as n p (f ∷ log) (v ∷ values) h (inl e) = go v (subst (λ (g : octets.Fact). FactMeans g v) e h.0)
+answered_as n p (f ∷ log) (v ∷ values) h (inl e) = go v (subst (λ (g : octets.Fact). FactMeans None g v) e h.0)
   where
-    go : (v : Fact) → FactMeans (octets.Fact.Ended n (machine.Ending.Answered p)) v → (y : plain.Reply) × Has (Ended n (Answered y)) (v ∷ values)
+    go : (v : Fact) → FactMeans None (octets.Fact.Ended n (machine.Ending.Answered p)) v → (y : plain.Reply) × Has (Ended n (Answered y)) (v ∷ values)
     go (Asked m d u r) h = absurd h
     go (Performed m r y) h = absurd h
     go (Changed i c) h = absurd h
@@ -188,12 +189,12 @@ reply_kind choice text s r p v spelled by means = go p v means fits
     go (machine.Reply.Complex bytes) (plain.Reply.Reject a) m f = absurd m
 
 module _ (opening stores : Stores) (n : ℕ) (q : machine.Request) (p : machine.Reply) (log : List octets.Fact) (values : List Fact)
-    (means : Pairwise FactMeans log values) (once : IsOnce opening values stores) (performed : octets.Has (octets.Fact.Performed n q p) log) where
+    (means : Pairwise (FactMeans None) log values) (once : IsOnce opening values stores) (performed : octets.Has (octets.Fact.Performed n q p) log) where
   -- performed and answered
   pub answered_values : (r : Request) → SpellsRequest q.choice r q.service → octets.Has (octets.Fact.Ended n (machine.Ending.Answered p)) log
       → IsAnswered n r values
   answered_values r spelled ended =
-      let was = performed_as n q p log values means performed in
+      let was = performed_as None n q p log values means performed in
       let now = answered_as n p log values means ended in
       let by = answered_with opening stores n now.0 values once now.1 in
       let same : now.0 ≡ was.reply = performed_once opening stores n by.0 was.request now.0 was.reply values once by.1 was.has in
@@ -206,6 +207,6 @@ module _ (opening stores : Stores) (n : ℕ) (q : machine.Request) (p : machine.
   -- the reply is of the kind of the service choice, and can be read
   pub kind_fits : KindFits reads_reply q.choice p
   kind_fits =
-      let was = performed_as n q p log values means performed in
+      let was = performed_as None n q p log values means performed in
       let by = performed_by_store opening stores n was.request was.reply values once was.has in
       reply_kind q.choice q.service by.0 was.request p was.reply was.spelled by.1 was.means

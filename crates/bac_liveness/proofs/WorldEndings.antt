@@ -23,7 +23,7 @@ use Rattle.bac_protocol.specs.Pace.{Clock, IsTimely}
 use Rattle.bac_protocol.proofs.Keys.{copy_at}
 use Rattle.bac_protocol.proofs.Sound.{Up, Down, Says}
 use Rattle.bac_protocol.proofs.Nets.{sound_at}
-use Rattle.bac_protocol.proofs.SingleMoves.{reached_net}
+use Rattle.bac_protocol.proofs.SingleMoves.{in_order, reached_net}
 use Rattle.bac_slots.specs.Slots.{value_at}
 use Rattle.bac_transaction.specs.Keys.{PeerKey, same_key}
 use Rattle.bac_transaction.specs.Sends.{Pairwise}
@@ -35,7 +35,6 @@ use Rattle.bac_world.specs.Once.{Fact}
 use Rattle.bac_world.specs.Once.Fact.{Asked, Performed, Ended, Changed, Restarted, Served, AskedAway, EndedAway}
 use Rattle.bac_world.specs.World.{World, Copy, Event, WorldStep, WorldRun, IsFresh, IsBounded, IsAsked, Ticks, RunsOn, told, link_at, peer_at}
 use Rattle.bac_world.specs.World.Event.{Deliver, Tick}
-use Rattle.bac_world.proofs.Machines.{orderly}
 use Rattle.bac_world.proofs.Logs.{FactMeans}
 use Rattle.bac_world.proofs.Bridge.{here_at, IsCopyOf, IsBetween, TicketFits, key_of, slot_key}
 use Rattle.bac_world.proofs.Pairs.{IsPaired}
@@ -76,13 +75,13 @@ on_then i (Event.Restart node exact store ∷ es) fs h k = (h.0, on_then i es fs
 
 -- Endings are counted alike in a log of octets and in the same log as values.
 
-pub endings_alike : (n : ℕ) (log : List octets.Fact) (values : List Fact) → Pairwise FactMeans log values → endings_of n values ≡ net.endings_of n log
+pub endings_alike : (n : ℕ) (log : List octets.Fact) (values : List Fact) → Pairwise (FactMeans None) log values → endings_of n values ≡ net.endings_of n log
 endings_alike n [] [] h = refl
 endings_alike n [] (v ∷ values) h = absurd h
 endings_alike n (f ∷ log) [] h = absurd h
 endings_alike n (f ∷ log) (v ∷ values) h = go f v h.0 (endings_alike n log values h.1)
   where
-    go : (f : octets.Fact) (v : Fact) → FactMeans f v → endings_of n values ≡ net.endings_of n log
+    go : (f : octets.Fact) (v : Fact) → FactMeans None f v → endings_of n values ≡ net.endings_of n log
         → endings_of n (v ∷ values) ≡ net.endings_of n (f ∷ log)
     go (octets.Fact.Asked m c s q) (Asked k d u r) h again = again
     go (octets.Fact.Performed m q p) (Performed k r v) h again = again
@@ -210,21 +209,21 @@ module _ (links : ℕ → Option Octets) (apart : (i j : ℕ) (l : Octets) → l
   gives_any w n (Event.Change node change) = tt
   gives_any w n (Event.Restart node exact store) = tt
 
-  pub on_run : (events : List Event) (w w' : World) (n : Net) → Over links apart W x w n → WorldRun x.overtake w events w'
+  pub on_run : (events : List Event) (w w' : World) (n : Net) → Over links apart W x None w n → WorldRun x.overtake w events w'
       → Followed links apart W x bound readable Any events w' n
   on_run events w w' n h run = run_followed links apart W x bound readable Any (λ (u : World) (e : Event). Unit {0}) (λ u m over e y. gives_any u m e)
       events w w' n h run (each_any events w w' run)
 
-  pub on_step : (w w' : World) (n : Net) → Over links apart W x w n → (e : Event) → WorldStep x.overtake w e w'
+  pub on_step : (w w' : World) (n : Net) → Over links apart W x None w n → (e : Event) → WorldStep x.overtake w e w'
       → Followed links apart W x bound readable Any (e ∷ []) w' n
   on_step w w' n h e did = step_followed links apart W x bound readable Any w w' n h e (gives_any w n e) did
 
-  pub once_in : (w : World) (n : Net) → Over links apart W x w n → (number : ℕ) → HasEnded number n.log → endings_of number w.log ≡ 1
+  pub once_in : (w : World) (n : Net) → Over links apart W x None w n → (number : ℕ) → HasEnded number n.log → endings_of number w.log ≡ 1
   once_in w n h number ended =
-      endings_alike number n.log w.log h.log ∙ ended_once number n.log (orderly W x bound n h.sound) ended
+      endings_alike number n.log w.log h.log ∙ ended_once number n.log (in_order W x bound h.sound.0 h.sound.2 h.sound.1 n h.sound.3).orderly ended
 
   -- an ask that is still open was made no longer than DEADLINE before
-  open_in_time : (w w' : World) (n : Net) → Over links apart W x w' n → (client : ℕ) (did : Ticks w client w')
+  open_in_time : (w w' : World) (n : Net) → Over links apart W x None w' n → (client : ℕ) (did : Ticks w client w')
       → (key : Key) → key.client ≡ client → (t : ClientTransaction) → n.tickets key ≡ Some t → is_idle t.phase ≡ false
       → (l : Octets) → links key.server ≡ Some l → told w client - t.ask.first ≤ DEADLINE
   open_in_time w w' n h client did key is t at going l link = go (value_at same_key (slot_key l key.invoke_id) did.after.clients.slots) refl
@@ -255,7 +254,7 @@ module _ (links : ℕ → Option Octets) (apart : (i j : ℕ) (l : Octets) → l
 
   -- The next ask.
 
-  module _ (old : World) (n : Net) (h : Over links apart W x old n) (logged : IdleIsLogged n) (c s : ℕ) (limits : Limits) (r : Request) (asked : World)
+  module _ (old : World) (n : Net) (h : Over links apart W x None old n) (logged : IdleIsLogged n) (c s : ℕ) (limits : Limits) (r : Request) (asked : World)
       (a : IsAsked old c s limits r asked) where
     parts : Parts links apart W x bound readable old n c s limits r asked a
     parts = accepted_is (x.settings c) (here_at n c) (peer_at a.link) (choice_of r) a.asks.octets a.before.clients a.accepted limits
@@ -275,7 +274,7 @@ module _ (links : ℕ → Option Octets) (apart : (i j : ℕ) (l : Octets) → l
         → Followed links apart W x bound readable Any events w first
     followed events w run = on_run events asked w first (made_over links apart W x bound readable old n h c s limits r asked a parts) run
 
-    once : (w : World) (m : Net) → Over links apart W x w m → HasEnded n.asks m.log → endings_of (length old.notes) w.log ≡ 1
+    once : (w : World) (m : Net) → Over links apart W x None w m → HasEnded n.asks m.log → endings_of (length old.notes) w.log ≡ 1
     once w m over ended = subst (λ (k : ℕ). endings_of k w.log ≡ 1) h.asks (once_in w m over n.asks ended)
 
     before : (events : List Event) (w : World) → WorldRun x.overtake asked events w → endings_of (length old.notes) w.log ≤ 1
@@ -341,7 +340,7 @@ module _ (links : ℕ → Option Octets) (apart : (i j : ℕ) (l : Octets) → l
             (inl (there links apart W x bound readable old n h c s limits r asked a parts Any)))
 
     -- a copy of its server's that is heard
-    module _ (w answered : World) (m : Net) (over : Over links apart W x w m) (late : DEADLINE < told w c - told old c) (number : ℕ) (d : Copy)
+    module _ (w answered : World) (m : Net) (over : Over links apart W x None w m) (late : DEADLINE < told w c - told old c) (number : ℕ) (d : Copy)
         (may : MayArrive x.overtake w number d) (from : IsFromServer c s a.accepted.invoke_id d) (did : WorldStep x.overtake w (Deliver number) answered)
         (t : IsThere x Any asks_key n.asks its_ask n.now m) (going : is_idle t.ticket.phase ≡ false) where
       abbrev z : IsPaired (IsCopyOf links apart) m.posts number d
@@ -381,8 +380,8 @@ module _ (links : ℕ → Option Octets) (apart : (i j : ℕ) (l : Octets) → l
       abbrev turn : Reaction
       turn = client.client_on_apdu (client_context x z.other.key (client_now m z.other.key)) x.readable t.ticket z.other.copy.apdu
 
-      told_so : Over links apart W x answered (client_acts m z.other.key t.ticket turn)
-      told_so = subst (λ (o : Option ClientTransaction). Over links apart W x answered (taken_by_client x m z.other o)) at
+      told_so : Over links apart W x None answered (client_acts m z.other.key t.ticket turn)
+      told_so = subst (λ (o : Option ClientTransaction). Over links apart W x None answered (taken_by_client x m z.other o)) at
           (told_over links apart W x bound readable w answered m over number z.other d heard down)
 
       expires : turn ≡ Ends [] Ending.Expired
@@ -422,7 +421,7 @@ module _ (links : ℕ → Option Octets) (apart : (i j : ℕ) (l : Octets) → l
         then : Followed links apart W x bound readable Any (Deliver number ∷ []) answered f.net
         then = on_step late answered f.net f.over (Deliver number) did
 
-        conclude : (m : Net) → Over links apart W x answered m → HasEnded n.asks m.log → endings_of (length old.notes) w.log ≡ 1
+        conclude : (m : Net) → Over links apart W x None answered m → HasEnded n.asks m.log → endings_of (length old.notes) w.log ≡ 1
         conclude m o ended =
             let last = on_run after answered w m o run' in
             once w last.net last.over (ended_grows n.asks m.log last.net.log (path_log x Any m last.net last.path) ended)
@@ -457,6 +456,6 @@ asks_end W overtake opening reached fresh timely bounded events run c s limits r
     let links : ℕ → Option Octets = link_at opening.nodes in
     let x : Rules = rules_of overtake opening in
     let bound = rules_bounded W overtake opening bounded in
-    let f = on_run links fresh.apart W x bound refl events opening reached (opened_net opening) (fresh_over W overtake opening fresh timely bounded) run in
+    let f = on_run links fresh.apart W x bound refl events opening reached (opened_net opening) (fresh_over None W overtake opening fresh timely bounded) run in
     ends links fresh.apart W x bound refl reached f.net f.over
     (logged_path x Any (opened_net opening) f.net f.path (opened_bounded opening) (λ key t at stays. absurd cc)) c s limits r asked a

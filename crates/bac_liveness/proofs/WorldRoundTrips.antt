@@ -1,4 +1,5 @@
 -- One round trip suffices, in every world.
+use Rattle.std.specs.Prelude.{None}
 use Rattle.std.proofs.Common.{◌≡◌, ℕ, ◌-◌, ◌≤◌, Bool, true, false, List, [], ◌∷◌, ◌++◌, length, Option, Some, slice_get, refl, sym, ap, subst, inl, inr, ◌∙◌}
 use Rattle.std.proofs.Common.{arith}
 use Rattle.bac_apdu.specs.Apdu.{Apdu, Limits}
@@ -58,7 +59,7 @@ use Rattle.bac_liveness.proofs.Performing.{way, does, reaction}
 use Rattle.bac_liveness.proofs.Values.{answered_values, kind_fits}
 
 module _ (links : ℕ → Option Octets) (apart : (i j : ℕ) (l : Octets) → links i ≡ Some l → links j ≡ Some l → i ≡ j) (W : ℕ) (x : Rules)
-    (bound : claims.IsBounded W x) (readable : x.readable ≡ reads_reply) (opening : Stores) (old : World) (n : Net) (h : Over links apart W x old n)
+    (bound : claims.IsBounded W x) (readable : x.readable ≡ reads_reply) (opening : Stores) (old : World) (n : Net) (h : Over links apart W x None old n)
     (logged : IdleIsLogged n) (c s : ℕ) (limits : Limits) (r : Request) (asked : World) (a : IsAsked old c s limits r asked)
     (p : Parts links apart W x bound readable old n c s limits r asked a) (whole : p.whole ≡ true)
     (once : (events : List Event) (w : World) → WorldRun x.overtake asked events w → IsOnce opening w.log (stores_of w.nodes)) where
@@ -79,7 +80,7 @@ module _ (links : ℕ → Option Octets) (apart : (i j : ℕ) (l : Octets) → l
   abbrev IsOpenIn : Net → Type 0
   IsOpenIn m = (t : IsThere x Any its_key n.asks its_ask n.now m) × (is_idle t.ticket.phase ≡ false)
 
-  unended_open : (w : World) (m : Net) → Over links apart W x w m → StaysSince m its_key n.now → endings_of (length old.notes) w.log ≡ 0
+  unended_open : (w : World) (m : Net) → Over links apart W x None w m → StaysSince m its_key n.now → endings_of (length old.notes) w.log ≡ 0
       → IdleIsLogged m → IsThere x Any its_key n.asks its_ask n.now m → IsOpenIn m
   unended_open w m over life none log t = go (is_idle t.ticket.phase) refl
     where
@@ -93,7 +94,7 @@ module _ (links : ℕ → Option Octets) (apart : (i j : ℕ) (l : Octets) → l
           omega arith
           )
 
-  open_in : (w : World) (m : Net) → Path x Any first m → Over links apart W x w m → StaysSince m its_key n.now
+  open_in : (w : World) (m : Net) → Path x Any first m → Over links apart W x None w m → StaysSince m its_key n.now
       → endings_of (length old.notes) w.log ≡ 0 → IsOpenIn m
   open_in w m path over life none = go (tracked_path x its_key n.asks its_ask n.now first m path
       (made_bounded links apart W x bound readable old n h c s limits r asked a p) life
@@ -117,7 +118,7 @@ module _ (links : ℕ → Option Octets) (apart : (i j : ℕ) (l : Octets) → l
   -- A copy of the request is performed.
 
   module _ (before : List Event) (w served : World) (run : WorldRun x.overtake asked before w) (m : Net) (path : Path x Any first m)
-      (lives : m.restarted c ≡ n.restarted c) (over : Over links apart W x w m) (t : IsThere x Any its_key n.asks its_ask n.now m) (number : ℕ) (d : Copy)
+      (lives : m.restarted c ≡ n.restarted c) (over : Over links apart W x None w m) (t : IsThere x Any its_key n.asks its_ask n.now m) (number : ℕ) (d : Copy)
       (may : MayArrive x.overtake w number d) (q : IsRequest a.sent d) (node : Node) (at : slice_get w.nodes s ≡ Some node)
       (can : CanPerform (told w s) a.before node a.accepted.invoke_id r) (did : WorldStep x.overtake w (Deliver number) served) where
     abbrev y : IsPaired (IsCopyOf links apart) m.posts number d
@@ -153,9 +154,9 @@ module _ (links : ℕ → Option Octets) (apart : (i j : ℕ) (l : Octets) → l
     abbrev u : Net
     u = server_acts m its_key its_reaction
 
-    u_over : Over links apart W x served u
-    u_over = subst (λ (z : server.Reaction). Over links apart W x served (server_acts m its_key z)) reaction_is
-        (subst (λ (k : Key). Over links apart W x served (server_acts m k
+    u_over : Over links apart W x None served u
+    u_over = subst (λ (z : server.Reaction). Over links apart W x None served (server_acts m its_key z)) reaction_is
+        (subst (λ (k : Key). Over links apart W x None served (server_acts m k
         (served_reaction links apart W x bound readable w served m over number y.other d taken))) is.0 so.over)
 
     -- the ask by the clocks of its two ends
@@ -274,10 +275,10 @@ module _ (links : ℕ → Option Octets) (apart : (i j : ℕ) (l : Octets) → l
           (subst (λ (k : Ask). client_now f.net its_key - k.first ≤ DEADLINE) (sym kept_then.there.is) in_time)
           (subst (λ (k : Ask). FitsInOne x its_key k can.reply) (sym kept_then.there.is) (record { way = way_is; kind = kind })))
 
-      last_over : Over links apart W x answered (client_acts f.net its_key kept_then.there.ticket (Ends [] (Answered can.reply)))
-      last_over = subst (λ z. Over links apart W x answered (client_acts f.net its_key kept_then.there.ticket z)) ends
-          (subst (λ (o : Option ClientTransaction). Over links apart W x answered (taken_by_client x f.net (post_of its_key m.now answer) o)) kept_then.there.at
-          (subst (λ (z : Post). Over links apart W x answered (taken_by_client x f.net z (f.net.tickets z.key))) post_is
+      last_over : Over links apart W x None answered (client_acts f.net its_key kept_then.there.ticket (Ends [] (Answered can.reply)))
+      last_over = subst (λ z. Over links apart W x None answered (client_acts f.net its_key kept_then.there.ticket z)) ends
+          (subst (λ (o : Option ClientTransaction). Over links apart W x None answered (taken_by_client x f.net (post_of its_key m.now answer) o)) kept_then.there.at
+          (subst (λ (z : Post). Over links apart W x None answered (taken_by_client x f.net z (f.net.tickets z.key))) post_is
           (told_over links apart W x bound readable v answered f.net f.over (length w.copies) reply_post.other one.0 reply_taken down)))
 
       -- the net in which it is answered
@@ -325,7 +326,7 @@ round_trip_suffices W overtake opening reached fresh timely bounded events run c
     let x : Rules = rules_of overtake opening in
     let bound = rules_bounded W overtake opening bounded in
     let f = on_run links fresh.apart W x bound refl events opening reached (opened_net opening)
-    (fresh_over W overtake opening fresh timely bounded) run in
+    (fresh_over None W overtake opening fresh timely bounded) run in
     let p = accepted_whole (x.settings c) (here_at f.net c) (peer_at a.link) (choice_of r) a.asks.octets a.before.clients a.accepted limits
     (accepted links fresh.apart W x bound refl reached f.net f.over c s limits r asked a)
     (subst (λ (z : Settings). request_way_of z limits a.asks.octets ≡ InOne) (f.over.nodes c a.before a.at).settings in_one) in

@@ -1,4 +1,5 @@
 -- What is known of a world from how it came to be.
+use Rattle.std.specs.Prelude.{None}
 use Rattle.std.proofs.Common.{◌≡◌, ℕ, List, [], ◌∷◌, ◌++◌, Option, Result, Ok, Err, refl, sym, subst, ◌∙◌}
 use Rattle.bac_protocol.specs.Pace.{IsTimely}
 use Rattle.bac_protocol.specs.World.{net_start}
@@ -34,7 +35,7 @@ pub links_stay : (W overtake : ℕ) (w w' : World) → IsFresh w → IsTimely w.
     → (i : ℕ) → link_at w'.nodes i ≡ link_at w.nodes i
 links_stay W overtake w w' f timely b events run =
     (run_over (link_at w.nodes) f.apart W (rules_of overtake w) (rules_bounded W overtake w b) refl (stores_of w.nodes) events w w'
-    (net_start w.time.pace (λ i. (w.time.clocks i).exact)) (fresh_over W overtake w f timely b)
+    (net_start w.time.pace (λ i. (w.time.clocks i).exact)) (fresh_over None W overtake w f timely b)
     (subst (λ (l : List Fact). IsOnce (stores_of w.nodes) l (stores_of w.nodes)) (sym f.log) (λ node. refl))
     run).1.linked
 

@@ -43,7 +43,7 @@ deliveries_on i zero number = tt
 deliveries_on i (suc count) number = deliveries_on i count (suc number)
 
 module _ (links : ℕ → Option Octets) (apart : (i j : ℕ) (l : Octets) → links i ≡ Some l → links j ≡ Some l → i ≡ j) (W : ℕ) (x : Rules)
-    (bound : claims.IsBounded W x) (readable : x.readable ≡ reads_reply) (old : World) (n : Net) (h : Over links apart W x old n)
+    (bound : claims.IsBounded W x) (readable : x.readable ≡ reads_reply) (old : World) (n : Net) (h : Over links apart W x None old n)
     (logged : IdleIsLogged n) (c s : ℕ) (limits : Limits) (r : Request) (asked : World) (a : IsAsked old c s limits r asked) where
   parts : Parts links apart W x bound readable old n c s limits r asked a
   parts = accepted_is (x.settings c) (here_at n c) (peer_at a.link) (choice_of r) a.asks.octets a.before.clients a.accepted limits
@@ -58,7 +58,7 @@ module _ (links : ℕ → Option Octets) (apart : (i j : ℕ) (l : Octets) → l
   abbrev first : Net
   first = made links apart W x bound readable old n h c s limits r asked a parts
 
-  first_over : Over links apart W x asked first
+  first_over : Over links apart W x None asked first
   first_over = made_over links apart W x bound readable old n h c s limits r asked a parts
 
   key_is : key_of_ask old c s limits r asked a ≡ slot_key a.link its_key.invoke_id
@@ -101,7 +101,7 @@ module _ (links : ℕ → Option Octets) (apart : (i j : ℕ) (l : Octets) → l
         (reached_net W x bound f.over.sound.0 f.over.sound.2 f.over.sound.1 f.net f.over.sound.3) in
         let none : octets.IsUnended (f.net.numbers its_key) f.net.log =
         keeps.is_open t.ticket.phase (f.net.numbers its_key) f.net.log going (at.2).unended in
-        let its : IsUnended n.asks w.log = unended n.asks f.net.log w.log f.over.log
+        let its : IsUnended n.asks w.log = unended None n.asks f.net.log w.log f.over.log
         (subst (λ (k : ℕ). octets.IsUnended k f.net.log) t.number_is none) in
         subst (λ (k : ℕ). ending_in k w.log ≡ None) h.asks (unended_none n.asks w.log its)
 
@@ -138,7 +138,7 @@ open_until_ended W overtake opening old fresh timely bounded events run client s
     let x : Rules = rules_of overtake opening in
     let bound = rules_bounded W overtake opening bounded in
     let f = on_run links fresh.apart W x bound refl events opening old
-    (net_start opening.time.pace (λ i. (opening.time.clocks i).exact)) (fresh_over W overtake opening fresh timely bounded) run in
+    (net_start opening.time.pace (λ i. (opening.time.clocks i).exact)) (fresh_over None W overtake opening fresh timely bounded) run in
     open_exactly links fresh.apart W x bound refl old f.net f.over
     (logged_path x Any (net_start opening.time.pace (λ i. (opening.time.clocks i).exact)) f.net f.path
     (bounded_start opening.time.pace (λ i. (opening.time.clocks i).exact)) (λ key t at. absurd cc)) client server limits r asked asks count number w deliver
@@ -151,8 +151,8 @@ none_ended W overtake opening old fresh timely bounded events run =
     let x : Rules = rules_of overtake opening in
     let bound = rules_bounded W overtake opening bounded in
     let f = on_run links fresh.apart W x bound refl events opening old
-    (net_start opening.time.pace (λ i. (opening.time.clocks i).exact)) (fresh_over W overtake opening fresh timely bounded) run in
+    (net_start opening.time.pace (λ i. (opening.time.clocks i).exact)) (fresh_over None W overtake opening fresh timely bounded) run in
     let none : octets.IsUnended f.net.asks f.net.log =
     below_unended f.net.asks f.net.log (net_log W f.net
     (reached_net W x bound f.over.sound.0 f.over.sound.2 f.over.sound.1 f.net f.over.sound.3)).numbers in
-    subst (λ (k : ℕ). ending_in k old.log ≡ None) f.over.asks (unended_none f.net.asks old.log (unended f.net.asks f.net.log old.log f.over.log none))
+    subst (λ (k : ℕ). ending_in k old.log ≡ None) f.over.asks (unended_none f.net.asks old.log (unended None f.net.asks f.net.log old.log f.over.log none))

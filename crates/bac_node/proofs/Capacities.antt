@@ -15,7 +15,7 @@ use Rattle.bac_world.specs.Node.{Node, Outcome, IsHeardBy, NodeOn}
 use Rattle.bac_world.proofs.Asking.{accepted_is}
 use Rattle.bac_node.specs.Calls.{IsAsked}
 use Rattle.bac_node.specs.Capacities.{CapacitiesStay, HasSameCapacities}
-use Rattle.bac_node.specs.Reuse.{IsHeardReusingBy, NodeReusing}
+use Rattle.bac_world.specs.ReusingNodes.{IsHeardReusingBy, NodeReusing}
 
 module _ (c : Settings) (now : ℕ) (a : Apdu) (e : ClientEnd) (key : PeerKey) where
   held_stays : (number : ℕ) (held : TransactionSlot) → (requester_on_apdu_in_slot c reads_reply now a e key number held).end.capacity ≡ e.capacity

@@ -21,7 +21,7 @@ use Rattle.bac_world.specs.Node.{Node, Outcome, IsHeardBy, IsServerTurn}
 use Rattle.bac_world.specs.Services.{ArePerformed, store_after}
 use Rattle.bac_world.proofs.Pairs.{pairwise_join}
 use Rattle.bac_node.specs.Calls.{IsTickOfBoth}
-use Rattle.bac_node.specs.Reuse.{IsHeardReusingBy}
+use Rattle.bac_world.specs.ReusingNodes.{IsHeardReusingBy}
 use Rattle.bac_node.specs.Views.{performed_view}
 
 -- The server's end.

@@ -7,7 +7,7 @@ use Rattle.bac_protocol.specs.Service.{Octets}
 use Rattle.bac_requester.specs.declared.asking.Asked.{Asked}
 use Rattle.bac_world.specs.Node.{Node, Outcome, NodeOn, NodeTick}
 use Rattle.bac_node.specs.Calls.{IsAsked, ticked}
-use Rattle.bac_node.specs.Reuse.{NodeReusing}
+use Rattle.bac_world.specs.ReusingNodes.{NodeReusing}
 
 pub record HasSameCapacities (old new : Node) : Type 0 where
   pub clients : new.clients.capacity ≡ old.clients.capacity

@@ -1,41 +1,15 @@
--- What a node that lets clients use an invoke ID again as soon as its transaction is over makes of a datagram: its client's end as ever, its server's end by
--- bac_transaction's Reuse.
-use Rattle.std.specs.Prelude.{◌≡◌, ◌≢◌, ◌⊎◌, ◌↔◌, ℕ, Bool, true, false, Result, Ok, Err}
+-- What a call of a node that lets clients use an invoke ID again as soon as its transaction is over returns, by bac_world's words.
+use Rattle.std.specs.Prelude.{◌≡◌, ◌↔◌, ℕ, false, Result, Ok, Err}
 use Rattle.bac_apdu.specs.Apdu.{Apdu}
-use Rattle.bac_apdu.specs.Spelling.{SpellsApdu}
-use Rattle.bac_npdu.specs.Datagram.{Means}
 use Rattle.bac_npdu.specs.Peers.{PeerView}
 use Rattle.bac_value.specs.declared.memory.NoMemory.{NoMemory}
 use Rattle.bac_protocol.specs.Service.{Octets}
 use Rattle.bac_protocol.specs.Wire.{is_from_client}
-use Rattle.bac_transaction.specs.Reuse.{responder_reusing}
-use Rattle.bac_transaction.specs.Services.{service_of}
 use Rattle.bac_world.specs.Node as world
-use Rattle.bac_world.specs.Node.{IsDropped, IsHeardBy, IsServerTurn, Node, NodeOn}
+use Rattle.bac_world.specs.Node.{Node, NodeOn}
+use Rattle.bac_world.specs.ReusingNodes.{IsHeardReusingBy, NodeHears}
 use Rattle.bac_node.specs.Views.{outcome_view}
 use Rattle.bac_node.specs.declared.outcome.Outcome.{Outcome}
-
--- an APDU of a peer is heard by the server's end where a client sends such, by the client's end otherwise
-abbrev pub IsHeardReusingBy : (server : Bool) → PeerView → Apdu → (now : ℕ) → (old new : Node) → world.Outcome → Type 0
-IsHeardReusingBy true peer a now old new o = IsServerTurn (responder_reusing old.settings now (service_of old.store) peer a old.servers) now old new o
-IsHeardReusingBy false peer a now old new o = IsHeardBy false peer a now old new o
-
--- a datagram that means an APDU of a peer, and comes from another link, is heard
-pub record IsHeardReusing (now : ℕ) (from octets : Octets) (old new : Node) (o : world.Outcome) : Type 0 where
-  pub peer : PeerView
-  pub apdu : Apdu
-  pub foreign : from ≢ old.link
-  pub means : Means SpellsApdu from octets peer apdu
-  pub heard : IsHeardReusingBy (is_from_client apdu) peer apdu now old new o
-
--- a datagram comes from a link
-abbrev pub NodeReusing : (now : ℕ) → (from octets : Octets) → (old new : Node) → world.Outcome → Type 0
-NodeReusing now from octets old new o = IsDropped now from octets old new o ⊎ IsHeardReusing now from octets old new o
-
--- the same of a node of either setting
-abbrev pub NodeHears : (reuse : Bool) → (now : ℕ) → (from octets : Octets) → (old new : Node) → world.Outcome → Type 0
-NodeHears true now from octets old new o = NodeReusing now from octets old new o
-NodeHears false now from octets old new o = NodeOn now from octets old new o
 
 -- an APDU of a peer went to the end that it is for, or allocation failed and nothing has changed
 abbrev pub DispatchesReusing : (now : ℕ) → PeerView → Apdu → (old : Node) → Result Outcome NoMemory → (new : Node) → Type 0

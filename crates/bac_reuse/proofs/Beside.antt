@@ -1,6 +1,6 @@
--- A world in which servers let invoke IDs be used again, beside one in which they don't: what both have in common. Both have the same tickets, times and stores.
--- Where the one server answered a read that it performed, the other sent an Abort; where both hold an entry that counts for an ask that is no such read, it is
--- the same.
+-- A net in which servers let invoke IDs be used again, beside one in which they don't: what both have in common. Both have the same tickets and times. Where
+-- the one server answered a read that it performed, the other sent an Abort; where both hold an entry that counts for an ask that is no such read, it is the
+-- same.
 use Rattle.std.proofs.Common.{◌≡◌, ℕ, zero, suc, ◌-◌, ◌≤◌, ◌≢◌, ◌⊎◌, Bool, true, false, ◌&&◌, List, [], ◌∷◌, ◌++◌, map, Option, Some, None}
 use Rattle.std.proofs.Common.{slice_get, if◌then◌else◌, nat_eq, refl, ap, sym, subst, inl, inr, ◌∙◌, arith}
 use Rattle.std.proofs.lemmas.Bool.Decides.{nat_tests}
@@ -16,18 +16,17 @@ use Rattle.bac_protocol.specs.Server.{Effect, ServerTransaction, State, reply_ap
 use Rattle.bac_protocol.specs.Log.{Fact, Has, IsUnended, IsUnendedAway, IsUnperformed, MayEnd, asks_in}
 use Rattle.bac_protocol.specs.Service.Ending.{Aborted, Answered, Expired, Rejected, TimedOut}
 use Rattle.bac_protocol.specs.Log.Fact.{Asked, AskedAway, Changed, Ended, EndedAway, Performed, Restarted, Served}
-use Rattle.bac_protocol.specs.Reuse.{Reads}
 use Rattle.bac_protocol.specs.Transaction.{Key, ended, ended_away, performed, served}
-use Rattle.bac_protocol.specs.World.{Net, Post, World, count_of, later, post_of, same_key, set_at}
+use Rattle.bac_protocol.specs.World.{Net, Post, count_of, later, post_of, same_key, set_at}
 use Rattle.bac_protocol.proofs.Facts.{Grows}
 use Rattle.bac_protocol.proofs.Keys.{decide_key, set_other, set_same}
 use Rattle.bac_reuse.specs.Runs.{Reusing}
 use Rattle.bac_reuse.proofs.Clients.{AbortsIf, IsAnswer}
 use Rattle.bac_reuse.proofs.FreshReads.{IsFromServer, IsGivenBy}
 use Rattle.bac_reuse.proofs.Machine.{EntryIs, IsFor, IsGiving, IsGone, OverIf}
-use Rattle.bac_reuse.proofs.WorldSteps.{aborts}
+use Rattle.bac_reuse.proofs.NetSteps.{aborts}
 
--- what the world has of its own
+-- what the net has of its own
 pub record Own : Type 0 where
   pub entries : Key → Option ServerTransaction
   pub posts : List Post
@@ -35,11 +34,8 @@ pub record Own : Type 0 where
   pub far_entries : Key → Option ServerTransaction  -- of strangers
 
 -- all else is the other's
-abbrev pub over : (S : Type 0) → World S → Own → World S
-over S w g = record {
-  net = record (w.net) { entries = g.entries; posts = g.posts; log = g.log; far = record (w.net.far) { entries = g.far_entries } };
-  stores = w.stores;
-}
+abbrev pub over : Net → Own → Net
+over n g = record n { entries = g.entries; posts = g.posts; log = g.log; far = record (n.far) { entries = g.far_entries } }
 
 -- Tables.
 
@@ -171,7 +167,7 @@ gone_both u key now (Some t) (Some d) (Some e) gone (inr (inr h)) = (let same = 
 
 -- Posts.
 
--- the other world's lists of posts, post for post
+-- the other net's list of posts, post for post
 abbrev pub AreLike : (Post → Post → Type 0) → List Post → List Post → Type 0
 AreLike P [] [] = Unit {0}
 AreLike P [] (q ∷ qs) = ⊥
@@ -292,15 +288,16 @@ given_answers number ask log c (Some y) a h of = subst (λ (x : Apdu). IsAnswer 
 
 -- Logs.
 
--- the ask of that number is one of a read
-abbrev pub WasRead : Reads → ℕ → List Fact → Type 0
-WasRead reads n log = (c : ℕ) × (s : ℕ) × (r : Request) × Has (Asked n c s r) log × (reads r.choice ≡ true)
+-- the ask of that number is a read, at a server that lets invoke IDs be used again
+abbrev pub WasRead : Reusing → ℕ → List Fact → Type 0
+WasRead u n log = (c : ℕ) × (s : ℕ) × (r : Request) × Has (Asked n c s r) log × (u.reuses s ≡ true) × (u.reads r.choice ≡ true)
 
-pub record AreLogs (reads : Reads) (ours theirs : List Fact) : Type 0 where
+pub record AreLogs (u : Reusing) (ours theirs : List Fact) : Type 0 where
   pub asked : (n c s : ℕ) (r : Request) → Has (Asked n c s r) theirs → Has (Asked n c s r) ours
+  pub only_asked : (n c s : ℕ) (r : Request) → Has (Asked n c s r) ours → Has (Asked n c s r) theirs
   pub performed : (n : ℕ) (r : Request) (p : reply) → Has (Performed n r p) theirs → Has (Performed n r p) ours
   pub unended : (n : ℕ) → IsUnended n theirs → IsUnended n ours
-  pub unperformed : (n : ℕ) → IsUnperformed n theirs → IsUnperformed n ours ⊎ WasRead reads n theirs
+  pub unperformed : (n : ℕ) → IsUnperformed n theirs → IsUnperformed n ours ⊎ WasRead u n theirs
   pub counted : asks_in ours ≡ asks_in theirs
   pub asked_away : (n c q : ℕ) (r : Request) → Has (AskedAway n c q r) theirs → Has (AskedAway n c q r) ours
   pub unended_away : (n : ℕ) → IsUnendedAway n theirs → IsUnendedAway n ours
@@ -309,19 +306,20 @@ has_more : (f g : Fact) (ours theirs : List Fact) → (Has g theirs → Has g ou
 has_more f g ours theirs k (inl is) = inl is
 has_more f g ours theirs k (inr h) = inr (k h)
 
-read_more : (reads : Reads) (n : ℕ) (f : Fact) (log : List Fact) → WasRead reads n log → WasRead reads n (f ∷ log)
-read_more reads n f log h = (h.0, h.1, h.2, inr h.3, h.4)
+read_more : (u : Reusing) (n : ℕ) (f : Fact) (log : List Fact) → WasRead u n log → WasRead u n (f ∷ log)
+read_more u n f log h = (h.0, h.1, h.2, inr h.3, h.4, h.5)
 
-module _ (reads : Reads) (ours theirs : List Fact) (h : AreLogs reads ours theirs) where
-  either : (n : ℕ) (f : Fact) → IsUnperformed n ours ⊎ WasRead reads n theirs → (IsUnperformed n ours → IsUnperformed n (f ∷ ours))
-      → IsUnperformed n (f ∷ ours) ⊎ WasRead reads n (f ∷ theirs)
+module _ (u : Reusing) (ours theirs : List Fact) (h : AreLogs u ours theirs) where
+  either : (n : ℕ) (f : Fact) → IsUnperformed n ours ⊎ WasRead u n theirs → (IsUnperformed n ours → IsUnperformed n (f ∷ ours))
+      → IsUnperformed n (f ∷ ours) ⊎ WasRead u n (f ∷ theirs)
   either n f (inl un) k = inl (k un)
-  either n f (inr read) k = inr (read_more reads n f theirs read)
+  either n f (inr read) k = inr (read_more u n f theirs read)
 
   -- a fact enters both
-  pub logs_both : (f : Fact) → AreLogs reads (f ∷ ours) (f ∷ theirs)
+  pub logs_both : (f : Fact) → AreLogs u (f ∷ ours) (f ∷ theirs)
   logs_both f = record {
     asked = λ n c s r. has_more f (Asked n c s r) ours theirs (h.asked n c s r);
+    only_asked = λ n c s r. has_more f (Asked n c s r) theirs ours (h.only_asked n c s r);
     performed = λ n r p. has_more f (Performed n r p) ours theirs (h.performed n r p);
     unended = unended f;
     unperformed = unperformed f;
@@ -350,7 +348,7 @@ module _ (reads : Reads) (ours theirs : List Fact) (h : AreLogs reads ours their
       unended (AskedAway m c q r) n k = h.unended n k
       unended (EndedAway m how) n k = h.unended n k
 
-      unperformed : (f : Fact) (n : ℕ) → IsUnperformed n (f ∷ theirs) → IsUnperformed n (f ∷ ours) ⊎ WasRead reads n (f ∷ theirs)
+      unperformed : (f : Fact) (n : ℕ) → IsUnperformed n (f ∷ theirs) → IsUnperformed n (f ∷ ours) ⊎ WasRead u n (f ∷ theirs)
       unperformed (Asked m c s r) n k = either n (Asked m c s r) (h.unperformed n k) (λ un. un)
       unperformed (Performed m r p) n k = either n (Performed m r p) (h.unperformed n k.1) (λ un. (k.0, un))
       unperformed (Ended m how) n k = either n (Ended m how) (h.unperformed n k) (λ un. un)
@@ -371,9 +369,10 @@ module _ (reads : Reads) (ours theirs : List Fact) (h : AreLogs reads ours their
       counted (EndedAway m how) = h.counted
 
   -- a read is performed in one
-  pub logs_read : (n : ℕ) (r : Request) (p : reply) → WasRead reads n theirs → AreLogs reads (Performed n r p ∷ ours) theirs
+  pub logs_read : (n : ℕ) (r : Request) (p : reply) → WasRead u n theirs → AreLogs u (Performed n r p ∷ ours) theirs
   logs_read n r p read = record {
     asked = λ m c s q k. inr (h.asked m c s q k);
+    only_asked = only_asked;
     performed = λ m q a k. inr (h.performed m q a k);
     unended = h.unended;
     unperformed = λ m k. go m (decide m n) (h.unperformed m k);
@@ -382,6 +381,10 @@ module _ (reads : Reads) (ours theirs : List Fact) (h : AreLogs reads ours their
     unended_away = h.unended_away;
   }
     where
+      only_asked : (m c s : ℕ) (q : Request) → Has (Asked m c s q) (Performed n r p ∷ ours) → Has (Asked m c s q) theirs
+      only_asked m c s q (inl is) = absurd cc
+      only_asked m c s q (inr k) = h.only_asked m c s q k
+
       decide : (a b : ℕ) → (b ≡ a) ⊎ (b ≢ a)
       decide a b = test (nat_eq b a) refl
         where
@@ -389,15 +392,16 @@ module _ (reads : Reads) (ours theirs : List Fact) (h : AreLogs reads ours their
           test true is = inl (grind (arith, nat_tests))
           test false is = inr (λ same. grind (arith, nat_tests))
 
-      go : (m : ℕ) → (n ≡ m) ⊎ (n ≢ m) → IsUnperformed m ours ⊎ WasRead reads m theirs → IsUnperformed m (Performed n r p ∷ ours) ⊎ WasRead reads m theirs
-      go m (inl same) k = inr (subst (λ (j : ℕ). WasRead reads j theirs) same read)
+      go : (m : ℕ) → (n ≡ m) ⊎ (n ≢ m) → IsUnperformed m ours ⊎ WasRead u m theirs → IsUnperformed m (Performed n r p ∷ ours) ⊎ WasRead u m theirs
+      go m (inl same) k = inr (subst (λ (j : ℕ). WasRead u j theirs) same read)
       go m (inr ne) (inl un) = inl (ne, un)
       go m (inr ne) (inr was) = inr was
 
   -- an ask ends in both, each in its own way
-  pub logs_ended : (n : ℕ) (how other : Ending) → AreLogs reads (Ended n how ∷ ours) (Ended n other ∷ theirs)
+  pub logs_ended : (n : ℕ) (how other : Ending) → AreLogs u (Ended n how ∷ ours) (Ended n other ∷ theirs)
   logs_ended n how other = record {
     asked = λ m c s q k. inr (h.asked m c s q (asked m c s q k));
+    only_asked = λ m c s q k. inr (h.only_asked m c s q (only_asked m c s q k));
     performed = λ m q a k. inr (h.performed m q a (performed m q a k));
     unended = λ m k. (k.0, h.unended m k.1);
     unperformed = λ m k. go m (h.unperformed m k);
@@ -414,19 +418,24 @@ module _ (reads : Reads) (ours theirs : List Fact) (h : AreLogs reads ours their
       asked m c s q (inl is) = absurd cc
       asked m c s q (inr k) = k
 
+      only_asked : (m c s : ℕ) (q : Request) → Has (Asked m c s q) (Ended n how ∷ ours) → Has (Asked m c s q) ours
+      only_asked m c s q (inl is) = absurd cc
+      only_asked m c s q (inr k) = k
+
       performed : (m : ℕ) (q : Request) (a : reply) → Has (Performed m q a) (Ended n other ∷ theirs) → Has (Performed m q a) theirs
       performed m q a (inl is) = absurd cc
       performed m q a (inr k) = k
 
-      go : (m : ℕ) → IsUnperformed m ours ⊎ WasRead reads m theirs → IsUnperformed m (Ended n how ∷ ours) ⊎ WasRead reads m (Ended n other ∷ theirs)
+      go : (m : ℕ) → IsUnperformed m ours ⊎ WasRead u m theirs → IsUnperformed m (Ended n how ∷ ours) ⊎ WasRead u m (Ended n other ∷ theirs)
       go m (inl un) = inl un
-      go m (inr was) = inr (read_more reads m (Ended n other) theirs was)
+      go m (inr was) = inr (read_more u m (Ended n other) theirs was)
 
   -- a request of a stranger is performed in one
-  pub logs_served : (key : Key) (begin : ℕ) (o : Option Effect) → AreLogs reads (served key begin o ours) theirs
+  pub logs_served : (key : Key) (begin : ℕ) (o : Option Effect) → AreLogs u (served key begin o ours) theirs
   logs_served key begin None = h
   logs_served key begin (Some e) = record {
     asked = λ m c s q k. inr (h.asked m c s q k);
+    only_asked = only_asked;
     performed = λ m q a k. inr (h.performed m q a k);
     unended = h.unended;
     unperformed = h.unperformed;
@@ -434,8 +443,13 @@ module _ (reads : Reads) (ours theirs : List Fact) (h : AreLogs reads ours their
     asked_away = λ m c q a k. inr (h.asked_away m c q a k);
     unended_away = h.unended_away;
   }
+    where
+      only_asked : (m c s : ℕ) (q : Request) → Has (Asked m c s q) (Served key.client key.server key.invoke_id begin e.request e.reply ∷ ours)
+          → Has (Asked m c s q) theirs
+      only_asked m c s q (inl is) = absurd cc
+      only_asked m c s q (inr k) = h.only_asked m c s q k
 
-  pub logs_ending_away : (n : ℕ) (o : Option Ending) → AreLogs reads (ended_away n o ours) (ended_away n o theirs)
+  pub logs_ending_away : (n : ℕ) (o : Option Ending) → AreLogs u (ended_away n o ours) (ended_away n o theirs)
   logs_ending_away n None = h
   logs_ending_away n (Some how) = logs_both (EndedAway n how)
 
@@ -446,15 +460,15 @@ module _ (reads : Reads) (ours theirs : List Fact) (h : AreLogs reads ours their
   may_end n TimedOut k = (k.0, k.1, k.2, h.asked n k.0 k.1 k.2 k.3)
   may_end n Expired k = (k.0, k.1, k.2, h.asked n k.0 k.1 k.2 k.3)
 
-  pub logs_ending : (n : ℕ) (o : Option Ending) → AreLogs reads (ended n o ours) (ended n o theirs)
+  pub logs_ending : (n : ℕ) (o : Option Ending) → AreLogs u (ended n o ours) (ended n o theirs)
   logs_ending n None = h
   logs_ending n (Some how) = logs_both (Ended n how)
 
-  pub logs_effect : (n : ℕ) (o : Option Effect) → AreLogs reads (performed n o ours) (performed n o theirs)
+  pub logs_effect : (n : ℕ) (o : Option Effect) → AreLogs u (performed n o ours) (performed n o theirs)
   logs_effect n None = h
   logs_effect n (Some e) = logs_both (Performed n e.request e.reply)
 
-  pub logs_read_effect : (n : ℕ) (o : Option Effect) → WasRead reads n theirs → AreLogs reads (performed n o ours) theirs
+  pub logs_read_effect : (n : ℕ) (o : Option Effect) → WasRead u n theirs → AreLogs u (performed n o ours) theirs
   logs_read_effect n None read = h
   logs_read_effect n (Some e) read = logs_read n e.request e.reply read
 

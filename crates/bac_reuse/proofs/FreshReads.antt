@@ -11,11 +11,11 @@ use Rattle.bac_protocol.specs.Sizes.{Way, reply_way_of}
 use Rattle.bac_protocol.specs.Sizes.Way.{InOne, InSegments, Refused}
 use Rattle.bac_protocol.specs.Wire.{Each, is_from_client, is_from_server}
 use Rattle.bac_protocol.specs.Client.{Ask, request_of}
-use Rattle.bac_protocol.specs.Own.{IsOfServer, StateHas}
+use Rattle.bac_protocol.specs.Own.{IsOfServer, IsOwnEntry, StateHas}
 use Rattle.bac_protocol.specs.Server as server
 use Rattle.bac_protocol.specs.Server.{Effect, Reaction, ServerTransaction, Service, State, begins, is_kept, is_live, is_none_live, performs_so, server_on_apdu}
 use Rattle.bac_protocol.specs.Server.State.{Done, SegmentedResponse, Dropped}
-use Rattle.bac_protocol.specs.Reuse.{Reads, entry_left, has_transfer, idle_on_read, idle_reusing, is_ended_by, is_over, left_on_apdu, reads_so, reusing_on_apdu, server_hears}
+use Rattle.bac_protocol.specs.Reuse.{Reads, ends_entry, entry_left, has_transfer, idle_on_read, idle_reusing, is_ended_by, is_over, left_on_apdu, reads_so, reusing_on_apdu, server_hears}
 use Rattle.bac_protocol.proofs.Facts.{all_map}
 use Rattle.bac_protocol.proofs.Own.{server_sends_own}
 use Rattle.bac_protocol.proofs.Reused.{goes_on_where}
@@ -228,67 +228,90 @@ module _ (c : Context) (service : Service) (ask : Ask) where
     alone_some e free live gives (Abort up id reason) is = subst (GoesAlone c service ask free e.begin)
         (sym (goes_on_where c service reads e free live (Abort up id reason) refl)) (going_alone e free live gives (Abort up id reason))
 
--- Whatever comes, what is performed has the reply that the service gives.
-module _ (c : Context) (service : Service) where
-  abbrev IsServedBy : Reaction → Type 0
-  IsServedBy v = IsServed service v.effect
+-- What holds of all that comes of an APDU without reuse, of Aborts, and of a read that leaves the entry that was, holds of all that comes of one with reuse.
+pub record IsOfMachine (c : Context) (service : Service) (Has : Option ServerTransaction → Type 0) (Is : Reaction → Type 0) : Type 0 where
+  pub none : Has None
+  pub gets : (o : Option ServerTransaction) → Has o → (free : Bool) (a : Apdu) → Is (server_on_apdu c service o free a)
+  pub rests : (o : Option ServerTransaction) → Has o → (sends : List Apdu) → Is (server.rests o sends)
+  pub reads : (o : Option ServerTransaction) → Has o → (v : Reaction) → Is v → Is (record { entry = o; sends = v.sends; effect = v.effect })
 
-  request_served : (o : Option ServerTransaction) (free : Bool) (choice : ℕ) (limits : Limits) (octets : Octets)
-      → IsServedBy (server.idle_on_request c service o free choice limits octets)
-  request_served o true choice limits octets = gets_served c service None true (ConfirmedRequest limits 0 None choice octets)
-  request_served o false choice limits octets = tt
+module _ (c : Context) (service : Service) (Has : Option ServerTransaction → Type 0) (Is : Reaction → Type 0) (m : IsOfMachine c service Has Is) where
+  request_comes : (o : Option ServerTransaction) → Has o → (free : Bool) (choice : ℕ) (limits : Limits) (octets : Octets)
+      → Is (server.idle_on_request c service o free choice limits octets)
+  request_comes o h true choice limits octets = m.gets None m.none true (ConfirmedRequest limits 0 None choice octets)
+  request_comes o h false choice limits octets = m.rests o h (server.server_abort c OTHER ∷ [])
 
-  read_served : (o : Option ServerTransaction) (free : Bool) (choice : ℕ) (limits : Limits) (octets : Octets)
-      → IsServedBy (idle_on_read c service o free choice limits octets)
-  read_served o free choice limits octets = go (has_transfer (server.performs c service (begins c choice limits (Some octets)) [] octets).entry) free
+  read_comes : (o : Option ServerTransaction) → Has o → (free : Bool) (choice : ℕ) (limits : Limits) (octets : Octets)
+      → Is (idle_on_read c service o free choice limits octets)
+  read_comes o h free choice limits octets = go (has_transfer (server.performs c service (begins c choice limits (Some octets)) [] octets).entry) free
     where
-      go : (b f : Bool) → IsServedBy (if b then (if f then server.performs c service (begins c choice limits (Some octets)) [] octets
+      performed : Is (server.performs c service (begins c choice limits (Some octets)) [] octets)
+      performed = m.gets None m.none true (ConfirmedRequest limits 0 None choice octets)
+
+      go : (b f : Bool) → Is (if b then (if f then server.performs c service (begins c choice limits (Some octets)) [] octets
           else server.rests o (server.server_abort c OTHER ∷ []))
           else record {
             entry = o;
             sends = (server.performs c service (begins c choice limits (Some octets)) [] octets).sends;
             effect = (server.performs c service (begins c choice limits (Some octets)) [] octets).effect;
           })
-      go true true = gets_served c service None true (ConfirmedRequest limits 0 None choice octets)
-      go true false = tt
-      go false f = gets_served c service None true (ConfirmedRequest limits 0 None choice octets)
+      go true true = performed
+      go true false = m.rests o h (server.server_abort c OTHER ∷ [])
+      go false f = m.reads o h (server.performs c service (begins c choice limits (Some octets)) [] octets) performed
 
-  segment_served : (o : Option ServerTransaction) (free : Bool) (choice : ℕ) (limits : Limits) (g : Segment) (octets : Octets)
-      → IsServedBy (server.idle_on_segment c service o free choice limits g octets)
-  segment_served o free choice limits g octets = go (nat_eq g.number 0) refl free
+  segment_comes : (o : Option ServerTransaction) → Has o → (free : Bool) (choice : ℕ) (limits : Limits) (g : Segment) (octets : Octets)
+      → Is (server.idle_on_segment c service o free choice limits g octets)
+  segment_comes o h free choice limits g octets = go (nat_eq g.number 0) refl free
     where
       at : Option ServerTransaction → (b f : Bool) → Reaction
       at q b f = if not b then server.rests q [] else if f then server.request_segment_taken c service (begins c choice limits None) g.number
           (incoming c.settings.window g.window).window (takes (incoming c.settings.window g.window) g.number g.more octets)
           else server.rests q (server.server_abort c OTHER ∷ [])
 
-      go : (b : Bool) → nat_eq g.number 0 ≡ b → (f : Bool) → IsServedBy (at o b f)
-      go true is true = subst (λ b. IsServedBy (at None b true)) is (gets_served c service None true (ConfirmedRequest limits 0 (Some g) choice octets))
-      go true is false = tt
-      go false is f = tt
+      go : (b : Bool) → nat_eq g.number 0 ≡ b → (f : Bool) → Is (at o b f)
+      go true is true = subst (λ b. Is (at None b true)) is (m.gets None m.none true (ConfirmedRequest limits 0 (Some g) choice octets))
+      go true is false = m.rests o h (server.server_abort c OTHER ∷ [])
+      go false is f = m.rests o h []
 
-  reusing_served : (reads : Reads) (o : Option ServerTransaction) (free : Bool) (a : Apdu) → IsServedBy (idle_reusing c service reads o free a)
-  reusing_served reads o free (ConfirmedRequest limits id None choice octets) = go (reads choice)
+  idle_comes : (reads : Reads) (o : Option ServerTransaction) → Has o → (free : Bool) (a : Apdu) → Is (idle_reusing c service reads o free a)
+  idle_comes reads o h free (ConfirmedRequest limits id None choice octets) = go (reads choice)
     where
-      go : (b : Bool) → IsServedBy (if b then idle_on_read c service o free choice limits octets else server.idle_on_request c service o free choice limits octets)
-      go true = read_served o free choice limits octets
-      go false = request_served o free choice limits octets
-  reusing_served reads o free (ConfirmedRequest limits id (Some g) choice octets) = segment_served o free choice limits g octets
-  reusing_served reads o free (UnconfirmedRequest choice octets) = tt
-  reusing_served reads o free (SimpleAck id choice) = tt
-  reusing_served reads o free (ComplexAck id g choice octets) = tt
-  reusing_served reads o free (SegmentAck up id ack) = tt
-  reusing_served reads o free (Error id choice class code) = tt
-  reusing_served reads o free (Reject id reason) = tt
-  reusing_served reads o free (Abort up id reason) = tt
+      go : (b : Bool) → Is (if b then idle_on_read c service o free choice limits octets else server.idle_on_request c service o free choice limits octets)
+      go true = read_comes o h free choice limits octets
+      go false = request_comes o h free choice limits octets
+  idle_comes reads o h free (ConfirmedRequest limits id (Some g) choice octets) = segment_comes o h free choice limits g octets
+  idle_comes reads o h free (UnconfirmedRequest choice octets) = m.rests o h []
+  idle_comes reads o h free (SimpleAck id choice) = m.rests o h []
+  idle_comes reads o h free (ComplexAck id g choice octets) = m.rests o h []
+  idle_comes reads o h free (SegmentAck up id ack) = m.rests o h []
+  idle_comes reads o h free (Error id choice class code) = m.rests o h []
+  idle_comes reads o h free (Reject id reason) = m.rests o h []
+  idle_comes reads o h free (Abort up id reason) = m.rests o h []
 
-  left_served : (reads : Reads) (o : Option ServerTransaction) (free : Bool) (a : Apdu) → IsServedBy (left_on_apdu c service reads o free a)
-  left_served reads o free a = go (is_none_live c.now o)
+  left_comes : (reads : Reads) (o : Option ServerTransaction) → Has o → (free : Bool) (a : Apdu) → Is (left_on_apdu c service reads o free a)
+  left_comes reads o h free a = go (is_none_live c.now o)
     where
-      go : (b : Bool) → IsServedBy (if b then idle_reusing c service reads o free a else server_on_apdu c service o free a)
-      go true = reusing_served reads o free a
-      go false = gets_served c service o free a
+      go : (b : Bool) → Is (if b then idle_reusing c service reads o free a else server_on_apdu c service o free a)
+      go true = idle_comes reads o h free a
+      go false = m.gets o h free a
 
-  pub hears_served : (reuse : Bool) (reads : Reads) (o : Option ServerTransaction) (free : Bool) (a : Apdu) → IsServedBy (server_hears reuse c service reads o free a)
-  hears_served true reads o free a = left_served reads (entry_left reads c.now o a) free a
-  hears_served false reads o free a = gets_served c service o free a
+  left_has : (o : Option ServerTransaction) → Has o → (b : Bool) → Has (if b then None else o)
+  left_has o h true = m.none
+  left_has o h false = h
+
+  pub hears_comes : (reuse : Bool) (reads : Reads) (o : Option ServerTransaction) → Has o → (free : Bool) (a : Apdu)
+      → Is (server_hears reuse c service reads o free a)
+  hears_comes true reads o h free a = left_comes reads (entry_left reads c.now o a) (left_has o h (ends_entry reads c.now o a)) free a
+  hears_comes false reads o h free a = m.gets o h free a
+
+-- what is performed has the reply that the service gives
+pub hears_served : (c : Context) (service : Service) (reuse : Bool) (reads : Reads) (o : Option ServerTransaction) (free : Bool) (a : Apdu)
+    → IsServed service (server_hears reuse c service reads o free a).effect
+hears_served c service reuse reads o free a = hears_comes c service (λ q. Unit {0}) (λ v. IsServed service v.effect)
+    (record { none = tt; gets = λ q h free a. gets_served c service q free a; rests = λ q h sends. tt; reads = λ q h v is. is }) reuse reads o tt free a
+
+-- what an entry keeps is its own
+pub hears_own : (c : Context) (service : Service) (reuse : Bool) (reads : Reads) (o : Option ServerTransaction) → IsOwnEntry c.invoke_id o → (free : Bool) (a : Apdu)
+    → IsOwnEntry c.invoke_id (server_hears reuse c service reads o free a).entry
+hears_own c service reuse reads o own free a = hears_comes c service (IsOwnEntry c.invoke_id) (λ v. IsOwnEntry c.invoke_id v.entry)
+    (record { none = tt; gets = λ q h free a. (server_sends_own.gets c service q free a h).1; rests = λ q h sends. h; reads = λ q h v is. h }) reuse reads o own free a

@@ -2,7 +2,7 @@ pub mod Computed
 pub mod Machine
 pub mod FreshReads
 pub mod Clients
-pub mod WorldSteps
+pub mod NetSteps
 pub mod Beside
 pub mod Outcomes
 pub mod Simulated
@@ -10,3 +10,7 @@ pub mod Followed
 pub mod Claimed
 pub mod Likewise
 pub mod StackReads
+pub mod KeptEntries
+pub mod FarApart
+pub mod ReusingMoves
+pub mod Stored

@@ -1,4 +1,4 @@
--- A run in which servers let invoke IDs be used again is followed by a world of bac_protocol.
+-- A net in which servers let invoke IDs be used again is followed by a net of bac_protocol.
 use Rattle.std.proofs.Common.{◌≡◌, ℕ, ◌+◌, ◌-◌, ◌<◌, ◌≤◌, ◌⊎◌, Bool, true, false, List, [], ◌∷◌, ◌++◌, length, map, Option, Some, None}
 use Rattle.std.proofs.Common.{slice_get, if◌then◌else◌, nat_eq, nat_le, refl, ap, sym, subst, inl, inr, ◌∙◌, arith}
 use Rattle.std.proofs.lemmas.Bool.Decides.{nat_tests}
@@ -8,6 +8,7 @@ use Rattle.bac_segment.specs.Window.{Outgoing, is_finished}
 use Rattle.bac_protocol.specs.declared.times.TheConstants.{KEEP}
 use Rattle.bac_protocol.specs.Context.{Context}
 use Rattle.bac_protocol.specs.Service.{Ending, OTHER, Request}
+use Rattle.bac_protocol.specs.Service.Outcome.{Rejects}
 use Rattle.bac_protocol.specs.Wire.{Each, is_from_client}
 use Rattle.bac_protocol.specs.Client as client
 use Rattle.bac_protocol.specs.Client.{Ask, ClientTransaction, Phase, after, is_idle, request_of}
@@ -15,11 +16,11 @@ use Rattle.bac_protocol.specs.Client.Phase.{AwaitConfirmation, Idle, SegmentedCo
 use Rattle.bac_protocol.specs.Client.Reaction.{Ends, GoesOn, Repeats, Stays}
 use Rattle.bac_protocol.specs.Server as server
 use Rattle.bac_protocol.specs.Server.{Effect, ServerTransaction, Service, State, Transfer, is_live, server_on_apdu}
-use Rattle.bac_protocol.specs.Log.{Fact, Has, IsOrderly, IsUnperformed, MayEnd, StoreModel}
+use Rattle.bac_protocol.specs.Log.{Fact, Has, IsOrderly, IsUnperformed, MayEnd}
 use Rattle.bac_protocol.specs.Log.Fact.{Asked, Ended}
 use Rattle.bac_protocol.specs.Reuse.{is_transfer_over, server_hears}
 use Rattle.bac_protocol.specs.Transaction.{Copy, Key, Rules, ended, performed, server_context}
-use Rattle.bac_protocol.specs.World.{Post, World, client_acts, client_now, is_room, post_of, reacts, server_acts, server_now, serves, service_of, set_at, stored}
+use Rattle.bac_protocol.specs.World.{Net, Post, client_acts, client_now, is_room, post_of, server_acts, server_now, set_at}
 use Rattle.bac_protocol.specs.Claims.{IsBounded, Moments, moments_of}
 use Rattle.bac_protocol.proofs.Alone.{one}
 use Rattle.bac_protocol.proofs.Facts.{all_map, grows_same}
@@ -27,20 +28,20 @@ use Rattle.bac_protocol.proofs.Headline.{asked_once, net_log}
 use Rattle.bac_protocol.proofs.Keys.{decide_key, set_other, set_same}
 use Rattle.bac_protocol.proofs.Nets.{room_opens, sound_at}
 use Rattle.bac_protocol.proofs.Own.{server_sends_own}
-use Rattle.bac_protocol.proofs.Served.{IsServed, gets_served, ticks_quiet}
+use Rattle.bac_protocol.proofs.Served.{ticks_quiet}
 use Rattle.bac_protocol.proofs.Sound.{ClientFits, Down, DownFits, IsBegunFor, IsPastFor, Says, SendsDown, ServerFits, Sound, StateFits, Up}
 use Rattle.bac_protocol.proofs.Sound.Down.{Sent, Unsent}
-use Rattle.bac_reuse.specs.Once.{IsOnceSo}
-use Rattle.bac_reuse.specs.Runs.{ReadsChangeNothing, Reusing}
-use Rattle.bac_reuse.proofs.Beside.{AbortsOf, AreGone, AreLike, AreLogs, Fit, FitOf, Holds, IsForeign, IsLeftOf, IsLike, Own, WasRead, aborts_on}
+use Rattle.bac_reuse.specs.Moves.{IsOrderlySo, MayBePerformed}
+use Rattle.bac_reuse.specs.Runs.{Reusing}
+use Rattle.bac_reuse.proofs.Beside.{AbortsOf, AreGone, AreLike, AreLogs, Fit, FitOf, Holds, IsForeign, IsFresh, IsLeftOf, IsLike, Own, WasRead, aborts_on}
 use Rattle.bac_reuse.proofs.Beside.{after_ask, after_idle, ended_grows, fit_on, foreign_more, foreign_on, fresh_is, given_answers, is_fresh, likes_aborts, likes_join}
 use Rattle.bac_reuse.proofs.Beside.{likes_map, likes_same, logs_effect, logs_ended, logs_ending, logs_read_effect, may_end, over, performed_grows, set_keeps}
 use Rattle.bac_reuse.proofs.Clients.{AbortsIf}
 use Rattle.bac_reuse.proofs.FreshReads.{IsFromServer, IsOfRead, all_from_server, given_from_server, giving_own}
 use Rattle.bac_reuse.proofs.Machine.{EntryIs, GoesOnFrom, IsClientAbort, IsGiving, IsGone, IsRequestOf, OverBy, OverIf, gone_ticks, ticks_for, ticks_gives, ticks_over}
 use Rattle.bac_reuse.proofs.Outcomes.{GivesOn, GoesApart, HoldsOn, Outcome, ReadsFresh, outcome}
-use Rattle.bac_reuse.proofs.WorldSteps.{IsInTime, IsSoon, Stands, aborts, copy_is_soon, entry_gets, entry_in_time, entry_ticks, server_aborts}
-use Rattle.bac_reuse.proofs.WorldSteps.{soon_in_time}
+use Rattle.bac_reuse.proofs.NetSteps.{IsInTime, IsSoon, Stands, aborts, copy_is_soon, entry_gets, entry_in_time, entry_ticks, server_aborts}
+use Rattle.bac_reuse.proofs.NetSteps.{soon_in_time}
 
 -- what comes of the transaction is of its ask
 pub says_of : (W : ℕ) (times : Moments) (number : ℕ) (ask : Ask) (log : List Fact) (up : Up) (down : Down) (moment k : ℕ) (a : Apdu)
@@ -96,314 +97,279 @@ finished_phase W ask (SegmentedConf inc) up (Sent ps tk sn) out is fits download
     absurd (omega arith)
 finished_phase W ask Idle up (Sent ps tk sn) out is fits download sends = refl
 
-module _ (S : Type 0) (model : StoreModel S) (opening : ℕ → S) (W : ℕ) (x : Rules) (bound : IsBounded W x) (u : Reusing)
-    (nothing : ReadsChangeNothing S model u.reads) where
-  abbrev KeptAt : World S → Type 0
-  KeptAt w = Stands W w.net
+module _ (W : ℕ) (x : Rules) (bound : IsBounded W x) (u : Reusing) where
+  -- what the net has of its own fits the other
+  pub record Like (n : Net) (g : Own) : Type 0 where
+    pub posts : AreLike (IsLike n g.log) g.posts n.posts
+    pub entries : (key : Key) → Fit u key (server_now n key) (n.tickets key) (g.entries key) (n.entries key)
+    pub logs : AreLogs u g.log n.log
+    pub orderly : IsOrderlySo u g.log
 
-  -- what the world has of its own fits the other
-  pub record Like (w : World S) (g : Own) : Type 0 where
-    pub posts : AreLike (IsLike w.net g.log) g.posts w.net.posts
-    pub entries : (key : Key) → Fit u key (server_now w.net key) (w.net.tickets key) (g.entries key) (w.net.entries key)
-    pub logs : AreLogs u.reads g.log w.net.log
-    pub once : IsOnceSo S model u.reads opening g.log w.stores
+  -- a net has another one beside it
+  abbrev pub IsFollowed : Net → Type 0
+  IsFollowed m = (n : Net) × (g : Own) × Stands W n × Like n g × (m ≡ over n g)
 
-  -- a world has another one beside it
-  abbrev pub IsFollowed : World S → Type 0
-  IsFollowed v = (w : World S) × (g : Own) × KeptAt w × Like w g × (v ≡ over S w g)
+  pub follows : (n : Net) (g : Own) → Stands W n → Like n g → IsFollowed (over n g)
+  follows n g s l = (n, g, s, l, refl)
 
-  pub follows : (w : World S) (g : Own) → KeptAt w → Like w g → IsFollowed (over S w g)
-  follows w g s l = (w, g, s, l, refl)
-
-  pub moves : (f : World S → World S) → ((w : World S) (g : Own) → KeptAt w → Like w g → IsFollowed (f (over S w g))) → (v : World S) → IsFollowed v → IsFollowed (f v)
-  moves f step v h = subst (λ (y : World S). IsFollowed (f y)) (sym h.4) (step h.0 h.1 h.2 h.3)
-
-  module _ (w : World S) (g : Own) (s : KeptAt w) (l : Like w g) (key : Key) (t : ClientTransaction) (at : w.net.tickets key ≡ Some t) where
-    was_asked : Has (Asked (w.net.numbers key) key.client key.server (request_of t.ask)) w.net.log
-    was_asked = (sound_at W w.net key (Some t) at s.net).2.asked
+  module _ (n : Net) (g : Own) (s : Stands W n) (l : Like n g) (key : Key) (t : ClientTransaction) (at : n.tickets key ≡ Some t) where
+    was_asked : Has (Asked (n.numbers key) key.client key.server (request_of t.ask)) n.log
+    was_asked = (sound_at W n key (Some t) at s.net).2.asked
 
     -- The client acts.
 
     module _ (r : client.Reaction) (silent : is_idle t.phase ≡ true → r ≡ Stays)
-        (steady : Each (AbortsIf (is_idle (after (client_now w.net key) t r).phase)) (client.sends_of r)) (o : Option Ending) where
+        (steady : Each (AbortsIf (is_idle (after (client_now n key) t r).phase)) (client.sends_of r)) (o : Option Ending) where
       abbrev acted : Own
-      acted = record g { posts = g.posts ++ map (post_of key w.net.now) (client.sends_of r); log = ended (w.net.numbers key) o g.log }
+      acted = record g { posts = g.posts ++ map (post_of key n.now) (client.sends_of r); log = ended (n.numbers key) o g.log }
 
-      same_ask : (after (client_now w.net key) t r).ask ≡ t.ask
-      same_ask = after_ask (client_now w.net key) t r
+      same_ask : (after (client_now n key) t r).ask ≡ t.ask
+      same_ask = after_ask (client_now n key) t r
 
-      stays_idle : is_idle t.phase ≡ true → is_idle (after (client_now w.net key) t r).phase ≡ true
-      stays_idle = after_idle (client_now w.net key) t r silent
+      stays_idle : is_idle t.phase ≡ true → is_idle (after (client_now n key) t r).phase ≡ true
+      stays_idle = after_idle (client_now n key) t r silent
 
-      old_post : (p q : Post) → IsLike w.net g.log p q → IsLike (client_acts w.net key t r) (ended (w.net.numbers key) o g.log) p q
+      old_post : (p q : Post) → IsLike n g.log p q → IsLike (client_acts n key t r) (ended (n.numbers key) o g.log) p q
       old_post p q (inl h) = inl (
         h.0,
         λ young.
-            set_keeps w.net.tickets key (Some (after (client_now w.net key) t r)) (λ j y. AbortsOf y p.copy.apdu) p.key (h.1 young)
-            (λ a. aborts_on t (after (client_now w.net key) t r) stays_idle p.copy.apdu (subst (λ y. AbortsOf y p.copy.apdu) at a)),
+            set_keeps n.tickets key (Some (after (client_now n key) t r)) (λ j y. AbortsOf y p.copy.apdu) p.key (h.1 young)
+            (λ a. aborts_on t (after (client_now n key) t r) stays_idle p.copy.apdu (subst (λ y. AbortsOf y p.copy.apdu) at a)),
       )
       old_post p q (inr h) = inr (
         h.0,
         h.1,
         λ young.
-            set_keeps w.net.tickets key (Some (after (client_now w.net key) t r)) (λ j y. IsForeign (w.net.numbers j) y (ended (w.net.numbers key) o g.log) p.copy.apdu) p.key
-            (foreign_more (w.net.numbers p.key) (w.net.tickets p.key) g.log (ended (w.net.numbers key) o g.log) (ended_grows (w.net.numbers key) o g.log) p.copy.apdu (h.2 young))
-            (λ a. foreign_on (w.net.numbers key) t (after (client_now w.net key) t r) (ended (w.net.numbers key) o g.log) (ended (w.net.numbers key) o g.log) same_ask stays_idle
-            (grows_same (ended (w.net.numbers key) o g.log)) p.copy.apdu
-            (subst (λ y. IsForeign (w.net.numbers key) y (ended (w.net.numbers key) o g.log) p.copy.apdu) at a)),
+            set_keeps n.tickets key (Some (after (client_now n key) t r)) (λ j y. IsForeign (n.numbers j) y (ended (n.numbers key) o g.log) p.copy.apdu) p.key
+            (foreign_more (n.numbers p.key) (n.tickets p.key) g.log (ended (n.numbers key) o g.log) (ended_grows (n.numbers key) o g.log) p.copy.apdu (h.2 young))
+            (λ a. foreign_on (n.numbers key) t (after (client_now n key) t r) (ended (n.numbers key) o g.log) (ended (n.numbers key) o g.log) same_ask stays_idle
+            (grows_same (ended (n.numbers key) o g.log)) p.copy.apdu
+            (subst (λ y. IsForeign (n.numbers key) y (ended (n.numbers key) o g.log) p.copy.apdu) at a)),
       )
 
-      new_post : (a : Apdu) → AbortsIf (is_idle (after (client_now w.net key) t r).phase) a
-          → IsLike (client_acts w.net key t r) (ended (w.net.numbers key) o g.log) (post_of key w.net.now a) (post_of key w.net.now a)
+      new_post : (a : Apdu) → AbortsIf (is_idle (after (client_now n key) t r).phase) a
+          → IsLike (client_acts n key t r) (ended (n.numbers key) o g.log) (post_of key n.now a) (post_of key n.now a)
       new_post a h = inl (
         refl,
         λ young. subst (λ (y : Option ClientTransaction). AbortsOf y a)
-            (sym (set_same w.net.tickets key (Some (after (client_now w.net key) t r)))) h,
+            (sym (set_same n.tickets key (Some (after (client_now n key) t r)))) h,
       )
 
-      client_like : AreLogs u.reads (ended (w.net.numbers key) o g.log) (client_acts w.net key t r).log
-          → IsOnceSo S model u.reads opening (ended (w.net.numbers key) o g.log) w.stores → Like (reacts S w key t r) acted
-      client_like logs once = record {
-        posts = likes_join (IsLike (client_acts w.net key t r) (ended (w.net.numbers key) o g.log)) g.posts w.net.posts
-            (map (post_of key w.net.now) (client.sends_of r)) (map (post_of key w.net.now) (client.sends_of r))
-            (likes_map (IsLike w.net g.log) (IsLike (client_acts w.net key t r) (ended (w.net.numbers key) o g.log)) g.posts w.net.posts
-            (λ n p q place h. old_post p q h) l.posts)
-            (likes_same (IsLike (client_acts w.net key t r) (ended (w.net.numbers key) o g.log)) key w.net.now (client.sends_of r)
-            (all_map (AbortsIf (is_idle (after (client_now w.net key) t r).phase))
-            (λ a. IsLike (client_acts w.net key t r) (ended (w.net.numbers key) o g.log) (post_of key w.net.now a) (post_of key w.net.now a)) new_post
+      client_like : AreLogs u (ended (n.numbers key) o g.log) (client_acts n key t r).log → IsOrderlySo u (ended (n.numbers key) o g.log)
+          → Like (client_acts n key t r) acted
+      client_like logs orderly = record {
+        posts = likes_join (IsLike (client_acts n key t r) (ended (n.numbers key) o g.log)) g.posts n.posts
+            (map (post_of key n.now) (client.sends_of r)) (map (post_of key n.now) (client.sends_of r))
+            (likes_map (IsLike n g.log) (IsLike (client_acts n key t r) (ended (n.numbers key) o g.log)) g.posts n.posts
+            (λ i p q place h. old_post p q h) l.posts)
+            (likes_same (IsLike (client_acts n key t r) (ended (n.numbers key) o g.log)) key n.now (client.sends_of r)
+            (all_map (AbortsIf (is_idle (after (client_now n key) t r).phase))
+            (λ a. IsLike (client_acts n key t r) (ended (n.numbers key) o g.log) (post_of key n.now a) (post_of key n.now a)) new_post
             (client.sends_of r) steady));
-        entries = λ k. set_keeps w.net.tickets key (Some (after (client_now w.net key) t r)) (λ j y. Fit u j (server_now w.net j) y (g.entries j) (w.net.entries j)) k
+        entries = λ k. set_keeps n.tickets key (Some (after (client_now n key) t r)) (λ j y. Fit u j (server_now n j) y (g.entries j) (n.entries j)) k
             (l.entries k)
-            (λ h. fit_on u key (server_now w.net key) t (after (client_now w.net key) t r) same_ask stays_idle (g.entries key) (w.net.entries key)
-            (subst (λ y. Fit u key (server_now w.net key) y (g.entries key) (w.net.entries key)) at h));
+            (λ h. fit_on u key (server_now n key) t (after (client_now n key) t r) same_ask stays_idle (g.entries key) (n.entries key)
+            (subst (λ y. Fit u key (server_now n key) y (g.entries key) (n.entries key)) at h));
         logs = logs;
-        once = once;
+        orderly = orderly;
       }
 
     -- both do the same
     pub client_same : (r : client.Reaction) → (is_idle t.phase ≡ true → r ≡ Stays)
-        → Each (AbortsIf (is_idle (after (client_now w.net key) t r).phase)) (client.sends_of r) → KeptAt (reacts S w key t r)
-        → IsFollowed (reacts S (over S w g) key t r)
+        → Each (AbortsIf (is_idle (after (client_now n key) t r).phase)) (client.sends_of r) → Stands W (client_acts n key t r)
+        → IsFollowed (client_acts (over n g) key t r)
     client_same r silent steady kept = (
-      reacts S w key t r,
+      client_acts n key t r,
       acted r silent steady (client.ending_of r),
       kept,
-      client_like r silent steady (client.ending_of r) (logs_ending u.reads g.log w.net.log l.logs (w.net.numbers key) (client.ending_of r))
-          (go (client.ending_of r) (net_log W (client_acts w.net key t r) kept.net).orderly),
+      client_like r silent steady (client.ending_of r) (logs_ending u g.log n.log l.logs (n.numbers key) (client.ending_of r))
+          (go (client.ending_of r) (net_log W (client_acts n key t r) kept.net).orderly),
       refl,
     )
       where
-        go : (o : Option Ending) → IsOrderly (ended (w.net.numbers key) o w.net.log) → IsOnceSo S model u.reads opening (ended (w.net.numbers key) o g.log) w.stores
-        go None right = l.once
-        go (Some how) right = (w.stores, (may_end u.reads g.log w.net.log l.logs (w.net.numbers key) how right.0, l.logs.unended (w.net.numbers key) right.1, λ node. refl), l.once)
+        go : (o : Option Ending) → IsOrderly (ended (n.numbers key) o n.log) → IsOrderlySo u (ended (n.numbers key) o g.log)
+        go None right = l.orderly
+        go (Some how) right = (may_end u g.log n.log l.logs (n.numbers key) how right.0, l.logs.unended (n.numbers key) right.1, l.orderly)
 
     -- both end, each in its own way
     pub client_ended : is_idle t.phase ≡ false → (sends : List Apdu) (how other : Ending) → Each (AbortsIf true) sends
-        → KeptAt (reacts S w key t (Ends sends other))
-        → MayEnd (w.net.numbers key) how g.log → IsFollowed (reacts S (over S w g) key t (Ends sends how))
+        → Stands W (client_acts n key t (Ends sends other))
+        → MayEnd (n.numbers key) how g.log → IsFollowed (client_acts (over n g) key t (Ends sends how))
     client_ended going sends how other steady kept may = (
-      reacts S w key t (Ends sends other),
+      client_acts n key t (Ends sends other),
       acted (Ends sends other) silent steady (Some how),
       kept,
-      client_like (Ends sends other) silent steady (Some how) (logs_ended u.reads g.log w.net.log l.logs (w.net.numbers key) how other)
-          (w.stores, (may, l.logs.unended (w.net.numbers key) right.1, λ node. refl), l.once),
+      client_like (Ends sends other) silent steady (Some how) (logs_ended u g.log n.log l.logs (n.numbers key) how other)
+          (may, l.logs.unended (n.numbers key) right.1, l.orderly),
       refl,
     )
       where
         silent : is_idle t.phase ≡ true → Ends sends other ≡ Stays
         silent idle = absurd (let no : true ≡ false = sym idle ∙ going in cc)
 
-        right : IsOrderly (Ended (w.net.numbers key) other ∷ w.net.log)
-        right = (net_log W (client_acts w.net key t (Ends sends other)) kept.net).orderly
+        right : IsOrderly (Ended (n.numbers key) other ∷ n.log)
+        right = (net_log W (client_acts n key t (Ends sends other)) kept.net).orderly
 
     -- The server acts.
 
     -- what a server performs for the ask, in both
-    pub once_effect : (o : Option Effect) → IsServed (service_of S model w key) o → IsOrderly (performed (w.net.numbers key) o w.net.log)
-        → IsOnceSo S model u.reads opening (performed (w.net.numbers key) o g.log) (stored S model key.server o w.stores)
-    once_effect None is right = l.once
-    once_effect (Some e) is right = (
-      w.stores,
-      (
-        key.client,
-        key.server,
-        l.logs.asked (w.net.numbers key) key.client key.server e.request (subst (λ r. Has (Asked (w.net.numbers key) key.client key.server r) w.net.log) same was_asked),
-        before (l.logs.unperformed (w.net.numbers key) right.1),
-        is,
-        λ node. refl,
-      ),
-      l.once,
-    )
+    orderly_effect : (o : Option Effect) → IsOrderly (performed (n.numbers key) o n.log) → IsOrderlySo u (performed (n.numbers key) o g.log)
+    orderly_effect None right = l.orderly
+    orderly_effect (Some e) right = (before (l.logs.unperformed (n.numbers key) right.1), l.orderly)
       where
-        same : request_of t.ask ≡ e.request
-        same = asked_once (w.net.numbers key) key.client key.server right.0.0 right.0.1 (request_of t.ask) e.request w.net.log right.2 was_asked right.0.2
+        same : (read : WasRead u (n.numbers key) n.log) → read.2 ≡ e.request
+        same read = asked_once (n.numbers key) read.0 read.1 right.0.0 right.0.1 read.2 e.request n.log right.2 read.3 right.0.2
 
-        before : IsUnperformed (w.net.numbers key) g.log ⊎ WasRead u.reads (w.net.numbers key) w.net.log
-            → IsUnperformed (w.net.numbers key) g.log ⊎ (u.reads e.request.choice ≡ true)
-        before (inl un) = inl un
-        before (inr read) = inr (subst (λ (q : Request). u.reads q.choice ≡ true)
-            (asked_once (w.net.numbers key) read.0 read.1 right.0.0 right.0.1 read.2 e.request w.net.log right.2 read.3 right.0.2) read.4)
+        before : IsUnperformed (n.numbers key) g.log ⊎ WasRead u (n.numbers key) n.log → MayBePerformed u (n.numbers key) e.request g.log
+        before (inl un) = (right.0.0, right.0.1, l.logs.asked (n.numbers key) right.0.0 right.0.1 e.request right.0.2, inl un)
+        before (inr read) = (
+          read.0,
+          read.1,
+          l.logs.asked (n.numbers key) read.0 read.1 e.request
+              (subst (λ (q : Request). Has (Asked (n.numbers key) read.0 read.1 q) n.log) (same read) read.3),
+          inr (read.4, subst (λ (q : Request). u.reads q.choice ≡ true) (same read) read.5),
+        )
 
     -- what it performs for a read, where the other performs nothing
-    module _ (read : u.reads t.ask.choice ≡ true) where
-      reads_request : (y : Effect) → y.request ≡ request_of t.ask → u.reads y.request.choice ≡ true
-      reads_request y same = subst (λ (q : Request). u.reads q.choice ≡ true) (sym same) read
+    module _ (service : Service) (fresh : IsFresh u key t.ask) where
+      was_read : WasRead u (n.numbers key) n.log
+      was_read = (key.client, key.server, request_of t.ask, was_asked, fresh.reuses, fresh.read)
 
-      was_read : WasRead u.reads (w.net.numbers key) w.net.log
-      was_read = (key.client, key.server, request_of t.ask, was_asked, read)
-
-      unchanged : (y : Effect) → y.request ≡ request_of t.ask → (node : ℕ)
-          → (if nat_eq node key.server then model.after (w.stores key.server) y.request else w.stores node) ≡ w.stores node
-      unchanged y same node = go (nat_eq node key.server) refl
-        where
-          go : (b : Bool) → nat_eq node key.server ≡ b → (if b then model.after (w.stores key.server) y.request else w.stores node) ≡ w.stores node
-          go true is = let at : key.server ≡ node = grind (arith, nat_tests) in nothing (w.stores key.server) y.request (reads_request y same) ∙ ap w.stores at
-          go false is = refl
-
-      stored_read : (o : Option Effect) → IsOfRead (service_of S model w key) t.ask o → stored S model key.server o w.stores ≡ w.stores
-      stored_read None of = refl
-      stored_read (Some y) of = λ i node. unchanged y of.0 node i
-
-      once_read : (o : Option Effect) → IsOfRead (service_of S model w key) t.ask o
-          → IsOnceSo S model u.reads opening (performed (w.net.numbers key) o g.log) w.stores
-      once_read None of = l.once
-      once_read (Some y) of = (
-        w.stores,
+      orderly_read : (o : Option Effect) → IsOfRead service t.ask o → IsOrderlySo u (performed (n.numbers key) o g.log)
+      orderly_read None of = l.orderly
+      orderly_read (Some y) of = (
         (
           key.client,
           key.server,
-          l.logs.asked (w.net.numbers key) key.client key.server y.request
-              (subst (λ r. Has (Asked (w.net.numbers key) key.client key.server r) w.net.log) (sym of.0) was_asked),
-          inr (reads_request y of.0),
-          of.1,
-          λ node. sym (unchanged y of.0 node),
+          l.logs.asked (n.numbers key) key.client key.server y.request
+              (subst (λ (q : Request). Has (Asked (n.numbers key) key.client key.server q) n.log) (sym of.0) was_asked),
+          inr (fresh.reuses, subst (λ (q : Request). u.reads q.choice ≡ true) (sym of.0) fresh.read),
         ),
-        l.once,
+        l.orderly,
       )
 
     module _ (v v' : server.Reaction) where
       abbrev acts : Own
       acts = record {
         entries = set_at g.entries key v.entry;
-        posts = g.posts ++ map (post_of key w.net.now) v.sends;
-        log = performed (w.net.numbers key) v.effect g.log;
+        posts = g.posts ++ map (post_of key n.now) v.sends;
+        log = performed (n.numbers key) v.effect g.log;
         far_entries = g.far_entries;
       }
 
       abbrev IsLikeNow : Post → Post → Type 0
-      IsLikeNow = IsLike (server_acts w.net key v') (performed (w.net.numbers key) v.effect g.log)
+      IsLikeNow = IsLike (server_acts n key v') (performed (n.numbers key) v.effect g.log)
 
-      kept_post : (p q : Post) → IsLike w.net g.log p q → IsLikeNow p q
+      kept_post : (p q : Post) → IsLike n g.log p q → IsLikeNow p q
       kept_post p q (inl h) = inl h
       kept_post p q (inr h) = inr (
         h.0,
         h.1,
-        λ young. foreign_more (w.net.numbers p.key) (w.net.tickets p.key) g.log (performed (w.net.numbers key) v.effect g.log)
-            (performed_grows (w.net.numbers key) v.effect g.log) p.copy.apdu (h.2 young),
+        λ young. foreign_more (n.numbers p.key) (n.tickets p.key) g.log (performed (n.numbers key) v.effect g.log)
+            (performed_grows (n.numbers key) v.effect g.log) p.copy.apdu (h.2 young),
       )
 
-      entry_fits : Fit u key (server_now w.net key) (Some t) v.entry v'.entry → (k : Key)
-          → Fit u k (server_now w.net k) (w.net.tickets k) (set_at g.entries key v.entry k) (set_at w.net.entries key v'.entry k)
+      entry_fits : Fit u key (server_now n key) (Some t) v.entry v'.entry → (k : Key)
+          → Fit u k (server_now n k) (n.tickets k) (set_at g.entries key v.entry k) (set_at n.entries key v'.entry k)
       entry_fits fit k = go (decide_key key k)
         where
-          go : ((key ≡ k) ⊎ (key ≡ k → ⊥)) → Fit u k (server_now w.net k) (w.net.tickets k) (set_at g.entries key v.entry k) (set_at w.net.entries key v'.entry k)
-          go (inl is) = subst (λ (j : Key). Fit u j (server_now w.net j) (w.net.tickets j) (set_at g.entries key v.entry j) (set_at w.net.entries key v'.entry j)) is
-              (subst (λ (o : Option ServerTransaction). Fit u key (server_now w.net key) (w.net.tickets key) o (set_at w.net.entries key v'.entry key))
+          go : ((key ≡ k) ⊎ (key ≡ k → ⊥)) → Fit u k (server_now n k) (n.tickets k) (set_at g.entries key v.entry k) (set_at n.entries key v'.entry k)
+          go (inl is) = subst (λ (j : Key). Fit u j (server_now n j) (n.tickets j) (set_at g.entries key v.entry j) (set_at n.entries key v'.entry j)) is
+              (subst (λ (o : Option ServerTransaction). Fit u key (server_now n key) (n.tickets key) o (set_at n.entries key v'.entry key))
               (sym (set_same g.entries key v.entry))
-              (subst (λ (o : Option ServerTransaction). Fit u key (server_now w.net key) (w.net.tickets key) v.entry o) (sym (set_same w.net.entries key v'.entry))
-              (subst (λ (y : Option ClientTransaction). Fit u key (server_now w.net key) y v.entry v'.entry) (sym at) fit)))
-          go (inr ne) = subst (λ (o : Option ServerTransaction). Fit u k (server_now w.net k) (w.net.tickets k) o (set_at w.net.entries key v'.entry k))
+              (subst (λ (o : Option ServerTransaction). Fit u key (server_now n key) (n.tickets key) v.entry o) (sym (set_same n.entries key v'.entry))
+              (subst (λ (y : Option ClientTransaction). Fit u key (server_now n key) y v.entry v'.entry) (sym at) fit)))
+          go (inr ne) = subst (λ (o : Option ServerTransaction). Fit u k (server_now n k) (n.tickets k) o (set_at n.entries key v'.entry k))
               (sym (set_other g.entries key v.entry k ne))
-              (subst (λ (o : Option ServerTransaction). Fit u k (server_now w.net k) (w.net.tickets k) (g.entries k) o) (sym (set_other w.net.entries key v'.entry k ne))
+              (subst (λ (o : Option ServerTransaction). Fit u k (server_now n k) (n.tickets k) (g.entries k) o) (sym (set_other n.entries key v'.entry k ne))
               (l.entries k))
 
-      server_goes : KeptAt (serves S model w key v') → AreLike IsLikeNow (map (post_of key w.net.now) v.sends) (map (post_of key w.net.now) v'.sends)
-          → Fit u key (server_now w.net key) (Some t) v.entry v'.entry
-          → AreLogs u.reads (performed (w.net.numbers key) v.effect g.log) (performed (w.net.numbers key) v'.effect w.net.log)
-          → IsOnceSo S model u.reads opening (performed (w.net.numbers key) v.effect g.log) (stored S model key.server v'.effect w.stores)
-          → stored S model key.server v.effect w.stores ≡ stored S model key.server v'.effect w.stores → IsFollowed (serves S model (over S w g) key v)
-      server_goes kept sends fit logs once stores = (
-        serves S model w key v',
+      server_goes : Stands W (server_acts n key v') → AreLike IsLikeNow (map (post_of key n.now) v.sends) (map (post_of key n.now) v'.sends)
+          → Fit u key (server_now n key) (Some t) v.entry v'.entry
+          → AreLogs u (performed (n.numbers key) v.effect g.log) (performed (n.numbers key) v'.effect n.log)
+          → IsOrderlySo u (performed (n.numbers key) v.effect g.log) → IsFollowed (server_acts (over n g) key v)
+      server_goes kept sends fit logs orderly = (
+        server_acts n key v',
         acts,
         kept,
         record {
-          posts = likes_join IsLikeNow g.posts w.net.posts (map (post_of key w.net.now) v.sends) (map (post_of key w.net.now) v'.sends)
-              (likes_map (IsLike w.net g.log) IsLikeNow g.posts w.net.posts (λ n p q place h. kept_post p q h) l.posts) sends;
+          posts = likes_join IsLikeNow g.posts n.posts (map (post_of key n.now) v.sends) (map (post_of key n.now) v'.sends)
+              (likes_map (IsLike n g.log) IsLikeNow g.posts n.posts (λ i p q place h. kept_post p q h) l.posts) sends;
           entries = entry_fits fit;
           logs = logs;
-          once = once;
+          orderly = orderly;
         },
-        λ i. record { net = (serves S model (over S w g) key v).net; stores = stores i },
+        refl,
       )
 
     -- what the server sends in both
     new_sends : (v v' : server.Reaction) (sends : List Apdu) → Each IsFromServer sends
-        → AreLike (IsLikeNow v v') (map (post_of key w.net.now) sends) (map (post_of key w.net.now) sends)
-    new_sends v v' sends from = likes_same (IsLikeNow v v') key w.net.now sends
-        (all_map IsFromServer (λ a. IsLikeNow v v' (post_of key w.net.now a) (post_of key w.net.now a))
-        (λ a is. inl (refl, λ young. server_aborts_of (w.net.tickets key) a is)) sends from)
+        → AreLike (IsLikeNow v v') (map (post_of key n.now) sends) (map (post_of key n.now) sends)
+    new_sends v v' sends from = likes_same (IsLikeNow v v') key n.now sends
+        (all_map IsFromServer (λ a. IsLikeNow v v' (post_of key n.now a) (post_of key n.now a))
+        (λ a is. inl (refl, λ young. server_aborts_of (n.tickets key) a is)) sends from)
 
     -- both do the same
-    pub server_same : (v : server.Reaction) → KeptAt (serves S model w key v) → Each IsFromServer v.sends → IsServed (service_of S model w key) v.effect
-        → Fit u key (server_now w.net key) (Some t) v.entry v.entry → IsFollowed (serves S model (over S w g) key v)
-    server_same v kept from is fit = server_goes v v kept (new_sends v v v.sends from) fit
-        (logs_effect u.reads g.log w.net.log l.logs (w.net.numbers key) v.effect)
-        (once_effect v.effect is (net_log W (server_acts w.net key v) kept.net).orderly) refl
+    pub server_same : (v : server.Reaction) → Stands W (server_acts n key v) → Each IsFromServer v.sends
+        → Fit u key (server_now n key) (Some t) v.entry v.entry → IsFollowed (server_acts (over n g) key v)
+    server_same v kept from fit = server_goes v v kept (new_sends v v v.sends from) fit
+        (logs_effect u g.log n.log l.logs (n.numbers key) v.effect)
+        (orderly_effect v.effect (net_log W (server_acts n key v) kept.net).orderly)
 
     -- both keep what they have
-    pub server_rests : (o p : Option ServerTransaction) (sends : List Apdu) → KeptAt (serves S model w key (server.rests p sends)) → Each IsFromServer sends
-        → AreGone (server_now w.net key) o p → IsFollowed (serves S model (over S w g) key (server.rests o sends))
+    pub server_rests : (o p : Option ServerTransaction) (sends : List Apdu) → Stands W (server_acts n key (server.rests p sends)) → Each IsFromServer sends
+        → AreGone (server_now n key) o p → IsFollowed (server_acts (over n g) key (server.rests o sends))
     server_rests o p sends kept from gone = server_goes (server.rests o sends) (server.rests p sends) kept
-        (new_sends (server.rests o sends) (server.rests p sends) sends from) (inl gone) l.logs l.once refl
+        (new_sends (server.rests o sends) (server.rests p sends) sends from) (inl gone) l.logs l.orderly
 
     -- the other sends Aborts
-    foreign_sends : (v v' : server.Reaction) → Each (λ a. IsFromServer a × IsForeign (w.net.numbers key) (Some t) (performed (w.net.numbers key) v.effect g.log) a) v.sends
-        → AreLike (IsLikeNow v v') (map (post_of key w.net.now) v.sends) (map (post_of key w.net.now) (aborts key.invoke_id v.sends))
-    foreign_sends v v' each = likes_aborts (IsLikeNow v v') key w.net.now v.sends
-        (all_map (λ a. IsFromServer a × IsForeign (w.net.numbers key) (Some t) (performed (w.net.numbers key) v.effect g.log) a)
-        (λ a. IsLikeNow v v' (post_of key w.net.now a) (post_of key w.net.now (Abort true key.invoke_id OTHER)))
-        (λ a h. inr (refl, h.0, λ young. subst (λ (y : Option ClientTransaction). IsForeign (w.net.numbers key) y (performed (w.net.numbers key) v.effect g.log) a) (sym at) h.1))
+    foreign_sends : (v v' : server.Reaction) → Each (λ a. IsFromServer a × IsForeign (n.numbers key) (Some t) (performed (n.numbers key) v.effect g.log) a) v.sends
+        → AreLike (IsLikeNow v v') (map (post_of key n.now) v.sends) (map (post_of key n.now) (aborts key.invoke_id v.sends))
+    foreign_sends v v' each = likes_aborts (IsLikeNow v v') key n.now v.sends
+        (all_map (λ a. IsFromServer a × IsForeign (n.numbers key) (Some t) (performed (n.numbers key) v.effect g.log) a)
+        (λ a. IsLikeNow v v' (post_of key n.now a) (post_of key n.now (Abort true key.invoke_id OTHER)))
+        (λ a h. inr (refl, h.0, λ young. subst (λ (y : Option ClientTransaction). IsForeign (n.numbers key) y (performed (n.numbers key) v.effect g.log) a) (sym at) h.1))
         v.sends each)
 
-    pub server_alone : (read : u.reads t.ask.choice ≡ true) (v : server.Reaction) (o : Option ServerTransaction)
-        → KeptAt (serves S model w key (server.rests o (aborts key.invoke_id v.sends)))
-        → Each (λ a. IsFromServer a × IsForeign (w.net.numbers key) (Some t) (performed (w.net.numbers key) v.effect g.log) a) v.sends
-        → IsOfRead (service_of S model w key) t.ask v.effect → Fit u key (server_now w.net key) (Some t) v.entry o
-        → IsFollowed (serves S model (over S w g) key v)
-    server_alone read v o kept each of fit = server_goes v (server.rests o (aborts key.invoke_id v.sends)) kept
+    pub server_alone : (service : Service) (fresh : IsFresh u key t.ask) (v : server.Reaction) (o : Option ServerTransaction)
+        → Stands W (server_acts n key (server.rests o (aborts key.invoke_id v.sends)))
+        → Each (λ a. IsFromServer a × IsForeign (n.numbers key) (Some t) (performed (n.numbers key) v.effect g.log) a) v.sends
+        → IsOfRead service t.ask v.effect → Fit u key (server_now n key) (Some t) v.entry o
+        → IsFollowed (server_acts (over n g) key v)
+    server_alone service fresh v o kept each of fit = server_goes v (server.rests o (aborts key.invoke_id v.sends)) kept
         (foreign_sends v (server.rests o (aborts key.invoke_id v.sends)) each) fit
-        (logs_read_effect u.reads g.log w.net.log l.logs (w.net.numbers key) v.effect (was_read read)) (once_read read v.effect of) (stored_read read v.effect of)
+        (logs_read_effect u g.log n.log l.logs (n.numbers key) v.effect (was_read service fresh)) (orderly_read service fresh v.effect of)
 
     -- An entry that both have.
 
-    finished_idle : (v : server.Reaction) → KeptAt (serves S model w key v) → (d : ServerTransaction) → v.entry ≡ Some d → is_live (server_now w.net key) d ≡ true
+    finished_idle : (v : server.Reaction) → Stands W (server_acts n key v) → (d : ServerTransaction) → v.entry ≡ Some d → is_live (server_now n key) d ≡ true
         → (out : Outgoing) (transfer : Transfer) (since : ℕ) → d.state ≡ State.SegmentedResponse out transfer since → is_finished out ≡ true → is_idle t.phase ≡ true
-    finished_idle v kept d is live out transfer since of finished = go (subst Fits (set_same w.net.entries key v.entry ∙ is) (f.2).server)
+    finished_idle v kept d is live out transfer since of finished = go (subst Fits (set_same n.entries key v.entry ∙ is) (f.2).server)
       where
-        f : (up : Up) × (down : Down) × Sound W key (moments_of w.net key) w.net.asks (w.net.numbers key) t (set_at w.net.entries key v.entry key)
-            (one (server_acts w.net key v) key).copies (performed (w.net.numbers key) v.effect w.net.log) up down
-        f = sound_at W (server_acts w.net key v) key (Some t) at kept.net
+        f : (up : Up) × (down : Down) × Sound W key (moments_of n key) n.asks (n.numbers key) t (set_at n.entries key v.entry key)
+            (one (server_acts n key v) key).copies (performed (n.numbers key) v.effect n.log) up down
+        f = sound_at W (server_acts n key v) key (Some t) at kept.net
 
         Fits : Option ServerTransaction → Type 0
-        Fits o = ServerFits W (moments_of w.net key) (w.net.numbers key) t.ask o f.0 f.1 (performed (w.net.numbers key) v.effect w.net.log)
+        Fits o = ServerFits W (moments_of n key) (n.numbers key) t.ask o f.0 f.1 (performed (n.numbers key) v.effect n.log)
 
         by_state : (st : State) → st ≡ State.SegmentedResponse out transfer since
-            → StateFits W (w.net.numbers key) t.ask st f.0 f.1 (performed (w.net.numbers key) v.effect w.net.log) → is_idle t.phase ≡ true
+            → StateFits W (n.numbers key) t.ask st f.0 f.1 (performed (n.numbers key) v.effect n.log) → is_idle t.phase ≡ true
         by_state st same fits = finished_phase W t.ask t.phase f.0 f.1 out finished (f.2).client (f.2).download
-            (subst (λ (y : State). StateFits W (w.net.numbers key) t.ask y f.0 f.1 (performed (w.net.numbers key) v.effect w.net.log)) same fits).sends
+            (subst (λ (y : State). StateFits W (n.numbers key) t.ask y f.0 f.1 (performed (n.numbers key) v.effect n.log)) same fits).sends
 
-        go : IsPastFor (moments_of w.net key) (w.net.numbers key) t.ask d f.0 f.1 (performed (w.net.numbers key) v.effect w.net.log)
-            ⊎ IsBegunFor W (moments_of w.net key) (w.net.numbers key) t.ask d f.0 f.1 (performed (w.net.numbers key) v.effect w.net.log) → is_idle t.phase ≡ true
+        go : IsPastFor (moments_of n key) (n.numbers key) t.ask d f.0 f.1 (performed (n.numbers key) v.effect n.log)
+            ⊎ IsBegunFor W (moments_of n key) (n.numbers key) t.ask d f.0 f.1 (performed (n.numbers key) v.effect n.log) → is_idle t.phase ≡ true
         go (inl past) = let dead = past.dead in absurd (grind (arith, nat_tests))
         go (inr begun) = by_state d.state of begun.state
 
-    holds_next : (v : server.Reaction) → KeptAt (serves S model w key v) → (service : Service) (a : Apdu) → (IsClientAbort a → is_idle t.phase ≡ true) → (b : Bool)
-        → EntryIs (HoldsOn (server_context x key (server_now w.net key)) service b (is_idle t.phase) t.ask a) v.entry → EntryIs (Holds b (is_idle t.phase) t.ask) v.entry
+    holds_next : (v : server.Reaction) → Stands W (server_acts n key v) → (service : Service) (a : Apdu) → (IsClientAbort a → is_idle t.phase ≡ true) → (b : Bool)
+        → EntryIs (HoldsOn (server_context x key (server_now n key)) service b (is_idle t.phase) t.ask a) v.entry → EntryIs (Holds b (is_idle t.phase) t.ask) v.entry
     holds_next v kept service a gave_up b h = go v.entry refl b h
       where
-        over_by : (d : ServerTransaction) → v.entry ≡ Some d → is_live (server_now w.net key) d ≡ true → (before : Transfer)
+        over_by : (d : ServerTransaction) → v.entry ≡ Some d → is_live (server_now n key) d ≡ true → (before : Transfer)
             → (is_transfer_over before ≡ true → is_idle t.phase ≡ true) → (st : State) → d.state ≡ st
-            → OverBy (server_context x key (server_now w.net key)) service a before st → OverIf (is_idle t.phase ≡ true) st
+            → OverBy (server_context x key (server_now n key)) service a before st → OverIf (is_idle t.phase ≡ true) st
         over_by d is live before was (State.SegmentedRequest inc since) at k = tt
         over_by d is live before was (State.Done done) at k = tt
         over_by d is live before was State.Dropped at k = tt
@@ -415,236 +381,238 @@ module _ (S : Type 0) (model : StoreModel S) (opening : ℕ → S) (W : ℕ) (x 
             cause (inr (inr old)) = was old
 
         go : (o : Option ServerTransaction) → v.entry ≡ o → (b : Bool)
-            → EntryIs (HoldsOn (server_context x key (server_now w.net key)) service b (is_idle t.phase) t.ask a) o → EntryIs (Holds b (is_idle t.phase) t.ask) o
+            → EntryIs (HoldsOn (server_context x key (server_now n key)) service b (is_idle t.phase) t.ask a) o → EntryIs (Holds b (is_idle t.phase) t.ask) o
         go None is b h = absurd h
         go (Some d) is true h = (h.gives, over_by d is h.live h.before h.was d.state refl h.over)
         go (Some d) is false h = h
 
-    fit_at : FitOf (server_now w.net key) (is_fresh u key t.ask) (is_idle t.phase) t.ask (g.entries key) (w.net.entries key)
-    fit_at = subst (λ (y : Option ClientTransaction). Fit u key (server_now w.net key) y (g.entries key) (w.net.entries key)) at (l.entries key)
+    fit_at : FitOf (server_now n key) (is_fresh u key t.ask) (is_idle t.phase) t.ask (g.entries key) (n.entries key)
+    fit_at = subst (λ (y : Option ClientTransaction). Fit u key (server_now n key) y (g.entries key) (n.entries key)) at (l.entries key)
 
     idle_foreign : (log : List Fact) → is_idle t.phase ≡ true → (sends : List Apdu) → Each IsFromServer sends
-        → Each (λ a. IsFromServer a × IsForeign (w.net.numbers key) (Some t) log a) sends
-    idle_foreign log idle sends from = all_map IsFromServer (λ a. IsFromServer a × IsForeign (w.net.numbers key) (Some t) log a) (λ a is. (is, inl idle)) sends from
+        → Each (λ a. IsFromServer a × IsForeign (n.numbers key) (Some t) log a) sends
+    idle_foreign log idle sends from = all_map IsFromServer (λ a. IsFromServer a × IsForeign (n.numbers key) (Some t) log a) (λ a is. (is, inl idle)) sends from
 
     -- A copy of the client's arrives.
 
-    module _ (k : ℕ) (few : k ≤ x.overtake) (p : Copy) (place : slice_get (one w.net key).copies k ≡ Some p) (young : w.net.now - p.moment ≤ w.net.pace.life)
-        (way : is_from_client p.apdu ≡ true) (gave_up : IsClientAbort p.apdu → is_idle t.phase ≡ true) (free : Bool) where
+    module _ (k : ℕ) (few : k ≤ x.overtake) (p : Copy) (place : slice_get (one n key).copies k ≡ Some p) (young : n.now - p.moment ≤ n.pace.life)
+        (way : is_from_client p.apdu ≡ true) (gave_up : IsClientAbort p.apdu → is_idle t.phase ≡ true) (service : Service) (free : Bool) where
       abbrev told : Context
-      told = server_context x key (server_now w.net key)
+      told = server_context x key (server_now n key)
 
       abbrev ours : server.Reaction
-      ours = server_hears (u.reuses key.server) told (service_of S model w key) u.reads (g.entries key) (is_room w.net key free) p.apdu
+      ours = server_hears (u.reuses key.server) told service u.reads (g.entries key) (is_room n key free) p.apdu
 
       abbrev theirs : server.Reaction
-      theirs = server_on_apdu told (service_of S model w key) (w.net.entries key) (is_room w.net key free) p.apdu
+      theirs = server_on_apdu told service (n.entries key) (is_room n key free) p.apdu
 
-      kept_theirs : KeptAt (serves S model w key theirs)
+      kept_theirs : Stands W (server_acts n key theirs)
       kept_theirs =
-          let f = sound_at W w.net key (Some t) at s.net in
-          entry_gets S model W x bound w s key t at k few p place young way ((f.2).arriving k p place young).1 free
+          let f = sound_at W n key (Some t) at s.net in
+          entry_gets W x bound n s key t at k few p place young way ((f.2).arriving k p place young).1 service free
 
       of_ask : IsRequestOf t.ask p.apdu
       of_ask =
-          let f = sound_at W w.net key (Some t) at s.net in
-          says_of W (moments_of w.net key) (w.net.numbers key) t.ask w.net.log f.0 f.1 p.moment k p.apdu ((f.2).arriving k p place young).1
+          let f = sound_at W n key (Some t) at s.net in
+          says_of W (moments_of n key) (n.numbers key) t.ask n.log f.0 f.1 p.moment k p.apdu ((f.2).arriving k p place young).1
 
-      is_soon : IsSoon w.net key
-      is_soon = copy_is_soon S model W x bound w s key t at k p place young way
+      is_soon : IsSoon n key
+      is_soon = copy_is_soon W x bound n s key t at k p place young way
 
       from_theirs : Each IsFromServer theirs.sends
       from_theirs = all_from_server key.invoke_id theirs.sends
-          (server_sends_own.gets told (service_of S model w key) (w.net.entries key) (is_room w.net key free) p.apdu (s.calm key).own).0
+          (server_sends_own.gets told service (n.entries key) (is_room n key free) p.apdu (s.calm key).own).0
 
       abbrev Goes : server.Reaction → Type 0
-      Goes v = IsFollowed (serves S model (over S w g) key v)
+      Goes v = IsFollowed (server_acts (over n g) key v)
 
-      apart_goes : (v : server.Reaction) → GoesApart told (service_of S model w key) (is_fresh u key t.ask) (is_idle t.phase) t.ask (is_room w.net key free) (w.net.entries key) v
+      apart_goes : (v : server.Reaction) → GoesApart told service (is_fresh u key t.ask) (is_idle t.phase) t.ask (is_room n key free) (n.entries key) v
           → Goes v
       apart_goes v h = by (h.goes).entry
         where
-          read : u.reads t.ask.choice ≡ true
-          read = (fresh_is u key t.ask h.is_fresh).read
+          fresh : IsFresh u key t.ask
+          fresh = fresh_is u key t.ask h.is_fresh
 
-          time : IsInTime w.net key
-          time = soon_in_time w.net key is_soon
+          time : IsInTime n key
+          time = soon_in_time n key is_soon
 
-          each : Each (λ a. IsFromServer a × IsForeign (w.net.numbers key) (Some t) (performed (w.net.numbers key) v.effect g.log) a) v.sends
-          each = idle_foreign (performed (w.net.numbers key) v.effect g.log) h.is_idle v.sends (h.goes).sends
+          each : Each (λ a. IsFromServer a × IsForeign (n.numbers key) (Some t) (performed (n.numbers key) v.effect g.log) a) v.sends
+          each = idle_foreign (performed (n.numbers key) v.effect g.log) h.is_idle v.sends (h.goes).sends
 
           -- the other's entry stays
           stays : IsLeftOf h.entry v.entry → Goes v
-          stays left = server_alone read v (w.net.entries key)
-              (server_aborts S model W x bound w s key t at time v.sends (w.net.entries key) (inl refl)) each (h.goes).of
+          stays left = server_alone service fresh v (n.entries key)
+              (server_aborts W x bound n s key t at time v.sends (n.entries key) (inl refl)) each (h.goes).of
               (inr (inr (h.is_fresh, h.is_idle, subst (λ (o : Option ServerTransaction). EntryIs (λ e. IsLeftOf e v.entry) o) (sym h.is) left)))
 
           -- it begins anew
-          again : is_room w.net key free ≡ true → IsLeftOf (record (h.entry) { begin = server_now w.net key }) v.entry → Goes v
-          again room left = server_alone read v (Some (record (h.entry) { begin = server_now w.net key }))
-              (server_aborts S model W x bound w s key t at time v.sends (Some (record (h.entry) { begin = server_now w.net key }))
-              (inr (h.entry, h.is, h.live, refl, is_soon, room_opens w.net key free room))) each (h.goes).of
+          again : is_room n key free ≡ true → IsLeftOf (record (h.entry) { begin = server_now n key }) v.entry → Goes v
+          again room left = server_alone service fresh v (Some (record (h.entry) { begin = server_now n key }))
+              (server_aborts W x bound n s key t at time v.sends (Some (record (h.entry) { begin = server_now n key }))
+              (inr (h.entry, h.is, h.live, refl, is_soon, room_opens n key free room))) each (h.goes).of
               (inr (inr (h.is_fresh, h.is_idle, left)))
 
           there : (o : Option ServerTransaction) → v.entry ≡ o
-              → EntryIs (λ d. IsGiving d.state × ((d.begin ≡ h.entry.begin) ⊎ ((d.begin ≡ server_now w.net key) × (is_room w.net key free ≡ true)))) o → Goes v
+              → EntryIs (λ d. IsGiving d.state × ((d.begin ≡ h.entry.begin) ⊎ ((d.begin ≡ server_now n key) × (is_room n key free ≡ true)))) o → Goes v
           there None is q = absurd q
           there (Some d) is q = so q.1
             where
-              so : (d.begin ≡ h.entry.begin) ⊎ ((d.begin ≡ server_now w.net key) × (is_room w.net key free ≡ true)) → Goes v
+              so : (d.begin ≡ h.entry.begin) ⊎ ((d.begin ≡ server_now n key) × (is_room n key free ≡ true)) → Goes v
               so (inl same) = stays (subst (IsLeftOf h.entry) (sym is) (same, q.0))
-              so (inr new) = again new.1 (subst (IsLeftOf (record (h.entry) { begin = server_now w.net key })) (sym is) (new.0, q.0))
+              so (inr new) = again new.1 (subst (IsLeftOf (record (h.entry) { begin = server_now n key })) (sym is) (new.0, q.0))
 
-          by : (v.entry ≡ None) ⊎ EntryIs (λ d. IsGiving d.state × ((d.begin ≡ h.entry.begin) ⊎ ((d.begin ≡ server_now w.net key) × (is_room w.net key free ≡ true)))) v.entry
+          by : (v.entry ≡ None) ⊎ EntryIs (λ d. IsGiving d.state × ((d.begin ≡ h.entry.begin) ⊎ ((d.begin ≡ server_now n key) × (is_room n key free ≡ true)))) v.entry
               → Goes v
           by (inl none) = stays (subst (IsLeftOf h.entry) (sym none) tt)
           by (inr some) = there v.entry refl some
 
-      fresh_goes : (v : server.Reaction) → ReadsFresh told (service_of S model w key) (is_fresh u key t.ask) t.ask (g.entries key) (w.net.entries key) v → Goes v
-      fresh_goes v h = subst Goes (sym (h.2).is) (server_alone (fresh_is u key t.ask h.0).read
-          (record { entry = g.entries key; sends = (h.2).answer ∷ []; effect = (h.2).effect }) (w.net.entries key)
-          (server_aborts S model W x bound w s key t at (soon_in_time w.net key is_soon) ((h.2).answer ∷ []) (w.net.entries key) (inl refl)) (
+      fresh_goes : (v : server.Reaction) → ReadsFresh told service (is_fresh u key t.ask) t.ask (g.entries key) (n.entries key) v → Goes v
+      fresh_goes v h = subst Goes (sym (h.2).is) (server_alone service (fresh_is u key t.ask h.0)
+          (record { entry = g.entries key; sends = (h.2).answer ∷ []; effect = (h.2).effect }) (n.entries key)
+          (server_aborts W x bound n s key t at (soon_in_time n key is_soon) ((h.2).answer ∷ []) (n.entries key) (inl refl)) (
             (
               given_from_server told t.ask (h.2).effect (h.2).answer (h.2).given,
-              inr (given_answers (w.net.numbers key) t.ask g.log told (h.2).effect (h.2).answer (h.2).given
-                  (λ y is. (subst (IsOfRead (service_of S model w key) t.ask) is (h.2).of).0)),
+              inr (given_answers (n.numbers key) t.ask g.log told (h.2).effect (h.2).answer (h.2).given
+                  (λ y is. (subst (IsOfRead service t.ask) is (h.2).of).0)),
             ),
             tt,
           )
           (h.2).of (inl h.1))
 
-      pub copy_comes : IsFollowed (serves S model (over S w g) key ours)
-      copy_comes = go (outcome told (service_of S model w key) u key t.ask (is_idle t.phase) (is_room w.net key free) (is_fresh u key t.ask) refl p.apdu of_ask
-          (g.entries key) (w.net.entries key) fit_at)
+      pub copy_comes : IsFollowed (server_acts (over n g) key ours)
+      copy_comes = go (outcome told service u key t.ask (is_idle t.phase) (is_room n key free) (is_fresh u key t.ask) refl p.apdu of_ask
+          (g.entries key) (n.entries key) fit_at)
         where
-          go : Outcome told (service_of S model w key) (is_fresh u key t.ask) (is_idle t.phase) t.ask (is_room w.net key free) p.apdu (g.entries key) (w.net.entries key) ours theirs
+          go : Outcome told service (is_fresh u key t.ask) (is_idle t.phase) t.ask (is_room n key free) p.apdu (g.entries key) (n.entries key) ours theirs
               → Goes ours
           go (inl h) = subst Goes (sym h.0) (server_same theirs kept_theirs from_theirs
-              (gets_served told (service_of S model w key) (w.net.entries key) (is_room w.net key free) p.apdu)
-              (inr (inl (refl, holds_next theirs kept_theirs (service_of S model w key) p.apdu gave_up (is_fresh u key t.ask) h.1))))
-          go (inr (inl h)) = subst Goes (sym (h.1).1) (server_rests (g.entries key) (w.net.entries key) (h.1).0
-              (subst (λ (v : server.Reaction). KeptAt (serves S model w key v)) (h.1).2 kept_theirs)
+              (inr (inl (refl, holds_next theirs kept_theirs service p.apdu gave_up (is_fresh u key t.ask) h.1))))
+          go (inr (inl h)) = subst Goes (sym (h.1).1) (server_rests (g.entries key) (n.entries key) (h.1).0
+              (subst (λ (v : server.Reaction). Stands W (server_acts n key v)) (h.1).2 kept_theirs)
               (subst (λ (v : server.Reaction). Each IsFromServer v.sends) (h.1).2 from_theirs) h.0)
           go (inr (inr (inl h))) = fresh_goes ours h
           go (inr (inr (inr h))) = apart_goes ours h
 
     -- The entry ticks.
 
+    -- what a service says is not looked at
+    abbrev no_service : Service
+    no_service choice octets = Rejects 0
+
     abbrev ticking : Context
-    ticking = server_context x key (server_now w.net key)
+    ticking = server_context x key (server_now n key)
 
     abbrev Ticks : server.Reaction → Type 0
-    Ticks v = IsFollowed (serves S model (over S w g) key v)
+    Ticks v = IsFollowed (server_acts (over n g) key v)
 
-    kept_ticks : KeptAt (serves S model w key (server.server_ticks ticking (w.net.entries key)))
-    kept_ticks = entry_ticks S model W x bound w s key t at
+    kept_ticks : Stands W (server_acts n key (server.server_ticks ticking (n.entries key)))
+    kept_ticks = entry_ticks W x bound n s key t at
 
-    from_ticks : Each IsFromServer (server.server_ticks ticking (w.net.entries key)).sends
-    from_ticks = all_from_server key.invoke_id (server.server_ticks ticking (w.net.entries key)).sends
-        (server_sends_own.ticks ticking (w.net.entries key) (s.calm key).own).0
+    from_ticks : Each IsFromServer (server.server_ticks ticking (n.entries key)).sends
+    from_ticks = all_from_server key.invoke_id (server.server_ticks ticking (n.entries key)).sends
+        (server_sends_own.ticks ticking (n.entries key) (s.calm key).own).0
 
-    gone_tick : AreGone (server_now w.net key) (g.entries key) (w.net.entries key) → Ticks (server.server_ticks ticking (g.entries key))
-    gone_tick gone = subst Ticks (sym (gone_ticks ticking (service_of S model w key) (g.entries key) gone.0)) (server_rests (g.entries key) (w.net.entries key) []
-        (subst (λ (v : server.Reaction). KeptAt (serves S model w key v)) (gone_ticks ticking (service_of S model w key) (w.net.entries key) gone.1) kept_ticks) tt gone)
+    gone_tick : AreGone (server_now n key) (g.entries key) (n.entries key) → Ticks (server.server_ticks ticking (g.entries key))
+    gone_tick gone = subst Ticks (sym (gone_ticks ticking no_service (g.entries key) gone.0)) (server_rests (g.entries key) (n.entries key) []
+        (subst (λ (v : server.Reaction). Stands W (server_acts n key v)) (gone_ticks ticking no_service (n.entries key) gone.1) kept_ticks) tt gone)
 
-    dead_now : (e : ServerTransaction) → is_live (server_now w.net key) e ≡ false → e.begin + KEEP < server_now w.net key
+    dead_now : (e : ServerTransaction) → is_live (server_now n key) e ≡ false → e.begin + KEEP < server_now n key
     dead_now e dead = grind (arith, nat_tests)
 
     -- a tick is no Abort of the client: any other APDU stands for it
     abbrev no_apdu : Apdu
     no_apdu = Reject 0 0
 
-    ticks_hold : (b : Bool) (e : ServerTransaction) → is_live (server_now w.net key) e ≡ true → Holds b (is_idle t.phase) t.ask e
-        → EntryIs (HoldsOn ticking (service_of S model w key) b (is_idle t.phase) t.ask no_apdu) (server.server_ticks ticking (Some e)).entry
-    ticks_hold false e live h = ticks_for ticking (service_of S model w key) t.ask e live h
+    ticks_hold : (b : Bool) (e : ServerTransaction) → is_live (server_now n key) e ≡ true → Holds b (is_idle t.phase) t.ask e
+        → EntryIs (HoldsOn ticking no_service b (is_idle t.phase) t.ask no_apdu) (server.server_ticks ticking (Some e)).entry
+    ticks_hold false e live h = ticks_for ticking no_service t.ask e live h
     ticks_hold true e live h = by e.state refl h.0 h.1
       where
         join : (transfer : Transfer) → (is_transfer_over transfer ≡ true → is_idle t.phase ≡ true) → (o : Option ServerTransaction)
-            → EntryIs (GoesOnFrom ticking (service_of S model w key) e) o → EntryIs (λ d. OverBy ticking (service_of S model w key) no_apdu transfer d.state) o
-            → EntryIs (GivesOn ticking (service_of S model w key) (is_idle t.phase) no_apdu) o
+            → EntryIs (GoesOnFrom ticking no_service e) o → EntryIs (λ d. OverBy ticking no_service no_apdu transfer d.state) o
+            → EntryIs (GivesOn ticking no_service (is_idle t.phase) no_apdu) o
         join transfer was None f k = absurd f
         join transfer was (Some d) f k = record {
           gives = f.1;
-          live = subst (λ n. nat_le (server_now w.net key - n) KEEP ≡ true) (sym f.0) live;
+          live = subst (λ m. nat_le (server_now n key - m) KEEP ≡ true) (sym f.0) live;
           before = transfer;
           over = k;
           was = was;
         }
 
         by : (st : State) → e.state ≡ st → IsGiving st → OverIf (is_idle t.phase ≡ true) st
-            → EntryIs (GivesOn ticking (service_of S model w key) (is_idle t.phase) no_apdu) (server.server_ticks ticking (Some e)).entry
+            → EntryIs (GivesOn ticking no_service (is_idle t.phase) no_apdu) (server.server_ticks ticking (Some e)).entry
         by (State.SegmentedRequest inc since) of gives k = absurd gives
         by (State.Done kept) of gives k = absurd gives
         by (State.SegmentedResponse out transfer since) of gives k = join transfer k (server.server_ticks ticking (Some e)).entry
-            (ticks_gives ticking (service_of S model w key) e live h.0) (ticks_over ticking (service_of S model w key) e out transfer since of live no_apdu)
+            (ticks_gives ticking no_service e live h.0) (ticks_over ticking no_service e out transfer since of live no_apdu)
         by State.Dropped of gives k = absurd gives
 
-    same_tick : g.entries key ≡ w.net.entries key → (o : Option ServerTransaction) → w.net.entries key ≡ o
+    same_tick : g.entries key ≡ n.entries key → (o : Option ServerTransaction) → n.entries key ≡ o
         → EntryIs (Holds (is_fresh u key t.ask) (is_idle t.phase) t.ask) o → Ticks (server.server_ticks ticking (g.entries key))
     same_tick same None is h = absurd h
-    same_tick same (Some e) is h = by (is_live (server_now w.net key) e) refl
+    same_tick same (Some e) is h = by (is_live (server_now n key) e) refl
       where
-        by : (b : Bool) → is_live (server_now w.net key) e ≡ b → Ticks (server.server_ticks ticking (g.entries key))
-        by false dead = gone_tick (subst (IsGone (server_now w.net key)) (sym (same ∙ is)) (dead_now e dead), subst (IsGone (server_now w.net key)) (sym is) (dead_now e dead))
+        by : (b : Bool) → is_live (server_now n key) e ≡ b → Ticks (server.server_ticks ticking (g.entries key))
+        by false dead = gone_tick (subst (IsGone (server_now n key)) (sym (same ∙ is)) (dead_now e dead), subst (IsGone (server_now n key)) (sym is) (dead_now e dead))
         by true live = subst (λ (o : Option ServerTransaction). Ticks (server.server_ticks ticking o)) (sym same)
-            (server_same (server.server_ticks ticking (w.net.entries key)) kept_ticks from_ticks
-            (subst (IsServed (service_of S model w key)) (sym (ticks_quiet ticking (w.net.entries key))) tt)
+            (server_same (server.server_ticks ticking (n.entries key)) kept_ticks from_ticks
             (inr (inl (
               refl,
-              holds_next (server.server_ticks ticking (w.net.entries key)) kept_ticks (service_of S model w key) no_apdu (λ abort. absurd abort)
+              holds_next (server.server_ticks ticking (n.entries key)) kept_ticks no_service no_apdu (λ abort. absurd abort)
                   (is_fresh u key t.ask)
-                  (subst (λ (o : Option ServerTransaction). EntryIs (HoldsOn ticking (service_of S model w key) (is_fresh u key t.ask) (is_idle t.phase) t.ask no_apdu)
+                  (subst (λ (o : Option ServerTransaction). EntryIs (HoldsOn ticking no_service (is_fresh u key t.ask) (is_idle t.phase) t.ask no_apdu)
                   (server.server_ticks ticking o).entry) (sym is) (ticks_hold (is_fresh u key t.ask) e live h)),
             ))))
 
     apart_tick : is_fresh u key t.ask ≡ true → is_idle t.phase ≡ true → (o : Option ServerTransaction) → g.entries key ≡ o → (e : ServerTransaction)
-        → w.net.entries key ≡ Some e → IsLeftOf e o → Ticks (server.server_ticks ticking o)
-    apart_tick fresh idle o ours e theirs left = by (is_live (server_now w.net key) e) refl
+        → n.entries key ≡ Some e → IsLeftOf e o → Ticks (server.server_ticks ticking o)
+    apart_tick fresh idle o ours e theirs left = by (is_live (server_now n key) e) refl
       where
-        left_gone : (q : Option ServerTransaction) → IsLeftOf e q → e.begin + KEEP < server_now w.net key → IsGone (server_now w.net key) q
+        left_gone : (q : Option ServerTransaction) → IsLeftOf e q → e.begin + KEEP < server_now n key → IsGone (server_now n key) q
         left_gone None k dead = tt
         left_gone (Some d) k dead = let same = k.0 in omega (arith, dead)
 
-        alone : (v : server.Reaction) → is_live (server_now w.net key) e ≡ true → Each IsFromServer v.sends → v.effect ≡ None → IsLeftOf e v.entry → Ticks v
-        alone v live from quiet k = server_alone (fresh_is u key t.ask fresh).read v (w.net.entries key)
-            (server_aborts S model W x bound w s key t at (entry_in_time S model W x bound w s key t at e theirs live) v.sends (w.net.entries key) (inl refl))
-            (idle_foreign (performed (w.net.numbers key) v.effect g.log) idle v.sends from)
-            (subst (IsOfRead (service_of S model w key) t.ask) (sym quiet) tt)
+        alone : (v : server.Reaction) → is_live (server_now n key) e ≡ true → Each IsFromServer v.sends → v.effect ≡ None → IsLeftOf e v.entry → Ticks v
+        alone v live from quiet k = server_alone no_service (fresh_is u key t.ask fresh) v (n.entries key)
+            (server_aborts W x bound n s key t at (entry_in_time W x bound n s key t at e theirs live) v.sends (n.entries key) (inl refl))
+            (idle_foreign (performed (n.numbers key) v.effect g.log) idle v.sends from)
+            (subst (IsOfRead no_service t.ask) (sym quiet) tt)
             (inr (inr (fresh, idle, subst (λ (q : Option ServerTransaction). EntryIs (λ d. IsLeftOf d v.entry) q) (sym theirs) k)))
 
-        left_on : (d : ServerTransaction) → d.begin ≡ e.begin → (q : Option ServerTransaction) → EntryIs (GoesOnFrom ticking (service_of S model w key) d) q → IsLeftOf e q
+        left_on : (d : ServerTransaction) → d.begin ≡ e.begin → (q : Option ServerTransaction) → EntryIs (GoesOnFrom ticking no_service d) q → IsLeftOf e q
         left_on d same None k = absurd k
         left_on d same (Some f) k = (k.0 ∙ same, k.1)
 
-        live_tick : (q : Option ServerTransaction) → IsLeftOf e q → is_live (server_now w.net key) e ≡ true → Ticks (server.server_ticks ticking q)
+        live_tick : (q : Option ServerTransaction) → IsLeftOf e q → is_live (server_now n key) e ≡ true → Ticks (server.server_ticks ticking q)
         live_tick None k live = alone (server.rests None []) live tt refl tt
         live_tick (Some d) k live =
-            let lives : is_live (server_now w.net key) d ≡ true = subst (λ n. nat_le (server_now w.net key - n) KEEP ≡ true) (sym k.0) live in
+            let lives : is_live (server_now n key) d ≡ true = subst (λ m. nat_le (server_now n key - m) KEEP ≡ true) (sym k.0) live in
             alone (server.server_ticks ticking (Some d)) live
             (all_from_server key.invoke_id (server.server_ticks ticking (Some d)).sends
-            (server_sends_own.ticks ticking (Some d) (giving_own ticking (service_of S model w key) t.ask u.reads (fresh_is u key t.ask fresh).read
+            (server_sends_own.ticks ticking (Some d) (giving_own ticking no_service t.ask u.reads (fresh_is u key t.ask fresh).read
             (fresh_is u key t.ask fresh).whole key.invoke_id d.state k.1)).0)
             (ticks_quiet ticking (Some d))
-            (left_on d k.0 (server.server_ticks ticking (Some d)).entry (ticks_gives ticking (service_of S model w key) d lives k.1))
+            (left_on d k.0 (server.server_ticks ticking (Some d)).entry (ticks_gives ticking no_service d lives k.1))
 
-        by : (b : Bool) → is_live (server_now w.net key) e ≡ b → Ticks (server.server_ticks ticking o)
+        by : (b : Bool) → is_live (server_now n key) e ≡ b → Ticks (server.server_ticks ticking o)
         by true live = live_tick o left live
         by false dead = subst (λ (q : Option ServerTransaction). Ticks (server.server_ticks ticking q)) ours
             (gone_tick (
-              subst (IsGone (server_now w.net key)) (sym ours) (left_gone o left (dead_now e dead)),
-              subst (IsGone (server_now w.net key)) (sym theirs) (dead_now e dead),
+              subst (IsGone (server_now n key)) (sym ours) (left_gone o left (dead_now e dead)),
+              subst (IsGone (server_now n key)) (sym theirs) (dead_now e dead),
             ))
 
     pub ticks_on : Ticks (server.server_ticks ticking (g.entries key))
     ticks_on = by fit_at
       where
-        apart : is_fresh u key t.ask ≡ true → is_idle t.phase ≡ true → (o : Option ServerTransaction) → w.net.entries key ≡ o → EntryIs (λ e. IsLeftOf e (g.entries key)) o
+        apart : is_fresh u key t.ask ≡ true → is_idle t.phase ≡ true → (o : Option ServerTransaction) → n.entries key ≡ o → EntryIs (λ e. IsLeftOf e (g.entries key)) o
             → Ticks (server.server_ticks ticking (g.entries key))
         apart fresh idle None is left = absurd left
         apart fresh idle (Some e) is left = apart_tick fresh idle (g.entries key) refl e is left
 
-        by : FitOf (server_now w.net key) (is_fresh u key t.ask) (is_idle t.phase) t.ask (g.entries key) (w.net.entries key)
+        by : FitOf (server_now n key) (is_fresh u key t.ask) (is_idle t.phase) t.ask (g.entries key) (n.entries key)
             → Ticks (server.server_ticks ticking (g.entries key))
         by (inl gone) = gone_tick gone
-        by (inr (inl same)) = same_tick same.0 (w.net.entries key) refl same.1
-        by (inr (inr h)) = apart h.0 h.1 (w.net.entries key) refl h.2
+        by (inr (inl same)) = same_tick same.0 (n.entries key) refl same.1
+        by (inr (inr h)) = apart h.0 h.1 (n.entries key) refl h.2

@@ -2,3 +2,4 @@ pub mod Runs
 pub mod Once
 pub mod Claims
 pub mod Examples
+pub mod Moves

@@ -5,6 +5,7 @@
 #![tactic(auto)]
 
 pub mod examples;
+pub mod moves;
 
 ghost use Rattle.std.specs.Prelude.{◌≡◌, ℕ, true, List, Ok};
 ghost use Rattle.bac_value.specs.Octets.{IsBytes};
@@ -27,7 +28,7 @@ ghost use Rattle.bac_reuse.specs.Runs.{AskNoRead, NoneReuses, ReadsChangeNothing
 /// performed as it was asked, each time that its server takes it, and its answer is one of the replies with which it was performed. Each server's store is that
 /// of its last start, after the performed requests and the changes made at that node since, in the log's order. Strangers may send any octets at any moment:
 /// what a server performs for them is in the log, with the reply of its store as it then is, and how often is not said.
-#[tactic(auto, using(crate::proofs::Followed::once_so))]
+#[tactic(auto, using(crate::proofs::Stored::once_so))]
 pub fn at_most_once<S>()
     ensures { (model : StoreModel S) (opening : ℕ → S) (W : ℕ) (rules : Rules) → IsBounded W rules → (reusing : Reusing) → ReadsChangeNothing S model reusing.reads
         → (pace : Pace) → IsTimely pace → (clocks : ℕ → ℕ) → (events : List Event)

@@ -30,7 +30,8 @@ use Rattle.bac_transaction.specs.Ends.AskOutcome.{Asked}
 use Rattle.bac_transaction.proofs.ClientTables.{is_untaken, least_around_is, no_wait}
 use Rattle.bac_transaction.proofs.Holding.{held_is}
 use Rattle.bac_world.specs.Node.{Node}
-use Rattle.bac_world.specs.Once.{Fact, Stores, IsOnce}
+use Rattle.bac_world.specs.Once.{Fact, Stores}
+use Rattle.bac_world.specs.ReusingLogs.{IsOnceSo}
 use Rattle.bac_world.specs.World.{World, Time, Note, Copy, stores_of, newest, ask_of, peer_at, IsCopied, IsAsked}
 use Rattle.bac_transaction.proofs.KeyedSlots.{slot, passing, passing_value, passing_distinct, put_same, put_other, put_distinct}
 use Rattle.bac_transaction.proofs.KeyedSlots.{each_at, each_so, each_passing, each_put}
@@ -43,6 +44,7 @@ use Rattle.bac_world.proofs.Pairs.{pairwise_join, append_none}
 use Rattle.bac_world.proofs.Logs.{FactMeans, asks_counted}
 use Rattle.bac_world.proofs.Bridge.{NodeFits, ClientsFit, IsKnown, IsCopyOf, IsGone, TicketFits, key_of, slot_key, copies_of, IsStranger, AwayNoted, out_key, away_more}
 use Rattle.bac_world.proofs.Steps.{Over, Fits, Goes, linked_with, stores_same, decide_number}
+use Rattle.bac_world.proofs.Settings.{Setting, reuses_in}
 
 -- What an accepted ask is.
 
@@ -181,6 +183,7 @@ pub equal_self : (a : ℕ) → nat_eq a a ≡ true
 equal_self a = grind (arith, nat_tests)
 
 module _ (links : ℕ → Option Octets) (apart : (i j : ℕ) (l : Octets) → links i ≡ Some l → links j ≡ Some l → i ≡ j) (W : ℕ) (x : Rules)
+    (set : Setting)
     (bound : IsBounded W x) where
   -- What an ask makes of the client's slots.
   module _ (n : Net) (notes : List Note) (number_is : n.asks ≡ length notes) (key : Key) (l : Octets) (at : links key.server ≡ Some l) (ask : Ask)
@@ -309,7 +312,7 @@ module _ (links : ℕ → Option Octets) (apart : (i j : ℕ) (l : Octets) → l
     }
 
   -- What it makes of the world.
-  module _ (w w' : World) (n : Net) (h : Over links apart W x w n) (i s : ℕ) (limits : Limits) (r : Request) (step : IsAsked w i s limits r w')
+  module _ (w w' : World) (n : Net) (h : Over links apart W x set w n) (i s : ℕ) (limits : Limits) (r : Request) (step : IsAsked w i s limits r w')
       (server_at : links s ≡ Some step.link)
       (parts : IsAccepted (x.settings i) (here_at n i) (peer_at step.link) (choice_of r) step.asks.octets step.before.clients step.accepted) where
     abbrev a : Node
@@ -327,7 +330,7 @@ module _ (links : ℕ → Option Octets) (apart : (i j : ℕ) (l : Octets) → l
     abbrev after : Net
     after = asked_at x n key ask
 
-    fits : Fits links apart W x w n n i step.before
+    fits : Fits links apart W x set w n n i step.before
     fits = h.nodes i step.before step.at
 
     free : net.is_id_held n key ≡ false
@@ -335,8 +338,8 @@ module _ (links : ℕ → Option Octets) (apart : (i j : ℕ) (l : Octets) → l
         (free_ticket (is_lost n key) (here_at n i) w.notes i (n.numbers key) (value_at same_key (slot_key step.link parts.id) a.clients.slots) (n.tickets key)
         (fits.clients.found s step.link parts.id server_at) parts.free)
 
-    sound : Sound x after
-    sound = asked W x bound n h.sound key free (choice_of r) parts.whole parts.front parts.rest
+    sound : Sound x set after
+    sound = asked W x set bound n h.sound key free (choice_of r) parts.whole parts.front parts.rest
 
     abbrev note' : Note
     note' = record { key = key; ticket = a.clients.asked; away = None }
@@ -391,7 +394,7 @@ module _ (links : ℕ → Option Octets) (apart : (i j : ℕ) (l : Octets) → l
     asks_is = ap (λ (k : ℕ). k + 1) h.asks ∙ (let e : length w.notes + 1 ≡ length (note' ∷ w.notes) = omega arith in e)
         ∙ sym (ap (λ (l : List Note). length l) notes_is)
 
-    over : Over links apart W x w' after
+    over : Over links apart W x set w' after
     over = record {
       now = h.now ∙ sym (ap (λ (t : Time). t.now) step.time);
       pace = h.pace ∙ sym (ap (λ (t : Time). t.pace) step.time);
@@ -402,32 +405,32 @@ module _ (links : ℕ → Option Octets) (apart : (i j : ℕ) (l : Octets) → l
       nodes = λ j b at. subst (λ (l : List Note). NodeFits links apart x (here_at n j) (there_at n j) l after j b) (sym notes_is) (nodes j b at (decide_number j i));
       noted = λ k t at. ap (newest k) notes_is ∙ noted k t at (decide_key key k);
       away = subst (λ (l : List Note). AwayNoted l after) (sym notes_is) (λ k t is.
-          away_more (n.far.numbers k) note' w.notes (subst (λ (y : ℕ). n.far.numbers k < y) h.asks (away_below W x bound n h.sound k t is)) ∙ h.away k t is);
+          away_more (n.far.numbers k) note' w.notes (subst (λ (y : ℕ). n.far.numbers k < y) h.asks (away_below W x set bound n h.sound k t is)) ∙ h.away k t is);
       posts = subst (λ (l : List Copy). Pairwise (IsCopyOf links apart) after.posts l) (sym step.copies)
           (pairwise_join (IsCopyOf links apart) n.posts (map (post_of key n.now) sends) w.copies step.sent h.posts copies);
-      log = subst (λ (lg : List Fact). Pairwise FactMeans after.log lg) (sym step.log)
+      log = subst (λ (lg : List Fact). Pairwise (FactMeans set) after.log lg) (sym step.log)
           ((sym h.asks, refl, refl, subst (λ (o : Octets). SpellsRequest (choice_of r) r o) (sym parts.joined) step.asks.spelled), h.log);
       sound = sound;
     }
 
-    once : (opening : Stores) → IsOnce opening w.log (stores_of w.nodes) → IsOnce opening w'.log (stores_of w'.nodes)
-    once opening before = subst (λ (lg : List Fact). IsOnce opening lg (stores_of w'.nodes)) (sym step.log) (
+    once : (opening : Stores) → IsOnceSo (reuses_in set) opening w.log (stores_of w.nodes) → IsOnceSo (reuses_in set) opening w'.log (stores_of w'.nodes)
+    once opening before = subst (λ (lg : List Fact). IsOnceSo (reuses_in set) opening lg (stores_of w'.nodes)) (sym step.log) (
       stores_of w.nodes,
       (
-        sym h.asks ∙ counted W x bound n h.sound ∙ sym (asks_counted n.log w.log h.log),
+        sym h.asks ∙ counted W x set bound n h.sound ∙ sym (asks_counted set n.log w.log h.log),
         stores_same w.nodes w'.nodes i a step.after step.nodes step.at (ap (λ (d : Node). d.store) node_is),
       ),
       before,
     )
 
-    pub asks_with : Goes links apart W x w w' (asked_at x n (key_of i s parts.id)
+    pub asks_with : Goes links apart W x set w w' (asked_at x n (key_of i s parts.id)
         (record { first = here_at n i; choice = choice_of r; whole = parts.whole; pieces = parts.front ∷ parts.rest }))
     asks_with = record { bridge = over; once = once }
 
-  pub asks_over : (w w' : World) (n : Net) → Over links apart W x w n → (client server : ℕ) (limits : Limits) (r : Request)
-      → IsAsked w client server limits r w' → (m : Net) × Goes links apart W x w w' m
+  pub asks_over : (w w' : World) (n : Net) → Over links apart W x set w n → (client server : ℕ) (limits : Limits) (r : Request)
+      → IsAsked w client server limits r w' → (m : Net) × Goes links apart W x set w w' m
   asks_over w w' n h i s limits r step =
-      let fits : Fits links apart W x w n n i step.before = h.nodes i step.before step.at in
+      let fits : Fits links apart W x set w n n i step.before = h.nodes i step.before step.at in
       let asked_of : Settings → ℕ → AskOutcome =
       λ c now. requester_ask c now (peer_at step.link) limits (choice_of r) step.asks.octets step.before.clients in
       let parts = accepted_is (x.settings i) (here_at n i) (peer_at step.link) (choice_of r) step.asks.octets step.before.clients step.accepted limits

@@ -31,6 +31,7 @@ use Rattle.bac_world.proofs.Numbers.{number}
 use Rattle.bac_world.specs.World.{AreCopied}
 use Rattle.bac_world.proofs.Machines.{Sound}
 use Rattle.bac_world.proofs.Logs.{FactMeans}
+use Rattle.bac_world.proofs.Settings.{Setting}
 
 -- A frame means the APDU that it was made of.
 pub framed_means : (from to : Octets) (a b : Apdu) (q : PeerView) (octets : Octets) → IsFrameTo SpellsApdu is_confirmed_request (peer_at to) a octets
@@ -168,7 +169,7 @@ module _ (links : ℕ → Option Octets) (apart : (i j : ℕ) (l : Octets) → l
     pub frame : IsFrameTo SpellsApdu is_confirmed_request (peer_at to_link) p.copy.apdu c.octets
     pub short : IsShort p.copy.apdu
 
-  pub record Bridge (W : ℕ) (x : Rules) (w : World) (n : Net) : Type 0 where
+  pub record Bridge (W : ℕ) (x : Rules) (set : Setting) (w : World) (n : Net) : Type 0 where
     pub now : n.now ≡ w.time.now
     pub pace : n.pace ≡ w.time.pace
     pub here : (i : ℕ) → n.client_clocks i ≡ w.time.clocks i
@@ -179,8 +180,8 @@ module _ (links : ℕ → Option Octets) (apart : (i j : ℕ) (l : Octets) → l
     pub noted : (key : Key) (t : ClientTransaction) → n.tickets key ≡ Some t → newest key w.notes ≡ Some (n.numbers key)
     pub away : AwayNoted w.notes n
     pub posts : Pairwise IsCopyOf n.posts w.copies
-    pub log : Pairwise FactMeans n.log w.log
-    pub sound : Sound x n
+    pub log : Pairwise (FactMeans set) n.log w.log
+    pub sound : Sound x set n
 
   -- Later copies are counted alike.
 

@@ -31,6 +31,7 @@ use Rattle.bac_world.specs.World.{AreCopied}
 use Rattle.bac_world.proofs.Steps.{Over}
 use Rattle.bac_world.proofs.Hearing.{Reached, reached_alike, reacts, reacts_stranger}
 use Rattle.std.proofs.Common.{◌⊎◌, inl, inr}
+use Rattle.bac_world.proofs.Settings.{Setting}
 
 -- endings of two lists enter the log one list after the other
 record IsEnded (notes : List Note) (i : ℕ) (fs gs : List EndedView) (old new : List Fact) : Type 0 where
@@ -48,7 +49,8 @@ abbrev pub client_tick : Settings → ℕ → PeerKey → Client → Client
 client_tick c now q v = held_ticked (context_of c now q) v.number v.held
 
 module _ (links : ℕ → Option Octets) (apart : (i j : ℕ) (l : Octets) → links i ≡ Some l → links j ≡ Some l → i ≡ j) (W : ℕ) (x : Rules)
-    (bound : IsBounded W x) (w : World) (n : Net) (h : Over links apart W x w n) (i : ℕ) (li : Octets) (from : links i ≡ Some li)
+    (set : Setting)
+    (bound : IsBounded W x) (w : World) (n : Net) (h : Over links apart W x set w n) (i : ℕ) (li : Octets) (from : links i ≡ Some li)
     (all : List ClientSlot) where
   abbrev c : Settings
   c = x.settings i
@@ -59,11 +61,11 @@ module _ (links : ℕ → Option Octets) (apart : (i j : ℕ) (l : Octets) → l
   -- the slots of that list go on, while these copies and facts are there
   abbrev Folds : List ClientSlot → Type 0
   Folds os = IsDistinct same_key os → EachSlot Client (λ p v. IsKnown links apart p ⊎ IsStranger links apart p) os → Change Client tick all os
-      → (copies : List Copy) (log : List Fact) (m : Net) → Reached links apart W x w i n (look Client tick all os) copies log m
+      → (copies : List Copy) (log : List Fact) (m : Net) → Reached links apart W x set w i n (look Client tick all os) copies log m
       → (ds : List Datagram) (cs : List Copy) (fs : List EndedView) (log' : List Fact)
       → Pairwise IsSent (from_each (client_tick_sends (x.settings i) (here_at n i)) os) ds → AreCopied w.nodes n.now i ds cs
       → Pairwise IsEndedView (from_each (client_tick_ends (x.settings i) (here_at n i)) os) fs → AreEnded w.notes i fs log log'
-      → (m' : Net) × Reached links apart W x w i n (λ q. value_at same_key q all) (copies ++ cs) log' m'
+      → (m' : Net) × Reached links apart W x set w i n (λ q. value_at same_key q all) (copies ++ cs) log' m'
 
   no_slots : Folds []
   no_slots distinct known change copies log m r ds cs fs log' sent copied finished logged =
@@ -73,9 +75,9 @@ module _ (links : ℕ → Option Octets) (apart : (i j : ℕ) (l : Octets) → l
       let fs_is : fs ≡ [] = pairwise_none IsEndedView fs finished in
       let log_is : log' ≡ log = subst (λ (f : List EndedView). AreEnded w.notes i f log log') fs_is logged in (
         m,
-        subst (λ (l : List Copy). Reached links apart W x w i n (λ q. value_at same_key q all) l log' m)
+        subst (λ (l : List Copy). Reached links apart W x set w i n (λ q. value_at same_key q all) l log' m)
             (sym (append_none copies) ∙ ap (λ (l : List Copy). copies ++ l) (sym cs_is))
-            (subst (λ (lg : List Fact). Reached links apart W x w i n (λ q. value_at same_key q all) copies lg m) (sym log_is) r),
+            (subst (λ (lg : List Fact). Reached links apart W x set w i n (λ q. value_at same_key q all) copies lg m) (sym log_is) r),
       )
 
   module _ (node : ℕ) (l : Octets) (id : ℕ) (at : links node ≡ Some l) (begin k : ℕ) (os : List ClientSlot) (again : Folds os) where
@@ -86,7 +88,7 @@ module _ (links : ℕ → Option Octets) (apart : (i j : ℕ) (l : Octets) → l
     one_closed first distinct known change copies log m r ds cs fs log' sent copied finished logged =
         let v : Client = record { number = k; held = Closed first } in
         again distinct.1 known.1 (change_rest Client tick all p begin v os distinct.0 change) copies log m
-        (reached_alike links apart W x w i n (look Client tick all (slot Client p begin v ∷ os)) (look Client tick all os) copies log m
+        (reached_alike links apart W x set w i n (look Client tick all (slot Client p begin v ∷ os)) (look Client tick all os) copies log m
         (look_same Client tick all p begin v os distinct.0 change refl) r)
         ds cs fs log' sent copied finished logged
 
@@ -100,11 +102,11 @@ module _ (links : ℕ → Option Octets) (apart : (i j : ℕ) (l : Octets) → l
         (subst (λ (z : List Datagram). AreCopied w.nodes n.now i z cs) d.is copied) in
         let f = pairwise_split IsEndedView (ended_with k t.ask.choice (client.ending_of did)) (from_each (client_tick_ends c (here_at n i)) os) fs finished in
         let g = ended_split w.notes i f.front f.rest log log' (subst (λ (z : List EndedView). AreEnded w.notes i z log log') f.is logged) in
-        let next = reacts links apart W x bound w n key l li from at (look Client tick all (slot Client p begin v ∷ os)) (look Client tick all os)
+        let next = reacts links apart W x set bound w n key l li from at (look Client tick all (slot Client p begin v ∷ os)) (look Client tick all os)
         copies log m r h.linked k t (look_first Client tick all p begin v os) did
-        (λ is. subst (λ (z : ℕ). Sound x (client_acts m key t (client_ticks (client_context x key z) t))
+        (λ is. subst (λ (z : ℕ). Sound x set (client_acts m key t (client_ticks (client_context x key z) t))
         × Leads x n (client_acts m key t (client_ticks (client_context x key z) t))) (ap (λ (f : ℕ → Clock). (f i).shows) r.alike.here)
-        (ticks_at_client W x bound m r.sound key t is, TicksTicket m key t r.leads is))
+        (ticks_at_client W x set bound m r.sound key t is, TicksTicket m key t r.leads is))
         (client_sends_own.ticks (client_context x key (here_at n i)) t)
         (look_here Client tick all p begin v os distinct.0 change)
         (λ q ne. look_next Client tick all p begin v os q ne)
@@ -113,7 +115,7 @@ module _ (links : ℕ → Option Octets) (apart : (i j : ℕ) (l : Octets) → l
         let rest = again distinct.1 known.1 (change_rest Client tick all p begin v os distinct.0 change) (copies ++ e.front) g.between
         (client_acts m key t did) next d.rest e.rest f.rest log' d.second e.second f.second g.second in (
           rest.0,
-          subst (λ (z : List Copy). Reached links apart W x w i n (λ q. value_at same_key q all) z log' rest.0)
+          subst (λ (z : List Copy). Reached links apart W x set w i n (λ q. value_at same_key q all) z log' rest.0)
               (append_assoc copies e.front e.rest ∙ ap (λ (z : List Copy). copies ++ z) (sym e.is)) rest.1,
         )
 
@@ -127,7 +129,7 @@ module _ (links : ℕ → Option Octets) (apart : (i j : ℕ) (l : Octets) → l
     stranger_closed first distinct known change copies log m r ds cs fs log' sent copied finished logged =
         let v : Client = record { number = k; held = Closed first } in
         again distinct.1 known.1 (change_rest Client tick all p begin v os distinct.0 change) copies log m
-        (reached_alike links apart W x w i n (look Client tick all (slot Client p begin v ∷ os)) (look Client tick all os) copies log m
+        (reached_alike links apart W x set w i n (look Client tick all (slot Client p begin v ∷ os)) (look Client tick all os) copies log m
         (look_same Client tick all p begin v os distinct.0 change refl) r)
         ds cs fs log' sent copied finished logged
 
@@ -142,18 +144,18 @@ module _ (links : ℕ → Option Octets) (apart : (i j : ℕ) (l : Octets) → l
         let none : e.front ≡ [] = copied_none links apart w.nodes h.linked n.now i p g (client.sends_of did) d.front e.front d.first e.first in
         let f = pairwise_split IsEndedView (ended_with k t.ask.choice (client.ending_of did)) (from_each (client_tick_ends c (here_at n i)) os) fs finished in
         let y = ended_split w.notes i f.front f.rest log log' (subst (λ (z : List EndedView). AreEnded w.notes i z log log') f.is logged) in
-        let next = reacts_stranger links apart W x bound w n i p g (look Client tick all (slot Client p begin v ∷ os)) (look Client tick all os)
+        let next = reacts_stranger links apart W x set bound w n i p g (look Client tick all (slot Client p begin v ∷ os)) (look Client tick all os)
         copies log m r k t (look_first Client tick all p begin v os) did
-        (λ is. subst (λ (z : ℕ). Sound x (client_acts_away m key t (client_ticks (client_context x key z) t))
+        (λ is. subst (λ (z : ℕ). Sound x set (client_acts_away m key t (client_ticks (client_context x key z) t))
         × Leads x n (client_acts_away m key t (client_ticks (client_context x key z) t))) (ap (λ (f : ℕ → Clock). (f i).shows) r.alike.here)
-        (ticks_at_client_away W x bound m r.sound key t is, TicksTicketAway m key t r.leads is))
+        (ticks_at_client_away W x set bound m r.sound key t is, TicksTicketAway m key t r.leads is))
         (look_here Client tick all p begin v os distinct.0 change)
         (λ q ne. look_next Client tick all p begin v os q ne)
         f.front y.between f.first y.first in
         let rest = again distinct.1 known.1 (change_rest Client tick all p begin v os distinct.0 change) copies y.between
         (client_acts_away m key t did) next d.rest e.rest f.rest log' d.second e.second f.second y.second in (
           rest.0,
-          subst (λ (z : List Copy). Reached links apart W x w i n (λ q. value_at same_key q all) (copies ++ z) log' rest.0)
+          subst (λ (z : List Copy). Reached links apart W x set w i n (λ q. value_at same_key q all) (copies ++ z) log' rest.0)
               (sym (e.is ∙ ap (λ (z : List Copy). z ++ e.rest) none)) rest.1,
         )
 

@@ -27,7 +27,8 @@ use Rattle.bac_transaction.specs.Meanings.{EndedView, IsEndedView}
 use Rattle.bac_transaction.specs.Ends.{Client, ClientEnd, ClientTurn, TransactionSlot, client_after, client_goes, requester_on_apdu_at, requester_on_apdu_in_slot, stays}
 use Rattle.bac_transaction.specs.Ends.TransactionSlot.{Open, Closed}
 use Rattle.bac_world.specs.Node.{Node, Outcome, IsClientTurn}
-use Rattle.bac_world.specs.Once.{Fact, IsOnce}
+use Rattle.bac_world.specs.Once.{Fact}
+use Rattle.bac_world.specs.ReusingLogs.{IsOnceSo}
 use Rattle.bac_world.specs.World.{World, Copy, stores_of, Acts, AreLogged, AreEnded, AreCopied, peer_at}
 use Rattle.bac_transaction.proofs.KeyedSlots.{EachSlot, with_same, with_other, with_distinct, each_with, each_at}
 use Rattle.bac_protocol.specs.World.{client_now, server_now, is_lost, is_key_held}
@@ -39,8 +40,9 @@ use Rattle.bac_world.proofs.Machines.{gets_at_client, may_arrive}
 use Rattle.bac_world.proofs.Pairs.{pairwise_none, append_none}
 use Rattle.bac_world.proofs.Logs.{FactMeans}
 use Rattle.bac_world.proofs.Bridge.{IsKnown, IsStranger, IsCopyOf, TicketFits, key_of, slot_key, stranger_key, copied_to}
-use Rattle.bac_world.proofs.Steps.{Over, Fits, Goes, acts_over, once_same, stores_same}
+use Rattle.bac_world.proofs.Steps.{Over, Fits, Goes, acts_as, acts_over, once_same, stores_same}
 use Rattle.bac_world.proofs.Hearing.{Reached, reached_none, reacts, ticket_at, closed_idle}
+use Rattle.bac_world.proofs.Settings.{Setting, reuses_in}
 
 -- a ticket that has ended hears nothing
 hears_nothing : (x : Rules) (n : Net) (p : Post) (o : Option ClientTransaction) → n.tickets p.key ≡ o → ((u : ClientTransaction) → o ≡ Some u → is_idle u.phase ≡ true)
@@ -50,27 +52,28 @@ hears_nothing x n p (Some t) is over =
     ap (client_acts n p.key t) (ended_is_silent.gets (client_context x p.key (client_now n p.key)) x.readable t p.copy.apdu (over t refl))
     ∙ (λ i. record n { tickets = set_nothing n.tickets p.key (Some t) is i; posts = append_none n.posts i })
 
-module _ (links : ℕ → Option Octets) (apart : (i j : ℕ) (l : Octets) → links i ≡ Some l → links j ≡ Some l → i ≡ j) (W : ℕ) (x : Rules) where
+module _ (links : ℕ → Option Octets) (apart : (i j : ℕ) (l : Octets) → links i ≡ Some l → links j ≡ Some l → i ≡ j) (W : ℕ) (x : Rules)
+    (set : Setting) where
   -- what was reached is a step of the world
-  pub arrived : (w w' : World) (n : Net) → Over links apart W x w n → (i : ℕ) (a b : Node) (o : Outcome) → slice_get w.nodes i ≡ Some a
+  pub arrived : (w w' : World) (n : Net) → Over links apart W x set w n → (i : ℕ) (a b : Node) (o : Outcome) → slice_get w.nodes i ≡ Some a
       → (acts : Acts w i b o w') → o.performed ≡ None
       → (e : ClientEnd) → b ≡ record a { latest = told w i; clients = e } → e.asks_from ≡ a.clients.asks_from
       → IsDistinct same_key e.slots → EachSlot Client (λ p s. (IsKnown links apart p ⊎ IsStranger links apart p) × (s.number < e.asked)) e.slots
-      → (m : Net) → Reached links apart W x w i n (λ p. value_at same_key p e.slots) (w.copies ++ acts.sent) acts.between m
-      → Goes links apart W x w w' m
+      → (m : Net) → Reached links apart W x set w i n (λ p. value_at same_key p e.slots) (w.copies ++ acts.sent) acts.between m
+      → Goes links apart W x set w w' m
   arrived w w' n h i a b o at acts quiet e b_is from distinct known m r = record {
-    bridge = acts_over links apart W x w w' n m h i a b o at acts r.alike r.asks r.noted r.away (ap (λ (d : Node). d.link) b_is)
-        (subst (λ (d : Node). Fits links apart W x w n m i d) (sym b_is) made)
-        r.others r.posts (subst (λ (lg : List Fact). Pairwise FactMeans m.log lg) (sym log_is) r.log) r.sound;
-    once = λ opening once. subst (λ (lg : List Fact). IsOnce opening lg (stores_of w'.nodes)) (sym log_is)
-        (once_same opening acts.between (stores_of w.nodes) (stores_of w'.nodes)
+    bridge = acts_over links apart W x set false w w' n m h i a b o at (acts_as w w' i b o acts) r.alike r.asks r.noted r.away (ap (λ (d : Node). d.link) b_is)
+        (subst (λ (d : Node). Fits links apart W x set w n m i d) (sym b_is) made)
+        r.others r.posts (subst (λ (lg : List Fact). Pairwise (FactMeans set) m.log lg) (sym log_is) r.log) r.sound;
+    once = λ opening once. subst (λ (lg : List Fact). IsOnceSo (reuses_in set) opening lg (stores_of w'.nodes)) (sym log_is)
+        (once_same (reuses_in set) opening acts.between (stores_of w.nodes) (stores_of w'.nodes)
         (stores_same w.nodes w'.nodes i a b acts.nodes at (ap (λ (d : Node). d.store) b_is)) (r.once opening (stores_of w.nodes) once));
   }
     where
-      fits : Fits links apart W x w n n i a
+      fits : Fits links apart W x set w n n i a
       fits = h.nodes i a at
 
-      made : Fits links apart W x w n m i (record a { latest = told w i; clients = e })
+      made : Fits links apart W x set w n m i (record a { latest = told w i; clients = e })
       made = record {
         settings = fits.settings;
         link = fits.link;
@@ -89,14 +92,14 @@ module _ (links : ℕ → Option Octets) (apart : (i j : ℕ) (l : Octets) → l
       log_is = subst (λ d. AreLogged w.nodes w.notes i b d acts.between w'.log) quiet acts.logged
 
   -- a step in which nothing goes out and nothing ends
-  pub quiet : (w w' : World) (n : Net) → Over links apart W x w n → (i : ℕ) (a b : Node) (o : Outcome) → slice_get w.nodes i ≡ Some a
-      → Acts w i b o w' → o.performed ≡ None → o.sends ≡ [] → o.ended ≡ [] → b ≡ record a { latest = told w i } → Goes links apart W x w w' n
+  pub quiet : (w w' : World) (n : Net) → Over links apart W x set w n → (i : ℕ) (a b : Node) (o : Outcome) → slice_get w.nodes i ≡ Some a
+      → Acts w i b o w' → o.performed ≡ None → o.sends ≡ [] → o.ended ≡ [] → b ≡ record a { latest = told w i } → Goes links apart W x set w w' n
   quiet w w' n h i a b o at acts performed sends ends b_is =
       arrived w w' n h i a b o at acts performed a.clients b_is refl fits.clients.distinct fits.clients.known n
-      (subst (λ (l : List Copy). Reached links apart W x w i n look l acts.between n) (sym copies_is)
-      (subst (λ (lg : List Fact). Reached links apart W x w i n look w.copies lg n) (sym between_is) (reached_none links apart W x w n h i a fits)))
+      (subst (λ (l : List Copy). Reached links apart W x set w i n look l acts.between n) (sym copies_is)
+      (subst (λ (lg : List Fact). Reached links apart W x set w i n look w.copies lg n) (sym between_is) (reached_none links apart W x set w n h i a fits)))
     where
-      fits : Fits links apart W x w n n i a
+      fits : Fits links apart W x set w n n i a
       fits = h.nodes i a at
 
       look : PeerKey → Option Client
@@ -112,14 +115,14 @@ module _ (links : ℕ → Option Octets) (apart : (i j : ℕ) (l : Octets) → l
       between_is = subst (λ (fs : List EndedView). AreEnded w.notes i fs w.log acts.between) ends acts.ended
 
   -- an APDU of a server was heard
-  pub hears : (bound : IsBounded W x) → x.readable ≡ reads_reply → (w w' : World) (n : Net) → Over links apart W x w n → (number : ℕ) (p : Post) (c : Copy)
+  pub hears : (bound : IsBounded W x) → x.readable ≡ reads_reply → (w w' : World) (n : Net) → Over links apart W x set w n → (number : ℕ) (p : Post) (c : Copy)
       → slice_get n.posts number ≡ Some p
       → IsCopyOf links apart p c → n.now - p.copy.moment ≤ n.pace.life → net.later p.key number n.posts ≤ x.overtake
       → is_from_client p.copy.apdu ≡ false → c.from ≡ p.key.server → c.to ≡ p.key.client
       → (a b : Node) (o : Outcome) → slice_get w.nodes c.to ≡ Some a → (l : Octets) → links c.from ≡ Some l
       → IsClientTurn (requester_on_apdu_at a.settings reads_reply (told w c.to) p.copy.apdu a.clients (slot_key l (invoke_id_of p.copy.apdu))
       (value_at same_key (slot_key l (invoke_id_of p.copy.apdu)) a.clients.slots)) (told w c.to) a b o
-      → Acts w c.to b o w' → Goes links apart W x w w' (taken_by_client x n p (n.tickets p.key))
+      → Acts w c.to b o w' → Goes links apart W x set w w' (taken_by_client x n p (n.tickets p.key))
   hears bound readable w w' n h number p c at copied young few down from_is to_is a b o node l link turn acts =
       go (value_at same_key q a.clients.slots) refl turn'
     where
@@ -138,7 +141,7 @@ module _ (links : ℕ → Option Octets) (apart : (i j : ℕ) (l : Octets) → l
       server_at : links key.server ≡ Some l
       server_at = subst (λ (i : ℕ). links i ≡ Some l) from_is link
 
-      fits : Fits links apart W x w n n key.client a
+      fits : Fits links apart W x set w n n key.client a
       fits = h.nodes key.client a node'
 
       q : PeerKey
@@ -170,25 +173,25 @@ module _ (links : ℕ → Option Octets) (apart : (i j : ℕ) (l : Octets) → l
       fit = fits.clients.found key.server l key.invoke_id server_at
 
       unheard : ((u : ClientTransaction) → n.tickets key ≡ Some u → is_idle u.phase ≡ true) → IsClientTurn (stays a.clients) (told w key.client) a b o
-          → Goes links apart W x w w' made_net
-      unheard over t = subst (λ (m : Net). Goes links apart W x w w' m) (sym (hears_nothing x n p (n.tickets key) refl over))
+          → Goes links apart W x set w w' made_net
+      unheard over t = subst (λ (m : Net). Goes links apart W x set w w' m) (sym (hears_nothing x n p (n.tickets key) refl over))
           (quiet w w' n h key.client a b o node' acts' t.performed (pairwise_none IsSent o.sends t.sends) (pairwise_none IsEndedView o.ended t.ended) t.node)
 
       goes : (k : ℕ) (t : ClientTransaction) → value_at same_key q a.clients.slots ≡ Some (record { number = k; held = Open t })
           → IsClientTurn (client_goes (here_at n key.client) a.clients q k t (client_on_apdu context x.readable t apdu)) (told w key.client) a b o
-          → Goes links apart W x w w' made_net
-      goes k t found turn = subst (λ (m : Net). Goes links apart W x w w' m) (sym (ap (taken_by_client x n p) open_is))
+          → Goes links apart W x set w w' made_net
+      goes k t found turn = subst (λ (m : Net). Goes links apart W x set w w' m) (sym (ap (taken_by_client x n p) open_is))
           (arrived w w' n h key.client a b o node' acts' turn.performed made turn.node refl
           (with_distinct Client q (client_after (here_at n key.client) k t r) a.clients.slots fits.clients.distinct)
           (each_with Client Known q (client_after (here_at n key.client) k t r) a.clients.slots
           (each_at Client Known q (record { number = k; held = Open t }) a.clients.slots fits.clients.known found) fits.clients.known)
           (client_acts n key t r)
-          (reacts links apart W x bound w n key l a.link fits.link server_at (λ y. value_at same_key y a.clients.slots)
+          (reacts links apart W x set bound w n key l a.link fits.link server_at (λ y. value_at same_key y a.clients.slots)
           (λ y. value_at same_key y made.slots) w.copies w.log n
-          (reached_none links apart W x w n h key.client a fits) h.linked k t found r
+          (reached_none links apart W x set w n h key.client a fits) h.linked k t found r
           (λ is. (
-            gets_at_client W x bound n h.sound number p at young few down (λ choice octets. machine.Outcome.Rejects 0) t is,
-            Hears n number p t Here at (may_arrive W x bound n number p young few) down is,
+            gets_at_client W x set bound n h.sound number p at young few down (λ choice octets. machine.Outcome.Rejects 0) t is,
+            Hears n number p t Here at (may_arrive W x set bound n number p young few) down is,
           ))
           (client_sends_own.gets context x.readable t apdu)
           (with_same Client q (client_after (here_at n key.client) k t r) (record { number = k; held = Open t }) a.clients.slots found)
@@ -213,7 +216,7 @@ module _ (links : ℕ → Option Octets) (apart : (i j : ℕ) (l : Octets) → l
 
       held : (k : ℕ) (y : TransactionSlot) → value_at same_key q a.clients.slots ≡ Some (record { number = k; held = y })
           → IsClientTurn (requester_on_apdu_in_slot s x.readable (here_at n key.client) apdu a.clients q k y) (told w key.client) a b o
-          → Goes links apart W x w w' made_net
+          → Goes links apart W x set w w' made_net
       held k (Closed first) is turn = unheard
           (λ u at. closed_idle (is_lost n key) (here_at n key.client) w.notes key.client (n.numbers key) k first u (subst (λ (y : Option ClientTransaction).
           TicketFits (is_lost n key) (here_at n key.client) w.notes key.client (n.numbers key) (Some (record { number = k; held = Closed first })) y) at
@@ -222,7 +225,7 @@ module _ (links : ℕ → Option Octets) (apart : (i j : ℕ) (l : Octets) → l
 
       go : (found : Option Client) → value_at same_key q a.clients.slots ≡ found
           → IsClientTurn (requester_on_apdu_at s x.readable (here_at n key.client) apdu a.clients q found) (told w key.client) a b o
-          → Goes links apart W x w w' made_net
+          → Goes links apart W x set w w' made_net
       go None is turn = unheard
           (λ u at. sym (ap is_ended at)
           ∙ (subst (λ (y : Option Client). TicketFits (is_lost n key) (here_at n key.client) w.notes key.client (n.numbers key) y (n.tickets key)) is fit).over) turn

@@ -25,10 +25,13 @@ use Rattle.bac_transaction.specs.Keys.{same_key}
 use Rattle.bac_transaction.specs.Sends.{Pairwise}
 use Rattle.bac_transaction.specs.Ends.{Client}
 use Rattle.bac_transaction.specs.Services.{service_of}
-use Rattle.bac_world.specs.Node.{Node, Outcome, IsDropped, IsHeard, IsHeardBy, NodeOn, with_change}
+use Rattle.bac_world.specs.Node.{Node, Outcome, IsDropped, with_change}
+use Rattle.bac_world.specs.ReusingLogs.{IsOnceSo, Reuses}
+use Rattle.bac_world.specs.ReusingNodes.{NodeHears}
+use Rattle.bac_world.specs.ReusingWorlds.{ActsSo, DeliversIfSo, DeliversSo, HearsSo, WorldRunSo, WorldStepSo}
 use Rattle.bac_world.specs.Once.{Fact, Stores, IsOnce, MayChange, with_changed}
-use Rattle.bac_world.specs.World.{World, Time, passes, Event, Copy, Note, link_at, stores_of, newest, later, peer_at, Acts, DeliversIf, Delivers, HearsNoise, HearsStranger}
-use Rattle.bac_world.specs.World.{IsChanged, WorldStep, WorldRun, IsFresh, IsBounded}
+use Rattle.bac_world.specs.World.{World, Time, passes, Event, Copy, Note, link_at, stores_of, newest, later, peer_at, IsOfNone, IsChanged, WorldRun, IsFresh, IsBounded}
+use Rattle.bac_world.specs.Laws.{IsMeaningless}
 use Rattle.bac_world.specs.World.Event.{Ask, AskAway, Deliver, Noise, Stray, Tick, Advance, Change, Restart}
 use Rattle.bac_transaction.proofs.KeyedSlots.{EachSlot}
 use Rattle.bac_protocol.specs.World.{client_now, server_now, is_lost, is_key_held}
@@ -41,7 +44,10 @@ use Rattle.bac_world.proofs.Pairs.{IsPaired, pairwise_get}
 use Rattle.bac_world.proofs.Logs.{FactMeans}
 use Rattle.bac_world.proofs.Bridge.{IsKnown, IsStranger, NodeFits, IsCopyOf, IsBetween, IsGone, TicketFits, EntryFits, AwayNoted, key_of, slot_key, stranger_key, out_key}
 use Rattle.bac_world.proofs.Bridge.{framed_means, later_alike}
-use Rattle.bac_world.proofs.Steps.{Over, Next, each_with, linked_with}
+use Rattle.bac_world.proofs.Steps.{Over, Next, acts_quiet, each_with, linked_with}
+use Rattle.bac_world.proofs.AsEver.{once_as, once_ever, run_as}
+use Rattle.bac_world.proofs.Heard.{IsHeardIn, IsHeardInBy, heard_in}
+use Rattle.bac_world.proofs.Settings.{Setting, reuses_in}
 use Rattle.bac_world.proofs.Serving.{serves}
 use Rattle.bac_world.proofs.StrangersHeard.{hears_stranger}
 use Rattle.bac_world.proofs.Clients.{hears, quiet}
@@ -54,44 +60,51 @@ use Rattle.bac_world.proofs.Ticking.{tick_over}
 use Rattle.bac_world.proofs.Restarting.{restarted_next}
 
 module _ (links : ℕ → Option Octets) (apart : (i j : ℕ) (l : Octets) → links i ≡ Some l → links j ≡ Some l → i ≡ j) (W : ℕ) (x : Rules)
-    (bound : claims.IsBounded W x) (readable : x.readable ≡ reads_reply) where
-  same_over : (w w' : World) (n : Net) → Over links apart W x w n → w' ≡ w → Next links apart W x w w'
-  same_over w w' n h is = subst (λ (u : World). Next links apart W x w u) (sym is) (n, record { bridge = h; once = λ opening once. once })
+    (set : Setting) (bound : claims.IsBounded W x) (readable : x.readable ≡ reads_reply) where
+  same_over : (w w' : World) (n : Net) → Over links apart W x set w n → w' ≡ w → Next links apart W x set w w'
+  same_over w w' n h is = subst (λ (u : World). Next links apart W x set w u) (sym is) (n, record { bridge = h; once = λ opening once. once })
 
   -- Datagrams.
 
-  dropped : (w w' : World) (n : Net) → Over links apart W x w n → (i : ℕ) (a b : Node) (o : Outcome) → slice_get w.nodes i ≡ Some a → Acts w i b o w'
-      → (from octets : Octets) → IsDropped (told w i) from octets a b o → Next links apart W x w w'
-  dropped w w' n h i a b o at acts from octets d = (
+  dropped : (reuse : Bool) (w w' : World) (n : Net) → Over links apart W x set w n → (i : ℕ) (a b : Node) (o : Outcome) → slice_get w.nodes i ≡ Some a
+      → ActsSo reuse w i b o w'
+      → (from octets : Octets) → IsDropped (told w i) from octets a b o → Next links apart W x set w w'
+  dropped reuse w w' n h i a b o at acts from octets d = (
     n,
-    quiet links apart W x w w' n h i a b o at acts (ap (λ (y : Outcome). y.performed) d.outcome)
-        (ap (λ (y : Outcome). y.sends) d.outcome) (ap (λ (y : Outcome). y.ended) d.outcome) d.node,
+    quiet links apart W x set w w' n h i a b o at (acts_quiet reuse w w' i b o (ap (λ (y : Outcome). y.performed) d.outcome) acts)
+        (ap (λ (y : Outcome). y.performed) d.outcome) (ap (λ (y : Outcome). y.sends) d.outcome) (ap (λ (y : Outcome). y.ended) d.outcome) d.node,
   )
 
   -- a copy that may arrive is heard
-  module _ (w w' : World) (n : Net) (h : Over links apart W x w n) (number : ℕ) (p : Post) (c : Copy) (at : slice_get n.posts number ≡ Some p)
+  module _ (w w' : World) (n : Net) (h : Over links apart W x set w n) (number : ℕ) (p : Post) (c : Copy) (at : slice_get n.posts number ≡ Some p)
       (copied : IsCopyOf links apart p c) (young : n.now - p.copy.moment ≤ n.pace.life) (few : machine.later p.key number n.posts ≤ x.overtake)
-      (a b : Node) (o : Outcome) (node : slice_get w.nodes c.to ≡ Some a) (l : Octets) (link : links c.from ≡ Some l) (acts : Acts w c.to b o w') where
-    heard_by : (up : Bool) → is_from_client p.copy.apdu ≡ up → IsBetween up p.key c.from c.to → IsHeardBy up (peer_at l) p.copy.apdu (told w c.to) a b o
-        → Next links apart W x w w'
+      (a b : Node) (o : Outcome) (node : slice_get w.nodes c.to ≡ Some a) (l : Octets) (link : links c.from ≡ Some l)
+      (acts : ActsSo (reuses_in set c.to) w c.to b o w') where
+    heard_by : (up : Bool) → is_from_client p.copy.apdu ≡ up → IsBetween up p.key c.from c.to
+        → IsHeardInBy (reuses_in set c.to) up (peer_at l) p.copy.apdu (told w c.to) a b o
+        → Next links apart W x set w w'
     heard_by true up between turn =
-        (_, (serves links apart W x bound w w' n h number p c at copied young few up between.0 between.1 a b o node l link (service_of a.store) turn acts).0)
-    heard_by false down between turn =
-        (_, hears links apart W x bound readable w w' n h number p c at copied young few down between.0 between.1 a b o node l link turn acts)
+        (_, (serves links apart W x set bound w w' n h number p c at copied young few up between.0 between.1 a b o node l link (service_of a.store) turn acts).0)
+    heard_by false down between turn = (
+      _,
+      hears links apart W x set bound readable w w' n h number p c at copied young few down between.0 between.1 a b o node l link turn
+          (acts_quiet (reuses_in set c.to) w w' c.to b o turn.performed acts),
+    )
 
-    heard : IsHeard (told w c.to) l c.octets a b o → Next links apart W x w w'
+    heard : IsHeardIn (reuses_in set c.to) (told w c.to) l c.octets a b o → Next links apart W x set w w'
     heard y =
         let one = framed_means l copied.to_link p.copy.apdu y.apdu y.peer c.octets copied.frame copied.short y.means in
         heard_by (is_from_client p.copy.apdu) refl copied.between
-        (subst (λ (q : PeerView). IsHeardBy (is_from_client p.copy.apdu) q p.copy.apdu (told w c.to) a b o) one.0
-        (subst (λ (d : Apdu). IsHeardBy (is_from_client d) y.peer d (told w c.to) a b o) one.1 y.heard))
+        (subst (λ (q : PeerView). IsHeardInBy (reuses_in set c.to) (is_from_client p.copy.apdu) q p.copy.apdu (told w c.to) a b o) one.0
+        (subst (λ (d : Apdu). IsHeardInBy (reuses_in set c.to) (is_from_client d) y.peer d (told w c.to) a b o) one.1 y.heard))
 
-  module _ (w w' : World) (n : Net) (h : Over links apart W x w n) (number : ℕ) (c : Copy) (there : slice_get w.copies number ≡ Some c) where
+  module _ (w w' : World) (n : Net) (h : Over links apart W x set w n) (number : ℕ) (c : Copy) (there : slice_get w.copies number ≡ Some c) where
     post : IsPaired (IsCopyOf links apart) n.posts number c
     post = pairwise_get (IsCopyOf links apart) n.posts w.copies number c h.posts there
 
-    arrives : w.time.now - c.moment ≤ w.time.pace.life → later c.key number w.copies ≤ x.overtake → Delivers w c w' → Next links apart W x w w'
-    arrives young few y = on y.hears.on
+    arrives : w.time.now - c.moment ≤ w.time.pace.life → later c.key number w.copies ≤ x.overtake → DeliversSo (reuses_in set) w c w' → Next links apart W x set w w'
+    arrives young few y =
+        on (heard_in (told w c.to) y.link c.octets y.hears.before y.hears.after y.hears.outcome (reuses_in set c.to) y.hears.on)
       where
         p : Post
         p = post.other
@@ -108,32 +121,29 @@ module _ (links : ℕ → Option Octets) (apart : (i j : ℕ) (l : Octets) → l
         are_few = subst (λ (m : ℕ). m ≤ x.overtake) (later_alike links apart p.key number n.posts w.copies h.posts)
             (subst (λ (k : Key). later k number w.copies ≤ x.overtake) post.goes.key few)
 
-        on : NodeOn (told w c.to) y.link c.octets y.hears.before y.hears.after y.hears.outcome → Next links apart W x w w'
-        on (inl z) = dropped w w' n h c.to y.hears.before y.hears.after y.hears.outcome y.hears.at y.hears.acts y.link c.octets z
+        on : IsDropped (told w c.to) y.link c.octets y.hears.before y.hears.after y.hears.outcome
+            ⊎ IsHeardIn (reuses_in set c.to) (told w c.to) y.link c.octets y.hears.before y.hears.after y.hears.outcome → Next links apart W x set w w'
+        on (inl z) = dropped (reuses_in set c.to) w w' n h c.to y.hears.before y.hears.after y.hears.outcome y.hears.at y.hears.acts y.link c.octets z
         on (inr z) = heard w w' n h number p c post.there post.goes is_young are_few y.hears.before y.hears.after y.hears.outcome y.hears.at y.link link
             y.hears.acts z
 
-    delivered : (e f : Bool) → nat_le (w.time.now - c.moment) w.time.pace.life ≡ e → nat_le (later c.key number w.copies) x.overtake ≡ f → DeliversIf (e && f) w c w'
-        → Next links apart W x w w'
+    delivered : (e f : Bool) → nat_le (w.time.now - c.moment) w.time.pace.life ≡ e → nat_le (later c.key number w.copies) x.overtake ≡ f → DeliversIfSo (e && f) (reuses_in set) w c w'
+        → Next links apart W x set w w'
     delivered false f young few same = same_over w w' n h same
     delivered true false young few same = same_over w w' n h same
     delivered true true young few y = arrives (grind (arith, nat_tests)) (grind (arith, nat_tests)) y
 
-  noise : (w w' : World) (n : Net) → Over links apart W x w n → (i : ℕ) (from octets : Octets) → HearsNoise w i from octets w' → Next links apart W x w w'
-  noise w w' n h i from octets d = on d.hears.on
+  -- octets from outside: noise, or what a stranger sends
+  outside : (w w' : World) (n : Net) → Over links apart W x set w n → (i : ℕ) (from octets : Octets) → IsMeaningless from octets ⊎ IsOfNone w.nodes from
+      → HearsSo (reuses_in set i) w i from octets w' → Next links apart W x set w w'
+  outside w w' n h i from octets fit d = on (heard_in (told w i) from octets d.before d.after d.outcome (reuses_in set i) d.on) fit
     where
-      on : NodeOn (told w i) from octets d.hears.before d.hears.after d.hears.outcome → Next links apart W x w w'
-      on (inl z) = dropped w w' n h i d.hears.before d.hears.after d.hears.outcome d.hears.at d.hears.acts from octets z
-      on (inr z) = absurd (d.meaningless z.peer z.apdu z.means)
-
-  stray : (w w' : World) (n : Net) → Over links apart W x w n → (i : ℕ) (from octets : Octets) → HearsStranger w i from octets w' → Next links apart W x w w'
-  stray w w' n h i from octets d = on d.hears.on
-    where
-      on : NodeOn (told w i) from octets d.hears.before d.hears.after d.hears.outcome → Next links apart W x w w'
-      on (inl z) = dropped w w' n h i d.hears.before d.hears.after d.hears.outcome d.hears.at d.hears.acts from octets z
-      on (inr z) =
-          let next = hears_stranger links apart W x bound readable w w' n h i from d.stranger d.hears.before d.hears.after d.hears.outcome d.hears.at
-          d.hears.acts octets z in
+      on : IsDropped (told w i) from octets d.before d.after d.outcome ⊎ IsHeardIn (reuses_in set i) (told w i) from octets d.before d.after d.outcome
+          → IsMeaningless from octets ⊎ IsOfNone w.nodes from → Next links apart W x set w w'
+      on (inl z) fit = dropped (reuses_in set i) w w' n h i d.before d.after d.outcome d.at d.acts from octets z
+      on (inr z) (inl meaningless) = absurd (meaningless z.peer z.apdu z.means)
+      on (inr z) (inr stranger) =
+          let next = hears_stranger links apart W x set bound readable w w' n h i from stranger d.before d.after d.outcome d.at d.acts octets z in
           (next.0, next.1)
 
   -- Time.
@@ -155,8 +165,8 @@ module _ (links : ℕ → Option Octets) (apart : (i j : ℕ) (l : Octets) → l
   entry_later : (now after : ℕ) → now ≤ after → (a b : Option ServerTransaction) → EntryFits now a b → EntryFits after a b
   entry_later now after le a b h = sym (dead_is_none.later now after a le) ∙ ap (live_entry after) h ∙ dead_is_none.later now after b le
 
-  pub advanced_over : (w : World) (n : Net) → Over links apart W x w n → (by : ℕ) (own : ℕ → ℕ)
-      → Over links apart W x (record w { time = passes w.time by own }) (machine.passes n by own own)
+  pub advanced_over : (w : World) (n : Net) → Over links apart W x set w n → (by : ℕ) (own : ℕ → ℕ)
+      → Over links apart W x set (record w { time = passes w.time by own }) (machine.passes n by own own)
   advanced_over w n h by own = record {
     now = ap (λ (t : ℕ). t + by) h.now;
     pace = h.pace;
@@ -173,20 +183,20 @@ module _ (links : ℕ → Option Octets) (apart : (i j : ℕ) (l : Octets) → l
         distinct = f.clients.distinct;
         known = f.clients.known;
         found = λ s l id at'. ticket_later (is_lost n (key_of i s id)) (here_at n i) (goes_on n.pace by (own i) (n.client_clocks i)).shows
-            (client_later W x bound n h.sound (key_of i s id) by (own i)) w.notes i (n.numbers (key_of i s id))
+            (client_later W x set bound n h.sound (key_of i s id) by (own i)) w.notes i (n.numbers (key_of i s id))
             (value_at same_key (slot_key l id) a.clients.slots) (n.tickets (key_of i s id)) (f.clients.found s l id at');
         strangers = λ p g. ticket_later false (here_at n i) (goes_on n.pace by (own i) (n.client_clocks i)).shows
-            (client_later W x bound n h.sound (out_key i p) by (own i)) w.notes i (n.far.numbers (out_key i p))
+            (client_later W x set bound n h.sound (out_key i p) by (own i)) w.notes i (n.far.numbers (out_key i p))
             (value_at same_key p a.clients.slots) (n.far.tickets (out_key i p)) (f.clients.strangers p g);
       };
       servers = record {
         distinct = f.servers.distinct;
         known = f.servers.known;
         found = λ c l id at'. entry_later (there_at n i) (goes_on n.pace by (own i) (n.server_clocks i)).shows
-            (server_later W x bound n h.sound (key_of c i id) by (own i)) (value_at same_key (slot_key l id) a.servers.slots) (n.entries (key_of c i id))
+            (server_later W x set bound n h.sound (key_of c i id) by (own i)) (value_at same_key (slot_key l id) a.servers.slots) (n.entries (key_of c i id))
             (f.servers.found c l id at');
         strangers = λ p g. entry_later (there_at n i) (goes_on n.pace by (own i) (n.server_clocks i)).shows
-            (server_later W x bound n h.sound (stranger_key i p) by (own i)) (value_at same_key p a.servers.slots) (n.far.entries (stranger_key i p))
+            (server_later W x set bound n h.sound (stranger_key i p) by (own i)) (value_at same_key p a.servers.slots) (n.far.entries (stranger_key i p))
             (f.servers.strangers p g);
       };
     };
@@ -194,10 +204,10 @@ module _ (links : ℕ → Option Octets) (apart : (i j : ℕ) (l : Octets) → l
     away = h.away;
     posts = h.posts;
     log = h.log;
-    sound = passed W x bound n by own own h.sound;
+    sound = passed W x set bound n by own own h.sound;
   }
 
-  advanced : (w : World) (n : Net) → Over links apart W x w n → (by : ℕ) (own : ℕ → ℕ) → Next links apart W x w (record w { time = passes w.time by own })
+  advanced : (w : World) (n : Net) → Over links apart W x set w n → (by : ℕ) (own : ℕ → ℕ) → Next links apart W x set w (record w { time = passes w.time by own })
   advanced w n h by own = (machine.passes n by own own, record { bridge = advanced_over w n h by own; once = λ opening once. once })
 
   -- A change at a node.
@@ -214,8 +224,8 @@ module _ (links : ℕ → Option Octets) (apart : (i j : ℕ) (l : Octets) → l
     servers = record { distinct = f.servers.distinct; known = f.servers.known; found = f.servers.found; strangers = f.servers.strangers };
   }
 
-  module _ (w w' : World) (n : Net) (h : Over links apart W x w n) (i : ℕ) (c : at_node.Change) (s : IsChanged w i c w') where
-    pub changed_over : Over links apart W x w' (notes_change n i [])
+  module _ (w w' : World) (n : Net) (h : Over links apart W x set w n) (i : ℕ) (c : at_node.Change) (s : IsChanged w i c w') where
+    pub changed_over : Over links apart W x set w' (notes_change n i [])
     changed_over = record {
       now = h.now ∙ sym (ap (λ (t : Time). t.now) s.time);
       pace = h.pace ∙ sym (ap (λ (t : Time). t.pace) s.time);
@@ -231,8 +241,8 @@ module _ (links : ℕ → Option Octets) (apart : (i j : ℕ) (l : Octets) → l
       noted = λ key t is. ap (newest key) s.notes ∙ h.noted key t is;
       away = subst (λ (l : List Note). AwayNoted l n) (sym s.notes) h.away;
       posts = subst (λ (l : List Copy). Pairwise (IsCopyOf links apart) n.posts l) (sym s.copies) h.posts;
-      log = subst (λ (l : List Fact). Pairwise FactMeans (notes_change n i []).log l) (sym s.log) (refl, h.log);
-      sound = changes W x bound n i [] h.sound;
+      log = subst (λ (l : List Fact). Pairwise (FactMeans set) (notes_change n i []).log l) (sym s.log) (refl, h.log);
+      sound = changes W x set bound n i [] h.sound;
     }
 
     stores_changed : (node : ℕ) → stores_of w'.nodes node ≡ with_changed i c (stores_of w.nodes) node
@@ -256,40 +266,52 @@ module _ (links : ℕ → Option Octets) (apart : (i j : ℕ) (l : Octets) → l
       stores = stores_changed;
     }
 
-    changed_next : Next links apart W x w w'
+    changed_next : Next links apart W x set w w'
     changed_next = (
       notes_change n i [],
       record {
         bridge = changed_over;
-        once = λ opening once. subst (λ (l : List Fact). IsOnce opening l (stores_of w'.nodes)) (sym s.log) (stores_of w.nodes, may_change, once);
+        once = λ opening once. subst (λ (l : List Fact). IsOnceSo (reuses_in set) opening l (stores_of w'.nodes)) (sym s.log) (stores_of w.nodes, may_change, once);
       },
     )
 
   -- Runs.
 
-  step_over : (w w' : World) (n : Net) → Over links apart W x w n → (e : Event) → WorldStep x.overtake w e w' → Next links apart W x w w'
-  step_over w w' n h (Ask client server limits r) (inl s) = asks_over links apart W x bound w w' n h client server limits r s
+  step_over : (w w' : World) (n : Net) → Over links apart W x set w n → (e : Event) → WorldStepSo x.overtake (reuses_in set) w e w'
+      → Next links apart W x set w w'
+  step_over w w' n h (Ask client server limits r) (inl s) = asks_over links apart W x set bound w w' n h client server limits r s
   step_over w w' n h (Ask client server limits r) (inr s) = same_over w w' n h s.same
-  step_over w w' n h (AskAway client peer limits r) (inl s) = let next = asks_away_over links apart W x bound w w' n h client peer limits r s in (next.0, next.1)
+  step_over w w' n h (AskAway client peer limits r) (inl s) = let next = asks_away_over links apart W x set bound w w' n h client peer limits r s in (next.0, next.1)
   step_over w w' n h (AskAway client peer limits r) (inr s) = same_over w w' n h s.same
   step_over w w' n h (Deliver number) s = delivered w w' n h number s.copy s.there (nat_le (w.time.now - s.copy.moment) w.time.pace.life)
       (nat_le (later s.copy.key number w.copies) x.overtake) refl refl s.goes
-  step_over w w' n h (Noise node from octets) (inl s) = noise w w' n h node from octets s
+  step_over w w' n h (Noise node from octets) (inl s) = outside w w' n h node from octets (inl s.fit) s.hears
   step_over w w' n h (Noise node from octets) (inr s) = same_over w w' n h s.same
-  step_over w w' n h (Stray node from octets) (inl s) = stray w w' n h node from octets s
+  step_over w w' n h (Stray node from octets) (inl s) = outside w w' n h node from octets (inr s.fit) s.hears
   step_over w w' n h (Stray node from octets) (inr s) = same_over w w' n h s.same
-  step_over w w' n h (Tick node) s = tick_over links apart W x bound w w' n h node s
-  step_over w w' n h (Advance by own) s = subst (λ (u : World). Next links apart W x w u) (sym s) (advanced w n h by own)
+  step_over w w' n h (Tick node) s = tick_over links apart W x set bound w w' n h node s
+  step_over w w' n h (Advance by own) s = subst (λ (u : World). Next links apart W x set w u) (sym s) (advanced w n h by own)
   step_over w w' n h (Change node change) s = changed_next w w' n h node change s
-  step_over w w' n h (Restart node exact store) s = restarted_next links apart W x bound w w' n h node exact store s
+  step_over w w' n h (Restart node exact store) s = restarted_next links apart W x set bound w w' n h node exact store s
 
-  pub run_over : (opening : Stores) (events : List Event) (w w' : World) (n : Net) → Over links apart W x w n → IsOnce opening w.log (stores_of w.nodes)
-      → WorldRun x.overtake w events w' → (m : Net) × Over links apart W x w' m × IsOnce opening w'.log (stores_of w'.nodes)
-  run_over opening [] w w' n h once run =
-      subst (λ (u : World). (m : Net) × Over links apart W x u m × IsOnce opening u.log (stores_of u.nodes)) (sym run) (n, h, once)
-  run_over opening (e ∷ es) w w' n h once run =
+  pub run_over_so : (opening : Stores) (events : List Event) (w w' : World) (n : Net) → Over links apart W x set w n
+      → IsOnceSo (reuses_in set) opening w.log (stores_of w.nodes) → WorldRunSo x.overtake (reuses_in set) w events w'
+      → (m : Net) × Over links apart W x set w' m × IsOnceSo (reuses_in set) opening w'.log (stores_of w'.nodes)
+  run_over_so opening [] w w' n h once run =
+      subst (λ (u : World). (m : Net) × Over links apart W x set u m × IsOnceSo (reuses_in set) opening u.log (stores_of u.nodes)) (sym run) (n, h, once)
+  run_over_so opening (e ∷ es) w w' n h once run =
       let next = step_over w run.0 n h e run.1 in
-      run_over opening es run.0 w' next.0 next.1.bridge (next.1.once opening once) run.2
+      run_over_so opening es run.0 w' next.0 next.1.bridge (next.1.once opening once) run.2
+
+-- where no invoke ID is used again
+pub run_over : (links : ℕ → Option Octets) (apart : (i j : ℕ) (l : Octets) → links i ≡ Some l → links j ≡ Some l → i ≡ j) (W : ℕ) (x : Rules)
+    → claims.IsBounded W x → x.readable ≡ reads_reply → (opening : Stores) (events : List Event) (w w' : World) (n : Net) → Over links apart W x None w n
+    → IsOnce opening w.log (stores_of w.nodes) → WorldRun x.overtake w events w'
+    → (m : Net) × Over links apart W x None w' m × IsOnce opening w'.log (stores_of w'.nodes)
+run_over links apart W x bound readable opening events w w' n h once run =
+    let m = run_over_so links apart W x None bound readable opening events w w' n h (once_as (reuses_in None) opening w.log (stores_of w.nodes) once)
+    (run_as x.overtake w events w' run) in
+    (m.0, m.1, once_ever (reuses_in None) (λ node. refl) opening w'.log (stores_of w'.nodes) m.2)
 
 -- A fresh world.
 
@@ -307,9 +329,9 @@ rules_bounded W overtake w b = record { some = b.some; windows = λ i. go (slice
     go None h = omega arith
     go (Some a) h = h a refl
 
-pub fresh_over : (W overtake : ℕ) (w : World) → (h : IsFresh w) → IsTimely w.time.pace → (b : IsBounded W overtake w)
-    → Over (link_at w.nodes) h.apart W (rules_of overtake w) w (net_start w.time.pace (λ i. (w.time.clocks i).exact))
-fresh_over W overtake w h timely b = record {
+pub fresh_over : (set : Setting) (W overtake : ℕ) (w : World) → (h : IsFresh w) → IsTimely w.time.pace → (b : IsBounded W overtake w)
+    → Over (link_at w.nodes) h.apart W (rules_of overtake w) set w (net_start w.time.pace (λ i. (w.time.clocks i).exact))
+fresh_over set W overtake w h timely b = record {
   now = sym h.now;
   pace = refl;
   here = λ i. sym (h.clocks i);
@@ -339,35 +361,37 @@ fresh_over W overtake w h timely b = record {
   noted = λ key t at. absurd cc;
   away = λ key t at. absurd cc;
   posts = subst (λ (l : List Copy). Pairwise (IsCopyOf (link_at w.nodes) h.apart) [] l) (sym h.copies) tt;
-  log = subst (λ (l : List Fact). Pairwise FactMeans [] l) (sym h.log) tt;
-  sound = starts W (rules_of overtake w) (rules_bounded W overtake w b) w.time.pace timely (λ i. (w.time.clocks i).exact);
+  log = subst (λ (l : List Fact). Pairwise (FactMeans set) [] l) (sym h.log) tt;
+  sound = starts (rules_of overtake w) set w.time.pace timely (λ i. (w.time.clocks i).exact);
 }
 
-pub headline : (W overtake : ℕ) (w w' : World) → IsFresh w → IsTimely w.time.pace → IsBounded W overtake w → (events : List Event) → WorldRun overtake w events w'
-    → IsOnce (stores_of w.nodes) w'.log (stores_of w'.nodes)
-headline W overtake w w' h timely b events run =
-    (run_over (link_at w.nodes) h.apart W (rules_of overtake w) (rules_bounded W overtake w b) refl (stores_of w.nodes) events w w' (net_start w.time.pace (λ i. (w.time.clocks i).exact))
-    (fresh_over W overtake w h timely b)
-    (subst (λ (l : List Fact). IsOnce (stores_of w.nodes) l (stores_of w.nodes)) (sym h.log) (λ node. refl))
+pub headline_so : (u : Reuses) (W overtake : ℕ) (w w' : World) → IsFresh w → IsTimely w.time.pace → IsBounded W overtake w → (events : List Event)
+    → WorldRunSo overtake u w events w' → IsOnceSo u (stores_of w.nodes) w'.log (stores_of w'.nodes)
+headline_so u W overtake w w' h timely b events run =
+    (run_over_so (link_at w.nodes) h.apart W (rules_of overtake w) (Some u) (rules_bounded W overtake w b) refl (stores_of w.nodes) events w w'
+    (net_start w.time.pace (λ i. (w.time.clocks i).exact)) (fresh_over (Some u) W overtake w h timely b)
+    (subst (λ (l : List Fact). IsOnceSo u (stores_of w.nodes) l (stores_of w.nodes)) (sym h.log) (λ node. refl))
     run).2
 
-pub apart_in_run : (W overtake : ℕ) (w w' : World) → IsFresh w → IsTimely w.time.pace → IsBounded W overtake w → (events : List Event)
-    → WorldRun overtake w events w' → AreServedApart w'
-apart_in_run W overtake w w' h timely b events run = record {
-  spaced = spaced r.0.log w'.log r.1.log known.spaced;
-  waited = λ i node at q d begin request reply has.
-      let served = served_as i q i d begin request reply r.0.log w'.log r.1.log has in
-      let le = known.waited (number q) i d begin served.request served.reply served.has in
-      subst (λ (from : ℕ). from ≤ begin) (sym (r.1.nodes i node at).serves) le;
-}
-  where
-    bounded : claims.IsBounded W (rules_of overtake w)
-    bounded = rules_bounded W overtake w b
+-- Where no invoke ID is used again.
+module _ (W overtake : ℕ) (w w' : World) (h : IsFresh w) (timely : IsTimely w.time.pace) (b : IsBounded W overtake w) (events : List Event)
+    (run : WorldRun overtake w events w') where
+  reached : (m : Net) × Over (link_at w.nodes) h.apart W (rules_of overtake w) None w' m × IsOnce (stores_of w.nodes) w'.log (stores_of w'.nodes)
+  reached = run_over (link_at w.nodes) h.apart W (rules_of overtake w) (rules_bounded W overtake w b) refl (stores_of w.nodes) events w w'
+      (net_start w.time.pace (λ i. (w.time.clocks i).exact)) (fresh_over None W overtake w h timely b)
+      (subst (λ (l : List Fact). IsOnce (stores_of w.nodes) l (stores_of w.nodes)) (sym h.log) (λ node. refl)) run
 
-    r : (m : Net) × Over (link_at w.nodes) h.apart W (rules_of overtake w) w' m × IsOnce (stores_of w.nodes) w'.log (stores_of w'.nodes)
-    r = run_over (link_at w.nodes) h.apart W (rules_of overtake w) bounded refl (stores_of w.nodes) events w w'
-        (net_start w.time.pace (λ i. (w.time.clocks i).exact)) (fresh_over W overtake w h timely b)
-        (subst (λ (l : List Fact). IsOnce (stores_of w.nodes) l (stores_of w.nodes)) (sym h.log) (λ node. refl)) run
+  pub headline : IsOnce (stores_of w.nodes) w'.log (stores_of w'.nodes)
+  headline = reached.2
 
-    known : claims.AreServedApart r.0
-    known = served_apart_of W (rules_of overtake w) bounded r.0 r.1.sound
+  pub apart_in_run : AreServedApart w'
+  apart_in_run = record {
+    spaced = spaced reached.0.log w'.log reached.1.log known.spaced;
+    waited = λ i node at q d begin request reply has.
+        let served = served_as i q i d begin request reply reached.0.log w'.log reached.1.log has in
+        let le = known.waited (number q) i d begin served.request served.reply served.has in
+        subst (λ (from : ℕ). from ≤ begin) (sym (reached.1.nodes i node at).serves) le;
+  }
+    where
+      known : claims.AreServedApart reached.0
+      known = served_apart_of W (rules_of overtake w) (rules_bounded W overtake w b) reached.0 reached.1.sound

@@ -8,7 +8,7 @@ use Rattle.bac_protocol.specs.Own.{IsOfClient}
 use Rattle.bac_protocol.specs.Client as client
 use Rattle.bac_protocol.specs.Client.{ClientTransaction, request_of, is_idle}
 use Rattle.bac_protocol.specs.Log as octets
-use Rattle.bac_protocol.specs.Log.{IsOrderly}
+use Rattle.bac_reuse.specs.Moves.{IsOrderlySo}
 use Rattle.bac_protocol.specs.Transaction.{Key, Rules, ended}
 use Rattle.bac_protocol.specs.World.{Net, client_acts, set_at, post_of}
 use Rattle.bac_protocol.specs.Claims.{IsBounded}
@@ -20,7 +20,8 @@ use Rattle.bac_transaction.specs.Meanings.{EndedView, IsEndedView}
 use Rattle.bac_transaction.specs.Ends.{Client, kept, open_unless, ended_with, client_after}
 use Rattle.bac_transaction.specs.Ends.TransactionSlot.{Open, Closed}
 use Rattle.bac_world.specs.Node.{Node}
-use Rattle.bac_world.specs.Once.{Fact, Stores, IsOnce, MayEnd}
+use Rattle.bac_world.specs.Once.{Fact, Stores, MayEnd}
+use Rattle.bac_world.specs.ReusingLogs.{IsOnceSo}
 use Rattle.bac_world.specs.World.{World, Note, Copy, link_at, AreEnded, ask_of, newest, peer_at, IsCopied}
 use Rattle.bac_protocol.specs.World.{client_now, is_lost}
 use Rattle.bac_world.proofs.Bridge.{here_at, there_at}
@@ -38,6 +39,7 @@ use Rattle.bac_protocol.specs.Transaction.{ended_away}
 use Rattle.bac_protocol.specs.Client.{Ask}
 use Rattle.bac_world.specs.World.{is_away, ending_fact}
 use Rattle.bac_world.proofs.Steps.{Over}
+use Rattle.bac_world.proofs.Settings.{Setting, reuses_in, reusing_in}
 
 -- two keys of asks of strangers are one where the slots' keys are
 pub out_one : (i : ℕ) (p q : PeerKey) → out_key i p ≡ out_key i q → p ≡ q
@@ -81,7 +83,8 @@ closed_idle gone now notes i number k first u h = go (is_idle u.phase) refl h.he
 
 -- What a node's client slots and the net have in common, while some have gone on: what is found in them, and all copies and facts by then.
 
-module _ (links : ℕ → Option Octets) (apart : (i j : ℕ) (l : Octets) → links i ≡ Some l → links j ≡ Some l → i ≡ j) (W : ℕ) (x : Rules) where
+module _ (links : ℕ → Option Octets) (apart : (i j : ℕ) (l : Octets) → links i ≡ Some l → links j ≡ Some l → i ≡ j) (W : ℕ) (x : Rules)
+    (set : Setting) where
   pub record Reached (w : World) (i : ℕ) (n : Net) (look : PeerKey → Option Client) (all : List Copy) (facts : List Fact) (m : Net) : Type 0 where
     pub alike : IsAlike m n
     pub asks : m.asks ≡ n.asks
@@ -97,12 +100,12 @@ module _ (links : ℕ → Option Octets) (apart : (i j : ℕ) (l : Octets) → l
         → TicketFits false (here_at n i) w.notes i (m.far.numbers (out_key i p)) (look p) (m.far.tickets (out_key i p))
     pub others : (j : ℕ) (a : Node) → (j ≡ i → ⊥) → NodeFits links apart x (here_at n j) (there_at n j) w.notes n j a → NodeFits links apart x (here_at n j) (there_at n j) w.notes m j a
     pub posts : Pairwise (IsCopyOf links apart) m.posts all
-    pub log : Pairwise FactMeans m.log facts
-    pub once : (opening stores : Stores) → IsOnce opening w.log stores → IsOnce opening facts stores
-    pub sound : Sound x m
+    pub log : Pairwise (FactMeans set) m.log facts
+    pub once : (opening stores : Stores) → IsOnceSo (reuses_in set) opening w.log stores → IsOnceSo (reuses_in set) opening facts stores
+    pub sound : Sound x set m
     pub leads : Leads x n m
 
-  pub reached_none : (w : World) (n : Net) → Over links apart W x w n → (i : ℕ) (a : Node) → NodeFits links apart x (here_at n i) (there_at n i) w.notes n i a
+  pub reached_none : (w : World) (n : Net) → Over links apart W x set w n → (i : ℕ) (a : Node) → NodeFits links apart x (here_at n i) (there_at n i) w.notes n i a
       → Reached w i n (λ p. value_at same_key p a.clients.slots) w.copies w.log n
   reached_none w n h i a fits = record {
     alike = record { now = refl; pace = refl; here = refl; there = refl };
@@ -153,7 +156,7 @@ module _ (links : ℕ → Option Octets) (apart : (i j : ℕ) (l : Octets) → l
       (look look' : PeerKey → Option Client) (copies : List Copy) (log : List Fact) (m : Net) (h : Reached w key.client n look copies log m)
       (linked : (k : ℕ) → link_at w.nodes k ≡ links k) (number : ℕ) (t : ClientTransaction)
       (there : look (slot_key l key.invoke_id) ≡ Some (record { number = number; held = Open t })) (r : client.Reaction)
-      (goes : m.tickets key ≡ Some t → Sound x (client_acts m key t r) × Leads x n (client_acts m key t r))
+      (goes : m.tickets key ≡ Some t → Sound x set (client_acts m key t r) × Leads x n (client_acts m key t r))
       (own : Each (IsOfClient key.invoke_id) (client.sends_of r))
       (here : look' (slot_key l key.invoke_id) ≡ Some (client_after (here_at n key.client) number t r))
       (away : (q : PeerKey) → (slot_key l key.invoke_id ≡ q → ⊥) → look' q ≡ look q) where
@@ -168,7 +171,7 @@ module _ (links : ℕ → Option Octets) (apart : (i j : ℕ) (l : Octets) → l
         (subst (λ (o : Option Client). TicketFits (is_lost m key) (here_at n key.client) w.notes key.client (m.numbers key) o (m.tickets key)) there
         (h.found key.server l key.invoke_id to_at))
 
-    sound : Sound x (client_acts m key t r)
+    sound : Sound x set (client_acts m key t r)
     sound = (goes is.0).0
 
     noted : (k : Key) (u : ClientTransaction) → set_at m.tickets key made k ≡ Some u → ((key ≡ k) ⊎ (key ≡ k → ⊥)) → newest k w.notes ≡ Some (m.numbers k)
@@ -224,14 +227,14 @@ module _ (links : ℕ → Option Octets) (apart : (i j : ℕ) (l : Octets) → l
 
     -- its ending, if any, enters the log
     record Ends (facts : List octets.Fact) (log' : List Fact) : Type 0 where
-      means : Pairwise FactMeans facts log'
-      once : (opening stores : Stores) → IsOnce opening w.log stores → IsOnce opening log' stores
+      means : Pairwise (FactMeans set) facts log'
+      once : (opening stores : Stores) → IsOnceSo (reuses_in set) opening w.log stores → IsOnceSo (reuses_in set) opening log' stores
 
     ends : (o : Option machine.Ending) (fs : List EndedView) (log' : List Fact) → Pairwise IsEndedView (ended_with number t.ask.choice o) fs
-        → AreEnded w.notes key.client fs log log' → IsOrderly (ended (m.numbers key) o m.log) → Ends (ended (m.numbers key) o m.log) log'
+        → AreEnded w.notes key.client fs log log' → IsOrderlySo (reusing_in set) (ended (m.numbers key) o m.log) → Ends (ended (m.numbers key) o m.log) log'
     ends None [] log' finished logged right = record {
-      means = subst (λ (lg : List Fact). Pairwise FactMeans m.log lg) (sym logged) h.log;
-      once = λ opening stores once. subst (λ (lg : List Fact). IsOnce opening lg stores) (sym logged) (h.once opening stores once);
+      means = subst (λ (lg : List Fact). Pairwise (FactMeans set) m.log lg) (sym logged) h.log;
+      once = λ opening stores once. subst (λ (lg : List Fact). IsOnceSo (reuses_in set) opening lg stores) (sym logged) (h.once opening stores once);
     }
     ends None (f ∷ fs) log' finished logged right = absurd finished
     ends (Some how) [] log' finished logged right = absurd finished
@@ -243,13 +246,13 @@ module _ (links : ℕ → Option Octets) (apart : (i j : ℕ) (l : Octets) → l
         let log_is : log' ≡ Fact.Ended (m.numbers key) f.how ∷ log = logged.2 ∙ ap (λ (k : ℕ). ending_fact (is_away k w.notes) k f.how ∷ log) num
         ∙ ap (λ (z : Bool). ending_fact z (m.numbers key) f.how ∷ log) (newest_near key w.notes (m.numbers key) (h.noted key t is.0)) in
         let may : MayEnd (m.numbers key) f.how log =
-        may_end (m.numbers key) key.client key.server (request_of t.ask) m.log log h.log right.2 (asked_of W x bound m h.sound key t is.0)
+        may_end set (m.numbers key) key.client key.server (request_of t.ask) m.log log h.log right.2 (asked_of W x set bound m h.sound key t is.0)
         how f.how finished.0.how right.0 in
         record {
-          means = subst (λ (lg : List Fact). Pairwise FactMeans (octets.Fact.Ended (m.numbers key) how ∷ m.log) lg) (sym log_is)
+          means = subst (λ (lg : List Fact). Pairwise (FactMeans set) (octets.Fact.Ended (m.numbers key) how ∷ m.log) lg) (sym log_is)
               ((refl, (t.ask.choice, finished.0.how)), h.log);
-          once = λ opening stores once. subst (λ (lg : List Fact). IsOnce opening lg stores) (sym log_is)
-              (stores, (may, unended (m.numbers key) m.log log h.log right.1, λ node. refl), h.once opening stores once);
+          once = λ opening stores once. subst (λ (lg : List Fact). IsOnceSo (reuses_in set) opening lg stores) (sym log_is)
+              (stores, (may, unended set (m.numbers key) m.log log h.log right.1, λ node. refl), h.once opening stores once);
         }
 
     pub reacts : (ds : List Datagram) (cs : List Copy) → Pairwise IsSent (to_all (peer_at l) (client.sends_of r)) ds
@@ -258,7 +261,7 @@ module _ (links : ℕ → Option Octets) (apart : (i j : ℕ) (l : Octets) → l
         → AreEnded w.notes key.client fs log log'
         → Reached w key.client n look' (copies ++ cs) log' (client_acts m key t r)
     reacts ds cs sent copied fs log' finished logged =
-        let end = ends (client.ending_of r) fs log' finished logged (orderly W x bound (client_acts m key t r) sound) in
+        let end = ends (client.ending_of r) fs log' finished logged (orderly W x set bound (client_acts m key t r) sound) in
         record {
           alike = record { now = h.alike.now; pace = h.alike.pace; here = h.alike.here; there = h.alike.there };
           asks = h.asks;
@@ -286,7 +289,7 @@ module _ (links : ℕ → Option Octets) (apart : (i j : ℕ) (l : Octets) → l
   module _ (bound : IsBounded W x) (w : World) (n : Net) (i : ℕ) (p : PeerKey) (g : IsStranger links apart p)
       (look look' : PeerKey → Option Client) (copies : List Copy) (log : List Fact) (m : Net) (h : Reached w i n look copies log m)
       (number : ℕ) (t : ClientTransaction) (there : look p ≡ Some (record { number = number; held = Open t })) (r : client.Reaction)
-      (goes : m.far.tickets (out_key i p) ≡ Some t → Sound x (client_acts_away m (out_key i p) t r) × Leads x n (client_acts_away m (out_key i p) t r))
+      (goes : m.far.tickets (out_key i p) ≡ Some t → Sound x set (client_acts_away m (out_key i p) t r) × Leads x n (client_acts_away m (out_key i p) t r))
       (here : look' p ≡ Some (client_after (here_at n i) number t r))
       (others_look : (q : PeerKey) → (p ≡ q → ⊥) → look' q ≡ look q) where
     abbrev fkey : Key
@@ -300,7 +303,7 @@ module _ (links : ℕ → Option Octets) (apart : (i j : ℕ) (l : Octets) → l
         (subst (λ (o : Option Client). TicketFits false (here_at n i) w.notes i (m.far.numbers (out_key i p)) o (m.far.tickets (out_key i p))) there
         (h.strangers p g))
 
-    far_sound : Sound x (client_acts_away m (out_key i p) t r)
+    far_sound : Sound x set (client_acts_away m (out_key i p) t r)
     far_sound = (goes far_is.0).0
 
     far_fit : TicketFits false (here_at n i) w.notes i (m.far.numbers (out_key i p)) (look' p) (set_at m.far.tickets (out_key i p) (Some (client.after (client_now m (out_key i p)) t r)) (out_key i p))
@@ -348,14 +351,14 @@ module _ (links : ℕ → Option Octets) (apart : (i j : ℕ) (l : Octets) → l
     }
 
     record FarEnds (facts : List octets.Fact) (log' : List Fact) : Type 0 where
-      means : Pairwise FactMeans facts log'
-      once : (opening stores : Stores) → IsOnce opening w.log stores → IsOnce opening log' stores
+      means : Pairwise (FactMeans set) facts log'
+      once : (opening stores : Stores) → IsOnceSo (reuses_in set) opening w.log stores → IsOnceSo (reuses_in set) opening log' stores
 
     far_ends : (o : Option machine.Ending) (fs : List EndedView) (log' : List Fact) → Pairwise IsEndedView (ended_with number t.ask.choice o) fs
-        → AreEnded w.notes i fs log log' → IsOrderly (ended_away (m.far.numbers (out_key i p)) o m.log) → FarEnds (ended_away (m.far.numbers (out_key i p)) o m.log) log'
+        → AreEnded w.notes i fs log log' → IsOrderlySo (reusing_in set) (ended_away (m.far.numbers (out_key i p)) o m.log) → FarEnds (ended_away (m.far.numbers (out_key i p)) o m.log) log'
     far_ends None [] log' finished logged right = record {
-      means = subst (λ (lg : List Fact). Pairwise FactMeans m.log lg) (sym logged) h.log;
-      once = λ opening stores once. subst (λ (lg : List Fact). IsOnce opening lg stores) (sym logged) (h.once opening stores once);
+      means = subst (λ (lg : List Fact). Pairwise (FactMeans set) m.log lg) (sym logged) h.log;
+      once = λ opening stores once. subst (λ (lg : List Fact). IsOnceSo (reuses_in set) opening lg stores) (sym logged) (h.once opening stores once);
     }
     far_ends None (f ∷ fs) log' finished logged right = absurd finished
     far_ends (Some how) [] log' finished logged right = absurd finished
@@ -367,12 +370,12 @@ module _ (links : ℕ → Option Octets) (apart : (i j : ℕ) (l : Octets) → l
         let log_is : log' ≡ Fact.EndedAway (m.far.numbers fkey) f.how ∷ log = logged.2 ∙ ap (λ (k : ℕ). ending_fact (is_away k w.notes) k f.how ∷ log) num
         ∙ ap (λ (z : Bool). ending_fact z (m.far.numbers fkey) f.how ∷ log) (h.away fkey t far_is.0) in
         record {
-          means = subst (λ (lg : List Fact). Pairwise FactMeans (octets.Fact.EndedAway (m.far.numbers fkey) how ∷ m.log) lg) (sym log_is) (refl, h.log);
-          once = λ opening stores once. subst (λ (lg : List Fact). IsOnce opening lg stores) (sym log_is) (
+          means = subst (λ (lg : List Fact). Pairwise (FactMeans set) (octets.Fact.EndedAway (m.far.numbers fkey) how ∷ m.log) lg) (sym log_is) (refl, h.log);
+          once = λ opening stores once. subst (λ (lg : List Fact). IsOnceSo (reuses_in set) opening lg stores) (sym log_is) (
             stores,
             (
-              asked_away_as (m.far.numbers fkey) right.0.0 right.0.1 right.0.2 m.log log h.log right.0.3,
-              unended_away (m.far.numbers fkey) m.log log h.log right.1,
+              asked_away_as set (m.far.numbers fkey) right.0.0 right.0.1 right.0.2 m.log log h.log right.0.3,
+              unended_away set (m.far.numbers fkey) m.log log h.log right.1,
               λ node. refl,
             ),
             h.once opening stores once,
@@ -383,7 +386,7 @@ module _ (links : ℕ → Option Octets) (apart : (i j : ℕ) (l : Octets) → l
         → AreEnded w.notes i fs log log'
         → Reached w i n look' copies log' (client_acts_away m (out_key i p) t r)
     reacts_stranger fs log' finished logged =
-        let end = far_ends (client.ending_of r) fs log' finished logged (orderly W x bound (client_acts_away m fkey t r) far_sound) in
+        let end = far_ends (client.ending_of r) fs log' finished logged (orderly W x set bound (client_acts_away m fkey t r) far_sound) in
         record {
           alike = record { now = h.alike.now; pace = h.alike.pace; here = h.alike.here; there = h.alike.there };
           asks = h.asks;

@@ -17,7 +17,8 @@ use Rattle.bac_slots.specs.Slots.{value_at}
 use Rattle.bac_transaction.specs.Keys.{same_key}
 use Rattle.bac_transaction.specs.Sends.{Pairwise}
 use Rattle.bac_world.specs.Node.{Node, restarted, store_after_restart}
-use Rattle.bac_world.specs.Once.{Fact, IsOnce, with_restarted}
+use Rattle.bac_world.specs.Once.{Fact, with_restarted}
+use Rattle.bac_world.specs.ReusingLogs.{IsOnceSo}
 use Rattle.bac_world.specs.World.{World, Time, Copy, Note, stores_of, newest, IsRestarted}
 use Rattle.bac_world.proofs.Bridge.{here_at, there_at}
 use Rattle.bac_protocol.specs.Pace.{Pace, clock_at}
@@ -28,6 +29,7 @@ use Rattle.bac_world.proofs.Logs.{FactMeans}
 use Rattle.bac_world.proofs.Bridge.{NodeFits, IsCopyOf, IsGone, TicketFits, EntryFits, AwayNoted, key_of, slot_key, stranger_key, out_key}
 use Rattle.bac_world.specs.World.{is_away}
 use Rattle.bac_world.proofs.Steps.{Over, Next, decide_number, linked_with}
+use Rattle.bac_world.proofs.Settings.{Setting, reuses_in}
 
 self : (i : ℕ) → nat_eq i i ≡ true
 self i = grind (arith, nat_tests)
@@ -59,7 +61,8 @@ abbrev pub restarted_net : Net → (i exact : ℕ) → Net
 restarted_net n i exact = server_restarted (client_restarted n i exact) i exact None
 
 module _ (links : ℕ → Option Octets) (apart : (i j : ℕ) (l : Octets) → links i ≡ Some l → links j ≡ Some l → i ≡ j) (W : ℕ) (x : Rules)
-    (bound : IsBounded W x) (w w' : World) (n : Net) (h : Over links apart W x w n) (i exact : ℕ) (o : Option Store) (s : IsRestarted w i exact o w') where
+    (set : Setting)
+    (bound : IsBounded W x) (w w' : World) (n : Net) (h : Over links apart W x set w n) (i exact : ℕ) (o : Option Store) (s : IsRestarted w i exact o w') where
   abbrev m : Net
   m = server_restarted (client_restarted n i exact) i exact None
 
@@ -76,7 +79,7 @@ module _ (links : ℕ → Option Octets) (apart : (i j : ℕ) (l : Octets) → l
 
   no_ticket : (k : Key) → TicketIn (nat_eq i i) i None k
   no_ticket k = subst (λ (b : Bool). TicketIn b i None k)
-      (sym (self i)) (gone_lost (n.made k) n.now (clock_at n.pace exact).shows (n.tickets k) (λ t is. asked_before W x bound n h.sound k t is))
+      (sym (self i)) (gone_lost (n.made k) n.now (clock_at n.pace exact).shows (n.tickets k) (λ t is. asked_before W x set bound n h.sound k t is))
 
   no_far : (k : Key) → IsGone false (here_at m i) (if nat_eq i i then None else n.far.tickets k)
   no_far k = subst (λ (b : Bool). IsGone false (here_at m i) (if b then None else n.far.tickets k)) (sym (self i)) (record { over = refl; free = refl })
@@ -145,7 +148,7 @@ module _ (links : ℕ → Option Octets) (apart : (i j : ℕ) (l : Octets) → l
   far_noted key t false is = h.away key t is
   far_noted key t true is = absurd cc
 
-  pub restarted_over : Over links apart W x w' (restarted_net n i exact)
+  pub restarted_over : Over links apart W x set w' (restarted_net n i exact)
   restarted_over = record {
     now = h.now ∙ sym (ap (λ (t : Time). t.now) s.time);
     pace = h.pace ∙ sym (ap (λ (t : Time). t.pace) s.time);
@@ -157,8 +160,8 @@ module _ (links : ℕ → Option Octets) (apart : (i j : ℕ) (l : Octets) → l
     noted = λ key t is. ap (newest key) s.notes ∙ noted key t (nat_eq key.client i) is;
     away = subst (λ (l : List Note). AwayNoted l m) (sym s.notes) (λ key t is. far_noted key t (nat_eq key.client i) is);
     posts = subst (λ (l : List Copy). Pairwise (IsCopyOf links apart) n.posts l) (sym s.copies) h.posts;
-    log = subst (λ (l : List Fact). Pairwise FactMeans m.log l) (sym s.log) (refl, h.log);
-    sound = restarts W x bound n i exact h.sound;
+    log = subst (λ (l : List Fact). Pairwise (FactMeans set) m.log l) (sym s.log) (refl, h.log);
+    sound = restarts W x set bound n i exact h.sound;
   }
 
   stores_restarted : (node : ℕ) → stores_of w'.nodes node ≡ with_restarted i o (stores_of w.nodes) node
@@ -175,11 +178,11 @@ module _ (links : ℕ → Option Octets) (apart : (i j : ℕ) (l : Octets) → l
           ∙ sym (ap (λ y. option_map (λ (z : Store). store_after_restart z o) (store y)) s.at)
       go false e = ap store (s.nodes.others node (λ same. grind (arith, nat_tests)))
 
-  pub restarted_next : Next links apart W x w w'
+  pub restarted_next : Next links apart W x set w w'
   restarted_next = (
     restarted_net n i exact,
     record {
       bridge = restarted_over;
-      once = λ opening once. subst (λ (l : List Fact). IsOnce opening l (stores_of w'.nodes)) (sym s.log) (stores_of w.nodes, stores_restarted, once);
+      once = λ opening once. subst (λ (l : List Fact). IsOnceSo (reuses_in set) opening l (stores_of w'.nodes)) (sym s.log) (stores_of w.nodes, stores_restarted, once);
     },
   )

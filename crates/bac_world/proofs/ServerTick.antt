@@ -36,6 +36,7 @@ use Rattle.bac_protocol.specs.World.{server_acts_away, begin_of}
 use Rattle.bac_protocol.specs.Transaction.{served}
 use Rattle.bac_world.proofs.StrangersHeard.{stranger_one, others_fit_away}
 use Rattle.bac_world.proofs.Serving.{others_fit, one_client, each_of_server}
+use Rattle.bac_world.proofs.Settings.{Setting}
 
 abbrev pub entry_tick : Settings → ℕ → PeerKey → ServerTransaction → ServerTransaction
 entry_tick c now q d = entry_or d (server_ticks (context_of c now q) (Some d)).entry
@@ -45,6 +46,7 @@ stays_some e None h = absurd h
 stays_some e (Some d) h = refl
 
 module _ (links : ℕ → Option Octets) (apart : (i j : ℕ) (l : Octets) → links i ≡ Some l → links j ≡ Some l → i ≡ j) (W : ℕ) (x : Rules)
+    (set : Setting)
     (bound : IsBounded W x) (w : World) (n k : Net) (linked : (j : ℕ) → link_at w.nodes j ≡ links j) (i : ℕ) (li : Octets) (from : links i ≡ Some li) where
   -- what the entries of a node and the net have in common, while some have gone on since the net was k
   pub record Served (found : PeerKey → Option ServerTransaction) (every : List Copy) (m : Net) : Type 0 where
@@ -63,7 +65,7 @@ module _ (links : ℕ → Option Octets) (apart : (i j : ℕ) (l : Octets) → l
     pub strangers : (p : PeerKey) → IsStranger links apart p → EntryFits (there_at n i) (found p) (m.far.entries (stranger_key i p))
     pub others : (j : ℕ) (a : Node) → (j ≡ i → ⊥) → NodeFits links apart x (here_at n j) (there_at n j) w.notes k j a → NodeFits links apart x (here_at n j) (there_at n j) w.notes m j a
     pub posts : Pairwise (IsCopyOf links apart) m.posts every
-    pub sound : Sound x m
+    pub sound : Sound x set m
     pub leads : Leads x n m
 
   module _ (all : List ServerSlot) where
@@ -131,7 +133,7 @@ module _ (links : ℕ → Option Octets) (apart : (i j : ℕ) (l : Octets) → l
             ∙ ap (live_entry (there_at n i)) made ∙ same.entry
             ∙ ap (live_entry (there_at n i)) (sym (set_same m.entries key does.entry) ∙ ap (set_at m.entries key does.entry) is)
         entries c l' id' at' (inr ne) =
-            ap (live_entry (there_at n i)) (look_next ServerTransaction tick all p begin d os (slot_key l' id') (λ is. ne (one_client links apart W x key l at c l' id' at' is)))
+            ap (live_entry (there_at n i)) (look_next ServerTransaction tick all p begin d os (slot_key l' id') (λ is. ne (one_client links apart W x set key l at c l' id' at' is)))
             ∙ r.entries c l' id' at'
             ∙ ap (live_entry (there_at n i)) (sym (set_other m.entries key does.entry (key_of c i id') ne))
 
@@ -152,14 +154,14 @@ module _ (links : ℕ → Option Octets) (apart : (i j : ℕ) (l : Octets) → l
           entries = λ c l' id' at'. entries c l' id' at' (decide_key key (key_of c i id'));
           strangers = λ q g. ap (live_entry (there_at n i)) (look_next ServerTransaction tick all p begin d os q
               (λ is. g.none node (at ∙ ap (λ (y : PeerKey). Some y.peer.link) is))) ∙ r.strangers q g;
-          others = λ j a ne f. others_fit links apart W x (here_at n j) (there_at n j) w.notes m key does j a ne (r.others j a ne f);
+          others = λ j a ne f. others_fit links apart W x set (here_at n j) (there_at n j) w.notes m key does j a ne (r.others j a ne f);
           posts = pairwise_join (IsCopyOf links apart) m.posts _ copies cs r.posts
               (copies_of links apart w.nodes linked m.now false key i node li l (record { between = (refl, refl); from = from; to = at })
               does.sends ds cs
-              (each_of_server id does.sends (server_sends_own.ticks (server_context x key (server_now m key)) (m.entries key) (own_of W x bound m r.sound key)).0)
+              (each_of_server id does.sends (server_sends_own.ticks (server_context x key (server_now m key)) (m.entries key) (own_of W x set bound m r.sound key)).0)
               (subst (λ (y : List Apdu). Pairwise IsSent (to_all (peer_at l) y) ds) same.sends sent)
               (subst (λ (t : ℕ). Pairwise (IsCopied w.nodes t i) ds cs) (sym r.alike.now) copied));
-          sound = ticks_at_server W x bound m r.sound key;
+          sound = ticks_at_server W x set bound m r.sound key;
           leads = TicksEntry m key r.leads;
         }
 
@@ -275,9 +277,9 @@ module _ (links : ℕ → Option Octets) (apart : (i j : ℕ) (l : Octets) → l
           entries = λ c l' id' at'. ap (live_entry (there_at n i)) (look_next ServerTransaction tick all p begin d os (slot_key l' id')
               (λ is. g.none c (at' ∙ ap (λ (y : PeerKey). Some y.peer.link) (sym is)))) ∙ r.entries c l' id' at';
           strangers = λ q f. stranger_entries q f (decide_key far_key (stranger_key i q));
-          others = λ j a ne f. others_fit_away links apart W x (here_at n j) (there_at n j) w.notes m far_key stranger_does j a ne (r.others j a ne f);
+          others = λ j a ne f. others_fit_away links apart W x set (here_at n j) (there_at n j) w.notes m far_key stranger_does j a ne (r.others j a ne f);
           posts = r.posts;
-          sound = ticks_at_server_away W x bound m r.sound far_key;
+          sound = ticks_at_server_away W x set bound m r.sound far_key;
           leads = TicksEntryAway m far_key r.leads;
         }
 

@@ -1,5 +1,5 @@
 -- A node's call keeps the bridge, where the net does the like.
-use Rattle.std.proofs.Common.{◌≡◌, ℕ, ◌⊎◌, Bool, true, false, List, [], ◌∷◌, ◌++◌, length, Option, Some, slice_get}
+use Rattle.std.proofs.Common.{◌≡◌, ℕ, ◌⊎◌, Bool, true, false, List, [], ◌∷◌, ◌++◌, length, Option, Some, None, slice_get}
 use Rattle.std.proofs.Common.{nat_eq, refl, sym, ap, subst, inl, inr, ◌∙◌, arith}
 use Rattle.std.proofs.lemmas.Bool.Decides.{nat_tests}
 use Rattle.std.specs.Option.{option_map}
@@ -9,10 +9,14 @@ use Rattle.bac_protocol.specs.Transaction.{Key, Rules}
 use Rattle.bac_protocol.specs.World.{Net}
 use Rattle.bac_transaction.specs.Sends.{Pairwise}
 use Rattle.bac_world.specs.Node.{Node, Outcome}
-use Rattle.bac_world.specs.Once.{Fact, Stores, AreSame, MayEnter, IsOnce}
+use Rattle.bac_world.specs.Once.{Fact, Stores, AreSame}
 use Rattle.bac_world.specs.Once.Fact.{Asked, Performed, Ended, Changed, Restarted, Served, AskedAway, EndedAway}
-use Rattle.bac_world.specs.World.{World, Time, Note, Copy, link_at, stores_of, IsWithNode, Acts, newest}
+use Rattle.bac_world.specs.ReusingLogs.{IsOnceSo, MayEnterSo, Reuses}
+use Rattle.bac_world.specs.ReusingWorlds.{ActsSo, AreLoggedSo}
+use Rattle.bac_world.specs.Services.{Performed as performed}
+use Rattle.bac_world.specs.World.{World, Time, Note, Copy, link_at, stores_of, AreLogged, IsWithNode, Acts, newest}
 use Rattle.bac_world.proofs.Machines.{Sound}
+use Rattle.bac_world.proofs.Settings.{Setting, reuses_in}
 use Rattle.bac_world.proofs.Logs.{FactMeans}
 use Rattle.bac_world.proofs.Bridge.{Bridge, NodeFits, IsCopyOf, AwayNoted, here_at, there_at}
 use Rattle.bac_protocol.specs.Pace.{Clock}
@@ -58,9 +62,9 @@ stores_same old new i a b s at same j = same_with (λ (n : Node). n.store) old n
 
 -- A log that is right with the stores is right with the same stores.
 
-enter_same : (f : Fact) (log : List Fact) (old new new' : Stores) → AreSame new new' → MayEnter f log old new → MayEnter f log old new'
-enter_same (Asked n c s r) log old new new' same h = (h.0, λ node. same node ∙ h.1 node)
-enter_same (Performed n r p) log old new new' same h = record {
+enter_same : (u : Reuses) (f : Fact) (log : List Fact) (old new new' : Stores) → AreSame new new' → MayEnterSo u f log old new → MayEnterSo u f log old new'
+enter_same u (Asked n c s r) log old new new' same h = (h.0, λ node. same node ∙ h.1 node)
+enter_same u (Performed n r p) log old new new' same h = record {
   client = h.client;
   server = h.server;
   store = h.store;
@@ -70,18 +74,54 @@ enter_same (Performed n r p) log old new new' same h = record {
   reply = h.reply;
   stores = λ node. same node ∙ h.stores node;
 }
-enter_same (Ended n how) log old new new' same h = (h.0, h.1, λ node. same node ∙ h.2 node)
-enter_same (AskedAway n c q r) log old new new' same h = (h.0, λ node. same node ∙ h.1 node)
-enter_same (EndedAway n how) log old new new' same h = (h.0, h.1, λ node. same node ∙ h.2 node)
-enter_same (Changed i c) log old new new' same h =
+enter_same u (Ended n how) log old new new' same h = (h.0, h.1, λ node. same node ∙ h.2 node)
+enter_same u (AskedAway n c q r) log old new new' same h = (h.0, λ node. same node ∙ h.1 node)
+enter_same u (EndedAway n how) log old new new' same h = (h.0, h.1, λ node. same node ∙ h.2 node)
+enter_same u (Changed i c) log old new new' same h =
     record { store = h.store; at = h.at; permitted = h.permitted; stores = λ node. same node ∙ h.stores node }
-enter_same (Restarted i o) log old new new' same h = λ node. same node ∙ h node
-enter_same (Served q i d b r p) log old new new' same h =
+enter_same u (Restarted i o) log old new new' same h = λ node. same node ∙ h node
+enter_same u (Served q i d b r p) log old new new' same h =
     record { store = h.store; at = h.at; reply = h.reply; stores = λ node. same node ∙ h.stores node }
 
-pub once_same : (opening : Stores) (log : List Fact) (stores stores' : Stores) → AreSame stores stores' → IsOnce opening log stores → IsOnce opening log stores'
-once_same opening [] stores stores' same h = λ node. same node ∙ h node
-once_same opening (f ∷ log) stores stores' same h = (h.0, enter_same f log h.0 stores stores' same h.1, h.2)
+pub once_same : (u : Reuses) (opening : Stores) (log : List Fact) (stores stores' : Stores) → AreSame stores stores' → IsOnceSo u opening log stores
+    → IsOnceSo u opening log stores'
+once_same u opening [] stores stores' same h = λ node. same node ∙ h node
+once_same u opening (f ∷ log) stores stores' same h = (h.0, enter_same u f log h.0 stores stores' same h.1, h.2)
+
+-- What a node's call does to the world, in the words of either setting.
+
+abbrev pub acts_as : (w w' : World) (i : ℕ) (b : Node) (o : Outcome) → Acts w i b o w' → ActsSo false w i b o w'
+acts_as w w' i b o acts = record {
+  nodes = acts.nodes;
+  time = acts.time;
+  notes = acts.notes;
+  sent = acts.sent;
+  copies = acts.copies;
+  copied = acts.copied;
+  between = acts.between;
+  ended = acts.ended;
+  logged = acts.logged;
+}
+
+pub logged_quiet : (reuse : Bool) (nodes : List Node) (notes : List Note) (i : ℕ) (b : Node) (p : Option performed) (old new : List Fact) → p ≡ None
+    → AreLoggedSo reuse nodes notes i b p old new → AreLogged nodes notes i b p old new
+logged_quiet false nodes notes i b p old new none logged = logged
+logged_quiet true nodes notes i b None old new none logged = logged
+logged_quiet true nodes notes i b (Some d) old new none logged = absurd cc
+
+-- where nothing was performed it is the same in both
+abbrev pub acts_quiet : (reuse : Bool) (w w' : World) (i : ℕ) (b : Node) (o : Outcome) → o.performed ≡ None → ActsSo reuse w i b o w' → Acts w i b o w'
+acts_quiet reuse w w' i b o none acts = record {
+  nodes = acts.nodes;
+  time = acts.time;
+  notes = acts.notes;
+  sent = acts.sent;
+  copies = acts.copies;
+  copied = acts.copied;
+  between = acts.between;
+  ended = acts.ended;
+  logged = logged_quiet reuse w.nodes w.notes i b o.performed acts.between w'.log none acts.logged;
+}
 
 -- The bridge after a node's call.
 
@@ -92,9 +132,10 @@ pub record IsAlike (m n : Net) : Type 0 where
   pub here : m.client_clocks ≡ n.client_clocks
   pub there : m.server_clocks ≡ n.server_clocks
 
-module _ (links : ℕ → Option Octets) (apart : (i j : ℕ) (l : Octets) → links i ≡ Some l → links j ≡ Some l → i ≡ j) (W : ℕ) (x : Rules) where
+module _ (links : ℕ → Option Octets) (apart : (i j : ℕ) (l : Octets) → links i ≡ Some l → links j ≡ Some l → i ≡ j) (W : ℕ) (x : Rules)
+    (set : Setting) where
   abbrev pub Over : World → Net → Type 0
-  Over w n = Bridge links apart W x w n
+  Over w n = Bridge links apart W x set w n
 
   abbrev pub Fits : World → Net → Net → ℕ → Node → Type 0
   Fits w n m i a = NodeFits links apart x (here_at n i) (there_at n i) w.notes m i a
@@ -102,22 +143,23 @@ module _ (links : ℕ → Option Octets) (apart : (i j : ℕ) (l : Octets) → l
   -- the world goes on, and the bridge with it to that net, and the log stays right
   pub record Goes (w w' : World) (m : Net) : Type 0 where
     pub bridge : Over w' m
-    pub once : (opening : Stores) → IsOnce opening w.log (stores_of w.nodes) → IsOnce opening w'.log (stores_of w'.nodes)
+    pub once : (opening : Stores) → IsOnceSo (reuses_in set) opening w.log (stores_of w.nodes) → IsOnceSo (reuses_in set) opening w'.log (stores_of w'.nodes)
 
   abbrev pub Next : World → World → Type 0
   Next w w' = (m : Net) × Goes w w' m
 
-  pub acts_over : (w w' : World) (n m : Net) → Over w n → (i : ℕ) (a b : Node) (o : Outcome) → slice_get w.nodes i ≡ Some a → (acts : Acts w i b o w')
+  pub acts_over : (reuse : Bool) (w w' : World) (n m : Net) → Over w n → (i : ℕ) (a b : Node) (o : Outcome) → slice_get w.nodes i ≡ Some a
+      → (acts : ActsSo reuse w i b o w')
       → IsAlike m n → m.asks ≡ n.asks → ((key : Key) (t : ClientTransaction) → m.tickets key ≡ Some t → newest key w.notes ≡ Some (m.numbers key))
       → AwayNoted w.notes m
       → b.link ≡ a.link
       → Fits w n m i b
       → ((j : ℕ) (c : Node) → (j ≡ i → ⊥) → Fits w n n j c → Fits w n m j c)
       → Pairwise (IsCopyOf links apart) m.posts (w.copies ++ acts.sent)
-      → Pairwise FactMeans m.log w'.log
-      → Sound x m
+      → Pairwise (FactMeans set) m.log w'.log
+      → Sound x set m
       → Over w' m
-  acts_over w w' n m h i a b o at acts alike asks noted away link here others posts log sound = record {
+  acts_over reuse w w' n m h i a b o at acts alike asks noted away link here others posts log sound = record {
     now = alike.now ∙ h.now ∙ sym (ap (λ (t : Time). t.now) acts.time);
     pace = alike.pace ∙ h.pace ∙ sym (ap (λ (t : Time). t.pace) acts.time);
     here = λ j. ap (λ (f : ℕ → Clock). f j) alike.here ∙ h.here j ∙ sym (ap (λ (t : Time). t.clocks j) acts.time);

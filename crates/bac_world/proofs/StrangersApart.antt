@@ -1,4 +1,5 @@
 -- What strangers had performed is apart.
+use Rattle.std.specs.Prelude.{None}
 use Rattle.std.proofs.Common.{ℕ, ◌+◌, ◌<◌, List, [], ◌∷◌, sym, subst, inl, inr, arith, ◌∙◌}
 use Rattle.bac_npdu.specs.Peers.{PeerView}
 use Rattle.bac_service.specs.Values.{Request}
@@ -20,14 +21,14 @@ pub record WasServed (i : ℕ) (q : ℕ) (j d a : ℕ) (log : List octets.Fact) 
   pub reply : machine.Reply
   pub has : claims.HasSinceRestart i (octets.Fact.Served q j d a request reply) log
 
-pub served_as : (i : ℕ) (y : PeerView) (j d a : ℕ) (r : Request) (p : Reply) (log : List octets.Fact) (values : List Fact) → Pairwise FactMeans log values
+pub served_as : (i : ℕ) (y : PeerView) (j d a : ℕ) (r : Request) (p : Reply) (log : List octets.Fact) (values : List Fact) → Pairwise (FactMeans None) log values
     → HasSinceRestart i (Served y j d a r p) values → WasServed i (number y) j d a log
 served_as i y j d a r p [] [] h k = absurd k
 served_as i y j d a r p [] (v ∷ values) h k = absurd h
 served_as i y j d a r p (f ∷ log) [] h k = absurd k
 served_as i y j d a r p (f ∷ log) (v ∷ values) h k = go f v h.0 (served_as i y j d a r p log values h.1) k
   where
-    go : (f : octets.Fact) (v : Fact) → FactMeans f v
+    go : (f : octets.Fact) (v : Fact) → FactMeans None f v
         → (HasSinceRestart i (Served y j d a r p) values → WasServed i (number y) j d a log)
         → HasSinceRestart i (Served y j d a r p) (v ∷ values) → WasServed i (number y) j d a (f ∷ log)
     go (octets.Fact.Asked m c s q) (Asked n e u x) m' again (inl e') = absurd cc
@@ -47,17 +48,17 @@ served_as i y j d a r p (f ∷ log) (v ∷ values) h k = go f v h.0 (served_as i
     go (octets.Fact.Served q s z b r' p') (Served y' j' d' b' r'' p'') m' again (inr k) =
         let o = again k in record { request = o.request; reply = o.reply; has = inr o.has }
     go (octets.Fact.Served q s z b r' p') (Served y' j' d' b' r'' p'') m' again (inl e') =
-        let m : FactMeans (octets.Fact.Served q s z b r' p') (Served y j d a r p) = subst (λ (u : Fact). FactMeans (octets.Fact.Served q s z b r' p') u) e' m' in
+        let m : FactMeans None (octets.Fact.Served q s z b r' p') (Served y j d a r p) = subst (λ (u : Fact). FactMeans None (octets.Fact.Served q s z b r' p') u) e' m' in
         record { request = r'; reply = p'; has = inl (λ t. octets.Fact.Served (sym m.0 t) (sym m.1 t) (sym m.2 t) (sym m.3 t) r' p') }
     go _ _ m' again k = absurd m'
 
-pub spaced : (log : List octets.Fact) (values : List Fact) → Pairwise FactMeans log values → claims.AreSpaced log → AreSpaced values
+pub spaced : (log : List octets.Fact) (values : List Fact) → Pairwise (FactMeans None) log values → claims.AreSpaced log → AreSpaced values
 spaced [] [] h k = tt
 spaced [] (v ∷ values) h k = absurd h
 spaced (f ∷ log) [] h k = tt
 spaced (f ∷ log) (v ∷ values) h k = go f v h.0 (spaced log values h.1) k
   where
-    go : (f : octets.Fact) (v : Fact) → FactMeans f v → (claims.AreSpaced log → AreSpaced values) → claims.AreSpaced (f ∷ log) → AreSpaced (v ∷ values)
+    go : (f : octets.Fact) (v : Fact) → FactMeans None f v → (claims.AreSpaced log → AreSpaced values) → claims.AreSpaced (f ∷ log) → AreSpaced (v ∷ values)
     go (octets.Fact.Asked m c s q) (Asked n e u r) h again k = again k
     go (octets.Fact.Performed m q p) (Performed n r v) h again k = again k
     go (octets.Fact.Ended m how) (Ended n v) h again k = again k

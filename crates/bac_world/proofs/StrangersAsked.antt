@@ -22,7 +22,8 @@ use Rattle.bac_transaction.specs.Ends.AskOutcome.{Asked}
 use Rattle.bac_transaction.proofs.KeyedSlots.{slot, passing, passing_value, passing_distinct, put_same, put_other, put_distinct}
 use Rattle.bac_transaction.proofs.KeyedSlots.{each_at, each_so, each_passing, each_put}
 use Rattle.bac_world.specs.Node.{Node}
-use Rattle.bac_world.specs.Once.{Fact, Stores, IsOnce}
+use Rattle.bac_world.specs.Once.{Fact, Stores}
+use Rattle.bac_world.specs.ReusingLogs.{IsOnceSo}
 use Rattle.bac_protocol.specs.Pace.{Clock}
 use Rattle.bac_world.specs.World.{World, Time, told, Note, Copy, stores_of, newest, ask_of, is_away, IsAskedAway}
 use Rattle.bac_world.proofs.Machines.{Sound, counted, asked_away, away_below}
@@ -32,6 +33,7 @@ use Rattle.bac_world.proofs.Steps.{Over, Fits, Goes, linked_with, stores_same, d
 use Rattle.bac_protocol.proofs.Aside.{IsAside, asked_aside}
 use Rattle.bac_world.proofs.Hearing.{out_one}
 use Rattle.bac_world.proofs.Asking.{IsAccepted, accepted_is, holds, free_ticket, free_kept, fits_kept, fits_noted, differ, and_false, equal_self}
+use Rattle.bac_world.proofs.Settings.{Setting, reuses_in}
 
 -- its client can ask under that key, where it does not wait
 key_free_away : (n : Net) (key : Key) (e : ClientEnd) → e.asks_from ≡ n.asks_from key.client → waits_to_ask (client_now n key) e ≡ false
@@ -41,6 +43,7 @@ key_free_away n key e from awake free =
     ∙ ap (λ (b : Bool). b || is_key_held (client_now n key) (n.far.tickets key)) awake ∙ free
 
 module _ (links : ℕ → Option Octets) (apart : (i j : ℕ) (l : Octets) → links i ≡ Some l → links j ≡ Some l → i ≡ j) (W : ℕ) (x : Rules)
+    (set : Setting)
     (bound : IsBounded W x) where
   -- What an ask makes of the client's slots.
   module _ (n : Net) (notes : List Note) (number_is : n.asks ≡ length notes) (i : ℕ) (p : PeerKey) (g : IsStranger links apart p) (ask : Ask)
@@ -151,7 +154,7 @@ module _ (links : ℕ → Option Octets) (apart : (i j : ℕ) (l : Octets) → l
             (λ z is. ap (λ b. b && nat_eq e.asked z.number) (differ i j (λ same. ne (sym same)))) y
 
   -- What it makes of the world.
-  module _ (w w' : World) (n : Net) (h : Over links apart W x w n) (i : ℕ) (peer : PeerView) (limits : Limits) (r : Request)
+  module _ (w w' : World) (n : Net) (h : Over links apart W x set w n) (i : ℕ) (peer : PeerView) (limits : Limits) (r : Request)
       (step : IsAskedAway w i peer limits r w')
       (parts : IsAccepted (x.settings i) (here_at n i) peer (choice_of r) step.asks.octets step.before.clients step.accepted) where
     abbrev a : Node
@@ -172,7 +175,7 @@ module _ (links : ℕ → Option Octets) (apart : (i j : ℕ) (l : Octets) → l
     g : IsStranger links apart (record { peer = peer; invoke_id = parts.id })
     g = record { none = λ k at. step.stranger k (h.linked k ∙ at) }
 
-    fits : Fits links apart W x w n n i step.before
+    fits : Fits links apart W x set w n n i step.before
     fits = h.nodes i step.before step.at
 
     free : net.is_id_held_away n key ≡ false
@@ -180,8 +183,8 @@ module _ (links : ℕ → Option Octets) (apart : (i j : ℕ) (l : Octets) → l
         (free_ticket false (here_at n i) w.notes i (n.far.numbers key) (value_at same_key p a.clients.slots) (n.far.tickets key)
         (fits.clients.strangers p g) parts.free)
 
-    sound : Sound x after
-    sound = asked_away W x bound n h.sound key free (choice_of r) parts.whole parts.front parts.rest
+    sound : Sound x set after
+    sound = asked_away W x set bound n h.sound key free (choice_of r) parts.whole parts.front parts.rest
 
     abbrev note' : Note
     note' = record { key = record { client = i; server = 0; invoke_id = parts.id }; ticket = a.clients.asked; away = Some peer }
@@ -225,13 +228,13 @@ module _ (links : ℕ → Option Octets) (apart : (i j : ℕ) (l : Octets) → l
     away k u (inr ne) at =
         let at' : n.far.tickets k ≡ Some u = sym (set_other n.far.tickets key (Some (asked_ticket (client_context x key (here_at n i)) ask)) k ne) ∙ at in
         subst (λ (y : ℕ). is_away y (note' ∷ w.notes) ≡ true) (sym (set_other n.far.numbers key n.asks k ne))
-        (away_more (n.far.numbers k) note' w.notes (subst (λ (y : ℕ). n.far.numbers k < y) h.asks (away_below W x bound n h.sound k u at')) ∙ h.away k u at')
+        (away_more (n.far.numbers k) note' w.notes (subst (λ (y : ℕ). n.far.numbers k < y) h.asks (away_below W x set bound n h.sound k u at')) ∙ h.away k u at')
 
     asks_is : n.asks + 1 ≡ length w'.notes
     asks_is = ap (λ (k : ℕ). k + 1) h.asks ∙ (let e : length w.notes + 1 ≡ length (note' ∷ w.notes) = omega arith in e)
         ∙ sym (ap (λ (l : List Note). length l) notes_is)
 
-    over : Over links apart W x w' after
+    over : Over links apart W x set w' after
     over = record {
       now = h.now ∙ sym (ap (λ (t : Time). t.now) step.time);
       pace = h.pace ∙ sym (ap (λ (t : Time). t.pace) step.time);
@@ -243,28 +246,28 @@ module _ (links : ℕ → Option Octets) (apart : (i j : ℕ) (l : Octets) → l
       noted = λ k t at. ap (newest k) notes_is ∙ h.noted k t at;
       away = subst (λ (l : List Note). AwayNoted l after) (sym notes_is) (λ k u at. away k u (decide_key key k) at);
       posts = subst (λ (l : List Copy). Pairwise (IsCopyOf links apart) after.posts l) (sym step.copies) h.posts;
-      log = subst (λ (lg : List Fact). Pairwise FactMeans after.log lg) (sym step.log)
+      log = subst (λ (lg : List Fact). Pairwise (FactMeans set) after.log lg) (sym step.log)
           ((sym h.asks, subst (λ (o : Octets). SpellsRequest (choice_of r) r o) (sym parts.joined) step.asks.spelled), h.log);
       sound = sound;
     }
 
-    once : (opening : Stores) → IsOnce opening w.log (stores_of w.nodes) → IsOnce opening w'.log (stores_of w'.nodes)
-    once opening before = subst (λ (lg : List Fact). IsOnce opening lg (stores_of w'.nodes)) (sym step.log) (
+    once : (opening : Stores) → IsOnceSo (reuses_in set) opening w.log (stores_of w.nodes) → IsOnceSo (reuses_in set) opening w'.log (stores_of w'.nodes)
+    once opening before = subst (λ (lg : List Fact). IsOnceSo (reuses_in set) opening lg (stores_of w'.nodes)) (sym step.log) (
       stores_of w.nodes,
       (
-        sym h.asks ∙ counted W x bound n h.sound ∙ sym (asks_counted n.log w.log h.log),
+        sym h.asks ∙ counted W x set bound n h.sound ∙ sym (asks_counted set n.log w.log h.log),
         stores_same w.nodes w'.nodes i a step.after step.nodes step.at (ap (λ (d : Node). d.store) node_is),
       ),
       before,
     )
 
-    pub asks_away_with : (m : Net) × Goes links apart W x w w' m × IsAside n m
+    pub asks_away_with : (m : Net) × Goes links apart W x set w w' m × IsAside n m
     asks_away_with = (after, record { bridge = over; once = once }, asked_aside x n key ask)
 
-  pub asks_away_over : (w w' : World) (n : Net) → Over links apart W x w n → (client : ℕ) (peer : PeerView) (limits : Limits) (r : Request)
-      → IsAskedAway w client peer limits r w' → (m : Net) × Goes links apart W x w w' m × IsAside n m
+  pub asks_away_over : (w w' : World) (n : Net) → Over links apart W x set w n → (client : ℕ) (peer : PeerView) (limits : Limits) (r : Request)
+      → IsAskedAway w client peer limits r w' → (m : Net) × Goes links apart W x set w w' m × IsAside n m
   asks_away_over w w' n h i peer limits r step =
-      let fits : Fits links apart W x w n n i step.before = h.nodes i step.before step.at in
+      let fits : Fits links apart W x set w n n i step.before = h.nodes i step.before step.at in
       let asked_of : Settings → ℕ → AskOutcome =
       λ c now. requester_ask c now peer limits (choice_of r) step.asks.octets step.before.clients in
       let parts = accepted_is (x.settings i) (here_at n i) peer (choice_of r) step.asks.octets step.before.clients step.accepted limits

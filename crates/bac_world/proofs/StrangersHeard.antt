@@ -1,5 +1,5 @@
 -- A stranger's datagram reaches a node.
-use Rattle.std.proofs.Common.{◌≡◌, ℕ, ◌≢◌, ◌<◌, ◌⊎◌, Bool, true, false, List, [], ◌++◌, Option, Some, None, slice_get}
+use Rattle.std.proofs.Common.{◌≡◌, ℕ, ◌≢◌, ◌<◌, ◌⊎◌, Bool, true, false, List, [], ◌∷◌, ◌++◌, Option, Some, None, slice_get}
 use Rattle.std.proofs.Common.{if◌then◌else◌, nat_eq, refl, sym, ap, subst, inl, inr, ◌∙◌, arith}
 use Rattle.std.proofs.lemmas.Bool.Decides.{nat_tests}
 use Rattle.std.specs.Option.{option_map}
@@ -11,18 +11,20 @@ use Rattle.bac_protocol.specs.Context.{Settings, Context}
 use Rattle.bac_protocol.specs.Service.{Octets, Readable}
 use Rattle.bac_protocol.specs.Wire.{is_from_client}
 use Rattle.bac_protocol.specs.Server as server
-use Rattle.bac_protocol.specs.Server.{ServerTransaction, Effect, Service, live_entry, server_on_apdu}
+use Rattle.bac_protocol.specs.Server.{ServerTransaction, Effect, Service, live_entry}
+use Rattle.bac_protocol.specs.Reuse.{server_hears}
 use Rattle.bac_protocol.specs.Transaction.{Key, Rules, served, server_context}
 use Rattle.bac_protocol.specs.World.{Net, server_acts_away, begin_of, set_at}
 use Rattle.bac_protocol.specs.Claims.{IsBounded}
 use Rattle.bac_protocol.specs.Steps.{IsSameReaction}
 use Rattle.bac_protocol.proofs.Keys.{set_same, set_other, decide_key}
-use Rattle.bac_protocol.proofs.Dead.{gets_same, same_of, same_then, same_back}
+use Rattle.bac_protocol.proofs.Dead.{same_of, same_then, same_back}
 use Rattle.bac_slots.specs.Slots.{value_at, with_value}
 use Rattle.bac_transaction.specs.Keys.{PeerKey, same_key}
 use Rattle.bac_transaction.specs.Sends.{Pairwise, IsSent}
 use Rattle.bac_transaction.specs.Meanings.{IsEndedView}
-use Rattle.bac_transaction.specs.Ends.{Client, ClientEnd, ClientTurn, TransactionSlot, client_after, client_goes, requester_on_apdu_in_slot, stays, ServerEnd, act_at, is_free, put_entry, server_goes, context_of, requester_on_apdu_at, key_of as heard_key}
+use Rattle.bac_transaction.specs.Ends.{Client, ClientEnd, ClientTurn, TransactionSlot, client_after, client_goes, requester_on_apdu_in_slot, stays, ServerEnd, ServerSlot, act_at, is_free, put_entry, requester_on_apdu_at, key_of as heard_key}
+use Rattle.bac_transaction.specs.Reuse.{is_read}
 use Rattle.bac_transaction.specs.Ends.TransactionSlot.{Open, Closed}
 use Rattle.bac_transaction.proofs.KeyedSlots.{with_same, with_other, with_distinct, each_with, each_at}
 use Rattle.bac_protocol.specs.Client as client
@@ -33,10 +35,12 @@ use Rattle.bac_world.proofs.Leads.Leads.{Here, StraysToClient}
 use Rattle.bac_world.proofs.Hearing.{Reached, reached_none, reacts_stranger}
 use Rattle.bac_transaction.specs.Services.{service_of}
 use Rattle.bac_world.specs.Services.{Performed, ArePerformed, store_after}
-use Rattle.bac_world.specs.Node.{Node, Outcome, IsServerTurn, IsClientTurn, IsHeard, IsHeardBy}
-use Rattle.bac_world.specs.Once.{Fact, IsOnce}
+use Rattle.bac_world.specs.Node.{Node, Outcome, IsServerTurn, IsClientTurn}
+use Rattle.bac_world.specs.Once.{Fact}
+use Rattle.bac_world.specs.ReusingLogs.{IsOnceSo}
+use Rattle.bac_world.specs.ReusingWorlds.{ActsSo, AreLoggedSo}
 use Rattle.bac_protocol.specs.Pace.{Clock}
-use Rattle.bac_world.specs.World.{World, told, Note, Copy, stores_of, link_at, IsWithNode, Acts, AreLogged, AreEnded}
+use Rattle.bac_world.specs.World.{World, told, Note, Copy, stores_of, link_at, IsLogged, IsWithNode, Acts, AreEnded}
 use Rattle.bac_world.proofs.Machines.{Sound, strays_at_server, strays_at_client}
 use Rattle.bac_world.proofs.Numbers.{number, number_one}
 use Rattle.bac_protocol.specs.Steps.{IsEntryFor}
@@ -45,13 +49,16 @@ use Rattle.bac_protocol.specs.declared.times.TheConstants.{KEEP}
 use Rattle.bac_protocol.proofs.Served.{effects_are_kept}
 use Rattle.std.proofs.Common.{◌-◌, nat_le}
 use Rattle.bac_world.proofs.Pairs.{pairwise_none, append_none}
-use Rattle.bac_world.proofs.Logs.{FactMeans}
+use Rattle.bac_world.proofs.Logs.{FactMeans, begun_if}
 use Rattle.bac_world.proofs.Bridge.{here_at, there_at, NodeFits, ServersFit, IsKnown, IsStranger, IsCopyOf, EntryFits, key_of, slot_key, stranger_key, out_key, copied_none}
-use Rattle.bac_world.proofs.Steps.{Over, Fits, Goes, acts_over, once_same, stores_same}
+use Rattle.bac_world.proofs.Steps.{Over, Fits, Goes, acts_over, acts_quiet, once_same, stores_same}
+use Rattle.bac_world.proofs.Settings.{Setting, reuses_in, end_heard, hears_at}
 use Rattle.bac_world.proofs.Serving.{Logged, room_is}
+use Rattle.bac_world.proofs.Heard.{IsHeardIn, IsHeardInBy}
 use Rattle.bac_world.proofs.Clients.{quiet, arrived}
 use Rattle.bac_protocol.proofs.Aside.{IsAside, still_aside, client_aside, server_aside}
 use Rattle.bac_transaction.proofs.Entries.{entry_here, entry_there, entry_distinct, entry_each}
+use Rattle.bac_world.proofs.Reused.{AreLeft, heard_left, heard_none, hears_same}
 use Rattle.bac_world.proofs.Table.{none_left}
 
 -- two keys of strangers are one where the slots' keys are
@@ -76,7 +83,8 @@ live_one now y d e = go (is_live now y) e
     go true e = cc
     go false e = absurd cc
 
-module _ (links : ℕ → Option Octets) (apart : (i j : ℕ) (l : Octets) → links i ≡ Some l → links j ≡ Some l → i ≡ j) (W : ℕ) (x : Rules) where
+module _ (links : ℕ → Option Octets) (apart : (i j : ℕ) (l : Octets) → links i ≡ Some l → links j ≡ Some l → i ≡ j) (W : ℕ) (x : Rules)
+    (set : Setting) where
   -- other nodes see nothing of it
   pub others_fit_away : (here there : ℕ) (notes : List Note) (n : Net) (key : Key) (u : server.Reaction) (j : ℕ) (a : Node) → (j ≡ key.server → ⊥)
       → NodeFits links apart x here there notes n j a → NodeFits links apart x here there notes (server_acts_away n key u) j a
@@ -97,33 +105,36 @@ module _ (links : ℕ → Option Octets) (apart : (i j : ℕ) (l : Octets) → l
 
   -- the server end after a stranger's entry was put
   module _ (now : ℕ) (n : Net) (i : ℕ) (p : PeerKey) (g : IsStranger links apart p) (v u : server.Reaction)
-      (same : live_entry now v.entry ≡ live_entry now u.entry) (e : ServerEnd) (h : ServersFit links apart now n i e)
-      (none : live_entry now v.entry ≡ None → live_entry now (value_at same_key p e.slots) ≡ None) where
+      (same : live_entry now v.entry ≡ live_entry now u.entry) (e : ServerEnd) (h : ServersFit links apart now n i e) (slots : List ServerSlot)
+      (left : AreLeft p e.slots slots) (none : live_entry now v.entry ≡ None → live_entry now (value_at same_key p slots) ≡ None) where
     found : (c : ℕ) (m : Octets) (id : ℕ) → links c ≡ Some m
-        → EntryFits now (value_at same_key (slot_key m id) (put_entry now p v.entry e.slots)) (n.entries (key_of c i id))
-    found c m id at = entry_there now p e.slots h.distinct v.entry (slot_key m id) (λ is. g.none c (at ∙ ap (λ (y : PeerKey). Some y.peer.link) (sym is)))
+        → EntryFits now (value_at same_key (slot_key m id) (put_entry now p v.entry slots)) (n.entries (key_of c i id))
+    found c m id at =
+        let away : p ≡ slot_key m id → ⊥ = λ is. g.none c (at ∙ ap (λ (y : PeerKey). Some y.peer.link) (sym is)) in
+        entry_there now p slots (left.distinct h.distinct) v.entry (slot_key m id) away ∙ ap (live_entry now) (left.others (slot_key m id) away)
         ∙ h.found c m id at
 
     strangers : (q : PeerKey) → IsStranger links apart q → ((stranger_key i p ≡ stranger_key i q) ⊎ (stranger_key i p ≡ stranger_key i q → ⊥))
-        → EntryFits now (value_at same_key q (put_entry now p v.entry e.slots)) (set_at n.far.entries (stranger_key i p) u.entry (stranger_key i q))
+        → EntryFits now (value_at same_key q (put_entry now p v.entry slots)) (set_at n.far.entries (stranger_key i p) u.entry (stranger_key i q))
     strangers q f (inl is) =
-        ap (λ (y : PeerKey). live_entry now (value_at same_key y (put_entry now p v.entry e.slots))) (sym (stranger_one i p q is))
-        ∙ entry_here now p e.slots h.distinct v.entry none ∙ same
+        ap (λ (y : PeerKey). live_entry now (value_at same_key y (put_entry now p v.entry slots))) (sym (stranger_one i p q is))
+        ∙ entry_here now p slots (left.distinct h.distinct) v.entry none ∙ same
         ∙ ap (live_entry now) (sym (set_same n.far.entries (stranger_key i p) u.entry) ∙ ap (set_at n.far.entries (stranger_key i p) u.entry) is)
     strangers q f (inr ne) =
-        entry_there now p e.slots h.distinct v.entry q (λ is. ne (ap (stranger_key i) is))
-        ∙ h.strangers q f ∙ ap (live_entry now) (sym (set_other n.far.entries (stranger_key i p) u.entry (stranger_key i q) ne))
+        entry_there now p slots (left.distinct h.distinct) v.entry q (λ is. ne (ap (stranger_key i) is))
+        ∙ ap (live_entry now) (left.others q (λ is. ne (ap (stranger_key i) is))) ∙ h.strangers q f ∙ ap (live_entry now) (sym (set_other n.far.entries (stranger_key i p) u.entry (stranger_key i q) ne))
 
-    pub stranger_fits : ServersFit links apart now (server_acts_away n (stranger_key i p) u) i (record e { slots = put_entry now p v.entry e.slots })
+    pub stranger_fits : ServersFit links apart now (server_acts_away n (stranger_key i p) u) i (record e { slots = put_entry now p v.entry slots })
     stranger_fits = record {
-      distinct = entry_distinct now p e.slots h.distinct v.entry;
-      known = entry_each now p e.slots h.distinct (λ q d. IsKnown links apart q ⊎ IsStranger links apart q) v.entry (λ d. inr g) h.known;
+      distinct = entry_distinct now p slots (left.distinct h.distinct) v.entry;
+      known = entry_each now p slots (left.distinct h.distinct) (λ q d. IsKnown links apart q ⊎ IsStranger links apart q) v.entry (λ d. inr g)
+          (left.each (λ q d. IsKnown links apart q ⊎ IsStranger links apart q) h.known);
       found = found;
       strangers = λ q f. strangers q f (decide_key (stranger_key i p) (stranger_key i q));
     }
 
   -- What was performed for it enters the log.
-  module _ (w w' : World) (n : Net) (h : Over links apart W x w n) (i : ℕ) (p : PeerKey) (g : IsStranger links apart p) (a b : Node)
+  module _ (w w' : World) (n : Net) (h : Over links apart W x set w n) (i : ℕ) (p : PeerKey) (g : IsStranger links apart p) (a b : Node)
       (node : slice_get w.nodes i ≡ Some a) (nodes : IsWithNode w.nodes i b w'.nodes) (begin : ℕ) where
     stores : (d : Performed) → b.store ≡ change.after a.store d.request → (j : ℕ)
         → stores_of w'.nodes j ≡ (if nat_eq j i then Some (change.after a.store d.request) else stores_of w.nodes j)
@@ -137,160 +148,193 @@ module _ (links : ℕ → Option Octets) (apart : (i j : ℕ) (l : Octets) → l
             let ne : j ≢ i = λ is. grind (arith, nat_tests) in
             ap (λ (o : Option Node). option_map (λ (m : Node). m.store) o) (nodes.others j ne)
 
+    -- it does, in an entry that began then, where its server lets no invoke ID be used again
+    module _ (e : Effect) (d : Performed) (done : ArePerformed a.store (act_at p (Some e)) (Some d)) (store : b.store ≡ change.after a.store d.request) where
+      served_one : (told : ℕ) → (reuses_in set i ≡ false → told ≡ begin)
+          → w'.log ≡ Fact.Served d.key.peer i d.key.invoke_id told d.request d.reply ∷ w.log
+          → Logged links apart W x set w w' (served (stranger_key i p) begin (Some e) n.log)
+      served_one told begun log = record {
+        log_means = subst (λ (lg : List Fact). Pairwise (FactMeans set) (served (stranger_key i p) begin (Some e) n.log) lg) (sym log) (
+          (
+            ap (λ (y : PeerKey). number y.peer) done.key,
+            refl,
+            ap (λ (y : PeerKey). y.invoke_id) done.key,
+            begun_if (reuses_in set i) begin told begun,
+            done.what.request,
+            done.what.means,
+          ),
+          h.log,
+        );
+        once = λ opening once. subst (λ (lg : List Fact). IsOnceSo (reuses_in set) opening lg (stores_of w'.nodes)) (sym log) (
+          stores_of w.nodes,
+          record {
+            store = a.store;
+            at = ap (λ (o : Option Node). option_map (λ (m : Node). m.store) o) node;
+            reply = done.what.reply;
+            stores = stores d store;
+          },
+          once,
+        );
+      }
+
+      none_known : IsLogged w.nodes w.notes i d w.log w'.log → ⊥
+      none_known known = g.none known.client (sym (h.linked known.client) ∙ known.link ∙ ap (λ (y : PeerKey). Some y.peer.link) done.key)
+
+      served_logs : (reuse : Bool) → reuses_in set i ≡ reuse
+          → (reuse ≡ false → (y : ServerTransaction) → value_at same_key p b.servers.slots ≡ Some y → y.begin ≡ begin)
+          → AreLoggedSo reuse w.nodes w.notes i b (Some d) w.log w'.log → Logged links apart W x set w w' (served (stranger_key i p) begin (Some e) n.log)
+      served_logs false is begun (inl known) = absurd (none_known known)
+      served_logs false is begun (inr away) = served_one away.entry.begin
+          (λ off. begun refl away.entry (ap (λ (y : PeerKey). value_at same_key y b.servers.slots) (sym done.key) ∙ away.kept)) away.log
+      served_logs true is begun (inl known) = absurd (none_known known)
+      served_logs true is begun (inr away) = served_one away.begin (λ off. absurd (let never : true ≡ false = sym is ∙ off in cc)) away.log
+
     pub logs_stranger : (e : Option Effect) (d : Option Performed)
-        → ((x : Effect) → e ≡ Some x → (y : ServerTransaction) → value_at same_key p b.servers.slots ≡ Some y → y.begin ≡ begin) → ArePerformed a.store (act_at p e) d → b.store ≡ store_after a.store d
-        → AreLogged w.nodes w.notes i b d w.log w'.log → Logged links apart W x w w' (served (stranger_key i p) begin e n.log)
-    logs_stranger None None begun done store logged = record {
-      log_means = subst (λ (lg : List Fact). Pairwise FactMeans n.log lg) (sym logged) h.log;
-      once = λ opening once. subst (λ (lg : List Fact). IsOnce opening lg (stores_of w'.nodes)) (sym logged)
-          (once_same opening w.log (stores_of w.nodes) (stores_of w'.nodes) (stores_same w.nodes w'.nodes i a b nodes node store) once);
-    }
+        → (reuses_in set i ≡ false → (x : Effect) → e ≡ Some x → (y : ServerTransaction) → value_at same_key p b.servers.slots ≡ Some y → y.begin ≡ begin)
+        → ArePerformed a.store (act_at p e) d → b.store ≡ store_after a.store d → AreLoggedSo (reuses_in set i) w.nodes w.notes i b d w.log w'.log
+        → Logged links apart W x set w w' (served (stranger_key i p) begin e n.log)
+    logs_stranger None None begun done store logged = same_log (go (reuses_in set i) logged)
+      where
+        go : (reuse : Bool) → AreLoggedSo reuse w.nodes w.notes i b None w.log w'.log → w'.log ≡ w.log
+        go true is = is
+        go false is = is
+
+        same_log : w'.log ≡ w.log → Logged links apart W x set w w' n.log
+        same_log is = record {
+          log_means = subst (λ (lg : List Fact). Pairwise (FactMeans set) n.log lg) (sym is) h.log;
+          once = λ opening once. subst (λ (lg : List Fact). IsOnceSo (reuses_in set) opening lg (stores_of w'.nodes)) (sym is)
+              (once_same (reuses_in set) opening w.log (stores_of w.nodes) (stores_of w'.nodes) (stores_same w.nodes w'.nodes i a b nodes node store) once);
+        }
     logs_stranger None (Some d) begun done store logged = absurd done
     logs_stranger (Some e) None begun done store logged = absurd done
-    logs_stranger (Some e) (Some d) begun done store (inl known) =
-        absurd (g.none known.client (sym (h.linked known.client) ∙ known.link ∙ ap (λ (y : PeerKey). Some y.peer.link) done.key))
-    logs_stranger (Some e) (Some d) begun done store (inr stranger) = record {
-      log_means = subst (λ (lg : List Fact). Pairwise FactMeans (served (stranger_key i p) begin (Some e) n.log) lg) (sym stranger.log) (
-        (
-          ap (λ (y : PeerKey). number y.peer) done.key,
-          refl,
-          ap (λ (y : PeerKey). y.invoke_id) done.key,
-          begun e refl stranger.entry (ap (λ (y : PeerKey). value_at same_key y b.servers.slots) (sym done.key) ∙ stranger.kept),
-          done.what.request,
-          done.what.means,
-        ),
-        h.log,
-      );
-      once = λ opening once. subst (λ (lg : List Fact). IsOnce opening lg (stores_of w'.nodes)) (sym stranger.log) (
-        stores_of w.nodes,
-        record {
-          store = a.store;
-          at = ap (λ (o : Option Node). option_map (λ (m : Node). m.store) o) node;
-          reply = done.what.reply;
-          stores = stores d store;
-        },
-        once,
-      );
-    }
+    logs_stranger (Some e) (Some d) begun done store logged =
+        served_logs e d done store (reuses_in set i) refl (λ off. begun off e refl) logged
 
   -- the world goes on, and of the net only what is of strangers
   abbrev pub Aside : World → World → Net → Type 0
-  Aside w w' n = (m : Net) × Goes links apart W x w w' m × IsAside n m
+  Aside w w' n = (m : Net) × Goes links apart W x set w w' m × IsAside n m
 
   module _ (bound : IsBounded W x) where
     -- a stranger's request
-    serves_stranger : (w w' : World) (n : Net) → Over links apart W x w n → (i : ℕ) (p : PeerKey) → IsStranger links apart p → (apdu : Apdu)
+    serves_stranger : (w w' : World) (n : Net) → Over links apart W x set w n → (i : ℕ) (p : PeerKey) → IsStranger links apart p → (apdu : Apdu)
         → is_from_client apdu ≡ true → (a b : Node) (o : Outcome) → slice_get w.nodes i ≡ Some a
-        → IsServerTurn (server_goes (told w i) a.servers p (server_on_apdu (context_of a.settings (told w i) p) (service_of a.store) (value_at same_key p a.servers.slots)
-        (is_free (told w i) a.servers) apdu)) (told w i) a b o
-        → Acts w i b o w' → Aside w w' n
-    serves_stranger w w' n h i p g apdu up a b o node turn acts = (m, record { bridge = over; once = logged.once }, server_aside n key u)
+        → IsServerTurn (hears_at (reuses_in set i) a.settings (told w i) (service_of a.store) p apdu a.servers) (told w i) a b o
+        → ActsSo (reuses_in set i) w i b o w' → Aside w w' n
+    serves_stranger w w' n h i p g apdu up a b o node turn acts = (m, record { bridge = over; once = logged.once }, server_aside n key (u reuse))
       where
         key : Key
         key = stranger_key i p
 
-        fits : Fits links apart W x w n n i a
+        fits : Fits links apart W x set w n n i a
         fits = h.nodes i a node
 
         service : Service
         service = service_of a.store
 
-        turn' : IsServerTurn (server_goes (there_at n i) a.servers p (server_on_apdu (context_of (x.settings i) (there_at n i) p) (service_of a.store)
-            (value_at same_key p a.servers.slots) (is_free (there_at n i) a.servers) apdu)) (there_at n i) a b o
-        turn' = subst (λ (y : Settings). IsServerTurn (server_goes (there_at n i) a.servers p (server_on_apdu (context_of y (there_at n i) p) (service_of a.store)
-            (value_at same_key p a.servers.slots) (is_free (there_at n i) a.servers) apdu)) (there_at n i) a b o) fits.settings
-            (subst (λ (t : ℕ). IsServerTurn (server_goes t a.servers p (server_on_apdu (context_of a.settings t p) (service_of a.store)
-            (value_at same_key p a.servers.slots) (is_free t a.servers) apdu)) t a b o) (sym (ap (λ (y : Clock). y.shows) (h.there i))) turn)
+        reuse : Bool
+        reuse = reuses_in set i
+
+        turn' : IsServerTurn (hears_at reuse (x.settings i) (there_at n i) service p apdu a.servers) (there_at n i) a b o
+        turn' = subst (λ (y : Settings). IsServerTurn (hears_at reuse y (there_at n i) service p apdu a.servers) (there_at n i) a b o) fits.settings
+            (subst (λ (t : ℕ). IsServerTurn (hears_at reuse a.settings t service p apdu a.servers) t a b o) (sym (ap (λ (y : Clock). y.shows) (h.there i))) turn)
 
         context : Context
         context = server_context x key (there_at n i)
 
-        free : Bool
-        free = is_free (there_at n i) a.servers
+        end : Bool → ServerEnd
+        end r = end_heard r (there_at n i) p apdu a.servers
 
-        gets : Option ServerTransaction → server.Reaction
-        gets e = server_on_apdu context service e free apdu
+        gets : Bool → Option ServerTransaction → server.Reaction
+        gets r e = server_hears r context service is_read e (is_free (there_at n i) (end r)) apdu
 
-        v : server.Reaction
-        v = gets (value_at same_key p a.servers.slots)
+        v : Bool → server.Reaction
+        v r = gets r (value_at same_key p a.servers.slots)
 
-        u : server.Reaction
-        u = gets (n.far.entries key)
+        u : Bool → server.Reaction
+        u r = gets r (n.far.entries key)
 
-        same : IsSameReaction (there_at n i) v u
-        same =
+        same : (r : Bool) → IsSameReaction (there_at n i) (v r) (u r)
+        same r =
             let y : Option ServerTransaction = value_at same_key p a.servers.slots in
             let e : Option ServerTransaction = n.far.entries key in
-            same_then (there_at n i) v (gets (live_entry (there_at n i) y)) u (gets_same context service y free apdu)
-            (same_then (there_at n i) (gets (live_entry (there_at n i) y)) (gets (live_entry (there_at n i) e)) u
-            (same_of (there_at n i) (gets (live_entry (there_at n i) y)) (gets (live_entry (there_at n i) e)) (ap gets (fits.servers.strangers p g)))
-            (same_back (there_at n i) u (gets (live_entry (there_at n i) e)) (gets_same context service e free apdu)))
+            same_then (there_at n i) (v r) (gets r (live_entry (there_at n i) y)) (u r) (hears_same context service (is_free (there_at n i) (end r)) r y apdu)
+            (same_then (there_at n i) (gets r (live_entry (there_at n i) y)) (gets r (live_entry (there_at n i) e)) (u r)
+            (same_of (there_at n i) (gets r (live_entry (there_at n i) y)) (gets r (live_entry (there_at n i) e)) (ap (gets r) (fits.servers.strangers p g)))
+            (same_back (there_at n i) (u r) (gets r (live_entry (there_at n i) e)) (hears_same context service (is_free (there_at n i) (end r)) r e apdu)))
 
         m : Net
-        m = server_acts_away n key u
+        m = server_acts_away n key (u reuse)
 
-        sound : Sound x m
-        sound = strays_at_server W x bound n h.sound key free (room_is n key a.servers fits.serves) service apdu up
+        sound : Sound x set m
+        sound = strays_at_server W x set bound n h.sound key (is_free (there_at n i) (end reuse)) (room_is n key (end reuse) fits.serves) service apdu up
 
         made : Node
         made = record a {
           latest = there_at n i;
-          servers = record (a.servers) { slots = put_entry (there_at n i) p v.entry a.servers.slots };
+          servers = record (end reuse) { slots = put_entry (there_at n i) p (v reuse).entry (end reuse).slots };
           store = store_after a.store o.performed;
         }
 
-        made_fits : Fits links apart W x w n m i made
+        made_fits : Fits links apart W x set w n m i made
         made_fits = record {
           settings = fits.settings;
           link = fits.link;
           asks = fits.asks;
           serves = fits.serves;
           clients = record { distinct = fits.clients.distinct; known = fits.clients.known; found = fits.clients.found; strangers = fits.clients.strangers };
-          servers = stranger_fits (there_at n i) n i p g v u same.entry a.servers fits.servers
-              (none_left context service (value_at same_key p a.servers.slots) free apdu);
+          servers = stranger_fits (there_at n i) n i p g (v reuse) (u reuse) (same reuse).entry a.servers fits.servers (end reuse).slots
+              (heard_left p reuse (there_at n i) apdu a.servers.slots)
+              (heard_none p reuse context service (is_free (there_at n i) (end reuse)) apdu a.servers.slots fits.servers.distinct);
         }
 
         sent_is : acts.sent ≡ []
-        sent_is = copied_none links apart w.nodes h.linked w.time.now i p g v.sends o.sends acts.sent turn'.sends acts.copied
+        sent_is = copied_none links apart w.nodes h.linked w.time.now i p g (v reuse).sends o.sends acts.sent turn'.sends acts.copied
 
         posts : Pairwise (IsCopyOf links apart) n.posts (w.copies ++ acts.sent)
         posts = subst (λ (l : List Copy). Pairwise (IsCopyOf links apart) n.posts l)
             (sym (ap (λ (l : List Copy). w.copies ++ l) sent_is ∙ append_none w.copies)) h.posts
 
-        done : ArePerformed a.store (act_at p u.effect) o.performed
-        done = subst (λ (e : Option Effect). ArePerformed a.store (act_at p e) o.performed) same.effect turn'.performed
+        done : ArePerformed a.store (act_at p (u reuse).effect) o.performed
+        done = subst (λ (e : Option Effect). ArePerformed a.store (act_at p e) o.performed) (same reuse).effect turn'.performed
 
         between_is : acts.between ≡ w.log
         between_is = subst (λ fs. AreEnded w.notes i fs w.log acts.between) turn'.ended acts.ended
 
-        begun : (e : Effect) → u.effect ≡ Some e → (y : ServerTransaction) → value_at same_key p b.servers.slots ≡ Some y → y.begin ≡ begin_of u.entry
-        begun e is y at =
+        -- where no invoke ID is used again, what was performed is kept in the entry
+        begun : (r : Bool) → r ≡ false → b.servers.slots ≡ put_entry (there_at n i) p (v r).entry (end r).slots → (e : Effect) → (u r).effect ≡ Some e
+            → (y : ServerTransaction) → value_at same_key p b.servers.slots ≡ Some y → y.begin ≡ begin_of (u r).entry
+        begun true off slots e is y at = absurd cc
+        begun false off slots e is y at =
+            let free : Bool = is_free (there_at n i) (end false) in
             let k = effects_are_kept.gets context service (n.far.entries key) free apdu e is in
-            let live : live_entry (there_at n i) u.entry ≡ Some k.entry = ap (live_entry (there_at n i)) k.after
+            let live : live_entry (there_at n i) (u false).entry ≡ Some k.entry = ap (live_entry (there_at n i)) k.after
             ∙ ap (λ z. if z then Some k.entry else None) (live_for (there_at n i) apdu (n.far.entries key) k.entry k.for) in
-            let there : value_at same_key p (put_entry (there_at n i) p v.entry a.servers.slots) ≡ Some y =
-            ap (λ (d : Node). value_at same_key p d.servers.slots) (sym turn'.node) ∙ at in
-            let here : live_entry (there_at n i) (Some y) ≡ live_entry (there_at n i) v.entry = ap (live_entry (there_at n i)) (sym there)
-            ∙ entry_here (there_at n i) p a.servers.slots fits.servers.distinct v.entry (none_left context service (value_at same_key p a.servers.slots) free apdu) in
-            let one : y ≡ k.entry = live_one (there_at n i) y k.entry (here ∙ same.entry ∙ live) in
+            let there : value_at same_key p (put_entry (there_at n i) p (v false).entry a.servers.slots) ≡ Some y =
+            ap (value_at same_key p) (sym slots) ∙ at in
+            let here : live_entry (there_at n i) (Some y) ≡ live_entry (there_at n i) (v false).entry = ap (live_entry (there_at n i)) (sym there)
+            ∙ entry_here (there_at n i) p a.servers.slots fits.servers.distinct (v false).entry
+            (none_left context service (value_at same_key p a.servers.slots) free apdu) in
+            let one : y ≡ k.entry = live_one (there_at n i) y k.entry (here ∙ (same false).entry ∙ live) in
             ap (λ (d : ServerTransaction). d.begin) one ∙ ap begin_of (sym k.after)
 
-        logged : Logged links apart W x w w' (served key (begin_of u.entry) u.effect n.log)
-        logged = logs_stranger w w' n h i p g a b node acts.nodes (begin_of u.entry) u.effect o.performed begun done (ap (λ (d : Node). d.store) turn'.node)
-            (subst (λ (lg : List Fact). AreLogged w.nodes w.notes i b o.performed lg w'.log) between_is acts.logged)
+        logged : Logged links apart W x set w w' (served key (begin_of (u reuse).entry) (u reuse).effect n.log)
+        logged = logs_stranger w w' n h i p g a b node acts.nodes (begin_of (u reuse).entry) (u reuse).effect o.performed
+            (λ off. begun reuse off (ap (λ (d : Node). d.servers.slots) turn'.node)) done (ap (λ (d : Node). d.store) turn'.node)
+            (subst (λ (lg : List Fact). AreLoggedSo reuse w.nodes w.notes i b o.performed lg w'.log) between_is acts.logged)
 
-        over : Over links apart W x w' m
-        over = acts_over links apart W x w w' n m h i a b o node acts (record { now = refl; pace = refl; here = refl; there = refl }) refl h.noted h.away (ap (λ (d : Node). d.link) turn'.node)
-            (subst (λ (d : Node). Fits links apart W x w n m i d) (sym turn'.node) made_fits)
-            (λ j d ne f. others_fit_away (here_at n j) (there_at n j) w.notes n key u j d ne f) posts logged.log_means sound
+        over : Over links apart W x set w' m
+        over = acts_over links apart W x set reuse w w' n m h i a b o node acts (record { now = refl; pace = refl; here = refl; there = refl }) refl h.noted h.away
+            (ap (λ (d : Node). d.link) turn'.node)
+            (subst (λ (d : Node). Fits links apart W x set w n m i d) (sym turn'.node) made_fits)
+            (λ j d ne f. others_fit_away (here_at n j) (there_at n j) w.notes n key (u reuse) j d ne f) posts logged.log_means sound
 
     -- a stranger's answer: to an open ticket of its own, or it is dropped
-    module _ (readable : x.readable ≡ reads_reply) (w w' : World) (n : Net) (h : Over links apart W x w n) (i : ℕ) (p : PeerKey) (g : IsStranger links apart p)
+    module _ (readable : x.readable ≡ reads_reply) (w w' : World) (n : Net) (h : Over links apart W x set w n) (i : ℕ) (p : PeerKey) (g : IsStranger links apart p)
         (apdu : Apdu) (down : is_from_client apdu ≡ false) (a b : Node) (o : Outcome) (node : slice_get w.nodes i ≡ Some a) (acts : Acts w i b o w') where
       unheard : IsClientTurn (stays a.clients) (told w i) a b o → Aside w w' n
       unheard t = (
         n,
-        quiet links apart W x w w' n h i a b o node acts t.performed (pairwise_none IsSent o.sends t.sends) (pairwise_none IsEndedView o.ended t.ended) t.node,
+        quiet links apart W x set w w' n h i a b o node acts t.performed (pairwise_none IsSent o.sends t.sends) (pairwise_none IsEndedView o.ended t.ended) t.node,
         still_aside n,
       )
 
@@ -299,16 +343,16 @@ module _ (links : ℕ → Option Octets) (apart : (i j : ℕ) (l : Octets) → l
           → Aside w w' n
       answers k t found turn = (
         client_acts_away n (out_key i p) t (client_on_apdu (client_context x (out_key i p) (here_at n i)) x.readable t apdu),
-        arrived links apart W x w w' n h i a b o node acts turn.performed made turn.node refl
+        arrived links apart W x set w w' n h i a b o node acts turn.performed made turn.node refl
             (with_distinct Client p (client_after (here_at n i) k t r) a.clients.slots fits.clients.distinct)
             (each_with Client Known p (client_after (here_at n i) k t r) a.clients.slots
             (each_at Client Known p (record { number = k; held = Open t }) a.clients.slots fits.clients.known found) fits.clients.known)
             (client_acts_away n key t r)
-            (subst (λ (l : List Copy). Reached links apart W x w i n (λ y. value_at same_key y made.slots) l acts.between (client_acts_away n key t r))
+            (subst (λ (l : List Copy). Reached links apart W x set w i n (λ y. value_at same_key y made.slots) l acts.between (client_acts_away n key t r))
             (sym (ap (λ (l : List Copy). w.copies ++ l) sent_is ∙ append_none w.copies))
-            (reacts_stranger links apart W x bound w n i p g (λ y. value_at same_key y a.clients.slots) (λ y. value_at same_key y made.slots) w.copies w.log n
-            (reached_none links apart W x w n h i a fits) k t found r
-            (λ is. (strays_at_client W x bound n h.sound key t is apdu down, StraysToClient n key t apdu Here down is))
+            (reacts_stranger links apart W x set bound w n i p g (λ y. value_at same_key y a.clients.slots) (λ y. value_at same_key y made.slots) w.copies w.log n
+            (reached_none links apart W x set w n h i a fits) k t found r
+            (λ is. (strays_at_client W x set bound n h.sound key t is apdu down, StraysToClient n key t apdu Here down is))
             (with_same Client p (client_after (here_at n i) k t r) (record { number = k; held = Open t }) a.clients.slots found)
             (λ y ne. with_other Client p y (client_after (here_at n i) k t r) a.clients.slots ne)
             o.ended acts.between turn.ended acts.ended)),
@@ -318,7 +362,7 @@ module _ (links : ℕ → Option Octets) (apart : (i j : ℕ) (l : Octets) → l
           key : Key
           key = out_key i p
 
-          fits : Fits links apart W x w n n i a
+          fits : Fits links apart W x set w n n i a
           fits = h.nodes i a node
 
           r : client.Reaction
@@ -346,7 +390,7 @@ module _ (links : ℕ → Option Octets) (apart : (i j : ℕ) (l : Octets) → l
       to_client : IsClientTurn (requester_on_apdu_at a.settings reads_reply (told w i) apdu a.clients p (value_at same_key p a.clients.slots)) (told w i) a b o
           → Aside w w' n
       to_client turn =
-          let fits : Fits links apart W x w n n i a = h.nodes i a node in
+          let fits : Fits links apart W x set w n n i a = h.nodes i a node in
           let heard : Settings → Readable → ℕ → ClientTurn =
           λ c readable now. requester_on_apdu_at c readable now apdu a.clients p (value_at same_key p a.clients.slots) in
           found_so (value_at same_key p a.clients.slots) refl
@@ -354,10 +398,10 @@ module _ (links : ℕ → Option Octets) (apart : (i j : ℕ) (l : Octets) → l
           (subst (λ (y : Readable). IsClientTurn (heard a.settings y (here_at n i)) (told w i) a b o) (sym readable)
           (subst (λ (y : ℕ). IsClientTurn (heard a.settings reads_reply y) (told w i) a b o) (sym (ap (λ (y : Clock). y.shows) (h.here i))) turn)))
 
-    pub hears_stranger : x.readable ≡ reads_reply → (w w' : World) (n : Net) → Over links apart W x w n → (i : ℕ) (from : Octets)
+    pub hears_stranger : x.readable ≡ reads_reply → (w w' : World) (n : Net) → Over links apart W x set w n → (i : ℕ) (from : Octets)
         → ((j : ℕ) → link_at w.nodes j ≡ Some from → ⊥)
-        → (a b : Node) (o : Outcome) → slice_get w.nodes i ≡ Some a → Acts w i b o w' → (octets : Octets) → IsHeard (told w i) from octets a b o
-        → Aside w w' n
+        → (a b : Node) (o : Outcome) → slice_get w.nodes i ≡ Some a → ActsSo (reuses_in set i) w i b o w' → (octets : Octets)
+        → IsHeardIn (reuses_in set i) (told w i) from octets a b o → Aside w w' n
     hears_stranger readable w w' n h i from foreign a b o node acts octets z = go (is_from_client z.apdu) refl z.heard
       where
         p : PeerKey
@@ -366,6 +410,6 @@ module _ (links : ℕ → Option Octets) (apart : (i j : ℕ) (l : Octets) → l
         g : IsStranger links apart p
         g = record { none = λ k e. foreign k (h.linked k ∙ e ∙ ap (λ (q : PeerView). Some q.link) z.means.carries.sender) }
 
-        go : (up : Bool) → is_from_client z.apdu ≡ up → IsHeardBy up z.peer z.apdu (told w i) a b o → Aside w w' n
+        go : (up : Bool) → is_from_client z.apdu ≡ up → IsHeardInBy (reuses_in set i) up z.peer z.apdu (told w i) a b o → Aside w w' n
         go true up turn = serves_stranger w w' n h i p g z.apdu up a b o node turn acts
-        go false down turn = to_client readable w w' n h i p g z.apdu down a b o node acts turn
+        go false down turn = to_client readable w w' n h i p g z.apdu down a b o node (acts_quiet (reuses_in set i) w w' i b o turn.performed acts) turn

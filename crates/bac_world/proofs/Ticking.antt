@@ -15,7 +15,8 @@ use Rattle.bac_transaction.specs.Ends.{ClientSlot, ServerSlot, Client, Transacti
 use Rattle.bac_transaction.specs.Ends.{requester_tick, responder_tick}
 use Rattle.bac_transaction.specs.Ends.TransactionSlot.{Open, Closed}
 use Rattle.bac_world.specs.Node.{Node, Outcome, NodeTick}
-use Rattle.bac_world.specs.Once.{Fact, IsOnce}
+use Rattle.bac_world.specs.Once.{Fact}
+use Rattle.bac_world.specs.ReusingLogs.{IsOnceSo}
 use Rattle.bac_world.specs.World.{World, Copy, stores_of, AreLogged, Ticks}
 use Rattle.bac_transaction.proofs.KeyedSlots.{changed, distinct_changed, distinct_in_order, each_changed, each_in_order, each_so}
 use Rattle.bac_world.specs.World.{told}
@@ -28,18 +29,20 @@ use Rattle.bac_world.proofs.Logs.{FactMeans}
 use Rattle.bac_world.proofs.Bridge.{IsKnown, IsStranger, IsCopyOf, TicketFits, key_of, slot_key, stranger_key, out_key, AreParted, copied_split}
 use Rattle.bac_world.specs.World.{is_away}
 use Rattle.bac_world.specs.World.{AreCopied}
-use Rattle.bac_world.proofs.Steps.{Over, Fits, Next, acts_over, once_same, stores_same}
+use Rattle.bac_world.proofs.Steps.{Over, Fits, Next, acts_as, acts_over, once_same, stores_same}
 use Rattle.bac_world.proofs.Leads.{Leads}
 use Rattle.bac_world.proofs.Hearing.{Reached, reached_none, reached_alike}
 use Rattle.bac_world.proofs.ClientTick.{client_tick, folds}
 use Rattle.bac_world.proofs.ServerTick.{Served, entry_tick, serves}
+use Rattle.bac_world.proofs.Settings.{Setting, reuses_in}
 
 number_kept : (c : Context) (k : ℕ) (y : TransactionSlot) → (held_ticked c k y).number ≡ k
 number_kept c k (Open t) = refl
 number_kept c k (Closed first) = refl
 
 module _ (links : ℕ → Option Octets) (apart : (i j : ℕ) (l : Octets) → links i ≡ Some l → links j ≡ Some l → i ≡ j) (W : ℕ) (x : Rules)
-    (bound : IsBounded W x) (w w' : World) (n : Net) (h : Over links apart W x w n) (i : ℕ) (step : Ticks w i w') where
+    (set : Setting)
+    (bound : IsBounded W x) (w w' : World) (n : Net) (h : Over links apart W x set w n) (i : ℕ) (step : Ticks w i w') where
   abbrev a : Node
   a = step.before
 
@@ -64,7 +67,7 @@ module _ (links : ℕ → Option Octets) (apart : (i j : ℕ) (l : Octets) → l
   abbrev g : PeerKey → ServerTransaction → ServerTransaction
   g = entry_tick (x.settings i) (there_at n i)
 
-  fits : Fits links apart W x w n n i step.before
+  fits : Fits links apart W x set w n n i step.before
   fits = h.nodes i step.before step.at
 
   tick' : NodeTick (told w i) step.before step.after step.outcome
@@ -110,20 +113,20 @@ module _ (links : ℕ → Option Octets) (apart : (i j : ℕ) (l : Octets) → l
       (subst (λ (t : ℕ). AreCopied w.nodes t i o.sends step.acts.sent) (sym h.now) step.acts.copied))
 
   -- first the client's slots
-  r : (m : Net) × Reached links apart W x w i n (λ q. value_at same_key q (changed Client f clients)) (w.copies ++ cs.front) step.acts.between m
-  r = folds links apart W x bound w n h i a.link fits.link (changed Client f clients) (in_order peer_key_cmp clients)
+  r : (m : Net) × Reached links apart W x set w i n (λ q. value_at same_key q (changed Client f clients)) (w.copies ++ cs.front) step.acts.between m
+  r = folds links apart W x set bound w n h i a.link fits.link (changed Client f clients) (in_order peer_key_cmp clients)
       (distinct_in_order Client clients fits.clients.distinct)
       (each_in_order Client (λ p v. IsKnown links apart p ⊎ IsStranger links apart p) clients
       (each_so Client (λ p v. (IsKnown links apart p ⊎ IsStranger links apart p) × (v.number < a.clients.asked)) (λ p v. IsKnown links apart p ⊎ IsStranger links apart p)
       (λ p v y. y.0) clients fits.clients.known))
       (change_all Client f clients fits.clients.distinct) w.copies w.log n
-      (reached_alike links apart W x w i n (λ q. value_at same_key q clients) (look Client f (changed Client f clients) (in_order peer_key_cmp clients))
-      w.copies w.log n (λ q. sym (look_all Client f clients fits.clients.distinct q)) (reached_none links apart W x w n h i a fits))
+      (reached_alike links apart W x set w i n (λ q. value_at same_key q clients) (look Client f (changed Client f clients) (in_order peer_key_cmp clients))
+      w.copies w.log n (λ q. sym (look_all Client f clients fits.clients.distinct q)) (reached_none links apart W x set w n h i a fits))
       ds.front cs.front o.ended step.acts.between ds.first cs.first
       (by_both (λ y t u. Pairwise IsEndedView (from_each (client_tick_ends y t) (in_order peer_key_cmp clients)) o.ended) tick'.ended)
       step.acts.ended
 
-  start : Served links apart W x bound w n r.0 h.linked i a.link fits.link
+  start : Served links apart W x set bound w n r.0 h.linked i a.link fits.link
       (look ServerTransaction g (changed ServerTransaction g entries) (in_order peer_key_cmp entries)) (w.copies ++ cs.front) r.0
   start = record {
     alike = r.1.alike;
@@ -148,9 +151,9 @@ module _ (links : ℕ → Option Octets) (apart : (i j : ℕ) (l : Octets) → l
   }
 
   -- then the entries
-  s : (m : Net) × Served links apart W x bound w n r.0 h.linked i a.link fits.link (λ q. value_at same_key q (changed ServerTransaction g entries))
+  s : (m : Net) × Served links apart W x set bound w n r.0 h.linked i a.link fits.link (λ q. value_at same_key q (changed ServerTransaction g entries))
       ((w.copies ++ cs.front) ++ cs.rest) m
-  s = serves links apart W x bound w n r.0 h.linked i a.link fits.link (changed ServerTransaction g entries) (in_order peer_key_cmp entries)
+  s = serves links apart W x set bound w n r.0 h.linked i a.link fits.link (changed ServerTransaction g entries) (in_order peer_key_cmp entries)
       (distinct_in_order ServerTransaction entries fits.servers.distinct) (each_in_order ServerTransaction (λ p v. IsKnown links apart p ⊎ IsStranger links apart p) entries fits.servers.known)
       (change_all ServerTransaction g entries fits.servers.distinct) (w.copies ++ cs.front) r.0 start ds.rest cs.rest ds.second cs.second
 
@@ -169,7 +172,7 @@ module _ (links : ℕ → Option Octets) (apart : (i j : ℕ) (l : Octets) → l
   StrangerFound numbers tickets p =
       TicketFits false (here_at n i) w.notes i (numbers (out_key i p)) (value_at same_key p (changed Client f clients)) (tickets (out_key i p))
 
-  made : Fits links apart W x w n s.0 i (record (step.before) {
+  made : Fits links apart W x set w n s.0 i (record (step.before) {
     latest = told w i;
     clients = record (step.before.clients) { slots = changed Client f clients };
     servers = record (step.before.servers) { slots = changed ServerTransaction g entries };
@@ -202,22 +205,22 @@ module _ (links : ℕ → Option Octets) (apart : (i j : ℕ) (l : Octets) → l
     };
   }
 
-  pub tick_over : Next links apart W x w w'
+  pub tick_over : Next links apart W x set w w'
   tick_over = (
     s.0,
     record {
-      bridge = acts_over links apart W x w w' n s.0 h i a b o step.at step.acts (s.1.alike) (s.1.asks ∙ r.1.asks)
+      bridge = acts_over links apart W x set false w w' n s.0 h i a b o step.at (acts_as w w' i b o step.acts) (s.1.alike) (s.1.asks ∙ r.1.asks)
           (λ key t is. r.1.noted key t (ap (λ y. y key) (sym s.1.tickets) ∙ is) ∙ ap Some (ap (λ y. y key) (sym s.1.numbers)))
           (λ key t is. ap (λ y. is_away (y key) w.notes) s.1.far_numbers ∙ r.1.away key t (ap (λ y. y key) (sym s.1.far_tickets) ∙ is))
           (ap (λ (d : Node). d.link) node_is)
-          (subst (λ (d : Node). Fits links apart W x w n s.0 i d) (sym node_is) made)
+          (subst (λ (d : Node). Fits links apart W x set w n s.0 i d) (sym node_is) made)
           (λ j d ne y. s.1.others j d ne (r.1.others j d ne y))
           (subst (λ (l : List Copy). Pairwise (IsCopyOf links apart) s.0.posts l) all_copies s.1.posts)
-          (subst (λ (lg : List Fact). Pairwise FactMeans s.0.log lg) (sym log_is)
-          (subst (λ lg. Pairwise FactMeans lg step.acts.between) (sym s.1.log) r.1.log))
+          (subst (λ (lg : List Fact). Pairwise (FactMeans set) s.0.log lg) (sym log_is)
+          (subst (λ lg. Pairwise (FactMeans set) lg step.acts.between) (sym s.1.log) r.1.log))
           s.1.sound;
-      once = λ opening once. subst (λ (lg : List Fact). IsOnce opening lg (stores_of w'.nodes)) (sym log_is)
-          (once_same opening step.acts.between (stores_of w.nodes) (stores_of w'.nodes)
+      once = λ opening once. subst (λ (lg : List Fact). IsOnceSo (reuses_in set) opening lg (stores_of w'.nodes)) (sym log_is)
+          (once_same (reuses_in set) opening step.acts.between (stores_of w.nodes) (stores_of w'.nodes)
           (stores_same w.nodes w'.nodes i a b step.acts.nodes step.at (ap (λ (d : Node). d.store) node_is)) (r.1.once opening (stores_of w.nodes) once));
     },
   )

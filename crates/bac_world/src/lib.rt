@@ -11,6 +11,8 @@ ghost use Rattle.bac_protocol.specs.Pace.{IsTimely};
 ghost use Rattle.bac_world.specs.Claims.{AreChangesPermitted, AreEndedOnce, ArePerformedOnce, AreReplayed, AreServedApart};
 ghost use Rattle.bac_world.specs.Once.{Fact, HasNoChange, HasNoRestart, HasNoStranger, HasRequestsAlone, IsOnce, IsOnceAmongNodes, IsOnceByRequests};
 ghost use Rattle.bac_world.specs.Once.{IsOnceByRequestsAlone, IsOnceInOneLife, Stores};
+ghost use Rattle.bac_world.specs.ReusingLogs.{IsOnceSo, NoneReuses, Reuses};
+ghost use Rattle.bac_world.specs.ReusingWorlds.{WorldRunSo};
 ghost use Rattle.bac_world.specs.World.{World, Event, WorldRun, WorldStep, IsFresh, IsBounded, MakeNoRestart, MakeNoStray, MakeRequestsAlone};
 ghost use Rattle.bac_world.specs.World.{NeverRestarted, stores_of};
 
@@ -20,6 +22,20 @@ ghost use Rattle.bac_world.specs.World.{NeverRestarted, stores_of};
 pub fn at_most_once()
     ensures { (W overtake : ℕ) (w w' : World) → IsFresh w → IsTimely w.time.pace → IsBounded W overtake w → (events : List Event) → WorldRun overtake w events w'
         → IsOnce (stores_of w.nodes) w'.log (stores_of w'.nodes) }
+{}
+
+/// The same of worlds some of whose nodes let clients use an invoke ID again as soon as its transaction is over, whatever the setting of each node: every
+/// accepted ask takes effect at most once, but for a read at such a node, which it performs each time that it takes its request. Every ask ends at most once,
+/// and is answered with a reply that its server's store gave to it before.
+pub fn at_most_once_where_reused()
+    ensures { (W overtake : ℕ) (u : Reuses) (w w' : World) → IsFresh w → IsTimely w.time.pace → IsBounded W overtake w → (events : List Event)
+        → WorldRunSo overtake u w events w' → IsOnceSo u (stores_of w.nodes) w'.log (stores_of w'.nodes) }
+{}
+
+/// Where no node does so, a log that is right in those words is right.
+#[tactic(auto, using(crate::proofs::AsEver::once_ever))]
+pub fn none_reuses()
+    ensures { (u : Reuses) → NoneReuses u → (opening : Stores) (log : List Fact) (stores : Stores) → IsOnceSo u opening log stores → IsOnce opening log stores }
 {}
 
 /// Whatever strangers send: what a node performs for one of them under one invoke ID, between two of its restarts, is performed in entries that began more than

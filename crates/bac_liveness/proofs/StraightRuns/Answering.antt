@@ -1,4 +1,5 @@
 -- A straight run answers its ask.
+use Rattle.std.specs.Prelude.{None}
 use Rattle.std.specs.Option.{option_map}
 use Rattle.std.proofs.Common.{◌≡◌, ◌+◌, ◌≤◌, ◌<◌, ◌⊎◌, ℕ, suc, Bool, true, false, List, [], ◌∷◌, ◌++◌, length, Option, Some, slice_get, if◌then◌else◌, ◌&&◌}
 use Rattle.std.proofs.Common.{not, nat_eq, Ok, refl, sym, ap, subst, inl, inr, ◌∙◌, arith, append_assoc}
@@ -47,6 +48,7 @@ use Rattle.bac_world.specs.World.{World, Time, stores_of, told, peer_at}
 use Rattle.bac_world.proofs.Pairs.{pairwise_get}
 use Rattle.bac_world.proofs.Logs.{FactMeans, performed_as}
 use Rattle.bac_world.proofs.Bridge.{here_at, IsCopyOf, key_of, slot_key}
+use Rattle.bac_world.proofs.AsEver.{once_after}
 use Rattle.bac_world.proofs.Steps.{Over, Goes, stores_same}
 use Rattle.bac_world.proofs.Serving.{room_is}
 use Rattle.bac_world.proofs.Asking.{IsAccepted, accepted_is, asks_with, free_ticket, key_free}
@@ -75,7 +77,7 @@ equal_self k = grind (arith, nat_tests)
 
 -- The run as one of the machines.
 module _ (links : ℕ → Option Octets) (apart : (i j : ℕ) (l : Octets) → links i ≡ Some l → links j ≡ Some l → i ≡ j) (W : ℕ) (x : Rules)
-    (bound : IsBounded W x) (readable : x.readable ≡ reads_reply) (opening : Stores) (w : World) (n : Net) (h : Over links apart W x w n)
+    (bound : IsBounded W x) (readable : x.readable ≡ reads_reply) (opening : Stores) (w : World) (n : Net) (h : Over links apart W x None w n)
     (once : IsOnce opening w.log (stores_of w.nodes)) (i s : ℕ) (limits : Limits) (r : Request) (ending : Option Ending) (count : ℕ) (new : World)
     (run : IsStraight x.overtake w i s limits r ending count new) (b : Node) (there : slice_get w.nodes s ≡ Some b) where
   abbrev a : Node
@@ -113,8 +115,8 @@ module _ (links : ℕ → Option Octets) (apart : (i j : ℕ) (l : Octets) → l
   abbrev ask : Ask
   ask = record { first = here_at n i; choice = choice_of r; whole = parts.whole; pieces = pieces }
 
-  went : Goes links apart W x w run.asked (asked_at x n key ask)
-  went = asks_with links apart W x bound w run.asked n h i s limits r run.asks server_at parts
+  went : Goes links apart W x None w run.asked (asked_at x n key ask)
+  went = asks_with links apart W x None bound w run.asked n h i s limits r run.asks server_at parts
 
   free : (not (is_lost n key) && is_key_held (here_at n i) (n.tickets key)) ≡ false
   free = free_ticket (is_lost n key) (here_at n i) w.notes i (n.numbers key) (value_at same_key (slot_key run.asks.link parts.id) a.clients.slots)
@@ -147,7 +149,7 @@ module _ (links : ℕ → Option Octets) (apart : (i j : ℕ) (l : Octets) → l
   fit : Fit links apart W x bound readable opening run.asked v1
   fit = record {
     over = went.bridge;
-    once = went.once opening once;
+    once = once_after opening w.log run.asked.log (stores_of w.nodes) (stores_of run.asked.nodes) (went.once opening) once;
     stores = λ j. sym (stores_same w.nodes run.asked.nodes i a run.asks.after run.asks.nodes run.asks.at (ap (λ (d : Node). d.store) run.asks.asks.node) j);
   }
 
@@ -241,7 +243,7 @@ module _ (links : ℕ → Option Octets) (apart : (i j : ℕ) (l : Octets) → l
         let has = was_performed (Option Store) model x v0 key good
         (choice_of r) parts.front parts.rest m dead outcome way_goes serving parts.whole request_fits count
         end f.run (stops end f.fit) in
-        let was = performed_as n.asks (record { choice = choice_of r; service = join pieces }) m end.net.log new.log f.fit.over.log has in
+        let was = performed_as None n.asks (record { choice = choice_of r; service = join pieces }) m end.net.log new.log f.fit.over.log has in
         ap (λ (y : machine.Readable). y (choice_of r) (complex_spelling c)) readable
         ∙ means_read (choice_of r) (complex_spelling c) was.reply (subst (λ (y : machine.Reply). MeansReply (choice_of r) y was.reply) is was.means)
 
@@ -284,22 +286,22 @@ module _ (links : ℕ → Option Octets) (apart : (i j : ℕ) (l : Octets) → l
       machine_facts = machine_log.Fact.Ended n.asks (machine.Ending.Answered m) ∷ machine_log.Fact.Performed n.asks asked_octets m
           ∷ machine_log.Fact.Asked n.asks i s asked_octets ∷ n.log
 
-      log_means : Pairwise FactMeans machine_facts new.log
-      log_means = subst (λ lg. Pairwise FactMeans lg new.log) answered_so.log f.fit.over.log
+      log_means : Pairwise (FactMeans None) machine_facts new.log
+      log_means = subst (λ lg. Pairwise (FactMeans None) lg new.log) answered_so.log f.fit.over.log
 
       log_three : IsThree w.log new.log
       log_three =
           let more = f.grows in
           three_more w.log new.log (more.0 ++ (Fact.Asked (length w.notes) i s r ∷ []))
           (more.1 ∙ ap (λ l. more.0 ++ l) run.asks.log ∙ sym (append_assoc more.0 (Fact.Asked (length w.notes) i s r ∷ []) w.log))
-          (let e : suc (suc (suc (length n.log))) ≡ length new.log = pairwise_length FactMeans machine_facts new.log log_means in
-          let g : length n.log ≡ length w.log = pairwise_length FactMeans n.log w.log h.log in omega arith)
+          (let e : suc (suc (suc (length n.log))) ≡ length new.log = pairwise_length (FactMeans None) machine_facts new.log log_means in
+          let g : length n.log ≡ length w.log = pairwise_length (FactMeans None) n.log w.log h.log in omega arith)
 
       abbrev with_reply : ℕ → Reply → List Fact
       with_reply k y = three (Fact.Ended k (Answered y)) (Fact.Performed k r y) (Fact.Asked k i s r) w.log
 
-      means : Pairwise FactMeans machine_facts (three log_three.first log_three.second log_three.third w.log)
-      means = subst (Pairwise FactMeans machine_facts) log_three.is log_means
+      means : Pairwise (FactMeans None) machine_facts (three log_three.first log_three.second log_three.third w.log)
+      means = subst (Pairwise (FactMeans None) machine_facts) log_three.is log_means
 
       facts : AreFacts opening (stores_of new.nodes) n.asks i s (choice_of r) (join pieces) r spelled m w.log log_three.first log_three.second log_three.third
       facts = facts_are opening (stores_of new.nodes) n.asks i s (choice_of r) (join pieces) r spelled m w.log log_three.first log_three.second log_three.third

@@ -34,7 +34,8 @@ use Rattle.bac_world.specs.World as world
 use Rattle.bac_world.proofs.NodeLaws.{drops_exactly}
 use Rattle.bac_world.proofs.Pairs.{IsPaired, pairwise_get}
 use Rattle.bac_world.proofs.Bridge.{IsCopyOf, IsBetween, slot_key, framed_means, later_alike}
-use Rattle.bac_world.proofs.Steps.{Over, Goes, stores_same}
+use Rattle.bac_world.proofs.AsEver.{once_after}
+use Rattle.bac_world.proofs.Steps.{Over, Goes, acts_as, stores_same}
 use Rattle.bac_world.proofs.Serving.{room_is, serves, served_so}
 use Rattle.bac_world.proofs.Clients.{hears}
 use Rattle.bac_liveness.proofs.StraightRuns.Posts.{AreOwn, own_more, own_at}
@@ -57,7 +58,7 @@ module _ (links : ℕ → Option Octets) (apart : (i j : ℕ) (l : Octets) → l
     (bound : IsBounded W x) (readable : x.readable ≡ reads_reply) (opening : Stores) where
   -- the machines' world is that of the datagrams
   pub record Fit (w : World) (v : Machines) : Type 0 where
-    pub over : Over links apart W x w v.net
+    pub over : Over links apart W x None w v.net
     pub once : IsOnce opening w.log (stores_of w.nodes)
     pub stores : (i : ℕ) → v.stores i ≡ stores_of w.nodes i
 
@@ -93,7 +94,7 @@ module _ (links : ℕ → Option Octets) (apart : (i j : ℕ) (l : Octets) → l
     abbrev n : Net
     n = v.net
 
-    h : Over links apart W x w n
+    h : Over links apart W x None w n
     h = f.over
 
     post : IsPaired (IsCopyOf links apart) n.posts number c
@@ -149,7 +150,7 @@ module _ (links : ℕ → Option Octets) (apart : (i j : ℕ) (l : Octets) → l
             ∙ ap (λ (y : Node). is_free (told w key.server) y.servers) same ∙ yes;
         fit = subst (λ (y : Machines). Fit w' y) (sym becomes) (record {
           over = s.0.bridge;
-          once = s.0.once opening f.once;
+          once = once_after opening w.log w'.log (stores_of w.nodes) (stores_of w'.nodes) (s.0.once opening) f.once;
           stores = stores_fit v.stores w.nodes w'.nodes f.stores p.key.server a b node' acts'.nodes (slot_key l p.key.invoke_id) u.effect o.performed s.1
               (ap (λ (y : Node). y.store) turn.node);
         });
@@ -170,10 +171,11 @@ module _ (links : ℕ → Option Octets) (apart : (i j : ℕ) (l : Octets) → l
           acts' = subst (λ (i : ℕ). Acts w i b o w') to_is acts
 
           u : server.Reaction
-          u = served_so links apart W x n p (service_of a.store) a.servers
+          u = served_so links apart W x None n p (service_of a.store) l a.servers
 
-          s : Goes links apart W x w w' (net.server_acts n p.key u) × ArePerformed a.store (act_at (slot_key l p.key.invoke_id) u.effect) o.performed
-          s = serves links apart W x bound w w' n h number p c post.there post.goes young few up from_is to_is a b o node l link (service_of a.store) turn acts
+          s : Goes links apart W x None w w' (net.server_acts n p.key u) × ArePerformed a.store (act_at (slot_key l p.key.invoke_id) u.effect) o.performed
+          s = serves links apart W x None bound w w' n h number p c post.there post.goes young few up from_is to_is a b o node l link (service_of a.store) turn
+              (acts_as w w' c.to b o acts)
 
           reacts : Service → Machines
           reacts y = net.serves (Option Store) model v p.key (server_on_apdu (server_context x p.key (server_now n p.key)) y (n.entries p.key) free p.copy.apdu)
@@ -192,8 +194,8 @@ module _ (links : ℕ → Option Octets) (apart : (i j : ℕ) (l : Octets) → l
         free = true;
         slot = λ b' at' yes. refl;
         fit = subst (λ (y : Machines). Fit w' y) (sym becomes) (record {
-          over = subst (λ (m : Net). Over links apart W x w' m) (sym (at_client_net v p (n.tickets p.key))) goes.bridge;
-          once = goes.once opening f.once;
+          over = subst (λ (m : Net). Over links apart W x None w' m) (sym (at_client_net v p (n.tickets p.key))) goes.bridge;
+          once = once_after opening w.log w'.log (stores_of w.nodes) (stores_of w'.nodes) (goes.once opening) f.once;
           stores = λ j. ap (λ (g : ℕ → Option Store). g j) (at_client_stores v p (n.tickets p.key)) ∙ f.stores j
               ∙ sym (stores_same w.nodes w'.nodes c.to a b acts.nodes node (ap (λ (y : Node). y.store) turn.node) j);
         });
@@ -204,8 +206,8 @@ module _ (links : ℕ → Option Octets) (apart : (i j : ℕ) (l : Octets) → l
         grows = acts_grow w w' c.to b o acts;
       }
         where
-          goes : Goes links apart W x w w' (taken_by_client x n p (n.tickets p.key))
-          goes = hears links apart W x bound readable w w' n h number p c post.there post.goes young few down from_is to_is a b o node l link turn acts
+          goes : Goes links apart W x None w w' (taken_by_client x n p (n.tickets p.key))
+          goes = hears links apart W x None bound readable w w' n h number p c post.there post.goes young few down from_is to_is a b o node l link turn acts
 
           becomes : with_free v number true ≡ takes_at_client (Option Store) x v p.key p.copy.apdu (n.tickets p.key)
           becomes = reaches true is false down

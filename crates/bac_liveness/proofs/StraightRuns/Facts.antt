@@ -1,4 +1,5 @@
 -- What three facts of the machines' log mean.
+use Rattle.std.specs.Prelude.{None}
 use Rattle.std.proofs.Common.{◌≡◌, ℕ, suc, ◌+◌, List, [], ◌∷◌, ◌++◌, length, refl, sym, ap, subst, inl, inr, ◌∙◌, arith, length-append}
 use Rattle.bac_service.specs.Values.{Request}
 use Rattle.bac_service.specs.Replies.{Reply}
@@ -67,10 +68,10 @@ module _ (opening stores : Stores) (n c s choice : ℕ) (octets : Octets) (r : R
     pub reply' : Reply
     pub is : three x y z log ≡ three (Ended n (Answered reply')) (Performed n r reply') (Asked n c s r) log
 
-  pub facts_are : (x y z : Fact) → FactMeans ended x → FactMeans performed y → FactMeans asked z → IsOnce opening (three x y z log) stores → AreFacts x y z
+  pub facts_are : (x y z : Fact) → FactMeans None ended x → FactMeans None performed y → FactMeans None asked z → IsOnce opening (three x y z log) stores → AreFacts x y z
   facts_are (Ended i how) (Performed j q v) (Asked k a b u) hx hy hz once = go how hx once
     where
-      go : (how : _) → FactMeans ended (Ended i how) → IsOnce opening (three (Ended i how) (Performed j q v) (Asked k a b u) log) stores
+      go : (how : _) → FactMeans None ended (Ended i how) → IsOnce opening (three (Ended i how) (Performed j q v) (Asked k a b u) log) stores
           → AreFacts (Ended i how) (Performed j q v) (Asked k a b u)
       go (Answered y) hx once =
           let q_is : q ≡ r = one_request choice q r octets hy.1 spelled in

@@ -41,9 +41,9 @@ module _ (W overtake : ℕ) (first old : World) (fresh : IsFresh first) (timely 
   bounded : claims.IsBounded W x
   bounded = rules_bounded W overtake first bound
 
-  reached : (n : Net) × Over links fresh.apart W x old n × IsOnce (stores_of first.nodes) old.log (stores_of old.nodes)
+  reached : (n : Net) × Over links fresh.apart W x None old n × IsOnce (stores_of first.nodes) old.log (stores_of old.nodes)
   reached = run_over links fresh.apart W x bounded refl (stores_of first.nodes) events first old
-      (opened_net first) (fresh_over W overtake first fresh timely bound)
+      (opened_net first) (fresh_over None W overtake first fresh timely bound)
       (subst (λ l. IsOnce (stores_of first.nodes) l (stores_of first.nodes)) (sym fresh.log) (λ node. refl)) run
 
   pub straight_answers : StraightAnswers overtake old
@@ -76,7 +76,7 @@ module _ (W overtake : ℕ) (first old : World) (fresh : IsFresh first) (timely 
       go true e = absurd cc
       go false e = refl
 
-  module _ (n : Net) (h : Over links fresh.apart W x old n) (i j : ℕ) (a b : Node) (at : slice_get old.nodes i ≡ Some a)
+  module _ (n : Net) (h : Over links fresh.apart W x None old n) (i j : ℕ) (a b : Node) (at : slice_get old.nodes i ≡ Some a)
       (there : slice_get old.nodes j ≡ Some b) (id : ℕ) (free : is_id_held (told old i) a.clients.slots (peer_at b.link) id ≡ false)
       (awake : waits_to_ask (told old i) a.clients ≡ false) where
     abbrev key : Key

@@ -51,7 +51,7 @@ module _ (gone : Bool) (now : ℕ) (notes : List Note) (client number : ℕ) whe
   closed_slot (Some s) o fit e = closed_held gone now notes client number s.number s.held o fit e
 
 module _ (links : ℕ → Option Octets) (apart : (i j : ℕ) (l : Octets) → links i ≡ Some l → links j ≡ Some l → i ≡ j) (W : ℕ) (x : Rules) (w : World) (n : Net)
-    (h : Over links apart W x w n) (key : Key) (l : Octets) (at : links key.server ≡ Some l) where
+    (h : Over links apart W x None w n) (key : Key) (l : Octets) (at : links key.server ≡ Some l) where
   fit_of : (a : Node) → slice_get w.nodes key.client ≡ Some a
       → TicketFits (is_lost n key) (here_at n key.client) w.notes key.client (n.numbers key) (value_at same_key (slot_key l key.invoke_id) a.clients.slots)
       (n.tickets key)

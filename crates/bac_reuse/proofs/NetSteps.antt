@@ -1,5 +1,5 @@
--- Steps of a world of bac_protocol that keep what holds of it: those of its machines, and others that no event makes, in which a server answers with Aborts
--- in time, or a client gives up in time.
+-- Steps of a net of bac_protocol that keep what holds of it: those of its machines, and others that no move makes, in which a server answers with Aborts in
+-- time, or a client gives up in time.
 use Rattle.std.proofs.Common.{◌≡◌, ℕ, ◌+◌, ◌-◌, ◌<◌, ◌≤◌, ◌⊎◌, Bool, true, false, List, [], ◌∷◌, length, Option, Some, None, slice_get}
 use Rattle.std.proofs.Common.{if◌then◌else◌, refl, sym, subst, inl, inr, ◌∙◌, arith}
 use Rattle.std.proofs.lemmas.Bool.Decides.{nat_tests}
@@ -9,18 +9,19 @@ use Rattle.bac_protocol.specs.declared.times.TheConstants.{KEEP}
 use Rattle.bac_protocol.specs.Pace.{IsTimely, Pace, Since, clock_at, most}
 use Rattle.bac_protocol.specs.Service.{Ending, OTHER, Octets}
 use Rattle.bac_protocol.specs.Service.Ending.{Aborted}
+use Rattle.bac_protocol.specs.Service.Outcome.{Rejects}
 use Rattle.bac_protocol.specs.Wire.{Each, is_from_client}
 use Rattle.bac_protocol.specs.Client as client
 use Rattle.bac_protocol.specs.Client.{Ask, ClientTransaction, is_idle, request_of}
 use Rattle.bac_protocol.specs.Client.Reaction.{Ends, Stays}
 use Rattle.bac_protocol.specs.Server as server
-use Rattle.bac_protocol.specs.Server.{Effect, ServerTransaction, is_live}
-use Rattle.bac_protocol.specs.Log.{Fact, IsOrderly, StoreModel}
+use Rattle.bac_protocol.specs.Server.{ServerTransaction, Service, is_live}
+use Rattle.bac_protocol.specs.Log.{Fact, IsOrderly}
 use Rattle.bac_protocol.specs.Log.Fact.{Asked, AskedAway, Changed, Ended, EndedAway}
 use Rattle.bac_protocol.specs.Own.{IsOwnEntry}
 use Rattle.bac_protocol.specs.Transaction.{Copy, Key, Rules, client_context, ended_away, server_context}
-use Rattle.bac_protocol.specs.World.{Net, Strangers, World, asked_at, asked_away_at, client_acts, client_acts_away, client_now, client_restarted, is_id_held, is_room}
-use Rattle.bac_protocol.specs.World.{net_start, notes_change, passes, reacts, server_acts, server_now, server_restarted, serves, service_of, set_at}
+use Rattle.bac_protocol.specs.World.{Net, Strangers, asked_at, asked_away_at, client_acts, client_acts_away, client_now, client_restarted, is_id_held, is_room}
+use Rattle.bac_protocol.specs.World.{net_start, notes_change, passes, server_acts, server_now, server_restarted, set_at}
 use Rattle.bac_protocol.specs.Claims.{EachCopy, IsBounded, Moments, client_until, moments_of, server_until}
 use Rattle.bac_protocol.proofs.Alone.{client_does, one, sent, server_does}
 use Rattle.bac_protocol.proofs.Calm.{Calm, IsBegunBy, IsCalm, calm_asked, calm_changed, calm_client, calm_client_restarted, calm_gets, calm_later, calm_server}
@@ -85,7 +86,7 @@ each_abort : (P : Apdu → Type 0) (id : ℕ) → P (Abort true id OTHER) → (s
 each_abort P id h [] = tt
 each_abort P id h (a ∷ more) = (h, each_abort P id h more)
 
--- what holds of a world of bac_protocol, whatever its stores are
+-- what holds of a net of bac_protocol
 pub record Stands (W : ℕ) (n : Net) : Type 0 where
   pub net : NetSound W n
   pub calm : Calm n
@@ -182,139 +183,136 @@ module _ (W : ℕ) (n : Net) (s : Stands W n) where
         n.log tt s.away;
   }
 
-module _ (S : Type 0) (model : StoreModel S) (W : ℕ) (x : Rules) (bound : IsBounded W x) where
-  abbrev KeptAt : World S → Type 0
-  KeptAt w = Stands W w.net
-
+module _ (W : ℕ) (x : Rules) (bound : IsBounded W x) where
   -- What each machine does.
 
-  pub reacts_keep : (w : World S) → KeptAt w → (key : Key) (t : ClientTransaction) (r : client.Reaction) → NetSound W (client_acts w.net key t r)
-      → Calm (client_acts w.net key t r) → KeptAt (reacts S w key t r)
-  reacts_keep w s key t r sound calm = record {
+  pub reacts_keep : (n : Net) → Stands W n → (key : Key) (t : ClientTransaction) (r : client.Reaction) → NetSound W (client_acts n key t r)
+      → Calm (client_acts n key t r) → Stands W (client_acts n key t r)
+  reacts_keep n s key t r sound calm = record {
     net = sound;
     calm = calm;
-    away = away_ended w.net.server_clocks w.net.serves_from w.net.far (w.net.numbers key) (client.ending_of r) w.net.log s.away;
+    away = away_ended n.server_clocks n.serves_from n.far (n.numbers key) (client.ending_of r) n.log s.away;
   }
 
-  pub serves_keep : (w : World S) → KeptAt w → (key : Key) (v : server.Reaction) → NetSound W (server_acts w.net key v) → Calm (server_acts w.net key v)
-      → KeptAt (serves S model w key v)
-  serves_keep w s key v sound calm = record {
+  pub serves_keep : (n : Net) → Stands W n → (key : Key) (v : server.Reaction) → NetSound W (server_acts n key v) → Calm (server_acts n key v)
+      → Stands W (server_acts n key v)
+  serves_keep n s key v sound calm = record {
     net = sound;
     calm = calm;
-    away = away_performed w.net.server_clocks w.net.serves_from w.net.far (w.net.numbers key) v.effect w.net.log s.away;
+    away = away_performed n.server_clocks n.serves_from n.far (n.numbers key) v.effect n.log s.away;
   }
 
-  module _ (w : World S) (s : KeptAt w) (key : Key) (t : ClientTransaction) (at : w.net.tickets key ≡ Some t) where
+  module _ (n : Net) (s : Stands W n) (key : Key) (t : ClientTransaction) (at : n.tickets key ≡ Some t) where
     abbrev Says_at : (m k : ℕ) → Apdu → Type 0
     Says_at m k a =
-        let f = sound_at W w.net key (Some t) at s.net in
-        Says W (moments_of w.net key) (w.net.numbers key) t.ask w.net.log f.0 f.1 m k a
+        let f = sound_at W n key (Some t) at s.net in
+        Says W (moments_of n key) (n.numbers key) t.ask n.log f.0 f.1 m k a
 
-    pub ticket_stays : KeptAt (reacts S w key t Stays)
-    ticket_stays = reacts_keep w s key t Stays (net_client W w.net key t at s.net Stays (sound_at W w.net key (Some t) at s.net))
-        (calm_client w.net s.calm key t at Stays (λ idle. refl))
+    pub ticket_stays : Stands W (client_acts n key t Stays)
+    ticket_stays = reacts_keep n s key t Stays (net_client W n key t at s.net Stays (sound_at W n key (Some t) at s.net))
+        (calm_client n s.calm key t at Stays (λ idle. refl))
 
-    pub ticket_ticks : KeptAt (reacts S w key t (client.client_ticks (client_context x key (client_now w.net key)) t))
+    pub ticket_ticks : Stands W (client_acts n key t (client.client_ticks (client_context x key (client_now n key)) t))
     ticket_ticks =
-        let f = sound_at W w.net key (Some t) at s.net in
-        let c = client_context x key (client_now w.net key) in
+        let f = sound_at W n key (Some t) at s.net in
+        let c = client_context x key (client_now n key) in
         let r = client.client_ticks c t in
-        reacts_keep w s key t r (net_client W w.net key t at s.net r
+        reacts_keep n s key t r (net_client W n key t at s.net r
         (client_ticks_kept W x.overtake bound.some bound.room (x.settings key.client) (bound.windows key.client) x.readable key
-        (one w.net key) t f.0 f.1 f.2))
-        (calm_client w.net s.calm key t at r (ended_is_silent.ticks c t))
+        (one n key) t f.0 f.1 f.2))
+        (calm_client n s.calm key t at r (ended_is_silent.ticks c t))
 
     pub ticket_gets : (m k : ℕ) → k ≤ x.overtake → (a : Apdu) → Says_at m k a
-        → KeptAt (reacts S w key t (client.client_on_apdu (client_context x key (client_now w.net key)) x.readable t a))
+        → Stands W (client_acts n key t (client.client_on_apdu (client_context x key (client_now n key)) x.readable t a))
     ticket_gets m k few a says =
-        let f = sound_at W w.net key (Some t) at s.net in
-        let c = client_context x key (client_now w.net key) in
+        let f = sound_at W n key (Some t) at s.net in
+        let c = client_context x key (client_now n key) in
         let r = client.client_on_apdu c x.readable t a in
-        reacts_keep w s key t r (net_client W w.net key t at s.net r
+        reacts_keep n s key t r (net_client W n key t at s.net r
         (client_gets_kept W x.overtake bound.some bound.room (x.settings key.client) (bound.windows key.client) x.readable key
-        (one w.net key) t f.0 f.1 f.2 m k few a says))
-        (calm_client w.net s.calm key t at r (ended_is_silent.gets c x.readable t a))
+        (one n key) t f.0 f.1 f.2 m k few a says))
+        (calm_client n s.calm key t at r (ended_is_silent.gets c x.readable t a))
 
-    pub entry_gets : (k : ℕ) → k ≤ x.overtake → (p : Copy) → slice_get (one w.net key).copies k ≡ Some p → w.net.now - p.moment ≤ w.net.pace.life
-        → is_from_client p.apdu ≡ true → Says_at p.moment k p.apdu → (free : Bool)
-        → KeptAt (serves S model w key (server.server_on_apdu (server_context x key (server_now w.net key)) (service_of S model w key) (w.net.entries key)
-        (is_room w.net key free) p.apdu))
-    entry_gets k few p place young way says free =
-        let f = sound_at W w.net key (Some t) at s.net in
-        let c = server_context x key (server_now w.net key) in
-        let v = server.server_on_apdu c (service_of S model w key) (w.net.entries key) (is_room w.net key free) p.apdu in
-        serves_keep w s key v
-        (net_server W w.net key t at s.net v
-        (server_gets_kept W x.overtake bound.some bound.room (x.settings key.server) (bound.windows key.server) (service_of S model w key) key
-        (one w.net key) t (w.net.entries key) f.0 f.1 f.2 (is_room w.net key free) (room_opens w.net key free) p.moment k few young p.apdu says))
-        (calm_gets w.net s.calm key c refl refl (service_of S model w key) (is_room w.net key free) (room_opens w.net key free) k p place young way)
+    pub entry_gets : (k : ℕ) → k ≤ x.overtake → (p : Copy) → slice_get (one n key).copies k ≡ Some p → n.now - p.moment ≤ n.pace.life
+        → is_from_client p.apdu ≡ true → Says_at p.moment k p.apdu → (service : Service) (free : Bool)
+        → Stands W (server_acts n key (server.server_on_apdu (server_context x key (server_now n key)) service (n.entries key)
+        (is_room n key free) p.apdu))
+    entry_gets k few p place young way says service free =
+        let f = sound_at W n key (Some t) at s.net in
+        let c = server_context x key (server_now n key) in
+        let v = server.server_on_apdu c service (n.entries key) (is_room n key free) p.apdu in
+        serves_keep n s key v
+        (net_server W n key t at s.net v
+        (server_gets_kept W x.overtake bound.some bound.room (x.settings key.server) (bound.windows key.server) service key
+        (one n key) t (n.entries key) f.0 f.1 f.2 (is_room n key free) (room_opens n key free) p.moment k few young p.apdu says))
+        (calm_gets n s.calm key c refl refl service (is_room n key free) (room_opens n key free) k p place young way)
 
-    pub entry_ticks : KeptAt (serves S model w key (server.server_ticks (server_context x key (server_now w.net key)) (w.net.entries key)))
+    pub entry_ticks : Stands W (server_acts n key (server.server_ticks (server_context x key (server_now n key)) (n.entries key)))
     entry_ticks =
-        let f = sound_at W w.net key (Some t) at s.net in
-        let c = server_context x key (server_now w.net key) in
-        let v = server.server_ticks c (w.net.entries key) in
-        serves_keep w s key v
-        (net_server W w.net key t at s.net v (server_ticks_kept W x.overtake bound.some bound.room (x.settings key.server) (bound.windows key.server)
-        (service_of S model w key) key (one w.net key) t (w.net.entries key) f.0 f.1 f.2))
-        (calm_ticks w.net s.calm key c refl refl)
+        let f = sound_at W n key (Some t) at s.net in
+        let c = server_context x key (server_now n key) in
+        let v = server.server_ticks c (n.entries key) in
+        serves_keep n s key v
+        (net_server W n key t at s.net v (server_ticks_kept W x.overtake bound.some bound.room (x.settings key.server) (bound.windows key.server)
+        (λ choice octets. Rejects 0) key (one n key) t (n.entries key) f.0 f.1 f.2))
+        (calm_ticks n s.calm key c refl refl)
 
     -- Times.
 
-    calm_at : IsCalm (w.net.asks_from key.client) (moments_of w.net key) key (Some t) (w.net.entries key) (one w.net key).copies
-    calm_at = subst (λ (o : Option ClientTransaction). IsCalm (w.net.asks_from key.client) (moments_of w.net key) key o (w.net.entries key) (one w.net key).copies)
+    calm_at : IsCalm (n.asks_from key.client) (moments_of n key) key (Some t) (n.entries key) (one n key).copies
+    calm_at = subst (λ (o : Option ClientTransaction). IsCalm (n.asks_from key.client) (moments_of n key) key o (n.entries key) (one n key).copies)
         at (s.calm key)
 
     -- an entry that is live was begun for the ask
-    begun_at : (e : ServerTransaction) → w.net.entries key ≡ Some e → is_live (server_now w.net key) e ≡ true
-        → (up : Up) × (down : Down) × IsBegunFor W (moments_of w.net key) (w.net.numbers key) t.ask e up down w.net.log
+    begun_at : (e : ServerTransaction) → n.entries key ≡ Some e → is_live (server_now n key) e ≡ true
+        → (up : Up) × (down : Down) × IsBegunFor W (moments_of n key) (n.numbers key) t.ask e up down n.log
     begun_at e is live =
-        let f = sound_at W w.net key (Some t) at s.net in
-        (f.0, f.1, go (subst (λ (o : Option ServerTransaction). ServerFits W (moments_of w.net key) (w.net.numbers key) t.ask o f.0 f.1 w.net.log) is (f.2).server))
+        let f = sound_at W n key (Some t) at s.net in
+        (f.0, f.1, go (subst (λ (o : Option ServerTransaction). ServerFits W (moments_of n key) (n.numbers key) t.ask o f.0 f.1 n.log) is (f.2).server))
       where
-        go : {up : Up} {down : Down} → IsPastFor (moments_of w.net key) (w.net.numbers key) t.ask e up down w.net.log
-            ⊎ IsBegunFor W (moments_of w.net key) (w.net.numbers key) t.ask e up down w.net.log
-            → IsBegunFor W (moments_of w.net key) (w.net.numbers key) t.ask e up down w.net.log
+        go : {up : Up} {down : Down} → IsPastFor (moments_of n key) (n.numbers key) t.ask e up down n.log
+            ⊎ IsBegunFor W (moments_of n key) (n.numbers key) t.ask e up down n.log
+            → IsBegunFor W (moments_of n key) (n.numbers key) t.ask e up down n.log
         go (inl past) = let dead = past.dead in absurd (grind (arith, nat_tests))
         go (inr begun) = begun
 
-    pub entry_in_time : (e : ServerTransaction) → w.net.entries key ≡ Some e → is_live (server_now w.net key) e ≡ true → IsInTime w.net key
+    pub entry_in_time : (e : ServerTransaction) → n.entries key ≡ Some e → is_live (server_now n key) e ≡ true → IsInTime n key
     entry_in_time e is live = record { late = late; lost = lost }
       where
-        le : server_now w.net key ≤ e.begin + KEEP
+        le : server_now n key ≤ e.begin + KEEP
         le = grind (arith, nat_tests)
 
-        late : w.net.now ≤ server_until (moments_of w.net key)
+        late : n.now ≤ server_until (moments_of n key)
         late =
-            let f = sound_at W w.net key (Some t) at s.net in
+            let f = sound_at W n key (Some t) at s.net in
             let begun = (begun_at e is live).2.begun in
             let before = begun.before in
-            let within = within_most w.net.pace (f.2).clock.timely KEEP begun.began e.begin w.net.now (w.net.server_clocks key.server) (f.2).clock.server
+            let within = within_most n.pace (f.2).clock.timely KEEP begun.began e.begin n.now (n.server_clocks key.server) (f.2).clock.server
             begun.since le in
             omega arith
 
-        lost : w.net.made key < w.net.restarted key.client → w.net.now < w.net.restarted key.client + w.net.pace.life + most w.net.pace KEEP
+        lost : n.made key < n.restarted key.client → n.now < n.restarted key.client + n.pace.life + most n.pace KEEP
         lost gone =
-            let over = subst (λ (o : Option ServerTransaction). BeginIs (λ begin. IsBegunBy w.net.pace w.net.now (w.net.server_clocks key.server)
-            (w.net.restarted key.client + w.net.pace.life) begin) o) is (calm_at.left gone).entry_over in
-            let within = within_most w.net.pace calm_at.timely KEEP over.began e.begin w.net.now (w.net.server_clocks key.server) calm_at.server over.since le in
+            let over = subst (λ (o : Option ServerTransaction). BeginIs (λ begin. IsBegunBy n.pace n.now (n.server_clocks key.server)
+            (n.restarted key.client + n.pace.life) begin) o) is (calm_at.left gone).entry_over in
+            let within = within_most n.pace calm_at.timely KEEP over.began e.begin n.now (n.server_clocks key.server) calm_at.server over.since le in
             let before = over.before in
             omega arith
 
-    pub copy_is_soon : (k : ℕ) (p : Copy) → slice_get (one w.net key).copies k ≡ Some p → w.net.now - p.moment ≤ w.net.pace.life
-        → is_from_client p.apdu ≡ true → IsSoon w.net key
+    pub copy_is_soon : (k : ℕ) (p : Copy) → slice_get (one n key).copies k ≡ Some p → n.now - p.moment ≤ n.pace.life
+        → is_from_client p.apdu ≡ true → IsSoon n key
     copy_is_soon k p place young way = record { soon = soon; lost = lost }
       where
-        soon : w.net.now ≤ client_until (moments_of w.net key) + w.net.pace.life
+        soon : n.now ≤ client_until (moments_of n key) + n.pace.life
         soon =
-            let f = sound_at W w.net key (Some t) at s.net in
-            let le = says_client W (moments_of w.net key) (w.net.numbers key) t.ask w.net.log f.0 f.1 p.moment k p.apdu way
+            let f = sound_at W n key (Some t) at s.net in
+            let le = says_client W (moments_of n key) (n.numbers key) t.ask n.log f.0 f.1 p.moment k p.apdu way
             ((f.2).arriving k p place young).1 in
             omega arith
 
-        lost : w.net.made key < w.net.restarted key.client → w.net.now < w.net.restarted key.client + w.net.pace.life
+        lost : n.made key < n.restarted key.client → n.now < n.restarted key.client + n.pace.life
         lost gone =
-            let over = subst (λ (b : Bool). p.moment < w.net.restarted key.client + (if b then 0 else w.net.pace.life + most w.net.pace KEEP)) way
+            let over = subst (λ (b : Bool). p.moment < n.restarted key.client + (if b then 0 else n.pace.life + most n.pace KEEP)) way
             ((calm_at.left gone).copies_over k p place) in
             omega arith
 
@@ -322,15 +320,15 @@ module _ (S : Type 0) (model : StoreModel S) (W : ℕ) (x : Rules) (bound : IsBo
 
     -- the entry is as it was, or it begins anew
     abbrev pub BeginsAgain : Option ServerTransaction → Type 0
-    BeginsAgain o = (o ≡ w.net.entries key) ⊎ ((e : ServerTransaction) × (w.net.entries key ≡ Some e) × (is_live (server_now w.net key) e ≡ true)
-        × (o ≡ Some (record e { begin = server_now w.net key })) × IsSoon w.net key × (w.net.serves_from key.server ≤ server_now w.net key))
+    BeginsAgain o = (o ≡ n.entries key) ⊎ ((e : ServerTransaction) × (n.entries key ≡ Some e) × (is_live (server_now n key) e ≡ true)
+        × (o ≡ Some (record e { begin = server_now n key })) × IsSoon n key × (n.serves_from key.server ≤ server_now n key))
 
-    module _ (time : IsInTime w.net key) (sends : List Apdu) where
-      sound_with : (o : Option ServerTransaction) → ((up : Up) (down : Down) → Sound W key (moments_of w.net key) w.net.asks (w.net.numbers key) t (w.net.entries key)
-          (one w.net key).copies w.net.log up down → ServerFits W (moments_of w.net key) (w.net.numbers key) t.ask o up down w.net.log)
-          → IsSound W key (server_does (record (one w.net key) { ticket = Some t }) (server.rests o (aborts key.invoke_id sends)))
+    module _ (time : IsInTime n key) (sends : List Apdu) where
+      sound_with : (o : Option ServerTransaction) → ((up : Up) (down : Down) → Sound W key (moments_of n key) n.asks (n.numbers key) t (n.entries key)
+          (one n key).copies n.log up down → ServerFits W (moments_of n key) (n.numbers key) t.ask o up down n.log)
+          → IsSound W key (server_does (record (one n key) { ticket = Some t }) (server.rests o (aborts key.invoke_id sends)))
       sound_with o fits =
-          let f = sound_at W w.net key (Some t) at s.net in
+          let f = sound_at W n key (Some t) at s.net in
           let q = f.2 in (
             f.0,
             f.1,
@@ -347,28 +345,28 @@ module _ (S : Type 0) (model : StoreModel S) (W : ℕ) (x : Rules) (bound : IsBo
               server = fits f.0 f.1 q;
               upload = q.upload;
               download = q.download;
-              arriving = copies_go W (moments_of w.net key) (w.net.numbers key) t.ask w.net.log w.net.log f.0 f.0 f.1 f.1 (aborts key.invoke_id sends)
-                  (one w.net key).copies (grows_same w.net.log) (up_same (length (aborts key.invoke_id sends)) f.0)
+              arriving = copies_go W (moments_of n key) (n.numbers key) t.ask n.log n.log f.0 f.0 f.1 f.1 (aborts key.invoke_id sends)
+                  (one n key).copies (grows_same n.log) (up_same (length (aborts key.invoke_id sends)) f.0)
                   (down_same (length (aborts key.invoke_id sends)) f.1) q.clock.on
-                  (each_abort (λ a. (k : ℕ) → Says W (moments_of w.net key) (w.net.numbers key) t.ask w.net.log f.0 f.1 w.net.now k a) key.invoke_id
+                  (each_abort (λ a. (k : ℕ) → Says W (moments_of n key) (n.numbers key) t.ask n.log f.0 f.1 n.now k a) key.invoke_id
                   (λ k. time.late) sends)
                   q.arriving;
             },
           )
 
       calm_with : (o : Option ServerTransaction) → IsOwnEntry key.invoke_id o
-          → BeginIs (λ begin. IsBegunBy w.net.pace w.net.now (w.net.server_clocks key.server) (w.net.now + 1) begin) o
-          → BeginIs (λ begin. w.net.serves_from key.server ≤ begin) o
-          → (w.net.made key < w.net.restarted key.client
-          → BeginIs (λ begin. IsBegunBy w.net.pace w.net.now (w.net.server_clocks key.server) (w.net.restarted key.client + w.net.pace.life) begin) o)
-          → Calm (server_acts w.net key (server.rests o (aborts key.invoke_id sends)))
-      calm_with o own begun opened over = calm_server w.net s.calm key (server.rests o (aborts key.invoke_id sends))
-          (subst (λ (q : Option ClientTransaction). IsCalm (w.net.asks_from key.client) (moments_of w.net key) key q o
-          (sent w.net.now (aborts key.invoke_id sends) (one w.net key).copies)) (sym at) (record {
+          → BeginIs (λ begin. IsBegunBy n.pace n.now (n.server_clocks key.server) (n.now + 1) begin) o
+          → BeginIs (λ begin. n.serves_from key.server ≤ begin) o
+          → (n.made key < n.restarted key.client
+          → BeginIs (λ begin. IsBegunBy n.pace n.now (n.server_clocks key.server) (n.restarted key.client + n.pace.life) begin) o)
+          → Calm (server_acts n key (server.rests o (aborts key.invoke_id sends)))
+      calm_with o own begun opened over = calm_server n s.calm key (server.rests o (aborts key.invoke_id sends))
+          (subst (λ (q : Option ClientTransaction). IsCalm (n.asks_from key.client) (moments_of n key) key q o
+          (sent n.now (aborts key.invoke_id sends) (one n key).copies)) (sym at) (record {
             timely = calm_at.timely;
             client = calm_at.client;
             server = calm_at.server;
-            sent = sent_by_now w.net.now (aborts key.invoke_id sends) (one w.net key).copies calm_at.sent;
+            sent = sent_by_now n.now (aborts key.invoke_id sends) (one n key).copies calm_at.sent;
             begun = begun;
             opened = opened;
             own = own;
@@ -377,89 +375,89 @@ module _ (S : Type 0) (model : StoreModel S) (W : ℕ) (x : Rules) (bound : IsBo
                 let left = calm_at.left gone in
                 record {
                   idle = left.idle;
-                  copies_over = each_sent (λ k c. c.moment < w.net.restarted key.client + (if is_from_client c.apdu then 0 else w.net.pace.life + most w.net.pace KEEP))
-                      w.net.now (aborts key.invoke_id sends) (one w.net key).copies
-                      (each_abort (λ a. (k : ℕ) → w.net.now < w.net.restarted key.client + (if is_from_client a then 0 else w.net.pace.life + most w.net.pace KEEP))
+                  copies_over = each_sent (λ k c. c.moment < n.restarted key.client + (if is_from_client c.apdu then 0 else n.pace.life + most n.pace KEEP))
+                      n.now (aborts key.invoke_id sends) (one n key).copies
+                      (each_abort (λ a. (k : ℕ) → n.now < n.restarted key.client + (if is_from_client a then 0 else n.pace.life + most n.pace KEEP))
                       key.invoke_id (λ k. let le = time.lost gone in omega arith) sends)
                       (λ k c. left.copies_over k c);
                   entry_over = over gone;
                 };
           }))
 
-      aborts_with : (o : Option ServerTransaction) → NetSound W (server_acts w.net key (server.rests o (aborts key.invoke_id sends)))
-          → Calm (server_acts w.net key (server.rests o (aborts key.invoke_id sends))) → KeptAt (serves S model w key (server.rests o (aborts key.invoke_id sends)))
-      aborts_with o sound calm = serves_keep w s key (server.rests o (aborts key.invoke_id sends)) sound calm
+      aborts_with : (o : Option ServerTransaction) → NetSound W (server_acts n key (server.rests o (aborts key.invoke_id sends)))
+          → Calm (server_acts n key (server.rests o (aborts key.invoke_id sends))) → Stands W (server_acts n key (server.rests o (aborts key.invoke_id sends)))
+      aborts_with o sound calm = serves_keep n s key (server.rests o (aborts key.invoke_id sends)) sound calm
 
-      pub server_aborts : (o : Option ServerTransaction) → BeginsAgain o → KeptAt (serves S model w key (server.rests o (aborts key.invoke_id sends)))
-      server_aborts o (inl same) = subst (λ (q : Option ServerTransaction). KeptAt (serves S model w key (server.rests q (aborts key.invoke_id sends)))) (sym same)
-          (aborts_with (w.net.entries key)
-          (net_server W w.net key t at s.net (server.rests (w.net.entries key) (aborts key.invoke_id sends)) (sound_with (w.net.entries key) (λ up down q. q.server)))
-          (calm_with (w.net.entries key) calm_at.own calm_at.begun calm_at.opened (λ gone. (calm_at.left gone).entry_over)))
-      server_aborts o (inr again) = subst (λ (q : Option ServerTransaction). KeptAt (serves S model w key (server.rests q (aborts key.invoke_id sends))))
+      pub server_aborts : (o : Option ServerTransaction) → BeginsAgain o → Stands W (server_acts n key (server.rests o (aborts key.invoke_id sends)))
+      server_aborts o (inl same) = subst (λ (q : Option ServerTransaction). Stands W (server_acts n key (server.rests q (aborts key.invoke_id sends)))) (sym same)
+          (aborts_with (n.entries key)
+          (net_server W n key t at s.net (server.rests (n.entries key) (aborts key.invoke_id sends)) (sound_with (n.entries key) (λ up down q. q.server)))
+          (calm_with (n.entries key) calm_at.own calm_at.begun calm_at.opened (λ gone. (calm_at.left gone).entry_over)))
+      server_aborts o (inr again) = subst (λ (q : Option ServerTransaction). Stands W (server_acts n key (server.rests q (aborts key.invoke_id sends))))
           (sym again.3)
           (aborts_with (Some new)
-          (net_server W w.net key t at s.net (server.rests (Some new) (aborts key.invoke_id sends)) (sound_with (Some new) fits))
+          (net_server W n key t at s.net (server.rests (Some new) (aborts key.invoke_id sends)) (sound_with (Some new) fits))
           (calm_with (Some new)
           (subst (λ (q : Option ServerTransaction). IsOwnEntry key.invoke_id q) again.1 calm_at.own)
-          (record { began = w.net.now; before = omega arith; since = now_since })
+          (record { began = n.now; before = omega arith; since = now_since })
           again.5
-          (λ gone. record { began = w.net.now; before = again.4.lost gone; since = now_since })))
+          (λ gone. record { began = n.now; before = again.4.lost gone; since = now_since })))
         where
           e : ServerTransaction
           e = again.0
 
           new : ServerTransaction
-          new = record again.0 { begin = server_now w.net key }
+          new = record again.0 { begin = server_now n key }
 
-          now_since : Since w.net.pace w.net.now (server_now w.net key) w.net.now (w.net.server_clocks key.server)
-          now_since = since_now w.net.pace w.net.now (w.net.server_clocks key.server) calm_at.server
+          now_since : Since n.pace n.now (server_now n key) n.now (n.server_clocks key.server)
+          now_since = since_now n.pace n.now (n.server_clocks key.server) calm_at.server
 
-          fits : (up : Up) (down : Down) → Sound W key (moments_of w.net key) w.net.asks (w.net.numbers key) t (w.net.entries key)
-              (one w.net key).copies w.net.log up down → ServerFits W (moments_of w.net key) (w.net.numbers key) t.ask (Some new) up down w.net.log
-          fits up down q = go (subst (λ (o : Option ServerTransaction). ServerFits W (moments_of w.net key) (w.net.numbers key) t.ask o up down w.net.log) again.1 q.server)
+          fits : (up : Up) (down : Down) → Sound W key (moments_of n key) n.asks (n.numbers key) t (n.entries key)
+              (one n key).copies n.log up down → ServerFits W (moments_of n key) (n.numbers key) t.ask (Some new) up down n.log
+          fits up down q = go (subst (λ (o : Option ServerTransaction). ServerFits W (moments_of n key) (n.numbers key) t.ask o up down n.log) again.1 q.server)
             where
-              live : is_live (server_now w.net key) e ≡ true
+              live : is_live (server_now n key) e ≡ true
               live = again.2
 
-              go : IsPastFor (moments_of w.net key) (w.net.numbers key) t.ask e up down w.net.log
-                  ⊎ IsBegunFor W (moments_of w.net key) (w.net.numbers key) t.ask e up down w.net.log
-                  → ServerFits W (moments_of w.net key) (w.net.numbers key) t.ask (Some new) up down w.net.log
+              go : IsPastFor (moments_of n key) (n.numbers key) t.ask e up down n.log
+                  ⊎ IsBegunFor W (moments_of n key) (n.numbers key) t.ask e up down n.log
+                  → ServerFits W (moments_of n key) (n.numbers key) t.ask (Some new) up down n.log
               go (inl past) = let dead = past.dead in absurd (grind (arith, nat_tests))
               go (inr begun) = inr (record {
-                begun = record { began = w.net.now; after = q.clock.on; before = again.4.soon; since = now_since };
+                begun = record { began = n.now; after = q.clock.on; before = again.4.soon; since = now_since };
                 choice = begun.choice;
                 state = begun.state;
               })
 
     -- The client ends as with an Abort, and may say so.
 
-    pub client_ends : is_idle t.phase ≡ false → client.is_expired (client_now w.net key) t.ask ≡ false
-        → client.client_on_apdu (client_context x key (client_now w.net key)) x.readable t (Abort true key.invoke_id OTHER) ≡ Ends [] (Aborted OTHER)
-        → (sends : List Apdu) → (sends ≡ []) ⊎ (sends ≡ Abort false key.invoke_id OTHER ∷ []) → KeptAt (reacts S w key t (Ends sends (Aborted OTHER)))
-    client_ends going early is sends few = reacts_keep w s key t (Ends sends (Aborted OTHER))
-        (net_client W w.net key t at s.net (Ends sends (Aborted OTHER)) sound)
-        (calm_client w.net s.calm key t at (Ends sends (Aborted OTHER)) (λ idle. absurd (let no : true ≡ false = sym idle ∙ going in cc)))
+    pub client_ends : is_idle t.phase ≡ false → client.is_expired (client_now n key) t.ask ≡ false
+        → client.client_on_apdu (client_context x key (client_now n key)) x.readable t (Abort true key.invoke_id OTHER) ≡ Ends [] (Aborted OTHER)
+        → (sends : List Apdu) → (sends ≡ []) ⊎ (sends ≡ Abort false key.invoke_id OTHER ∷ []) → Stands W (client_acts n key t (Ends sends (Aborted OTHER)))
+    client_ends going early is sends few = reacts_keep n s key t (Ends sends (Aborted OTHER))
+        (net_client W n key t at s.net (Ends sends (Aborted OTHER)) sound)
+        (calm_client n s.calm key t at (Ends sends (Aborted OTHER)) (λ idle. absurd (let no : true ≡ false = sym idle ∙ going in cc)))
       where
-        ended_sound : IsSound W key (client_does (one w.net key) t (Ends [] (Aborted OTHER)))
+        ended_sound : IsSound W key (client_does (one n key) t (Ends [] (Aborted OTHER)))
         ended_sound =
-            let f = sound_at W w.net key (Some t) at s.net in
-            subst (λ (r : client.Reaction). IsSound W key (client_does (one w.net key) t r)) is
+            let f = sound_at W n key (Some t) at s.net in
+            subst (λ (r : client.Reaction). IsSound W key (client_does (one n key) t r)) is
             (client_gets_kept W x.overtake bound.some bound.room (x.settings key.client) (bound.windows key.client) x.readable key
-            (one w.net key) t f.0 f.1 f.2 0 0 (omega arith) (Abort true key.invoke_id OTHER) (omega arith))
+            (one n key) t f.0 f.1 f.2 0 0 (omega arith) (Abort true key.invoke_id OTHER) (omega arith))
 
-        in_time : w.net.now ≤ client_until (moments_of w.net key)
+        in_time : n.now ≤ client_until (moments_of n key)
         in_time =
-            let f = sound_at W w.net key (Some t) at s.net in
+            let f = sound_at W n key (Some t) at s.net in
             ((f.2).clock.counts ((f.2).lives going)).sends (grind (arith, nat_tests))
 
         says : (up : Up) (down : Down) (log : List Fact) → (xs : List Apdu) → (xs ≡ []) ⊎ (xs ≡ Abort false key.invoke_id OTHER ∷ [])
-            → Each (λ a. (k : ℕ) → Says W (moments_of w.net key) (w.net.numbers key) t.ask log up down w.net.now k a) xs
-        says up down log xs (inl none) = subst (λ (ys : List Apdu). Each (λ a. (k : ℕ) → Says W (moments_of w.net key) (w.net.numbers key) t.ask log up down w.net.now k a) ys)
+            → Each (λ a. (k : ℕ) → Says W (moments_of n key) (n.numbers key) t.ask log up down n.now k a) xs
+        says up down log xs (inl none) = subst (λ (ys : List Apdu). Each (λ a. (k : ℕ) → Says W (moments_of n key) (n.numbers key) t.ask log up down n.now k a) ys)
             (sym none) tt
-        says up down log xs (inr one) = subst (λ (ys : List Apdu). Each (λ a. (k : ℕ) → Says W (moments_of w.net key) (w.net.numbers key) t.ask log up down w.net.now k a) ys)
+        says up down log xs (inr one) = subst (λ (ys : List Apdu). Each (λ a. (k : ℕ) → Says W (moments_of n key) (n.numbers key) t.ask log up down n.now k a) ys)
             (sym one) ((λ k. in_time), tt)
 
-        sound : IsSound W key (client_does (one w.net key) t (Ends sends (Aborted OTHER)))
+        sound : IsSound W key (client_does (one n key) t (Ends sends (Aborted OTHER)))
         sound =
             let f = ended_sound in
             let q = f.2 in (
@@ -478,9 +476,9 @@ module _ (S : Type 0) (model : StoreModel S) (W : ℕ) (x : Rules) (bound : IsBo
                 server = q.server;
                 upload = q.upload;
                 download = q.download;
-                arriving = copies_go W (moments_of w.net key) (w.net.numbers key) t.ask (Ended (w.net.numbers key) (Aborted OTHER) ∷ w.net.log)
-                    (Ended (w.net.numbers key) (Aborted OTHER) ∷ w.net.log) f.0 f.0 f.1 f.1 sends (one w.net key).copies
-                    (grows_same (Ended (w.net.numbers key) (Aborted OTHER) ∷ w.net.log)) (up_same (length sends) f.0)
-                    (down_same (length sends) f.1) q.clock.on (says f.0 f.1 (Ended (w.net.numbers key) (Aborted OTHER) ∷ w.net.log) sends few) q.arriving;
+                arriving = copies_go W (moments_of n key) (n.numbers key) t.ask (Ended (n.numbers key) (Aborted OTHER) ∷ n.log)
+                    (Ended (n.numbers key) (Aborted OTHER) ∷ n.log) f.0 f.0 f.1 f.1 sends (one n key).copies
+                    (grows_same (Ended (n.numbers key) (Aborted OTHER) ∷ n.log)) (up_same (length sends) f.0)
+                    (down_same (length sends) f.1) q.clock.on (says f.0 f.1 (Ended (n.numbers key) (Aborted OTHER) ∷ n.log) sends few) q.arriving;
               },
             )

@@ -1,0 +1,277 @@
+-- Each event of a run in which servers let invoke IDs be used again is moves of its net; so its log is right, with the stores.
+use Rattle.std.proofs.Common.{◌≡◌, ℕ, ◌⊎◌, Bool, true, false, List, [], ◌∷◌, Option, Some, None, slice_get, if◌then◌else◌, nat_eq, refl, ap, sym, subst, inl, inr, ◌∙◌}
+use Rattle.bac_apdu.specs.Apdu.{Apdu}
+use Rattle.bac_protocol.specs.Pace.{IsTimely, Pace}
+use Rattle.bac_protocol.specs.Service.{Ending, Octets, Request}
+use Rattle.bac_protocol.specs.Service.Outcome.{Rejects}
+use Rattle.bac_protocol.specs.Wire.{is_from_client}
+use Rattle.bac_protocol.specs.Client as client
+use Rattle.bac_protocol.specs.Client.{Ask, ClientTransaction, request_of}
+use Rattle.bac_protocol.specs.Server as server
+use Rattle.bac_protocol.specs.Server.{Effect, Service}
+use Rattle.bac_protocol.specs.Log.{Fact, Has, IsUnperformed, StoreModel}
+use Rattle.bac_protocol.specs.Log.Fact.{Asked}
+use Rattle.bac_protocol.specs.Reuse.{server_hears}
+use Rattle.bac_protocol.specs.Transaction.{Key, Rules, client_context, ended, ended_away, performed, served, server_context}
+use Rattle.bac_protocol.specs.World.{Event, Net, Post, World, ask_made, asked_at, asked_away, asked_away_at, begin_of, client_acts, client_acts_away, client_now, is_deliverable}
+use Rattle.bac_protocol.specs.World.{is_id_held, is_id_held_away, is_room, net_start, reacts, reacts_away, server_acts, server_acts_away, server_now, serves, serves_away}
+use Rattle.bac_protocol.specs.World.{service_of, start, stored, strays_to_client, takes_at_client, ticks_as_client, ticks_as_client_away, ticks_as_server}
+use Rattle.bac_protocol.specs.World.{ticks_as_server_away, ticks_ticket, ticks_ticket_away}
+use Rattle.bac_protocol.specs.World.Event.{MakeAsk, Deliver, Tick, Noise, Advance, Change, RestartClient, RestartServer, Stray, AskAway, TickAway}
+use Rattle.bac_protocol.specs.Claims.{IsBounded}
+use Rattle.bac_protocol.specs.Moves.{Move, strayed_to_client, taken_by_client, ticket_ticked, ticket_ticked_away}
+use Rattle.bac_protocol.specs.Moves.Move.{Asks, Arrives, TicksTicket, TicksEntry, Passes, Changes, RestartsClient, RestartsServer}
+use Rattle.bac_protocol.specs.Moves.Move.{Strays, AsksAway, TicksTicketAway, TicksEntryAway}
+use Rattle.bac_protocol.proofs.Served.{IsServed, ticks_quiet}
+use Rattle.bac_reuse.specs.Once.{IsOnceSo}
+use Rattle.bac_reuse.specs.Moves.{IsInOrderSo, IsOrderlySo, IsReachedSo, MayBePerformed, arrived_so, moved_so, strayed_to_server_so, taken_by_server_so}
+use Rattle.bac_reuse.specs.Moves.IsReachedSo.{Still, Moved}
+use Rattle.bac_reuse.specs.Runs.{Reusing, delivered_so, happens_so, run_so, strays_so, takes_at_server_so}
+use Rattle.bac_reuse.proofs.FreshReads.{hears_served}
+use Rattle.bac_reuse.proofs.ReusingMoves.{asked_once_so, in_order_so}
+
+module _ (S : Type 0) (model : StoreModel S) (opening : ℕ → S) (W : ℕ) (x : Rules) (bound : IsBounded W x) (u : Reusing) (pace : Pace) (timely : IsTimely pace)
+    (clocks : ℕ → ℕ) where
+  abbrev IsReachedHere : Net → Type 0
+  IsReachedHere n = IsReachedSo x u (net_start pace clocks) n
+
+  abbrev IsRight : List Fact → (ℕ → S) → Type 0
+  IsRight log stores = IsOnceSo S model u.reads opening log stores
+
+  -- moves lead to its net, and its log is right
+  record Stored (w : World S) : Type 0 where
+    reached : IsReachedHere w.net
+    right : IsRight w.net.log w.stores
+
+  known : (n : Net) → IsReachedHere n → IsInOrderSo u n
+  known n h = in_order_so W x u bound pace timely clocks n h
+
+  moves_on : (n : Net) → IsReachedHere n → (m : Move) → IsReachedHere (moved_so x u n m)
+  moves_on n h m = Moved n m h
+
+  -- A client acts.
+
+  right_ended : (log : List Fact) (stores : ℕ → S) → IsRight log stores → (i : ℕ) (o : Option Ending) → IsOrderlySo u (ended i o log) → IsRight (ended i o log) stores
+  right_ended log stores h i None right = h
+  right_ended log stores h i (Some how) right = (stores, (right.0, right.1, λ node. refl), h)
+
+  right_ended_away : (log : List Fact) (stores : ℕ → S) → IsRight log stores → (i : ℕ) (o : Option Ending) → IsOrderlySo u (ended_away i o log)
+      → IsRight (ended_away i o log) stores
+  right_ended_away log stores h i None right = h
+  right_ended_away log stores h i (Some how) right = (stores, (right.0, right.1, λ node. refl), h)
+
+  module _ (w : World S) (h : Stored w) where
+    client_stored : (key : Key) (t : ClientTransaction) (r : client.Reaction) → IsReachedHere (client_acts w.net key t r) → Stored (reacts S w key t r)
+    client_stored key t r reached = record {
+      reached = reached;
+      right = right_ended w.net.log w.stores h.right (w.net.numbers key) (client.ending_of r) (known (client_acts w.net key t r) reached).orderly;
+    }
+
+    client_away_stored : (key : Key) (t : ClientTransaction) (r : client.Reaction) → IsReachedHere (client_acts_away w.net key t r)
+        → Stored (reacts_away S w key t r)
+    client_away_stored key t r reached = record {
+      reached = reached;
+      right = right_ended_away w.net.log w.stores h.right (w.net.far.numbers key) (client.ending_of r) (known (client_acts_away w.net key t r) reached).orderly;
+    }
+
+    -- A server acts.
+
+    right_performed : (key : Key) (t : ClientTransaction) → w.net.tickets key ≡ Some t → (o : Option Effect) → IsServed (service_of S model w key) o
+        → IsOrderlySo u (performed (w.net.numbers key) o w.net.log) → IsRight (performed (w.net.numbers key) o w.net.log) (stored S model key.server o w.stores)
+    right_performed key t at None is right = h.right
+    right_performed key t at (Some e) is right =
+        (w.stores, (key.client, key.server, asked, before right.0.3, is, λ node. refl), h.right)
+      where
+        was_asked : Has (Asked (w.net.numbers key) key.client key.server (request_of t.ask)) w.net.log
+        was_asked = (known w.net h.reached).asked key t at
+
+        asked : Has (Asked (w.net.numbers key) key.client key.server e.request) w.net.log
+        asked = subst (λ (q : Request). Has (Asked (w.net.numbers key) key.client key.server q) w.net.log)
+            (asked_once_so W x u bound pace timely clocks w.net h.reached (w.net.numbers key) key.client key.server right.0.0 right.0.1 (request_of t.ask) e.request
+            was_asked right.0.2) was_asked
+
+        before : IsUnperformed (w.net.numbers key) w.net.log ⊎ ((u.reuses right.0.1 ≡ true) × (u.reads e.request.choice ≡ true))
+            → IsUnperformed (w.net.numbers key) w.net.log ⊎ (u.reads e.request.choice ≡ true)
+        before (inl un) = inl un
+        before (inr read) = inr read.1
+
+    server_stored : (key : Key) (t : ClientTransaction) → w.net.tickets key ≡ Some t → (v : server.Reaction) → IsServed (service_of S model w key) v.effect
+        → IsReachedHere (server_acts w.net key v) → Stored (serves S model w key v)
+    server_stored key t at v is reached = record {
+      reached = reached;
+      right = right_performed key t at v.effect is (known (server_acts w.net key v) reached).orderly;
+    }
+
+    right_served : (key : Key) (begin : ℕ) (o : Option Effect) → IsServed (service_of S model w key) o
+        → IsRight (served key begin o w.net.log) (stored S model key.server o w.stores)
+    right_served key begin None is = h.right
+    right_served key begin (Some e) is = (w.stores, (is, λ node. refl), h.right)
+
+    server_away_stored : (key : Key) (v : server.Reaction) → IsServed (service_of S model w key) v.effect → IsReachedHere (server_acts_away w.net key v)
+        → Stored (serves_away S model w key v)
+    server_away_stored key v is reached = record { reached = reached; right = right_served key (begin_of v.entry) v.effect is }
+
+    -- Copies.
+
+    abbrev service_here : Key → Service
+    service_here key = service_of S model w key
+
+    module _ (number : ℕ) (free : Bool) (p : Post) (at : slice_get w.net.posts number ≡ Some p) (may : is_deliverable x w.net number p ≡ true) where
+      abbrev way : Bool → Net
+      way b = if b then taken_by_server_so x u w.net p free (service_here p.key) else taken_by_client x w.net p (w.net.tickets p.key)
+
+      arrived : (b : Bool) → is_from_client p.copy.apdu ≡ b → IsReachedHere (way b)
+      arrived b is = subst IsReachedHere
+          (ap (arrived_so x u w.net number free (service_here p.key)) at ∙ ap (λ d. if d then way (is_from_client p.copy.apdu) else w.net) may ∙ ap way is)
+          (moves_on w.net h.reached (Arrives number free (service_here p.key)))
+
+      at_client : (o : Option ClientTransaction) → IsReachedHere (taken_by_client x w.net p o) → Stored (takes_at_client S x w p.key p.copy.apdu o)
+      at_client None reached = h
+      at_client (Some t) reached = client_stored p.key t (client.client_on_apdu (client_context x p.key (client_now w.net p.key)) x.readable t p.copy.apdu) reached
+
+      at_server : (o : Option ClientTransaction) → w.net.tickets p.key ≡ o → IsReachedHere (taken_by_server_so x u w.net p free (service_here p.key))
+          → Stored (takes_at_server_so S model x u w p.key free p.copy.apdu)
+      at_server None none reached = absurd ((known w.net h.reached).posted number p at none)
+      at_server (Some t) there reached =
+          let c = server_context x p.key (server_now w.net p.key) in
+          server_stored p.key t there
+          (server_hears (u.reuses p.key.server) c (service_here p.key) u.reads (w.net.entries p.key) (is_room w.net p.key free) p.copy.apdu)
+          (hears_served c (service_here p.key) (u.reuses p.key.server) u.reads (w.net.entries p.key) (is_room w.net p.key free) p.copy.apdu) reached
+
+      comes : (b : Bool) → is_from_client p.copy.apdu ≡ b
+          → Stored (if b then takes_at_server_so S model x u w p.key free p.copy.apdu else takes_at_client S x w p.key p.copy.apdu (w.net.tickets p.key))
+      comes true is = at_server (w.net.tickets p.key) refl (arrived true is)
+      comes false is = at_client (w.net.tickets p.key) (arrived false is)
+
+    delivers : (number : ℕ) (free : Bool) (o : Option Post) → slice_get w.net.posts number ≡ o → Stored (delivered_so S model x u w number free o)
+    delivers number free None at = h
+    delivers number free (Some p) at = go (is_deliverable x w.net number p) refl
+      where
+        go : (b : Bool) → is_deliverable x w.net number p ≡ b
+            → Stored (if b then (if is_from_client p.copy.apdu then takes_at_server_so S model x u w p.key free p.copy.apdu
+            else takes_at_client S x w p.key p.copy.apdu (w.net.tickets p.key)) else w)
+        go true may = comes number free p at may (is_from_client p.copy.apdu) refl
+        go false may = h
+
+    -- Ticks.
+
+    ticket_ticks : (key : Key) (o : Option ClientTransaction) → w.net.tickets key ≡ o → Stored (ticks_ticket S x w key o)
+    ticket_ticks key None at = h
+    ticket_ticks key (Some t) at = client_stored key t (client.client_ticks (client_context x key (client_now w.net key)) t)
+        (subst IsReachedHere (ap (ticket_ticked x w.net key) at) (moves_on w.net h.reached (TicksTicket key)))
+
+    entry_ticks : (key : Key) → Stored (serves S model w key (server.server_ticks (server_context x key (server_now w.net key)) (w.net.entries key)))
+    entry_ticks key = record {
+      reached = moves_on w.net h.reached (TicksEntry key);
+      right = subst (λ (o : Option Effect). IsRight (performed (w.net.numbers key) o w.net.log) (stored S model key.server o w.stores))
+          (sym (ticks_quiet (server_context x key (server_now w.net key)) (w.net.entries key))) h.right;
+    }
+
+    ticket_ticks_away : (key : Key) (o : Option ClientTransaction) → w.net.far.tickets key ≡ o → Stored (ticks_ticket_away S x w key o)
+    ticket_ticks_away key None at = h
+    ticket_ticks_away key (Some t) at = client_away_stored key t (client.client_ticks (client_context x key (client_now w.net key)) t)
+        (subst IsReachedHere (ap (ticket_ticked_away x w.net key) at) (moves_on w.net h.reached (TicksTicketAway key)))
+
+    entry_ticks_away : (key : Key) → Stored (serves_away S model w key (server.server_ticks (server_context x key (server_now w.net key)) (w.net.far.entries key)))
+    entry_ticks_away key =
+        let v = server.server_ticks (server_context x key (server_now w.net key)) (w.net.far.entries key) in
+        server_away_stored key v (subst (IsServed (service_here key)) (sym (ticks_quiet (server_context x key (server_now w.net key)) (w.net.far.entries key))) tt)
+        (moves_on w.net h.reached (TicksEntryAway key))
+
+    -- Asks.
+
+    module _ (key : Key) (choice : ℕ) (whole : Bool) (front : Octets) (rest : List Octets) where
+      abbrev ask : Ask
+      ask = record { first = client_now w.net key; choice = choice; whole = whole; pieces = front ∷ rest }
+
+      ask_stored : (b : Bool) → is_id_held w.net key ≡ b → Stored (if b then w else ask_made S x w key ask)
+      ask_stored true is = h
+      ask_stored false is = record {
+        reached = reached;
+        right = (w.stores, ((known (asked_at x w.net key ask) reached).orderly.0, λ node. refl), h.right);
+      }
+        where
+          reached : IsReachedHere (asked_at x w.net key ask)
+          reached = subst IsReachedHere (ap (λ b. if b then w.net else asked_at x w.net key ask) is) (moves_on w.net h.reached (Asks key choice whole front rest))
+
+      ask_away_stored : (b : Bool) → is_id_held_away w.net key ≡ b → Stored (if b then w else asked_away S x w key ask)
+      ask_away_stored true is = h
+      ask_away_stored false is = record {
+        reached = reached;
+        right = (w.stores, ((known (asked_away_at x w.net key ask) reached).orderly.0, λ node. refl), h.right);
+      }
+        where
+          reached : IsReachedHere (asked_away_at x w.net key ask)
+          reached = subst IsReachedHere (ap (λ b. if b then w.net else asked_away_at x w.net key ask) is)
+              (moves_on w.net h.reached (AsksAway key choice whole front rest))
+
+    -- Strangers.
+
+    stray_stored : (key : Key) (a : Apdu) (o : Option ClientTransaction) → IsReachedHere (strayed_to_client x w.net key a o) → Stored (strays_to_client S x w key a o)
+    stray_stored key a None reached = h
+    stray_stored key a (Some t) reached = client_away_stored key t (client.client_on_apdu (client_context x key (client_now w.net key)) x.readable t a) reached
+
+    strays_stored : (key : Key) (free : Bool) (a : Apdu) → Stored (strays_so S model x u w key free a)
+    strays_stored key free a = go (is_from_client a) refl
+      where
+        v : server.Reaction
+        v = server_hears (u.reuses key.server) (server_context x key (server_now w.net key)) (service_here key) u.reads (w.net.far.entries key) (is_room w.net key free) a
+
+        way : Bool → Net
+        way b = if b then strayed_to_server_so x u w.net key free (service_here key) a else strayed_to_client x w.net key a (w.net.far.tickets key)
+
+        reached : (b : Bool) → is_from_client a ≡ b → IsReachedHere (way b)
+        reached b is = subst IsReachedHere (ap way is) (moves_on w.net h.reached (Strays key free (service_here key) a))
+
+        go : (b : Bool) → is_from_client a ≡ b → Stored (if b then serves_away S model w key v else strays_to_client S x w key a (w.net.far.tickets key))
+        go true is = server_away_stored key v
+            (hears_served (server_context x key (server_now w.net key)) (service_here key) (u.reuses key.server) u.reads (w.net.far.entries key) (is_room w.net key free) a)
+            (reached true is)
+        go false is = stray_stored key a (w.net.far.tickets key) (reached false is)
+
+  -- Ticks of a node.
+
+  clients_tick : (keys : List Key) (w : World S) → Stored w → Stored (ticks_as_client S x keys w)
+  clients_tick [] w h = h
+  clients_tick (key ∷ keys) w h = clients_tick keys (ticks_ticket S x w key (w.net.tickets key)) (ticket_ticks w h key (w.net.tickets key) refl)
+
+  servers_tick : (keys : List Key) (w : World S) → Stored w → Stored (ticks_as_server S model x keys w)
+  servers_tick [] w h = h
+  servers_tick (key ∷ keys) w h = servers_tick keys (serves S model w key (server.server_ticks (server_context x key (server_now w.net key)) (w.net.entries key)))
+      (entry_ticks w h key)
+
+  clients_tick_away : (keys : List Key) (w : World S) → Stored w → Stored (ticks_as_client_away S x keys w)
+  clients_tick_away [] w h = h
+  clients_tick_away (key ∷ keys) w h =
+      clients_tick_away keys (ticks_ticket_away S x w key (w.net.far.tickets key)) (ticket_ticks_away w h key (w.net.far.tickets key) refl)
+
+  servers_tick_away : (keys : List Key) (w : World S) → Stored w → Stored (ticks_as_server_away S model x keys w)
+  servers_tick_away [] w h = h
+  servers_tick_away (key ∷ keys) w h =
+      servers_tick_away keys (serves_away S model w key (server.server_ticks (server_context x key (server_now w.net key)) (w.net.far.entries key)))
+      (entry_ticks_away w h key)
+
+  -- A run.
+
+  event_stored : (w : World S) → Stored w → (e : Event) → Stored (happens_so S model x u w e)
+  event_stored w h (MakeAsk key choice whole front rest) = ask_stored w h key choice whole front rest (is_id_held w.net key) refl
+  event_stored w h (Deliver number free) = delivers w h number free (slice_get w.net.posts number) refl
+  event_stored w h (Tick as_client as_server) = servers_tick as_server (ticks_as_client S x as_client w) (clients_tick as_client w h)
+  event_stored w h Noise = h
+  event_stored w h (Advance by clients servers) = record { reached = moves_on w.net h.reached (Passes by clients servers); right = h.right }
+  event_stored w h (Change node change) =
+      record { reached = moves_on w.net h.reached (Changes node change); right = (w.stores, (λ n. refl), h.right) }
+  event_stored w h (RestartClient node exact) = record { reached = moves_on w.net h.reached (RestartsClient node exact); right = h.right }
+  event_stored w h (RestartServer node exact store) =
+      record { reached = moves_on w.net h.reached (RestartsServer node exact store); right = (w.stores, (λ n. refl), h.right) }
+  event_stored w h (Stray key free a) = strays_stored w h key free a
+  event_stored w h (AskAway key choice whole front rest) = ask_away_stored w h key choice whole front rest (is_id_held_away w.net key) refl
+  event_stored w h (TickAway as_client as_server) = servers_tick_away as_server (ticks_as_client_away S x as_client w) (clients_tick_away as_client w h)
+
+  run_stored : (events : List Event) (w : World S) → Stored w → Stored (run_so S model x u events w)
+  run_stored [] w h = h
+  run_stored (e ∷ es) w h = run_stored es (happens_so S model x u w e) (event_stored w h e)
+
+  pub once_so : (events : List Event)
+      → IsOnceSo S model u.reads opening (run_so S model x u events (start S pace clocks opening)).net.log (run_so S model x u events (start S pace clocks opening)).stores
+  once_so events = (run_stored events (start S pace clocks opening) (record { reached = Still; right = λ node. refl })).right
