@@ -1,5 +1,5 @@
 -- What servers that do not let invoke IDs be used again perform for strangers: all that holds of it where no server does holds of it beside others that do.
-use Rattle.std.proofs.Common.{◌≡◌, ℕ, ◌+◌, ◌<◌, ◌≤◌, ◌⊎◌, Bool, true, false, List, [], ◌∷◌, Option, Some, None, slice_get, if◌then◌else◌, nat_eq, refl, ap, sym, subst}
+use Rattle.std.proofs.Common.{◌≡◌, ℕ, ◌+◌, ◌<◌, ◌⊎◌, Bool, true, false, List, [], ◌∷◌, Option, Some, None, slice_get, if◌then◌else◌, nat_eq, refl, ap, sym, subst}
 use Rattle.std.proofs.Common.{inl, inr, ◌∙◌}
 use Rattle.bac_apdu.specs.Apdu.{Apdu}
 use Rattle.bac_protocol.specs.declared.times.TheConstants.{KEEP}
@@ -16,7 +16,7 @@ use Rattle.bac_protocol.specs.Log.Fact.{Asked, AskedAway, Changed, Ended, EndedA
 use Rattle.bac_protocol.specs.Claims.{AreSpaced, HasSinceRestart}
 use Rattle.bac_protocol.specs.Reuse.{server_hears}
 use Rattle.bac_protocol.specs.Transaction.{Key, Rules, client_context, ended, ended_away, performed, served, server_context}
-use Rattle.bac_protocol.specs.World.{Net, Post, Strangers, asked_at, asked_away_at, begin_of, client_acts, client_acts_away, client_now, client_restarted, is_deliverable}
+use Rattle.bac_protocol.specs.World.{Net, Post, Strangers, asked_at, asked_away_at, begin_of, client_acts, client_acts_away, client_now, is_deliverable}
 use Rattle.bac_protocol.specs.World.{is_id_held, is_id_held_away, is_room, net_start, passes, server_acts, server_acts_away, server_now, server_restarted, set_at}
 use Rattle.bac_protocol.specs.Moves.{Move, strayed_to_client, taken_by_client, ticket_ticked, ticket_ticked_away}
 use Rattle.bac_protocol.specs.Moves.Move.{Asks, Arrives, TicksTicket, TicksEntry, Passes, Changes, RestartsClient, RestartsServer}

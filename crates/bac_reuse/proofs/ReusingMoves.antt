@@ -1,17 +1,17 @@
 -- After any moves of a net in which invoke IDs are used again it is in order; and where no node lets them be, the moves are those of bac_protocol.
-use Rattle.std.proofs.Common.{◌≡◌, ℕ, ◌+◌, ◌-◌, ◌<◌, ◌≤◌, ◌⊎◌, Bool, true, false, List, [], ◌∷◌, Option, Some, None, slice_get, if◌then◌else◌, nat_le, refl, ap, sym, subst}
+use Rattle.std.proofs.Common.{◌≡◌, ℕ, ◌-◌, ◌⊎◌, Bool, true, false, List, [], ◌∷◌, Option, Some, None, slice_get, if◌then◌else◌, nat_le, refl, ap, sym, subst}
 use Rattle.std.proofs.Common.{inl, inr, ◌∙◌, arith}
 use Rattle.std.proofs.lemmas.Bool.Decides.{nat_tests}
 use Rattle.bac_apdu.specs.Apdu.{Apdu}
 use Rattle.bac_protocol.specs.declared.times.TheConstants.{KEEP}
 use Rattle.bac_protocol.specs.Pace.{IsTimely, Pace}
-use Rattle.bac_protocol.specs.Service.{Reply as reply, Request}
+use Rattle.bac_protocol.specs.Service.{Request}
 use Rattle.bac_protocol.specs.Wire.{is_from_client}
 use Rattle.bac_protocol.specs.Client.{ClientTransaction, request_of}
 use Rattle.bac_protocol.specs.Server.{ServerTransaction, Service, is_none_live}
-use Rattle.bac_protocol.specs.Log.{Fact, Has, IsOrderly, IsUnperformed, WasAskedAway, asks_in}
+use Rattle.bac_protocol.specs.Log.{Fact, Has, IsOrderly, IsUnperformed, WasAskedAway}
 use Rattle.bac_protocol.specs.Log.Fact.{Asked, AskedAway, Changed, Ended, EndedAway, Performed, Restarted, Served}
-use Rattle.bac_protocol.specs.Claims.{AreServedApart, AreSpaced, HasSinceRestart, IsBounded}
+use Rattle.bac_protocol.specs.Claims.{AreServedApart, AreSpaced, IsBounded}
 use Rattle.bac_protocol.specs.Reuse.{server_hears}
 use Rattle.bac_protocol.specs.Transaction.{Copy, Key, Rules, server_context}
 use Rattle.bac_protocol.specs.World.{Net, Post, is_deliverable, is_id_held, is_room, later, net_start, server_acts, server_acts_away, server_now}
@@ -24,7 +24,7 @@ use Rattle.bac_protocol.proofs.Headline.{asked_once, net_log}
 use Rattle.bac_protocol.proofs.Keys.{copy_at}
 use Rattle.bac_protocol.proofs.Nets.{sound_at}
 use Rattle.bac_protocol.proofs.StrangerTables.{was_away}
-use Rattle.bac_reuse.specs.Moves.{AreServedApartSo, AreSpacedSo, IsInOrderSo, IsOrderlySo, IsReachedSo, IsTicking, MayBePerformed, arrived_so, moved_so}
+use Rattle.bac_reuse.specs.Moves.{AreServedApartSo, AreSpacedSo, IsInOrderSo, IsOrderlySo, IsReachedSo, MayBePerformed, arrived_so, moved_so}
 use Rattle.bac_reuse.specs.Moves.{strayed_to_server_so, taken_by_server_so}
 use Rattle.bac_reuse.specs.Moves.IsReachedSo.{Still, Moved}
 use Rattle.bac_reuse.specs.Runs.{NoneReuses, Reusing}

@@ -1,9 +1,8 @@
 -- Each event of a run in which servers let invoke IDs be used again is moves of its net; so its log is right, with the stores.
-use Rattle.std.proofs.Common.{◌≡◌, ℕ, ◌⊎◌, Bool, true, false, List, [], ◌∷◌, Option, Some, None, slice_get, if◌then◌else◌, nat_eq, refl, ap, sym, subst, inl, inr, ◌∙◌}
+use Rattle.std.proofs.Common.{◌≡◌, ℕ, ◌⊎◌, Bool, true, false, List, [], ◌∷◌, Option, Some, None, slice_get, if◌then◌else◌, refl, ap, sym, subst, inl, inr, ◌∙◌}
 use Rattle.bac_apdu.specs.Apdu.{Apdu}
 use Rattle.bac_protocol.specs.Pace.{IsTimely, Pace}
 use Rattle.bac_protocol.specs.Service.{Ending, Octets, Request}
-use Rattle.bac_protocol.specs.Service.Outcome.{Rejects}
 use Rattle.bac_protocol.specs.Wire.{is_from_client}
 use Rattle.bac_protocol.specs.Client as client
 use Rattle.bac_protocol.specs.Client.{Ask, ClientTransaction, request_of}
@@ -24,7 +23,7 @@ use Rattle.bac_protocol.specs.Moves.Move.{Asks, Arrives, TicksTicket, TicksEntry
 use Rattle.bac_protocol.specs.Moves.Move.{Strays, AsksAway, TicksTicketAway, TicksEntryAway}
 use Rattle.bac_protocol.proofs.Served.{IsServed, ticks_quiet}
 use Rattle.bac_reuse.specs.Once.{IsOnceSo}
-use Rattle.bac_reuse.specs.Moves.{IsInOrderSo, IsOrderlySo, IsReachedSo, MayBePerformed, arrived_so, moved_so, strayed_to_server_so, taken_by_server_so}
+use Rattle.bac_reuse.specs.Moves.{IsInOrderSo, IsOrderlySo, IsReachedSo, arrived_so, moved_so, strayed_to_server_so, taken_by_server_so}
 use Rattle.bac_reuse.specs.Moves.IsReachedSo.{Still, Moved}
 use Rattle.bac_reuse.specs.Runs.{Reusing, delivered_so, happens_so, run_so, strays_so, takes_at_server_so}
 use Rattle.bac_reuse.proofs.FreshReads.{hears_served}
@@ -272,6 +271,13 @@ module _ (S : Type 0) (model : StoreModel S) (opening : ℕ → S) (W : ℕ) (x 
   run_stored [] w h = h
   run_stored (e ∷ es) w h = run_stored es (happens_so S model x u w e) (event_stored w h e)
 
-  pub once_so : (events : List Event)
-      → IsOnceSo S model u.reads opening (run_so S model x u events (start S pace clocks opening)).net.log (run_so S model x u events (start S pace clocks opening)).stores
-  once_so events = (run_stored events (start S pace clocks opening) (record { reached = Still; right = λ node. refl })).right
+  module _ (events : List Event) where
+    after_stored : Stored (run_so S model x u events (start S pace clocks opening))
+    after_stored = run_stored events (start S pace clocks opening) (record { reached = Still; right = λ node. refl })
+
+    pub run_reached : IsReachedSo x u (net_start pace clocks) (run_so S model x u events (start S pace clocks opening)).net
+    run_reached = after_stored.reached
+
+    pub once_so : IsOnceSo S model u.reads opening (run_so S model x u events (start S pace clocks opening)).net.log
+        (run_so S model x u events (start S pace clocks opening)).stores
+    once_so = after_stored.right
