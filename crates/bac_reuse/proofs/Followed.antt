@@ -549,7 +549,6 @@ module _ (W : ℕ) (x : Rules) (bound : IsBounded W x) (u : Reusing) where
         entries = λ key. (tt, tt);
         logs = record {
           asked = λ i c s r h. h;
-          only_asked = λ i c s r h. h;
           performed = λ i r p h. h;
           unended = λ i h. h;
           unperformed = λ i h. inl h;

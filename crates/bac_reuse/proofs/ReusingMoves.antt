@@ -20,7 +20,7 @@ use Rattle.bac_protocol.specs.Moves.IsReached.{Still as stays, Moved as goes}
 use Rattle.bac_protocol.specs.Moves.Move.{Asks, Arrives, TicksTicket, TicksEntry, Passes, Changes, RestartsClient, RestartsServer}
 use Rattle.bac_protocol.specs.Moves.Move.{Strays, AsksAway, TicksTicketAway, TicksEntryAway}
 use Rattle.bac_protocol.proofs.Calm.{spent_free}
-use Rattle.bac_protocol.proofs.Headline.{asked_once, net_log}
+use Rattle.bac_protocol.proofs.Headline.{net_log}
 use Rattle.bac_protocol.proofs.Keys.{copy_at}
 use Rattle.bac_protocol.proofs.Nets.{sound_at}
 use Rattle.bac_protocol.proofs.StrangerTables.{was_away}
@@ -90,10 +90,6 @@ module _ (W : ℕ) (x : Rules) (u : Reusing) (bound : IsBounded W x) where
       served_apart = apart_left u (over n g) apart;
     }
 
-    -- an ask has one request
-    asks_once : (i c b d e : ℕ) (q r : Request) → Has (Asked i c b q) g.log → Has (Asked i d e r) g.log → q ≡ r
-    asks_once i c b d e q r h k = asked_once i c b d e q r n.log (net_log W n s.net).orderly (l.logs.only_asked i c b q h) (l.logs.only_asked i d e r k)
-
   module _ (pace : Pace) (timely : IsTimely pace) (clocks : ℕ → ℕ) where
     abbrev IsReachedHere : Net → Type 0
     IsReachedHere n = IsReachedSo x u (net_start pace clocks) n
@@ -119,11 +115,6 @@ module _ (W : ℕ) (x : Rules) (u : Reusing) (bound : IsBounded W x) where
         let f = followed n h in
         subst (λ (m : Net). IsInOrderSo u m) (sym f.4) (ordered f.0 f.1 f.2 f.3 (subst (λ (m : Net). AreKept m) f.4 (kept n h))
         (subst (λ (m : Net). AwayLeft u m) f.4 (left n h)))
-
-    pub asked_once_so : (n : Net) → IsReachedSo x u (net_start pace clocks) n → (i c b d e : ℕ) (q r : Request) → Has (Asked i c b q) n.log
-        → Has (Asked i d e r) n.log → q ≡ r
-    asked_once_so n h i c b d e q r = let f = followed n h in
-        subst (λ (m : Net). Has (Asked i c b q) m.log → Has (Asked i d e r) m.log → q ≡ r) (sym f.4) (asks_once f.0 f.1 f.2 f.3 i c b d e q r)
 
 -- Moves without reuse.
 module _ (x : Rules) (u : Reusing) (none : NoneReuses u) where

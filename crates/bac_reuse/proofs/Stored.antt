@@ -27,7 +27,8 @@ use Rattle.bac_reuse.specs.Moves.{IsInOrderSo, IsOrderlySo, IsReachedSo, arrived
 use Rattle.bac_reuse.specs.Moves.IsReachedSo.{Still, Moved}
 use Rattle.bac_reuse.specs.Runs.{Reusing, delivered_so, happens_so, run_so, strays_so, takes_at_server_so}
 use Rattle.bac_reuse.proofs.FreshReads.{hears_served}
-use Rattle.bac_reuse.proofs.ReusingMoves.{asked_once_so, in_order_so}
+use Rattle.bac_reuse.proofs.Orderly.{one_ask}
+use Rattle.bac_reuse.proofs.ReusingMoves.{in_order_so}
 
 module _ (S : Type 0) (model : StoreModel S) (opening : ℕ → S) (W : ℕ) (x : Rules) (bound : IsBounded W x) (u : Reusing) (pace : Pace) (timely : IsTimely pace)
     (clocks : ℕ → ℕ) where
@@ -35,7 +36,7 @@ module _ (S : Type 0) (model : StoreModel S) (opening : ℕ → S) (W : ℕ) (x 
   IsReachedHere n = IsReachedSo x u (net_start pace clocks) n
 
   abbrev IsRight : List Fact → (ℕ → S) → Type 0
-  IsRight log stores = IsOnceSo S model u.reads opening log stores
+  IsRight log stores = IsOnceSo S model u opening log stores
 
   -- moves lead to its net, and its log is right
   record Stored (w : World S) : Type 0 where
@@ -79,20 +80,20 @@ module _ (S : Type 0) (model : StoreModel S) (opening : ℕ → S) (W : ℕ) (x 
         → IsOrderlySo u (performed (w.net.numbers key) o w.net.log) → IsRight (performed (w.net.numbers key) o w.net.log) (stored S model key.server o w.stores)
     right_performed key t at None is right = h.right
     right_performed key t at (Some e) is right =
-        (w.stores, (key.client, key.server, asked, before right.0.3, is, λ node. refl), h.right)
+        (w.stores, (key.client, key.server, asked, before, is, λ node. refl), h.right)
       where
         was_asked : Has (Asked (w.net.numbers key) key.client key.server (request_of t.ask)) w.net.log
         was_asked = (known w.net h.reached).asked key t at
 
-        asked : Has (Asked (w.net.numbers key) key.client key.server e.request) w.net.log
-        asked = subst (λ (q : Request). Has (Asked (w.net.numbers key) key.client key.server q) w.net.log)
-            (asked_once_so W x u bound pace timely clocks w.net h.reached (w.net.numbers key) key.client key.server right.0.0 right.0.1 (request_of t.ask) e.request
-            was_asked right.0.2) was_asked
+        -- it is the one that was asked
+        one : (right.0.1 ≡ key.server) × (e.request ≡ request_of t.ask)
+        one = one_ask u w.net.log right.1 (w.net.numbers key) right.0.0 right.0.1 key.client key.server e.request (request_of t.ask) right.0.2 was_asked
 
-        before : IsUnperformed (w.net.numbers key) w.net.log ⊎ ((u.reuses right.0.1 ≡ true) × (u.reads e.request.choice ≡ true))
-            → IsUnperformed (w.net.numbers key) w.net.log ⊎ (u.reads e.request.choice ≡ true)
-        before (inl un) = inl un
-        before (inr read) = inr read.1
+        asked : Has (Asked (w.net.numbers key) key.client key.server e.request) w.net.log
+        asked = subst (λ (q : Request). Has (Asked (w.net.numbers key) key.client key.server q) w.net.log) (sym one.1) was_asked
+
+        before : IsUnperformed (w.net.numbers key) w.net.log ⊎ ((u.reuses key.server ≡ true) × (u.reads e.request.choice ≡ true))
+        before = subst (λ (s : ℕ). IsUnperformed (w.net.numbers key) w.net.log ⊎ ((u.reuses s ≡ true) × (u.reads e.request.choice ≡ true))) one.0 right.0.3
 
     server_stored : (key : Key) (t : ClientTransaction) → w.net.tickets key ≡ Some t → (v : server.Reaction) → IsServed (service_of S model w key) v.effect
         → IsReachedHere (server_acts w.net key v) → Stored (serves S model w key v)
@@ -278,6 +279,6 @@ module _ (S : Type 0) (model : StoreModel S) (opening : ℕ → S) (W : ℕ) (x 
     pub run_reached : IsReachedSo x u (net_start pace clocks) (run_so S model x u events (start S pace clocks opening)).net
     run_reached = after_stored.reached
 
-    pub once_so : IsOnceSo S model u.reads opening (run_so S model x u events (start S pace clocks opening)).net.log
+    pub once_so : IsOnceSo S model u opening (run_so S model x u events (start S pace clocks opening)).net.log
         (run_so S model x u events (start S pace clocks opening)).stores
     once_so = after_stored.right
