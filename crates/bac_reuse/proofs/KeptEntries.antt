@@ -92,7 +92,8 @@ module _ (x : Rules) (u : Reusing) (n : Net) (h : AreKept n) where
   far : (m : Net) → m.entries ≡ n.entries → m.tickets ≡ n.tickets → AreKept m
   far m entries tickets = record {
     own = λ k. subst (λ (f : Key → Option ServerTransaction). IsOwnEntry k.invoke_id (f k)) (sym entries) (h.own k);
-    entered = λ k none. ap (λ (f : Key → Option ServerTransaction). f k) entries ∙ h.entered k (sym (ap (λ (f : Key → Option ClientTransaction). f k) tickets) ∙ none);
+    entered = λ k none. ap (λ (f : Key → Option ServerTransaction). f k) entries
+        ∙ h.entered k (sym (ap (λ (f : Key → Option ClientTransaction). f k) tickets) ∙ none);
   }
 
   stray_kept : (key : Key) (a : Apdu) (o : Option ClientTransaction) → AreKept (strayed_to_client x n key a o)

@@ -9,7 +9,7 @@ use Rattle.bac_protocol.specs.Service.{Request}
 use Rattle.bac_protocol.specs.Wire.{is_from_client}
 use Rattle.bac_protocol.specs.Client.{ClientTransaction, request_of}
 use Rattle.bac_protocol.specs.Server.{ServerTransaction, Service, is_none_live}
-use Rattle.bac_protocol.specs.Log.{Fact, Has, IsOrderly, IsUnperformed, WasAskedAway}
+use Rattle.bac_protocol.specs.Log.{Fact, IsOrderly, IsUnperformed, WasAskedAway}
 use Rattle.bac_protocol.specs.Log.Fact.{Asked, AskedAway, Changed, Ended, EndedAway, Performed, Restarted, Served}
 use Rattle.bac_protocol.specs.Claims.{AreServedApart, AreSpaced, IsBounded}
 use Rattle.bac_protocol.specs.Reuse.{server_hears}
@@ -122,7 +122,8 @@ module _ (x : Rules) (u : Reusing) (none : NoneReuses u) where
   server_same n p free service = ap (λ b. server_acts n p.key (server_hears b (server_context x p.key (server_now n p.key)) service u.reads (n.entries p.key)
       (is_room n p.key free) p.copy.apdu)) (none p.key.server)
 
-  arrives_same : (n : Net) (number : ℕ) (free : Bool) (service : Service) (o : Option Post) → arrived_so x u n number free service o ≡ arrived x n number free service o
+  arrives_same : (n : Net) (number : ℕ) (free : Bool) (service : Service) (o : Option Post)
+      → arrived_so x u n number free service o ≡ arrived x n number free service o
   arrives_same n number free service None = refl
   arrives_same n number free service (Some p) = go (is_deliverable x n number p) (is_from_client p.copy.apdu)
     where

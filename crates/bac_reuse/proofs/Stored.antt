@@ -1,6 +1,7 @@
 -- Each event of a run in which servers let invoke IDs be used again is moves of its net; so its log is right, with the stores.
-use Rattle.std.proofs.Common.{◌≡◌, ℕ, ◌⊎◌, Bool, true, false, List, [], ◌∷◌, Option, Some, None, slice_get, if◌then◌else◌, refl, ap, sym, subst, inl, inr, ◌∙◌}
+use Rattle.std.proofs.Common.{◌≡◌, ℕ, ◌⊎◌, Bool, true, false, List, [], ◌∷◌, Option, Some, None, slice_get, if◌then◌else◌, refl, ap, sym, subst, ◌∙◌}
 use Rattle.bac_apdu.specs.Apdu.{Apdu}
+use Rattle.bac_protocol.specs.Context.{Context}
 use Rattle.bac_protocol.specs.Pace.{IsTimely, Pace}
 use Rattle.bac_protocol.specs.Service.{Ending, Octets, Request}
 use Rattle.bac_protocol.specs.Wire.{is_from_client}
@@ -12,8 +13,9 @@ use Rattle.bac_protocol.specs.Log.{Fact, Has, IsUnperformed, StoreModel}
 use Rattle.bac_protocol.specs.Log.Fact.{Asked}
 use Rattle.bac_protocol.specs.Reuse.{server_hears}
 use Rattle.bac_protocol.specs.Transaction.{Key, Rules, client_context, ended, ended_away, performed, served, server_context}
-use Rattle.bac_protocol.specs.World.{Event, Net, Post, World, ask_made, asked_at, asked_away, asked_away_at, begin_of, client_acts, client_acts_away, client_now, is_deliverable}
-use Rattle.bac_protocol.specs.World.{is_id_held, is_id_held_away, is_room, net_start, reacts, reacts_away, server_acts, server_acts_away, server_now, serves, serves_away}
+use Rattle.bac_protocol.specs.World.{Event, Net, Post, World, ask_made, asked_at, asked_away, asked_away_at, begin_of, client_acts, client_acts_away}
+use Rattle.bac_protocol.specs.World.{client_now, is_deliverable, is_id_held, is_id_held_away, is_room, net_start, reacts, reacts_away, server_acts}
+use Rattle.bac_protocol.specs.World.{server_acts_away, server_now, serves, serves_away}
 use Rattle.bac_protocol.specs.World.{service_of, start, stored, strays_to_client, takes_at_client, ticks_as_client, ticks_as_client_away, ticks_as_server}
 use Rattle.bac_protocol.specs.World.{ticks_as_server_away, ticks_ticket, ticks_ticket_away}
 use Rattle.bac_protocol.specs.World.Event.{MakeAsk, Deliver, Tick, Noise, Advance, Change, RestartClient, RestartServer, Stray, AskAway, TickAway}
@@ -51,7 +53,8 @@ module _ (S : Type 0) (model : StoreModel S) (opening : ℕ → S) (W : ℕ) (x 
 
   -- A client acts.
 
-  right_ended : (log : List Fact) (stores : ℕ → S) → IsRight log stores → (i : ℕ) (o : Option Ending) → IsOrderlySo u (ended i o log) → IsRight (ended i o log) stores
+  right_ended : (log : List Fact) (stores : ℕ → S) → IsRight log stores → (i : ℕ) (o : Option Ending) → IsOrderlySo u (ended i o log)
+      → IsRight (ended i o log) stores
   right_ended log stores h i None right = h
   right_ended log stores h i (Some how) right = (stores, (right.0, right.1, λ node. refl), h)
 
@@ -127,7 +130,8 @@ module _ (S : Type 0) (model : StoreModel S) (opening : ℕ → S) (W : ℕ) (x 
 
       at_client : (o : Option ClientTransaction) → IsReachedHere (taken_by_client x w.net p o) → Stored (takes_at_client S x w p.key p.copy.apdu o)
       at_client None reached = h
-      at_client (Some t) reached = client_stored p.key t (client.client_on_apdu (client_context x p.key (client_now w.net p.key)) x.readable t p.copy.apdu) reached
+      at_client (Some t) reached =
+          client_stored p.key t (client.client_on_apdu (client_context x p.key (client_now w.net p.key)) x.readable t p.copy.apdu) reached
 
       at_server : (o : Option ClientTransaction) → w.net.tickets p.key ≡ o → IsReachedHere (taken_by_server_so x u w.net p free (service_here p.key))
           → Stored (takes_at_server_so S model x u w p.key free p.copy.apdu)
@@ -172,11 +176,12 @@ module _ (S : Type 0) (model : StoreModel S) (opening : ℕ → S) (W : ℕ) (x 
     ticket_ticks_away key (Some t) at = client_away_stored key t (client.client_ticks (client_context x key (client_now w.net key)) t)
         (subst IsReachedHere (ap (ticket_ticked_away x w.net key) at) (moves_on w.net h.reached (TicksTicketAway key)))
 
-    entry_ticks_away : (key : Key) → Stored (serves_away S model w key (server.server_ticks (server_context x key (server_now w.net key)) (w.net.far.entries key)))
+    entry_ticks_away : (key : Key)
+        → Stored (serves_away S model w key (server.server_ticks (server_context x key (server_now w.net key)) (w.net.far.entries key)))
     entry_ticks_away key =
-        let v = server.server_ticks (server_context x key (server_now w.net key)) (w.net.far.entries key) in
-        server_away_stored key v (subst (IsServed (service_here key)) (sym (ticks_quiet (server_context x key (server_now w.net key)) (w.net.far.entries key))) tt)
-        (moves_on w.net h.reached (TicksEntryAway key))
+        let c = server_context x key (server_now w.net key) in
+        server_away_stored key (server.server_ticks c (w.net.far.entries key))
+        (subst (IsServed (service_here key)) (sym (ticks_quiet c (w.net.far.entries key))) tt) (moves_on w.net h.reached (TicksEntryAway key))
 
     -- Asks.
 
@@ -192,7 +197,8 @@ module _ (S : Type 0) (model : StoreModel S) (opening : ℕ → S) (W : ℕ) (x 
       }
         where
           reached : IsReachedHere (asked_at x w.net key ask)
-          reached = subst IsReachedHere (ap (λ b. if b then w.net else asked_at x w.net key ask) is) (moves_on w.net h.reached (Asks key choice whole front rest))
+          reached = subst IsReachedHere (ap (λ b. if b then w.net else asked_at x w.net key ask) is)
+              (moves_on w.net h.reached (Asks key choice whole front rest))
 
       ask_away_stored : (b : Bool) → is_id_held_away w.net key ≡ b → Stored (if b then w else asked_away S x w key ask)
       ask_away_stored true is = h
@@ -207,15 +213,19 @@ module _ (S : Type 0) (model : StoreModel S) (opening : ℕ → S) (W : ℕ) (x 
 
     -- Strangers.
 
-    stray_stored : (key : Key) (a : Apdu) (o : Option ClientTransaction) → IsReachedHere (strayed_to_client x w.net key a o) → Stored (strays_to_client S x w key a o)
+    stray_stored : (key : Key) (a : Apdu) (o : Option ClientTransaction) → IsReachedHere (strayed_to_client x w.net key a o)
+        → Stored (strays_to_client S x w key a o)
     stray_stored key a None reached = h
     stray_stored key a (Some t) reached = client_away_stored key t (client.client_on_apdu (client_context x key (client_now w.net key)) x.readable t a) reached
 
     strays_stored : (key : Key) (free : Bool) (a : Apdu) → Stored (strays_so S model x u w key free a)
     strays_stored key free a = go (is_from_client a) refl
       where
+        c : Context
+        c = server_context x key (server_now w.net key)
+
         v : server.Reaction
-        v = server_hears (u.reuses key.server) (server_context x key (server_now w.net key)) (service_here key) u.reads (w.net.far.entries key) (is_room w.net key free) a
+        v = server_hears (u.reuses key.server) c (service_here key) u.reads (w.net.far.entries key) (is_room w.net key free) a
 
         way : Bool → Net
         way b = if b then strayed_to_server_so x u w.net key free (service_here key) a else strayed_to_client x w.net key a (w.net.far.tickets key)
@@ -225,7 +235,7 @@ module _ (S : Type 0) (model : StoreModel S) (opening : ℕ → S) (W : ℕ) (x 
 
         go : (b : Bool) → is_from_client a ≡ b → Stored (if b then serves_away S model w key v else strays_to_client S x w key a (w.net.far.tickets key))
         go true is = server_away_stored key v
-            (hears_served (server_context x key (server_now w.net key)) (service_here key) (u.reuses key.server) u.reads (w.net.far.entries key) (is_room w.net key free) a)
+            (hears_served c (service_here key) (u.reuses key.server) u.reads (w.net.far.entries key) (is_room w.net key free) a)
             (reached true is)
         go false is = stray_stored key a (w.net.far.tickets key) (reached false is)
 
@@ -237,8 +247,8 @@ module _ (S : Type 0) (model : StoreModel S) (opening : ℕ → S) (W : ℕ) (x 
 
   servers_tick : (keys : List Key) (w : World S) → Stored w → Stored (ticks_as_server S model x keys w)
   servers_tick [] w h = h
-  servers_tick (key ∷ keys) w h = servers_tick keys (serves S model w key (server.server_ticks (server_context x key (server_now w.net key)) (w.net.entries key)))
-      (entry_ticks w h key)
+  servers_tick (key ∷ keys) w h =
+      servers_tick keys (serves S model w key (server.server_ticks (server_context x key (server_now w.net key)) (w.net.entries key))) (entry_ticks w h key)
 
   clients_tick_away : (keys : List Key) (w : World S) → Stored w → Stored (ticks_as_client_away S x keys w)
   clients_tick_away [] w h = h

@@ -22,8 +22,8 @@ ghost use Rattle.bac_reuse.specs.Claims.{AnswersAreOfTheirTime, WritesAreOnce, i
 ghost use Rattle.bac_reuse.specs.Once.{HasNoRead, IsOnceSo};
 ghost use Rattle.bac_reuse.specs.Runs.{AskNoRead, NoneReuses, ReadsChangeNothing, Reusing, run_so};
 
-/// The headline in both modes: after every run, whichever nodes let invoke IDs be used again, where reads change no store. Each accepted ask that is no read, or
-/// whose server does not let them be, takes effect at most once, and exactly once where a service answer reached its client; the request performed and the
+/// The headline in both modes: after every run, whichever nodes let invoke IDs be used again, where reads change no store. Each accepted ask that is no read,
+/// or whose server does not let them be, takes effect at most once, and exactly once where a service answer reached its client; the request performed and the
 /// answer are its own, whole. Any other read is performed as it was asked, each time that its server takes it, and its answer is one of the replies with which
 /// it was performed. Each server's store is that of its last start, after the performed requests and the changes made at that node since, in the log's order.
 /// Strangers may send any octets at any moment: what a server performs for them is in the log, with the reply of its store as it then is, and how often is not
@@ -37,8 +37,8 @@ pub fn at_most_once<S>()
 {}
 
 /// What such a log says. An ask that is no read was not performed before it is performed. Each answer that ends an ask was given between its ask and its end:
-/// the ask was performed with that reply, which its server's store, as it then was, gives to its request. Where nothing that was performed is a read, or no node
-/// lets invoke IDs be used again, the log is right in the headline's own sense.
+/// the ask was performed with that reply, which its server's store, as it then was, gives to its request. Where nothing that was performed is a read, or no
+/// node lets invoke IDs be used again, the log is right in the headline's own sense.
 #[tactic(auto, using(crate::proofs::Claimed::writes_once, crate::proofs::Claimed::of_their_time, crate::proofs::Claimed::without_reads, crate::proofs::Claimed::without_reuse))]
 pub fn right_logs<S>()
     ensures writes { (model : StoreModel S) (reusing : Reusing) (opening : ℕ → S) (log : List Fact) (stores : ℕ → S)
