@@ -294,7 +294,6 @@ WasRead u n log = (c : ℕ) × (s : ℕ) × (r : Request) × Has (Asked n c s r)
 
 pub record AreLogs (u : Reusing) (ours theirs : List Fact) : Type 0 where
   pub asked : (n c s : ℕ) (r : Request) → Has (Asked n c s r) theirs → Has (Asked n c s r) ours
-  pub only_asked : (n c s : ℕ) (r : Request) → Has (Asked n c s r) ours → Has (Asked n c s r) theirs
   pub performed : (n : ℕ) (r : Request) (p : reply) → Has (Performed n r p) theirs → Has (Performed n r p) ours
   pub unended : (n : ℕ) → IsUnended n theirs → IsUnended n ours
   pub unperformed : (n : ℕ) → IsUnperformed n theirs → IsUnperformed n ours ⊎ WasRead u n theirs
@@ -319,7 +318,6 @@ module _ (u : Reusing) (ours theirs : List Fact) (h : AreLogs u ours theirs) whe
   pub logs_both : (f : Fact) → AreLogs u (f ∷ ours) (f ∷ theirs)
   logs_both f = record {
     asked = λ n c s r. has_more f (Asked n c s r) ours theirs (h.asked n c s r);
-    only_asked = λ n c s r. has_more f (Asked n c s r) theirs ours (h.only_asked n c s r);
     performed = λ n r p. has_more f (Performed n r p) ours theirs (h.performed n r p);
     unended = unended f;
     unperformed = unperformed f;
@@ -372,7 +370,6 @@ module _ (u : Reusing) (ours theirs : List Fact) (h : AreLogs u ours theirs) whe
   pub logs_read : (n : ℕ) (r : Request) (p : reply) → WasRead u n theirs → AreLogs u (Performed n r p ∷ ours) theirs
   logs_read n r p read = record {
     asked = λ m c s q k. inr (h.asked m c s q k);
-    only_asked = only_asked;
     performed = λ m q a k. inr (h.performed m q a k);
     unended = h.unended;
     unperformed = λ m k. go m (decide m n) (h.unperformed m k);
@@ -381,10 +378,6 @@ module _ (u : Reusing) (ours theirs : List Fact) (h : AreLogs u ours theirs) whe
     unended_away = h.unended_away;
   }
     where
-      only_asked : (m c s : ℕ) (q : Request) → Has (Asked m c s q) (Performed n r p ∷ ours) → Has (Asked m c s q) theirs
-      only_asked m c s q (inl is) = absurd cc
-      only_asked m c s q (inr k) = h.only_asked m c s q k
-
       decide : (a b : ℕ) → (b ≡ a) ⊎ (b ≢ a)
       decide a b = test (nat_eq b a) refl
         where
@@ -401,7 +394,6 @@ module _ (u : Reusing) (ours theirs : List Fact) (h : AreLogs u ours theirs) whe
   pub logs_ended : (n : ℕ) (how other : Ending) → AreLogs u (Ended n how ∷ ours) (Ended n other ∷ theirs)
   logs_ended n how other = record {
     asked = λ m c s q k. inr (h.asked m c s q (asked m c s q k));
-    only_asked = λ m c s q k. inr (h.only_asked m c s q (only_asked m c s q k));
     performed = λ m q a k. inr (h.performed m q a (performed m q a k));
     unended = λ m k. (k.0, h.unended m k.1);
     unperformed = λ m k. go m (h.unperformed m k);
@@ -418,10 +410,6 @@ module _ (u : Reusing) (ours theirs : List Fact) (h : AreLogs u ours theirs) whe
       asked m c s q (inl is) = absurd cc
       asked m c s q (inr k) = k
 
-      only_asked : (m c s : ℕ) (q : Request) → Has (Asked m c s q) (Ended n how ∷ ours) → Has (Asked m c s q) ours
-      only_asked m c s q (inl is) = absurd cc
-      only_asked m c s q (inr k) = k
-
       performed : (m : ℕ) (q : Request) (a : reply) → Has (Performed m q a) (Ended n other ∷ theirs) → Has (Performed m q a) theirs
       performed m q a (inl is) = absurd cc
       performed m q a (inr k) = k
@@ -435,7 +423,6 @@ module _ (u : Reusing) (ours theirs : List Fact) (h : AreLogs u ours theirs) whe
   logs_served key begin None = h
   logs_served key begin (Some e) = record {
     asked = λ m c s q k. inr (h.asked m c s q k);
-    only_asked = only_asked;
     performed = λ m q a k. inr (h.performed m q a k);
     unended = h.unended;
     unperformed = h.unperformed;
@@ -443,11 +430,6 @@ module _ (u : Reusing) (ours theirs : List Fact) (h : AreLogs u ours theirs) whe
     asked_away = λ m c q a k. inr (h.asked_away m c q a k);
     unended_away = h.unended_away;
   }
-    where
-      only_asked : (m c s : ℕ) (q : Request) → Has (Asked m c s q) (Served key.client key.server key.invoke_id begin e.request e.reply ∷ ours)
-          → Has (Asked m c s q) theirs
-      only_asked m c s q (inl is) = absurd cc
-      only_asked m c s q (inr k) = h.only_asked m c s q k
 
   pub logs_ending_away : (n : ℕ) (o : Option Ending) → AreLogs u (ended_away n o ours) (ended_away n o theirs)
   logs_ending_away n None = h

@@ -1,6 +1,6 @@
 -- What servers that do not let invoke IDs be used again perform for strangers: all that holds of it where no server does holds of it beside others that do.
-use Rattle.std.proofs.Common.{◌≡◌, ℕ, ◌+◌, ◌<◌, ◌≤◌, ◌⊎◌, Bool, true, false, List, [], ◌∷◌, Option, Some, None, slice_get, if◌then◌else◌, nat_eq, refl, ap, sym, subst}
-use Rattle.std.proofs.Common.{inl, inr, ◌∙◌}
+use Rattle.std.proofs.Common.{◌≡◌, ℕ, ◌+◌, ◌<◌, ◌⊎◌, Bool, true, false, List, [], ◌∷◌, Option, Some, None, slice_get, if◌then◌else◌, nat_eq}
+use Rattle.std.proofs.Common.{refl, ap, sym, subst, inl, inr, ◌∙◌}
 use Rattle.bac_apdu.specs.Apdu.{Apdu}
 use Rattle.bac_protocol.specs.declared.times.TheConstants.{KEEP}
 use Rattle.bac_protocol.specs.Pace.{Pace, clock_at}
@@ -16,8 +16,9 @@ use Rattle.bac_protocol.specs.Log.Fact.{Asked, AskedAway, Changed, Ended, EndedA
 use Rattle.bac_protocol.specs.Claims.{AreSpaced, HasSinceRestart}
 use Rattle.bac_protocol.specs.Reuse.{server_hears}
 use Rattle.bac_protocol.specs.Transaction.{Key, Rules, client_context, ended, ended_away, performed, served, server_context}
-use Rattle.bac_protocol.specs.World.{Net, Post, Strangers, asked_at, asked_away_at, begin_of, client_acts, client_acts_away, client_now, client_restarted, is_deliverable}
-use Rattle.bac_protocol.specs.World.{is_id_held, is_id_held_away, is_room, net_start, passes, server_acts, server_acts_away, server_now, server_restarted, set_at}
+use Rattle.bac_protocol.specs.World.{Net, Post, Strangers, asked_at, asked_away_at, begin_of, client_acts, client_acts_away, client_now, is_deliverable}
+use Rattle.bac_protocol.specs.World.{is_id_held, is_id_held_away, is_room, net_start, passes, server_acts, server_acts_away, server_now}
+use Rattle.bac_protocol.specs.World.{server_restarted, set_at}
 use Rattle.bac_protocol.specs.Moves.{Move, strayed_to_client, taken_by_client, ticket_ticked, ticket_ticked_away}
 use Rattle.bac_protocol.specs.Moves.Move.{Asks, Arrives, TicksTicket, TicksEntry, Passes, Changes, RestartsClient, RestartsServer}
 use Rattle.bac_protocol.specs.Moves.Move.{Strays, AsksAway, TicksTicketAway, TicksEntryAway}
@@ -66,7 +67,8 @@ module _ (u : Reusing) (log : List Fact) where
   served_off key begin (Some e) off =
       ap (λ b. if b then log_left u log else Served key.client key.server key.invoke_id begin e.request e.reply ∷ log_left u log) off
 
-  served_on : (key : Key) (begin : ℕ) (o : Option Effect) → u.reuses key.server ≡ false → served key begin o (log_left u log) ≡ log_left u (served key begin o log)
+  served_on : (key : Key) (begin : ℕ) (o : Option Effect) → u.reuses key.server ≡ false
+      → served key begin o (log_left u log) ≡ log_left u (served key begin o log)
   served_on key begin None on = refl
   served_on key begin (Some e) on =
       sym (ap (λ b. if b then log_left u log else Served key.client key.server key.invoke_id begin e.request e.reply ∷ log_left u log) on)
@@ -91,7 +93,8 @@ module _ (u : Reusing) (f : Key → Option ServerTransaction) (key : Key) (e : O
       go : ((key ≡ k) ⊎ (key ≡ k → ⊥)) → set_at (left_at f) key e k ≡ left_at (set_at f key e) k
       go (inl is) = subst (λ (j : Key). set_at (left_at f) key e j ≡ left_at (set_at f key e) j) is
           (set_same (left_at f) key e ∙ sym (ap (λ b. if b then None else set_at f key e key) on ∙ set_same f key e))
-      go (inr ne) = set_other (left_at f) key e k ne ∙ sym (ap (λ (o : Option ServerTransaction). if u.reuses k.server then None else o) (set_other f key e k ne))
+      go (inr ne) = set_other (left_at f) key e k ne
+          ∙ sym (ap (λ (o : Option ServerTransaction). if u.reuses k.server then None else o) (set_other f key e k ne))
 
 swapped : (a b : Bool) (o : Option ServerTransaction) → (if a then None else if b then None else o) ≡ (if b then None else if a then None else o)
 swapped true true o = refl
@@ -117,7 +120,8 @@ module _ (x : Rules) (u : Reusing) (n : Net) (h : AwayLeft u n) where
   server_left key v = with_log (performed (n.numbers key) v.effect n.log) (performed_left u n.log (n.numbers key) v.effect)
 
   client_away_left : (key : Key) (t : ClientTransaction) (r : client.Reaction) → AwayLeft u (client_acts_away n key t r)
-  client_away_left key t r = with_log (ended_away (n.far.numbers key) (client.ending_of r) n.log) (ended_away_left u n.log (n.far.numbers key) (client.ending_of r))
+  client_away_left key t r = with_log (ended_away (n.far.numbers key) (client.ending_of r) n.log)
+      (ended_away_left u n.log (n.far.numbers key) (client.ending_of r))
 
   -- a server that lets invoke IDs be used again
   server_off : (key : Key) (v : server.Reaction) → u.reuses key.server ≡ true → AwayLeft u (server_acts_away n key v)
@@ -126,7 +130,8 @@ module _ (x : Rules) (u : Reusing) (n : Net) (h : AwayLeft u n) where
       (with_log (served key (begin_of v.entry) v.effect n.log) (served_off u n.log key (begin_of v.entry) v.effect off))
 
   -- one that does not
-  server_on : (key : Key) (v : server.Reaction) → u.reuses key.server ≡ false → Away (server_acts_away (left_of u n) key v) → AwayLeft u (server_acts_away n key v)
+  server_on : (key : Key) (v : server.Reaction) → u.reuses key.server ≡ false → Away (server_acts_away (left_of u n) key v)
+      → AwayLeft u (server_acts_away n key v)
   server_on key v on away = subst (λ (l : List Fact). AwayIn n.server_clocks n.serves_from (far_left u (server_acts_away n key v).far) l)
       (served_on u n.log key (begin_of v.entry) v.effect on)
       (subst (λ (f : Key → Option ServerTransaction). AwayIn n.server_clocks n.serves_from (with_entries f)
@@ -175,7 +180,8 @@ module _ (x : Rules) (u : Reusing) (n : Net) (h : AwayLeft u n) where
     where
       go : (b up : Bool) → AwayLeft u (if b then (if up then taken_by_server_so x u n p free service else taken_by_client x n p (n.tickets p.key)) else n)
       go true true = server_left p.key
-          (server_hears (u.reuses p.key.server) (server_context x p.key (server_now n p.key)) service u.reads (n.entries p.key) (is_room n p.key free) p.copy.apdu)
+          (server_hears (u.reuses p.key.server) (server_context x p.key (server_now n p.key)) service u.reads (n.entries p.key) (is_room n p.key free)
+          p.copy.apdu)
       go true false = taken_left p (n.tickets p.key)
       go false up = h
 
@@ -233,7 +239,8 @@ move_left x u n g calm h (TicksEntryAway key) = ticks_left x u (over n g) h key
 
 pub start_left : (u : Reusing) (pace : Pace) (clocks : ℕ → ℕ) → AwayLeft u (net_start pace clocks)
 start_left u pace clocks = subst (λ (f : Key → Option ServerTransaction). AwayIn (λ node. clock_at pace (clocks node)) (λ node. 0)
-    (record { numbers = λ key. 0; tickets = λ key. None; entries = f }) []) (λ i k. either_way (u.reuses k.server) None i) (away_starts (λ node. clock_at pace (clocks node)))
+    (record { numbers = λ key. 0; tickets = λ key. None; entries = f }) []) (λ i k. either_way (u.reuses k.server) None i)
+    (away_starts (λ node. clock_at pace (clocks node)))
 
 -- What it says.
 
@@ -243,7 +250,8 @@ since_left u q s i b r p [] on h = h
 since_left u q s i b r p (Restarted z o ∷ log) on h = (h.0, since_left u q s i b r p log on h.1)
 since_left u q s i b r p (Served c z j d y a ∷ log) on (inl is) =
     let same : z ≡ s = cc in
-    subst (λ e. HasSinceRestart s (Served q s i b r p) (if e then log_left u log else Served c z j d y a ∷ log_left u log)) (sym (ap u.reuses same ∙ on)) (inl is)
+    subst (λ e. HasSinceRestart s (Served q s i b r p) (if e then log_left u log else Served c z j d y a ∷ log_left u log))
+    (sym (ap u.reuses same ∙ on)) (inl is)
 since_left u q s i b r p (Served c z j d y a ∷ log) on (inr h) = go (u.reuses z) (since_left u q s i b r p log on h)
   where
     go : (e : Bool) → HasSinceRestart s (Served q s i b r p) (log_left u log)

@@ -20,9 +20,9 @@ use Rattle.bac_protocol.specs.Log.{Fact, IsOrderly, WasAsked}
 use Rattle.bac_protocol.specs.Log.Fact.{Asked, AskedAway, Changed, Restarted}
 use Rattle.bac_protocol.specs.Reuse.{server_hears}
 use Rattle.bac_protocol.specs.Transaction.{Copy, Key, Rules, client_context, ended_away, served, server_context}
-use Rattle.bac_protocol.specs.World.{Net, Post, asked_at, asked_away_at, begin_of, client_acts, client_acts_away, client_now, client_restarted, copies_of, is_id_held}
-use Rattle.bac_protocol.specs.World.{is_id_held_away, is_room, later, lost, net_start, notes_change, passes, post_of, server_acts, server_acts_away, server_now}
-use Rattle.bac_protocol.specs.World.{server_restarted, set_at}
+use Rattle.bac_protocol.specs.World.{Net, Post, asked_at, asked_away_at, begin_of, client_acts, client_acts_away, client_now, client_restarted}
+use Rattle.bac_protocol.specs.World.{copies_of, is_id_held, is_id_held_away, is_room, later, lost, net_start, notes_change, passes, post_of, server_acts}
+use Rattle.bac_protocol.specs.World.{server_acts_away, server_now, server_restarted, set_at}
 use Rattle.bac_protocol.specs.Moves.{Move, strayed_to_client, taken_by_client, ticket_ticked, ticket_ticked_away}
 use Rattle.bac_protocol.specs.Moves.Move.{Asks, Arrives, TicksTicket, TicksEntry, Passes, Changes, RestartsClient, RestartsServer}
 use Rattle.bac_protocol.specs.Moves.Move.{Strays, AsksAway, TicksTicketAway, TicksEntryAway}
@@ -44,8 +44,8 @@ use Rattle.bac_reuse.proofs.Beside.{ended_away_grows, like_key, likes_join, like
 use Rattle.bac_reuse.proofs.Clients.{AbortsIf, EndsAsAborted, IsAnswer, answer_comes, asks_steady, gets_steady, steady_ends, ticks_steady}
 use Rattle.bac_reuse.proofs.Machine.{IsGone, gone_ticks}
 use Rattle.bac_reuse.proofs.Simulated.{IsFollowed, Like, client_ended, client_same, copy_comes, follows, ticks_on}
-use Rattle.bac_reuse.proofs.NetSteps.{Stands, ask_stands, away_asks, away_reacts, away_right, change_stands, client_ends, client_restart_stands, server_restart_stands, starts_standing, ticket_gets}
-use Rattle.bac_reuse.proofs.NetSteps.{ticket_stays, ticket_ticks, time_stands}
+use Rattle.bac_reuse.proofs.NetSteps.{Stands, ask_stands, away_asks, away_reacts, away_right, change_stands, client_ends, client_restart_stands, starts_standing}
+use Rattle.bac_reuse.proofs.NetSteps.{server_restart_stands, ticket_gets, ticket_stays, ticket_ticks, time_stands}
 
 all_there : (posts : List Post) → posts ++ [] ≡ posts
 all_there [] = refl
@@ -515,7 +515,8 @@ module _ (W : ℕ) (x : Rules) (bound : IsBounded W x) (u : Reusing) where
         let c = client_context x key (client_now n key) in
         far_reacts key t at (client.client_ticks c t) (ended_is_silent.ticks c t)
 
-    far_entry_ticks : (key : Key) → Follows (server_acts_away (over n g) key (server.server_ticks (server_context x key (server_now n key)) (g.far_entries key)))
+    far_entry_ticks : (key : Key)
+        → Follows (server_acts_away (over n g) key (server.server_ticks (server_context x key (server_now n key)) (g.far_entries key)))
     far_entry_ticks key = far_serves key (server.server_ticks (server_context x key (server_now n key)) (g.far_entries key))
 
   -- Each move.
@@ -549,7 +550,6 @@ module _ (W : ℕ) (x : Rules) (bound : IsBounded W x) (u : Reusing) where
         entries = λ key. (tt, tt);
         logs = record {
           asked = λ i c s r h. h;
-          only_asked = λ i c s r h. h;
           performed = λ i r p h. h;
           unended = λ i h. h;
           unperformed = λ i h. inl h;

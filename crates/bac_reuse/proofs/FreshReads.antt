@@ -15,7 +15,8 @@ use Rattle.bac_protocol.specs.Own.{IsOfServer, IsOwnEntry, StateHas}
 use Rattle.bac_protocol.specs.Server as server
 use Rattle.bac_protocol.specs.Server.{Effect, Reaction, ServerTransaction, Service, State, begins, is_kept, is_live, is_none_live, performs_so, server_on_apdu}
 use Rattle.bac_protocol.specs.Server.State.{Done, SegmentedResponse, Dropped}
-use Rattle.bac_protocol.specs.Reuse.{Reads, ends_entry, entry_left, has_transfer, idle_on_read, idle_reusing, is_ended_by, is_over, left_on_apdu, reads_so, reusing_on_apdu, server_hears}
+use Rattle.bac_protocol.specs.Reuse.{Reads, ends_entry, entry_left, has_transfer, idle_on_read, idle_reusing, is_ended_by, is_over, left_on_apdu, reads_so}
+use Rattle.bac_protocol.specs.Reuse.{reusing_on_apdu, server_hears}
 use Rattle.bac_protocol.proofs.Facts.{all_map}
 use Rattle.bac_protocol.proofs.Own.{server_sends_own}
 use Rattle.bac_protocol.proofs.Reused.{goes_on_where}
@@ -311,7 +312,8 @@ hears_served c service reuse reads o free a = hears_comes c service (λ q. Unit 
     (record { none = tt; gets = λ q h free a. gets_served c service q free a; rests = λ q h sends. tt; reads = λ q h v is. is }) reuse reads o tt free a
 
 -- what an entry keeps is its own
-pub hears_own : (c : Context) (service : Service) (reuse : Bool) (reads : Reads) (o : Option ServerTransaction) → IsOwnEntry c.invoke_id o → (free : Bool) (a : Apdu)
-    → IsOwnEntry c.invoke_id (server_hears reuse c service reads o free a).entry
+pub hears_own : (c : Context) (service : Service) (reuse : Bool) (reads : Reads) (o : Option ServerTransaction) → IsOwnEntry c.invoke_id o
+    → (free : Bool) (a : Apdu) → IsOwnEntry c.invoke_id (server_hears reuse c service reads o free a).entry
 hears_own c service reuse reads o own free a = hears_comes c service (IsOwnEntry c.invoke_id) (λ v. IsOwnEntry c.invoke_id v.entry)
-    (record { none = tt; gets = λ q h free a. (server_sends_own.gets c service q free a h).1; rests = λ q h sends. h; reads = λ q h v is. h }) reuse reads o own free a
+    (record { none = tt; gets = λ q h free a. (server_sends_own.gets c service q free a h).1; rests = λ q h sends. h; reads = λ q h v is. h })
+    reuse reads o own free a

@@ -1,8 +1,7 @@
 -- What holds of entries after any moves of a net in which invoke IDs are used again: each is of a ticket, and its transaction's own.
-use Rattle.std.proofs.Common.{◌≡◌, ℕ, ◌-◌, ◌⊎◌, Bool, true, false, ◌&&◌, List, ◌∷◌, Option, Some, None, slice_get, if◌then◌else◌, nat_eq, nat_le, refl, ap, sym, subst}
+use Rattle.std.proofs.Common.{◌≡◌, ℕ, ◌⊎◌, Bool, true, false, ◌∷◌, Option, Some, None, slice_get, if◌then◌else◌, nat_eq, refl, ap, sym, subst}
 use Rattle.std.proofs.Common.{inl, inr, ◌∙◌}
 use Rattle.bac_apdu.specs.Apdu.{Apdu}
-use Rattle.bac_protocol.specs.Service.{Octets}
 use Rattle.bac_protocol.specs.Wire.{is_from_client}
 use Rattle.bac_protocol.specs.Client.{Ask, ClientTransaction}
 use Rattle.bac_protocol.specs.Server as server
@@ -10,7 +9,7 @@ use Rattle.bac_protocol.specs.Server.{ServerTransaction, Service}
 use Rattle.bac_protocol.specs.Own.{IsOwnEntry}
 use Rattle.bac_protocol.specs.Reuse.{server_hears}
 use Rattle.bac_protocol.specs.Transaction.{Key, Rules, server_context}
-use Rattle.bac_protocol.specs.World.{Net, Post, asked_at, asked_away_at, client_now, is_deliverable, is_id_held, is_id_held_away, is_room, later, lost, server_acts}
+use Rattle.bac_protocol.specs.World.{Net, Post, asked_at, asked_away_at, client_now, is_deliverable, is_id_held, is_id_held_away, is_room, lost, server_acts}
 use Rattle.bac_protocol.specs.World.{server_now, set_at}
 use Rattle.bac_protocol.specs.Moves.{Move, strayed_to_client, taken_by_client, ticket_ticked, ticket_ticked_away}
 use Rattle.bac_protocol.specs.Moves.Move.{Asks, Arrives, TicksTicket, TicksEntry, Passes, Changes, RestartsClient, RestartsServer}
@@ -93,7 +92,8 @@ module _ (x : Rules) (u : Reusing) (n : Net) (h : AreKept n) where
   far : (m : Net) → m.entries ≡ n.entries → m.tickets ≡ n.tickets → AreKept m
   far m entries tickets = record {
     own = λ k. subst (λ (f : Key → Option ServerTransaction). IsOwnEntry k.invoke_id (f k)) (sym entries) (h.own k);
-    entered = λ k none. ap (λ (f : Key → Option ServerTransaction). f k) entries ∙ h.entered k (sym (ap (λ (f : Key → Option ClientTransaction). f k) tickets) ∙ none);
+    entered = λ k none. ap (λ (f : Key → Option ServerTransaction). f k) entries
+        ∙ h.entered k (sym (ap (λ (f : Key → Option ClientTransaction). f k) tickets) ∙ none);
   }
 
   stray_kept : (key : Key) (a : Apdu) (o : Option ClientTransaction) → AreKept (strayed_to_client x n key a o)

@@ -14,3 +14,4 @@ pub mod KeptEntries
 pub mod FarApart
 pub mod ReusingMoves
 pub mod Stored
+pub mod Orderly

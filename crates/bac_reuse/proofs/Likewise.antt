@@ -99,18 +99,18 @@ none_of reads n c s r (AskedAway m a b q ∷ log) h (inr k) = none_of reads n c 
 none_of reads n c s r (EndedAway m how ∷ log) h (inl is) = absurd cc
 none_of reads n c s r (EndedAway m how ∷ log) h (inr k) = none_of reads n c s r log h k
 
-none_performed : (S : Type 0) (model : StoreModel S) (reads : Reads) (opening : ℕ → S) (log : List Fact) (stores : ℕ → S) → IsOnceSo S model reads opening log stores
-    → NoneAsked reads log → HasNoRead reads log
-none_performed S model reads opening [] stores h k = tt
-none_performed S model reads opening (Asked n c s r ∷ log) stores h k = none_performed S model reads opening log h.0 h.2 k.1
-none_performed S model reads opening (Performed n r p ∷ log) stores h k =
-    (none_of reads n h.1.0 h.1.1 r log k h.1.2, none_performed S model reads opening log h.0 h.2 k)
-none_performed S model reads opening (Ended n how ∷ log) stores h k = none_performed S model reads opening log h.0 h.2 k
-none_performed S model reads opening (Changed s c ∷ log) stores h k = none_performed S model reads opening log h.0 h.2 k
-none_performed S model reads opening (Restarted s o ∷ log) stores h k = none_performed S model reads opening log h.0 h.2 k
-none_performed S model reads opening (Served q s i b r p ∷ log) stores h k = none_performed S model reads opening log h.0 h.2 k
-none_performed S model reads opening (AskedAway n c q r ∷ log) stores h k = none_performed S model reads opening log h.0 h.2 k
-none_performed S model reads opening (EndedAway n how ∷ log) stores h k = none_performed S model reads opening log h.0 h.2 k
+none_performed : (S : Type 0) (model : StoreModel S) (u : Reusing) (opening : ℕ → S) (log : List Fact) (stores : ℕ → S) → IsOnceSo S model u opening log stores
+    → NoneAsked u.reads log → HasNoRead u.reads log
+none_performed S model u opening [] stores h k = tt
+none_performed S model u opening (Asked n c s r ∷ log) stores h k = none_performed S model u opening log h.0 h.2 k.1
+none_performed S model u opening (Performed n r p ∷ log) stores h k =
+    (none_of u.reads n h.1.0 h.1.1 r log k h.1.2, none_performed S model u opening log h.0 h.2 k)
+none_performed S model u opening (Ended n how ∷ log) stores h k = none_performed S model u opening log h.0 h.2 k
+none_performed S model u opening (Changed s c ∷ log) stores h k = none_performed S model u opening log h.0 h.2 k
+none_performed S model u opening (Restarted s o ∷ log) stores h k = none_performed S model u opening log h.0 h.2 k
+none_performed S model u opening (Served q s i b r p ∷ log) stores h k = none_performed S model u opening log h.0 h.2 k
+none_performed S model u opening (AskedAway n c q r ∷ log) stores h k = none_performed S model u opening log h.0 h.2 k
+none_performed S model u opening (EndedAway n how ∷ log) stores h k = none_performed S model u opening log h.0 h.2 k
 
 module _ (S : Type 0) (model : StoreModel S) (x : Rules) (u : Reusing) where
   abbrev Quiet : World S → Type 0
@@ -226,8 +226,8 @@ module _ (S : Type 0) (model : StoreModel S) (x : Rules) (u : Reusing) where
       (servers_away_quiet as_server (ticks_as_client_away S x as_client w) (clients_away_quiet as_client w h))
 
   pub none_in_run : (pace : Pace) (clocks : ℕ → ℕ) (opening : ℕ → S) (events : List Event) → AskNoRead u.reads events
-      → IsOnceSo S model u.reads opening (run_so S model x u events (start S pace clocks opening)).net.log (run_so S model x u events (start S pace clocks opening)).stores
+      → IsOnceSo S model u opening (run_so S model x u events (start S pace clocks opening)).net.log (run_so S model x u events (start S pace clocks opening)).stores
       → HasNoRead u.reads (run_so S model x u events (start S pace clocks opening)).net.log
   none_in_run pace clocks opening events writes once =
       let w = run_so S model x u events (start S pace clocks opening) in
-      none_performed S model u.reads opening w.net.log w.stores once (run_quiet events writes (start S pace clocks opening) tt)
+      none_performed S model u opening w.net.log w.stores once (run_quiet events writes (start S pace clocks opening) tt)

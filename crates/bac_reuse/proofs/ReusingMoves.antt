@@ -1,17 +1,17 @@
 -- After any moves of a net in which invoke IDs are used again it is in order; and where no node lets them be, the moves are those of bac_protocol.
-use Rattle.std.proofs.Common.{◌≡◌, ℕ, ◌+◌, ◌-◌, ◌<◌, ◌≤◌, ◌⊎◌, Bool, true, false, List, [], ◌∷◌, Option, Some, None, slice_get, if◌then◌else◌, nat_le, refl, ap, sym, subst}
+use Rattle.std.proofs.Common.{◌≡◌, ℕ, ◌-◌, ◌⊎◌, Bool, true, false, List, [], ◌∷◌, Option, Some, None, slice_get, if◌then◌else◌, nat_le, refl, ap, sym, subst}
 use Rattle.std.proofs.Common.{inl, inr, ◌∙◌, arith}
 use Rattle.std.proofs.lemmas.Bool.Decides.{nat_tests}
 use Rattle.bac_apdu.specs.Apdu.{Apdu}
 use Rattle.bac_protocol.specs.declared.times.TheConstants.{KEEP}
 use Rattle.bac_protocol.specs.Pace.{IsTimely, Pace}
-use Rattle.bac_protocol.specs.Service.{Reply as reply, Request}
+use Rattle.bac_protocol.specs.Service.{Request}
 use Rattle.bac_protocol.specs.Wire.{is_from_client}
 use Rattle.bac_protocol.specs.Client.{ClientTransaction, request_of}
 use Rattle.bac_protocol.specs.Server.{ServerTransaction, Service, is_none_live}
-use Rattle.bac_protocol.specs.Log.{Fact, Has, IsOrderly, IsUnperformed, WasAskedAway, asks_in}
+use Rattle.bac_protocol.specs.Log.{Fact, IsOrderly, IsUnperformed, WasAskedAway}
 use Rattle.bac_protocol.specs.Log.Fact.{Asked, AskedAway, Changed, Ended, EndedAway, Performed, Restarted, Served}
-use Rattle.bac_protocol.specs.Claims.{AreServedApart, AreSpaced, HasSinceRestart, IsBounded}
+use Rattle.bac_protocol.specs.Claims.{AreServedApart, AreSpaced, IsBounded}
 use Rattle.bac_protocol.specs.Reuse.{server_hears}
 use Rattle.bac_protocol.specs.Transaction.{Copy, Key, Rules, server_context}
 use Rattle.bac_protocol.specs.World.{Net, Post, is_deliverable, is_id_held, is_room, later, net_start, server_acts, server_acts_away, server_now}
@@ -20,11 +20,11 @@ use Rattle.bac_protocol.specs.Moves.IsReached.{Still as stays, Moved as goes}
 use Rattle.bac_protocol.specs.Moves.Move.{Asks, Arrives, TicksTicket, TicksEntry, Passes, Changes, RestartsClient, RestartsServer}
 use Rattle.bac_protocol.specs.Moves.Move.{Strays, AsksAway, TicksTicketAway, TicksEntryAway}
 use Rattle.bac_protocol.proofs.Calm.{spent_free}
-use Rattle.bac_protocol.proofs.Headline.{asked_once, net_log}
+use Rattle.bac_protocol.proofs.Headline.{net_log}
 use Rattle.bac_protocol.proofs.Keys.{copy_at}
 use Rattle.bac_protocol.proofs.Nets.{sound_at}
 use Rattle.bac_protocol.proofs.StrangerTables.{was_away}
-use Rattle.bac_reuse.specs.Moves.{AreServedApartSo, AreSpacedSo, IsInOrderSo, IsOrderlySo, IsReachedSo, IsTicking, MayBePerformed, arrived_so, moved_so}
+use Rattle.bac_reuse.specs.Moves.{AreServedApartSo, AreSpacedSo, IsInOrderSo, IsOrderlySo, IsReachedSo, MayBePerformed, arrived_so, moved_so}
 use Rattle.bac_reuse.specs.Moves.{strayed_to_server_so, taken_by_server_so}
 use Rattle.bac_reuse.specs.Moves.IsReachedSo.{Still, Moved}
 use Rattle.bac_reuse.specs.Runs.{NoneReuses, Reusing}
@@ -90,10 +90,6 @@ module _ (W : ℕ) (x : Rules) (u : Reusing) (bound : IsBounded W x) where
       served_apart = apart_left u (over n g) apart;
     }
 
-    -- an ask has one request
-    asks_once : (i c b d e : ℕ) (q r : Request) → Has (Asked i c b q) g.log → Has (Asked i d e r) g.log → q ≡ r
-    asks_once i c b d e q r h k = asked_once i c b d e q r n.log (net_log W n s.net).orderly (l.logs.only_asked i c b q h) (l.logs.only_asked i d e r k)
-
   module _ (pace : Pace) (timely : IsTimely pace) (clocks : ℕ → ℕ) where
     abbrev IsReachedHere : Net → Type 0
     IsReachedHere n = IsReachedSo x u (net_start pace clocks) n
@@ -120,18 +116,14 @@ module _ (W : ℕ) (x : Rules) (u : Reusing) (bound : IsBounded W x) where
         subst (λ (m : Net). IsInOrderSo u m) (sym f.4) (ordered f.0 f.1 f.2 f.3 (subst (λ (m : Net). AreKept m) f.4 (kept n h))
         (subst (λ (m : Net). AwayLeft u m) f.4 (left n h)))
 
-    pub asked_once_so : (n : Net) → IsReachedSo x u (net_start pace clocks) n → (i c b d e : ℕ) (q r : Request) → Has (Asked i c b q) n.log
-        → Has (Asked i d e r) n.log → q ≡ r
-    asked_once_so n h i c b d e q r = let f = followed n h in
-        subst (λ (m : Net). Has (Asked i c b q) m.log → Has (Asked i d e r) m.log → q ≡ r) (sym f.4) (asks_once f.0 f.1 f.2 f.3 i c b d e q r)
-
 -- Moves without reuse.
 module _ (x : Rules) (u : Reusing) (none : NoneReuses u) where
   server_same : (n : Net) (p : Post) (free : Bool) (service : Service) → taken_by_server_so x u n p free service ≡ taken_by_server x n p free service
   server_same n p free service = ap (λ b. server_acts n p.key (server_hears b (server_context x p.key (server_now n p.key)) service u.reads (n.entries p.key)
       (is_room n p.key free) p.copy.apdu)) (none p.key.server)
 
-  arrives_same : (n : Net) (number : ℕ) (free : Bool) (service : Service) (o : Option Post) → arrived_so x u n number free service o ≡ arrived x n number free service o
+  arrives_same : (n : Net) (number : ℕ) (free : Bool) (service : Service) (o : Option Post)
+      → arrived_so x u n number free service o ≡ arrived x n number free service o
   arrives_same n number free service None = refl
   arrives_same n number free service (Some p) = go (is_deliverable x n number p) (is_from_client p.copy.apdu)
     where

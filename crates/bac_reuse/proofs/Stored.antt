@@ -1,9 +1,9 @@
 -- Each event of a run in which servers let invoke IDs be used again is moves of its net; so its log is right, with the stores.
-use Rattle.std.proofs.Common.{◌≡◌, ℕ, ◌⊎◌, Bool, true, false, List, [], ◌∷◌, Option, Some, None, slice_get, if◌then◌else◌, nat_eq, refl, ap, sym, subst, inl, inr, ◌∙◌}
+use Rattle.std.proofs.Common.{◌≡◌, ℕ, ◌⊎◌, Bool, true, false, List, [], ◌∷◌, Option, Some, None, slice_get, if◌then◌else◌, refl, ap, sym, subst, ◌∙◌}
 use Rattle.bac_apdu.specs.Apdu.{Apdu}
+use Rattle.bac_protocol.specs.Context.{Context}
 use Rattle.bac_protocol.specs.Pace.{IsTimely, Pace}
 use Rattle.bac_protocol.specs.Service.{Ending, Octets, Request}
-use Rattle.bac_protocol.specs.Service.Outcome.{Rejects}
 use Rattle.bac_protocol.specs.Wire.{is_from_client}
 use Rattle.bac_protocol.specs.Client as client
 use Rattle.bac_protocol.specs.Client.{Ask, ClientTransaction, request_of}
@@ -13,8 +13,9 @@ use Rattle.bac_protocol.specs.Log.{Fact, Has, IsUnperformed, StoreModel}
 use Rattle.bac_protocol.specs.Log.Fact.{Asked}
 use Rattle.bac_protocol.specs.Reuse.{server_hears}
 use Rattle.bac_protocol.specs.Transaction.{Key, Rules, client_context, ended, ended_away, performed, served, server_context}
-use Rattle.bac_protocol.specs.World.{Event, Net, Post, World, ask_made, asked_at, asked_away, asked_away_at, begin_of, client_acts, client_acts_away, client_now, is_deliverable}
-use Rattle.bac_protocol.specs.World.{is_id_held, is_id_held_away, is_room, net_start, reacts, reacts_away, server_acts, server_acts_away, server_now, serves, serves_away}
+use Rattle.bac_protocol.specs.World.{Event, Net, Post, World, ask_made, asked_at, asked_away, asked_away_at, begin_of, client_acts, client_acts_away}
+use Rattle.bac_protocol.specs.World.{client_now, is_deliverable, is_id_held, is_id_held_away, is_room, net_start, reacts, reacts_away, server_acts}
+use Rattle.bac_protocol.specs.World.{server_acts_away, server_now, serves, serves_away}
 use Rattle.bac_protocol.specs.World.{service_of, start, stored, strays_to_client, takes_at_client, ticks_as_client, ticks_as_client_away, ticks_as_server}
 use Rattle.bac_protocol.specs.World.{ticks_as_server_away, ticks_ticket, ticks_ticket_away}
 use Rattle.bac_protocol.specs.World.Event.{MakeAsk, Deliver, Tick, Noise, Advance, Change, RestartClient, RestartServer, Stray, AskAway, TickAway}
@@ -24,11 +25,12 @@ use Rattle.bac_protocol.specs.Moves.Move.{Asks, Arrives, TicksTicket, TicksEntry
 use Rattle.bac_protocol.specs.Moves.Move.{Strays, AsksAway, TicksTicketAway, TicksEntryAway}
 use Rattle.bac_protocol.proofs.Served.{IsServed, ticks_quiet}
 use Rattle.bac_reuse.specs.Once.{IsOnceSo}
-use Rattle.bac_reuse.specs.Moves.{IsInOrderSo, IsOrderlySo, IsReachedSo, MayBePerformed, arrived_so, moved_so, strayed_to_server_so, taken_by_server_so}
+use Rattle.bac_reuse.specs.Moves.{IsInOrderSo, IsOrderlySo, IsReachedSo, arrived_so, moved_so, strayed_to_server_so, taken_by_server_so}
 use Rattle.bac_reuse.specs.Moves.IsReachedSo.{Still, Moved}
 use Rattle.bac_reuse.specs.Runs.{Reusing, delivered_so, happens_so, run_so, strays_so, takes_at_server_so}
 use Rattle.bac_reuse.proofs.FreshReads.{hears_served}
-use Rattle.bac_reuse.proofs.ReusingMoves.{asked_once_so, in_order_so}
+use Rattle.bac_reuse.proofs.Orderly.{one_ask}
+use Rattle.bac_reuse.proofs.ReusingMoves.{in_order_so}
 
 module _ (S : Type 0) (model : StoreModel S) (opening : ℕ → S) (W : ℕ) (x : Rules) (bound : IsBounded W x) (u : Reusing) (pace : Pace) (timely : IsTimely pace)
     (clocks : ℕ → ℕ) where
@@ -36,7 +38,7 @@ module _ (S : Type 0) (model : StoreModel S) (opening : ℕ → S) (W : ℕ) (x 
   IsReachedHere n = IsReachedSo x u (net_start pace clocks) n
 
   abbrev IsRight : List Fact → (ℕ → S) → Type 0
-  IsRight log stores = IsOnceSo S model u.reads opening log stores
+  IsRight log stores = IsOnceSo S model u opening log stores
 
   -- moves lead to its net, and its log is right
   record Stored (w : World S) : Type 0 where
@@ -51,7 +53,8 @@ module _ (S : Type 0) (model : StoreModel S) (opening : ℕ → S) (W : ℕ) (x 
 
   -- A client acts.
 
-  right_ended : (log : List Fact) (stores : ℕ → S) → IsRight log stores → (i : ℕ) (o : Option Ending) → IsOrderlySo u (ended i o log) → IsRight (ended i o log) stores
+  right_ended : (log : List Fact) (stores : ℕ → S) → IsRight log stores → (i : ℕ) (o : Option Ending) → IsOrderlySo u (ended i o log)
+      → IsRight (ended i o log) stores
   right_ended log stores h i None right = h
   right_ended log stores h i (Some how) right = (stores, (right.0, right.1, λ node. refl), h)
 
@@ -80,20 +83,20 @@ module _ (S : Type 0) (model : StoreModel S) (opening : ℕ → S) (W : ℕ) (x 
         → IsOrderlySo u (performed (w.net.numbers key) o w.net.log) → IsRight (performed (w.net.numbers key) o w.net.log) (stored S model key.server o w.stores)
     right_performed key t at None is right = h.right
     right_performed key t at (Some e) is right =
-        (w.stores, (key.client, key.server, asked, before right.0.3, is, λ node. refl), h.right)
+        (w.stores, (key.client, key.server, asked, before, is, λ node. refl), h.right)
       where
         was_asked : Has (Asked (w.net.numbers key) key.client key.server (request_of t.ask)) w.net.log
         was_asked = (known w.net h.reached).asked key t at
 
-        asked : Has (Asked (w.net.numbers key) key.client key.server e.request) w.net.log
-        asked = subst (λ (q : Request). Has (Asked (w.net.numbers key) key.client key.server q) w.net.log)
-            (asked_once_so W x u bound pace timely clocks w.net h.reached (w.net.numbers key) key.client key.server right.0.0 right.0.1 (request_of t.ask) e.request
-            was_asked right.0.2) was_asked
+        -- it is the one that was asked
+        one : (right.0.1 ≡ key.server) × (e.request ≡ request_of t.ask)
+        one = one_ask u w.net.log right.1 (w.net.numbers key) right.0.0 right.0.1 key.client key.server e.request (request_of t.ask) right.0.2 was_asked
 
-        before : IsUnperformed (w.net.numbers key) w.net.log ⊎ ((u.reuses right.0.1 ≡ true) × (u.reads e.request.choice ≡ true))
-            → IsUnperformed (w.net.numbers key) w.net.log ⊎ (u.reads e.request.choice ≡ true)
-        before (inl un) = inl un
-        before (inr read) = inr read.1
+        asked : Has (Asked (w.net.numbers key) key.client key.server e.request) w.net.log
+        asked = subst (λ (q : Request). Has (Asked (w.net.numbers key) key.client key.server q) w.net.log) (sym one.1) was_asked
+
+        before : IsUnperformed (w.net.numbers key) w.net.log ⊎ ((u.reuses key.server ≡ true) × (u.reads e.request.choice ≡ true))
+        before = subst (λ (s : ℕ). IsUnperformed (w.net.numbers key) w.net.log ⊎ ((u.reuses s ≡ true) × (u.reads e.request.choice ≡ true))) one.0 right.0.3
 
     server_stored : (key : Key) (t : ClientTransaction) → w.net.tickets key ≡ Some t → (v : server.Reaction) → IsServed (service_of S model w key) v.effect
         → IsReachedHere (server_acts w.net key v) → Stored (serves S model w key v)
@@ -127,7 +130,8 @@ module _ (S : Type 0) (model : StoreModel S) (opening : ℕ → S) (W : ℕ) (x 
 
       at_client : (o : Option ClientTransaction) → IsReachedHere (taken_by_client x w.net p o) → Stored (takes_at_client S x w p.key p.copy.apdu o)
       at_client None reached = h
-      at_client (Some t) reached = client_stored p.key t (client.client_on_apdu (client_context x p.key (client_now w.net p.key)) x.readable t p.copy.apdu) reached
+      at_client (Some t) reached =
+          client_stored p.key t (client.client_on_apdu (client_context x p.key (client_now w.net p.key)) x.readable t p.copy.apdu) reached
 
       at_server : (o : Option ClientTransaction) → w.net.tickets p.key ≡ o → IsReachedHere (taken_by_server_so x u w.net p free (service_here p.key))
           → Stored (takes_at_server_so S model x u w p.key free p.copy.apdu)
@@ -172,11 +176,12 @@ module _ (S : Type 0) (model : StoreModel S) (opening : ℕ → S) (W : ℕ) (x 
     ticket_ticks_away key (Some t) at = client_away_stored key t (client.client_ticks (client_context x key (client_now w.net key)) t)
         (subst IsReachedHere (ap (ticket_ticked_away x w.net key) at) (moves_on w.net h.reached (TicksTicketAway key)))
 
-    entry_ticks_away : (key : Key) → Stored (serves_away S model w key (server.server_ticks (server_context x key (server_now w.net key)) (w.net.far.entries key)))
+    entry_ticks_away : (key : Key)
+        → Stored (serves_away S model w key (server.server_ticks (server_context x key (server_now w.net key)) (w.net.far.entries key)))
     entry_ticks_away key =
-        let v = server.server_ticks (server_context x key (server_now w.net key)) (w.net.far.entries key) in
-        server_away_stored key v (subst (IsServed (service_here key)) (sym (ticks_quiet (server_context x key (server_now w.net key)) (w.net.far.entries key))) tt)
-        (moves_on w.net h.reached (TicksEntryAway key))
+        let c = server_context x key (server_now w.net key) in
+        server_away_stored key (server.server_ticks c (w.net.far.entries key))
+        (subst (IsServed (service_here key)) (sym (ticks_quiet c (w.net.far.entries key))) tt) (moves_on w.net h.reached (TicksEntryAway key))
 
     -- Asks.
 
@@ -192,7 +197,8 @@ module _ (S : Type 0) (model : StoreModel S) (opening : ℕ → S) (W : ℕ) (x 
       }
         where
           reached : IsReachedHere (asked_at x w.net key ask)
-          reached = subst IsReachedHere (ap (λ b. if b then w.net else asked_at x w.net key ask) is) (moves_on w.net h.reached (Asks key choice whole front rest))
+          reached = subst IsReachedHere (ap (λ b. if b then w.net else asked_at x w.net key ask) is)
+              (moves_on w.net h.reached (Asks key choice whole front rest))
 
       ask_away_stored : (b : Bool) → is_id_held_away w.net key ≡ b → Stored (if b then w else asked_away S x w key ask)
       ask_away_stored true is = h
@@ -207,15 +213,19 @@ module _ (S : Type 0) (model : StoreModel S) (opening : ℕ → S) (W : ℕ) (x 
 
     -- Strangers.
 
-    stray_stored : (key : Key) (a : Apdu) (o : Option ClientTransaction) → IsReachedHere (strayed_to_client x w.net key a o) → Stored (strays_to_client S x w key a o)
+    stray_stored : (key : Key) (a : Apdu) (o : Option ClientTransaction) → IsReachedHere (strayed_to_client x w.net key a o)
+        → Stored (strays_to_client S x w key a o)
     stray_stored key a None reached = h
     stray_stored key a (Some t) reached = client_away_stored key t (client.client_on_apdu (client_context x key (client_now w.net key)) x.readable t a) reached
 
     strays_stored : (key : Key) (free : Bool) (a : Apdu) → Stored (strays_so S model x u w key free a)
     strays_stored key free a = go (is_from_client a) refl
       where
+        c : Context
+        c = server_context x key (server_now w.net key)
+
         v : server.Reaction
-        v = server_hears (u.reuses key.server) (server_context x key (server_now w.net key)) (service_here key) u.reads (w.net.far.entries key) (is_room w.net key free) a
+        v = server_hears (u.reuses key.server) c (service_here key) u.reads (w.net.far.entries key) (is_room w.net key free) a
 
         way : Bool → Net
         way b = if b then strayed_to_server_so x u w.net key free (service_here key) a else strayed_to_client x w.net key a (w.net.far.tickets key)
@@ -225,7 +235,7 @@ module _ (S : Type 0) (model : StoreModel S) (opening : ℕ → S) (W : ℕ) (x 
 
         go : (b : Bool) → is_from_client a ≡ b → Stored (if b then serves_away S model w key v else strays_to_client S x w key a (w.net.far.tickets key))
         go true is = server_away_stored key v
-            (hears_served (server_context x key (server_now w.net key)) (service_here key) (u.reuses key.server) u.reads (w.net.far.entries key) (is_room w.net key free) a)
+            (hears_served c (service_here key) (u.reuses key.server) u.reads (w.net.far.entries key) (is_room w.net key free) a)
             (reached true is)
         go false is = stray_stored key a (w.net.far.tickets key) (reached false is)
 
@@ -237,8 +247,8 @@ module _ (S : Type 0) (model : StoreModel S) (opening : ℕ → S) (W : ℕ) (x 
 
   servers_tick : (keys : List Key) (w : World S) → Stored w → Stored (ticks_as_server S model x keys w)
   servers_tick [] w h = h
-  servers_tick (key ∷ keys) w h = servers_tick keys (serves S model w key (server.server_ticks (server_context x key (server_now w.net key)) (w.net.entries key)))
-      (entry_ticks w h key)
+  servers_tick (key ∷ keys) w h =
+      servers_tick keys (serves S model w key (server.server_ticks (server_context x key (server_now w.net key)) (w.net.entries key))) (entry_ticks w h key)
 
   clients_tick_away : (keys : List Key) (w : World S) → Stored w → Stored (ticks_as_client_away S x keys w)
   clients_tick_away [] w h = h
@@ -272,6 +282,13 @@ module _ (S : Type 0) (model : StoreModel S) (opening : ℕ → S) (W : ℕ) (x 
   run_stored [] w h = h
   run_stored (e ∷ es) w h = run_stored es (happens_so S model x u w e) (event_stored w h e)
 
-  pub once_so : (events : List Event)
-      → IsOnceSo S model u.reads opening (run_so S model x u events (start S pace clocks opening)).net.log (run_so S model x u events (start S pace clocks opening)).stores
-  once_so events = (run_stored events (start S pace clocks opening) (record { reached = Still; right = λ node. refl })).right
+  module _ (events : List Event) where
+    after_stored : Stored (run_so S model x u events (start S pace clocks opening))
+    after_stored = run_stored events (start S pace clocks opening) (record { reached = Still; right = λ node. refl })
+
+    pub run_reached : IsReachedSo x u (net_start pace clocks) (run_so S model x u events (start S pace clocks opening)).net
+    run_reached = after_stored.reached
+
+    pub once_so : IsOnceSo S model u opening (run_so S model x u events (start S pace clocks opening)).net.log
+        (run_so S model x u events (start S pace clocks opening)).stores
+    once_so = after_stored.right

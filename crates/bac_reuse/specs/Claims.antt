@@ -8,6 +8,7 @@ use Rattle.bac_protocol.specs.Log.{Fact, Has, StoreModel, IsUnperformed}
 use Rattle.bac_protocol.specs.Log.Fact.{Asked, Performed, Ended}
 use Rattle.bac_protocol.specs.Reuse.{Reads}
 use Rattle.bac_reuse.specs.Once.{IsOnceSo}
+use Rattle.bac_reuse.specs.Runs.{Reusing}
 
 -- where ask n is performed, and is no read, it was not performed before
 abbrev pub WritesAreOnce : Reads → List Fact → Type 0
@@ -16,7 +17,7 @@ WritesAreOnce reads log =
 
 -- Before these facts ask n was performed with that reply, and asked before that: it is the reply that its server's store, as it was in between, gives to its
 -- request, and the log up to there leads to that store.
-pub record WasGiven (S : Type 0) (model : StoreModel S) (reads : Reads) (opening : ℕ → S) (n : ℕ) (p : Reply) (log : List Fact) : Type 0 where
+pub record WasGiven (S : Type 0) (model : StoreModel S) (u : Reusing) (opening : ℕ → S) (n : ℕ) (p : Reply) (log : List Fact) : Type 0 where
   pub newer : List Fact
   pub older : List Fact
   pub request : Request
@@ -26,12 +27,12 @@ pub record WasGiven (S : Type 0) (model : StoreModel S) (reads : Reads) (opening
   pub is : log ≡ newer ++ Performed n request p ∷ older
   pub asked : Has (Asked n client server request) older
   pub reply : model.outcome (stores server) request.choice request.service ≡ Replies p
-  pub leads : IsOnceSo S model reads opening older stores
+  pub leads : IsOnceSo S model u opening older stores
 
 -- so it is of every answer that ends an ask
-abbrev pub AnswersAreOfTheirTime : (S : Type 0) → StoreModel S → Reads → (opening : ℕ → S) → List Fact → Type 0
-AnswersAreOfTheirTime S model reads opening log =
-    (newer older : List Fact) (n : ℕ) (p : Reply) → log ≡ newer ++ Ended n (Answered p) ∷ older → WasGiven S model reads opening n p older
+abbrev pub AnswersAreOfTheirTime : (S : Type 0) → StoreModel S → Reusing → (opening : ℕ → S) → List Fact → Type 0
+AnswersAreOfTheirTime S model u opening log =
+    (newer older : List Fact) (n : ℕ) (p : Reply) → log ≡ newer ++ Ended n (Answered p) ∷ older → WasGiven S model u opening n p older
 
 -- the reads of the stack's own services: ReadProperty and AtomicReadFile
 abbrev pub is_stack_read : Reads

@@ -16,37 +16,39 @@ ghost use Rattle.bac_store.specs.Stores.{Store};
 ghost use Rattle.bac_protocol.specs.Claims.{IsBounded};
 ghost use Rattle.bac_protocol.specs.Log.{Fact, StoreModel, IsOnce};
 ghost use Rattle.bac_protocol.specs.Pace.{Pace, IsTimely};
-ghost use Rattle.bac_protocol.specs.Reuse.{Reads};
 ghost use Rattle.bac_protocol.specs.Transaction.{Rules};
 ghost use Rattle.bac_protocol.specs.World.{Event, World, run, start};
 ghost use Rattle.bac_reuse.specs.Claims.{AnswersAreOfTheirTime, WritesAreOnce, is_stack_read};
 ghost use Rattle.bac_reuse.specs.Once.{HasNoRead, IsOnceSo};
 ghost use Rattle.bac_reuse.specs.Runs.{AskNoRead, NoneReuses, ReadsChangeNothing, Reusing, run_so};
 
-/// The headline in both modes: after every run, whichever nodes let invoke IDs be used again, where reads change no store. Each accepted ask that is no read
-/// takes effect at most once, and exactly once where a service answer reached its client; the request performed and the answer are its own, whole. A read is
-/// performed as it was asked, each time that its server takes it, and its answer is one of the replies with which it was performed. Each server's store is that
-/// of its last start, after the performed requests and the changes made at that node since, in the log's order. Strangers may send any octets at any moment:
-/// what a server performs for them is in the log, with the reply of its store as it then is, and how often is not said.
+/// The headline in both modes: after every run, whichever nodes let invoke IDs be used again, where reads change no store. Each accepted ask that is no read,
+/// or whose server does not let them be, takes effect at most once, and exactly once where a service answer reached its client; the request performed and the
+/// answer are its own, whole. Any other read is performed as it was asked, each time that its server takes it, and its answer is one of the replies with which
+/// it was performed. Each server's store is that of its last start, after the performed requests and the changes made at that node since, in the log's order.
+/// Strangers may send any octets at any moment: what a server performs for them is in the log, with the reply of its store as it then is, and how often is not
+/// said here.
 #[tactic(auto, using(crate::proofs::Stored::once_so))]
 pub fn at_most_once<S>()
     ensures { (model : StoreModel S) (opening : ℕ → S) (W : ℕ) (rules : Rules) → IsBounded W rules → (reusing : Reusing) → ReadsChangeNothing S model reusing.reads
         → (pace : Pace) → IsTimely pace → (clocks : ℕ → ℕ) → (events : List Event)
-        → IsOnceSo S model reusing.reads opening (run_so S model rules reusing events (start S pace clocks opening)).net.log
+        → IsOnceSo S model reusing opening (run_so S model rules reusing events (start S pace clocks opening)).net.log
         (run_so S model rules reusing events (start S pace clocks opening)).stores }
 {}
 
 /// What such a log says. An ask that is no read was not performed before it is performed. Each answer that ends an ask was given between its ask and its end:
-/// the ask was performed with that reply, which its server's store, as it then was, gives to its request. Where nothing that was performed is a read, the log
-/// is right in the headline's own sense.
-#[tactic(auto, using(crate::proofs::Claimed::writes_once, crate::proofs::Claimed::of_their_time, crate::proofs::Claimed::without_reads))]
+/// the ask was performed with that reply, which its server's store, as it then was, gives to its request. Where nothing that was performed is a read, or no
+/// node lets invoke IDs be used again, the log is right in the headline's own sense.
+#[tactic(auto, using(crate::proofs::Claimed::writes_once, crate::proofs::Claimed::of_their_time, crate::proofs::Claimed::without_reads, crate::proofs::Claimed::without_reuse))]
 pub fn right_logs<S>()
-    ensures writes { (model : StoreModel S) (reads : Reads) (opening : ℕ → S) (log : List Fact) (stores : ℕ → S) → IsOnceSo S model reads opening log stores
-        → WritesAreOnce reads log }
-    ensures answers { (model : StoreModel S) (reads : Reads) (opening : ℕ → S) (log : List Fact) (stores : ℕ → S) → IsOnceSo S model reads opening log stores
-        → AnswersAreOfTheirTime S model reads opening log }
-    ensures without_reads { (model : StoreModel S) (reads : Reads) (opening : ℕ → S) (log : List Fact) (stores : ℕ → S) → HasNoRead reads log
-        → IsOnceSo S model reads opening log stores → IsOnce S model opening log stores }
+    ensures writes { (model : StoreModel S) (reusing : Reusing) (opening : ℕ → S) (log : List Fact) (stores : ℕ → S)
+        → IsOnceSo S model reusing opening log stores → WritesAreOnce reusing.reads log }
+    ensures answers { (model : StoreModel S) (reusing : Reusing) (opening : ℕ → S) (log : List Fact) (stores : ℕ → S)
+        → IsOnceSo S model reusing opening log stores → AnswersAreOfTheirTime S model reusing opening log }
+    ensures without_reads { (model : StoreModel S) (reusing : Reusing) (opening : ℕ → S) (log : List Fact) (stores : ℕ → S) → HasNoRead reusing.reads log
+        → IsOnceSo S model reusing opening log stores → IsOnce S model opening log stores }
+    ensures without_reuse { (model : StoreModel S) (reusing : Reusing) (opening : ℕ → S) (log : List Fact) (stores : ℕ → S) → NoneReuses reusing
+        → IsOnceSo S model reusing opening log stores → IsOnce S model opening log stores }
 {}
 
 /// Where no node lets invoke IDs be used again, a run is one of bac_protocol, event for event.

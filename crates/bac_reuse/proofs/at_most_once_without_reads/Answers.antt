@@ -7,4 +7,4 @@ use Rattle.bac_reuse.proofs.at_most_once_without_reads.Goals as goal
 pub returns : goal.returns
 returns g c = λ model opening W rules bound reusing nothing pace timely clocks events writes.
     let once = once_so _ model opening W rules bound reusing pace timely clocks events in
-    without_reads _ model reusing.reads opening _ _ (none_in_run _ model rules reusing pace clocks opening events writes once) once
+    without_reads _ model reusing opening _ _ (none_in_run _ model rules reusing pace clocks opening events writes once) once
