@@ -27,7 +27,6 @@ use Rattle.bac_transaction.specs.Ends.{Client}
 use Rattle.bac_transaction.specs.Services.{service_of}
 use Rattle.bac_world.specs.Node.{Node, Outcome, IsDropped, with_change}
 use Rattle.bac_world.specs.ReusingLogs.{IsOnceSo, Reuses}
-use Rattle.bac_world.specs.ReusingNodes.{NodeHears}
 use Rattle.bac_world.specs.ReusingWorlds.{ActsSo, DeliversIfSo, DeliversSo, HearsSo, WorldRunSo, WorldStepSo}
 use Rattle.bac_world.specs.Once.{Fact, Stores, IsOnce, MayChange, with_changed}
 use Rattle.bac_world.specs.World.{World, Time, passes, Event, Copy, Note, link_at, stores_of, newest, later, peer_at, IsOfNone, IsChanged, WorldRun, IsFresh, IsBounded}

@@ -1,5 +1,5 @@
 -- What a node of either setting heard, in the words that the proofs of both share.
-use Rattle.std.proofs.Common.{◌≡◌, ◌⊎◌, ℕ, Bool, true, false, inl, inr}
+use Rattle.std.proofs.Common.{◌⊎◌, ℕ, Bool, true, false, inl, inr}
 use Rattle.bac_apdu.specs.Apdu.{Apdu}
 use Rattle.bac_apdu.specs.Spelling.{SpellsApdu}
 use Rattle.bac_npdu.specs.Datagram.{Means}

@@ -21,7 +21,7 @@ use Rattle.bac_protocol.specs.World.{client_restarted, server_restarted, server_
 use Rattle.bac_apdu.specs.Apdu.{Apdu}
 use Rattle.bac_protocol.specs.Claims.{IsBounded, AreServedApart, AreSpaced}
 use Rattle.bac_protocol.specs.Own.{IsOwnEntry}
-use Rattle.bac_protocol.specs.Moves.{Move, moved, arrived, taken_by_client, taken_by_server, strayed_to_client, strayed_to_server, ticket_ticked}
+use Rattle.bac_protocol.specs.Moves.{Move, moved, arrived, taken_by_client, taken_by_server, strayed_to_client, ticket_ticked}
 use Rattle.bac_protocol.specs.Moves.{ticket_ticked_away, IsReached, IsInOrder}
 use Rattle.bac_protocol.specs.Moves.Move.{Asks, Arrives, TicksTicket, TicksEntry, Passes, Changes, RestartsClient, RestartsServer, Strays, AsksAway}
 use Rattle.bac_protocol.specs.Moves.Move.{TicksTicketAway, TicksEntryAway}
@@ -29,7 +29,7 @@ use Rattle.bac_protocol.specs.Moves.{IsReached as ever}
 use Rattle.bac_protocol.proofs.Nets.{sound_at}
 use Rattle.bac_protocol.proofs.SingleMoves.{in_order, reached_net, reached_calm}
 use Rattle.bac_transaction.specs.Reuse.{is_read}
-use Rattle.bac_reuse.specs.Moves.{IsInOrderSo, IsOrderlySo, IsReachedSo, AreSpacedSo, IsTicking, arrived_so, moved_so, taken_by_server_so, strayed_to_server_so}
+use Rattle.bac_reuse.specs.Moves.{IsInOrderSo, IsOrderlySo, IsReachedSo, AreSpacedSo, arrived_so, moved_so, taken_by_server_so}
 use Rattle.bac_reuse.specs.Moves.{IsReachedSo as again}
 use Rattle.bac_reuse.proofs.ReusingMoves.{in_order_so}
 use Rattle.bac_reuse.specs.Runs.{Reusing}

@@ -1,5 +1,5 @@
 -- What of a right log of octets rests on its asks alone: it has one fact of each.
-use Rattle.std.proofs.Common.{◌≡◌, ℕ, suc, ◌<◌, ◌≤◌, List, [], ◌∷◌, refl, sym, ap, subst, inl, inr, ◌∙◌, arith}
+use Rattle.std.proofs.Common.{◌≡◌, ℕ, suc, ◌<◌, ◌≤◌, List, [], ◌∷◌, sym, ap, subst, inl, inr, ◌∙◌, arith}
 use Rattle.bac_protocol.specs.Service.{Request}
 use Rattle.bac_protocol.specs.Log.{Fact, Has, WasAskedAway, asks_in}
 use Rattle.bac_protocol.specs.Log.Fact.{Asked, Performed, Ended, Changed, Restarted, Served, AskedAway, EndedAway}

@@ -1,9 +1,9 @@
 -- What a server of either setting makes of an APDU, and its reply table then.
 use Rattle.std.proofs.Common.{◌≡◌, ℕ, Bool, true, false, ◌&&◌, List, [], ◌∷◌, Option, Some, None, if◌then◌else◌, refl, sym, ap, subst, ◌∙◌}
-use Rattle.bac_apdu.specs.Apdu.{Apdu, Limits}
+use Rattle.bac_apdu.specs.Apdu.{Apdu}
 use Rattle.bac_apdu.specs.Apdu.Apdu.{ConfirmedRequest}
 use Rattle.bac_protocol.specs.Context.{Context}
-use Rattle.bac_protocol.specs.Service.{Octets, OTHER}
+use Rattle.bac_protocol.specs.Service.{OTHER}
 use Rattle.bac_protocol.specs.Wire.{Each}
 use Rattle.bac_protocol.specs.Own.{IsOfServer, IsOwnEntry}
 use Rattle.bac_protocol.specs.Server as server
@@ -13,10 +13,10 @@ use Rattle.bac_protocol.specs.Steps.{IsSameReaction}
 use Rattle.bac_protocol.proofs.Dead.{gets_same, same_of, same_then}
 use Rattle.bac_protocol.proofs.Own.{server_sends_own}
 use Rattle.bac_slots.specs.Slots.{value_at, without, IsApart, IsDistinct}
-use Rattle.bac_transaction.specs.Ends.{ServerEnd, ServerSlot}
+use Rattle.bac_transaction.specs.Ends.{ServerSlot}
 use Rattle.bac_transaction.specs.Keys.{PeerKey, same_key}
 use Rattle.bac_transaction.specs.Reuse.{is_read, slots_left}
-use Rattle.bac_transaction.proofs.KeyedSlots.{EachSlot, apart_none, key_is, key_other, key_self, passed_first}
+use Rattle.bac_transaction.proofs.KeyedSlots.{EachSlot, apart_none, key_is, passed_first}
 use Rattle.bac_transaction.proofs.ServerTables.{idle_is}
 use Rattle.bac_world.proofs.Settings.{slots_heard}
 use Rattle.bac_world.proofs.Table.{none_left}

@@ -5,7 +5,6 @@ use Rattle.std.proofs.lemmas.Bool.Decides.{nat_tests}
 use Rattle.std.specs.Option.{option_map}
 use Rattle.bac_apdu.specs.Apdu.{Apdu}
 use Rattle.bac_apdu.specs.Apdu.Apdu.{ConfirmedRequest, UnconfirmedRequest, SimpleAck, ComplexAck, SegmentAck, Error, Reject, Abort}
-use Rattle.bac_service.specs.Requests.{SpellsRequest}
 use Rattle.bac_service.specs.Values.{Request, choice_of}
 use Rattle.bac_service.proofs.OnlySpelling.{one_request}
 use Rattle.bac_store.specs.Changes as change
@@ -29,7 +28,7 @@ use Rattle.bac_reuse.specs.Moves.{IsOrderlySo}
 use Rattle.bac_slots.specs.Slots.{value_at}
 use Rattle.bac_transaction.specs.Keys.{PeerKey, same_key}
 use Rattle.bac_transaction.specs.Sends.{Pairwise, IsSent, to_all}
-use Rattle.bac_transaction.specs.Ends.{ServerEnd, ServerSlot, ServerTurn, act_at, is_free, is_slot_live, put_entry, server_goes, context_of}
+use Rattle.bac_transaction.specs.Ends.{ServerEnd, ServerSlot, act_at, is_free, is_slot_live, put_entry}
 use Rattle.bac_transaction.specs.Reuse.{is_read}
 use Rattle.bac_world.specs.Services.{Performed, ArePerformed, store_after}
 use Rattle.bac_world.specs.Node.{Node, Outcome, IsServerTurn}

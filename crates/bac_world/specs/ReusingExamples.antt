@@ -1,5 +1,5 @@
 -- Logs that are computed, where nodes let invoke IDs be used again: those of Examples, in which a request is performed twice.
-use Rattle.std.specs.Prelude.{ℕ, true, List, [], ◌∷◌, None, nat_eq}
+use Rattle.std.specs.Prelude.{true, List, [], ◌∷◌, None, nat_eq}
 use Rattle.bac_service.specs.Values.{Request}
 use Rattle.bac_service.specs.Replies.{Reply}
 use Rattle.bac_world.specs.Once.{Fact, Stores}

@@ -1,6 +1,6 @@
 -- What a node that lets clients use an invoke ID again as soon as its transaction is over makes of a datagram: its client's end as ever, its server's end by
 -- bac_transaction's Reuse.
-use Rattle.std.specs.Prelude.{◌≡◌, ◌≢◌, ◌⊎◌, ℕ, Bool, true, false}
+use Rattle.std.specs.Prelude.{◌≢◌, ◌⊎◌, ℕ, Bool, true, false}
 use Rattle.bac_apdu.specs.Apdu.{Apdu}
 use Rattle.bac_apdu.specs.Spelling.{SpellsApdu}
 use Rattle.bac_npdu.specs.Datagram.{Means}
