@@ -33,7 +33,7 @@ use Rattle.bac_reuse.specs.Moves.{IsInOrderSo, IsOrderlySo, IsReachedSo, AreSpac
 use Rattle.bac_reuse.specs.Moves.{IsReachedSo as again}
 use Rattle.bac_reuse.proofs.ReusingMoves.{in_order_so}
 use Rattle.bac_reuse.specs.Runs.{Reusing}
-use Rattle.bac_world.proofs.Orderly.{away_asked_below}
+use Rattle.bac_reuse.proofs.Orderly.{away_asked_below}
 use Rattle.bac_world.proofs.Settings.{Setting, reuses_in, reusing_in}
 
 -- moves of that setting lead to the net

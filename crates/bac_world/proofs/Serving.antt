@@ -41,7 +41,7 @@ use Rattle.bac_world.specs.World.{told}
 use Rattle.bac_world.proofs.Bridge.{here_at, there_at}
 use Rattle.bac_protocol.specs.Pace.{Clock}
 use Rattle.bac_world.proofs.Machines.{Sound, orderly, asked_of, own_of, gets_at_server, ticket_of}
-use Rattle.bac_world.proofs.Orderly.{one_ask}
+use Rattle.bac_reuse.proofs.Orderly.{one_ask}
 use Rattle.bac_world.proofs.Settings.{Setting, reuses_in, reusing_in, end_heard, hears_at}
 use Rattle.bac_world.proofs.Pairs.{pairwise_join}
 use Rattle.bac_world.proofs.Logs.{FactMeans, WasAskedAs, asked_as, unperformed}
