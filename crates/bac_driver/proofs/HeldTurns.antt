@@ -6,7 +6,7 @@ use Rattle.bac_protocol.specs.Wire.{is_from_client}
 use Rattle.bac_store.specs.Stores.{Store}
 use Rattle.bac_transaction.specs.Ends.{Act}
 use Rattle.bac_world.specs.Node.{IsHeardBy, Node, NodeOn, Outcome}
-use Rattle.bac_node.specs.Reuse.{IsHeardReusingBy, NodeHears, NodeReusing}
+use Rattle.bac_world.specs.ReusingNodes.{IsHeardReusingBy, NodeHears, NodeReusing}
 use Rattle.bac_world.specs.Services.{ArePerformed, Performed, store_after}
 use Rattle.bac_driver.specs.Rounds.{HoldsTurnFrom, IsReplied}
 use Rattle.bac_driver.specs.Runs.{Timed}

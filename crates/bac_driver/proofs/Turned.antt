@@ -5,7 +5,7 @@ use Rattle.std.proofs.lemmas.List.{append-nil, map-append, take_more}
 use Rattle.bac_protocol.specs.Service.{Octets}
 use Rattle.bac_protocol.specs.Wire.{is_from_client}
 use Rattle.bac_world.specs.Node.{IsHeardBy, Node, NodeOn, Outcome}
-use Rattle.bac_node.specs.Reuse.{IsHeardReusingBy, NodeHears, NodeReusing}
+use Rattle.bac_world.specs.ReusingNodes.{IsHeardReusingBy, NodeHears, NodeReusing}
 use Rattle.bac_transaction.specs.Sends.{Datagram}
 use Rattle.bac_driver.specs.Calls.{Calls, MOST}
 use Rattle.bac_driver.specs.BoundNodes.{BoundNode}

@@ -9,7 +9,7 @@ use Rattle.bac_driver.specs.Calls.Call.{Send}
 use Rattle.bac_world.specs.Node.{Cause, Node, Outcome, NodeTick}
 use Rattle.bac_world.specs.Services.{Performed}
 use Rattle.bac_node.specs.Calls.{IsForNoneOpen, IsNotHeard}
-use Rattle.bac_node.specs.Reuse.{NodeHears}
+use Rattle.bac_world.specs.ReusingNodes.{NodeHears}
 use Rattle.bac_node.specs.Waiting.{IsDueBy}
 use Rattle.bac_requester.specs.Timers.{LAST_MOMENT}
 use Rattle.bac_driver.specs.BoundNodes.{BoundNode}

@@ -13,7 +13,7 @@ use Rattle.bac_protocol.specs.Context.{Settings}
 use Rattle.bac_world.specs.Node.{Node, NodeOn, NodeTick, Outcome}
 use Rattle.bac_world.specs.World.{AreLogged, Hears, World}
 use Rattle.bac_world.proofs.Pairs.{append_none, pairwise_none}
-use Rattle.bac_node.specs.Reuse.{NodeHears}
+use Rattle.bac_world.specs.ReusingNodes.{NodeHears}
 use Rattle.bac_node.specs.Waiting.{RestsUntil}
 use Rattle.bac_driver.specs.BoundNodes.{BoundNode}
 use Rattle.bac_driver.specs.Calls.{received, with_call}
