@@ -275,6 +275,7 @@ cuts c b at time = record {
     at = at;
     after = started b;
     node = ap (λ (t : Time). restarted (clock_at t.pace 0).shows b.node.store b.node) (sym time);
+    reuse = refl;
     is = refl;
   };
   losing = refl;
