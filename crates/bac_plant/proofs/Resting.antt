@@ -246,6 +246,7 @@ module _ (overtake : ℕ) (old : Plant) (i : ℕ) (b : BoundNode) (at : slice_ge
 
   pub idle_step : IsCalm (shows old i) b.node
       → TakesTurnAt overtake old i Nowhere (turn_by_none (shows old i)) (with_station old i (after_none (shows old i) b))
+  unfolding takes_none
   idle_step calm = record {
     before = b;
     at = at;

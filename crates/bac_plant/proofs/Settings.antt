@@ -30,7 +30,7 @@ pub restart_settings : (old : Plant) (i exact : ℕ) (store : _) (new : Plant) �
 restart_settings old i exact store new s = one_stays old new i s.before s.after s.at s.reuse (ap (λ (p : Plant). p.stations) s.is)
 
 pub step_settings : (overtake : ℕ) (old : Plant) (step : Step) (new : Plant) → PlantStep overtake old step new → (j : ℕ) → settings_of new j ≡ settings_of old j
-step_settings overtake old (Passes by own) new s j = ap (λ (p : Plant). settings_of p j) s
+step_settings overtake old (Passes by own) new s = λ j. ap (λ (p : Plant). settings_of p j) s
 step_settings overtake old (Takes i source turn) new s =
     one_stays old new i s.before s.after s.at (s.takes.is.acts.reuse ∙ s.takes.is.receives.reuse) (ap (λ (p : Plant). p.stations) s.happens.is)
 step_settings overtake old (FailsToReceive i) new s = one_stays old new i s.before s.after s.at s.reuse (ap (λ (p : Plant). p.stations) s.is)

@@ -131,6 +131,12 @@ copied_join nodes now i ds es xs ys h k =
 abbrev pub after_call : World → ℕ → Node → List Copy → List Fact → World
 after_call w i b cs log = record w { nodes = slice_set w.nodes i b; copies = w.copies ++ cs; log = log }
 
+-- where nothing was performed, the log is as it was
+none_logged : (reuse : Bool) (nodes : List Node) (notes : List Note) (i : ℕ) (b : Node) (old new : List Fact) → AreLoggedSo reuse nodes notes i b None old new
+    → new ≡ old
+none_logged true nodes notes i b old new is = is
+none_logged false nodes notes i b old new is = is
+
 -- nothing came of it
 pub nothing_called : (w : World) (i : ℕ) (a b : Node) → slice_get w.nodes i ≡ Some a → b ≡ a → (cs : List Copy) → cs ≡ [] → (log : List Fact) → log ≡ w.log
     → after_call w i b cs log ≡ w
@@ -172,6 +178,9 @@ module _ (overtake : ℕ) (u : Reuses) (p : Plant) (i : ℕ) (a b : Node) (at : 
     (between log : List Fact) where
   abbrev pub After : World
   After = after_call (world_of p) i b cs log
+
+  same_log : AreLoggedSo (u i) (nodes_of p.stations) p.notes i b None between log → log ≡ between
+  same_log = none_logged (u i) (nodes_of p.stations) p.notes i b between log
 
   none_heard : b ≡ a → cs ≡ [] → between ≡ p.log → log ≡ between → After ≡ world_of p
   none_heard same none e f = nothing_called (world_of p) i a b at same cs none log (f ∙ e)
@@ -218,9 +227,9 @@ module _ (overtake : ℕ) (u : Reuses) (p : Plant) (i : ℕ) (a b : Node) (at : 
       → AreEnded p.notes i (ended_of heard) p.log between → AreLoggedSo (u i) (nodes_of p.stations) p.notes i b (performed_of heard) between log
       → WorldRunSo overtake u (world_of p) (heard_events i source heard) After
   came_run Nowhere d buffer heard h from copied ended logged = absurd from
-  came_run (Station number) d buffer None h from copied ended logged = none_heard h.same copied ended logged
-  came_run (Stranger sender octets) d buffer None h from copied ended logged = none_heard h.same copied ended logged
-  came_run (Noise sender octets) d buffer None h from copied ended logged = none_heard h.same copied ended logged
+  came_run (Station number) d buffer None h from copied ended logged = none_heard h.same copied ended (same_log logged)
+  came_run (Stranger sender octets) d buffer None h from copied ended logged = none_heard h.same copied ended (same_log logged)
+  came_run (Noise sender octets) d buffer None h from copied ended logged = none_heard h.same copied ended (same_log logged)
   came_run (Station number) d buffer (Some o) h from copied ended logged =
       arrives number d.0 (take d.1 buffer) from (world_hears d.0 (take d.1 buffer) o h copied ended logged)
   came_run (Stranger sender octets) d buffer (Some o) h from copied ended logged = (
@@ -248,7 +257,7 @@ module _ (overtake : ℕ) (u : Reuses) (p : Plant) (i : ℕ) (a b : Node) (at : 
   heard_run source (Some d) buffer heard h from copied ended logged = came_run source d buffer heard h from copied ended logged
   heard_run source None buffer None h from copied ended logged =
       subst (λ s. WorldRunSo overtake u (world_of p) (heard_events i s None) After) (sym from)
-      (none_heard h.1 copied ended logged)
+      (none_heard h.1 copied ended (same_log logged))
   heard_run source None buffer (Some o) h from copied ended logged = absurd (let e = h.0 in cc)
 
 -- What it does at a tick.
