@@ -24,7 +24,7 @@ use Rattle.bac_driver.specs.Turns.{Turn, ended_of, performed_of, sends_of}
 use Rattle.bac_plant.specs.Network.{HandsOver, IsOfStation, Source}
 use Rattle.bac_plant.specs.Network.Source.{Noise, Nowhere, Station, Stranger}
 use Rattle.bac_plant.specs.NextSteps.{AsksGoOn, ChangesGoOn, FailuresGoOn, HeldSendsGoOn, HeldTurnsGoOn, IsReached, LeadsTo, RestartsGoOn, StrangersAskedGoOn, TurnsGoOn}
-use Rattle.bac_plant.specs.Plants.{Plant, nodes_of, settings_of, shows, world_of}
+use Rattle.bac_plant.specs.Plants.{Plant, nodes_of, shows, world_of}
 use Rattle.bac_plant.specs.Steps.{HappensAt, HoldsSomeTurn, IsSomeTurn, away_note, note_of, question, with_station}
 use Rattle.bac_plant.specs.Steps.Step.{Begins, Holds, Takes}
 use Rattle.bac_plant.specs.Events.{events_of, heard_events}

@@ -13,7 +13,6 @@ use Rattle.bac_world.specs.ReusingLogs.{Reuses}
 use Rattle.bac_world.specs.ReusingNodes.{IsHeardReusingBy, NodeHears}
 use Rattle.bac_world.specs.ReusingWorlds.{ActsSo, AreLoggedSo, DeliversIfSo, DeliversSo, HearsSo, WorldRunSo}
 use Rattle.bac_world.specs.Once.{Fact}
-use Rattle.bac_world.specs.Services.{Performed}
 use Rattle.bac_world.specs.World.{AreCopied, AreEnded, Copy, Event, IsCopied, IsWithNode, Note, World}
 use Rattle.bac_world.specs.World.{is_deliverable, later, link_at, told}
 use Rattle.bac_world.proofs.Bridge.{AreParted, copied_split}
