@@ -4,9 +4,11 @@ use Rattle.std.specs.Option.{option_map}
 use Rattle.bac_protocol.specs.Pace.{clock_at}
 use Rattle.bac_store.specs.Stores.{Store}
 use Rattle.bac_world.specs.Node.{Node, restarted}
-use Rattle.bac_world.specs.World.{World, IsRestarted, IsWithNode}
+use Rattle.bac_world.specs.ReusingLogs.{Reuses}
+use Rattle.bac_world.specs.ReusingWorlds.{WorldRunSo, WorldStepSo}
+use Rattle.bac_world.specs.World.{World, Event, IsRestarted, IsWithNode, WorldRun, WorldStep}
 use Rattle.bac_world.specs.World.Event.{Restart}
-use Rattle.bac_cuts.specs.Cuts.{CutEvent, CutRun, StartsAgain, IsRunOfRestarts}
+use Rattle.bac_cuts.specs.Cuts.{CutEvent, CutRun, CutRunBy, CutRunSo, StartsAgain, IsRunOfRestarts, IsRunOfRestartsSo}
 use Rattle.bac_cuts.specs.Cuts.CutEvent.{Goes, Cut, CutIn}
 
 some_is : (a b : Store) → Some a ≡ Some b → a ≡ b
@@ -26,17 +28,29 @@ again old i exact new a =
       log = s.log;
     }
 
+-- whatever steps the world takes, where a restart is one
+module _ (Step : World → Event → World → Type 0) (Run : World → List Event → World → Type 0) (still : (w w' : World) → w' ≡ w → Run w [] w')
+    (goes : (w v w' : World) (e : Event) (es : List Event) → Step w e v → Run v es w' → Run w (e ∷ es) w')
+    (restarts : (w : World) (i exact : ℕ) (w' : World) → IsRestarted w i exact None w' → Step w (Restart i exact None) w') where
+  runs_by : (old new : World) (es : List CutEvent) → CutRunBy Step old es new → (events : List Event) × Run old events new
+  runs_by old new [] run = ([], still old new run)
+  runs_by old new (Goes e ∷ es) run = let rest = runs_by run.0 new es run.2 in (e ∷ rest.0, goes old run.0 new e rest.0 run.1 rest.1)
+  runs_by old new (Cut i exact ∷ es) run =
+      let rest = runs_by run.0 new es run.2 in
+      (Restart i exact None ∷ rest.0, goes old run.0 new (Restart i exact None) rest.0 (restarts old i exact run.0 (again old i exact run.0 run.1)) rest.1)
+  runs_by old new (CutIn i exact e ∷ es) run =
+      let rest = runs_by run.0 new es run.2 in
+      let cut : (w : World) → StartsAgain w i exact run.0 → Run w (Restart i exact None ∷ rest.0) new =
+      λ w s. goes w run.0 new (Restart i exact None) rest.0 (restarts w i exact run.0 (again w i exact run.0 s)) rest.1 in
+      ⊎_elim (λ before. (Restart i exact None ∷ rest.0, cut old before))
+      (λ after. (e ∷ Restart i exact None ∷ rest.0, goes old after.0 new e (Restart i exact None ∷ rest.0) after.1 (cut after.0 after.2))) run.1
+
 pub runs : (overtake : ℕ) (old new : World) (es : List CutEvent) → CutRun overtake old es new → IsRunOfRestarts overtake old new
-runs overtake old new [] run = record { events = []; run = run }
-runs overtake old new (Goes e ∷ es) run =
-    let rest = runs overtake run.0 new es run.2 in
-    record { events = e ∷ rest.events; run = (run.0, run.1, rest.run) }
-runs overtake old new (Cut i exact ∷ es) run =
-    let rest = runs overtake run.0 new es run.2 in
-    record { events = Restart i exact None ∷ rest.events; run = (run.0, again old i exact run.0 run.1, rest.run) }
-runs overtake old new (CutIn i exact e ∷ es) run =
-    let rest = runs overtake run.0 new es run.2 in
-    ⊎_elim
-    (λ before. record { events = Restart i exact None ∷ rest.events; run = (run.0, again old i exact run.0 before, rest.run) })
-    (λ after. record { events = e ∷ Restart i exact None ∷ rest.events; run = (after.0, after.1, (run.0, again after.0 i exact run.0 after.2, rest.run)) })
-    run.1
+runs overtake old new es run =
+    let r = runs_by (WorldStep overtake) (WorldRun overtake) (λ w w' is. is) (λ w v w' e fs s rest. (v, s, rest)) (λ w i exact w' s. s) old new es run in
+    record { events = r.0; run = r.1 }
+
+pub runs_so : (overtake : ℕ) (u : Reuses) (old new : World) (es : List CutEvent) → CutRunSo overtake u old es new → IsRunOfRestartsSo overtake u old new
+runs_so overtake u old new es run =
+    let r = runs_by (WorldStepSo overtake u) (WorldRunSo overtake u) (λ w w' is. is) (λ w v w' e fs s rest. (v, s, rest)) (λ w i exact w' s. s) old new es run in
+    record { events = r.0; run = r.1 }

@@ -4,6 +4,8 @@ use Rattle.bac_protocol.specs.Pace.{clock_at}
 use Rattle.bac_store.specs.Stores.{Store}
 use Rattle.bac_world.specs.Node.{Node, restarted}
 use Rattle.bac_world.specs.Once.Fact.{Restarted}
+use Rattle.bac_world.specs.ReusingLogs.{Reuses}
+use Rattle.bac_world.specs.ReusingWorlds.{WorldRunSo, WorldStepSo}
 use Rattle.bac_world.specs.World.{World, Event, WorldStep, WorldRun, IsWithNode, stores_of, with_clock}
 
 -- an event as it was; a cut while the node does nothing; a cut in the midst of what the node does at an event. The clock of the node begins anew, at that real
@@ -29,18 +31,33 @@ pub record StartsAgain (old : World) (i exact : ℕ) (new : World) : Type 0 wher
   pub found : stores_of old.nodes i ≡ Some store
   pub starts : Starts old i exact store new
 
+-- The same of whatever steps a world takes at events.
+
 -- in the midst of an event the file gives the store before it, where nothing has left yet, or the one after it
-abbrev pub CutStep : (overtake : ℕ) → World → CutEvent → World → Type 0
-CutStep overtake old (Goes event) new = WorldStep overtake old event new
-CutStep overtake old (Cut i exact) new = StartsAgain old i exact new
-CutStep overtake old (CutIn i exact event) new =
-    StartsAgain old i exact new ⊎ ((u : World) × WorldStep overtake old event u × StartsAgain u i exact new)
+abbrev pub CutStepBy : (Step : World → Event → World → Type 0) → World → CutEvent → World → Type 0
+CutStepBy Step old (Goes event) new = Step old event new
+CutStepBy Step old (Cut i exact) new = StartsAgain old i exact new
+CutStepBy Step old (CutIn i exact event) new = StartsAgain old i exact new ⊎ ((u : World) × Step old event u × StartsAgain u i exact new)
+
+abbrev pub CutRunBy : (Step : World → Event → World → Type 0) → World → List CutEvent → World → Type 0
+CutRunBy Step old [] new = new ≡ old
+CutRunBy Step old (e ∷ es) new = (u : World) × CutStepBy Step old e u × CutRunBy Step u es new
+
+-- Worlds in which no node lets clients use an invoke ID again.
 
 abbrev pub CutRun : (overtake : ℕ) → World → List CutEvent → World → Type 0
-CutRun overtake old [] new = new ≡ old
-CutRun overtake old (e ∷ es) new = (u : World) × CutStep overtake old e u × CutRun overtake u es new
+CutRun overtake old events new = CutRunBy (WorldStep overtake) old events new
 
 -- there are events that lead from the one to the other; a cut is a restart with the store kept
 pub record IsRunOfRestarts (overtake : ℕ) (old new : World) : Type 0 where
   pub events : List Event
   pub run : WorldRun overtake old events new
+
+-- Worlds in which some nodes do.
+
+abbrev pub CutRunSo : (overtake : ℕ) → Reuses → World → List CutEvent → World → Type 0
+CutRunSo overtake u old events new = CutRunBy (WorldStepSo overtake u) old events new
+
+pub record IsRunOfRestartsSo (overtake : ℕ) (u : Reuses) (old new : World) : Type 0 where
+  pub events : List Event
+  pub run : WorldRunSo overtake u old events new

@@ -5,15 +5,17 @@ use Rattle.bac_transaction.specs.Meanings.{EndedView, Ending}
 use Rattle.bac_world.specs.Claims.{AreServedApart}
 use Rattle.bac_world.specs.Node.{Node}
 use Rattle.bac_world.specs.Once.{Fact, HasNoChange, IsOnce, IsOnceByRequests}
+use Rattle.bac_world.specs.ReusingLogs.{IsOnceSo}
+use Rattle.bac_world.specs.ReusingWorlds.{AreLoggedSo}
 use Rattle.bac_world.specs.Services as service
 use Rattle.bac_world.specs.World.{AreEnded, AreLogged, IsBounded, IsFresh, Note, ending_fact, is_away, stores_of}
 use Rattle.bac_world.proofs.Claims.{by_requests}
 use Rattle.bac_driver.specs.Turns.{Turn, ended_of, performed_of}
 use Rattle.bac_plant.specs.Cuts.{CutPlant, CutPlantRun, CutStep, KeepStores, steps_of}
-use Rattle.bac_plant.specs.Plants.{Plant, nodes_of, world_of}
+use Rattle.bac_plant.specs.Plants.{HasNoReuse, Plant, nodes_of, settings_of, world_of}
 use Rattle.bac_plant.specs.Steps.{AreEntered, PlantRun, PlantStep, Step}
 use Rattle.bac_plant.specs.Steps.Step.{Begins, BeginsAway, Changes, FailsToReceive, Holds, Passes, Restarts, SendsHeld, Takes}
-use Rattle.bac_plant.proofs.Runs.{apart, once}
+use Rattle.bac_plant.proofs.Runs.{apart, once, once_ever}
 
 pub cut_steps : (overtake : ℕ) (steps : List CutStep) (old new : CutPlant) → CutPlantRun overtake steps old new
     → PlantRun overtake (steps_of steps) old.plant new.plant
@@ -43,10 +45,18 @@ logs_alone nodes notes i after None old new is h = subst HasNoChange (sym is) h
 logs_alone nodes notes i after (Some p) old new (inl is) h = subst HasNoChange (sym is.log) h
 logs_alone nodes notes i after (Some p) old new (inr is) h = subst HasNoChange (sym is.log) h
 
-enters_alone : (p : Plant) (i : ℕ) (middle : Node) (turn : Turn) (log : List Fact) → AreEntered p i middle turn log → HasNoChange p.log → HasNoChange log
-enters_alone p i middle turn log e h =
+logs_alone_so : (reuse : Bool) (nodes : List Node) (notes : List Note) (i : ℕ) (after : Node) (p : Option service.Performed) (old new : List Fact)
+    → AreLoggedSo reuse nodes notes i after p old new → HasNoChange old → HasNoChange new
+logs_alone_so false nodes notes i after p old new is h = logs_alone nodes notes i after p old new is h
+logs_alone_so true nodes notes i after None old new is h = subst HasNoChange (sym is) h
+logs_alone_so true nodes notes i after (Some p) old new (inl is) h = subst HasNoChange (sym is.log) h
+logs_alone_so true nodes notes i after (Some p) old new (inr is) h = subst HasNoChange (sym is.log) h
+
+enters_alone : (reuse : Bool) (p : Plant) (i : ℕ) (middle : Node) (turn : Turn) (log : List Fact) → AreEntered reuse p i middle turn log → HasNoChange p.log
+    → HasNoChange log
+enters_alone reuse p i middle turn log e h =
     ends_alone p.notes i (ended_of turn.ticked) e.performed log e.gives_up
-    (logs_alone (nodes_of p.stations) p.notes i middle (performed_of turn.heard) e.ended e.performed e.performs
+    (logs_alone_so reuse (nodes_of p.stations) p.notes i middle (performed_of turn.heard) e.ended e.performed e.performs
     (ends_alone p.notes i (ended_of turn.heard) p.log e.ended e.ends h))
 
 log_is : (new p : Plant) → new ≡ p → HasNoChange p.log → HasNoChange new.log
@@ -56,14 +66,14 @@ step_alone : (overtake : ℕ) (step : Step) (old new : Plant) → PlantStep over
     → HasNoChange new.log
 step_alone overtake (Passes by own) old new s k h = log_is new _ s h
 step_alone overtake (Takes i source turn) old new s k h =
-    log_is new _ s.happens.is (enters_alone old i s.takes.is.acts.middle turn s.happens.log s.happens.entered h)
+    log_is new _ s.happens.is (enters_alone s.before.reuse old i s.takes.is.acts.middle turn s.happens.log s.happens.entered h)
 step_alone overtake (FailsToReceive i) old new s k h = log_is new _ s.is h
 step_alone overtake (Begins i server limits r) old new s k h = log_is new _ s.is h
 step_alone overtake (BeginsAway i peer limits r) old new s k h = log_is new _ s.is h
 step_alone overtake (Changes i change) old new s k h = absurd k
 step_alone overtake (Restarts i exact store) old new s k h = log_is new _ s.is (k.0, h)
 step_alone overtake (Holds i source turn) old new s k h =
-    log_is new _ s.happens.is (enters_alone old i s.holds.takes.middle turn s.happens.log s.happens.entered h)
+    log_is new _ s.happens.is (enters_alone s.before.reuse old i s.holds.takes.middle turn s.happens.log s.happens.entered h)
 step_alone overtake (SendsHeld i turns) old new s k h = log_is new _ s.is h
 
 keeps_both : (step : Step) (before : List Step) → KeepStores (step ∷ before) → KeepStores (step ∷ []) × KeepStores before
@@ -88,15 +98,20 @@ run_alone overtake (step ∷ before) old new run k h =
 
 module _ (W overtake : ℕ) (old new : CutPlant) (fresh : IsFresh (world_of old.plant)) (timely : IsTimely old.plant.time.pace)
     (bounded : IsBounded W overtake (world_of old.plant)) (steps : List CutStep) (run : CutPlantRun overtake steps old new) where
-  pub cut_once : IsOnce (stores_of (nodes_of old.plant.stations)) new.plant.log (stores_of (nodes_of new.plant.stations))
-  cut_once = once W overtake old.plant new.plant fresh timely bounded (steps_of steps) (cut_steps overtake steps old new run)
+  cut_run : PlantRun overtake (steps_of steps) old.plant new.plant
+  cut_run = cut_steps overtake steps old new run
 
-  pub cut_apart : AreServedApart (world_of new.plant)
-  cut_apart = apart W overtake old.plant new.plant fresh timely bounded (steps_of steps) (cut_steps overtake steps old new run)
+  pub cut_once : IsOnceSo (settings_of old.plant) (stores_of (nodes_of old.plant.stations)) new.plant.log (stores_of (nodes_of new.plant.stations))
+  cut_once = once W overtake old.plant new.plant fresh timely bounded (steps_of steps) cut_run
 
-  pub cut_by_requests : KeepStores (steps_of steps)
+  pub cut_once_ever : HasNoReuse old.plant → IsOnce (stores_of (nodes_of old.plant.stations)) new.plant.log (stores_of (nodes_of new.plant.stations))
+  cut_once_ever none = once_ever W overtake old.plant new.plant fresh timely bounded (steps_of steps) cut_run none
+
+  pub cut_apart : HasNoReuse old.plant → AreServedApart (world_of new.plant)
+  cut_apart none = apart W overtake old.plant new.plant fresh timely bounded (steps_of steps) cut_run none
+
+  pub cut_by_requests : HasNoReuse old.plant → KeepStores (steps_of steps)
       → IsOnceByRequests (stores_of (nodes_of old.plant.stations)) new.plant.log (stores_of (nodes_of new.plant.stations))
-  cut_by_requests k =
+  cut_by_requests none k =
       by_requests (stores_of (nodes_of old.plant.stations)) new.plant.log (stores_of (nodes_of new.plant.stations))
-      (run_alone overtake (steps_of steps) old.plant new.plant (cut_steps overtake steps old new run) k
-      (subst HasNoChange (sym fresh.log) tt)) cut_once
+      (run_alone overtake (steps_of steps) old.plant new.plant cut_run k (subst HasNoChange (sym fresh.log) tt)) (cut_once_ever none)

@@ -42,7 +42,7 @@ lost_turns_go_on overtake c i before at turn after holds source from = record {
 }
 
 can_start : (overtake : ℕ) (stands : BoundNode) (s : Store) → s ≡ stands.node.store → CanStart overtake stands s
-can_start overtake stands s same c i at exact after is = record {
+can_start overtake stands s same c i at exact after is reuse = record {
   new = record {
     plant = record (with_station c.plant i after) { time = with_clock c.plant.time i exact; log = Restarted i None ∷ c.plant.log };
     losing = with_losing c.losing i None;
@@ -53,6 +53,7 @@ can_start overtake stands s same c i at exact after is = record {
       at = at;
       after = after;
       node = is ∙ ap (λ (x : Store). restarted (clock_at c.plant.time.pace exact).shows x stands.node) same;
+      reuse = reuse;
       is = refl;
     };
     losing = refl;

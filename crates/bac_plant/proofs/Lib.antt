@@ -1,3 +1,5 @@
+pub mod AsEver
+pub mod Settings
 pub mod Turned
 pub mod Runs
 pub mod Chained
@@ -9,4 +11,3 @@ pub mod CutNext
 pub mod Holding
 pub mod Resting
 pub mod Answered
-pub mod ReusingTurned

@@ -1,5 +1,6 @@
 -- Whatever a call promises after a run can be the next step.
-use Rattle.std.proofs.Common.{◌≡◌, ℕ, false, List, [], ◌∷◌, ◌++◌, ◌⊎◌, length, take, Option, Some, None, slice_get, slice_set, refl, sym, subst, inl, inr}
+use Rattle.std.proofs.Common.{◌≡◌, ℕ, Bool, false, List, [], ◌∷◌, ◌++◌, ◌⊎◌, length, take, Option, Some, None, slice_get, slice_set}
+use Rattle.std.proofs.Common.{refl, sym, subst, inl, inr, ◌∙◌}
 use Rattle.std.proofs.lemmas.Option.{slice_get_within}
 use Rattle.bac_apdu.specs.Apdu.{Limits}
 use Rattle.bac_service.specs.Values.{Request}
@@ -10,7 +11,8 @@ use Rattle.bac_world.specs.Node.{Node, NodeOn, Outcome, with_change}
 use Rattle.bac_world.specs.Once.{Fact}
 use Rattle.bac_world.specs.Once.Fact.{Asked, AskedAway, Changed, Performed, Restarted, Served}
 use Rattle.bac_world.specs.Services as service
-use Rattle.bac_world.specs.World.{AreCopied, AreEnded, AreLogged, Copy, Event, IsCopied, IsOutside, Note, World, WorldRun}
+use Rattle.bac_world.specs.ReusingWorlds.{WorldRunSo}
+use Rattle.bac_world.specs.World.{AreCopied, AreEnded, AreLogged, Copy, Event, IsCopied, IsOutside, Note, World}
 use Rattle.bac_world.specs.World.{ending_fact, is_away, link_at, peer_at, told, with_clock}
 use Rattle.bac_journal.specs.Entering.{AreOfPeer, CanBeCopied, CanEnter, CanGoOn, CanLeave, Every, IsNoted, IsOfClient, IsOfStranger}
 use Rattle.bac_journal.proofs.GoingOn.{runs_can_go_on}
@@ -26,8 +28,11 @@ use Rattle.bac_plant.specs.Plants.{Plant, nodes_of, shows, world_of}
 use Rattle.bac_plant.specs.Steps.{HappensAt, HoldsSomeTurn, IsSomeTurn, away_note, note_of, question, with_station}
 use Rattle.bac_plant.specs.Steps.Step.{Begins, Holds, Takes}
 use Rattle.bac_plant.specs.Events.{events_of, heard_events}
-use Rattle.bac_plant.proofs.Runs.{run_events}
-use Rattle.bac_plant.proofs.Turned.{after_call, all_copied_on, copied_join, heard_run, hears_link, held_hears, may_arrive, node_at, run_join, set_links, turn_hears}
+use Rattle.bac_plant.proofs.AsEver.{NONE, run_ever}
+use Rattle.bac_plant.proofs.Runs.{run_by}
+use Rattle.bac_plant.proofs.Settings.{run_settings}
+use Rattle.bac_plant.proofs.Turned.{after_call, all_copied_on, copied_join, heard_run, hears_link, held_hears, may_arrive, node_at, run_join, set_links}
+use Rattle.bac_plant.proofs.Turned.{setting_at, turn_hears}
 
 -- What can enter does.
 
@@ -127,11 +132,12 @@ tick_enters W overtake w on i a b at (Some o) t = on.ticks i a b o at t
 
 -- Reached plants go on.
 
-reached_world : (W overtake : ℕ) (p : Plant) → IsReached W overtake p → (es : List Event) (w : World) → WorldRun overtake (world_of p) es w
+reached_world : (W overtake : ℕ) (p : Plant) → IsReached W overtake p → (es : List Event) (w : World) → WorldRunSo overtake NONE (world_of p) es w
     → CanGoOn W overtake w
 reached_world W overtake p r es w run =
     runs_can_go_on W overtake (world_of r.first) w r.fresh r.timely r.bounded (events_of r.steps ++ es)
-    (run_join overtake (events_of r.steps) es (world_of r.first) (world_of p) w (run_events overtake r.steps r.first p r.run) run)
+    (run_ever overtake (world_of r.first) (events_of r.steps ++ es) w
+    (run_join overtake NONE (events_of r.steps) es (world_of r.first) (world_of p) w (run_by overtake NONE r.steps r.first p r.without r.run) run))
 
 module _ (W overtake : ℕ) (p : Plant) (r : IsReached W overtake p) (i : ℕ) (before : BoundNode) (at : slice_get p.stations i ≡ Some before) where
   abbrev first_at : slice_get (nodes_of p.stations) i ≡ Some before.node
@@ -161,8 +167,8 @@ module _ (W overtake : ℕ) (p : Plant) (r : IsReached W overtake p) (i : ℕ) (
     abbrev Middle : World
     Middle = after_call (world_of p) i middle sends.0 performs.0
 
-    went : WorldRun overtake (world_of p) (heard_events i source turn.heard) Middle
-    went = heard_run overtake p i before.node middle first_at sends.0 ends.0 performs.0 source turn.received after.buffer turn.heard hears from
+    went : WorldRunSo overtake NONE (world_of p) (heard_events i source turn.heard) Middle
+    went = heard_run overtake NONE p i before.node middle first_at sends.0 ends.0 performs.0 source turn.received after.buffer turn.heard hears from
         sends.1 ends.1 performs.1
 
     second_at : slice_get Middle.nodes i ≡ Some middle
@@ -174,7 +180,7 @@ module _ (W overtake : ℕ) (p : Plant) (r : IsReached W overtake p) (i : ℕ) (
 
     linked : (j : ℕ) → link_at (nodes_of p.stations) j ≡ link_at Middle.nodes j
     linked j = sym (set_links (nodes_of p.stations) i before.node middle first_at
-        (hears_link (shows p i) after.buffer turn.received before.node middle turn.heard hears) j)
+        (hears_link false (shows p i) after.buffer turn.received before.node middle turn.heard hears) j)
 
     abbrev later_sends : (cs : List Copy) × AreCopied Middle.nodes p.time.now i (sends_of turn.ticked) cs
     later_sends = may_send Middle i after.node turn.ticked second
@@ -182,7 +188,7 @@ module _ (W overtake : ℕ) (p : Plant) (r : IsReached W overtake p) (i : ℕ) (
     abbrev later_ends : (next : List Fact) × AreEnded p.notes i (ended_of turn.ticked) performs.0 next
     later_ends = may_end Middle i after.node turn.ticked performs.0 second
 
-    may_happen : (new : Plant) × HappensAt overtake p i source turn middle after new × (slice_get new.stations i ≡ Some after)
+    may_happen : (new : Plant) × HappensAt false overtake p i source turn middle after new × (slice_get new.stations i ≡ Some after)
     may_happen = (
       record (with_station p i after) { copies = p.copies ++ (sends.0 ++ later_sends.0); log = later_ends.0 },
       record {
@@ -197,17 +203,22 @@ module _ (W overtake : ℕ) (p : Plant) (r : IsReached W overtake p) (i : ℕ) (
       stands after,
     )
 
-  turn_leads : before.reuse ≡ false → (turn : Turn) (after : BoundNode) → IsSomeTurn (shows p i) before turn after → (source : Source)
-      → HandsOver overtake p i source turn.received after.buffer → LeadsTo overtake p (Takes i source turn) i after
-  turn_leads off turn after t source from =
-      let m = may_happen turn after t.is.acts.middle (turn_hears (shows p i) before turn after t off) t.is.acts.ticks source from in
-      record { new = m.0; goes = record { before = before; at = at; off = off; after = after; takes = t; happens = m.1 }; there = m.2 }
+  off : before.reuse ≡ false
+  off = sym (setting_at p i before at) ∙ run_settings overtake r.steps r.first p r.run i ∙ r.without i
 
-  held_leads : before.reuse ≡ false → (turn : Turn) (after : BoundNode) → HoldsSomeTurn (shows p i) before turn after → (source : Source)
+  turn_leads : (turn : Turn) (after : BoundNode) → IsSomeTurn (shows p i) before turn after → (source : Source)
+      → HandsOver overtake p i source turn.received after.buffer → LeadsTo overtake p (Takes i source turn) i after
+  turn_leads turn after t source from =
+      let m = may_happen turn after t.is.acts.middle (turn_hears false (shows p i) before turn after t off) t.is.acts.ticks source from in
+      let happens = subst (λ (u : Bool). HappensAt u overtake p i source turn t.is.acts.middle after m.0) (sym off) m.1 in
+      record { new = m.0; goes = record { before = before; at = at; after = after; takes = t; happens = happens }; there = m.2 }
+
+  held_leads : (turn : Turn) (after : BoundNode) → HoldsSomeTurn (shows p i) before turn after → (source : Source)
       → HandsOver overtake p i source turn.received after.buffer → LeadsTo overtake p (Holds i source turn) i after
-  held_leads off turn after t source from =
-      let m = may_happen turn after t.takes.middle (held_hears (shows p i) before turn after t off) t.takes.ticks source from in
-      record { new = m.0; goes = record { before = before; at = at; off = off; after = after; holds = t; happens = m.1 }; there = m.2 }
+  held_leads turn after t source from =
+      let m = may_happen turn after t.takes.middle (held_hears false (shows p i) before turn after t off) t.takes.ticks source from in
+      let happens = subst (λ (u : Bool). HappensAt u overtake p i source turn t.takes.middle after m.0) (sym off) m.1 in
+      record { new = m.0; goes = record { before = before; at = at; after = after; holds = t; happens = happens }; there = m.2 }
 
   ask_leads : (server : ℕ) (link : Octets) → link_at (nodes_of p.stations) server ≡ Some link → (limits : Limits) (request : Request) (ticket : ℕ)
       (after : BoundNode) → IsBegun (shows p i) (question (peer_at link) limits request) before ticket after
@@ -237,10 +248,10 @@ module _ (W overtake : ℕ) (p : Plant) (r : IsReached W overtake p) (i : ℕ) (
       }
 
 pub turns_go_on : (W overtake : ℕ) (p : Plant) → IsReached W overtake p → TurnsGoOn overtake p
-turns_go_on W overtake p r i before at off turn after t source from = turn_leads W overtake p r i before at off turn after t source from
+turns_go_on W overtake p r i before at turn after t source from = turn_leads W overtake p r i before at turn after t source from
 
 pub held_turns_go_on : (W overtake : ℕ) (p : Plant) → IsReached W overtake p → HeldTurnsGoOn overtake p
-held_turns_go_on W overtake p r i before at off turn after t source from = held_leads W overtake p r i before at off turn after t source from
+held_turns_go_on W overtake p r i before at turn after t source from = held_leads W overtake p r i before at turn after t source from
 
 pub held_sends_go_on : (overtake : ℕ) (p : Plant) → HeldSendsGoOn overtake p
 held_sends_go_on overtake p i before at turns after sends = record {
@@ -289,8 +300,8 @@ changes_go_on overtake p i before at c may =
     }
 
 pub restarts_go_on : (overtake : ℕ) (p : Plant) → RestartsGoOn overtake p
-restarts_go_on overtake p i before at exact store after is = record {
+restarts_go_on overtake p i before at exact store after is reuse = record {
   new = record (with_station p i after) { time = with_clock p.time i exact; log = Restarted i store ∷ p.log };
-  goes = record { before = before; at = at; after = after; node = is; is = refl };
+  goes = record { before = before; at = at; after = after; node = is; reuse = reuse; is = refl };
   there = get_set p.stations i after (slice_get_within p.stations i before at);
 }

@@ -11,7 +11,8 @@ use Rattle.bac_transaction.specs.Meanings.{IsEndedView}
 use Rattle.bac_transaction.specs.Sends.{IsSent, Pairwise}
 use Rattle.bac_protocol.specs.Context.{Settings}
 use Rattle.bac_world.specs.Node.{Node, NodeOn, NodeTick, Outcome}
-use Rattle.bac_world.specs.World.{AreLogged, Hears, World}
+use Rattle.bac_world.specs.ReusingWorlds.{AreLoggedSo}
+use Rattle.bac_world.specs.World.{Hears, World}
 use Rattle.bac_world.proofs.Pairs.{append_none, pairwise_none}
 use Rattle.bac_world.specs.ReusingNodes.{NodeHears}
 use Rattle.bac_node.specs.Waiting.{RestsUntil}
@@ -197,7 +198,7 @@ module _ (overtake : ℕ) (old : Plant) (i : ℕ) (b : BoundNode) (at : slice_ge
 
     -- what happens to the plant, whatever became of the link
     happens : (after : BoundNode) → after.buffer ≡ octets
-        → HappensAt overtake old i (Station number) (turn_by (shows old i) from octets h.outcome) n after (next_plant old i after w)
+        → HappensAt b.reuse overtake old i (Station number) (turn_by (shows old i) from octets h.outcome) n after (next_plant old i after w)
     happens after buffer = record {
       comes = subst (λ os. IsOfStation overtake old i number from os) (sym (ap (take (length octets)) buffer ∙ take-length octets)) comes;
       sent = h.acts.sent ++ [];
@@ -207,7 +208,8 @@ module _ (overtake : ℕ) (old : Plant) (i : ℕ) (b : BoundNode) (at : slice_ge
         ended = h.acts.between;
         performed = w.log;
         ends = h.acts.ended;
-        performs = subst (λ x. AreLogged (nodes_of old.stations) old.notes i x h.outcome.performed h.acts.between w.log) same h.acts.logged;
+        performs = subst (λ (u : Bool). AreLoggedSo u (nodes_of old.stations) old.notes i n h.outcome.performed h.acts.between w.log) (sym off)
+            (subst (λ x. AreLoggedSo false (nodes_of old.stations) old.notes i x h.outcome.performed h.acts.between w.log) same h.acts.logged);
         gives_up = refl;
       };
       is = ap (λ l. record (with_station old i after) { copies = l; log = w.log })
@@ -220,7 +222,6 @@ module _ (overtake : ℕ) (old : Plant) (i : ℕ) (b : BoundNode) (at : slice_ge
     hearing_step = record {
       before = b;
       at = at;
-      off = off;
       after = after_turn (shows old i) b from octets n h.outcome;
       takes = takes_turn (shows old i) b off due is from octets n h.outcome on calm;
       happens = happens (after_turn (shows old i) b from octets n h.outcome) refl;
@@ -238,7 +239,6 @@ module _ (overtake : ℕ) (old : Plant) (i : ℕ) (b : BoundNode) (at : slice_ge
     holding_step = record {
       before = b;
       at = at;
-      off = off;
       after = after_held (shows old i) b from octets n;
       holds = holds_now;
       happens = happens (after_held (shows old i) b from octets n) refl;
@@ -246,10 +246,10 @@ module _ (overtake : ℕ) (old : Plant) (i : ℕ) (b : BoundNode) (at : slice_ge
 
   pub idle_step : IsCalm (shows old i) b.node
       → TakesTurnAt overtake old i Nowhere (turn_by_none (shows old i)) (with_station old i (after_none (shows old i) b))
+  unfolding takes_none
   idle_step calm = record {
     before = b;
     at = at;
-    off = off;
     after = after_none (shows old i) b;
     takes = takes_none (shows old i) b due is calm;
     happens = record {
@@ -257,7 +257,13 @@ module _ (overtake : ℕ) (old : Plant) (i : ℕ) (b : BoundNode) (at : slice_ge
       sent = [];
       copied = refl;
       log = old.log;
-      entered = record { ended = old.log; performed = old.log; ends = refl; performs = refl; gives_up = refl };
+      entered = record {
+        ended = old.log;
+        performed = old.log;
+        ends = refl;
+        performs = subst (λ (u : Bool). AreLoggedSo u (nodes_of old.stations) old.notes i b.node None old.log old.log) (sym off) refl;
+        gives_up = refl;
+      };
       is = ap (λ l. record (with_station old i (after_none (shows old i) b)) { copies = l }) (sym (append_none old.copies));
     };
   }

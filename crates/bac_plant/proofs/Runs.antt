@@ -3,14 +3,18 @@ use Rattle.std.proofs.Common.{◌≡◌, ℕ, List, [], ◌∷◌, Some, slice_g
 use Rattle.bac_protocol.specs.Pace.{IsTimely}
 use Rattle.bac_world.specs.Claims.{AreServedApart}
 use Rattle.bac_world.specs.Once.{IsOnce}
+use Rattle.bac_world.specs.ReusingLogs.{IsOnceSo, Reuses}
+use Rattle.bac_world.specs.ReusingWorlds.{WorldRunSo}
 use Rattle.bac_world.specs.World.{Event, IsBounded, IsFresh, IsWithNode, WorldRun, WorldStep, stores_of}
-use Rattle.bac_world.proofs.Headline.{apart_in_run, headline}
+use Rattle.bac_world.proofs.Headline.{apart_in_run, headline, headline_so}
 use Rattle.bac_driver.specs.BoundNodes.{BoundNode}
 use Rattle.bac_driver.specs.Turns.{Turn}
-use Rattle.bac_plant.specs.Plants.{Plant, nodes_of, world_of}
+use Rattle.bac_plant.specs.Plants.{HasNoReuse, Plant, nodes_of, settings_of, world_of}
 use Rattle.bac_plant.specs.Steps.{AsksAt, AsksAwayAt, ChangesAt, FailsAt, PlantRun, PlantStep, RestartsAt, SendsHeldAt, Step, away_note, note_of, with_station}
 use Rattle.bac_plant.specs.Steps.Step.{Begins, BeginsAway, Changes, FailsToReceive, Holds, Passes, Restarts, SendsHeld, Takes}
 use Rattle.bac_plant.specs.Events.{events_in, events_of}
+use Rattle.bac_plant.proofs.AsEver.{NONE, run_ever}
+use Rattle.bac_plant.proofs.Settings.{run_settings}
 use Rattle.bac_plant.proofs.Turned.{held_run, node_at, nodes_set, run_join, set_same, turn_run, with_node}
 
 -- the nodes after a step of one station
@@ -98,31 +102,43 @@ restarts_event overtake old i exact store new r = subst (λ p. WorldStep overtak
       log = refl;
     })
 
-pub step_events : (overtake : ℕ) (old : Plant) (step : Step) (new : Plant) → PlantStep overtake old step new
-    → WorldRun overtake (world_of old) (events_in step) (world_of new)
-step_events overtake old (Passes by own) new s = (world_of new, ap world_of s, refl)
-step_events overtake old (Takes i source turn) new s = turn_run overtake old i source turn new s
-step_events overtake old (FailsToReceive i) new s = fails_same old i new s
-step_events overtake old (Begins i server limits r) new s = (world_of new, begins_event overtake old i server limits r new s, refl)
-step_events overtake old (BeginsAway i peer limits r) new s = (world_of new, begins_away_event overtake old i peer limits r new s, refl)
-step_events overtake old (Changes i c) new s = (world_of new, changes_event overtake old i c new s, refl)
-step_events overtake old (Restarts i exact store) new s = (world_of new, restarts_event overtake old i exact store new s, refl)
-step_events overtake old (Holds i source turn) new s = held_run overtake old i source turn new s
-step_events overtake old (SendsHeld i turns) new s = sends_same old i turns new s
+pub step_events : (overtake : ℕ) (u : Reuses) (old : Plant) (step : Step) (new : Plant) → ((i : ℕ) → settings_of old i ≡ u i) → PlantStep overtake old step new
+    → WorldRunSo overtake u (world_of old) (events_in step) (world_of new)
+step_events overtake u old (Passes by own) new settings s = (world_of new, ap world_of s, refl)
+step_events overtake u old (Takes i source turn) new settings s = turn_run overtake u old settings i source turn new s
+step_events overtake u old (FailsToReceive i) new settings s = fails_same old i new s
+step_events overtake u old (Begins i server limits r) new settings s = (world_of new, begins_event overtake old i server limits r new s, refl)
+step_events overtake u old (BeginsAway i peer limits r) new settings s = (world_of new, begins_away_event overtake old i peer limits r new s, refl)
+step_events overtake u old (Changes i c) new settings s = (world_of new, changes_event overtake old i c new s, refl)
+step_events overtake u old (Restarts i exact store) new settings s = (world_of new, restarts_event overtake old i exact store new s, refl)
+step_events overtake u old (Holds i source turn) new settings s = held_run overtake u old settings i source turn new s
+step_events overtake u old (SendsHeld i turns) new settings s = sends_same old i turns new s
+
+pub run_by : (overtake : ℕ) (u : Reuses) (steps : List Step) (old new : Plant) → ((i : ℕ) → settings_of old i ≡ u i) → PlantRun overtake steps old new
+    → WorldRunSo overtake u (world_of old) (events_of steps) (world_of new)
+run_by overtake u [] old new settings run = ap world_of run
+run_by overtake u (step ∷ before) old new settings run =
+    run_join overtake u (events_of before) (events_in step) (world_of old) (world_of run.middle) (world_of new)
+    (run_by overtake u before old run.middle settings run.so_far)
+    (step_events overtake u run.middle step new (λ i. run_settings overtake before old run.middle run.so_far i ∙ settings i) run.last)
 
 pub run_events : (overtake : ℕ) (steps : List Step) (old new : Plant) → PlantRun overtake steps old new
+    → WorldRunSo overtake (settings_of old) (world_of old) (events_of steps) (world_of new)
+run_events overtake steps old new run = run_by overtake (settings_of old) steps old new (λ i. refl) run
+
+-- where no station lets clients use an invoke ID again
+pub run_events_ever : (overtake : ℕ) (steps : List Step) (old new : Plant) → HasNoReuse old → PlantRun overtake steps old new
     → WorldRun overtake (world_of old) (events_of steps) (world_of new)
-run_events overtake [] old new run = ap world_of run
-run_events overtake (step ∷ before) old new run =
-    run_join overtake (events_of before) (events_in step) (world_of old) (world_of run.middle) (world_of new)
-    (run_events overtake before old run.middle run.so_far) (step_events overtake run.middle step new run.last)
+run_events_ever overtake steps old new none run =
+    run_ever overtake (world_of old) (events_of steps) (world_of new) (run_by overtake NONE steps old new none run)
 
-pub once : (W overtake : ℕ) (old new : Plant) → IsFresh (world_of old) → IsTimely old.time.pace → IsBounded W overtake (world_of old)
-    → (steps : List Step) → PlantRun overtake steps old new → IsOnce (stores_of (nodes_of old.stations)) new.log (stores_of (nodes_of new.stations))
-once W overtake old new fresh timely bounded steps run =
-    headline W overtake (world_of old) (world_of new) fresh timely bounded (events_of steps) (run_events overtake steps old new run)
+module _ (W overtake : ℕ) (old new : Plant) (fresh : IsFresh (world_of old)) (timely : IsTimely old.time.pace) (bounded : IsBounded W overtake (world_of old))
+    (steps : List Step) (run : PlantRun overtake steps old new) where
+  pub once : IsOnceSo (settings_of old) (stores_of (nodes_of old.stations)) new.log (stores_of (nodes_of new.stations))
+  once = headline_so (settings_of old) W overtake (world_of old) (world_of new) fresh timely bounded (events_of steps) (run_events overtake steps old new run)
 
-pub apart : (W overtake : ℕ) (old new : Plant) → IsFresh (world_of old) → IsTimely old.time.pace → IsBounded W overtake (world_of old)
-    → (steps : List Step) → PlantRun overtake steps old new → AreServedApart (world_of new)
-apart W overtake old new fresh timely bounded steps run =
-    apart_in_run W overtake (world_of old) (world_of new) fresh timely bounded (events_of steps) (run_events overtake steps old new run)
+  pub once_ever : HasNoReuse old → IsOnce (stores_of (nodes_of old.stations)) new.log (stores_of (nodes_of new.stations))
+  once_ever none = headline W overtake (world_of old) (world_of new) fresh timely bounded (events_of steps) (run_events_ever overtake steps old new none run)
+
+  pub apart : HasNoReuse old → AreServedApart (world_of new)
+  apart none = apart_in_run W overtake (world_of old) (world_of new) fresh timely bounded (events_of steps) (run_events_ever overtake steps old new none run)

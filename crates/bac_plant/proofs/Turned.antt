@@ -9,17 +9,21 @@ use Rattle.bac_protocol.specs.Service.{Octets}
 use Rattle.bac_protocol.specs.Wire.{is_from_client}
 use Rattle.bac_transaction.specs.Sends.{Datagram}
 use Rattle.bac_world.specs.Node.{Node, NodeOn, Outcome, IsHeardBy}
+use Rattle.bac_world.specs.ReusingLogs.{Reuses}
+use Rattle.bac_world.specs.ReusingNodes.{IsHeardReusingBy, NodeHears}
+use Rattle.bac_world.specs.ReusingWorlds.{ActsSo, AreLoggedSo, DeliversIfSo, DeliversSo, HearsSo, WorldRunSo}
 use Rattle.bac_world.specs.Once.{Fact}
-use Rattle.bac_world.specs.World.{Acts, AreCopied, AreEnded, AreLogged, Copy, Delivers, DeliversIf, Event, Hears, IsCopied, IsWithNode, World, WorldRun}
+use Rattle.bac_world.specs.World.{AreCopied, AreEnded, Copy, Event, IsCopied, IsWithNode, Note, World}
 use Rattle.bac_world.specs.World.{is_deliverable, later, link_at, told}
 use Rattle.bac_world.proofs.Bridge.{AreParted, copied_split}
 use Rattle.bac_world.proofs.Pairs.{append_none}
+use Rattle.bac_world.proofs.Steps.{acts_quiet}
 use Rattle.bac_journal.proofs.Grown.{more_become}
 use Rattle.bac_journal.proofs.Lists.{get_set, get_set_other}
 use Rattle.bac_driver.specs.BoundNodes.{BoundNode}
 use Rattle.bac_driver.specs.Turns as turns
 use Rattle.bac_driver.specs.Turns.{ended_of, performed_of, sends_of}
-use Rattle.bac_plant.specs.Plants.{Plant, node_of, nodes_of, shows, world_of}
+use Rattle.bac_plant.specs.Plants.{Plant, node_of, nodes_of, reuse_of, settings_of, shows, world_of}
 use Rattle.bac_plant.specs.Network.{HandsOver, IsOfStation, Source}
 use Rattle.bac_plant.specs.Network.Source.{Noise, Nowhere, Station, Stranger}
 use Rattle.bac_plant.specs.Steps.{HappensAt, HoldsSomeTurn, HoldsTurnAt, IsSomeTurn, TakesTurnAt}
@@ -60,11 +64,20 @@ on_link now from octets a b o (inr d) = go (is_from_client d.apdu) d.heard
     go true t = ap (λ (n : Node). n.link) t.node
     go false t = ap (λ (n : Node). n.link) t.node
 
-pub hears_link : (now : ℕ) (buffer : Octets) (came : Option (Octets × ℕ)) (a b : Node) (heard : Option Outcome) → turns.Hears false now buffer came a b heard
-    → b.link ≡ a.link
-hears_link now buffer None a b heard h = ap (λ (n : Node). n.link) h.1
-hears_link now buffer (Some d) a b None h = ap (λ (n : Node). n.link) h.same
-hears_link now buffer (Some d) a b (Some o) h = on_link now d.0 (take d.1 buffer) a b o h
+node_link : (reuse : Bool) (now : ℕ) (from octets : Octets) (a b : Node) (o : Outcome) → NodeHears reuse now from octets a b o → b.link ≡ a.link
+node_link false now from octets a b o h = on_link now from octets a b o h
+node_link true now from octets a b o (inl d) = ap (λ (n : Node). n.link) d.node
+node_link true now from octets a b o (inr d) = go (is_from_client d.apdu) d.heard
+  where
+    go : (up : Bool) → IsHeardReusingBy up d.peer d.apdu now a b o → b.link ≡ a.link
+    go true t = ap (λ (n : Node). n.link) t.node
+    go false t = ap (λ (n : Node). n.link) t.node
+
+pub hears_link : (reuse : Bool) (now : ℕ) (buffer : Octets) (came : Option (Octets × ℕ)) (a b : Node) (heard : Option Outcome)
+    → turns.Hears reuse now buffer came a b heard → b.link ≡ a.link
+hears_link reuse now buffer None a b heard h = ap (λ (n : Node). n.link) h.1
+hears_link reuse now buffer (Some d) a b None h = ap (λ (n : Node). n.link) h.same
+hears_link reuse now buffer (Some d) a b (Some o) h = node_link reuse now d.0 (take d.1 buffer) a b o h
 
 -- a node with that link takes the place of another one
 pub set_links : (xs : List Node) (i : ℕ) (a b : Node) → slice_get xs i ≡ Some a → b.link ≡ a.link → (j : ℕ) → link_at (slice_set xs i b) j ≡ link_at xs j
@@ -117,6 +130,12 @@ copied_join nodes now i ds es xs ys h k =
 abbrev pub after_call : World → ℕ → Node → List Copy → List Fact → World
 after_call w i b cs log = record w { nodes = slice_set w.nodes i b; copies = w.copies ++ cs; log = log }
 
+-- where nothing was performed, the log is as it was
+none_logged : (reuse : Bool) (nodes : List Node) (notes : List Note) (i : ℕ) (b : Node) (old new : List Fact) → AreLoggedSo reuse nodes notes i b None old new
+    → new ≡ old
+none_logged true nodes notes i b old new is = is
+none_logged false nodes notes i b old new is = is
+
 -- nothing came of it
 pub nothing_called : (w : World) (i : ℕ) (a b : Node) → slice_get w.nodes i ≡ Some a → b ≡ a → (cs : List Copy) → cs ≡ [] → (log : List Fact) → log ≡ w.log
     → after_call w i b cs log ≡ w
@@ -124,11 +143,11 @@ nothing_called w i a b at same cs none log is =
     ap (λ n. record w { nodes = n; copies = w.copies ++ cs; log = log }) (ap (slice_set w.nodes i) same ∙ set_same w.nodes i a at)
     ∙ ap (λ l. record w { copies = l; log = log }) (ap (λ l. w.copies ++ l) none ∙ append_none w.copies) ∙ ap (λ l. record w { log = l }) is
 
-pub acted : (w : World) (i : ℕ) (a b : Node) (o : Outcome) → slice_get w.nodes i ≡ Some a → (cs : List Copy)
+pub acted : (reuse : Bool) (w : World) (i : ℕ) (a b : Node) (o : Outcome) → slice_get w.nodes i ≡ Some a → (cs : List Copy)
     → AreCopied w.nodes w.time.now i o.sends cs
-    → (between log : List Fact) → AreEnded w.notes i o.ended w.log between → AreLogged w.nodes w.notes i b o.performed between log
-    → Acts w i b o (after_call w i b cs log)
-acted w i a b o at cs copied between log ended logged = record {
+    → (between log : List Fact) → AreEnded w.notes i o.ended w.log between → AreLoggedSo reuse w.nodes w.notes i b o.performed between log
+    → ActsSo reuse w i b o (after_call w i b cs log)
+acted reuse w i a b o at cs copied between log ended logged = record {
   nodes = with_node w.nodes i a b at;
   time = refl;
   notes = refl;
@@ -149,69 +168,73 @@ may_arrive overtake life now number copies c young few = go (nat_le (now - c.mom
     go true false a b = absurd (grind (arith, nat_tests))
     go false f a b = absurd (grind (arith, nat_tests))
 
-pub delivers_if : (b : Bool) (w : World) (c : Copy) (w' : World) → b ≡ true → Delivers w c w' → DeliversIf b w c w'
-delivers_if true w c w' e d = d
-delivers_if false w c w' e d = absurd cc
+pub delivers_if : (b : Bool) (u : Reuses) (w : World) (c : Copy) (w' : World) → b ≡ true → DeliversSo u w c w' → DeliversIfSo b u w c w'
+delivers_if true u w c w' e d = d
+delivers_if false u w c w' e d = absurd cc
 
 -- What a node hears.
-module _ (overtake : ℕ) (p : Plant) (i : ℕ) (a b : Node) (at : slice_get (nodes_of p.stations) i ≡ Some a) (cs : List Copy) (between log : List Fact) where
+module _ (overtake : ℕ) (u : Reuses) (p : Plant) (i : ℕ) (a b : Node) (at : slice_get (nodes_of p.stations) i ≡ Some a) (cs : List Copy)
+    (between log : List Fact) where
   abbrev pub After : World
   After = after_call (world_of p) i b cs log
+
+  same_log : AreLoggedSo (u i) (nodes_of p.stations) p.notes i b None between log → log ≡ between
+  same_log = none_logged (u i) (nodes_of p.stations) p.notes i b between log
 
   none_heard : b ≡ a → cs ≡ [] → between ≡ p.log → log ≡ between → After ≡ world_of p
   none_heard same none e f = nothing_called (world_of p) i a b at same cs none log (f ∙ e)
 
-  world_hears : (from octets : Octets) (o : Outcome) → NodeOn (shows p i) from octets a b o
+  world_hears : (from octets : Octets) (o : Outcome) → NodeHears (u i) (shows p i) from octets a b o
       → AreCopied (nodes_of p.stations) p.time.now i o.sends cs → AreEnded p.notes i o.ended p.log between
-      → AreLogged (nodes_of p.stations) p.notes i b o.performed between log → Hears (world_of p) i from octets After
+      → AreLoggedSo (u i) (nodes_of p.stations) p.notes i b o.performed between log → HearsSo (u i) (world_of p) i from octets After
   world_hears from octets o on copied ended logged = record {
     before = a;
     at = at;
     after = b;
     outcome = o;
     on = on;
-    acts = acted (world_of p) i a b o at cs copied between log ended logged;
+    acts = acted (u i) (world_of p) i a b o at cs copied between log ended logged;
   }
 
-  arrives : (number : ℕ) (from octets : Octets) → IsOfStation overtake p i number from octets → Hears (world_of p) i from octets After
-      → WorldRun overtake (world_of p) (Event.Deliver number ∷ []) After
+  arrives : (number : ℕ) (from octets : Octets) → IsOfStation overtake p i number from octets → HearsSo (u i) (world_of p) i from octets After
+      → WorldRunSo overtake u (world_of p) (Event.Deliver number ∷ []) After
   arrives number from octets c h = (
     After,
     record {
       copy = c.copy;
       there = c.there;
-      goes = delivers_if (is_deliverable overtake p.time.pace.life p.time.now number p.copies c.copy) (world_of p) c.copy After
+      goes = delivers_if (is_deliverable overtake p.time.pace.life p.time.now number p.copies c.copy) u (world_of p) c.copy After
           (may_arrive overtake p.time.pace.life p.time.now number p.copies c.copy c.young c.few)
           (record {
             link = from;
             sender = c.sender;
-            hears = subst (λ k. Hears (world_of p) k from c.copy.octets After) (sym c.to)
-                (subst (λ os. Hears (world_of p) i from os After) (sym c.whole) h);
+            hears = subst (λ k. HearsSo (u k) (world_of p) k from c.copy.octets After) (sym c.to)
+                (subst (λ os. HearsSo (u i) (world_of p) i from os After) (sym c.whole) h);
           });
     },
     refl,
   )
 
   -- it hears what was sent
-  heard_as : (sender sent from octets : Octets) → from ≡ sender → octets ≡ sent → Hears (world_of p) i from octets After
-      → Hears (world_of p) i sender sent After
+  heard_as : (sender sent from octets : Octets) → from ≡ sender → octets ≡ sent → HearsSo (u i) (world_of p) i from octets After
+      → HearsSo (u i) (world_of p) i sender sent After
   heard_as sender sent from octets link_is whole h =
-      subst (λ l. Hears (world_of p) i l sent After) link_is (subst (λ os. Hears (world_of p) i from os After) whole h)
+      subst (λ l. HearsSo (u i) (world_of p) i l sent After) link_is (subst (λ os. HearsSo (u i) (world_of p) i from os After) whole h)
 
-  came_run : (source : Source) (d : Octets × ℕ) (buffer : Octets) (heard : Option Outcome) → turns.HearsOne false (shows p i) d.0 (take d.1 buffer) a b heard
+  came_run : (source : Source) (d : Octets × ℕ) (buffer : Octets) (heard : Option Outcome) → turns.HearsOne (u i) (shows p i) d.0 (take d.1 buffer) a b heard
       → HandsOver overtake p i source (Some d) buffer → AreCopied (nodes_of p.stations) p.time.now i (sends_of heard) cs
-      → AreEnded p.notes i (ended_of heard) p.log between → AreLogged (nodes_of p.stations) p.notes i b (performed_of heard) between log
-      → WorldRun overtake (world_of p) (heard_events i source heard) After
+      → AreEnded p.notes i (ended_of heard) p.log between → AreLoggedSo (u i) (nodes_of p.stations) p.notes i b (performed_of heard) between log
+      → WorldRunSo overtake u (world_of p) (heard_events i source heard) After
   came_run Nowhere d buffer heard h from copied ended logged = absurd from
-  came_run (Station number) d buffer None h from copied ended logged = none_heard h.same copied ended logged
-  came_run (Stranger sender octets) d buffer None h from copied ended logged = none_heard h.same copied ended logged
-  came_run (Noise sender octets) d buffer None h from copied ended logged = none_heard h.same copied ended logged
+  came_run (Station number) d buffer None h from copied ended logged = none_heard h.same copied ended (same_log logged)
+  came_run (Stranger sender octets) d buffer None h from copied ended logged = none_heard h.same copied ended (same_log logged)
+  came_run (Noise sender octets) d buffer None h from copied ended logged = none_heard h.same copied ended (same_log logged)
   came_run (Station number) d buffer (Some o) h from copied ended logged =
       arrives number d.0 (take d.1 buffer) from (world_hears d.0 (take d.1 buffer) o h copied ended logged)
   came_run (Stranger sender octets) d buffer (Some o) h from copied ended logged = (
     After,
     inl (record {
-      stranger = from.stranger;
+      fit = from.stranger;
       hears = heard_as sender octets d.0 (take d.1 buffer) from.link_is from.whole (world_hears d.0 (take d.1 buffer) o h copied ended logged);
     }),
     refl,
@@ -219,28 +242,30 @@ module _ (overtake : ℕ) (p : Plant) (i : ℕ) (a b : Node) (at : slice_get (no
   came_run (Noise sender octets) d buffer (Some o) h from copied ended logged = (
     After,
     inl (record {
-      meaningless = from.meaningless;
+      fit = from.meaningless;
       hears = heard_as sender octets d.0 (take d.1 buffer) from.link_is from.whole (world_hears d.0 (take d.1 buffer) o h copied ended logged);
     }),
     refl,
   )
 
   pub heard_run : (source : Source) (came : Option (Octets × ℕ)) (buffer : Octets) (heard : Option Outcome)
-      → turns.Hears false (shows p i) buffer came a b heard → HandsOver overtake p i source came buffer → AreCopied (nodes_of p.stations) p.time.now i (sends_of heard) cs
-      → AreEnded p.notes i (ended_of heard) p.log between → AreLogged (nodes_of p.stations) p.notes i b (performed_of heard) between log
-      → WorldRun overtake (world_of p) (heard_events i source heard) After
+      → turns.Hears (u i) (shows p i) buffer came a b heard → HandsOver overtake p i source came buffer
+      → AreCopied (nodes_of p.stations) p.time.now i (sends_of heard) cs
+      → AreEnded p.notes i (ended_of heard) p.log between → AreLoggedSo (u i) (nodes_of p.stations) p.notes i b (performed_of heard) between log
+      → WorldRunSo overtake u (world_of p) (heard_events i source heard) After
   heard_run source (Some d) buffer heard h from copied ended logged = came_run source d buffer heard h from copied ended logged
   heard_run source None buffer None h from copied ended logged =
-      subst (λ s. WorldRun overtake (world_of p) (heard_events i s None) After) (sym from)
-      (none_heard h.1 copied ended logged)
+      subst (λ s. WorldRunSo overtake u (world_of p) (heard_events i s None) After) (sym from)
+      (none_heard h.1 copied ended (same_log logged))
   heard_run source None buffer (Some o) h from copied ended logged = absurd (let e = h.0 in cc)
 
 -- What it does at a tick.
-pub tick_run : (overtake : ℕ) (w : World) (i : ℕ) (a b : Node) → slice_get w.nodes i ≡ Some a → (ticked : Option Outcome) → turns.Ticks (told w i) a b ticked
+pub tick_run : (overtake : ℕ) (u : Reuses) (w : World) (i : ℕ) (a b : Node) → slice_get w.nodes i ≡ Some a → (ticked : Option Outcome)
+    → turns.Ticks (told w i) a b ticked
     → (cs : List Copy) → AreCopied w.nodes w.time.now i (sends_of ticked) cs → (log : List Fact) → AreEnded w.notes i (ended_of ticked) w.log log
-    → WorldRun overtake w (ticked_events i ticked) (after_call w i b cs log)
-tick_run overtake w i a b at None t cs copied log ended = nothing_called w i a b at t.same cs copied log ended
-tick_run overtake w i a b at (Some o) t cs copied log ended = (
+    → WorldRunSo overtake u w (ticked_events i ticked) (after_call w i b cs log)
+tick_run overtake u w i a b at None t cs copied log ended = nothing_called w i a b at t.same cs copied log ended
+tick_run overtake u w i a b at (Some o) t cs copied log ended = (
   after_call w i b cs log,
   record {
     before = a;
@@ -248,41 +273,47 @@ tick_run overtake w i a b at (Some o) t cs copied log ended = (
     after = b;
     outcome = o;
     tick = t;
-    acts = acted w i a b o at cs copied log log ended (subst (λ f. AreLogged w.nodes w.notes i b f log log) (sym t.performed) refl);
+    acts = acts_quiet false w (after_call w i b cs log) i b o t.performed
+        (acted false w i a b o at cs copied log log ended (subst (λ f. AreLoggedSo false w.nodes w.notes i b f log log) (sym t.performed) refl));
   },
   refl,
 )
 
 -- Runs.
 
-pub run_join : (overtake : ℕ) (es fs : List Event) (u v w : World) → WorldRun overtake u es v → WorldRun overtake v fs w → WorldRun overtake u (es ++ fs) w
-run_join overtake [] fs u v w h k = subst (λ (y : World). WorldRun overtake y fs w) h k
-run_join overtake (e ∷ es) fs u v w h k = (h.0, h.1, run_join overtake es fs h.0 v w h.2 k)
+pub run_join : (overtake : ℕ) (u : Reuses) (es fs : List Event) (w v y : World) → WorldRunSo overtake u w es v → WorldRunSo overtake u v fs y
+    → WorldRunSo overtake u w (es ++ fs) y
+run_join overtake u [] fs w v y h k = subst (λ (z : World). WorldRunSo overtake u z fs y) h k
+run_join overtake u (e ∷ es) fs w v y h k = (h.0, h.1, run_join overtake u es fs h.0 v y h.2 k)
 
 -- The turn.
 
 -- what its node hears, by the buffer that the turn leaves
-hears_by : (now : ℕ) (first received after : BoundNode) (turn : turns.Turn) (middle : Node) → received.node ≡ first.node → after.buffer ≡ received.buffer
-    → received.reuse ≡ false → turns.Hears received.reuse now received.buffer turn.received received.node middle turn.heard
-    → turns.Hears false now after.buffer turn.received first.node middle turn.heard
-hears_by now first received after turn middle node buffer off hears =
-    subst (λ n. turns.Hears false now after.buffer turn.received n middle turn.heard) node
-    (subst (λ l. turns.Hears false now l turn.received received.node middle turn.heard) (sym buffer)
-    (subst (λ (r : Bool). turns.Hears r now received.buffer turn.received received.node middle turn.heard) off hears))
+hears_by : (reuse : Bool) (now : ℕ) (first received after : BoundNode) (turn : turns.Turn) (middle : Node) → received.node ≡ first.node
+    → after.buffer ≡ received.buffer → received.reuse ≡ reuse → turns.Hears received.reuse now received.buffer turn.received received.node middle turn.heard
+    → turns.Hears reuse now after.buffer turn.received first.node middle turn.heard
+hears_by reuse now first received after turn middle node buffer same hears =
+    subst (λ n. turns.Hears reuse now after.buffer turn.received n middle turn.heard) node
+    (subst (λ l. turns.Hears reuse now l turn.received received.node middle turn.heard) (sym buffer)
+    (subst (λ (r : Bool). turns.Hears r now received.buffer turn.received received.node middle turn.heard) same hears))
 
-pub turn_hears : (now : ℕ) (before : BoundNode) (turn : turns.Turn) (after : BoundNode) (t : IsSomeTurn now before turn after) → before.reuse ≡ false
-    → turns.Hears false now after.buffer turn.received before.node t.is.acts.middle turn.heard
-turn_hears now before turn after t off =
-    hears_by now before t.is.middle after turn t.is.acts.middle t.is.receives.node t.is.acts.buffer (t.is.receives.reuse ∙ off) t.is.acts.hears
+pub turn_hears : (reuse : Bool) (now : ℕ) (before : BoundNode) (turn : turns.Turn) (after : BoundNode) (t : IsSomeTurn now before turn after)
+    → before.reuse ≡ reuse → turns.Hears reuse now after.buffer turn.received before.node t.is.acts.middle turn.heard
+turn_hears reuse now before turn after t same =
+    hears_by reuse now before t.is.middle after turn t.is.acts.middle t.is.receives.node t.is.acts.buffer (t.is.receives.reuse ∙ same) t.is.acts.hears
 
-pub held_hears : (now : ℕ) (before : BoundNode) (turn : turns.Turn) (after : BoundNode) (t : HoldsSomeTurn now before turn after) → before.reuse ≡ false
-    → turns.Hears false now after.buffer turn.received before.node t.takes.middle turn.heard
-held_hears now before turn after t off =
-    hears_by now before t.middle after turn t.takes.middle t.receives.node t.takes.buffer (t.receives.reuse ∙ off) t.takes.hears
+pub held_hears : (reuse : Bool) (now : ℕ) (before : BoundNode) (turn : turns.Turn) (after : BoundNode) (t : HoldsSomeTurn now before turn after)
+    → before.reuse ≡ reuse → turns.Hears reuse now after.buffer turn.received before.node t.takes.middle turn.heard
+held_hears reuse now before turn after t same =
+    hears_by reuse now before t.middle after turn t.takes.middle t.receives.node t.takes.buffer (t.receives.reuse ∙ same) t.takes.hears
 
-module _ (overtake : ℕ) (old : Plant) (i : ℕ) (before : BoundNode) (at : slice_get old.stations i ≡ Some before) (source : Source) (turn : turns.Turn)
-    (middle : Node) (after : BoundNode) (hears : turns.Hears false (shows old i) after.buffer turn.received before.node middle turn.heard)
-    (ticks : turns.Ticks (shows old i) middle after.node turn.ticked) (new : Plant) (t : HappensAt overtake old i source turn middle after new) where
+-- the setting of a station that is there
+pub setting_at : (p : Plant) (i : ℕ) (b : BoundNode) → slice_get p.stations i ≡ Some b → settings_of p i ≡ b.reuse
+setting_at p i b at = ap reuse_of at
+
+module _ (overtake : ℕ) (u : Reuses) (old : Plant) (i : ℕ) (before : BoundNode) (at : slice_get old.stations i ≡ Some before) (source : Source)
+    (turn : turns.Turn) (middle : Node) (after : BoundNode) (hears : turns.Hears (u i) (shows old i) after.buffer turn.received before.node middle turn.heard)
+    (ticks : turns.Ticks (shows old i) middle after.node turn.ticked) (new : Plant) (t : HappensAt (u i) overtake old i source turn middle after new) where
   first_at : slice_get (nodes_of old.stations) i ≡ Some before.node
   first_at = node_at old.stations i before at
 
@@ -297,7 +328,7 @@ module _ (overtake : ℕ) (old : Plant) (i : ℕ) (before : BoundNode) (at : sli
 
   linked : (j : ℕ) → link_at Middle.nodes j ≡ link_at (nodes_of old.stations) j
   linked = set_links (nodes_of old.stations) i before.node middle first_at
-      (hears_link (shows old i) after.buffer turn.received before.node middle turn.heard hears)
+      (hears_link (u i) (shows old i) after.buffer turn.received before.node middle turn.heard hears)
 
   last : after_call Middle i after.node split.rest t.log ≡ world_of new
   last =
@@ -306,24 +337,29 @@ module _ (overtake : ℕ) (old : Plant) (i : ℕ) (before : BoundNode) (at : sli
       ∙ ap (λ l. record Middle { nodes = nodes_of (slice_set old.stations i after); copies = l; log = t.log })
       (append_assoc old.copies split.front split.rest ∙ ap (λ l. old.copies ++ l) (sym split.is)) ∙ sym (ap world_of t.is)
 
-  happens_run : WorldRun overtake (world_of old) (turn_events i source turn) (world_of new)
-  happens_run = run_join overtake (heard_events i source turn.heard) (ticked_events i turn.ticked) (world_of old) Middle (world_of new)
-      (heard_run overtake old i before.node middle first_at split.front t.entered.ended t.entered.performed source turn.received after.buffer
+  happens_run : WorldRunSo overtake u (world_of old) (turn_events i source turn) (world_of new)
+  happens_run = run_join overtake u (heard_events i source turn.heard) (ticked_events i turn.ticked) (world_of old) Middle (world_of new)
+      (heard_run overtake u old i before.node middle first_at split.front t.entered.ended t.entered.performed source turn.received after.buffer
       turn.heard hears t.comes split.first t.entered.ends t.entered.performs)
-      (subst (WorldRun overtake Middle (ticked_events i turn.ticked)) last
-      (tick_run overtake Middle i middle after.node second_at turn.ticked ticks split.rest
+      (subst (WorldRunSo overtake u Middle (ticked_events i turn.ticked)) last
+      (tick_run overtake u Middle i middle after.node second_at turn.ticked ticks split.rest
       (all_copied_on (nodes_of old.stations) Middle.nodes linked old.time.now i (sends_of turn.ticked) split.rest split.second)
       t.log t.entered.gives_up))
 
-pub turn_run : (overtake : ℕ) (old : Plant) (i : ℕ) (source : Source) (turn : turns.Turn) (new : Plant) → TakesTurnAt overtake old i source turn new
-    → WorldRun overtake (world_of old) (turn_events i source turn) (world_of new)
-turn_run overtake old i source turn new t =
-    happens_run overtake old i t.before t.at source turn t.takes.is.acts.middle t.after (turn_hears (shows old i) t.before turn t.after t.takes t.off)
-    t.takes.is.acts.ticks new t.happens
+module _ (overtake : ℕ) (u : Reuses) (old : Plant) (settings : (i : ℕ) → settings_of old i ≡ u i) (i : ℕ) (source : Source) (turn : turns.Turn)
+    (new : Plant) where
+  setting_is : (b : BoundNode) → slice_get old.stations i ≡ Some b → b.reuse ≡ u i
+  setting_is b at = sym (setting_at old i b at) ∙ settings i
 
--- that what it sends is held makes no difference to its world
-pub held_run : (overtake : ℕ) (old : Plant) (i : ℕ) (source : Source) (turn : turns.Turn) (new : Plant) → HoldsTurnAt overtake old i source turn new
-    → WorldRun overtake (world_of old) (turn_events i source turn) (world_of new)
-held_run overtake old i source turn new t =
-    happens_run overtake old i t.before t.at source turn t.holds.takes.middle t.after (held_hears (shows old i) t.before turn t.after t.holds t.off)
-    t.holds.takes.ticks new t.happens
+  pub turn_run : TakesTurnAt overtake old i source turn new → WorldRunSo overtake u (world_of old) (turn_events i source turn) (world_of new)
+  turn_run t =
+      let same : t.before.reuse ≡ u i = setting_is t.before t.at in
+      happens_run overtake u old i t.before t.at source turn t.takes.is.acts.middle t.after (turn_hears (u i) (shows old i) t.before turn t.after t.takes same)
+      t.takes.is.acts.ticks new (subst (λ (r : Bool). HappensAt r overtake old i source turn t.takes.is.acts.middle t.after new) same t.happens)
+
+  -- that what it sends is held makes no difference to its world
+  pub held_run : HoldsTurnAt overtake old i source turn new → WorldRunSo overtake u (world_of old) (turn_events i source turn) (world_of new)
+  held_run t =
+      let same : t.before.reuse ≡ u i = setting_is t.before t.at in
+      happens_run overtake u old i t.before t.at source turn t.holds.takes.middle t.after (held_hears (u i) (shows old i) t.before turn t.after t.holds same)
+      t.holds.takes.ticks new (subst (λ (r : Bool). HappensAt r overtake old i source turn t.holds.takes.middle t.after new) same t.happens)

@@ -31,11 +31,12 @@ LostTurnsGoOn overtake c =
     (i : ℕ) (before : BoundNode) → real c i ≡ Some before → (turn : Turn) (after : BoundNode) → HoldsSomeTurn (shows c.plant i) before turn after
     → (source : Source) → HandsOver overtake c.plant i source turn.received after.buffer → LeadsOn overtake c (CutStep.Loses i source turn) i after
 
--- where a station stands so in the plant, its power can be cut, and it can start again with this store
+-- where a station stands so in the plant, its power can be cut, and it can start again with this store, and with the setting that it had
 abbrev pub CanStart : (overtake : ℕ) → (stands : BoundNode) → Store → Type 0
 CanStart overtake stands s =
     (c : CutPlant) (i : ℕ) → slice_get c.plant.stations i ≡ Some stands → (exact : ℕ) (after : BoundNode)
-    → after.node ≡ restarted (clock_at c.plant.time.pace exact).shows s stands.node → LeadsOn overtake c (CutStep.Cuts i exact) i after
+    → after.node ≡ restarted (clock_at c.plant.time.pace exact).shows s stands.node → after.reuse ≡ stands.reuse
+    → LeadsOn overtake c (CutStep.Cuts i exact) i after
 
 -- whatever store an honest keeper finds after a cut in a round, also in one that stopped: a station that stands as before the round, which is lost then, can
 -- start with that store, or one that stands as after all turns that the round held can

@@ -1,5 +1,5 @@
 -- After each run of a plant, whatever a call promises can be its next step.
-use Rattle.std.specs.Prelude.{◌≡◌, ℕ, false, List, Option, Some, None, slice_get}
+use Rattle.std.specs.Prelude.{◌≡◌, ℕ, List, Option, Some, None, slice_get}
 use Rattle.bac_apdu.specs.Apdu.{Limits}
 use Rattle.bac_npdu.specs.Peers.{PeerView}
 use Rattle.bac_service.specs.Values.{Request}
@@ -14,16 +14,17 @@ use Rattle.bac_driver.specs.BoundNodes.{BoundNode}
 use Rattle.bac_driver.specs.Runs.{CannotReceive, Timed}
 use Rattle.bac_driver.specs.Turns.{Turn}
 use Rattle.bac_plant.specs.Network.{HandsOver, Source}
-use Rattle.bac_plant.specs.Plants.{Plant, nodes_of, shows, world_of}
+use Rattle.bac_plant.specs.Plants.{HasNoReuse, Plant, nodes_of, shows, world_of}
 use Rattle.bac_plant.specs.Steps.{AreSent, HoldsSomeTurn, IsSomeTurn, PlantRun, PlantStep, Step, question}
 use Rattle.bac_plant.specs.Steps.Step.{Begins, BeginsAway, Changes, FailsToReceive, Holds, Restarts, SendsHeld, Takes}
 
--- a run from a fresh plant led there
+-- a run from a fresh plant led there, in which no station lets clients use an invoke ID again
 pub record IsReached (W overtake : ℕ) (p : Plant) : Type 0 where
   pub first : Plant
   pub fresh : IsFresh (world_of first)
   pub timely : IsTimely first.time.pace
   pub bounded : IsBounded W overtake (world_of first)
+  pub without : HasNoReuse first
   pub steps : List Step
   pub run : PlantRun overtake steps first p
 
@@ -33,18 +34,17 @@ pub record LeadsTo (overtake : ℕ) (p : Plant) (step : Step) (station : ℕ) (a
   pub goes : PlantStep overtake p step new
   pub there : slice_get new.stations station ≡ Some after
 
--- each turn of a station at the moment of its clock, by a datagram that the network may hand over, where it lets no client use an invoke ID again before the life
--- of its entry is over
+-- each turn of a station at the moment of its clock, by a datagram that the network may hand over
 abbrev pub TurnsGoOn : (overtake : ℕ) → Plant → Type 0
 TurnsGoOn overtake p =
-    (i : ℕ) (before : BoundNode) → slice_get p.stations i ≡ Some before → before.reuse ≡ false → (turn : Turn) (after : BoundNode)
+    (i : ℕ) (before : BoundNode) → slice_get p.stations i ≡ Some before → (turn : Turn) (after : BoundNode)
     → IsSomeTurn (shows p i) before turn after → (source : Source) → HandsOver overtake p i source turn.received after.buffer
     → LeadsTo overtake p (Takes i source turn) i after
 
 -- the same of each turn of a round, whose sends are held
 abbrev pub HeldTurnsGoOn : (overtake : ℕ) → Plant → Type 0
 HeldTurnsGoOn overtake p =
-    (i : ℕ) (before : BoundNode) → slice_get p.stations i ≡ Some before → before.reuse ≡ false → (turn : Turn) (after : BoundNode)
+    (i : ℕ) (before : BoundNode) → slice_get p.stations i ≡ Some before → (turn : Turn) (after : BoundNode)
     → HoldsSomeTurn (shows p i) before turn after → (source : Source) → HandsOver overtake p i source turn.received after.buffer
     → LeadsTo overtake p (Holds i source turn) i after
 
@@ -79,9 +79,9 @@ ChangesGoOn overtake p =
     (i : ℕ) (before : BoundNode) → slice_get p.stations i ≡ Some before → (c : Change) → change_fault before.node.store c ≡ None
     → LeadsTo overtake p (Changes i c) i (record before { node = with_change c before.node })
 
--- each restart with a new clock, whatever its new link, buffer and setting are
+-- each restart with a new clock, whatever its new link and buffer are
 abbrev pub RestartsGoOn : (overtake : ℕ) → Plant → Type 0
 RestartsGoOn overtake p =
     (i : ℕ) (before : BoundNode) → slice_get p.stations i ≡ Some before → (exact : ℕ) (store : Option Store) (after : BoundNode)
-    → after.node ≡ restarted (clock_at p.time.pace exact).shows (store_after_restart before.node.store store) before.node
+    → after.node ≡ restarted (clock_at p.time.pace exact).shows (store_after_restart before.node.store store) before.node → after.reuse ≡ before.reuse
     → LeadsTo overtake p (Restarts i exact store) i after

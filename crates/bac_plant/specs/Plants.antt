@@ -1,7 +1,8 @@
 -- A plant: stations that take turns on one network, each with a clock of its own, and what has happened there.
-use Rattle.std.specs.Prelude.{ℕ, List, map}
+use Rattle.std.specs.Prelude.{◌≡◌, ℕ, Bool, false, List, map, Option, Some, None, slice_get}
 use Rattle.bac_world.specs.Node.{Node}
 use Rattle.bac_world.specs.Once.{Fact}
+use Rattle.bac_world.specs.ReusingLogs.{Reuses}
 use Rattle.bac_world.specs.World.{Copy, Note, Time, World}
 use Rattle.bac_driver.specs.BoundNodes.{BoundNode}
 
@@ -19,10 +20,24 @@ node_of b = b.node
 abbrev pub nodes_of : List BoundNode → List Node
 nodes_of stations = map node_of stations
 
--- what a world knows of a plant: all but links and buffers
+-- what a world knows of a plant: all but links, buffers and settings
 abbrev pub world_of : Plant → World
 world_of p = record { nodes = nodes_of p.stations; time = p.time; copies = p.copies; log = p.log; notes = p.notes }
 
 -- what the clock of a station shows
 abbrev pub shows : Plant → (station : ℕ) → ℕ
 shows p i = (p.time.clocks i).shows
+
+-- ---- settings
+
+abbrev pub reuse_of : Option BoundNode → Bool
+reuse_of None = false
+reuse_of (Some b) = b.reuse
+
+-- which stations let clients use an invoke ID again as soon as its transaction is over
+abbrev pub settings_of : Plant → Reuses
+settings_of p i = reuse_of (slice_get p.stations i)
+
+-- none does
+abbrev pub HasNoReuse : Plant → Type 0
+HasNoReuse p = (i : ℕ) → settings_of p i ≡ false

@@ -1,5 +1,5 @@
 -- What happens in a plant: time passes, and a station does what a call of bac_driver promises, at the moment that its clock shows.
-use Rattle.std.specs.Prelude.{◌≡◌, ℕ, false, List, ◌∷◌, ◌++◌, length, Option, Some, None, slice_get, slice_set}
+use Rattle.std.specs.Prelude.{◌≡◌, ℕ, Bool, List, ◌∷◌, ◌++◌, length, Option, Some, None, slice_get, slice_set}
 use Rattle.bac_apdu.specs.Apdu.{Limits}
 use Rattle.bac_npdu.specs.Peers.{PeerView}
 use Rattle.bac_service.specs.Values.{Request}
@@ -12,7 +12,8 @@ use Rattle.bac_transaction.specs.Sends.{Datagram, Pairwise}
 use Rattle.bac_world.specs.Node.{Node, restarted, store_after_restart, with_change}
 use Rattle.bac_world.specs.Once.{Fact}
 use Rattle.bac_world.specs.Once.Fact.{Asked, AskedAway, Changed, Restarted}
-use Rattle.bac_world.specs.World.{AreCopied, AreEnded, AreLogged, Copy, IsCopied, IsOfNone, Note, link_at, passes, peer_at, with_clock}
+use Rattle.bac_world.specs.ReusingWorlds.{AreLoggedSo}
+use Rattle.bac_world.specs.World.{AreCopied, AreEnded, Copy, IsCopied, IsOfNone, Note, link_at, passes, peer_at, with_clock}
 use Rattle.bac_driver.specs.BoundNodes.{BoundNode}
 use Rattle.bac_driver.specs.Calls.{one_more, with_call}
 use Rattle.bac_driver.specs.Calls.Call.{FailedReceive}
@@ -54,32 +55,32 @@ pub record IsSomeTurn (now : ℕ) (before : BoundNode) (turn : Turn) (after : Bo
   pub began : ℕ
   pub is : IsTurn limit began now before turn after
 
--- all that a turn returned enters the log: how asks ended by the datagram, what was performed, and how asks ended by the tick; middle
--- is the node between both
-pub record AreEntered (p : Plant) (i : ℕ) (middle : Node) (turn : Turn) (log : List Fact) : Type 0 where
+-- all that a turn of a station of that setting returned enters the log: how asks ended by the datagram, what was performed, and how asks ended by the tick;
+-- middle is the node between both
+pub record AreEntered (reuse : Bool) (p : Plant) (i : ℕ) (middle : Node) (turn : Turn) (log : List Fact) : Type 0 where
   pub ended : List Fact
   pub performed : List Fact
   pub ends : AreEnded p.notes i (ended_of turn.heard) p.log ended
-  pub performs : AreLogged (nodes_of p.stations) p.notes i middle (performed_of turn.heard) ended performed
+  pub performs : AreLoggedSo reuse (nodes_of p.stations) p.notes i middle (performed_of turn.heard) ended performed
   pub gives_up : AreEnded p.notes i (ended_of turn.ticked) performed log
 
 -- what a station received in a turn comes from there, what the turn sends becomes copies, and what it ended and performed enters the log
-pub record HappensAt (overtake : ℕ) (old : Plant) (i : ℕ) (source : Source) (turn : Turn) (middle : Node) (after : BoundNode) (new : Plant) : Type 0 where
+pub record HappensAt (reuse : Bool) (overtake : ℕ) (old : Plant) (i : ℕ) (source : Source) (turn : Turn) (middle : Node) (after : BoundNode) (new : Plant)
+    : Type 0 where
   pub comes : HandsOver overtake old i source turn.received after.buffer
   pub sent : List Copy
   pub copied : BecomeCopies old i (sends_in turn) sent
   pub log : List Fact
-  pub entered : AreEntered old i middle turn log
+  pub entered : AreEntered reuse old i middle turn log
   pub is : new ≡ record (with_station old i after) { copies = old.copies ++ sent; log = log }
 
--- a station takes a turn; it lets no client use an invoke ID again before the life of its entry is over
+-- a station takes a turn
 pub record TakesTurnAt (overtake : ℕ) (old : Plant) (i : ℕ) (source : Source) (turn : Turn) (new : Plant) : Type 0 where
   pub before : BoundNode
   pub at : slice_get old.stations i ≡ Some before
-  pub off : before.reuse ≡ false
   pub after : BoundNode
   pub takes : IsSomeTurn (shows old i) before turn after
-  pub happens : HappensAt overtake old i source turn takes.is.acts.middle after new
+  pub happens : HappensAt before.reuse overtake old i source turn takes.is.acts.middle after new
 
 -- ---- a round
 
@@ -91,15 +92,13 @@ pub record HoldsSomeTurn (now : ℕ) (before : BoundNode) (turn : Turn) (after :
   pub receives : Receives limit began before turn.received middle
   pub takes : IsTaken now middle turn after
 
--- a station takes such a turn, and lets no client use an invoke ID again before the life of its entry is over: what it is to send is among the copies from now
--- on
+-- a station takes such a turn: what it is to send is among the copies from now on
 pub record HoldsTurnAt (overtake : ℕ) (old : Plant) (i : ℕ) (source : Source) (turn : Turn) (new : Plant) : Type 0 where
   pub before : BoundNode
   pub at : slice_get old.stations i ≡ Some before
-  pub off : before.reuse ≡ false
   pub after : BoundNode
   pub holds : HoldsSomeTurn (shows old i) before turn after
-  pub happens : HappensAt overtake old i source turn holds.takes.middle after new
+  pub happens : HappensAt before.reuse overtake old i source turn holds.takes.middle after new
 
 -- all that turns send goes to the link, each datagram once, in order; failed sends are counted
 pub record AreSent (turns : List Turn) (before after : BoundNode) : Type 0 where
@@ -181,12 +180,13 @@ pub record ChangesAt (old : Plant) (i : ℕ) (c : at_node.Change) (new : Plant) 
   pub may : change_fault before.node.store c ≡ None
   pub is : new ≡ record (with_station old i (record before { node = with_change c before.node })) { log = Changed i c ∷ old.log }
 
--- a station restarts with a new clock, and with any link, buffer and setting: its node waits, and has the store that it had or another one
+-- a station restarts with a new clock, and with any link and buffer: its node waits, and has the store that it had or another one; its setting stays
 pub record RestartsAt (old : Plant) (i exact : ℕ) (store : Option Store) (new : Plant) : Type 0 where
   pub before : BoundNode
   pub at : slice_get old.stations i ≡ Some before
   pub after : BoundNode
   pub node : after.node ≡ restarted (clock_at old.time.pace exact).shows (store_after_restart before.node.store store) before.node
+  pub reuse : after.reuse ≡ before.reuse
   pub is : new ≡ record (with_station old i after) { time = with_clock old.time i exact; log = Restarted i store ∷ old.log }
 
 -- ---- steps, one after the other

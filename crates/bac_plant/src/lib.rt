@@ -9,8 +9,10 @@ ghost use Rattle.std.specs.Prelude.{◌≡◌, ◌⊎◌, ◌≤◌, ℕ, List, 
 ghost use Rattle.bac_protocol.specs.Pace.{IsTimely};
 ghost use Rattle.bac_world.specs.Claims.{AreServedApart};
 ghost use Rattle.bac_world.specs.Once.{IsOnce, IsOnceByRequests};
+ghost use Rattle.bac_world.specs.ReusingLogs.{IsOnceSo};
+ghost use Rattle.bac_world.specs.ReusingWorlds.{WorldRunSo};
 ghost use Rattle.bac_world.specs.World.{IsBounded, IsFresh, WorldRun, stores_of};
-ghost use Rattle.bac_cuts.specs.Cuts.{CutRun};
+ghost use Rattle.bac_cuts.specs.Cuts.{CutRun, CutRunSo};
 ghost use Rattle.bac_driver.specs.BoundNodes.{BoundNode};
 ghost use Rattle.bac_driver.specs.Asking.{AskingEnds, AskingFails, Question};
 ghost use Rattle.bac_driver.specs.Observed.{Observed};
@@ -30,8 +32,7 @@ ghost use Rattle.bac_plant.specs.Events.{events_of};
 ghost use Rattle.bac_plant.specs.NextCuts.{FoundStoresGoOn, KeptStoresGoOn, LostTurnsGoOn, StepsGoOn};
 ghost use Rattle.bac_plant.specs.NextSteps.{AsksGoOn, ChangesGoOn, FailuresGoOn, HeldSendsGoOn, HeldTurnsGoOn, IsReached, RestartsGoOn, StrangersAskedGoOn};
 ghost use Rattle.bac_plant.specs.NextSteps.{TurnsGoOn};
-ghost use Rattle.bac_plant.specs.Plants.{Plant, nodes_of, world_of};
-ghost use Rattle.bac_plant.specs.ReusingPlants.{RunsWithoutReuse, SettingsStay, TurnsAreEventsSo};
+ghost use Rattle.bac_plant.specs.Plants.{HasNoReuse, Plant, nodes_of, settings_of, world_of};
 ghost use Rattle.bac_plant.specs.Rounds.{HeldChain, IsAsHeldInChain, RoundInChain, ServesRoundsInChain, StopsInRound, StopsRoundsInChain};
 ghost use Rattle.bac_plant.specs.Steps.{PlantRun, Step};
 ghost use Rattle.bac_plant.specs.Steps.Step.{SendsHeld};
@@ -40,31 +41,31 @@ use bac_driver::Observer;
 use bac_keep::Keeper;
 
 /// The turns that stations take, also those of a round, whose sends are held, their asks, changes and restarts are events of a world: a run of a plant is the
-/// run of its world through the events of its steps. No station lets a client use an invoke ID again. After a run of a fresh plant the log, which has all that
-/// turns returned as performed and ended, is right with the stores. Whatever strangers send, what a station performs for one of them under one invoke ID,
-/// between two of its restarts, it performs in entries that began more than 65,000 ms apart.
-#[tactic(auto, using(crate::proofs::Runs::run_events))]
+/// run of its world through the events of its steps, in which the nodes let clients use invoke IDs again whose stations do; no step changes such a setting.
+/// After a run of a fresh plant the log, which has all that turns returned as performed and ended, is right with the stores.
+/// Where no station lets invoke IDs be used again, no read is performed twice either; and whatever strangers send, what a station performs for one of them
+/// under one invoke ID, between two of its restarts, it performs in entries that began more than 65,000 ms apart.
+#[tactic(auto, using(crate::proofs::Settings::run_settings, crate::proofs::Runs::run_events, crate::proofs::Runs::run_events_ever))]
 pub fn turns_are_events()
+    ensures settings { (overtake : ℕ) (steps : List Step) (old new : Plant) → PlantRun overtake steps old new → (station : ℕ)
+        → settings_of new station ≡ settings_of old station }
     ensures events { (overtake : ℕ) (steps : List Step) (old new : Plant) → PlantRun overtake steps old new
-        → WorldRun overtake (world_of old) (events_of steps) (world_of new) }
+        → WorldRunSo overtake (settings_of old) (world_of old) (events_of steps) (world_of new) }
     ensures once { (W overtake : ℕ) (old new : Plant) → IsFresh (world_of old) → IsTimely old.time.pace → IsBounded W overtake (world_of old)
         → (steps : List Step) → PlantRun overtake steps old new
+        → IsOnceSo (settings_of old) (stores_of (nodes_of old.stations)) new.log (stores_of (nodes_of new.stations)) }
+    ensures events_without_reuse { (overtake : ℕ) (steps : List Step) (old new : Plant) → HasNoReuse old → PlantRun overtake steps old new
+        → WorldRun overtake (world_of old) (events_of steps) (world_of new) }
+    ensures once_without_reuse { (W overtake : ℕ) (old new : Plant) → IsFresh (world_of old) → IsTimely old.time.pace → IsBounded W overtake (world_of old)
+        → (steps : List Step) → PlantRun overtake steps old new → HasNoReuse old
         → IsOnce (stores_of (nodes_of old.stations)) new.log (stores_of (nodes_of new.stations)) }
     ensures apart { (W overtake : ℕ) (old new : Plant) → IsFresh (world_of old) → IsTimely old.time.pace → IsBounded W overtake (world_of old)
-        → (steps : List Step) → PlantRun overtake steps old new → AreServedApart (world_of new) }
+        → (steps : List Step) → PlantRun overtake steps old new → HasNoReuse old → AreServedApart (world_of new) }
 {}
 
-/// The turns of stations some of which let clients use an invoke ID again as soon as its transaction is over are events of a world in which these nodes do so.
-/// No step changes such a setting; where no station has it, a run is one of the law above.
-#[tactic(auto, using(crate::proofs::ReusingTurned::settings_stay, crate::proofs::ReusingTurned::run_events_so, crate::proofs::ReusingTurned::runs_without_reuse))]
-pub fn reusing_turns_are_events()
-    ensures settings { SettingsStay }
-    ensures events { TurnsAreEventsSo }
-    ensures without { RunsWithoutReuse }
-{}
-
-/// After each run of a fresh plant, whatever a call promises of a station, at the moment of its clock and by a datagram that the network may hand over, is a
-/// step of the plant: there are the asks, transactions and strangers of all that it returned. So no turn is left out of the law above.
+/// After each run of a fresh plant in which no station lets invoke IDs be used again, whatever a call promises of a station, at the moment of its clock and by
+/// a datagram that the network may hand over, is a step of the plant: there are the asks, transactions and strangers of all that it returned. So no turn is left
+/// out of the law above.
 #[tactic(auto, using(crate::proofs::Next::changes_go_on, crate::proofs::Next::restarts_go_on))]
 pub fn calls_go_on()
     ensures turns { (W overtake : ℕ) (p : Plant) → IsReached W overtake p → TurnsGoOn overtake p }
@@ -126,24 +127,31 @@ pub fn rounds_are_events<W, O: Observer<W>, K: Keeper>()
 
 /// A plant whose stations' power is cut at any moment, also in the midst of a round, and which start again with the store that their keepers find, is a plant
 /// whose stations restart with the stores that they have: rounds that a cut takes back are nothing there, and in them a station stands as before. Its events
-/// are those of a world in which the power of nodes is cut. So after a run of a fresh one the log is right with the stores. Where no station changes its own
-/// store, or restarts with another one, the stores are what the performed requests make of the opening ones.
-#[tactic(auto, using(crate::proofs::Cut::cut_steps, crate::proofs::CutEvents::cut_events, crate::proofs::Holding::lost_stays))]
+/// are those of a world in which the power of nodes is cut. So after a run of a fresh one the log is right with the stores. Where no station lets invoke IDs be
+/// used again, changes its own store, or restarts with another one, the stores are what the performed requests make of the opening ones.
+#[tactic(auto, using(crate::proofs::Cut::cut_steps, crate::proofs::CutEvents::cut_events, crate::proofs::CutEvents::cut_events_ever, crate::proofs::Holding::lost_stays))]
 pub fn cut_rounds_are_restarts()
     ensures steps { (overtake : ℕ) (steps : List CutStep) (old new : CutPlant) → CutPlantRun overtake steps old new
         → PlantRun overtake (steps_of steps) old.plant new.plant }
     ensures events { (overtake : ℕ) (steps : List CutStep) (old new : CutPlant) → CutPlantRun overtake steps old new
+        → CutRunSo overtake (settings_of old.plant) (world_of old.plant) (cut_events_of steps) (world_of new.plant) }
+    ensures events_without_reuse { (overtake : ℕ) (steps : List CutStep) (old new : CutPlant) → HasNoReuse old.plant → CutPlantRun overtake steps old new
         → CutRun overtake (world_of old.plant) (cut_events_of steps) (world_of new.plant) }
     ensures lost { (overtake station : ℕ) (steps : List CutStep) (old new : CutPlant) → CutPlantRun overtake steps old new → LosesAlone station steps
         → slice_get new.plant.stations station ≡ slice_get old.plant.stations station }
     ensures once { (W overtake : ℕ) (old new : CutPlant) → IsFresh (world_of old.plant) → IsTimely old.plant.time.pace
         → IsBounded W overtake (world_of old.plant) → (steps : List CutStep) → CutPlantRun overtake steps old new
+        → IsOnceSo (settings_of old.plant) (stores_of (nodes_of old.plant.stations)) new.plant.log (stores_of (nodes_of new.plant.stations)) }
+    ensures once_without_reuse { (W overtake : ℕ) (old new : CutPlant) → IsFresh (world_of old.plant) → IsTimely old.plant.time.pace
+        → IsBounded W overtake (world_of old.plant) → (steps : List CutStep) → CutPlantRun overtake steps old new → HasNoReuse old.plant
         → IsOnce (stores_of (nodes_of old.plant.stations)) new.plant.log (stores_of (nodes_of new.plant.stations)) }
     ensures by_requests { (W overtake : ℕ) (old new : CutPlant) → IsFresh (world_of old.plant) → IsTimely old.plant.time.pace
-        → IsBounded W overtake (world_of old.plant) → (steps : List CutStep) → CutPlantRun overtake steps old new → KeepStores (steps_of steps)
+        → IsBounded W overtake (world_of old.plant) → (steps : List CutStep) → CutPlantRun overtake steps old new → HasNoReuse old.plant
+        → KeepStores (steps_of steps)
         → IsOnceByRequests (stores_of (nodes_of old.plant.stations)) new.plant.log (stores_of (nodes_of new.plant.stations)) }
     ensures apart { (W overtake : ℕ) (old new : CutPlant) → IsFresh (world_of old.plant) → IsTimely old.plant.time.pace
-        → IsBounded W overtake (world_of old.plant) → (steps : List CutStep) → CutPlantRun overtake steps old new → AreServedApart (world_of new.plant) }
+        → IsBounded W overtake (world_of old.plant) → (steps : List CutStep) → CutPlantRun overtake steps old new → HasNoReuse old.plant
+        → AreServedApart (world_of new.plant) }
 {}
 
 /// In a plant with power cuts each step of a station that loses no round can be the next one, and so can each turn of a round that is lost. Whatever store an
