@@ -34,7 +34,7 @@ extern "C" {
 
 /* The version of this header: 10,000 times the major number, 100 times the minor one, and the patch. A library of the same major number and of this or a later
  * minor one has all that is declared here: see docs/C.md, "What stays". */
-#define BAC_VERSION 10300
+#define BAC_VERSION 10400
 
 /* The version of the library that is linked. */
 uint32_t bac_version(void);
@@ -80,16 +80,21 @@ typedef struct bac_settings {
     uint8_t window;        /* the greatest window that it proposes or grants: 1 to 64 segments */
     size_t client_slots;   /* how many asks it holds, each until 135,000 ms after it was first sent, also once it has ended: 1 to 65,536. docs/C.md says what
                               memory a slot takes */
-    size_t reply_slots;    /* how many requests it remembers, reads too, each for 65,000 ms: 1 to 65,536. A request that is equal to a remembered one, of the same
-                              peer and under the same invoke ID, gets the old answer and is not performed, a read too; another one under that invoke ID is
-                              answered by Abort 0. So a peer gets at most 256 new requests in 65,000 ms. Where all slots are held, a new one is answered by
-                              Abort 0 too */
-    uint64_t later;        /* 0: room for members of later versions */
+    size_t reply_slots;    /* how many requests it remembers, each for 65,000 ms: 1 to 65,536. Where all slots are held, a new one is answered by Abort 0 */
+    bool reuse_invoke_ids; /* whether a client, of another make say, may use an invoke ID again as soon as its transaction is over (clause 5.4).
+                              false: for 65,000 ms an equal request of the same peer under the same invoke ID gets the old answer and is not performed, a read
+                              too; another one is answered by Abort 0. So a peer gets at most 256 new requests in 65,000 ms.
+                              true: a read whose reply is one APDU is performed each time that it comes, and takes no slot; another request ends the kept reply
+                              and is performed. A write that equals the last request under its invoke ID, within 65,000 ms, is a repeat: it gets the old answer
+                              and is not performed again */
+    uint8_t later[7];      /* 0: room for members of later versions */
 } bac_settings;
 
-/* APDUs of 1476 octets, any number of segments, windows of 32, 64 slots at each end (64 asks in 135,000 ms, 64 requests in 65,000), at that link. */
+/* APDUs of 1476 octets, any number of segments, windows of 32, 64 slots at each end (64 asks in 135,000 ms, 64 requests in 65,000), at that link; clients may
+ * not use an invoke ID again. */
 #define BAC_SETTINGS(a, b, c, d, port_high, port_low) \
-    { sizeof(bac_settings), { (uint8_t)(a), (uint8_t)(b), (uint8_t)(c), (uint8_t)(d), (uint8_t)(port_high), (uint8_t)(port_low) }, 5, true, 7, 32, 64, 64, 0 }
+    { sizeof(bac_settings), { (uint8_t)(a), (uint8_t)(b), (uint8_t)(c), (uint8_t)(d), (uint8_t)(port_high), (uint8_t)(port_low) }, \
+      5, true, 7, 32, 64, 64, false, { 0 } }
 
 /* Whom a node asks, and what that takes; codes as above. */
 typedef struct bac_target {

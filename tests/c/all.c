@@ -199,7 +199,6 @@ static int described_rows(bac_node *node)
     bac_reference r = { 8, 1, 76, BAC_WHOLE };
     bac_refused wrong;
     old.size = sizeof s - 8;
-    grown.later = 1;
     CALL(BAC_OK, bac_open(node));
     if (tells(node, BAC_NO_OBJECT, BAC_WHOLE, BAC_FLAW_NO_DEVICE)) { return 1; }
     CALL(BAC_OK, bac_add_object(node, 13, 1, (const uint8_t *)"fan", 3));
@@ -210,7 +209,11 @@ static int described_rows(bac_node *node)
     CALL(BAC_OK, bac_add_object(node, 8, 1, (const uint8_t *)"device", 6));
     if (tells(node, BAC_NO_OBJECT, BAC_WHOLE, BAC_FLAW_NONE)) { return 1; }
     CALL(BAC_BAD_SETTINGS, bac_start_described(node, &old));
-    CALL(BAC_BAD_SETTINGS, bac_start_described(node, &grown));
+    for (unsigned i = 0; i < sizeof s.later; i++) {
+        grown.later[i] = 1;
+        CALL(BAC_BAD_SETTINGS, bac_start_described(node, &grown));
+        grown.later[i] = 0;
+    }
     CALL(BAC_OK, bac_start_described(node, &s));
     CALL(BAC_ALREADY_STARTED, bac_start_described(node, &s));
     CALL(BAC_ALREADY_STARTED, bac_limit(node, two, 2, two, 2));
@@ -631,6 +634,46 @@ static int limit_rows(bac_node *node)
     return 0;
 }
 
+/* a request comes: what it is answered, and the service that is performed, 0 for none */
+static int answers(bac_node *node, const uint8_t *request, size_t len, const uint8_t *wanted, size_t wanted_len, uint8_t service)
+{
+    bac_act a;
+    CALL(BAC_OK, bac_on(node, 1, THERE, request, len));
+    n = bac_send(node, 0, to, out, sizeof out);
+    HOLDS(bac_sends(node) == 1 && n == wanted_len && memcmp(out, wanted, n) == 0);
+    bac_performed(node, &a, out, sizeof out);
+    HOLDS(a.service == service);
+    return 0;
+}
+
+/* a client uses one invoke ID again: without the setting an equal read gets the old value, and another request an Abort; with it both are performed, reads take
+ * no slot, and a write that equals the last request is a repeat */
+static int reuse_rows(bac_node *node)
+{
+    static const uint8_t flow_20[] = { 0x81, 0x0A, 0, 0x17, 1, 0, 0x30, 1, 0x0C, 0x0C, 0, 0, 0, 5, 0x19, 0x55, 0x3E, 0x44, 0x41, 0xA0, 0, 0, 0x3F };
+    static const uint8_t write[] = { 0x81, 0x0A, 0, 24, 1, 4, 0, 5, 1, 15, 0x0C, 0, 0x80, 0, 1, 0x19, 85, 0x3E, 0x44, 0x41, 0x20, 0, 0, 0x3F };
+    static const uint8_t done[] = { 0x81, 0x0A, 0, 9, 1, 0, 0x20, 1, 15 };
+    bac_settings s = BAC_SETTINGS(127, 0, 0, 1, 0xBA, 0xC0);
+    HOLDS(!s.reuse_invoke_ids);
+    for (unsigned i = 0; i < 2; i++) {
+        bool reuse = i == 1;
+        s.reuse_invoke_ids = reuse;
+        CALL(BAC_OK, bac_open(node));
+        CALL(BAC_OK, bac_start_house(node, &s));
+        if (answers(node, QUESTION, sizeof QUESTION, FLOW, sizeof FLOW, 12)) { return 1; }
+        CALL(BAC_OK, bac_set_value(node, 0, 5, 85, REAL_20, 5));
+        if (answers(node, QUESTION, sizeof QUESTION, reuse ? flow_20 : FLOW, sizeof FLOW, reuse ? 12 : 0)) { return 1; }
+        HOLDS(bac_live(node, 1) == (reuse ? 0 : 1));
+        if (answers(node, write, sizeof write, reuse ? done : ABORTED, sizeof done, reuse ? 15 : 0)) { return 1; }
+        if (answers(node, write, sizeof write, reuse ? done : ABORTED, sizeof done, 0)) { return 1; }
+        HOLDS(bac_live(node, 1) == 1);
+        if (answers(node, QUESTION, sizeof QUESTION, reuse ? flow_20 : FLOW, sizeof FLOW, reuse ? 12 : 0)) { return 1; }
+        if (answers(node, write, sizeof write, reuse ? done : ABORTED, sizeof done, reuse ? 15 : 0)) { return 1; }
+        bac_close(node);
+    }
+    return 0;
+}
+
 /* the datagrams of a call go over, and what they are answered comes back, turn by turn, until the ask has ended */
 static int carry(bac_node *client, bac_node *server, uint64_t now)
 {
@@ -740,7 +783,7 @@ static int rows(bac_node *client, bac_node *server)
 {
     if (name_rows() || described_rows(client) || limited_rows(client)) { return 1; }
     if (allowed_rows(client) || refused_rows(client) || long_rows(client)) { return 1; }
-    if (edge_rows(client) || value_rows(client) || restarted_rows(client) || limit_rows(client)) { return 1; }
+    if (edge_rows(client) || value_rows(client) || restarted_rows(client) || limit_rows(client) || reuse_rows(client)) { return 1; }
     if (closed_rows(client) || house_rows(client) || own_rows(server) || ask_rows(client, server)) { return 1; }
     bac_close(client);
     return closed_rows(client);

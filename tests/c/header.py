@@ -67,14 +67,14 @@ def rust_structs():
     for name, body in re.findall(r"#\[repr\(C\)\]\s*(?:#\[[^\n]*\]\s*)*pub struct (\w+) \{(.*?)\n\}", code, flags=re.S):
         if name in NAMES and name != "Handle":
             members = re.findall(r"pub (\w+): ([^,\n]+),", body)
-            structs[NAMES[name]] = [(m, "uint8_t[6]" if t == "[u8; 6]" else NUMBERS[t]) for m, t in members]
+            structs[NAMES[name]] = [(m, re.sub(r"\[u8; (\d)\]", r"uint8_t[\1]", t) if t[0] == "[" else NUMBERS[t]) for m, t in members]
     return structs
 
 
 def c_structs():
     structs = {}
     for body, name in re.findall(r"typedef struct \w+ \{(.*?)\} (\w+);", header, flags=re.S):
-        members = re.findall(r"(\w+) (\w+)(\[6\])?;", body)
+        members = re.findall(r"(\w+) (\w+)(\[\d\])?;", body)
         structs[name] = [(m.rstrip("_"), ENUMS.get(t, t) + a) for t, m, a in members]
     structs.pop("bac_node", None)
     return structs

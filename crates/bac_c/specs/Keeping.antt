@@ -16,7 +16,7 @@ use Rattle.bac_c.specs.Fitting.{AreFit}
 use Rattle.bac_c.specs.Kept.{cells_in}
 use Rattle.bac_c.specs.Performing.{is_done}
 use Rattle.bac_c.specs.Ranges.{is_reference}
-use Rattle.bac_c.specs.Starting.{IsConfigOf, listed_in}
+use Rattle.bac_c.specs.Starting.{IsConfigOf, IsSetBy, listed_in}
 use Rattle.bac_c.specs.Telling.{CONTENTS, Told, count_told, told}
 use Rattle.bac_c.specs.declared.device.Device.{Device}
 use Rattle.bac_c.specs.declared.records.Reference.{Reference}
@@ -92,4 +92,4 @@ abbrev pub IsRestoredNode : (List Object → Store → Type 0) → Settings → 
 IsRestoredNode makes s now objects cells node = MatchOption node ⊥ (IsRestored makes s now objects cells)
 
 abbrev pub HasRestored : (List Object → Store → Type 0) → Settings → (now : ℕ) → (old new : Option Device) → Type 0
-HasRestored makes s now old new = MatchOption old ⊥ (λ d. MatchOption new ⊥ (λ e. IsRestoredNode makes s now (listed_in d) (cells_in d.kept) e.node))
+HasRestored makes s now old new = MatchOption old ⊥ (λ d. MatchOption new ⊥ (λ e. IsRestoredNode makes s now (listed_in d) (cells_in d.kept) e.node × IsSetBy s e))

@@ -1,5 +1,6 @@
 -- How a node is started.
 use Rattle.std.specs.Prelude.{◌≡◌, ℕ, Bool, ◌==◌, ◌&&◌, IsTrue, List, [], ◌∷◌, Option, Some, MatchOption, map}
+use Rattle.std.specs.List.{list_all}
 use Rattle.bac_apdu.specs.Spelling.{codes_fit}
 use Rattle.bac_store.specs.Described.{AreDescribed, IsDescribedBy}
 use Rattle.bac_store.specs.Made.{IsMadeOf, IsRefused}
@@ -23,9 +24,13 @@ use Rattle.bac_c.specs.Statuses.{ALREADY_STARTED, BAD_OBJECT, BAD_SETTINGS, BAD_
 abbrev pub IsBad : List Object → Type 0
 IsBad objects = IsRefused objects store_fault.BadObject
 
+-- nothing is in the room for members of later versions
+abbrev pub are_zeros : List ℕ → Bool
+are_zeros later = list_all (λ octet. octet == 0) later
+
 -- the settings are of this version, and each number is in its range
 abbrev pub is_right : Settings → Bool
-is_right s = (s.size == settings.SETTINGS_SIZE) && (s.later == 0) && window_fits s.window && large_slots_fit s.client_slots && large_slots_fit s.reply_slots && codes_fit s.max_segments s.max_apdu
+is_right s = (s.size == settings.SETTINGS_SIZE) && are_zeros s.later && window_fits s.window && large_slots_fit s.client_slots && large_slots_fit s.reply_slots && codes_fit s.max_segments s.max_apdu
 
 -- the configuration says what the settings say
 pub record IsConfigOf (s : Settings) (c : Config) : Type 0 where
@@ -90,9 +95,13 @@ pub record IsHouseWith (s : Settings) (node : Option Node) : Type 0 where
 abbrev pub IsReady : Settings → Device → Type 0
 IsReady s d = IsIdle d × IsTrue (is_right s)
 
+-- whether its clients may use invoke IDs again is as the settings say
+abbrev pub IsSetBy : Settings → Device → Type 0
+IsSetBy s d = d.reuse_invoke_ids ≡ s.reuse_invoke_ids
+
 -- the node runs with the listed objects, as the settings say
 abbrev pub HasStarted : (List Object → Store → Type 0) → Settings → (restart : Option ℕ) → (old new : Option Device) → Type 0
-HasStarted makes s restart old new = MatchOption old ⊥ (λ d. MatchOption new ⊥ (λ e. IsStartedNode makes s restart (listed_in d) e.node))
+HasStarted makes s restart old new = MatchOption old ⊥ (λ d. MatchOption new ⊥ (λ e. IsStartedNode makes s restart (listed_in d) e.node × IsSetBy s e))
 
 abbrev pub HasHouse : Settings → (new : Option Device) → Type 0
-HasHouse s new = MatchOption new ⊥ (λ e. IsHouseWith s e.node)
+HasHouse s new = MatchOption new ⊥ (λ e. IsHouseWith s e.node × IsSetBy s e)

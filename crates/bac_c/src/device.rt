@@ -3,8 +3,8 @@ ghost use Rattle.std.specs.Prelude.{◌≡◌, ◌↔◌, ◌<◌, ◌≤◌, []
 ghost use Rattle.bac_node.specs.Calls.{IsNotHeard};
 ghost use Rattle.bac_node.specs.Waiting.{MovesAt, RestsUntil};
 ghost use Rattle.bac_requester.specs.Timers.{LAST_MOMENT};
-ghost use Rattle.bac_world.specs.Node.{NodeOn, NodeTick};
-ghost use Rattle.bac_c.specs.Devices.{IsIdle, IsQuiet, Ran, Runs};
+ghost use Rattle.bac_world.specs.Node.{NodeTick};
+ghost use Rattle.bac_c.specs.Devices.{Heard, IsIdle, IsQuiet, Ran, Runs};
 ghost use Rattle.bac_c.specs.Statuses.{fault_number, NOT_STARTED};
 
 use crate::fault::Fault;
@@ -13,12 +13,15 @@ use bac_node::{Node, NodeFault, Outcome};
 use bac_store::Object;
 use std::alloc::Global;
 
-/// The objects and the kept cells that are listed for a node, the node once it is started, and what came of the last call that did something.
+/// The objects and the kept cells that are listed for a node, the node once it is started, whether its clients may use invoke IDs again, and what came of the
+/// last call that did something.
 #[derive(Drop)]
 pub struct Device {
     pub listed: Vec<Object>,
     pub kept: Kept,
     pub node: Option<Node>,
+    /// As the settings of the start say; false before it.
+    pub reuse_invoke_ids: bool,
     pub outcome: Outcome,
 }
 
@@ -49,13 +52,14 @@ impl Device {
             listed: Vec::new(alloc),
             kept: Kept::new(alloc),
             node: None,
+            reuse_invoke_ids: false,
             outcome: no_outcome(alloc),
         }
     }
 
-    /// A datagram comes from a link, at a moment in milliseconds.
+    /// A datagram comes from a link, at a moment in milliseconds, to a node of its setting.
     pub fn on(&mut self, now: u64, from: [u8; 6], octets: &[u8]) -> Result<(), Fault>
-        ensures went { OnOk result (Ran (NodeOn now from octets.now) self.old self.new) }
+        ensures went { OnOk result (Heard now from octets.now self.old self.new) }
         ensures idle { IsErrOf result Fault.NotStarted ↔ IsIdle self.old }
         ensures early { IsErrOf result Fault.ClockBack ↔ Runs (λ n. now < n.latest) self.old }
         ensures dropped { IsErrOf result Fault.NoMemory → Runs (λ n. IsNotHeard n.link from octets.now → ⊥) self.old }
@@ -63,10 +67,11 @@ impl Device {
         ensures few { IfErr result (λ e. fault_number e ≤ NOT_STARTED) }
         ensures err { OnErr result (self.new ≡ self.old) }
     {
+        let reuse = self.reuse_invoke_ids;
         let Some(node) = &mut self.node else {
             return Err(Fault::NotStarted);
         };
-        match node.on(now, from, octets) {
+        match node.hear(reuse, now, from, octets) {
             Ok(outcome) => {
                 self.outcome = outcome;
                 Ok(())

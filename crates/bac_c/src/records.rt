@@ -20,8 +20,10 @@ pub struct Settings {
     pub client_slots: usize,
     /// How many entries the reply table has: 1 to 65,536.
     pub reply_slots: usize,
-    /// Zero: room for members of later versions.
-    pub later: u64,
+    /// Whether clients may use an invoke ID again as soon as its transaction is over (clause 5.4).
+    pub reuse_invoke_ids: bool,
+    /// Zeros: room for members of later versions.
+    pub later: [u8; 7],
 }
 
 /// How an ask ended.

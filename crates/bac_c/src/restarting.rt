@@ -9,7 +9,7 @@ ghost use Rattle.bac_c.specs.Devices.{Holds, IsIdle, IsQuiet};
 ghost use Rattle.bac_c.specs.Fitting.{AreFit, HasUnfit, IsUnfitAt};
 ghost use Rattle.bac_c.specs.Keeping.{HasRestored, IsRestoredNode};
 ghost use Rattle.bac_c.specs.Kept.{cells_in};
-ghost use Rattle.bac_c.specs.Starting.{AreBad, HaveTwins, IsBad, IsReady, is_right, kept_statuses, listed_in, makes};
+ghost use Rattle.bac_c.specs.Starting.{AreBad, HaveTwins, IsBad, IsReady, IsSetBy, is_right, kept_statuses, listed_in, makes};
 ghost use Rattle.bac_c.specs.Statuses.{fault_number, is_one_of, status_of, DESCRIBED_RESTORING, RESTORING, WITH_CELLS};
 ghost use Rattle.bac_c.specs.Statuses.{ALREADY_STARTED, BAD_OBJECT, BAD_SETTINGS, BAD_VALUE, DONE, DUPLICATE, NOT_OPEN, NO_MEMORY};
 
@@ -55,9 +55,10 @@ fn restored_node(
 }
 
 impl Device {
-    /// The node runs, and nothing is listed any more.
-    fn run(&mut self, alloc: Global, node: Node)
+    /// The node runs, with this setting, and nothing is listed any more.
+    fn run(&mut self, alloc: Global, node: Node, reuse_invoke_ids: bool)
         ensures node { self.new.node ≡ Some node }
+        ensures reuse { self.new.reuse_invoke_ids ≡ reuse_invoke_ids }
         ensures quiet { IsQuiet self.new }
         ensures unlisted { self.new.listed.items ≡ [] }
         ensures unkept { self.new.kept ≡ [] }
@@ -65,6 +66,7 @@ impl Device {
         self.listed = Vec::new(alloc);
         self.kept = Kept::new(alloc);
         self.node = Some(node);
+        self.reuse_invoke_ids = reuse_invoke_ids;
         self.outcome = no_outcome(alloc);
     }
 
@@ -79,6 +81,7 @@ impl Device {
         place: &mut u64,
     ) -> Result<(), Fault>
         ensures started { OnOk result (IsRestoredNode (makes rule) settings.now now (listed_in self.old) (cells_in self.old.kept) self.new.node) }
+        ensures reuse { OnOk result (IsSetBy settings.now self.new) }
         ensures quiet { OnOk result (IsQuiet self.new) }
         ensures unlisted { OnOk result (self.new.listed.items ≡ []) }
         ensures unkept { OnOk result (self.new.kept ≡ []) }
@@ -103,7 +106,7 @@ impl Device {
         };
         let document = rule.store(alloc, objects)?;
         let node = restored_node(alloc, config, &document, &self.kept, now, place)?;
-        self.run(alloc, node);
+        self.run(alloc, node, settings.reuse_invoke_ids);
         Ok(())
     }
 }

@@ -1,7 +1,7 @@
 //! The settings of a node, as a C program says them.
 ghost use Rattle.std.specs.Prelude.{◌≡◌, true, IfOk, IsErrOf, IsTrue, OnErr};
 ghost use Rattle.bac_node.specs.Fresh.{has_large_slots, window_fits};
-ghost use Rattle.bac_c.specs.Starting.{IsConfigOf, is_right};
+ghost use Rattle.bac_c.specs.Starting.{IsConfigOf, are_zeros, is_right};
 
 use crate::fault::Fault;
 use crate::records::Settings;
@@ -14,6 +14,13 @@ pub const SETTINGS_SIZE: usize = 48;
 /// How many slots a table has at the most.
 const MOST_SLOTS: usize = 65_536;
 
+/// Whether nothing is in the room for members of later versions.
+fn is_empty_room(later: &[u8]) -> bool
+    ensures { result ≡ are_zeros later.now }
+{
+    later.iter().all(|octet| *octet == 0)
+}
+
 /// The configuration of a node; `BadSettings` exactly where one is outside its range.
 pub fn config_of(settings: &Settings) -> Result<Config, Fault>
     ensures says { IfOk result (IsConfigOf settings.now) }
@@ -23,7 +30,7 @@ pub fn config_of(settings: &Settings) -> Result<Config, Fault>
     ensures wrong { OnErr result (IsTrue (is_right settings.now) → ⊥) }
     ensures bad { OnErr result (IsErrOf result Fault.BadSettings) }
 {
-    if settings.size != SETTINGS_SIZE || settings.later != 0 {
+    if settings.size != SETTINGS_SIZE || !is_empty_room(&settings.later) {
         return Err(Fault::BadSettings);
     }
     if settings.window < 1 || settings.window > 64 {

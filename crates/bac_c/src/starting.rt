@@ -5,7 +5,7 @@ ghost use Rattle.bac_store.specs.Described.{AreDescribed, IsDescribedBy};
 ghost use Rattle.bac_store.specs.Made.{IsMadeOf};
 ghost use Rattle.bac_store.specs.Objects.{AreDistinct};
 ghost use Rattle.bac_c.specs.Devices.{Holds, IsIdle, IsQuiet};
-ghost use Rattle.bac_c.specs.Starting.{AreBad, HasHouse, HasStarted, HaveTwins, IsBad, IsHouseWith, IsReady, IsStartedNode};
+ghost use Rattle.bac_c.specs.Starting.{AreBad, HasHouse, HasStarted, HaveTwins, IsBad, IsHouseWith, IsReady, IsSetBy, IsStartedNode};
 ghost use Rattle.bac_c.specs.Starting.{is_right, listed_in, makes, start_statuses};
 ghost use Rattle.bac_c.specs.Statuses.{is_one_of, status_of, DESCRIBED_STARTING, HOUSE_STARTING, STARTING};
 ghost use Rattle.bac_c.specs.Statuses.{ALREADY_STARTED, BAD_OBJECT, BAD_SETTINGS, DONE, DUPLICATE, NOT_OPEN, NO_MEMORY};
@@ -67,6 +67,7 @@ impl Device {
         restart: Option<u64>,
     ) -> Result<(), Fault>
         ensures started { OnOk result (IsStartedNode (makes rule) settings.now restart (listed_in self.old) self.new.node) }
+        ensures reuse { OnOk result (IsSetBy settings.now self.new) }
         ensures quiet { OnOk result (IsQuiet self.new) }
         ensures unlisted { OnOk result (self.new.listed.items ≡ []) }
         ensures again { IsErrOf result Fault.AlreadyStarted ↔ (self.old.node ≢ None) }
@@ -90,6 +91,7 @@ impl Device {
         let node = node_of(alloc, config, store, restart)?;
         self.listed = Vec::new(alloc);
         self.node = Some(node);
+        self.reuse_invoke_ids = settings.reuse_invoke_ids;
         self.outcome = no_outcome(alloc);
         Ok(())
     }
@@ -97,6 +99,7 @@ impl Device {
     /// Starts the node with the house's objects, and with none that are listed.
     pub fn start_house(&mut self, alloc: Global, settings: &Settings) -> Result<(), Fault>
         ensures started { OnOk result (IsHouseWith settings.now self.new.node) }
+        ensures reuse { OnOk result (IsSetBy settings.now self.new) }
         ensures quiet { OnOk result (IsQuiet self.new) }
         ensures unlisted { OnOk result (self.new.listed.items ≡ []) }
         ensures again { IsErrOf result Fault.AlreadyStarted ↔ (self.old.node ≢ None) }
@@ -115,6 +118,7 @@ impl Device {
         let node = node_of(alloc, config, store, None)?;
         self.listed = Vec::new(alloc);
         self.node = Some(node);
+        self.reuse_invoke_ids = settings.reuse_invoke_ids;
         self.outcome = no_outcome(alloc);
         Ok(())
     }

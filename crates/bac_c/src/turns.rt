@@ -3,15 +3,15 @@ ghost use Rattle.std.specs.Prelude.{◌≡◌, ◌≢◌, ◌↔◌, ◌<◌, �
 ghost use Rattle.bac_node.specs.Calls.{IsNotHeard};
 ghost use Rattle.bac_node.specs.Waiting.{MovesAt, RestsUntil};
 ghost use Rattle.bac_requester.specs.Timers.{LAST_MOMENT};
-ghost use Rattle.bac_world.specs.Node.{NodeOn, NodeTick};
-ghost use Rattle.bac_c.specs.Devices.{HasRun, Holds, IsIdle, Runs};
+ghost use Rattle.bac_world.specs.Node.{NodeTick};
+ghost use Rattle.bac_c.specs.Devices.{HasHeard, HasRun, Holds, IsIdle, Runs};
 ghost use Rattle.bac_c.specs.Statuses.{CLOCK_BACK, DONE, NOT_OPEN, NOT_STARTED, NO_MEMORY};
 
 use crate::fault::{Fault, status};
 use crate::handle::Handle;
 use std::alloc::Global;
 
-/// A datagram comes from a link, at a moment in milliseconds.
+/// A datagram comes from a link, at a moment in milliseconds. Whether its client may use an invoke ID again is as the settings of the start say.
 #[unsafe(no_mangle)]
 pub extern "C" fn bac_on(
     alloc: Global,
@@ -20,7 +20,7 @@ pub extern "C" fn bac_on(
     from: &[u8; 6],
     octets: &[u8],
 ) -> u32
-    ensures went { result ≡ DONE → HasRun (NodeOn now from.now octets.now) handle.old.parked.device handle.new.parked.device }
+    ensures went { result ≡ DONE → HasHeard now from.now octets.now handle.old.parked.device handle.new.parked.device }
     ensures closed { (result ≡ NOT_OPEN) ↔ (handle.old.parked.device ≡ None) }
     ensures idle { (result ≡ NOT_STARTED) ↔ Holds IsIdle handle.old.parked.device }
     ensures early { (result ≡ CLOCK_BACK) ↔ Holds (Runs (λ n. now < n.latest)) handle.old.parked.device }
