@@ -1,5 +1,5 @@
 -- How a node is to serve.
-use Rattle.std.specs.Prelude.{ℕ, ◌+◌, ◌*◌, min, Bool, true, false, Option, Some, None}
+use Rattle.std.specs.Prelude.{ℕ, ◌+◌, ◌*◌, min, Bool, true, false, not, Option, Some, None}
 use Rattle.std.specs.Option.{option_map}
 use Rattle.bac_driver.specs.Waits.{MOST}
 use Rattle.bac_driver.specs.declared.wait_limit.WaitLimit.{WaitLimit}
@@ -24,3 +24,8 @@ turns_of (Some turns) = turns
 abbrev pub restart_of : (restarted : Bool) → (start : ℕ) → Option ℕ
 restart_of true start = Some start
 restart_of false start = None
+
+-- whether it lets clients use invoke IDs again: in a run of so many turns where it is told to, otherwise unless it is strict
+abbrev pub is_reusing : (turns : Option ℕ) → (is_told is_strict : Bool) → Bool
+is_reusing None is_told is_strict = not is_strict
+is_reusing (Some turns) is_told is_strict = is_told

@@ -8,7 +8,7 @@ ghost use Rattle.bac_text.specs.declared.status.Status.TheVariants as status;
 ghost use Rattle.bac_commands.specs.Kept.{EndsKept, IsKeptByStatus, RoundsText, Unseen, unwatched};
 ghost use Rattle.bac_commands.specs.Statuses.{ByStatus};
 ghost use Rattle.bac_command_line.specs.Keeping.{restarted_by};
-ghost use Rattle.bac_command_line.specs.Serving.{patience_of, restart_of, turns_of};
+ghost use Rattle.bac_command_line.specs.Serving.{is_reusing, patience_of, restart_of, turns_of};
 
 use crate::address::{BACNET_PORT, LOCAL_HOST, read_host};
 use crate::station::Station;
@@ -227,6 +227,16 @@ fn slots_without_word(turns: Option<u64>) -> usize {
     }
 }
 
+/// Whether it lets clients use invoke IDs again: in a run of so many turns where it is told to, otherwise unless it is strict.
+fn is_reusing(turns: Option<u64>, is_told: bool, is_strict: bool) -> bool
+    ensures { result ≡ is_reusing turns is_told is_strict }
+{
+    match turns {
+        Some(_) => is_told,
+        None => !is_strict,
+    }
+}
+
 /// None where what is given is no address.
 pub(crate) fn serving_of(given: &ArgMatches<'_>) -> Option<Serving> {
     let host = match given.get_str("at") {
@@ -242,7 +252,7 @@ pub(crate) fn serving_of(given: &ArgMatches<'_>) -> Option<Serving> {
         seconds: given.get_one("seconds"),
         slots: slots.unwrap_or(slots_without_word(turns)),
         restarted: given.get_flag("restarted"),
-        reuse: given.get_flag("reuse"),
+        reuse: is_reusing(turns, given.get_flag("reuse"), given.get_flag("strict")),
         log: given.get_flag("log"),
     })
 }

@@ -334,11 +334,18 @@ const SERVE: &[Word] = &[
         help: "The server ran before and has lost what it remembered: it refuses new requests for 65 seconds, until no repeat of an old one should arrive",
     },
     Word {
-        name: "reuse",
+        name: "strict",
         form: WordForm::Flag,
         need: Need::Never,
         against: &[],
-        help: "Lets clients use an invoke ID again at once, as some of other makes do: without it they get old answers, and refusals, for up to 65 seconds",
+        help: "Lets no client use an invoke ID again within 65 seconds: an equal request gets the old answer, another one is refused. So it is with --turns",
+    },
+    Word {
+        name: "reuse",
+        form: WordForm::Flag,
+        need: Need::Never,
+        against: &["strict"],
+        help: "Lets clients use an invoke ID again at once, also with --turns; without --turns it does so unless it is --strict",
     },
     Word {
         name: "objects",

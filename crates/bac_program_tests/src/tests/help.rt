@@ -40,6 +40,8 @@ const WORDS: &[(&str, &str)] = &[
     ),
     ("serve --help", "--restarted"),
     ("serve --help", "--reuse"),
+    ("serve --help", "--strict"),
+    ("serve --reuse --strict", "--reuse"),
     ("keep --help", "--forget <T:I>"),
     ("keep plant.db present-value", "--forget <T:I>"),
     ("keep plant.db --forget", "--forget <T:I>"),

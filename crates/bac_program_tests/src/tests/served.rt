@@ -65,7 +65,7 @@ const SERVED: &[BenchRow] = &[
     ),
     (
         MANY_REQUESTS,
-        "serve --port 47808 --seconds 2 --slots 7 --at 192.168.1.20",
+        "serve --port 47808 --seconds 2 --slots 7 --strict --at 192.168.1.20",
         (
             "served 7\n",
             "listening 192.168.1.20:47808, 5 objects, 7 slots\n",
@@ -75,7 +75,7 @@ const SERVED: &[BenchRow] = &[
     // these are reads, which take no slot where an invoke ID may be used again
     (
         MANY_REQUESTS,
-        "serve --port 47808 --seconds 2 --slots 7 --reuse",
+        "serve --port 47808 --seconds 2 --slots 7",
         (
             "served 10\n",
             "listening 127.0.0.1:47808, 5 objects, 7 slots\n",
