@@ -1,13 +1,15 @@
 //! Who asks: a node at a port of its own, and once that has no invoke ID or no slot left, the next one at another port.
-ghost use Rattle.std.specs.Prelude.{IfErr, IfOk};
+ghost use Rattle.std.specs.Prelude.{◌≡◌, IfErr, IfOk};
 ghost use Rattle.bac_driver.specs.Runs.{timed};
 ghost use Rattle.bac_text.specs.Statuses.{IsFailure};
 ghost use Rattle.bac_command_line.specs.Clients.{IsRenewed};
 ghost use Rattle.bac_command_line.specs.Online.{IsClient, OnClock, OnPort};
 
+use crate::asking::Asking;
 use crate::client_pair::ClientPair;
 use crate::online::Machine;
 use crate::past_ports::PastPorts;
+use crate::recording::{Printer, Stamp};
 use crate::station::Station;
 use bac_commands::{bound_client, clock_fault, link_fault};
 use bac_npdu::LinkAddress;
@@ -105,6 +107,8 @@ pub(crate) struct Client<'m, M: Machine> {
     past: PastPorts,
     /// Whether no link could be bound for the next node.
     pub is_stranded: bool,
+    /// How many rounds have begun.
+    pub rounds: u64,
 }
 
 impl<'m, M: Machine> Client<'m, M> {
@@ -142,7 +146,29 @@ impl<'m, M: Machine> Client<'m, M> {
             station,
             past,
             is_stranded: false,
+            rounds: 0,
         })
+    }
+
+    /// How the ends of asks are printed now.
+    pub(crate) fn printer(&self, asking: &Asking) -> Printer
+        ensures form { result.output_format ≡ asking.now.output_format }
+        ensures records { result.records ≡ asking.now.records }
+    {
+        let round = if self.rounds == 0 {
+            None
+        } else {
+            Some(self.rounds)
+        };
+        Printer {
+            alloc: self.station.alloc,
+            output_format: asking.output_format,
+            records: asking.records,
+            stamp: Stamp {
+                time: self.machine.time_of_day(),
+                round,
+            },
+        }
     }
 
     /// The next node, on a link of its own at another port; the one before asks no more. Where there is none, `err` and the status say so, and nothing has

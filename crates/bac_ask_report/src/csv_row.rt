@@ -1,0 +1,216 @@
+//! Rows of CSV.
+ghost use Rattle.std.specs.Prelude.{◌≡◌, [], ◌∷◌, codes, drop, map, unwrap_or, IfOk, OnOk};
+ghost use Rattle.std.specs.Option.{option_map};
+ghost use Rattle.std.specs.Io.KnownBytes.{Appends};
+ghost use Rattle.bac_ask_report.specs.Answers.{answer_view};
+ghost use Rattle.bac_ask_report.specs.Cells.{cells_view};
+ghost use Rattle.bac_ask_report.specs.Records.{record_view};
+ghost use Rattle.bac_ask_report.specs.Rows.{AreCells, AreSoleCells, AreValueCells, IsCell, IsRow, behind_answered, both, fields_of, header_text, no_cells};
+ghost use Rattle.bac_ask_report.specs.Rows.{sole_value, status_cell, word_cells};
+ghost use Rattle.bac_text.specs.Texts.{AppendsText};
+ghost use Rattle.csv.specs.Writing.{default_writer, row_text};
+ghost use Rattle.serde_json.specs.View.{items_view, view};
+
+use crate::answer::{Answer, answer_of};
+use crate::question::{object_asked, property_asked, property_column};
+use crate::record::AskRecord;
+use crate::time::time_text;
+use bac_json::data_json;
+use bac_text::peer_text;
+use bac_value::{Data, NoMemory};
+use bac_value_text::object_text;
+use csv::Writer;
+use serde_json::Value as Json;
+use std::alloc::{AllocError, Global};
+use std::io;
+use std::io::Write;
+
+// ---- the kind and the value
+
+/// A text as it is, Null as nothing, all else as JSON has it.
+fn cell(alloc: Global, json: &Json) -> Result<Vec<u8>, AllocError>
+    ensures { IfOk result (λ t. IsCell (view json.now) t.items) }
+{
+    match json {
+        Json::Null => Ok(Vec::new(alloc)),
+        Json::String(text) => Vec::from_slice(alloc, text.as_bytes()),
+        _ => Ok(json.to_string(alloc)?.into_bytes()),
+    }
+}
+
+/// Both, where there are both.
+fn both<'a>(first: Option<&'a Json>, second: Option<&'a Json>) -> Option<(&'a Json, &'a Json)>
+    ensures { option_map (λ p. (view p.0.now, view p.1.now)) result ≡ both (option_map (λ v. view v.now) first.entry) (option_map (λ v. view v.now) second.entry) }
+{
+    Some((first?, second?))
+}
+
+/// The kind and the value of the only element, where it is a value.
+fn sole_value(elements: &[Json]) -> Option<(&Json, &Json)>
+    ensures { option_map (λ p. (view p.0.now, view p.1.now)) result ≡ sole_value (items_view elements.now) }
+{
+    match elements {
+        [] => None,
+        [element] => both(element.get("kind"), element.get("value")),
+        [_, _, ..] => None,
+    }
+}
+
+/// What `bac ask --text` prints behind the word `answered`.
+fn behind_answered(words: &[u8]) -> &[u8]
+    ensures { result.now ≡ behind_answered words.now }
+{
+    &words[words.len().min(9)..]
+}
+
+/// The kind and the value of a row.
+#[derive(Drop)]
+struct Cells {
+    kind: Vec<u8>,
+    value: Vec<u8>,
+}
+
+fn no_cells(alloc: Global) -> Cells
+    ensures { cells_view result ≡ no_cells }
+{
+    Cells {
+        kind: Vec::new(alloc),
+        value: Vec::new(alloc),
+    }
+}
+
+fn word_cells(alloc: Global, words: &[u8]) -> Result<Cells, AllocError>
+    ensures { IfOk result (λ c. cells_view c ≡ word_cells words.now) }
+{
+    Ok(Cells {
+        kind: Vec::new(alloc),
+        value: Vec::from_slice(alloc, behind_answered(words))?,
+    })
+}
+
+fn sole_cells(
+    alloc: Global,
+    sole: Option<(&Json, &Json)>,
+    words: &[u8],
+) -> Result<Cells, AllocError>
+    ensures { IfOk result (λ c. AreSoleCells (option_map (λ p. (view p.0.now, view p.1.now)) sole.entry) words.now (cells_view c)) }
+{
+    match sole {
+        Some((kind, value)) => Ok(Cells {
+            kind: cell(alloc, kind)?,
+            value: cell(alloc, value)?,
+        }),
+        None => word_cells(alloc, words),
+    }
+}
+
+fn value_cells(alloc: Global, values: Data<'_>, words: &[u8]) -> Result<Cells, NoMemory>
+    ensures { IfOk result (λ c. AreValueCells values.entry.octets.now words.now (cells_view c)) }
+{
+    let elements = data_json(alloc, values)?;
+    Ok(sole_cells(alloc, sole_value(&elements), words)?)
+}
+
+/// The kind and the value, where there is one; in words where there are more, or octets of a file.
+fn cells_of(alloc: Global, answer: Answer<'_>, words: &[u8]) -> Result<Cells, NoMemory>
+    ensures { IfOk result (λ c. AreCells (answer_view answer.entry) words.now (cells_view c)) }
+{
+    match answer {
+        Answer::Values(values) => value_cells(alloc, values, words),
+        Answer::Other => Ok(word_cells(alloc, words)?),
+        Answer::File(_) => Ok(word_cells(alloc, words)?),
+        Answer::Written(_) => Ok(word_cells(alloc, words)?),
+        Answer::Done => Ok(no_cells(alloc)),
+        Answer::Fault { .. } => Ok(no_cells(alloc)),
+        Answer::Reason(_) => Ok(no_cells(alloc)),
+        Answer::Nothing => Ok(no_cells(alloc)),
+    }
+}
+
+// ---- the status
+
+/// `answered`, or in words why there is no value.
+fn status_cell<'a>(answer: Answer<'_>, words: &'a [u8]) -> &'a [u8]
+    ensures { result.now ≡ status_cell (answer_view answer.entry) words.now }
+{
+    match answer {
+        Answer::Values(_) => b"answered",
+        Answer::Other => b"answered",
+        Answer::File(_) => b"answered",
+        Answer::Written(_) => b"answered",
+        Answer::Done => b"answered",
+        Answer::Fault { .. } => behind_answered(words),
+        Answer::Reason(_) => words,
+        Answer::Nothing => words,
+    }
+}
+
+// ---- rows
+
+/// These fields with commas between them and the end of a line; those in which there is a comma, a quote or the end of a line stand in quotes.
+fn row_text(alloc: Global, fields: &[&[u8]]) -> Result<Vec<u8>, AllocError>
+    ensures { IfOk result (λ t. t.items ≡ row_text default_writer (map (λ f. f.now) fields.now)) }
+{
+    let mut writer = Writer::from_writer(Vec::new(alloc));
+    if writer.write_fields(fields).is_err() {
+        return Err(AllocError);
+    }
+    match writer.into_inner() {
+        Ok(text) => Ok(text),
+        Err(_) => Err(AllocError),
+    }
+}
+
+/// The row of an ask.
+fn row_of(alloc: Global, record: &AskRecord<'_>) -> Result<Vec<u8>, NoMemory>
+    ensures { IfOk result (λ t. IsRow (record_view record.now) t.items) }
+{
+    let answer = answer_of(record.request, record.outcome);
+    let cells = cells_of(alloc, answer, record.words)?;
+    let peer = peer_text(alloc, record.peer)?;
+    let object = object_text(alloc, object_asked(record.request))?;
+    let property = property_column(alloc, property_asked(record.request))?;
+    let time = time_text(record.time);
+    let time = match &time {
+        Some(time) => time.as_str().as_bytes(),
+        None => &[],
+    };
+    let status = status_cell(answer, record.words);
+    let fields = [
+        time,
+        peer.as_bytes(),
+        &object,
+        &property,
+        &cells.kind,
+        &cells.value,
+        status,
+    ];
+    Ok(row_text(alloc, &fields)?)
+}
+
+/// Prints the names of the columns. An Err is the writer's, or out of memory.
+pub fn print_csv_header<W: Write>(alloc: Global, out: &mut W) -> io::Result<()>
+    ensures { OnOk result (Appends (W.contents out.old) (W.contents out.new) header_text) }
+{
+    let fields: [&[u8]; 7] = [
+        b"time",
+        b"peer",
+        b"object",
+        b"property",
+        b"kind",
+        b"value",
+        b"status",
+    ];
+    let row = row_text(alloc, &fields)?;
+    out.write_all(&row)
+}
+
+/// Prints an ask as a row. An Err is the writer's, or out of memory.
+pub fn print_csv_row<W: Write>(alloc: Global, record: &AskRecord<'_>, out: &mut W) -> io::Result<()>
+    ensures { OnOk result (AppendsText (W.contents out.old) (W.contents out.new) (IsRow (record_view record.now))) }
+{
+    let Ok(row) = row_of(alloc, record) else {
+        return Err(io::Error::from(io::ErrorKind::OutOfMemory));
+    };
+    out.write_all(&row)
+}
