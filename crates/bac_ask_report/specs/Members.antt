@@ -2,7 +2,8 @@
 use Rattle.serde_json.specs.View.{view}
 use Rattle.bac_ask_report.specs.Objects as plain
 use Rattle.bac_ask_report.specs.declared.members.AnswerMembers.{AnswerMembers}
-use Rattle.bac_ask_report.specs.declared.object.AskMembers.{AskMembers}
+use Rattle.bac_ask_report.specs.declared.object.AskedMembers.{AskedMembers}
+use Rattle.bac_ask_report.specs.declared.object.EndMembers.{EndMembers}
 
 abbrev pub answer_members_view : AnswerMembers → plain.AnswerMembers
 answer_members_view m = record {
@@ -15,16 +16,15 @@ answer_members_view m = record {
   values = view m.values;
 }
 
-abbrev pub ask_members_view : AskMembers → plain.AskMembers
-ask_members_view m = record {
+abbrev pub asked_members_view : AskedMembers → plain.AskedMembers
+asked_members_view m = record {
   index = view m.index;
   line = view m.line;
   named = view m.named;
   peer = view m.peer;
   property = view m.property;
   request = view m.request;
-  round = view m.round;
-  status = view m.status;
-  text = view m.text;
-  time = view m.time;
 }
+
+abbrev pub end_members_view : EndMembers → plain.EndMembers
+end_members_view m = record { round = view m.round; status = view m.status; text = view m.text; time = view m.time }

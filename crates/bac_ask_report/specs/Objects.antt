@@ -4,7 +4,7 @@ use Rattle.bac_json.specs.Forms.{object_form, octets_form, optional_number, prop
 use Rattle.bac_json.specs.Values.{AreElementForms}
 use Rattle.bac_service.specs.Values.{Reference}
 use Rattle.bac_text.specs.Peers.{peer_text}
-use Rattle.serde_json.specs.Data.{Data, Items, array, boolean, member, no_members, null, number, object, string, unsigned}
+use Rattle.serde_json.specs.Data.{Data, Items, Members, array, boolean, no_members, null, number, object, put, string, unsigned}
 use Rattle.serde_json.specs.Find.{of_integer}
 use Rattle.bac_ask_report.specs.Answers.{Answer, answer_of, status_word}
 use Rattle.bac_ask_report.specs.Answers.Answer.{Values, Other, File, Written, Done, Fault, Reason, Nothing}
@@ -52,41 +52,55 @@ index_or_null None = null
 index_or_null (Some r) = optional_number r.index
 
 -- named: the object that was asked for
-pub record AskMembers : Type 0 where
+pub record AskedMembers : Type 0 where
   pub index : Data
   pub line : Data
   pub named : Data
   pub peer : Data
   pub property : Data
   pub request : Data
-  pub round : Data
-  pub status : Data
-  pub text : Data
-  pub time : Data
 
-abbrev pub ask_members : AskRecord → (time : Option (List ℕ)) → AskMembers
-ask_members r time = record {
+abbrev pub asked_members : AskRecord → AskedMembers
+asked_members r = record {
   index = index_or_null (property_asked r.request);
   line = optional_number r.line;
   named = object_form (object_asked r.request);
   peer = string (peer_text r.peer);
   property = property_or_null (property_asked r.request);
   request = string (verb r.request);
+}
+
+pub record EndMembers : Type 0 where
+  pub round : Data
+  pub status : Data
+  pub text : Data
+  pub time : Data
+
+abbrev pub end_members : AskRecord → (time : Option (List ℕ)) → EndMembers
+end_members r time = record {
   round = optional_number r.round;
   status = string (status_word r.outcome);
   text = text_form r.words;
   time = string_or_null time;
 }
 
--- ---- the object
+-- ---- the object: its members are sorted by name
 
-abbrev pub ask_object : AskMembers → AnswerMembers → Data
-ask_object a m =
-    object (member (codes "class") m.class (member (codes "code") m.code (member (codes "end") m.end (member (codes "index") a.index
-    (member (codes "line") a.line (member (codes "object") a.named (member (codes "octets") m.octets (member (codes "peer") a.peer
-    (member (codes "position") m.position (member (codes "property") a.property (member (codes "reason") m.reason
-    (member (codes "request") a.request (member (codes "round") a.round (member (codes "status") a.status (member (codes "text") a.text
-    (member (codes "time") a.time (member (codes "values") m.values no_members)))))))))))))))))
+abbrev pub with_asked : AskedMembers → Members → Members
+with_asked a ms =
+    put (codes "request") a.request (put (codes "property") a.property (put (codes "peer") a.peer (put (codes "object") a.named
+    (put (codes "line") a.line (put (codes "index") a.index ms)))))
+
+abbrev pub with_end : EndMembers → Members → Members
+with_end e ms = put (codes "time") e.time (put (codes "text") e.text (put (codes "status") e.status (put (codes "round") e.round ms)))
+
+abbrev pub with_answer : AnswerMembers → Members → Members
+with_answer m ms =
+    put (codes "values") m.values (put (codes "reason") m.reason (put (codes "position") m.position (put (codes "octets") m.octets
+    (put (codes "end") m.end (put (codes "code") m.code (put (codes "class") m.class ms))))))
+
+abbrev pub ask_object : AskedMembers → EndMembers → AnswerMembers → Data
+ask_object a e m = object (with_answer m (with_end e (with_asked a no_members)))
 
 -- that of an ask
 pub record IsObject (r : AskRecord) (d : Data) : Type 0 where
@@ -94,4 +108,4 @@ pub record IsObject (r : AskRecord) (d : Data) : Type 0 where
   pub time_of : IsTextOf r.time time
   pub members : AnswerMembers
   pub are : AreMembers (answer_of r.request r.outcome) members
-  pub is : d ≡ ask_object (ask_members r time) members
+  pub is : d ≡ ask_object (asked_members r) (end_members r time) members

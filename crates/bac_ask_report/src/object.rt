@@ -1,14 +1,14 @@
 //! Objects of JSON.
 ghost use Rattle.std.specs.Prelude.{◌≡◌, IfOk, OnOk};
 ghost use Rattle.std.specs.Option.{option_map};
-ghost use Rattle.bac_ask_report.specs.Members.{answer_members_view, ask_members_view};
-ghost use Rattle.bac_ask_report.specs.Objects.{IsObject, ask_members, ask_object, index_or_null, property_or_null};
+ghost use Rattle.bac_ask_report.specs.Members.{answer_members_view, asked_members_view, end_members_view};
+ghost use Rattle.bac_ask_report.specs.Objects.{IsObject, ask_object, asked_members, end_members, index_or_null, property_or_null, with_answer, with_asked, with_end};
 ghost use Rattle.bac_ask_report.specs.Records.{record_view};
 ghost use Rattle.bac_json.specs.Forms.{optional_number, string_or_null};
 ghost use Rattle.bac_json_report.specs.Lines.{IsLineOf};
 ghost use Rattle.bac_service.specs.Views.{property_reference_view};
 ghost use Rattle.bac_text.specs.Texts.{AppendsText};
-ghost use Rattle.serde_json.specs.View.{view};
+ghost use Rattle.serde_json.specs.View.{members_view, view};
 
 use crate::answer::{answer_of, status_word};
 use crate::members::{AnswerMembers, members_of};
@@ -20,10 +20,13 @@ use bac_json_report::print_json;
 use bac_service::PropertyReference;
 use bac_text::peer_text;
 use bac_value::NoMemory;
-use serde_json::{Value as Json, json};
+use serde_json::{Map, Value as Json, put};
 use std::alloc::{AllocError, Global};
 use std::io;
 use std::io::Write;
+
+/// The members of an object of JSON.
+type Members = Map<String, Json>;
 
 /// The property; Null where none was asked for.
 fn property_or_null(alloc: Global, reference: Option<PropertyReference>) -> Result<Json, AllocError>
@@ -65,9 +68,11 @@ fn time_or_null(alloc: Global, time: &Option<TimeText>) -> Result<Json, AllocErr
     }
 }
 
-/// What was asked, when, and the words for how that ended.
+// ---- what was asked
+
+/// What was asked of whom.
 #[derive(Drop)]
-pub(crate) struct AskMembers {
+pub(crate) struct AskedMembers {
     index: Json,
     line: Json,
     /// The object that was asked for.
@@ -75,54 +80,112 @@ pub(crate) struct AskMembers {
     peer: Json,
     property: Json,
     request: Json,
+}
+
+fn asked_members(alloc: Global, record: &AskRecord<'_>) -> Result<AskedMembers, AllocError>
+    ensures { IfOk result (λ m. asked_members_view m ≡ asked_members (record_view record.now)) }
+{
+    let reference = property_asked(record.request);
+    let named = object_json(alloc, object_asked(record.request))?;
+    let peer = peer_text(alloc, record.peer)?;
+    let property = property_or_null(alloc, reference)?;
+    let request = Json::try_from_str(alloc, verb(record.request))?;
+    Ok(AskedMembers {
+        index: index_or_null(reference),
+        line: number_or_null(record.line),
+        named,
+        peer: Json::String(peer),
+        property,
+        request,
+    })
+}
+
+fn put_asked(alloc: Global, asked: AskedMembers, members: &mut Members) -> Result<(), AllocError>
+    ensures { OnOk result (members_view members.new.entries ≡ with_asked (asked_members_view asked) (members_view members.old.entries)) }
+{
+    put(members, alloc, "index", asked.index)?;
+    put(members, alloc, "line", asked.line)?;
+    put(members, alloc, "object", asked.named)?;
+    put(members, alloc, "peer", asked.peer)?;
+    put(members, alloc, "property", asked.property)?;
+    put(members, alloc, "request", asked.request)
+}
+
+// ---- how it ended
+
+/// When it ended, and the words for how.
+#[derive(Drop)]
+pub(crate) struct EndMembers {
     round: Json,
     status: Json,
     text: Json,
     time: Json,
 }
 
-fn ask_members(
+fn end_members(
     alloc: Global,
     record: &AskRecord<'_>,
     time: &Option<TimeText>,
-) -> Result<AskMembers, AllocError>
-    ensures { IfOk result (λ m. ask_members_view m ≡ ask_members (record_view record.now) (option_map (λ t. t.bytes) time.now)) }
+) -> Result<EndMembers, AllocError>
+    ensures { IfOk result (λ m. end_members_view m ≡ end_members (record_view record.now) (option_map (λ t. t.bytes) time.now)) }
 {
-    let reference = property_asked(record.request);
-    let peer = peer_text(alloc, record.peer)?;
-    Ok(AskMembers {
-        index: index_or_null(reference),
-        line: number_or_null(record.line),
-        named: object_json(alloc, object_asked(record.request))?,
-        peer: Json::String(peer),
-        property: property_or_null(alloc, reference)?,
-        request: Json::try_from_str(alloc, verb(record.request))?,
+    let status = Json::try_from_str(alloc, status_word(record.outcome))?;
+    let text = text_json(alloc, record.words)?;
+    let time = time_or_null(alloc, time)?;
+    Ok(EndMembers {
         round: number_or_null(record.round),
-        status: Json::try_from_str(alloc, status_word(record.outcome))?,
-        text: text_json(alloc, record.words)?,
-        time: time_or_null(alloc, time)?,
+        status,
+        text,
+        time,
     })
 }
 
-fn ask_object(alloc: Global, ask: AskMembers, answer: AnswerMembers) -> Result<Json, AllocError>
-    ensures { IfOk result (λ v. view v ≡ ask_object (ask_members_view ask) (answer_members_view answer)) }
+fn put_end(alloc: Global, end: EndMembers, members: &mut Members) -> Result<(), AllocError>
+    ensures { OnOk result (members_view members.new.entries ≡ with_end (end_members_view end) (members_view members.old.entries)) }
 {
-    json!(in alloc; {
-        "class": answer.class, "code": answer.code, "end": answer.end, "index": ask.index,
-        "line": ask.line, "object": ask.named, "octets": answer.octets, "peer": ask.peer,
-        "position": answer.position, "property": ask.property, "reason": answer.reason,
-        "request": ask.request, "round": ask.round, "status": ask.status, "text": ask.text,
-        "time": ask.time, "values": answer.values
-    })
+    put(members, alloc, "round", end.round)?;
+    put(members, alloc, "status", end.status)?;
+    put(members, alloc, "text", end.text)?;
+    put(members, alloc, "time", end.time)
+}
+
+fn put_answer(alloc: Global, answer: AnswerMembers, members: &mut Members) -> Result<(), AllocError>
+    ensures { OnOk result (members_view members.new.entries ≡ with_answer (answer_members_view answer) (members_view members.old.entries)) }
+{
+    put(members, alloc, "class", answer.class)?;
+    put(members, alloc, "code", answer.code)?;
+    put(members, alloc, "end", answer.end)?;
+    put(members, alloc, "octets", answer.octets)?;
+    put(members, alloc, "position", answer.position)?;
+    put(members, alloc, "reason", answer.reason)?;
+    put(members, alloc, "values", answer.values)
+}
+
+// ---- the object
+
+fn ask_object(
+    alloc: Global,
+    asked: AskedMembers,
+    end: EndMembers,
+    answer: AnswerMembers,
+) -> Result<Json, AllocError>
+    ensures { IfOk result (λ v. view v ≡ ask_object (asked_members_view asked) (end_members_view end) (answer_members_view answer)) }
+{
+    let mut members = Map::new(alloc);
+    put_asked(alloc, asked, &mut members)?;
+    put_end(alloc, end, &mut members)?;
+    put_answer(alloc, answer, &mut members)?;
+    Ok(Json::Object(members))
 }
 
 fn object_of(alloc: Global, record: &AskRecord<'_>) -> Result<Json, NoMemory>
     ensures { IfOk result (λ v. IsObject (record_view record.now) (view v)) }
 {
     let time = time_text(record.time);
-    let ask = ask_members(alloc, record, &time)?;
+    let asked = asked_members(alloc, record)?;
+    let end = end_members(alloc, record, &time)?;
     let answer = members_of(alloc, answer_of(record.request, record.outcome))?;
-    Ok(ask_object(alloc, ask, answer)?)
+    Ok(ask_object(alloc, asked, end, answer)?)
 }
 
 /// Prints an ask as one object of JSON on a line, whose members docs/COMMANDS.md ("JSON") lists. An Err is the writer's, or out of memory.

@@ -1,7 +1,7 @@
 //! Moments as texts.
-ghost use Rattle.std.specs.Prelude.{};
+ghost use Rattle.std.specs.Prelude.{◌≡◌};
 ghost use Rattle.std.specs.Option.{option_map};
-ghost use Rattle.bac_ask_report.specs.Times.{IsTextAt, IsTextOf};
+ghost use Rattle.bac_ask_report.specs.Times.{IsTextAt, IsTextOf, nanoseconds};
 
 use arrayvec::ArrayString;
 use jiff_core::Timestamp;
@@ -10,11 +10,17 @@ use jiff_fmt::temporal::DateTimePrinter;
 /// The most octets of such a text.
 pub(crate) type TimeText = ArrayString<33>;
 
+fn nanoseconds(milliseconds: u64) -> i128
+    ensures { result ≡ nanoseconds milliseconds }
+{
+    milliseconds as i128 * 1_000_000
+}
+
 /// The moment so many milliseconds after 1970 began in UTC, as `2026-11-27T07:10:00.000Z`. None beyond the year 9999.
 fn text_at(milliseconds: u64) -> Option<TimeText>
     ensures { IsTextAt milliseconds (option_map (λ t. t.bytes) result) }
 {
-    match Timestamp::from_nanosecond(milliseconds as i128 * 1_000_000) {
+    match Timestamp::from_nanosecond(nanoseconds(milliseconds)) {
         Ok(timestamp) => {
             let printer = DateTimePrinter::new().precision(Some(3));
             Some(printer.timestamp_text(timestamp))

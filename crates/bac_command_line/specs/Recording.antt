@@ -14,24 +14,24 @@ use Rattle.bac_driver.specs.declared.question.AskEnd.{AskEnd}
 use Rattle.bac_driver.specs.declared.question.AskEnd.TheVariants as end
 use Rattle.bac_json_report.specs.Lines.{IsLineOf}
 use Rattle.bac_requester.specs.Faults.{ask_fault_number}
-use Rattle.bac_requester.specs.TransactionViews.{ending_view}
+use Rattle.bac_requester.specs.declared.ending.Ending.{Ending}
+use Rattle.bac_requester.specs.declared.ending.Ending.TheVariants as ending
 use Rattle.bac_service.specs.Values.{Request}
-use Rattle.bac_transaction.specs.Meanings.{Ending}
-use Rattle.bac_transaction.specs.Meanings.Ending.{Answered, Rejected, Aborted, TimedOut, Expired}
+use Rattle.bac_service.specs.Views.{owned_reply_view}
 use Rattle.bac_command_line.specs.declared.recording.RecordForm.{RecordForm}
 use Rattle.bac_command_line.specs.declared.recording.RecordForm.TheVariants as form
 
 -- ---- how an ask ended
 
 abbrev pub outcome_of_ending : Ending → Outcome
-outcome_of_ending (Answered r) = outcome.Answered r
-outcome_of_ending (Rejected reason) = outcome.Rejected reason
-outcome_of_ending (Aborted reason) = outcome.Aborted reason
-outcome_of_ending TimedOut = outcome.TimedOut
-outcome_of_ending Expired = outcome.Expired
+outcome_of_ending (ending.Answered r) = outcome.Answered (owned_reply_view r)
+outcome_of_ending (ending.Rejected reason) = outcome.Rejected reason
+outcome_of_ending (ending.Aborted reason) = outcome.Aborted reason
+outcome_of_ending ending.TimedOut = outcome.TimedOut
+outcome_of_ending ending.Expired = outcome.Expired
 
 abbrev pub outcome_of : AskEnd → Outcome
-outcome_of (end.Ended how) = outcome_of_ending (ending_view how)
+outcome_of (end.Ended how) = outcome_of_ending how
 outcome_of (end.Refused why) = outcome.Refused (ask_fault_number why)
 outcome_of end.NoEnding = outcome.NoEnding
 

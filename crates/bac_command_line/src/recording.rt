@@ -3,7 +3,6 @@ ghost use Rattle.std.specs.Prelude.{◌≡◌, IfErr, IfOk, OnOk};
 ghost use Rattle.bac_ask_report.specs.Records.{outcome_view, record_view};
 ghost use Rattle.bac_command_line.specs.Recording.{AreWordsOf, IsRecordText, PrintsAsk, PrintsHeader, PrintsRecord, outcome_of, outcome_of_ending, without_end};
 ghost use Rattle.bac_driver.specs.Views.{question_view};
-ghost use Rattle.bac_requester.specs.TransactionViews.{ending_view};
 ghost use Rattle.bac_service.specs.Views.{owned_request_view};
 ghost use Rattle.bac_text.specs.Statuses.{IsFailure};
 ghost use Rattle.bac_text.specs.Texts.{AppendsText};
@@ -51,7 +50,7 @@ pub(crate) struct Printer {
 // ---- how an ask ended
 
 fn outcome_of_ending(ending: &Ending) -> Outcome<'_>
-    ensures { outcome_view result ≡ outcome_of_ending (ending_view ending.now) }
+    ensures { outcome_view result ≡ outcome_of_ending ending.now }
 {
     match ending {
         Ending::Answered(reply) => Outcome::Answered(reply.as_reply()),
