@@ -1,5 +1,5 @@
 //! Rows of CSV.
-ghost use Rattle.std.specs.Prelude.{◌≡◌, [], ◌∷◌, codes, drop, map, unwrap_or, IfOk, OnOk};
+ghost use Rattle.std.specs.Prelude.{◌≡◌, [], map, unwrap_or, IfOk, OnOk};
 ghost use Rattle.std.specs.Option.{option_map};
 ghost use Rattle.std.specs.Io.KnownBytes.{Appends};
 ghost use Rattle.bac_ask_report.specs.Answers.{answer_view};
@@ -7,6 +7,7 @@ ghost use Rattle.bac_ask_report.specs.Cells.{cells_view};
 ghost use Rattle.bac_ask_report.specs.Records.{record_view};
 ghost use Rattle.bac_ask_report.specs.Rows.{AreCells, AreSoleCells, AreValueCells, IsCell, IsRow, behind_answered, both, fields_of, header_text, no_cells};
 ghost use Rattle.bac_ask_report.specs.Rows.{sole_value, status_cell, word_cells};
+ghost use Rattle.bac_json_report.specs.Lines.{IsJsonText};
 ghost use Rattle.bac_text.specs.Texts.{AppendsText};
 ghost use Rattle.csv.specs.Writing.{default_writer, row_text};
 ghost use Rattle.serde_json.specs.View.{items_view, view};
@@ -14,7 +15,7 @@ ghost use Rattle.serde_json.specs.View.{items_view, view};
 use crate::answer::{Answer, answer_of};
 use crate::question::{object_asked, property_asked, property_column};
 use crate::record::AskRecord;
-use crate::time::time_text;
+use crate::time::{TimeText, time_text};
 use bac_json::data_json;
 use bac_text::peer_text;
 use bac_value::{Data, NoMemory};
@@ -27,14 +28,24 @@ use std::io::Write;
 
 // ---- the kind and the value
 
+/// As JSON has it.
+fn json_text(alloc: Global, json: &Json) -> Result<Vec<u8>, AllocError>
+    ensures { IfOk result (λ t. IsJsonText (view json.now) t.items) }
+{
+    Ok(json.to_string(alloc)?.into_bytes())
+}
+
 /// A text as it is, Null as nothing, all else as JSON has it.
 fn cell(alloc: Global, json: &Json) -> Result<Vec<u8>, AllocError>
     ensures { IfOk result (λ t. IsCell (view json.now) t.items) }
 {
     match json {
         Json::Null => Ok(Vec::new(alloc)),
+        Json::Bool(_) => json_text(alloc, json),
+        Json::Number(_) => json_text(alloc, json),
         Json::String(text) => Vec::from_slice(alloc, text.as_bytes()),
-        _ => Ok(json.to_string(alloc)?.into_bytes()),
+        Json::Array(_) => json_text(alloc, json),
+        Json::Object(_) => json_text(alloc, json),
     }
 }
 
@@ -42,7 +53,9 @@ fn cell(alloc: Global, json: &Json) -> Result<Vec<u8>, AllocError>
 fn both<'a>(first: Option<&'a Json>, second: Option<&'a Json>) -> Option<(&'a Json, &'a Json)>
     ensures { option_map (λ p. (view p.0.now, view p.1.now)) result ≡ both (option_map (λ v. view v.now) first.entry) (option_map (λ v. view v.now) second.entry) }
 {
-    Some((first?, second?))
+    let first = first?;
+    let second = second?;
+    Some((first, second))
 }
 
 /// The kind and the value of the only element, where it is a value.
@@ -161,31 +174,48 @@ fn row_text(alloc: Global, fields: &[&[u8]]) -> Result<Vec<u8>, AllocError>
     }
 }
 
-/// The row of an ask.
-fn row_of(alloc: Global, record: &AskRecord<'_>) -> Result<Vec<u8>, NoMemory>
-    ensures { IfOk result (λ t. IsRow (record_view record.now) t.items) }
+/// A moment; nothing where there is none.
+fn time_cell(time: &Option<TimeText>) -> &[u8]
+    ensures { result.now ≡ unwrap_or (option_map (λ t. t.bytes) time.now) [] }
 {
-    let answer = answer_of(record.request, record.outcome);
-    let cells = cells_of(alloc, answer, record.words)?;
+    match time {
+        Some(time) => time.as_str().as_bytes(),
+        None => b"",
+    }
+}
+
+fn row_with(
+    alloc: Global,
+    record: &AskRecord<'_>,
+    time: &[u8],
+    cells: &Cells,
+) -> Result<Vec<u8>, AllocError>
+    ensures { IfOk result (λ t. t.items ≡ row_text default_writer (fields_of (record_view record.now) time.now (cells_view cells.now))) }
+{
     let peer = peer_text(alloc, record.peer)?;
     let object = object_text(alloc, object_asked(record.request))?;
     let property = property_column(alloc, property_asked(record.request))?;
-    let time = time_text(record.time);
-    let time = match &time {
-        Some(time) => time.as_str().as_bytes(),
-        None => &[],
-    };
-    let status = status_cell(answer, record.words);
-    let fields = [
+    let answer = answer_of(record.request, record.outcome);
+    let fields: [&[u8]; 7] = [
         time,
         peer.as_bytes(),
         &object,
         &property,
         &cells.kind,
         &cells.value,
-        status,
+        status_cell(answer, record.words),
     ];
-    Ok(row_text(alloc, &fields)?)
+    row_text(alloc, &fields)
+}
+
+/// The row of an ask.
+fn row_of(alloc: Global, record: &AskRecord<'_>) -> Result<Vec<u8>, NoMemory>
+    ensures { IfOk result (λ t. IsRow (record_view record.now) t.items) }
+{
+    let time = time_text(record.time);
+    let answer = answer_of(record.request, record.outcome);
+    let cells = cells_of(alloc, answer, record.words)?;
+    Ok(row_with(alloc, record, time_cell(&time), &cells)?)
 }
 
 /// Prints the names of the columns. An Err is the writer's, or out of memory.

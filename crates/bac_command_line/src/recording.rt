@@ -71,13 +71,11 @@ fn outcome_of(end: &AskEnd) -> Outcome<'_>
     }
 }
 
-fn without_end(line: &[u8]) -> &[u8]
-    ensures { result.now ≡ without_end line.now }
+/// Takes the last octet away.
+fn take_end(line: &mut Vec<u8>)
+    ensures { line.new.items ≡ without_end line.old.items }
 {
-    match line {
-        [front @ .., _] => front,
-        [] => line,
-    }
+    let _ = line.pop();
 }
 
 /// How an ask ended in words, and whether it succeeded.
@@ -100,16 +98,16 @@ fn words_of(
         style: Style::Words,
         strict,
     };
-    let mut line = Vec::new(alloc);
+    let mut words = Vec::new(alloc);
     let succeeded = print_ask_end(
         alloc,
         output_format,
         request,
         end,
-        &mut line,
+        &mut words,
         &mut io::sink(),
     )?;
-    let words = Vec::from_slice(alloc, without_end(&line))?;
+    take_end(&mut words);
     Ok(EndWords { words, succeeded })
 }
 

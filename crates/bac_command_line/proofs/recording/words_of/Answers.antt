@@ -4,5 +4,4 @@ use Rattle.bac_command_line.proofs.Recorded.{words_told}
 use Rattle.bac_command_line.proofs.recording.words_of.Goals as goal
 
 pub returns : goal.returns
-returns c =
-    words_told _ _ _ c.new-line.result.items _ _ _ (search rules) c.in_ok-succeeded.ensures (rw c.without_end.ensures c.in_ok-words.ensures)
+returns c = words_told _ _ _ c.new-words.result.items _ _ _ (search rules) c.in_ok-succeeded.ensures c.take_end.ensures
