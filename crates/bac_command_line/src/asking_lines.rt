@@ -86,11 +86,11 @@ fn ask_on<M: Machine, E: Write>(
 
 /// The line says that there is no link from which it could be asked.
 pub(crate) fn print_unasked<O: Write>(
-    printer: &Printer,
+    printer: &Printer<'_>,
     line: &LineQuestion,
     out: &mut O,
 ) -> io::Result<()> {
-    if let Some(form) = printer.records {
+    if let Some(form) = printer.asking.records {
         return print_unasked_record(printer, form, line, out);
     }
     let number = line.number;
@@ -100,12 +100,12 @@ pub(crate) fn print_unasked<O: Write>(
 
 /// Behind the number of a line, it says that there is no link from which it could be asked, and so do the others.
 fn print_stranded<O: Write>(
-    printer: &Printer,
+    printer: &Printer<'_>,
     line: &LineQuestion,
     others: &[LineQuestion],
     out: &mut O,
 ) -> io::Result<()> {
-    match printer.records {
+    match printer.asking.records {
         Some(form) => print_unasked_record(printer, form, line, out)?,
         None => {
             writeln!(out, "link fault")?;
@@ -145,7 +145,11 @@ fn ask_line<M: Machine, O: Write, E: Write>(
             return Err(status);
         }
     };
-    let printer = client.printer(asking);
+    let printer = Printer {
+        alloc: client.station.alloc,
+        asking,
+        stamp: client.stamp(),
+    };
     let number = Some(line.number);
     print_ask(&printer, number, &line.question, &end, out, err)
 }

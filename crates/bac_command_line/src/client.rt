@@ -1,5 +1,5 @@
 //! Who asks: a node at a port of its own, and once that has no invoke ID or no slot left, the next one at another port.
-ghost use Rattle.std.specs.Prelude.{◌≡◌, IfErr, IfOk};
+ghost use Rattle.std.specs.Prelude.{IfErr, IfOk};
 ghost use Rattle.bac_driver.specs.Runs.{timed};
 ghost use Rattle.bac_text.specs.Statuses.{IsFailure};
 ghost use Rattle.bac_command_line.specs.Clients.{IsRenewed};
@@ -151,23 +151,24 @@ impl<'m, M: Machine> Client<'m, M> {
     }
 
     /// How the ends of asks are printed now.
-    pub(crate) fn printer(&self, asking: &Asking) -> Printer
-        ensures form { result.output_format ≡ asking.now.output_format }
-        ensures records { result.records ≡ asking.now.records }
-    {
+    pub(crate) fn printer<'a>(&self, asking: &'a Asking) -> Printer<'a> {
+        Printer {
+            alloc: self.station.alloc,
+            asking,
+            stamp: self.stamp(),
+        }
+    }
+
+    /// What the ends of asks are stamped with now.
+    pub(crate) fn stamp(&self) -> Stamp {
         let round = if self.rounds == 0 {
             None
         } else {
             Some(self.rounds)
         };
-        Printer {
-            alloc: self.station.alloc,
-            output_format: asking.output_format,
-            records: asking.records,
-            stamp: Stamp {
-                time: self.machine.time_of_day(),
-                round,
-            },
+        Stamp {
+            time: self.machine.time_of_day(),
+            round,
         }
     }
 

@@ -45,16 +45,16 @@ pub(crate) fn print_front<O: Write, E: Write>(
 
 /// Prints how the ask of a line ended, behind the line's number. Answers whether it succeeded.
 pub(crate) fn print_line<O: Write, E: Write>(
-    printer: &Printer,
+    printer: &Printer<'_>,
     line: &LineQuestion,
     end: &AskEnd,
     out: &mut O,
     err: &mut E,
 ) -> Result<bool, Status>
-    ensures told { IfOk result (λ succeeded. PrintsLine printer.now.records printer.now.output_format line.now end.now succeeded
+    ensures told { IfOk result (λ succeeded. PrintsLine printer.now.asking.now.records printer.now.asking.now.output_format line.now end.now succeeded
         (O.contents out.old) (O.contents out.new)) }
     ensures failed { IfErr result IsFailure }
 {
-    print_front(printer.records, line, out, err)?;
+    print_front(printer.asking.records, line, out, err)?;
     print_ask(printer, Some(line.number), &line.question, end, out, err)
 }

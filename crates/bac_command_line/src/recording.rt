@@ -7,6 +7,7 @@ ghost use Rattle.bac_service.specs.Views.{owned_request_view};
 ghost use Rattle.bac_text.specs.Statuses.{IsFailure};
 ghost use Rattle.bac_text.specs.Texts.{AppendsText};
 
+use crate::asking::Asking;
 use crate::question_lines::LineQuestion;
 use bac_ask_report::{AskRecord, Outcome, print_ask_object, print_csv_header, print_csv_row};
 use bac_commands::{OutputFormat, Style, print_ask_end};
@@ -38,12 +39,9 @@ pub(crate) struct Stamp {
 
 /// How the ends of asks are printed, and when.
 #[derive(Clone, Copy)]
-pub(crate) struct Printer {
+pub(crate) struct Printer<'a> {
     pub alloc: Global,
-    /// How they are printed, and whether that is strict.
-    pub output_format: OutputFormat,
-    /// The records that are printed in the place of that; None where none are.
-    pub records: Option<RecordForm>,
+    pub asking: &'a Asking,
     pub stamp: Stamp,
 }
 
@@ -129,18 +127,19 @@ fn print_in<O: Write>(
 
 /// Prints as a record how an ask of a line, or of none, ended. Answers whether it succeeded.
 pub(crate) fn print_record<O: Write>(
-    printer: &Printer,
+    printer: &Printer<'_>,
     form: RecordForm,
     line: Option<u64>,
     question: &Question,
     end: &AskEnd,
     out: &mut O,
 ) -> io::Result<bool>
-    ensures { IfOk result (λ succeeded. PrintsRecord form printer.now.output_format.strict line (question_view question.now) end.now succeeded
+    ensures { IfOk result (λ succeeded. PrintsRecord form printer.now.asking.now.output_format.strict line (question_view question.now) end.now succeeded
         (O.contents out.old) (O.contents out.new)) }
 {
     let alloc = printer.alloc;
-    let told = words_of(alloc, printer.output_format.strict, &question.request, end)?;
+    let strict = printer.asking.output_format.strict;
+    let told = words_of(alloc, strict, &question.request, end)?;
     let record = AskRecord {
         time: printer.stamp.time,
         line,
@@ -157,33 +156,34 @@ pub(crate) fn print_record<O: Write>(
 
 /// Prints how an ask of a line, or of none, ended, without the line's number before it. Answers whether it succeeded.
 fn print_end<O: Write, E: Write>(
-    printer: &Printer,
+    printer: &Printer<'_>,
     line: Option<u64>,
     question: &Question,
     end: &AskEnd,
     out: &mut O,
     err: &mut E,
 ) -> io::Result<bool>
-    ensures { IfOk result (λ succeeded. PrintsAsk printer.now.records printer.now.output_format line (question_view question.now) end.now succeeded
+    ensures { IfOk result (λ succeeded. PrintsAsk printer.now.asking.now.records printer.now.asking.now.output_format line (question_view question.now) end.now succeeded
         (O.contents out.old) (O.contents out.new)) }
 {
     let request = &question.request;
-    match printer.records {
+    let output_format = printer.asking.output_format;
+    match printer.asking.records {
         Some(form) => print_record(printer, form, line, question, end, out),
-        None => print_ask_end(printer.alloc, printer.output_format, request, end, out, err),
+        None => print_ask_end(printer.alloc, output_format, request, end, out, err),
     }
 }
 
 /// The same; where that fails, `err` and the status say so.
 pub(crate) fn print_ask<O: Write, E: Write>(
-    printer: &Printer,
+    printer: &Printer<'_>,
     line: Option<u64>,
     question: &Question,
     end: &AskEnd,
     out: &mut O,
     err: &mut E,
 ) -> Result<bool, Status>
-    ensures told { IfOk result (λ succeeded. PrintsAsk printer.now.records printer.now.output_format line (question_view question.now) end.now succeeded
+    ensures told { IfOk result (λ succeeded. PrintsAsk printer.now.asking.now.records printer.now.asking.now.output_format line (question_view question.now) end.now succeeded
         (O.contents out.old) (O.contents out.new)) }
     ensures failed { IfErr result IsFailure }
 {
@@ -195,7 +195,7 @@ pub(crate) fn print_ask<O: Write, E: Write>(
 
 /// Prints as a record that there was no link from which a line could be asked.
 pub(crate) fn print_unasked_record<O: Write>(
-    printer: &Printer,
+    printer: &Printer<'_>,
     form: RecordForm,
     line: &LineQuestion,
     out: &mut O,

@@ -14,7 +14,7 @@ use crate::asking_lines::{ask_each, ask_from, both};
 use crate::client::Client;
 use crate::online::{Machine, ask_once};
 use crate::question_lines::LineQuestion;
-use crate::recording::{RecordForm, print_header, print_record};
+use crate::recording::{Printer, RecordForm, print_header, print_record};
 use crate::station::Station;
 use crate::window::ask_ahead;
 use bac_commands::CommandError;
@@ -68,7 +68,11 @@ fn ask_recorded<M: Machine, O: Write, E: Write>(
     ensures failed { IfErr result IsFailure }
 {
     let end = ask_from(asking, &mut client.station, question, err)?;
-    let printer = client.printer(asking);
+    let printer = Printer {
+        alloc: client.station.alloc,
+        asking,
+        stamp: client.stamp(),
+    };
     match print_record(&printer, form, None, question, &end, out) {
         Ok(succeeded) => Ok(succeeded),
         Err(error) => Err(output_failed(err, &error)),

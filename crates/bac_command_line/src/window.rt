@@ -188,7 +188,7 @@ fn end_line<M: Machine, E: Write>(
 
 /// Each line from that place on is printed: with how its ask ended, or that there is no link from which it could be asked.
 fn print_stranded<O: Write, E: Write>(
-    printer: &Printer,
+    printer: &Printer<'_>,
     plan: &Plan<'_>,
     flights: &mut Flights,
     from: usize,
@@ -225,12 +225,17 @@ fn tell_line<M: Machine, O: Write, E: Write>(
 {
     match end_line(plan, client, flights, place, err) {
         Ok(end) => {
-            let printer = client.printer(plan.asking);
+            let printer = Printer {
+                alloc: client.station.alloc,
+                asking: plan.asking,
+                stamp: client.stamp(),
+            };
             print_line(&printer, &plan.lines[place], &end, out, err)
         }
         Err(status) => {
             if client.is_stranded {
-                print_stranded(&client.printer(plan.asking), plan, flights, place, out, err);
+                let printer = client.printer(plan.asking);
+                print_stranded(&printer, plan, flights, place, out, err);
             }
             Err(status)
         }
