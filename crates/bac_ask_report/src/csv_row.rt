@@ -1,14 +1,15 @@
 //! Rows of CSV.
-ghost use Rattle.std.specs.Prelude.{◌≡◌, [], map, unwrap_or, IfOk, OnOk};
+ghost use Rattle.std.specs.Prelude.{◌≡◌, ◌++◌, [], unwrap_or, IfOk, OnOk};
 ghost use Rattle.std.specs.Option.{option_map};
 ghost use Rattle.std.specs.Io.KnownBytes.{Appends};
 ghost use Rattle.bac_ask_report.specs.Answers.{answer_view};
 ghost use Rattle.bac_ask_report.specs.Cells.{cells_view};
 ghost use Rattle.bac_ask_report.specs.Records.{record_view};
-ghost use Rattle.bac_ask_report.specs.Rows.{AreCells, AreSoleCells, AreValueCells, IsCell, IsRow, behind_answered, both, fields_of, header_text, no_cells};
+ghost use Rattle.bac_ask_report.specs.Rows.{AreCells, AreSoleCells, AreValueCells, IsCell, IsRow, behind_answered, both, end_of, fields_of, front_of, header_text, no_cells};
 ghost use Rattle.bac_ask_report.specs.Rows.{sole_value, status_cell, word_cells};
 ghost use Rattle.bac_json_report.specs.Lines.{IsJsonText};
 ghost use Rattle.bac_text.specs.Texts.{AppendsText};
+ghost use Rattle.csv.specs.Records as csv;
 ghost use Rattle.csv.specs.Writing.{default_writer, row_text};
 ghost use Rattle.serde_json.specs.View.{items_view, view};
 
@@ -20,7 +21,7 @@ use bac_json::data_json;
 use bac_text::peer_text;
 use bac_value::{Data, NoMemory};
 use bac_value_text::object_text;
-use csv::Writer;
+use csv::{ByteRecord, Writer};
 use serde_json::Value as Json;
 use std::alloc::{AllocError, Global};
 use std::io;
@@ -160,12 +161,12 @@ fn status_cell<'a>(answer: Answer<'_>, words: &'a [u8]) -> &'a [u8]
 
 // ---- rows
 
-/// These fields with commas between them and the end of a line; those in which there is a comma, a quote or the end of a line stand in quotes.
-fn row_text(alloc: Global, fields: &[&[u8]]) -> Result<Vec<u8>, AllocError>
-    ensures { IfOk result (λ t. t.items ≡ row_text default_writer (map (λ f. f.now) fields.now)) }
+/// The fields of a row with commas between them and the end of a line; those in which there is a comma, a quote or the end of a line stand in quotes.
+fn row_text(alloc: Global, row: &ByteRecord) -> Result<Vec<u8>, AllocError>
+    ensures { IfOk result (λ t. t.items ≡ row_text default_writer (csv.fields_of row.now)) }
 {
     let mut writer = Writer::from_writer(Vec::new(alloc));
-    if writer.write_fields(fields).is_err() {
+    if writer.write_byte_record(row).is_err() {
         return Err(AllocError);
     }
     match writer.into_inner() {
@@ -184,32 +185,52 @@ fn time_cell(time: &Option<TimeText>) -> &[u8]
     }
 }
 
+/// The first four columns.
+fn front_of(
+    alloc: Global,
+    record: &AskRecord<'_, '_, '_>,
+    time: &[u8],
+) -> Result<ByteRecord, AllocError>
+    ensures fields { IfOk result (λ r. csv.fields_of r ≡ front_of (record_view record.now) time.now) }
+    ensures whole { IfOk result (λ r. csv.partial_of r ≡ []) }
+{
+    let peer = peer_text(alloc, record.peer)?;
+    let object = object_text(alloc, object_asked(record.request))?;
+    let property = property_column(alloc, property_asked(record.request))?;
+    let mut row = ByteRecord::new(alloc);
+    row.push_field(time)?;
+    row.push_field(peer.as_bytes())?;
+    row.push_field(&object)?;
+    row.push_field(&property)?;
+    Ok(row)
+}
+
+/// The others behind them.
+fn push_end(row: &mut ByteRecord, cells: &Cells, status: &[u8]) -> Result<(), AllocError>
+    requires { csv.partial_of row.old ≡ [] }
+    ensures { OnOk result (csv.fields_of row.new ≡ csv.fields_of row.old ++ end_of (cells_view cells.now) status.now) }
+{
+    row.push_field(&cells.kind)?;
+    row.push_field(&cells.value)?;
+    row.push_field(status)
+}
+
 fn row_with(
     alloc: Global,
-    record: &AskRecord<'_>,
+    record: &AskRecord<'_, '_, '_>,
     time: &[u8],
     cells: &Cells,
 ) -> Result<Vec<u8>, AllocError>
     ensures { IfOk result (λ t. t.items ≡ row_text default_writer (fields_of (record_view record.now) time.now (cells_view cells.now))) }
 {
-    let peer = peer_text(alloc, record.peer)?;
-    let object = object_text(alloc, object_asked(record.request))?;
-    let property = property_column(alloc, property_asked(record.request))?;
     let answer = answer_of(record.request, record.outcome);
-    let fields: [&[u8]; 7] = [
-        time,
-        peer.as_bytes(),
-        &object,
-        &property,
-        &cells.kind,
-        &cells.value,
-        status_cell(answer, record.words),
-    ];
-    row_text(alloc, &fields)
+    let mut row = front_of(alloc, record, time)?;
+    push_end(&mut row, cells, status_cell(answer, record.words))?;
+    row_text(alloc, &row)
 }
 
 /// The row of an ask.
-fn row_of(alloc: Global, record: &AskRecord<'_>) -> Result<Vec<u8>, NoMemory>
+fn row_of(alloc: Global, record: &AskRecord<'_, '_, '_>) -> Result<Vec<u8>, NoMemory>
     ensures { IfOk result (λ t. IsRow (record_view record.now) t.items) }
 {
     let time = time_text(record.time);
@@ -231,12 +252,16 @@ pub fn print_csv_header<W: Write>(alloc: Global, out: &mut W) -> io::Result<()>
         b"value",
         b"status",
     ];
-    let row = row_text(alloc, &fields)?;
-    out.write_all(&row)
+    let text = row_text(alloc, &ByteRecord::from_fields(alloc, &fields)?)?;
+    out.write_all(&text)
 }
 
 /// Prints an ask as a row. An Err is the writer's, or out of memory.
-pub fn print_csv_row<W: Write>(alloc: Global, record: &AskRecord<'_>, out: &mut W) -> io::Result<()>
+pub fn print_csv_row<W: Write>(
+    alloc: Global,
+    record: &AskRecord<'_, '_, '_>,
+    out: &mut W,
+) -> io::Result<()>
     ensures { OnOk result (AppendsText (W.contents out.old) (W.contents out.new) (IsRow (record_view record.now))) }
 {
     let Ok(row) = row_of(alloc, record) else {

@@ -82,7 +82,7 @@ pub(crate) struct AskedMembers {
     request: Json,
 }
 
-fn asked_members(alloc: Global, record: &AskRecord<'_>) -> Result<AskedMembers, AllocError>
+fn asked_members(alloc: Global, record: &AskRecord<'_, '_, '_>) -> Result<AskedMembers, AllocError>
     ensures { IfOk result (λ m. asked_members_view m ≡ asked_members (record_view record.now)) }
 {
     let reference = property_asked(record.request);
@@ -124,7 +124,7 @@ pub(crate) struct EndMembers {
 
 fn end_members(
     alloc: Global,
-    record: &AskRecord<'_>,
+    record: &AskRecord<'_, '_, '_>,
     time: &Option<TimeText>,
 ) -> Result<EndMembers, AllocError>
     ensures { IfOk result (λ m. end_members_view m ≡ end_members (record_view record.now) (option_map (λ t. t.bytes) time.now)) }
@@ -178,7 +178,7 @@ fn ask_object(
     Ok(Json::Object(members))
 }
 
-fn object_of(alloc: Global, record: &AskRecord<'_>) -> Result<Json, NoMemory>
+fn object_of(alloc: Global, record: &AskRecord<'_, '_, '_>) -> Result<Json, NoMemory>
     ensures { IfOk result (λ v. IsObject (record_view record.now) (view v)) }
 {
     let time = time_text(record.time);
@@ -191,7 +191,7 @@ fn object_of(alloc: Global, record: &AskRecord<'_>) -> Result<Json, NoMemory>
 /// Prints an ask as one object of JSON on a line, whose members docs/COMMANDS.md ("JSON") lists. An Err is the writer's, or out of memory.
 pub fn print_ask_object<W: Write>(
     alloc: Global,
-    record: &AskRecord<'_>,
+    record: &AskRecord<'_, '_, '_>,
     out: &mut W,
 ) -> io::Result<()>
     ensures { OnOk result (AppendsText (W.contents out.old) (W.contents out.new) (IsLineOf (IsObject (record_view record.now)))) }

@@ -25,7 +25,7 @@ pub enum Outcome<'a> {
 
 /// An ask, and how it ended: what an object or a row says.
 #[derive(Clone, Copy)]
-pub struct AskRecord<'a> {
+pub struct AskRecord<'q, 'e, 'w> {
     /// When it ended, in milliseconds since 1970 began in UTC; None where the time of day cannot be read.
     pub time: Option<u64>,
     /// The number of the line that asks, counted from 1, if one does.
@@ -35,9 +35,9 @@ pub struct AskRecord<'a> {
     /// Whom it asks.
     pub peer: Peer,
     /// For what.
-    pub request: Request<'a>,
+    pub request: Request<'q>,
     /// How it ended.
-    pub outcome: Outcome<'a>,
+    pub outcome: Outcome<'e>,
     /// How it ended in words, as `bac ask --text` prints it, without the end of the line.
-    pub words: &'a [u8],
+    pub words: &'w [u8],
 }

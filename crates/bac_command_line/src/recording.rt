@@ -114,7 +114,7 @@ fn words_of(
 fn print_in<O: Write>(
     alloc: Global,
     form: RecordForm,
-    record: &AskRecord<'_>,
+    record: &AskRecord<'_, '_, '_>,
     out: &mut O,
 ) -> io::Result<()>
     ensures { OnOk result (AppendsText (O.contents out.old) (O.contents out.new) (IsRecordText form (record_view record.now))) }
