@@ -118,6 +118,7 @@ fn sole_cells(
     }
 }
 
+#[tactic(auto, using(crate::proofs::Told::values_told))]
 fn value_cells(alloc: Global, values: Data<'_>, words: &[u8]) -> Result<Cells, NoMemory>
     ensures { IfOk result (λ c. AreValueCells values.entry.octets.now words.now (cells_view c)) }
 {
@@ -230,6 +231,7 @@ fn row_with(
 }
 
 /// The row of an ask.
+#[tactic(auto, using(crate::proofs::Told::row_told))]
 fn row_of(alloc: Global, record: &AskRecord<'_, '_, '_>) -> Result<Vec<u8>, NoMemory>
     ensures { IfOk result (λ t. IsRow (record_view record.now) t.items) }
 {

@@ -178,6 +178,7 @@ fn ask_object(
     Ok(Json::Object(members))
 }
 
+#[tactic(auto, using(crate::proofs::Told::object_told))]
 fn object_of(alloc: Global, record: &AskRecord<'_, '_, '_>) -> Result<Json, NoMemory>
     ensures { IfOk result (λ v. IsObject (record_view record.now) (view v)) }
 {

@@ -1,19 +1,29 @@
 -- What was printed of an ask as a record.
-use Rattle.std.proofs.Common.{◌≡◌, ◌-◌, ◌++◌, [], ℕ, Bool, Some, List, length, take, ap, sym, ◌∙◌, arith, length-append, subst}
+use Rattle.std.proofs.Common.{◌≡◌, ◌-◌, ◌++◌, [], ℕ, Bool, Option, Some, None, List, length, take, ap, sym, ◌∙◌, arith, length-append, subst}
+use Rattle.std.proofs.KnownBytes.{Appends-kept}
 use Rattle.std.proofs.Math.Seq.{take-append_seam}
+use Rattle.std.specs.Io.KnownBytes.{Keeps}
+use Rattle.bac_ask_report.specs.Records.{AskRecord, Outcome}
 use Rattle.bac_commands.specs.AskEnds.{PrintsWords}
 use Rattle.bac_commands.specs.Words.{AreEndWords}
+use Rattle.bac_driver.specs.Asking.{Question}
+use Rattle.bac_driver.specs.Runs.{Timed}
 use Rattle.bac_driver.specs.declared.question.AskEnd.{AskEnd}
 use Rattle.bac_service.specs.Values.{Request}
-use Rattle.bac_text.specs.Texts.{line_end}
-use Rattle.bac_command_line.specs.Recording.{AreWordsOf, without_end}
+use Rattle.bac_text.specs.Texts.{AppendsText, line_end}
+use Rattle.bac_command_line.specs.Clients.{AsksFrom}
+use Rattle.bac_command_line.specs.Online.{AsksRecorded}
+use Rattle.bac_command_line.specs.Recording.{AreWordsOf, IsRecordText, PrintsRecord, outcome_of, without_end}
+use Rattle.bac_command_line.specs.declared.asking.Asking.{Asking}
+use Rattle.bac_command_line.specs.declared.recording.RecordForm.{RecordForm}
+
+-- ---- the line of words, without its end
 
 front_of : (words : List ℕ) → take (length (words ++ line_end) - 1) (words ++ line_end) ≡ words
 front_of words =
     let len : length (words ++ line_end) - 1 ≡ length words = omega (arith, length-append words line_end) in
     ap (λ (n : ℕ). take n (words ++ line_end)) len ∙ take-append_seam words line_end
 
--- the line of words, without its end
 pub words_told : (strict : Bool) (request : Request) (end : AskEnd) (before line words : List ℕ) (succeeded : Bool) → before ≡ []
     → PrintsWords strict request end succeeded (Some before) (Some line) → words ≡ without_end line → AreWordsOf strict request end words succeeded
 words_told strict request end before line words succeeded none told is =
@@ -23,3 +33,32 @@ words_told strict request end before line words succeeded none told is =
       are = subst (λ (w : List ℕ). AreEndWords request end w) (sym front) told.are;
       is = told.is;
     }
+
+-- ---- the record
+
+pub record_printed : (form : RecordForm) (strict : Bool) (line time round : Option ℕ) (q : Question) (end : AskEnd) (succeeded : Bool) (words : List ℕ)
+    (request : Request) (how : Outcome) (a b c : Option (List ℕ)) → AreWordsOf strict q.request end words succeeded → request ≡ q.request
+    → how ≡ outcome_of end
+    → AppendsText a b (IsRecordText form (record { time = time; line = line; round = round; peer = q.peer; request = request; outcome = how; words = words }))
+    → Keeps b c → PrintsRecord form strict line q end succeeded a c
+record_printed form strict line time round q end succeeded words request how a b c told request_is how_is p keeps =
+    let of : Request → Outcome → AskRecord =
+    λ r o. record { time = time; line = line; round = round; peer = q.peer; request = r; outcome = o; words = words } in
+    record {
+      time = time;
+      round = round;
+      words = words;
+      are = told.are;
+      text = p.0;
+      text_of =
+          subst (λ (o : Outcome). IsRecordText form (of q.request o) p.0) how_is
+          (subst (λ (r : Request). IsRecordText form (of r how) p.0) request_is p.1.0);
+      printed = Appends-kept a b c p.0 p.1.1 keeps;
+      is = told.is;
+    }
+
+-- that of the one ask of a command line
+pub one_recorded : (form : RecordForm) (asking : Asking) (q : Question) (end : AskEnd) (succeeded : Bool) (before after : Timed) (old new : Option (List ℕ))
+    → AsksFrom asking q end before after → PrintsRecord form asking.output_format.strict None q end succeeded old new
+    → AsksRecorded form asking q succeeded before after old new
+one_recorded form asking q end succeeded before after old new asks told = record { start = asks.start; end = end; ends = asks.ends; told = told }

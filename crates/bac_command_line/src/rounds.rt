@@ -53,6 +53,7 @@ fn ask_lines<M: Machine, O: Write, E: Write>(
 }
 
 /// A node asks from the moment of the clock on; how that ended is printed as a record. Answers whether it succeeded.
+#[tactic(auto, using(crate::proofs::Recorded::one_recorded))]
 fn ask_recorded<M: Machine, O: Write, E: Write>(
     asking: &Asking,
     form: RecordForm,
