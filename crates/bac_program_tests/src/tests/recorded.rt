@@ -10,6 +10,22 @@ const WRITTEN_0: Bench = Bench {
     clock: Some(STEADY),
 };
 
+/// Who is asked has a text with a comma, a quote and the end of a line in it, for invoke ID 0.
+const TEXT_0: Bench = Bench {
+    behind: Behind::Answer(
+        b"\x81\x0A\x00\x1A\x01\x00\x30\x00\x0C\x0C\x00\x00\x00\x05\x19\x55\x3E\x75\x06\x00a,\"b\n\x3F",
+    ),
+    clock: Some(STEADY),
+};
+
+/// Who is asked has two values.
+const VALUES_0: Bench = Bench {
+    behind: Behind::Answer(
+        b"\x81\x0A\x00\x16\x01\x00\x30\x00\x0C\x0C\x00\x00\x00\x05\x19\x55\x3E\x21\x01\x21\x02\x3F",
+    ),
+    clock: Some(STEADY),
+};
+
 /// Requests of each form, and one for an object that is not there.
 const REQUESTS: &str = "\
 read analog-input:5 present-value
@@ -19,9 +35,19 @@ write 2:1 85 real:20.5
 append 10:1 AABBCC
 put 10:1 0 4D
 get 10:1 0 10
-read device:7 object-list[0]
-read 8:4194303 object-name
-read 8:4194303 object-list
+read device:1 object-name
+";
+
+/// Their rows.
+const REQUEST_ROWS: &str = "\
+time,peer,object,property,kind,value,status
+2026-11-27T07:10:00.000Z,127.0.0.1:47808,analog-input:5,present-value,real,72.3,answered
+2026-11-27T07:10:00.000Z,127.0.0.1:47808,analog-input:9,present-value,,,error object unknown-object (1:31)
+2026-11-27T07:10:00.000Z,127.0.0.1:47808,analog-value:1,present-value,,,answered
+2026-11-27T07:10:00.000Z,127.0.0.1:47808,file:1,,,position 2,answered
+2026-11-27T07:10:00.000Z,127.0.0.1:47808,file:1,,,position 0,answered
+2026-11-27T07:10:00.000Z,127.0.0.1:47808,file:1,,,file 1 0 4F4B,answered
+2026-11-27T07:10:00.000Z,127.0.0.1:47808,device:1,object-name,text,house,answered
 ";
 
 const OBJECTS: &[RecordRow] = &[
@@ -55,9 +81,16 @@ const OBJECTS: &[RecordRow] = &[
     ),
     (
         "",
-        NOBODY,
-        "ask --port 47808 --json --timeout 1 --to 127.0.0.1 write 2:1 85[3] null",
-        ("", "", 2),
+        VALUES_0,
+        "ask --port 47808 --json read 0:5 85[2]",
+        (
+            "{\"class\":null,\"code\":null,\"end\":null,\"index\":2,\"line\":null,\"object\":\"analog-input:5\",\"octets\":null,\
+             \"peer\":\"127.0.0.1:47808\",\"position\":null,\"property\":\"present-value\",\"reason\":null,\"request\":\"read\",\"round\":null,\
+             \"status\":\"answered\",\"text\":\"answered for analog-input:5 present-value, not asked: unsigned 1, unsigned 2\",\
+             \"time\":\"2026-11-27T07:10:00.000Z\",\"values\":null}\n",
+            "",
+            0,
+        ),
     ),
 ];
 
@@ -77,13 +110,47 @@ const ROWS: &[RecordRow] = &[
         REQUESTS,
         HOUSES,
         "ask --port 47808 --csv --lines capture",
-        ("", "", 0),
+        (REQUEST_ROWS, "", 0),
     ),
     (
         REQUESTS,
         HOUSES,
         "ask --port 47808 --csv --window 4 --lines capture",
-        ("", "", 0),
+        (REQUEST_ROWS, "", 0),
+    ),
+    (
+        "",
+        TEXT_0,
+        "ask --port 47808 --csv read 0:5 85",
+        (
+            "time,peer,object,property,kind,value,status\n\
+             2026-11-27T07:10:00.000Z,127.0.0.1:47808,analog-input:5,present-value,text,\"a,\"\"b\n\",answered\n",
+            "",
+            0,
+        ),
+    ),
+    (
+        "",
+        VALUES_0,
+        "ask --port 47808 --csv read 0:5 85",
+        (
+            "time,peer,object,property,kind,value,status\n\
+             2026-11-27T07:10:00.000Z,127.0.0.1:47808,analog-input:5,present-value,,\"unsigned 1, unsigned 2\",answered\n",
+            "",
+            0,
+        ),
+    ),
+    (
+        "",
+        VALUES_0,
+        "ask --port 47808 --csv --fail read 0:5 77",
+        (
+            "time,peer,object,property,kind,value,status\n\
+             2026-11-27T07:10:00.000Z,127.0.0.1:47808,analog-input:5,object-name,,\
+             \"for analog-input:5 present-value, not asked: unsigned 1, unsigned 2\",answered\n",
+            "",
+            1,
+        ),
     ),
     (
         "read 0:5 85\n",
