@@ -1,5 +1,5 @@
 -- Rows of CSV: fields with commas between them; one with a comma, a quote or the end of a line in it stands in quotes, each quote in it twice (RFC 4180).
-use Rattle.std.specs.Prelude.{◌≡◌, ℕ, Bool, List, [], ◌∷◌, ◌++◌, codes, drop, Option, Some, None, unwrap_or}
+use Rattle.std.specs.Prelude.{◌≡◌, ℕ, Bool, List, [], ◌∷◌, codes, drop, Option, Some, None, unwrap_or}
 use Rattle.csv.specs.Writing.{default_writer, row_text}
 use Rattle.serde_json.specs.Data.{Data, Items, no_items, item, null, boolean, number, string, array, object}
 use Rattle.serde_json.specs.Find.{get}
@@ -92,14 +92,10 @@ header = codes "time" ∷ codes "peer" ∷ codes "object" ∷ codes "property" �
 abbrev pub header_text : List ℕ
 header_text = row_text default_writer header
 
-abbrev pub front_of : AskRecord → (time : List ℕ) → List (List ℕ)
-front_of r time = time ∷ peer_text r.peer ∷ object_text (object_asked r.request) ∷ property_column (property_asked r.request) ∷ []
-
-abbrev pub end_of : Cells → (status : List ℕ) → List (List ℕ)
-end_of c status = c.kind ∷ c.value ∷ status ∷ []
-
 abbrev pub fields_of : AskRecord → (time : List ℕ) → Cells → List (List ℕ)
-fields_of r time c = front_of r time ++ end_of c (status_cell (answer_of r.request r.outcome) r.words)
+fields_of r time c =
+    time ∷ peer_text r.peer ∷ object_text (object_asked r.request) ∷ property_column (property_asked r.request) ∷ c.kind ∷ c.value
+    ∷ status_cell (answer_of r.request r.outcome) r.words ∷ []
 
 -- the row of an ask
 pub record IsRow (r : AskRecord) (text : List ℕ) : Type 0 where

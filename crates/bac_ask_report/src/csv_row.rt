@@ -1,11 +1,11 @@
 //! Rows of CSV.
-ghost use Rattle.std.specs.Prelude.{◌≡◌, ◌++◌, [], unwrap_or, IfOk, OnOk};
+ghost use Rattle.std.specs.Prelude.{◌≡◌, [], unwrap_or, IfOk, OnOk};
 ghost use Rattle.std.specs.Option.{option_map};
 ghost use Rattle.std.specs.Io.KnownBytes.{Appends};
 ghost use Rattle.bac_ask_report.specs.Answers.{answer_view};
 ghost use Rattle.bac_ask_report.specs.Cells.{cells_view};
 ghost use Rattle.bac_ask_report.specs.Records.{record_view};
-ghost use Rattle.bac_ask_report.specs.Rows.{AreCells, AreSoleCells, AreValueCells, IsCell, IsRow, behind_answered, both, end_of, fields_of, front_of, header_text, no_cells};
+ghost use Rattle.bac_ask_report.specs.Rows.{AreCells, AreSoleCells, AreValueCells, IsCell, IsRow, behind_answered, both, fields_of, header_text, no_cells};
 ghost use Rattle.bac_ask_report.specs.Rows.{sole_value, status_cell, word_cells};
 ghost use Rattle.bac_json_report.specs.Lines.{IsJsonText};
 ghost use Rattle.bac_text.specs.Texts.{AppendsText};
@@ -186,34 +186,28 @@ fn time_cell(time: &Option<TimeText>) -> &[u8]
     }
 }
 
-/// The first four columns.
-fn front_of(
+/// The columns of an ask.
+fn fields_of(
     alloc: Global,
     record: &AskRecord<'_, '_, '_>,
     time: &[u8],
+    cells: &Cells,
 ) -> Result<ByteRecord, AllocError>
-    ensures fields { IfOk result (λ r. csv.fields_of r ≡ front_of (record_view record.now) time.now) }
-    ensures whole { IfOk result (λ r. csv.partial_of r ≡ []) }
+    ensures { IfOk result (λ r. csv.fields_of r ≡ fields_of (record_view record.now) time.now (cells_view cells.now)) }
 {
     let peer = peer_text(alloc, record.peer)?;
     let object = object_text(alloc, object_asked(record.request))?;
     let property = property_column(alloc, property_asked(record.request))?;
+    let answer = answer_of(record.request, record.outcome);
     let mut row = ByteRecord::new(alloc);
     row.push_field(time)?;
     row.push_field(peer.as_bytes())?;
     row.push_field(&object)?;
     row.push_field(&property)?;
-    Ok(row)
-}
-
-/// The others behind them.
-fn push_end(row: &mut ByteRecord, cells: &Cells, status: &[u8]) -> Result<(), AllocError>
-    requires { csv.partial_of row.old ≡ [] }
-    ensures { OnOk result (csv.fields_of row.new ≡ csv.fields_of row.old ++ end_of (cells_view cells.now) status.now) }
-{
     row.push_field(&cells.kind)?;
     row.push_field(&cells.value)?;
-    row.push_field(status)
+    row.push_field(status_cell(answer, record.words))?;
+    Ok(row)
 }
 
 fn row_with(
@@ -224,9 +218,7 @@ fn row_with(
 ) -> Result<Vec<u8>, AllocError>
     ensures { IfOk result (λ t. t.items ≡ row_text default_writer (fields_of (record_view record.now) time.now (cells_view cells.now))) }
 {
-    let answer = answer_of(record.request, record.outcome);
-    let mut row = front_of(alloc, record, time)?;
-    push_end(&mut row, cells, status_cell(answer, record.words))?;
+    let row = fields_of(alloc, record, time, cells)?;
     row_text(alloc, &row)
 }
 
