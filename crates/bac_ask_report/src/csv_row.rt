@@ -9,7 +9,7 @@ ghost use Rattle.bac_ask_report.specs.Rows.{AreCells, AreSoleCells, AreValueCell
 ghost use Rattle.bac_ask_report.specs.Rows.{sole_value, status_cell, word_cells};
 ghost use Rattle.bac_json_report.specs.Lines.{IsJsonText};
 ghost use Rattle.bac_text.specs.Texts.{AppendsText};
-ghost use Rattle.csv.specs.Records as csv;
+ghost use Rattle.csv.specs.Records as records;
 ghost use Rattle.csv.specs.Writing.{default_writer, row_text};
 ghost use Rattle.serde_json.specs.View.{items_view, view};
 
@@ -164,7 +164,7 @@ fn status_cell<'a>(answer: Answer<'_>, words: &'a [u8]) -> &'a [u8]
 
 /// The fields of a row with commas between them and the end of a line; those in which there is a comma, a quote or the end of a line stand in quotes.
 fn row_text(alloc: Global, row: &ByteRecord) -> Result<Vec<u8>, AllocError>
-    ensures { IfOk result (λ t. t.items ≡ row_text default_writer (csv.fields_of row.now)) }
+    ensures { IfOk result (λ t. t.items ≡ row_text default_writer (records.fields_of row.now)) }
 {
     let mut writer = Writer::from_writer(Vec::new(alloc));
     if writer.write_byte_record(row).is_err() {
@@ -189,16 +189,16 @@ fn time_cell(time: &Option<TimeText>) -> &[u8]
 /// The columns of an ask.
 fn fields_of(
     alloc: Global,
-    record: &AskRecord<'_, '_, '_>,
+    ask: &AskRecord<'_, '_, '_>,
     time: &[u8],
     cells: &Cells,
 ) -> Result<ByteRecord, AllocError>
-    ensures { IfOk result (λ r. csv.fields_of r ≡ fields_of (record_view record.now) time.now (cells_view cells.now)) }
+    ensures { IfOk result (λ r. records.fields_of r ≡ fields_of (record_view ask.now) time.now (cells_view cells.now)) }
 {
-    let peer = peer_text(alloc, record.peer)?;
-    let object = object_text(alloc, object_asked(record.request))?;
-    let property = property_column(alloc, property_asked(record.request))?;
-    let answer = answer_of(record.request, record.outcome);
+    let peer = peer_text(alloc, ask.peer)?;
+    let object = object_text(alloc, object_asked(ask.request))?;
+    let property = property_column(alloc, property_asked(ask.request))?;
+    let answer = answer_of(ask.request, ask.outcome);
     let mut row = ByteRecord::new(alloc);
     row.push_field(time)?;
     row.push_field(peer.as_bytes())?;
@@ -206,31 +206,31 @@ fn fields_of(
     row.push_field(&property)?;
     row.push_field(&cells.kind)?;
     row.push_field(&cells.value)?;
-    row.push_field(status_cell(answer, record.words))?;
+    row.push_field(status_cell(answer, ask.words))?;
     Ok(row)
 }
 
 fn row_with(
     alloc: Global,
-    record: &AskRecord<'_, '_, '_>,
+    ask: &AskRecord<'_, '_, '_>,
     time: &[u8],
     cells: &Cells,
 ) -> Result<Vec<u8>, AllocError>
-    ensures { IfOk result (λ t. t.items ≡ row_text default_writer (fields_of (record_view record.now) time.now (cells_view cells.now))) }
+    ensures { IfOk result (λ t. t.items ≡ row_text default_writer (fields_of (record_view ask.now) time.now (cells_view cells.now))) }
 {
-    let row = fields_of(alloc, record, time, cells)?;
+    let row = fields_of(alloc, ask, time, cells)?;
     row_text(alloc, &row)
 }
 
 /// The row of an ask.
 #[tactic(auto, using(crate::proofs::Told::row_told))]
-fn row_of(alloc: Global, record: &AskRecord<'_, '_, '_>) -> Result<Vec<u8>, NoMemory>
-    ensures { IfOk result (λ t. IsRow (record_view record.now) t.items) }
+fn row_of(alloc: Global, ask: &AskRecord<'_, '_, '_>) -> Result<Vec<u8>, NoMemory>
+    ensures { IfOk result (λ t. IsRow (record_view ask.now) t.items) }
 {
-    let time = time_text(record.time);
-    let answer = answer_of(record.request, record.outcome);
-    let cells = cells_of(alloc, answer, record.words)?;
-    Ok(row_with(alloc, record, time_cell(&time), &cells)?)
+    let time = time_text(ask.time);
+    let answer = answer_of(ask.request, ask.outcome);
+    let cells = cells_of(alloc, answer, ask.words)?;
+    Ok(row_with(alloc, ask, time_cell(&time), &cells)?)
 }
 
 /// Prints the names of the columns. An Err is the writer's, or out of memory.
@@ -253,12 +253,12 @@ pub fn print_csv_header<W: Write>(alloc: Global, out: &mut W) -> io::Result<()>
 /// Prints an ask as a row. An Err is the writer's, or out of memory.
 pub fn print_csv_row<W: Write>(
     alloc: Global,
-    record: &AskRecord<'_, '_, '_>,
+    ask: &AskRecord<'_, '_, '_>,
     out: &mut W,
 ) -> io::Result<()>
-    ensures { OnOk result (AppendsText (W.contents out.old) (W.contents out.new) (IsRow (record_view record.now))) }
+    ensures { OnOk result (AppendsText (W.contents out.old) (W.contents out.new) (IsRow (record_view ask.now))) }
 {
-    let Ok(row) = row_of(alloc, record) else {
+    let Ok(row) = row_of(alloc, ask) else {
         return Err(io::Error::from(io::ErrorKind::OutOfMemory));
     };
     out.write_all(&row)

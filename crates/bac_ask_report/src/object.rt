@@ -82,17 +82,17 @@ pub(crate) struct AskedMembers {
     request: Json,
 }
 
-fn asked_members(alloc: Global, record: &AskRecord<'_, '_, '_>) -> Result<AskedMembers, AllocError>
-    ensures { IfOk result (λ m. asked_members_view m ≡ asked_members (record_view record.now)) }
+fn asked_members(alloc: Global, ask: &AskRecord<'_, '_, '_>) -> Result<AskedMembers, AllocError>
+    ensures { IfOk result (λ m. asked_members_view m ≡ asked_members (record_view ask.now)) }
 {
-    let reference = property_asked(record.request);
-    let named = object_json(alloc, object_asked(record.request))?;
-    let peer = peer_text(alloc, record.peer)?;
+    let reference = property_asked(ask.request);
+    let named = object_json(alloc, object_asked(ask.request))?;
+    let peer = peer_text(alloc, ask.peer)?;
     let property = property_or_null(alloc, reference)?;
-    let request = Json::try_from_str(alloc, verb(record.request))?;
+    let request = Json::try_from_str(alloc, verb(ask.request))?;
     Ok(AskedMembers {
         index: index_or_null(reference),
-        line: number_or_null(record.line),
+        line: number_or_null(ask.line),
         named,
         peer: Json::String(peer),
         property,
@@ -124,16 +124,16 @@ pub(crate) struct EndMembers {
 
 fn end_members(
     alloc: Global,
-    record: &AskRecord<'_, '_, '_>,
+    ask: &AskRecord<'_, '_, '_>,
     time: &Option<TimeText>,
 ) -> Result<EndMembers, AllocError>
-    ensures { IfOk result (λ m. end_members_view m ≡ end_members (record_view record.now) (option_map (λ t. t.bytes) time.now)) }
+    ensures { IfOk result (λ m. end_members_view m ≡ end_members (record_view ask.now) (option_map (λ t. t.bytes) time.now)) }
 {
-    let status = Json::try_from_str(alloc, status_word(record.outcome))?;
-    let text = text_json(alloc, record.words)?;
+    let status = Json::try_from_str(alloc, status_word(ask.outcome))?;
+    let text = text_json(alloc, ask.words)?;
     let time = time_or_null(alloc, time)?;
     Ok(EndMembers {
-        round: number_or_null(record.round),
+        round: number_or_null(ask.round),
         status,
         text,
         time,
@@ -179,25 +179,25 @@ fn ask_object(
 }
 
 #[tactic(auto, using(crate::proofs::Told::object_told))]
-fn object_of(alloc: Global, record: &AskRecord<'_, '_, '_>) -> Result<Json, NoMemory>
-    ensures { IfOk result (λ v. IsObject (record_view record.now) (view v)) }
+fn object_of(alloc: Global, ask: &AskRecord<'_, '_, '_>) -> Result<Json, NoMemory>
+    ensures { IfOk result (λ v. IsObject (record_view ask.now) (view v)) }
 {
-    let time = time_text(record.time);
-    let asked = asked_members(alloc, record)?;
-    let end = end_members(alloc, record, &time)?;
-    let answer = members_of(alloc, answer_of(record.request, record.outcome))?;
+    let time = time_text(ask.time);
+    let asked = asked_members(alloc, ask)?;
+    let end = end_members(alloc, ask, &time)?;
+    let answer = members_of(alloc, answer_of(ask.request, ask.outcome))?;
     Ok(ask_object(alloc, asked, end, answer)?)
 }
 
 /// Prints an ask as one object of JSON on a line, whose members docs/COMMANDS.md ("JSON") lists. An Err is the writer's, or out of memory.
 pub fn print_ask_object<W: Write>(
     alloc: Global,
-    record: &AskRecord<'_, '_, '_>,
+    ask: &AskRecord<'_, '_, '_>,
     out: &mut W,
 ) -> io::Result<()>
-    ensures { OnOk result (AppendsText (W.contents out.old) (W.contents out.new) (IsLineOf (IsObject (record_view record.now)))) }
+    ensures { OnOk result (AppendsText (W.contents out.old) (W.contents out.new) (IsLineOf (IsObject (record_view ask.now)))) }
 {
-    let Ok(object) = object_of(alloc, record) else {
+    let Ok(object) = object_of(alloc, ask) else {
         return Err(io::Error::from(io::ErrorKind::OutOfMemory));
     };
     print_json(alloc, &object, out)

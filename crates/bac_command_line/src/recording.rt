@@ -114,14 +114,14 @@ fn words_of(
 fn print_in<O: Write>(
     alloc: Global,
     form: RecordForm,
-    record: &AskRecord<'_, '_, '_>,
+    ask: &AskRecord<'_, '_, '_>,
     out: &mut O,
 ) -> io::Result<()>
-    ensures { OnOk result (AppendsText (O.contents out.old) (O.contents out.new) (IsRecordText form (record_view record.now))) }
+    ensures { OnOk result (AppendsText (O.contents out.old) (O.contents out.new) (IsRecordText form (record_view ask.now))) }
 {
     match form {
-        RecordForm::Json => print_ask_object(alloc, record, out),
-        RecordForm::Csv => print_csv_row(alloc, record, out),
+        RecordForm::Json => print_ask_object(alloc, ask, out),
+        RecordForm::Csv => print_csv_row(alloc, ask, out),
     }
 }
 
@@ -140,7 +140,7 @@ pub(crate) fn print_record<O: Write>(
     let alloc = printer.alloc;
     let strict = printer.asking.output_format.strict;
     let told = words_of(alloc, strict, &question.request, end)?;
-    let record = AskRecord {
+    let ask = AskRecord {
         time: printer.stamp.time,
         line,
         round: printer.stamp.round,
@@ -149,7 +149,7 @@ pub(crate) fn print_record<O: Write>(
         outcome: outcome_of(end),
         words: &told.words,
     };
-    print_in(alloc, form, &record, out)?;
+    print_in(alloc, form, &ask, out)?;
     out.flush()?;
     Ok(told.succeeded)
 }
@@ -200,7 +200,7 @@ pub(crate) fn print_unasked_record<O: Write>(
     line: &LineQuestion,
     out: &mut O,
 ) -> io::Result<()> {
-    let record = AskRecord {
+    let ask = AskRecord {
         time: printer.stamp.time,
         line: Some(line.number),
         round: printer.stamp.round,
@@ -209,7 +209,7 @@ pub(crate) fn print_unasked_record<O: Write>(
         outcome: Outcome::NoLink,
         words: b"link fault",
     };
-    print_in(printer.alloc, form, &record, out)?;
+    print_in(printer.alloc, form, &ask, out)?;
     out.flush()
 }
 
