@@ -5,7 +5,7 @@ ghost use Rattle.std.specs.Io.KnownBytes.{Appends};
 ghost use Rattle.bac_ask_report.specs.Answers.{answer_view};
 ghost use Rattle.bac_ask_report.specs.Cells.{cells_view};
 ghost use Rattle.bac_ask_report.specs.Records.{record_view};
-ghost use Rattle.bac_ask_report.specs.Rows.{AreCells, AreSoleCells, AreValueCells, IsCell, IsRow, behind_answered, both, fields_of, header_text, no_cells};
+ghost use Rattle.bac_ask_report.specs.Rows.{AreCells, AreSoleCells, AreValueCells, IsCell, IsRow, behind_answered, both, fields_of, header, header_text, no_cells};
 ghost use Rattle.bac_ask_report.specs.Rows.{sole_value, status_cell, word_cells};
 ghost use Rattle.bac_json_report.specs.Lines.{IsJsonText};
 ghost use Rattle.bac_text.specs.Texts.{AppendsText};
@@ -233,9 +233,9 @@ fn row_of(alloc: Global, ask: &AskRecord<'_, '_, '_>) -> Result<Vec<u8>, NoMemor
     Ok(row_with(alloc, ask, time_cell(&time), &cells)?)
 }
 
-/// Prints the names of the columns. An Err is the writer's, or out of memory.
-pub fn print_csv_header<W: Write>(alloc: Global, out: &mut W) -> io::Result<()>
-    ensures { OnOk result (Appends (W.contents out.old) (W.contents out.new) header_text) }
+/// The names of the columns.
+fn header(alloc: Global) -> Result<ByteRecord, AllocError>
+    ensures { IfOk result (λ r. records.fields_of r ≡ header) }
 {
     let fields: [&[u8]; 7] = [
         b"time",
@@ -246,7 +246,21 @@ pub fn print_csv_header<W: Write>(alloc: Global, out: &mut W) -> io::Result<()>
         b"value",
         b"status",
     ];
-    let text = row_text(alloc, &ByteRecord::from_fields(alloc, &fields)?)?;
+    ByteRecord::from_fields(alloc, &fields)
+}
+
+fn header_text(alloc: Global) -> Result<Vec<u8>, AllocError>
+    ensures { IfOk result (λ t. t.items ≡ header_text) }
+{
+    let row = header(alloc)?;
+    row_text(alloc, &row)
+}
+
+/// Prints the names of the columns. An Err is the writer's, or out of memory.
+pub fn print_csv_header<W: Write>(alloc: Global, out: &mut W) -> io::Result<()>
+    ensures { OnOk result (Appends (W.contents out.old) (W.contents out.new) header_text) }
+{
+    let text = header_text(alloc)?;
     out.write_all(&text)
 }
 

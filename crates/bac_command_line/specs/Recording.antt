@@ -2,8 +2,7 @@
 use Rattle.std.specs.Prelude.{◌≡◌, ℕ, ◌-◌, Bool, List, length, take, Option, Some, None}
 use Rattle.std.specs.Io.KnownBytes.{Appends}
 use Rattle.bac_ask_report.specs.Objects.{IsObject}
-use Rattle.bac_ask_report.specs.Records.{AskRecord, Outcome}
-use Rattle.bac_ask_report.specs.Records.Outcome as outcome
+use Rattle.bac_ask_report.specs.Records.{AskRecord, Outcome, Outcome as outcome}
 use Rattle.bac_ask_report.specs.Rows.{IsRow, header_text}
 use Rattle.bac_commands.specs.AskEnds.{PrintsEnd}
 use Rattle.bac_commands.specs.Reports.{is_success}
