@@ -6,8 +6,11 @@ ghost use Rattle.bac_ask_report.specs.Objects.{IsObject, ask_object, asked_membe
 ghost use Rattle.bac_ask_report.specs.Records.{record_view};
 ghost use Rattle.bac_json.specs.Forms.{optional_number, string_or_null};
 ghost use Rattle.bac_json_report.specs.Lines.{IsLineOf};
+ghost use Rattle.bac_npdu.specs.Views.{peer_view};
 ghost use Rattle.bac_service.specs.Views.{property_reference_view};
+ghost use Rattle.bac_text.specs.Peers.{peer_text};
 ghost use Rattle.bac_text.specs.Texts.{AppendsText};
+ghost use Rattle.serde_json.specs.Data.{string};
 ghost use Rattle.serde_json.specs.View.{members_view, view};
 
 use crate::answer::{answer_of, status_word};
@@ -17,6 +20,7 @@ use crate::record::AskRecord;
 use crate::time::{TimeText, time_text};
 use bac_json::{object_json, optional_json, property_json, text_json};
 use bac_json_report::print_json;
+use bac_npdu::Peer;
 use bac_service::PropertyReference;
 use bac_text::peer_text;
 use bac_value::NoMemory;
@@ -58,6 +62,14 @@ fn number_or_null(number: Option<u64>) -> Json
     }
 }
 
+/// A peer, as `192.168.1.5:47808/5:2A`.
+fn peer_json(alloc: Global, peer: Peer) -> Result<Json, AllocError>
+    ensures { IfOk result (λ v. view v ≡ string (peer_text (peer_view peer))) }
+{
+    let text = peer_text(alloc, peer)?;
+    Ok(Json::String(text))
+}
+
 /// A moment; Null where there is none.
 fn time_or_null(alloc: Global, time: &Option<TimeText>) -> Result<Json, AllocError>
     ensures { IfOk result (λ v. view v ≡ string_or_null (option_map (λ t. t.bytes) time.now)) }
@@ -87,14 +99,14 @@ fn asked_members(alloc: Global, ask: &AskRecord<'_, '_, '_>) -> Result<AskedMemb
 {
     let reference = property_asked(ask.request);
     let named = object_json(alloc, object_asked(ask.request))?;
-    let peer = peer_text(alloc, ask.peer)?;
+    let peer = peer_json(alloc, ask.peer)?;
     let property = property_or_null(alloc, reference)?;
     let request = Json::try_from_str(alloc, verb(ask.request))?;
     Ok(AskedMembers {
         index: index_or_null(reference),
         line: number_or_null(ask.line),
         named,
-        peer: Json::String(peer),
+        peer,
         property,
         request,
     })
