@@ -36,14 +36,15 @@ words_told strict request end before line words succeeded none told is =
 
 -- ---- the record
 
+abbrev pub told_of : (time line round : Option ℕ) → Question → Request → Outcome → (words : List ℕ) → AskRecord
+told_of time line round q request how words =
+    record { time = time; line = line; round = round; peer = q.peer; request = request; outcome = how; words = words }
+
 pub record_printed : (form : RecordForm) (strict : Bool) (line time round : Option ℕ) (q : Question) (end : AskEnd) (succeeded : Bool) (words : List ℕ)
-    (request : Request) (how : Outcome) (a b c : Option (List ℕ)) → AreWordsOf strict q.request end words succeeded → request ≡ q.request
-    → how ≡ outcome_of end
-    → AppendsText a b (IsRecordText form (record { time = time; line = line; round = round; peer = q.peer; request = request; outcome = how; words = words }))
-    → Keeps b c → PrintsRecord form strict line q end succeeded a c
-record_printed form strict line time round q end succeeded words request how a b c told request_is how_is p keeps =
-    let of : Request → Outcome → AskRecord =
-    λ r o. record { time = time; line = line; round = round; peer = q.peer; request = r; outcome = o; words = words } in
+    (request : Request) (how : Outcome) (shown : List ℕ) (a b c : Option (List ℕ)) → AreWordsOf strict q.request end words succeeded → request ≡ q.request
+    → how ≡ outcome_of end → shown ≡ words → AppendsText a b (IsRecordText form (told_of time line round q request how shown)) → Keeps b c
+    → PrintsRecord form strict line q end succeeded a c
+record_printed form strict line time round q end succeeded words request how shown a b c told request_is how_is shown_is p keeps =
     record {
       time = time;
       round = round;
@@ -51,8 +52,9 @@ record_printed form strict line time round q end succeeded words request how a b
       are = told.are;
       text = p.0;
       text_of =
-          subst (λ (o : Outcome). IsRecordText form (of q.request o) p.0) how_is
-          (subst (λ (r : Request). IsRecordText form (of r how) p.0) request_is p.1.0);
+          subst (λ (w : List ℕ). IsRecordText form (told_of time line round q q.request (outcome_of end) w) p.0) shown_is
+          (subst (λ (o : Outcome). IsRecordText form (told_of time line round q q.request o shown) p.0) how_is
+          (subst (λ (r : Request). IsRecordText form (told_of time line round q r how shown) p.0) request_is p.1.0));
       printed = Appends-kept a b c p.0 p.1.1 keeps;
       is = told.is;
     }
