@@ -1,5 +1,5 @@
 -- What came of an ask.
-use Rattle.std.specs.Prelude.{ℕ, ℤ, Bool, true, false, List, codes, if◌then◌else◌}
+use Rattle.std.specs.Prelude.{ℕ, ℤ, Bool, List, codes, if◌then◌else◌}
 use Rattle.bac_service.specs.Replies as plain
 use Rattle.bac_service.specs.Values.{Complex, Request}
 use Rattle.bac_service.specs.Values.Complex.{FileRead, StreamWritten, RecordsWritten, PropertyRead}
