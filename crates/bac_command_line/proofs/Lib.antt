@@ -9,6 +9,7 @@ pub mod KeptServed
 pub mod Opened
 pub mod InRounds
 pub mod Asked
+pub mod Recorded
 pub mod LastWords
 pub mod AskedOf
 pub mod Separated

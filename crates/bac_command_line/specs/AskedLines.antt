@@ -11,12 +11,13 @@ use Rattle.bac_driver.specs.Views.{question_view}
 use Rattle.bac_driver.specs.declared.question.AskEnd.{AskEnd}
 use Rattle.bac_value_text.specs.Splits.{split_by}
 use Rattle.bac_commands.specs.Questions.{IsQuestion}
-use Rattle.bac_commands.specs.AskEnds.{PrintsEnd}
 use Rattle.bac_command_line.specs.Clients.{AsksOn}
 use Rattle.bac_command_line.specs.Online.{Links}
+use Rattle.bac_command_line.specs.Recording.{PrintsAsk}
 use Rattle.bac_command_line.specs.Rounds.{DoesNothing, Doing, IsNext}
 use Rattle.bac_command_line.specs.declared.asking.Asking.{Asking}
 use Rattle.bac_command_line.specs.declared.question_lines.LineQuestion.{LineQuestion}
+use Rattle.bac_command_line.specs.declared.recording.RecordForm.{RecordForm}
 
 abbrev pub is_octet : (wanted octet : ℕ) → Bool
 is_octet wanted octet = octet == wanted
@@ -115,13 +116,18 @@ pub record AddsLine (default : Option PeerView) (number : ℕ) (line : List ℕ)
 abbrev pub number_text : (number : ℕ) → List ℕ
 number_text number = decimal number ++ codes ": "
 
+-- the number stands before what is printed of a line; in records it is a member, or is not printed
+abbrev pub PrintsNumber : Option RecordForm → (number : ℕ) → (old new : Option (List ℕ)) → Type 0
+PrintsNumber None number old new = Appends old new (number_text number)
+PrintsNumber (Some form) number old new = new ≡ old
+
 -- the request of a line was asked, and how that ended was printed behind the line's number
 pub record AsksLine (IsOn : Links) (asking : Asking) (line : LineQuestion) (succeeded : Bool) (before after : Timed) (old new : Option (List ℕ)) : Type 0 where
   pub between : Option (List ℕ)
-  pub number : Appends old between (number_text line.number)
+  pub number : PrintsNumber asking.records line.number old between
   pub how : AskEnd
   pub asks : AsksOn IsOn asking (question_view line.question) how before after
-  pub told : PrintsEnd asking.output_format (question_view line.question).request how succeeded between new
+  pub told : PrintsAsk asking.records asking.output_format (Some line.number) (question_view line.question) how succeeded between new
 
 -- the requests of lines were asked, one after the other
 abbrev pub AsksEach : Links → Asking → List LineQuestion → Doing

@@ -7,6 +7,8 @@ use Rattle.bac_commands.specs.declared.online.output_format.Style.{Style}
 use Rattle.bac_commands.specs.declared.online.output_format.Style.TheVariants as style
 use Rattle.bac_command_line.specs.declared.asking.Asking.{Asking}
 use Rattle.bac_command_line.specs.declared.asking.Rounds.{Rounds}
+use Rattle.bac_command_line.specs.declared.recording.RecordForm.{RecordForm}
+use Rattle.bac_command_line.specs.declared.recording.RecordForm.TheVariants as form
 
 -- the text behind a word, where it was given; of a flag `true` or `false`
 abbrev pub text_of : ArgMatches → (name : List ℕ) → Option (List ℕ)
@@ -38,6 +40,18 @@ pub record IsManner (given : ArgMatches) (m : OutputFormat) : Type 0 where
   pub style : IsStyle given m.style
   pub strict : IsFlag given (codes "fail") m.strict
 
+abbrev pub records_by : (json csv : Bool) → Option RecordForm
+records_by true csv = Some form.Json
+records_by false true = Some form.Csv
+records_by false false = None
+
+pub record AreRecordsOf (given : ArgMatches) (records : Option RecordForm) : Type 0 where
+  pub json : Bool
+  pub csv : Bool
+  pub json_is : IsFlag given (codes "json") json
+  pub csv_is : IsFlag given (codes "csv") csv
+  pub are : records ≡ records_by json csv
+
 abbrev pub rounds_by : (every times : Option ℕ) → Option Rounds
 rounds_by None times = None
 rounds_by (Some every) times = Some (record { every = every; times = times })
@@ -49,9 +63,10 @@ pub record AreRoundsOf (given : ArgMatches) (rounds : Option Rounds) : Type 0 wh
   pub times_is : IsNumber given (codes "times") times
   pub are : rounds ≡ rounds_by every times
 
--- how it is printed, how long it waits, and how often and how many at once it asks
+-- how it is printed, or as which records, how long it waits, and how often and how many at once it asks
 pub record IsGiven (given : ArgMatches) (asking : Asking) : Type 0 where
   pub output_format : IsManner given asking.output_format
+  pub records : AreRecordsOf given asking.records
   pub timeout : IsNumber given (codes "timeout") asking.timeout
   pub rounds : AreRoundsOf given asking.rounds
   pub window : IsNumber given (codes "window") asking.window

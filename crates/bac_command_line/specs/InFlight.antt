@@ -3,7 +3,6 @@ use Rattle.std.specs.Prelude.{◌≡◌, ◌⊎◌, ℕ, zero, suc, ◌+◌, ◌
 use Rattle.std.specs.Prelude.{count_by, map, nat_lt, position, slice_get, slice_set}
 use Rattle.std.specs.List.{remove}
 use Rattle.std.specs.Ordering.{eq_by_cmp, on}
-use Rattle.std.specs.Io.KnownBytes.{Appends}
 use Rattle.bac_npdu.specs.Peers.{peer_cmp}
 use Rattle.bac_npdu.specs.Views.{peer_view}
 use Rattle.bac_npdu.specs.declared.peer.Peer.{Peer}
@@ -20,13 +19,13 @@ use Rattle.bac_driver.specs.declared.wait_limit.WaitLimit.{WaitLimit}
 use Rattle.bac_driver.specs.declared.question.AskEnd.{AskEnd}
 use Rattle.bac_driver.specs.declared.question.AskEnd.TheVariants as end
 use Rattle.bac_driver.specs.declared.turn.Turn.{Turn}
-use Rattle.bac_commands.specs.AskEnds.{PrintsEnd}
 use Rattle.bac_commands.specs.Spent.{is_spent}
 use Rattle.bac_commands.specs.declared.online.output_format.OutputFormat.{OutputFormat}
-use Rattle.bac_command_line.specs.AskedLines.{AsksEach, number_text}
+use Rattle.bac_command_line.specs.AskedLines.{AsksEach, PrintsNumber}
 use Rattle.bac_command_line.specs.Asking.{patience_for}
 use Rattle.bac_command_line.specs.Clients.{IsRenewed}
 use Rattle.bac_command_line.specs.Online.{Links}
+use Rattle.bac_command_line.specs.Recording.{PrintsAsk}
 use Rattle.bac_command_line.specs.Rounds.{DoesNothing, Doing}
 use Rattle.bac_command_line.specs.declared.asking.Asking.{Asking}
 use Rattle.bac_command_line.specs.declared.flights.Begun.{Begun}
@@ -35,6 +34,7 @@ use Rattle.bac_command_line.specs.declared.flights.Flight.{Flight}
 use Rattle.bac_command_line.specs.declared.flights.Flights as code
 use Rattle.bac_command_line.specs.declared.flights.Waiting.{Waiting}
 use Rattle.bac_command_line.specs.declared.question_lines.LineQuestion.{LineQuestion}
+use Rattle.bac_command_line.specs.declared.recording.RecordForm.{RecordForm}
 use Rattle.bac_command_line.specs.declared.window.Plan as code_plan
 
 -- ---- the asks of the lines of a list
@@ -274,10 +274,11 @@ pub record EndsLine (IsOn : Links) (plan : Plan) (place : ℕ) (how : AskEnd) (o
 -- ---- how it is printed
 
 -- how the ask of a line ended was printed behind the line's number; whether it succeeded
-pub record PrintsLine (output_format : OutputFormat) (line : LineQuestion) (end : AskEnd) (succeeded : Bool) (old new : Option (List ℕ)) : Type 0 where
+pub record PrintsLine (records : Option RecordForm) (output_format : OutputFormat) (line : LineQuestion) (end : AskEnd) (succeeded : Bool) (old new : Option (List ℕ)) :
+    Type 0 where
   pub between : Option (List ℕ)
-  pub numbered : Appends old between (number_text line.number)
-  pub told : PrintsEnd output_format (question_view line.question).request end succeeded between new
+  pub numbered : PrintsNumber records line.number old between
+  pub told : PrintsAsk records output_format (Some line.number) (question_view line.question) end succeeded between new
 
 -- ---- all lines
 
@@ -287,7 +288,7 @@ pub record TellsLine (IsOn : Links) (plan : Plan) (place : ℕ) (succeeded : Boo
   pub line_is : slice_get plan.lines place ≡ Some line
   pub how : AskEnd
   pub ends : EndsLine IsOn plan place how before after
-  pub tells : PrintsLine plan.asking.output_format line how succeeded old new
+  pub tells : PrintsLine plan.asking.records plan.asking.output_format line how succeeded old new
 
 -- what is left to be asked and printed, and what happens until then
 abbrev pub Printing : Type 1

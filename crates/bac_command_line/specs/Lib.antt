@@ -7,6 +7,7 @@ pub mod Given
 pub mod Selecting
 pub mod FileWords
 pub mod Rounds
+pub mod Recording
 pub mod ClientPairs
 pub mod Online
 pub mod Clients

@@ -14,11 +14,12 @@ use Rattle.bac_service_text.specs.declared.form_fault.FormFault.{FormFault}
 use Rattle.bac_service_text.specs.declared.form_fault.FormFault.TheVariants.{NoForm, NoMemory}
 use Rattle.bac_store.specs.Stores.{Store}
 use Rattle.bac_text.specs.declared.status.Status.{Status}
-use Rattle.bac_driver.specs.Asking.{Question}
+use Rattle.bac_driver.specs.Asking.{AskingEnds, Question}
 use Rattle.bac_driver.specs.Pairs.{Pair}
 use Rattle.bac_driver.specs.Runs.{Timed, timed}
 use Rattle.bac_driver.specs.BoundNodes.{BoundNode}
 use Rattle.bac_driver.specs.Views.{question_view}
+use Rattle.bac_driver.specs.declared.question.AskEnd.{AskEnd}
 use Rattle.bac_driver.specs.declared.question.Question as code
 use Rattle.bac_world.specs.Node.{Node}
 use Rattle.bac_service_text.specs.Dispatch.{reads_file}
@@ -33,9 +34,11 @@ use Rattle.bac_commands.specs.declared.online.output_format.Style.TheVariants as
 use Rattle.bac_command_line.specs.Asking.{patience_for}
 use Rattle.bac_command_line.specs.Files.{OfFile}
 use Rattle.bac_command_line.specs.FileWords.{file_of, with_octets}
+use Rattle.bac_command_line.specs.Recording.{PrintsHeader, PrintsRecord}
 use Rattle.bac_command_line.specs.Rounds.{AreRounds, Doing}
 use Rattle.bac_command_line.specs.Serving.{patience_of, restart_of, turns_of}
 use Rattle.bac_command_line.specs.declared.asking.Asking.{Asking}
+use Rattle.bac_command_line.specs.declared.recording.RecordForm.{RecordForm}
 use Rattle.bac_command_line.specs.declared.serving.Serving.{Serving}
 
 -- ---- links and clocks
@@ -132,10 +135,31 @@ ReadsAsked style peer words (Err NoForm) = is_request_for style (request_of word
 ReadsAsked style peer words (Err NoMemory) = ⊤
 
 -- a question was asked from a moment on that the clock printed, and how that ended was printed
-pub record AsksOnce (asking : Asking) (q : Question) (succeeded : Bool) (before after : Timed) (old new : Option (List ℕ)) : Type 0 where
+pub record AsksPlain (asking : Asking) (q : Question) (succeeded : Bool) (before after : Timed) (old new : Option (List ℕ)) : Type 0 where
   pub start : ℕ
   pub asked :
       Asked asking.output_format succeeded q (patience_for asking.timeout start) (timed before.bound_node (with_moment before.told start)) after old new
+
+-- the same, and it was printed as a record
+pub record AsksRecorded (form : RecordForm) (asking : Asking) (q : Question) (succeeded : Bool) (before after : Timed) (old new : Option (List ℕ)) : Type 0 where
+  pub start : ℕ
+  pub end : AskEnd
+  pub ends : AskingEnds q end (patience_for asking.timeout start) 100000 (timed before.bound_node (with_moment before.told start)) after
+  pub told : PrintsRecord form asking.output_format.strict None q end succeeded old new
+
+abbrev pub AsksOnceBy : Option RecordForm → Asking → Question → Doing
+AsksOnceBy None asking q succeeded before after old new = AsksPlain asking q succeeded before after old new
+AsksOnceBy (Some form) asking q succeeded before after old new = AsksRecorded form asking q succeeded before after old new
+
+-- so, as is wanted
+abbrev pub AsksOnce : Asking → Question → Doing
+AsksOnce asking q succeeded before after old new = AsksOnceBy asking.records asking q succeeded before after old new
+
+-- below what stands above records, that was done
+pub record IsHeaded (records : Option RecordForm) (Does : Doing) (all : Bool) (before after : Timed) (old new : Option (List ℕ)) : Type 0 where
+  pub begun : Option (List ℕ)
+  pub header : PrintsHeader records old begun
+  pub does : Does all before after begun new
 
 -- a client at any port, whose invoke IDs began anywhere, did that, in rounds where they are wanted
 pub record ByClient (IsOn : Links) (IsClock : Clocks) (asking : Asking) (Round : Doing) (all : Bool) (old new : Option (List ℕ)) : Type 0 where
@@ -143,7 +167,7 @@ pub record ByClient (IsOn : Links) (IsClock : Clocks) (asking : Asking) (Round :
   pub after : Timed
   pub client : IsClient IsOn asking.host before.bound_node
   pub clock : IsClock before.told
-  pub rounds : AreRounds asking.rounds Round all before after old new
+  pub rounds : IsHeaded asking.records (AreRounds asking.rounds Round) all before after old new
 
 -- the question that some words are was asked
 pub record Asks (IsOn : Links) (IsClock : Clocks) (asking : Asking) (peer : PeerView) (succeeded : Bool) (words : List (List ℕ)) (old new : Option (List ℕ)) : Type 0 where

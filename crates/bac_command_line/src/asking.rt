@@ -1,13 +1,14 @@
 //! From where a node is to ask, how long it waits, how the end is printed, and how often.
 ghost use Rattle.std.specs.Prelude.{◌≡◌};
 ghost use Rattle.bac_command_line.specs.Asking.{patience_for};
-ghost use Rattle.bac_command_line.specs.Given.{AreRoundsOf, IsFlag, IsGiven, IsManner, IsNumber, rounds_by, style_by};
+ghost use Rattle.bac_command_line.specs.Given.{AreRecordsOf, AreRoundsOf, IsFlag, IsGiven, IsManner, IsNumber, records_by, rounds_by, style_by};
 ghost use Rattle.bac_command_line.specs.Rounds.{next_from};
 ghost use Rattle.bac_command_line.specs.Serving.{turns_of};
 
 use crate::address::{EVERY_HOST, LOCAL_HOST, host_towards, link_at, read_link, read_route};
 use crate::online::Machine;
 use crate::question_lines::LineQuestion;
+use crate::recording::RecordForm;
 use bac_commands::{OutputFormat, Style};
 use bac_driver::WaitLimit;
 use bac_npdu::{LinkAddress, Peer, Route};
@@ -50,6 +51,8 @@ pub(crate) struct Asking {
     pub timeout: Option<u64>,
     /// How it is printed, and whether that is strict.
     pub output_format: OutputFormat,
+    /// The records that are printed in the place of that; None where none are.
+    pub records: Option<RecordForm>,
     /// Whether its progress is shown on standard error.
     pub shows_progress: bool,
     /// How often it asks the same; None where it asks once.
@@ -169,6 +172,27 @@ fn manner_of(given: &ArgMatches<'_>) -> OutputFormat
     }
 }
 
+fn records_by(json: bool, csv: bool) -> Option<RecordForm>
+    ensures { result ≡ records_by json csv }
+{
+    if json {
+        Some(RecordForm::Json)
+    } else if csv {
+        Some(RecordForm::Csv)
+    } else {
+        None
+    }
+}
+
+/// The records that are wanted; None where none are.
+fn records_of(given: &ArgMatches<'_>) -> Option<RecordForm>
+    ensures { AreRecordsOf given.now result }
+{
+    let json = flag_of(given, "json");
+    let csv = flag_of(given, "csv");
+    records_by(json, csv)
+}
+
 fn rounds_by(every: Option<u64>, times: Option<u64>) -> Option<Rounds>
     ensures { result ≡ rounds_by every times }
 {
@@ -212,6 +236,7 @@ pub(crate) fn asking_of(given: &ArgMatches<'_>, shows_progress: bool) -> Asking
         host: EVERY_HOST,
         timeout: number_of(given, "timeout"),
         output_format: manner_of(given),
+        records: records_of(given),
         shows_progress,
         rounds: rounds_of(given),
         window: number_of(given, "window"),

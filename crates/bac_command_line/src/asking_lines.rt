@@ -13,12 +13,13 @@ ghost use Rattle.bac_command_line.specs.Online.{OnClock, OnPort};
 
 use crate::asking::Asking;
 use crate::client::Client;
-use crate::ends::{print_end, print_number};
+use crate::ends::print_front;
 use crate::environment::Environment;
 use crate::files::{OpenFiles, opened};
 use crate::objects::octets_of;
 use crate::online::Machine;
 use crate::question_lines::{LineQuestion, questions_in};
+use crate::recording::{Printer, print_ask, print_unasked_record};
 use crate::rounds::{Asked, ask_by_client};
 use crate::station::Station;
 use bac_commands::{AskCommand, ask_unprinted, is_spent};
@@ -30,7 +31,7 @@ use std::io;
 use std::io::Write;
 
 /// A node asks from the moment of the clock on. Answers how that ended.
-fn ask_from<L: Link, C: Clock, E: Write>(
+pub(crate) fn ask_from<L: Link, C: Clock, E: Write>(
     asking: &Asking,
     station: &mut Station<L, C>,
     question: &Question,
@@ -84,18 +85,35 @@ fn ask_on<M: Machine, E: Write>(
 }
 
 /// The line says that there is no link from which it could be asked.
-pub(crate) fn print_unasked<O: Write>(line: &LineQuestion, out: &mut O) -> io::Result<()> {
+pub(crate) fn print_unasked<O: Write>(
+    printer: &Printer<'_>,
+    line: &LineQuestion,
+    out: &mut O,
+) -> io::Result<()> {
+    if let Some(form) = printer.asking.records {
+        return print_unasked_record(printer, form, line, out);
+    }
     let number = line.number;
     writeln!(out, "{number}: link fault")?;
     out.flush()
 }
 
 /// Behind the number of a line, it says that there is no link from which it could be asked, and so do the others.
-fn print_stranded<O: Write>(others: &[LineQuestion], out: &mut O) -> io::Result<()> {
-    writeln!(out, "link fault")?;
-    out.flush()?;
+fn print_stranded<O: Write>(
+    printer: &Printer<'_>,
+    line: &LineQuestion,
+    others: &[LineQuestion],
+    out: &mut O,
+) -> io::Result<()> {
+    match printer.asking.records {
+        Some(form) => print_unasked_record(printer, form, line, out)?,
+        None => {
+            writeln!(out, "link fault")?;
+            out.flush()?;
+        }
+    }
     for line in others {
-        print_unasked(line, out)?;
+        print_unasked(printer, line, out)?;
     }
     Ok(())
 }
@@ -116,19 +134,24 @@ fn ask_line<M: Machine, O: Write, E: Write>(
         (O.contents out.old) (O.contents out.new)) }
     ensures failed { IfErr result IsFailure }
 {
-    let alloc = client.station.alloc;
-    print_number(line, out, err)?;
+    print_front(asking.records, line, out, err)?;
     let end = match ask_on(asking, client, &line.question, err) {
         Ok(end) => end,
         Err(status) => {
             if client.is_stranded {
                 // if that fails too, only the status is left
-                let _ = print_stranded(others, out);
+                let _ = print_stranded(&client.printer(asking), line, others, out);
             }
             return Err(status);
         }
     };
-    print_end(alloc, asking.output_format, line, &end, out, err)
+    let printer = Printer {
+        alloc: client.station.alloc,
+        asking,
+        stamp: client.stamp(),
+    };
+    let number = Some(line.number);
+    print_ask(&printer, number, &line.question, &end, out, err)
 }
 
 pub(crate) fn both(first: bool, second: bool) -> bool

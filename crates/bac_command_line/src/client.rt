@@ -5,9 +5,11 @@ ghost use Rattle.bac_text.specs.Statuses.{IsFailure};
 ghost use Rattle.bac_command_line.specs.Clients.{IsRenewed};
 ghost use Rattle.bac_command_line.specs.Online.{IsClient, OnClock, OnPort};
 
+use crate::asking::Asking;
 use crate::client_pair::ClientPair;
 use crate::online::Machine;
 use crate::past_ports::PastPorts;
+use crate::recording::{Printer, Stamp};
 use crate::station::Station;
 use bac_commands::{bound_client, clock_fault, link_fault};
 use bac_npdu::LinkAddress;
@@ -105,6 +107,8 @@ pub(crate) struct Client<'m, M: Machine> {
     past: PastPorts,
     /// Whether no link could be bound for the next node.
     pub is_stranded: bool,
+    /// How many rounds have begun.
+    pub rounds: u64,
 }
 
 impl<'m, M: Machine> Client<'m, M> {
@@ -142,7 +146,30 @@ impl<'m, M: Machine> Client<'m, M> {
             station,
             past,
             is_stranded: false,
+            rounds: 0,
         })
+    }
+
+    /// How the ends of asks are printed now.
+    pub(crate) fn printer<'a>(&self, asking: &'a Asking) -> Printer<'a> {
+        Printer {
+            alloc: self.station.alloc,
+            asking,
+            stamp: self.stamp(),
+        }
+    }
+
+    /// What the ends of asks are stamped with now.
+    pub(crate) fn stamp(&self) -> Stamp {
+        let round = if self.rounds == 0 {
+            None
+        } else {
+            Some(self.rounds)
+        };
+        Stamp {
+            time: self.machine.time_of_day(),
+            round,
+        }
     }
 
     /// The next node, on a link of its own at another port; the one before asks no more. Where there is none, `err` and the status say so, and nothing has

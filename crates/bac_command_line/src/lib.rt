@@ -31,6 +31,7 @@ mod past_ports;
 mod peers;
 mod question_lines;
 mod reasons;
+mod recording;
 mod rounds;
 mod selecting;
 mod serving;

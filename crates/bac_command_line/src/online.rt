@@ -4,7 +4,7 @@ ghost use Rattle.bac_npdu.specs.Views.{peer_view};
 ghost use Rattle.bac_protocol.specs.Service.{Octets};
 ghost use Rattle.bac_commands.specs.Questions.{ReadsQuestion};
 ghost use Rattle.bac_text.specs.Statuses.{IsFailure};
-ghost use Rattle.bac_command_line.specs.Online.{AsksOnce, IsAsked, IsPair, IsServedBy, OnClock, OnPort, ReadsAsked, is_printed_by};
+ghost use Rattle.bac_command_line.specs.Online.{AsksPlain, IsAsked, IsPair, IsServedBy, OnClock, OnPort, ReadsAsked, is_printed_by};
 ghost use Rattle.bac_driver.specs.Runs.{timed};
 ghost use Rattle.bac_driver.specs.Views.{question_view};
 
@@ -58,6 +58,9 @@ pub trait Machine {
     /// The port and the invoke ID at which a new client begins now; None where the time of day can't be read. It is asked again where the port is taken, and then
     /// tells a later pair.
     fn pair(&self) -> Option<ClientPair>;
+
+    /// The time of day, in milliseconds since 1970 began in UTC; None where it can't be read.
+    fn time_of_day(&self) -> Option<u64>;
 
     /// The IPv4 address of this machine from which the system sends to a link; None where it tells none.
     fn source_towards(&self, link: LinkAddress) -> Option<[u8; 4]>;
@@ -160,7 +163,7 @@ pub(crate) fn ask_once<L: Link, C: Clock, O: Write, E: Write>(
     out: &mut O,
     err: &mut E,
 ) -> Result<bool, Status>
-    ensures asked { IfOk result (λ succeeded. AsksOnce asking.now (question_view question.now) succeeded
+    ensures asked { IfOk result (λ succeeded. AsksPlain asking.now (question_view question.now) succeeded
         (timed station.old.bound_node (C.told station.old.clock)) (timed station.new.bound_node (C.told station.new.clock))
         (O.contents out.old) (O.contents out.new)) }
     ensures failed { IfErr result IsFailure }

@@ -1,23 +1,25 @@
 //! What a client asks, once or in rounds.
 ghost use Rattle.std.specs.Prelude.{◌≡◌, IfErr, IfOk};
 ghost use Rattle.bac_driver.specs.Runs.{timed};
+ghost use Rattle.bac_driver.specs.Views.{question_view};
 ghost use Rattle.bac_text.specs.Statuses.{IsFailure};
 ghost use Rattle.bac_command_line.specs.Asked.{AsksAll, ReportsClient, ReportsDoing};
 ghost use Rattle.bac_command_line.specs.InFlight.{AsksLines};
-ghost use Rattle.bac_command_line.specs.Online.{OnClock, OnPort};
+ghost use Rattle.bac_command_line.specs.Online.{AsksOnce, AsksRecorded, IsHeaded, OnClock, OnPort};
 ghost use Rattle.bac_command_line.specs.Rounds.{AreRounds, AreRoundsFrom, BeginsRound, Rests};
 ghost use Rattle.bac_command_line.specs.Serving.{turns_of};
 
 use crate::asking::{Asking, Rounds};
-use crate::asking_lines::{ask_each, both};
+use crate::asking_lines::{ask_each, ask_from, both};
 use crate::client::Client;
 use crate::online::{Machine, ask_once};
 use crate::question_lines::LineQuestion;
+use crate::recording::{Printer, RecordForm, print_header, print_record};
 use crate::station::Station;
 use crate::window::ask_ahead;
 use bac_commands::CommandError;
 use bac_driver::{Clock, Link, Question, RunLimit, WaitLimit};
-use bac_text::Status;
+use bac_text::{Status, output_failed};
 use std::alloc::Global;
 use std::io::Write;
 
@@ -50,6 +52,54 @@ fn ask_lines<M: Machine, O: Write, E: Write>(
     }
 }
 
+/// A node asks from the moment of the clock on; how that ended is printed as a record. Answers whether it succeeded.
+#[tactic(auto, using(crate::proofs::Recorded::one_recorded))]
+fn ask_recorded<M: Machine, O: Write, E: Write>(
+    asking: &Asking,
+    form: RecordForm,
+    client: &mut Client<'_, M>,
+    question: &Question,
+    out: &mut O,
+    err: &mut E,
+) -> Result<bool, Status>
+    ensures asked { IfOk result (λ succeeded. AsksRecorded form asking.now (question_view question.now) succeeded
+        (timed client.old.station.bound_node (M.Timer.told client.old.station.clock))
+        (timed client.new.station.bound_node (M.Timer.told client.new.station.clock))
+        (O.contents out.old) (O.contents out.new)) }
+    ensures failed { IfErr result IsFailure }
+{
+    let end = ask_from(asking, &mut client.station, question, err)?;
+    let printer = Printer {
+        alloc: client.station.alloc,
+        asking,
+        stamp: client.stamp(),
+    };
+    match print_record(&printer, form, None, question, &end, out) {
+        Ok(succeeded) => Ok(succeeded),
+        Err(error) => Err(output_failed(err, &error)),
+    }
+}
+
+/// A node asks from the moment of the clock on; how that ended is printed as is wanted. Answers whether it succeeded.
+fn ask_one<M: Machine, O: Write, E: Write>(
+    asking: &Asking,
+    client: &mut Client<'_, M>,
+    question: &Question,
+    out: &mut O,
+    err: &mut E,
+) -> Result<bool, Status>
+    ensures asked { IfOk result (λ succeeded. AsksOnce asking.now (question_view question.now) succeeded
+        (timed client.old.station.bound_node (M.Timer.told client.old.station.clock))
+        (timed client.new.station.bound_node (M.Timer.told client.new.station.clock))
+        (O.contents out.old) (O.contents out.new)) }
+    ensures failed { IfErr result IsFailure }
+{
+    match asking.records {
+        Some(form) => ask_recorded(asking, form, client, question, out, err),
+        None => ask_once(asking, &mut client.station, question, out, err),
+    }
+}
+
 /// A node asks all that, once. Answers whether all succeeded.
 fn ask_all<M: Machine, O: Write, E: Write>(
     asking: &Asking,
@@ -65,7 +115,7 @@ fn ask_all<M: Machine, O: Write, E: Write>(
     ensures failed { IfErr result IsFailure }
 {
     match asked {
-        Asked::One(question) => ask_once(asking, &mut client.station, question, out, err),
+        Asked::One(question) => ask_one(asking, client, question, out, err),
         Asked::Lines(lines) => ask_lines(asking, client, lines, out, err),
     }
 }
@@ -117,6 +167,7 @@ fn ask_round<M: Machine, O: Write, E: Write>(
         (O.contents out.old) (O.contents out.new)) }
     ensures failed { IfErr result IsFailure }
 {
+    client.rounds = client.rounds.saturating_add(1);
     rest(&mut client.station, from, err)?;
     let began = client.station.clock.now();
     let succeeded = ask_all(asking, client, asked, out, err)?;
@@ -169,6 +220,24 @@ fn ask_so<M: Machine, O: Write, E: Write>(
     }
 }
 
+/// The same, below what stands above records.
+fn ask_headed<M: Machine, O: Write, E: Write>(
+    asking: &Asking,
+    client: &mut Client<'_, M>,
+    asked: &Asked,
+    out: &mut O,
+    err: &mut E,
+) -> Result<bool, Status>
+    ensures asked { IfOk result (λ all. IsHeaded asking.now.records (AreRounds asking.now.rounds (AsksAll (OnPort M.is_bound M.Link.failures M.Link.calls) asking.now asked.now)) all
+        (timed client.old.station.bound_node (M.Timer.told client.old.station.clock))
+        (timed client.new.station.bound_node (M.Timer.told client.new.station.clock))
+        (O.contents out.old) (O.contents out.new)) }
+    ensures failed { IfErr result IsFailure }
+{
+    print_header(client.station.alloc, asking.records, out, err)?;
+    ask_so(asking, client, asked, out, err)
+}
+
 /// The same, and the status says whether all asks succeeded, or why asking stopped.
 #[tactic(auto, using(bac_commands::proofs::Statuses::failed))]
 fn ask_and_report<M: Machine, O: Write, E: Write>(
@@ -178,12 +247,12 @@ fn ask_and_report<M: Machine, O: Write, E: Write>(
     out: &mut O,
     err: &mut E,
 ) -> Status
-    ensures { ReportsDoing result (AreRounds asking.now.rounds (AsksAll (OnPort M.is_bound M.Link.failures M.Link.calls) asking.now asked.now))
+    ensures { ReportsDoing result (IsHeaded asking.now.records (AreRounds asking.now.rounds (AsksAll (OnPort M.is_bound M.Link.failures M.Link.calls) asking.now asked.now)))
         (timed client.old.station.bound_node (M.Timer.told client.old.station.clock))
         (timed client.new.station.bound_node (M.Timer.told client.new.station.clock))
         (O.contents out.old) (O.contents out.new) }
 {
-    match ask_so(asking, client, asked, out, err) {
+    match ask_headed(asking, client, asked, out, err) {
         Ok(true) => Status::Done,
         Ok(false) => Status::Faulty,
         Err(status) => status,

@@ -14,7 +14,7 @@ use bac_keep_file::{KeptFile, OpenFault};
 use bac_npdu::LinkAddress;
 use std::net::{Ipv4Addr, Net, SocketAddr, UdpSocket};
 use std::rt::Files;
-use std::time::{SystemTime, UNIX_EPOCH};
+use std::time::{Duration, SystemTime, UNIX_EPOCH};
 use std::{fs, io};
 
 /// The file that is standard input, which `-` stands for.
@@ -34,6 +34,14 @@ impl<'a, R> System<'a, R> {
             runtime,
             shows_progress,
         }
+    }
+}
+
+impl System<'_, HostRuntime> {
+    /// How long ago 1970 began in UTC; None where the time of day can't be read.
+    fn since_epoch(&self) -> Option<Duration> {
+        let now = SystemTime::now(self.runtime).ok()?;
+        now.duration_since(UNIX_EPOCH).ok()
     }
 }
 
@@ -73,10 +81,12 @@ impl<'a> Machine for System<'a, HostRuntime> {
 
     /// That of the time of day.
     fn pair(&self) -> Option<ClientPair> {
-        let now = SystemTime::now(self.runtime).ok()?;
-        let passed = now.duration_since(UNIX_EPOCH).ok()?;
-        let moment = u64::try_from(passed.as_micros()).ok()?;
+        let moment = u64::try_from(self.since_epoch()?.as_micros()).ok()?;
         Some(pair_at(moment))
+    }
+
+    fn time_of_day(&self) -> Option<u64> {
+        u64::try_from(self.since_epoch()?.as_millis()).ok()
     }
 
     /// That of a socket that is connected to the link, which sends nothing.

@@ -14,12 +14,12 @@ use crate::flights::{Begun, Flights};
 use crate::online::Machine;
 use crate::peers::share_of;
 use crate::question_lines::LineQuestion;
+use crate::recording::Printer;
 use crate::station::Station;
 use bac_commands::{CommandError, clock_fault, link_fault};
 use bac_driver::{AskEnd, Clock, Link, Question, WaitLimit};
 use bac_requester::AskFault;
 use bac_text::{Status, no_memory};
-use std::alloc::Global;
 use std::io::Write;
 
 /// What is asked.
@@ -188,7 +188,7 @@ fn end_line<M: Machine, E: Write>(
 
 /// Each line from that place on is printed: with how its ask ended, or that there is no link from which it could be asked.
 fn print_stranded<O: Write, E: Write>(
-    alloc: Global,
+    printer: &Printer<'_>,
     plan: &Plan<'_>,
     flights: &mut Flights,
     from: usize,
@@ -197,8 +197,8 @@ fn print_stranded<O: Write, E: Write>(
 ) {
     for (place, line) in plan.lines.iter().enumerate().skip(from) {
         let printed = match flights.take_end(place) {
-            Some(end) => print_line(alloc, plan.asking.output_format, line, &end, out, err).is_ok(),
-            None => print_unasked(line, out).is_ok(),
+            Some(end) => print_line(printer, line, &end, out, err).is_ok(),
+            None => print_unasked(printer, line, out).is_ok(),
         };
         if !printed {
             return;
@@ -223,19 +223,19 @@ fn tell_line<M: Machine, O: Write, E: Write>(
         (O.contents out.old) (O.contents out.new)) }
     ensures failed { IfErr result IsFailure }
 {
-    let alloc = client.station.alloc;
     match end_line(plan, client, flights, place, err) {
-        Ok(end) => print_line(
-            alloc,
-            plan.asking.output_format,
-            &plan.lines[place],
-            &end,
-            out,
-            err,
-        ),
+        Ok(end) => {
+            let printer = Printer {
+                alloc: client.station.alloc,
+                asking: plan.asking,
+                stamp: client.stamp(),
+            };
+            print_line(&printer, &plan.lines[place], &end, out, err)
+        }
         Err(status) => {
             if client.is_stranded {
-                print_stranded(alloc, plan, flights, place, out, err);
+                let printer = client.printer(plan.asking);
+                print_stranded(&printer, plan, flights, place, out, err);
             }
             Err(status)
         }

@@ -420,6 +420,8 @@ Example: bac ask --to 192.168.1.20 write analog-value:1 present-value real:72.5 
 Example: bac ask --to 192.168.1.20 --text --lines requests.txt --window 8
 Example: bac ask --text --lines points.txt --window 64 --every 10
 Example: bac ask --to 192.168.1.20 --text --every 60 read analog-input:5 present-value
+Example: bac ask --lines points.txt --csv --every 60 --times 60
+Example: bac ask --to 192.168.1.20 --json read analog-input:5 present-value
 Example: bac ask --port 47808 put file:1 0 @log.bin
 Example: bac ask --port 47808 --raw get file:1 0 1000 > log.bin";
 
@@ -473,6 +475,20 @@ const ASK: &[Word] = &[
         need: Need::Never,
         against: &["text"],
         help: "For `get`: writes only the octets of the file; if there are none, standard error says how the ask ended, and the status is 1",
+    },
+    Word {
+        name: "json",
+        form: WordForm::Flag,
+        need: Need::Never,
+        against: &["text", "raw"],
+        help: "Prints each ask as an object of JSON, one a line",
+    },
+    Word {
+        name: "csv",
+        form: WordForm::Flag,
+        need: Need::Never,
+        against: &["text", "raw", "json"],
+        help: "Prints each ask as a row of CSV, below one with the names of the columns: time,peer,object,property,kind,value,status",
     },
     Word {
         name: "lines",

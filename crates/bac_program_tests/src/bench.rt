@@ -329,6 +329,14 @@ impl Machine for BenchMachine {
         Some(ClientPair { port: 0, first_id })
     }
 
+    /// 2026-11-27, 7:10 in UTC; none where there is no clock.
+    fn time_of_day(&self) -> Option<u64> {
+        match self.bench.clock {
+            Some(_) => Some(1_795_763_400_000),
+            None => None,
+        }
+    }
+
     fn source_towards(&self, _link: [u8; 6]) -> Option<[u8; 4]> {
         None
     }

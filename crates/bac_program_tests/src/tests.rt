@@ -24,6 +24,7 @@ mod not_asked;
 mod online;
 mod outputs;
 mod progress;
+mod recorded;
 mod restarts;
 mod served;
 mod served_documents;

@@ -86,6 +86,10 @@ impl Machine for CrowdedMachine {
         Some(ClientPair { port, first_id: 7 })
     }
 
+    fn time_of_day(&self) -> Option<u64> {
+        self.machine.time_of_day()
+    }
+
     fn source_towards(&self, _link: [u8; 6]) -> Option<[u8; 4]> {
         self.source
     }

@@ -57,6 +57,10 @@ const WORDS: &[(&str, &str)] = &[
         "61 is not in 1..=60",
     ),
     ("ask --port 47899 --raw --text get 10:1 0 5", "--raw"),
+    ("ask --port 47899 --json --text read 0:5 85", "--json"),
+    ("ask --port 47899 --json --csv read 0:5 85", "--csv"),
+    ("ask --port 47899 --csv --raw get 10:1 0 5", "--csv"),
+    ("ask --help", "--csv"),
     (
         "ask --port 47899 --every 0 read 0:5 85",
         "0 is not in 1..=1000000000",

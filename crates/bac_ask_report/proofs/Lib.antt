@@ -1,0 +1,3 @@
+pub mod Times
+pub mod Sole
+pub mod Told

@@ -1,0 +1,106 @@
+-- Rows of CSV: fields with commas between them; one with a comma, a quote or the end of a line in it stands in quotes, each quote in it twice (RFC 4180).
+use Rattle.std.specs.Prelude.{◌≡◌, ℕ, List, [], ◌∷◌, codes, drop, Option, Some, None, unwrap_or}
+use Rattle.csv.specs.Writing.{default_writer, row_text}
+use Rattle.serde_json.specs.Data.{Data, Items, no_items, item, null, boolean, number, string, array, object}
+use Rattle.serde_json.specs.Find.{get}
+use Rattle.bac_json.specs.Values.{AreElementForms}
+use Rattle.bac_json_report.specs.Lines.{IsJsonText}
+use Rattle.bac_text.specs.Peers.{peer_text}
+use Rattle.bac_value_text.specs.Texts.{object_text}
+use Rattle.bac_ask_report.specs.Answers.{Answer, answer_of}
+use Rattle.bac_ask_report.specs.Answers.Answer.{Values, Other, File, Written, Done, Fault, Reason, Nothing}
+use Rattle.bac_ask_report.specs.Questions.{object_asked, property_asked, property_column}
+use Rattle.bac_ask_report.specs.Records.{AskRecord}
+use Rattle.bac_ask_report.specs.Times.{IsTextOf}
+
+-- ---- the kind and the value
+
+-- a text as it is, null as nothing, all else as JSON has it
+abbrev pub IsCell : Data → List ℕ → Type 0
+IsCell null text = text ≡ []
+IsCell (boolean b) text = IsJsonText (boolean b) text
+IsCell (number n) text = IsJsonText (number n) text
+IsCell (string s) text = text ≡ s
+IsCell (array ds) text = IsJsonText (array ds) text
+IsCell (object ms) text = IsJsonText (object ms) text
+
+abbrev pub both : Option Data → Option Data → Option (Data × Data)
+both None d = None
+both (Some c) None = None
+both (Some c) (Some d) = Some (c, d)
+
+-- the kind and the value of the only element, where it is a value
+abbrev pub sole_value : Items → Option (Data × Data)
+sole_value no_items = None
+sole_value (item d no_items) = both (get (codes "kind") d) (get (codes "value") d)
+sole_value (item d (item e es)) = None
+
+-- what `bac ask --text` prints behind the word `answered`
+abbrev pub behind_answered : (words : List ℕ) → List ℕ
+behind_answered words = drop 9 words
+
+pub record Cells : Type 0 where
+  pub kind : List ℕ
+  pub value : List ℕ
+
+abbrev pub no_cells : Cells
+no_cells = record { kind = []; value = [] }
+
+-- in words, without a kind
+abbrev pub word_cells : (words : List ℕ) → Cells
+word_cells words = record { kind = []; value = behind_answered words }
+
+-- of one value its kind, and the value; of more or none the words
+abbrev pub AreSoleCells : Option (Data × Data) → (words : List ℕ) → Cells → Type 0
+AreSoleCells None words c = c ≡ word_cells words
+AreSoleCells (Some p) words c = IsCell p.0 c.kind × IsCell p.1 c.value
+
+pub record AreValueCells (run words : List ℕ) (c : Cells) : Type 0 where
+  pub values : Items
+  pub are : AreElementForms values run
+  pub cells : AreSoleCells (sole_value values) words c
+
+abbrev pub AreCells : Answer → (words : List ℕ) → Cells → Type 0
+AreCells (Values run) words c = AreValueCells run words c
+AreCells Other words c = c ≡ word_cells words
+AreCells (File end start octets) words c = c ≡ word_cells words
+AreCells (Written start) words c = c ≡ word_cells words
+AreCells Done words c = c ≡ no_cells
+AreCells (Fault class code) words c = c ≡ no_cells
+AreCells (Reason reason) words c = c ≡ no_cells
+AreCells Nothing words c = c ≡ no_cells
+
+-- ---- the status
+
+-- `answered`, or in words why there is no value
+abbrev pub status_cell : Answer → (words : List ℕ) → List ℕ
+status_cell (Values run) words = codes "answered"
+status_cell Other words = codes "answered"
+status_cell (File end start octets) words = codes "answered"
+status_cell (Written start) words = codes "answered"
+status_cell Done words = codes "answered"
+status_cell (Fault class code) words = behind_answered words
+status_cell (Reason reason) words = words
+status_cell Nothing words = words
+
+-- ---- rows
+
+-- the names of the columns
+abbrev pub header : List (List ℕ)
+header = codes "time" ∷ codes "peer" ∷ codes "object" ∷ codes "property" ∷ codes "kind" ∷ codes "value" ∷ codes "status" ∷ []
+
+abbrev pub header_text : List ℕ
+header_text = row_text default_writer header
+
+abbrev pub fields_of : AskRecord → (time : List ℕ) → Cells → List (List ℕ)
+fields_of r time c =
+    time ∷ peer_text r.peer ∷ object_text (object_asked r.request) ∷ property_column (property_asked r.request) ∷ c.kind ∷ c.value
+    ∷ status_cell (answer_of r.request r.outcome) r.words ∷ []
+
+-- the row of an ask
+pub record IsRow (r : AskRecord) (text : List ℕ) : Type 0 where
+  pub time : Option (List ℕ)
+  pub time_of : IsTextOf r.time time
+  pub cells : Cells
+  pub are : AreCells (answer_of r.request r.outcome) r.words cells
+  pub is : text ≡ row_text default_writer (fields_of r (unwrap_or time []) cells)

@@ -1,0 +1,14 @@
+//! What `bac ask` prints of an ask with `--json`, one object a line, and with `--csv`, one row a line.
+#![tactic(auto)]
+
+mod answer;
+mod csv_row;
+mod members;
+mod object;
+mod question;
+mod record;
+mod time;
+
+pub use csv_row::{print_csv_header, print_csv_row};
+pub use object::print_ask_object;
+pub use record::{AskRecord, Outcome};
