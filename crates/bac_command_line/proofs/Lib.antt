@@ -18,4 +18,5 @@ pub mod Clients
 pub mod AskedLines
 pub mod InFlight
 pub mod Once
+pub mod LineWords
 pub mod Numbers

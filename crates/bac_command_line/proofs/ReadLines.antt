@@ -1,11 +1,12 @@
 -- The requests of lines, one line after the other.
-use Rattle.std.proofs.Common.{◌≡◌, ◌⊎◌, ℕ, ◌+◌, true, List, [], ◌∷◌, ◌++◌, map, Option, Some, None, Result, Ok, Err, refl, sym, ap, subst, ◌∙◌, append_assoc, append-nil, inl, inr}
+use Rattle.std.proofs.Common.{◌≡◌, ◌⊎◌, ℕ, ◌+◌, ◌<◌, length, arith, true, List, [], ◌∷◌, ◌++◌, map, Option, Some, None, Result, Ok, Err, refl, sym, ap, subst, ◌∙◌, append_assoc, append-nil, inl, inr}
 use Rattle.std.proofs.lemmas.List.{map-append}
 use Rattle.bac_driver.specs.Views.{question_view}
 use Rattle.bac_command_line.specs.declared.question_lines.LineQuestion as code
 use Rattle.bac_npdu.specs.Peers.{PeerView}
 use Rattle.bac_text.specs.Notes.{read_of}
-use Rattle.bac_command_line.specs.AskedLines.{AddsLine, AreQuestions, AsksIn, AsksWords, HaveBadLine, IsBadRead, Numbered, line_view, words_of}
+use Rattle.bac_command_line.specs.AskedLines.{AddsLine, AreQuestions, AskNothing, AsksIn, AsksWords, HaveBadLine, IsBadRead, Numbered, WordsAsk, AreBadWords, line_view}
+use Rattle.bac_command_line.specs.LineWords.{words_of}
 
 -- what the lines from here on ask, behind those so far, is what all lines ask
 pub one_more_read : (default : Option PeerView) (number : ℕ) (lines others : List (List ℕ)) (line : List ℕ) (old new more : List Numbered)
@@ -42,18 +43,47 @@ note_adds default number line old new none same =
       is = ap (map line_view) same ∙ sym (append-nil (map line_view old));
     }
 
+-- so does a line that has blanks and a note alone
+pub blank_adds : (default : Option PeerView) (number : ℕ) (line read : List ℕ) (old new : List code.LineQuestion) → read_of true line ≡ Some read
+    → words_of read ≡ Some [] → new ≡ old → AddsLine default number line (map line_view old) (map line_view new)
+blank_adds default number line read old new is none same =
+    record {
+      found = [];
+      asked =
+          subst (λ (r : Option (List ℕ)). AsksIn default number r []) (sym is)
+          (subst (λ (w : Option (List (List ℕ))). WordsAsk default number w []) (sym none) refl);
+      is = ap (map line_view) same ∙ sym (append-nil (map line_view old));
+    }
+
 -- a request adds what it asks
-pub request_adds : (default : Option PeerView) (line read : List ℕ) (old new : List code.LineQuestion) (q : code.LineQuestion)
-    → read_of true line ≡ Some read → AsksWords default (words_of read) (question_view q.question) → new ≡ old ++ q ∷ []
-    → AddsLine default q.number line (map line_view old) (map line_view new)
-request_adds default line read old new q is asks pushed =
+pub request_adds : (default : Option PeerView) (line read : List ℕ) (words : List (List ℕ)) (old new : List code.LineQuestion) (q : code.LineQuestion)
+    → read_of true line ≡ Some read → words_of read ≡ Some words → (words ≡ [] → ⊥) → AsksWords default words (question_view q.question)
+    → new ≡ old ++ q ∷ [] → AddsLine default q.number line (map line_view old) (map line_view new)
+request_adds default line read words old new q is are some asks pushed =
     record {
       found = line_view q ∷ [];
       asked =
           subst (λ (r : Option (List ℕ)). AsksIn default q.number r (line_view q ∷ [])) (sym is)
-          (record { question = question_view q.question; asks = asks; is = refl });
+          (subst (λ (w : Option (List (List ℕ))). WordsAsk default q.number w (line_view q ∷ [])) (sym are) (go words some asks));
       is = ap (map line_view) pushed ∙ map-append line_view old (q ∷ []);
     }
+  where
+    go : (found : List (List ℕ)) → (found ≡ [] → ⊥) → AsksWords default found (question_view q.question)
+        → WordsAsk default q.number (Some found) (line_view q ∷ [])
+    go [] some asks = absurd (some refl)
+    go (word ∷ others) some asks = record { question = question_view q.question; asks = asks; is = refl }
+
+-- words that ask nothing are bad, where there are any
+pub asking_nothing_bad : {A : Type 0} (default : Option PeerView) (f : A → List ℕ) (words : List A) → 0 < length words → AskNothing default (map f words)
+    → AreBadWords default (Some (map f words))
+asking_nothing_bad default f [] some nothing = absurd (omega arith)
+asking_nothing_bad default f (word ∷ words) some nothing = nothing
+
+-- a line with bad words is bad
+pub bad_words_read : (default : Option PeerView) (line read : List ℕ) (words : Option (List (List ℕ))) → read_of true line ≡ Some read
+    → words_of read ≡ words → AreBadWords default words → IsBadRead default (read_of true line)
+bad_words_read default line read words is are bad =
+    subst (IsBadRead default) (sym is) (subst (AreBadWords default) (sym are) bad)
 
 abbrev fault_or : {A E : Type 0} → (other : E) → Result A E → E
 fault_or other (Ok x) = other

@@ -1,5 +1,5 @@
 -- What `ask --lines` asks and prints: a client asks the requests of some lines in turn.
-use Rattle.std.specs.Prelude.{◌≡◌, ◌⊎◌, ℕ, ◌+◌, Bool, true, false, ◌==◌, List, [], ◌∷◌, ◌++◌, codes, decimal, if◌then◌else◌, Option, None, Some, IfSome}
+use Rattle.std.specs.Prelude.{◌≡◌, ◌⊎◌, ℕ, ◌+◌, Bool, true, false, ◌==◌, ◌&&◌, List, [], ◌∷◌, ◌++◌, codes, decimal, if◌then◌else◌, Option, None, Some, IfSome}
 use Rattle.std.specs.Io.KnownBytes.{Appends}
 use Rattle.bac_npdu.specs.Peers.{PeerView}
 use Rattle.bac_service_text.specs.Dispatch.{request_of}
@@ -12,6 +12,7 @@ use Rattle.bac_driver.specs.declared.question.AskEnd.{AskEnd}
 use Rattle.bac_value_text.specs.Splits.{split_by}
 use Rattle.bac_commands.specs.Questions.{IsQuestion}
 use Rattle.bac_command_line.specs.Clients.{AsksOn}
+use Rattle.bac_command_line.specs.LineWords.{words_of}
 use Rattle.bac_command_line.specs.Online.{Links}
 use Rattle.bac_command_line.specs.Recording.{PrintsAsk}
 use Rattle.bac_command_line.specs.Rounds.{DoesNothing, Doing, IsNext}
@@ -23,10 +24,6 @@ abbrev pub is_octet : (wanted octet : ℕ) → Bool
 is_octet wanted octet = octet == wanted
 
 -- ---- the requests of lines
-
--- the words of a line, separated by single spaces
-abbrev pub words_of : (line : List ℕ) → List (List ℕ)
-words_of line = split_by (is_octet 32) line
 
 -- a word that names whom a line is asked of begins with `@`
 abbrev pub is_address : (word : List ℕ) → Bool
@@ -57,8 +54,17 @@ pub record AsksWords (default : Option PeerView) (words : List (List ℕ)) (q : 
   pub is : IsQuestion peer (request_words words) q
 
 -- there is no peer for them, or they are no request
+abbrev pub AskNothing : (default : Option PeerView) → (words : List (List ℕ)) → Type 0
+AskNothing default words = HasNoPeer default words ⊎ (request_of (request_words words) ≡ None)
+
+-- a line has a quote that is not closed, or its words ask nothing; one without words is none of these
+abbrev pub AreBadWords : (default : Option PeerView) → (words : Option (List (List ℕ))) → Type 0
+AreBadWords default None = Unit {0}
+AreBadWords default (Some []) = ⊥
+AreBadWords default (Some (word ∷ words)) = AskNothing default (word ∷ words)
+
 abbrev pub IsBadLine : (default : Option PeerView) → (line : List ℕ) → Type 0
-IsBadLine default line = HasNoPeer default (words_of line) ⊎ (request_of (request_words (words_of line)) ≡ None)
+IsBadLine default line = AreBadWords default (words_of line)
 
 -- what a line asks, by its number
 pub record Numbered : Type 0 where
@@ -68,16 +74,22 @@ pub record Numbered : Type 0 where
 abbrev pub line_view : LineQuestion → Numbered
 line_view l = record { number = l.number; question = question_view l.question }
 
--- the line of that number asks that
-pub record AsksOne (default : Option PeerView) (number : ℕ) (line : List ℕ) (found : List Numbered) : Type 0 where
+-- the line of that number, with these words, asks that
+pub record AsksOne (default : Option PeerView) (number : ℕ) (words : List (List ℕ)) (found : List Numbered) : Type 0 where
   pub question : Question
-  pub asks : AsksWords default (words_of line) question
+  pub asks : AsksWords default words question
   pub is : found ≡ record { number = number; question = question } ∷ []
+
+-- by its words: without any it asks nothing
+abbrev pub WordsAsk : (default : Option PeerView) → (number : ℕ) → (words : Option (List (List ℕ))) → (found : List Numbered) → Type 0
+WordsAsk default number None found = ⊥
+WordsAsk default number (Some []) found = found ≡ []
+WordsAsk default number (Some (word ∷ words)) found = AsksOne default number (word ∷ words) found
 
 -- by what is to be read of a line: nothing of a note
 abbrev pub AsksIn : (default : Option PeerView) → (number : ℕ) → (read : Option (List ℕ)) → (found : List Numbered) → Type 0
 AsksIn default number None found = found ≡ []
-AsksIn default number (Some line) found = AsksOne default number line found
+AsksIn default number (Some line) found = WordsAsk default number (words_of line) found
 
 -- that and what the others ask
 pub record IsFirst (First Others : List Numbered → Type 0) (all : List Numbered) : Type 0 where
@@ -101,9 +113,15 @@ abbrev pub HaveBadLine : (default : Option PeerView) → (lines : List (List ℕ
 HaveBadLine default [] = ⊥
 HaveBadLine default (line ∷ lines) = IsBadRead default (read_of true line) ⊎ HaveBadLine default lines
 
+-- a text without the byte order mark that some editors put at its beginning
+abbrev pub without_mark : (text : List ℕ) → List ℕ
+without_mark (first ∷ second ∷ third ∷ text) =
+    if (first == 239) && ((second == 187) && (third == 191)) then text else first ∷ second ∷ third ∷ text
+without_mark text = text
+
 -- the lines of a text; they are counted from 1
 abbrev pub lines_in : (text : List ℕ) → List (List ℕ)
-lines_in text = split_by (is_octet LINE_END) text
+lines_in text = split_by (is_octet LINE_END) (without_mark text)
 
 -- what a line asks was added
 pub record AddsLine (default : Option PeerView) (number : ℕ) (line : List ℕ) (old new : List Numbered) : Type 0 where

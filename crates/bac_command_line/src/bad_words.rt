@@ -78,6 +78,18 @@ pub(crate) fn print_bad_line<E: Write>(
     Status::CommandLine
 }
 
+/// Complains of the line with that number, in which a text in quotes does not end as it should.
+pub(crate) fn print_open_quote<E: Write>(number: u64, err: &mut E) -> Status
+    ensures { IsStop result }
+{
+    // if that fails too, only the status is left
+    let _ = writeln!(
+        err,
+        "line {number}: bad words: a text in quotes ends with a quote, and a blank or the end of the line after it"
+    );
+    Status::CommandLine
+}
+
 /// Complains of the line with that number, which is asked of no peer: its first word is none, or it names none.
 pub(crate) fn print_no_peer<E: Write>(number: u64, words: &[&[u8]], err: &mut E) -> Status
     ensures { IsStop result }

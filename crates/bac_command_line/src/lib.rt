@@ -20,6 +20,7 @@ mod help;
 mod help_words;
 mod json;
 mod keeping;
+mod line_words;
 mod lines;
 mod listing;
 mod manual;

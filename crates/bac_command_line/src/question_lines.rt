@@ -1,14 +1,16 @@
 //! Requests of lines: those of a text, each by its number.
-ghost use Rattle.std.specs.Prelude.{◌≡◌, ◌<◌, length, map, true, IfErr, IfOk, IfSome, IsErrOf, IsTrue, None};
+ghost use Rattle.std.specs.Prelude.{◌≡◌, ◌<◌, length, map, true, IfErr, IfOk, IfSome, IsErrOf, IsTrue, None, Some};
 ghost use Rattle.std.specs.Option.{option_map};
 ghost use Rattle.bac_npdu.specs.Views.{peer_view};
 ghost use Rattle.bac_driver.specs.Views.{question_view};
 ghost use Rattle.bac_text.specs.Statuses.{IsStop};
 ghost use Rattle.bac_text.specs.Notes.{read_of as read_in};
-ghost use Rattle.bac_command_line.specs.AskedLines.{AddsLine, AreQuestions, AsksWords, HasNoPeer, HaveBadLine, IsAskedOf, IsBadLine, IsBadRead, is_address, line_view, lines_in, names_peer, request_words, words_of};
+ghost use Rattle.bac_command_line.specs.AskedLines.{AddsLine, AreQuestions, AreBadWords, AsksWords, HasNoPeer, HaveBadLine, IsAskedOf, IsBadRead, is_address, line_view, lines_in, names_peer, request_words, without_mark};
+ghost use Rattle.bac_command_line.specs.LineWords.{words_of};
 
 use crate::address::read_peer;
-use crate::bad_words::{print_bad_line, print_no_peer};
+use crate::bad_words::{print_bad_line, print_no_peer, print_open_quote};
+use crate::line_words::{WordsFault, words_of};
 use crate::parts::parts_of;
 use bac_commands::read_question;
 use bac_driver::Question;
@@ -77,25 +79,42 @@ fn peer_of(default: Option<Peer>, words: &[&[u8]]) -> Option<Peer>
     }
 }
 
-/// What a line asks, where lines that name no peer are asked of that one. Where it asks nothing of anyone, `err` and the status say so.
-fn question_in<E: Write>(
+/// The words of a line, of which a note has none. Where a quote is not closed, `err` and the status say so.
+fn words_in<'a, E: Write>(
+    alloc: Global,
+    number: u64,
+    line: &'a [u8],
+    err: &mut E,
+) -> Result<Vec<&'a [u8]>, Status>
+    ensures words { IfOk result (λ words. words_of line.now ≡ Some (map (λ w. w.now) words.items)) }
+    ensures refused { IsErrOf result Status.CommandLine → words_of line.now ≡ None }
+    ensures told { IfErr result IsStop }
+{
+    match words_of(alloc, line) {
+        Ok(words) => Ok(words),
+        Err(WordsFault::OpenQuote) => Err(print_open_quote(number, err)),
+        Err(WordsFault::NoMemory) => Err(no_memory(err)),
+    }
+}
+
+/// What the words of a line ask, where lines that name no peer are asked of that one. Where they ask nothing of anyone, `err` and the status say so.
+#[tactic(auto, using(crate::proofs::ReadLines::asking_nothing_bad))]
+fn question_of<E: Write>(
     alloc: Global,
     default: Option<Peer>,
     number: u64,
-    line: &[u8],
+    words: &[&[u8]],
     err: &mut E,
 ) -> Result<Question, Status>
-    ensures question { IfOk result (λ q. AsksWords (option_map peer_view default) (words_of line.now) (question_view q)) }
-    ensures refused { IsErrOf result Status.CommandLine → IsBadLine (option_map peer_view default) line.now }
+    requires { 0 < length words.now }
+    ensures question { IfOk result (λ q. AsksWords (option_map peer_view default) (map (λ w. w.now) words.now) (question_view q)) }
+    ensures refused { IsErrOf result Status.CommandLine → AreBadWords (option_map peer_view default) (Some (map (λ w. w.now) words.now)) }
     ensures told { IfErr result IsStop }
 {
-    let Ok(words) = parts_of(alloc, b' ', line) else {
-        return Err(no_memory(err));
+    let Some(peer) = peer_of(default, words) else {
+        return Err(print_no_peer(number, words, err));
     };
-    let Some(peer) = peer_of(default, &words) else {
-        return Err(print_no_peer(number, &words, err));
-    };
-    let request = request_words(&words);
+    let request = request_words(words);
     match read_question(alloc, peer, request) {
         Ok(question) => Ok(question),
         Err(FormFault::NoForm) => Err(print_bad_line(alloc, number, request, err)),
@@ -104,6 +123,7 @@ fn question_in<E: Write>(
 }
 
 /// Adds what a line asks; nothing where it is a note.
+#[tactic(auto, using(crate::proofs::ReadLines::note_adds, crate::proofs::ReadLines::blank_adds, crate::proofs::ReadLines::request_adds, crate::proofs::ReadLines::bad_words_read))]
 fn add_line<E: Write>(
     alloc: Global,
     default: Option<Peer>,
@@ -119,7 +139,11 @@ fn add_line<E: Write>(
     let Some(read) = read_of(true, line) else {
         return Ok(());
     };
-    let question = question_in(alloc, default, number, read, err)?;
+    let words = words_in(alloc, number, read, err)?;
+    if words.is_empty() {
+        return Ok(());
+    }
+    let question = question_of(alloc, default, number, &words, err)?;
     match questions.push(LineQuestion { number, question }) {
         Ok(()) => Ok(()),
         Err(_) => Err(no_memory(err)),
@@ -144,9 +168,19 @@ fn questions_among<E: Write>(
     Ok(questions)
 }
 
-/// What the lines of a text ask: a request a line, its words separated by single spaces. The first may be `@` and the peer that is asked, as
-/// `@192.168.1.20:47809`, or `@192.168.1.20/5:2A` behind a router; the others are asked of that one, if there is one. Lines may end in CRLF; blank ones and those
-/// that begin with `#` are passed over. Where a line names no peer, or its words are no request, `err` and the status say so.
+/// A text without the byte order mark that some editors put at its beginning.
+fn without_mark(text: &[u8]) -> &[u8]
+    ensures { result.now ≡ without_mark text.now }
+{
+    match text {
+        [0xEF, 0xBB, 0xBF, rest @ ..] => rest,
+        _ => text,
+    }
+}
+
+/// What the lines of a text ask: a request a line, its words separated by blanks and tabs; one with blanks in it stands in quotes. The first may be `@` and the
+/// peer that is asked, as `@192.168.1.20:47809`, or `@192.168.1.20/5:2A` behind a router; the others are asked of that one, if there is one. Lines may end in
+/// CRLF, and in a note that begins with `#`; blank ones are passed over. Where a line names no peer, or its words are no request, `err` and the status say so.
 pub(crate) fn questions_in<E: Write>(
     alloc: Global,
     default: Option<Peer>,
@@ -157,7 +191,7 @@ pub(crate) fn questions_in<E: Write>(
     ensures refused { IsErrOf result Status.CommandLine → HaveBadLine (option_map peer_view default) (lines_in text.now) }
     ensures told { IfErr result IsStop }
 {
-    let Ok(lines) = parts_of(alloc, b'\n', text) else {
+    let Ok(lines) = parts_of(alloc, b'\n', without_mark(text)) else {
         return Err(no_memory(err));
     };
     questions_among(alloc, default, &lines, err)
