@@ -45,6 +45,17 @@ const ANSWERED: &[LinesRow] = &[
             0,
         ),
     ),
+    // a byte order mark, more blanks than one, a tab, notes at the end and behind blanks, and words in quotes
+    (
+        "\u{feff}read  0:5\t85   # the flow\n \t# none\nwrite 2:1 28 \"text:Room 5\"\n\"read\" 0:5 \"85\" #\n",
+        HOUSES,
+        "ask --port 47808 --lines capture",
+        (
+            "1: answered read 444290999A\n3: answered written\n4: answered read 444290999A\n",
+            "",
+            0,
+        ),
+    ),
     // nothing to ask
     (
         "# none\n",
@@ -97,6 +108,26 @@ const REFUSED: &[LinesRow] = &[
         NO_LINKS,
         "ask --port 47808 --lines capture",
         ("", "line 1: bad words: position is missing\n", 2),
+    ),
+    (
+        "\u{feff}read  0:5\t85   # the flow\n \t# none\nwrite 2:1 28 \"text:Room 5\"\n\"read\" 0:5 \"85\"#\n",
+        HOUSES,
+        "ask --port 47808 --lines capture",
+        (
+            "",
+            "line 4: bad words: a text in quotes ends with a quote, and a blank or the end of the line after it\n",
+            2,
+        ),
+    ),
+    (
+        "read 0:5 \"85\n",
+        NO_LINKS,
+        "ask --port 47808 --lines capture",
+        (
+            "",
+            "line 1: bad words: a text in quotes ends with a quote, and a blank or the end of the line after it\n",
+            2,
+        ),
     ),
     (
         "read 0:5 85\n",
