@@ -495,7 +495,7 @@ const ASK: &[Word] = &[
         form: WordForm::Text("FILE"),
         need: Need::Never,
         against: &["WORDS", "raw"],
-        help: "Asks the requests in FILE, one a line, in turn, and prefixes each result with its line number; `-` reads standard input. A line may begin with the address of its own node, `@A.B.C.D[:P]` or `@A.B.C.D[:P]/NET:MAC`; the others are asked of the node that --to or --port gives. Skips blank lines and lines that begin with `#`; words are separated by single spaces, and `@FILE` is not allowed. A bad line is reported before anything is asked",
+        help: "Asks the requests in FILE, one a line, in turn, and prefixes each result with its line number; `-` reads standard input. A line may begin with the address of its own node, `@A.B.C.D[:P]` or `@A.B.C.D[:P]/NET:MAC`; the others are asked of the node that --to or --port gives. Skips blank lines, and notes that begin with `#`; blanks separate words, a word with blanks in it stands in quotes, and `@FILE` is not allowed. A bad line is reported before anything is asked",
     },
     Word {
         name: "window",
