@@ -9,3 +9,5 @@ pub mod Short
 pub mod Ways
 pub mod Taking
 pub mod Services
+pub mod Growth
+pub mod KeptTables

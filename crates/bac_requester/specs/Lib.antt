@@ -9,3 +9,4 @@ pub mod Requests
 pub mod Fits
 pub mod Transitions
 pub mod Timers
+pub mod Kept

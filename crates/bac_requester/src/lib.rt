@@ -12,6 +12,7 @@ mod begin;
 mod client;
 mod comparing;
 mod ending;
+mod keeping;
 mod outgoing_request;
 mod reaction;
 mod reading;

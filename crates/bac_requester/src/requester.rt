@@ -2,7 +2,7 @@
 //!
 //! bac_node makes one for each node and calls it for each ask, APDU and tick; nothing else needs to. The methods and their contracts are the interface. The
 //! fields may change.
-ghost use Rattle.std.specs.Prelude.{◌≡◌, ◌≢◌, ℕ, ◌<◌, ◌≤◌, ◌↔◌, [], IfOk, IsErr, IsTrue, count_by};
+ghost use Rattle.std.specs.Prelude.{◌≡◌, ◌≢◌, ℕ, ◌<◌, ◌≤◌, ◌↔◌, [], IfOk, IfSome, IsErr, IsTrue, count_by, max};
 ghost use Rattle.bac_apdu.specs.Views.{apdu_view, limits_view};
 ghost use Rattle.bac_npdu.specs.Views.{peer_view};
 ghost use Rattle.bac_service.specs.Requests.{SpellsRequest};
@@ -18,12 +18,14 @@ ghost use Rattle.bac_transaction.specs.Ends.AskOutcome.{Refused};
 ghost use Rattle.bac_transaction.specs.Views.{settings_view};
 ghost use Rattle.bac_requester.specs.Timers.{LAST_MOMENT};
 ghost use Rattle.bac_requester.specs.TransactionViews.{fault_view};
+ghost use Rattle.bac_requester.specs.Kept.{kept_octets};
 ghost use Rattle.bac_requester.specs.Short.{AreRepliesShort};
 ghost use Rattle.bac_requester.specs.Reactions.{Asks, HasNoneOpen, IsReaction, OnApdu, Refuses};
 
 use crate::ask_fault::AskFault;
 use crate::asking::{Asked, begin, free_id, has_no_slot};
 use crate::client::{Client, ClientRules, ShortReplies};
+use crate::keeping::{count_octets, grown, has_room, is_within, key_octets, moved};
 use crate::outgoing_request::{RequestFault, RequestWay};
 use crate::reaction::{Ended, Reaction, nothing};
 use crate::requester_on_apdu::requester_on_apdu;
@@ -50,6 +52,8 @@ pub struct Requester<S: SlotTable<PeerKey, Client> + Drop> {
     asked: u64,
     restart: Option<u64>,
     first_id: u8,
+    // how many octets the slots keep at the most; None where that is not known
+    kept: Option<usize>,
     // always empty; it has room for the next ending once a transaction goes on, so that no ending is lost
     room: Vec<Ended>,
 }
@@ -68,7 +72,11 @@ impl<S: SlotTable<PeerKey, Client> + Drop> Model for Requester<S> {
 
     ghost use Rattle.std.specs.Prelude.{◌≡◌, []};
 
-    ghost invariant = { λ r. AreAged r.aged.ages (S.slots r.aged.table) × (r.room.items ≡ []) };
+    ghost use Rattle.std.specs.Prelude.{◌≤◌, IfSome};
+    ghost use Rattle.bac_transaction.specs.Views.{slots_view};
+    ghost use Rattle.bac_requester.specs.Kept.{kept_octets};
+
+    ghost invariant = { λ r. AreAged r.aged.ages (S.slots r.aged.table) × ((r.room.items ≡ []) × IfSome r.kept (λ k. kept_octets (slots_view (S.slots r.aged.table)) ≤ k)) };
 }
 
 /// Why a request can't go, as the fault of its ask.
@@ -98,6 +106,7 @@ impl<S: SlotTable<PeerKey, Client> + Drop> Requester<S> {
             asked: 0,
             restart,
             first_id: 0,
+            kept: Some(0),
             room: Vec::new(alloc),
         })
     }
@@ -122,6 +131,8 @@ impl<S: SlotTable<PeerKey, Client> + Drop> Requester<S> {
     ///
     /// The fault is the first one that holds of `TooLong`, `NeedsSegments`, `NoInvokeId`, `NoSlot` and `NoMemory`; it allocates only where none of the others
     /// holds. It never returns `ClockBack` and `SelfPeer`. After a fault nothing has changed.
+    ///
+    /// `NoMemory` also where its slots would then keep more than `room` octets of service data.
     pub fn ask(
         &mut self,
         settings: &Settings,
@@ -129,7 +140,9 @@ impl<S: SlotTable<PeerKey, Client> + Drop> Requester<S> {
         peer: &Peer,
         limits: &Limits,
         request: &OwnedRequest,
+        room: usize,
     ) -> Result<Asked, AskFault>
+        ensures within { kept_octets self.new.slots ≤ max (kept_octets self.old.slots) room }
         ensures spelled { SpellsRequest (choice_of (owned_request_view request.now)) (owned_request_view request.now) (request_spelling (owned_request_view request.now)) }
         ensures asks { Asks (requester_ask (settings_view settings.now) now (peer_view peer.now) (limits_view limits.now)
             (choice_of (owned_request_view request.now)) (request_spelling (owned_request_view request.now)) self.old) self.old result self.new }
@@ -164,7 +177,12 @@ impl<S: SlotTable<PeerKey, Client> + Drop> Requester<S> {
             number: ticket,
             held: TransactionSlot::Open(transaction),
         };
+        let kept = grown(self.kept, client.octets());
+        if !is_within(kept, room) {
+            return Err(AskFault::NoMemory);
+        }
         enter(&mut self.aged, context.key, now, client);
+        self.kept = kept;
         self.asked += 1;
         Ok(Asked {
             ticket,
@@ -176,14 +194,17 @@ impl<S: SlotTable<PeerKey, Client> + Drop> Requester<S> {
     /// An APDU comes from a peer at a moment, in milliseconds (clause 5.4.4). Call it for each APDU that the server of a transaction sends. Send what it hands
     /// out, in order, and report its ending, if there is one.
     ///
-    /// Where no transaction is open for the peer and the invoke ID, it ignores the APDU, and allocates nothing. After `NoMemory` nothing has changed.
+    /// Where no transaction is open for the peer and the invoke ID, it ignores the APDU, and allocates nothing. After `NoMemory` nothing has changed; it comes
+    /// also where a segment of a reply would make the slots keep more than `room` octets of service data.
     pub fn on(
         &mut self,
         settings: &Settings,
         now: u64,
         peer: &Peer,
         apdu: &Apdu<'_>,
+        room: usize,
     ) -> Result<Reaction, NoMemory>
+        ensures within { kept_octets self.new.slots ≤ max (kept_octets self.old.slots) room }
         ensures reacts { OnApdu (requester_on_apdu (settings_view settings.now) reads_reply now (peer_view peer.now) (apdu_view apdu.now) self.old) self.old result self.new }
         ensures none_open { HasNoneOpen self.old (key_of (peer_view peer.now) (apdu_view apdu.now)) → IsErr result → ⊥ }
     {
@@ -196,7 +217,21 @@ impl<S: SlotTable<PeerKey, Client> + Drop> Requester<S> {
             key,
             moment: now,
         };
-        requester_on_apdu(self.alloc, &context, &mut self.aged, &mut self.room, apdu)
+        // that no two slots have one key
+        let _slots = self.aged.table.len();
+        if !has_room(&self.aged.table, self.kept, &key, apdu, room) {
+            return Err(NoMemory);
+        }
+        let before = key_octets(&self.aged.table, &key);
+        let reaction = requester_on_apdu(
+            self.alloc,
+            &context,
+            &mut self.aged,
+            &mut self.room,
+            apdu,
+        )?;
+        self.kept = moved(self.kept, before, key_octets(&self.aged.table, &key));
+        Ok(reaction)
     }
 
     /// What a tick sends and ends (clause 5.4.4), at a moment in milliseconds. Nothing changes: once the caller has all the memory that it needs, it calls
@@ -216,7 +251,19 @@ impl<S: SlotTable<PeerKey, Client> + Drop> Requester<S> {
     pub fn commit_tick(&mut self, settings: &Settings, now: u64)
         ensures { self.new ≡ (requester_tick (settings_view settings.now) now self.old).end }
     {
+        let is_quiet = self.aged.ages.is_quiet(now);
         tick(&mut self.aged, settings, now);
+        if !is_quiet {
+            self.kept = count_octets(&self.aged.table);
+        }
+    }
+
+    /// How many octets of service data its slots keep at the most: of the requests of open transactions, and of the segments of their replies, each with
+    /// four more. None where they are more than can be counted. After each call it is as many as they keep.
+    pub fn kept(&self) -> Option<usize>
+        ensures { IfSome result (λ k. kept_octets self.now.slots ≤ k) }
+    {
+        self.kept
     }
 
     /// The first moment, in milliseconds, at which the timer of a transaction runs out or a transaction expires (clause 5.4.4); the last moment of all where no

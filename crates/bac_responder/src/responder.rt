@@ -1,5 +1,5 @@
 //! The server's end: the calls that bac_node makes. Their contracts are what crates above rest on.
-ghost use Rattle.std.specs.Prelude.{◌≡◌, ◌≢◌, ℕ, ◌<◌, ◌≤◌, ◌↔◌, [], None, count_by, max, IfOk, IsTrue};
+ghost use Rattle.std.specs.Prelude.{◌≡◌, ◌≢◌, ℕ, ◌<◌, ◌≤◌, ◌↔◌, [], None, count_by, max, IfOk, IfSome, IsTrue};
 ghost use Rattle.std.specs.Option.{option_map};
 ghost use Rattle.bac_apdu.specs.Views.{apdu_view};
 ghost use Rattle.bac_npdu.specs.Views.{peer_view};
@@ -15,7 +15,7 @@ ghost use Rattle.bac_transaction.specs.Views.{peer_key_view, settings_view};
 ghost use Rattle.bac_transaction.specs.Services.{service_of};
 ghost use Rattle.bac_responder.specs.Timers.{LAST_MOMENT};
 ghost use Rattle.bac_responder.specs.Short.{AreRequestsShort};
-ghost use Rattle.bac_responder.specs.Kept.{StaysWithin};
+ghost use Rattle.bac_responder.specs.Kept.{StaysWithin, kept_octets};
 ghost use Rattle.bac_responder.specs.Views.{end_of, Serves};
 
 use crate::aging::{ServerRules, ShortRequests};
@@ -271,5 +271,13 @@ impl<S: SlotTable<PeerKey, ServerTransaction> + Drop> Responder<S> {
         ensures { self.new ≡ (responder_tick (settings_view settings.now) now self.old).end }
     {
         tick(&mut self.aged, settings, now);
+    }
+
+    /// How many octets of service data its entries keep at the most, live or not: of the kept requests and replies, and of the segments of requests that are
+    /// received, each with four more. None where that is not known. Entries that left when a new one came may still be in it.
+    pub fn kept(&self) -> Option<usize>
+        ensures { IfSome result (λ k. kept_octets self.now.slots ≤ k) }
+    {
+        self.kept
     }
 }
