@@ -9,4 +9,3 @@ pub mod CutNext
 pub mod Holding
 pub mod Resting
 pub mod Answered
-pub mod ReusingTurned

@@ -8,5 +8,3 @@ pub mod Rounds
 pub mod Cuts
 pub mod NextCuts
 pub mod Example
-pub mod ReusingWorlds
-pub mod ReusingPlants

@@ -31,7 +31,6 @@ ghost use Rattle.bac_plant.specs.NextCuts.{FoundStoresGoOn, KeptStoresGoOn, Lost
 ghost use Rattle.bac_plant.specs.NextSteps.{AsksGoOn, ChangesGoOn, FailuresGoOn, HeldSendsGoOn, HeldTurnsGoOn, IsReached, RestartsGoOn, StrangersAskedGoOn};
 ghost use Rattle.bac_plant.specs.NextSteps.{TurnsGoOn};
 ghost use Rattle.bac_plant.specs.Plants.{Plant, nodes_of, world_of};
-ghost use Rattle.bac_plant.specs.ReusingPlants.{RunsWithoutReuse, SettingsStay, TurnsAreEventsSo};
 ghost use Rattle.bac_plant.specs.Rounds.{HeldChain, IsAsHeldInChain, RoundInChain, ServesRoundsInChain, StopsInRound, StopsRoundsInChain};
 ghost use Rattle.bac_plant.specs.Steps.{PlantRun, Step};
 ghost use Rattle.bac_plant.specs.Steps.Step.{SendsHeld};
@@ -52,15 +51,6 @@ pub fn turns_are_events()
         → IsOnce (stores_of (nodes_of old.stations)) new.log (stores_of (nodes_of new.stations)) }
     ensures apart { (W overtake : ℕ) (old new : Plant) → IsFresh (world_of old) → IsTimely old.time.pace → IsBounded W overtake (world_of old)
         → (steps : List Step) → PlantRun overtake steps old new → AreServedApart (world_of new) }
-{}
-
-/// The turns of stations some of which let clients use an invoke ID again as soon as its transaction is over are events of a world in which these nodes do so.
-/// No step changes such a setting; where no station has it, a run is one of the law above.
-#[tactic(auto, using(crate::proofs::ReusingTurned::settings_stay, crate::proofs::ReusingTurned::run_events_so, crate::proofs::ReusingTurned::runs_without_reuse))]
-pub fn reusing_turns_are_events()
-    ensures settings { SettingsStay }
-    ensures events { TurnsAreEventsSo }
-    ensures without { RunsWithoutReuse }
 {}
 
 /// After each run of a fresh plant, whatever a call promises of a station, at the moment of its clock and by a datagram that the network may hand over, is a
