@@ -11,3 +11,7 @@ pub mod Same
 pub mod Begun
 pub mod Rests
 pub mod Reused
+pub mod Sums
+pub mod Growth
+pub mod KeptTables
+pub mod KeptWithin

@@ -3,6 +3,7 @@ pub mod Turns
 pub mod Views
 pub mod Aging
 pub mod Short
+pub mod Kept
 pub mod TransactionViews
 pub mod Reactions
 pub mod Reading

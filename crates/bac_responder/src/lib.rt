@@ -12,6 +12,7 @@ mod aging;
 mod comparing;
 mod effect;
 mod idle;
+mod keeping;
 mod kept_reply;
 mod live;
 mod lookup;

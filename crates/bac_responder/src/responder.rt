@@ -15,10 +15,13 @@ ghost use Rattle.bac_transaction.specs.Views.{peer_key_view, settings_view};
 ghost use Rattle.bac_transaction.specs.Services.{service_of};
 ghost use Rattle.bac_responder.specs.Timers.{LAST_MOMENT};
 ghost use Rattle.bac_responder.specs.Short.{AreRequestsShort};
+ghost use Rattle.bac_responder.specs.Kept.{StaysWithin};
 ghost use Rattle.bac_responder.specs.Views.{end_of, Serves};
 
 use crate::aging::{ServerRules, ShortRequests};
+use crate::keeping::{count_octets, fits, key_octets, moved, service_len};
 use crate::lookup::on_apdu;
+use crate::reusing::is_none_live;
 use crate::served::Served;
 use crate::ticking::{nothing_due, prepare};
 use crate::{ServerTransaction, reusing};
@@ -33,11 +36,18 @@ use bac_value::NoMemory;
 use std::alloc::Global;
 use std::marker::Model;
 
+/// How long no entries are counted again once there was no room, in milliseconds.
+const PAUSE: u64 = 1_000;
+
 /// The server's end of a node: the reply table.
 #[derive(Drop)]
 pub struct Responder<S: SlotTable<PeerKey, ServerTransaction> + Drop> {
     aged: AgedTable<ServerRules, S>,
     restart: Option<u64>,
+    // how many octets the entries keep at the most; None where that is not known
+    kept: Option<usize>,
+    // the moment from which on entries may be counted again
+    counts_from: u64,
 }
 
 impl<S: SlotTable<PeerKey, ServerTransaction> + Drop> Model for Responder<S> {
@@ -50,7 +60,11 @@ impl<S: SlotTable<PeerKey, ServerTransaction> + Drop> Model for Responder<S> {
 
     ghost view = { λ r. end_of (S.slots r.aged.table) (S.capacity r.aged.table) r.restart };
 
-    ghost invariant = { λ r. AreAged r.aged.ages (S.slots r.aged.table) };
+    ghost use Rattle.std.specs.Prelude.{◌≤◌, IfSome};
+    ghost use Rattle.bac_transaction.specs.Views.{slots_view};
+    ghost use Rattle.bac_responder.specs.Kept.{kept_octets};
+
+    ghost invariant = { λ r. AreAged r.aged.ages (S.slots r.aged.table) × IfSome r.kept (λ k. kept_octets (slots_view (S.slots r.aged.table)) ≤ k) };
 }
 
 impl<S: SlotTable<PeerKey, ServerTransaction> + Drop> Responder<S> {
@@ -62,7 +76,12 @@ impl<S: SlotTable<PeerKey, ServerTransaction> + Drop> Responder<S> {
         ensures { IfOk result (λ r. r ≡ record { slots = []; capacity = slots; serves_from = first_after KEPT_FOR restart }) }
     {
         let aged = empty_table(alloc, slots)?;
-        Ok(Responder { aged, restart })
+        Ok(Responder {
+            aged,
+            restart,
+            kept: Some(0),
+            counts_from: 0,
+        })
     }
 
     /// How many entries are live. No two entries have one key, and there are no more of them than slots, whether they are live or not.
@@ -121,6 +140,44 @@ impl<S: SlotTable<PeerKey, ServerTransaction> + Drop> Responder<S> {
         self.restart == other.restart && same_tables(&self.aged.table, &other.aged.table)
     }
 
+    /// Whether what the entries keep stays within so many octets, or does not grow, whatever an APDU makes of them: ask before `on` and `on_reusing`, and where it
+    /// is false, drop the APDU as where memory ran out. What contracts see of the end does not change.
+    ///
+    /// Octets of service data count: of the kept requests and replies, and of the segments of requests that are received, each with four more. A request is
+    /// taken to need room for its own, and for the longest reply, 65,535 octets; any other APDU needs none. Entries that are not live count, but not
+    /// where the request takes their place. Entries are counted one by one only where there seems to be no room, and once there was none, not again for 1,000 ms.
+    pub fn has_room_for(&mut self, now: u64, peer: &Peer, apdu: &Apdu<'_>, room: usize) -> bool
+        ensures same { self.new ≡ self.old }
+        ensures within { IsTrue result → StaysWithin now (peer_view peer.now) (apdu_view apdu.now) room self.old }
+    {
+        // that no two entries have one key
+        let _entries = self.aged.table.len();
+        let Some(len) = service_len(apdu) else {
+            return true;
+        };
+        if fits(self.kept, len, room) {
+            return true;
+        }
+        if now < self.counts_from {
+            return false;
+        }
+        self.kept = count_octets(&self.aged.table, false, now);
+        if fits(self.kept, len, room) {
+            return true;
+        }
+        let key = PeerKey {
+            peer: *peer,
+            invoke_id: invoke_id_of(apdu),
+        };
+        if is_none_live(&self.aged.table, &key, now)
+            && fits(count_octets(&self.aged.table, true, now), len, room)
+        {
+            return true;
+        }
+        self.counts_from = now.saturating_add(PAUSE);
+        false
+    }
+
     /// An APDU comes from a peer, at that moment in milliseconds: call it for each APDU that a client can send, and then send all of `sends`, in their order.
     /// `act` is the request that was performed, if any; the store has changed by it already.
     ///
@@ -148,7 +205,12 @@ impl<S: SlotTable<PeerKey, ServerTransaction> + Drop> Responder<S> {
             key,
             moment: now,
         };
-        on_apdu(alloc, &context, &mut self.aged, self.restart, apdu, store)
+        // that no two entries have one key
+        let _entries = self.aged.table.len();
+        let before = key_octets(&self.aged.table, &key);
+        let served = on_apdu(alloc, &context, &mut self.aged, self.restart, apdu, store)?;
+        self.kept = moved(self.kept, before, key_octets(&self.aged.table, &key));
+        Ok(served)
     }
 
     /// As `on`, of a node that lets clients use an invoke ID again as soon as its transaction is over (clause 5.4). Call one of both for all APDUs.
@@ -178,7 +240,12 @@ impl<S: SlotTable<PeerKey, ServerTransaction> + Drop> Responder<S> {
             key,
             moment: now,
         };
-        reusing::on_apdu(alloc, &context, &mut self.aged, self.restart, apdu, store)
+        // that no two entries have one key
+        let _entries = self.aged.table.len();
+        let before = key_octets(&self.aged.table, &key);
+        let served = reusing::on_apdu(alloc, &context, &mut self.aged, self.restart, apdu, store)?;
+        self.kept = moved(self.kept, before, key_octets(&self.aged.table, &key));
+        Ok(served)
     }
 
     /// What a tick sends, in ascending order of peer and invoke ID: the windows of replies that no SegmentACK came for in 2,000 ms, while a retry is left.

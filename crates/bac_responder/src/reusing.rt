@@ -183,7 +183,7 @@ fn ends_entry<S: SlotTable<PeerKey, ServerTransaction>>(
 }
 
 /// Whether no entry of the key is live.
-fn is_none_live<S: SlotTable<PeerKey, ServerTransaction>>(
+pub(crate) fn is_none_live<S: SlotTable<PeerKey, ServerTransaction>>(
     table: &S,
     key: &PeerKey,
     now: u64,

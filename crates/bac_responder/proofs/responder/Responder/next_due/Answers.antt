@@ -17,7 +17,7 @@ returns-then-is_quiet_from-clause-rests g c =
     rw (← c.self.view_is) (λ settings moment started before.
     let begun : ages.from ≤ moment = omega (arith, quiet.0, started) in
     servers_rest settings moment ages.from ages.due begun (subst (λ due. moment < due) (sym quiet.1) before) end
-    (each_viewed ServerTransaction (IsQuiet ages.from ages.due) slots c.self.invariant.quiet))
+    (each_viewed ServerTransaction (IsQuiet ages.from ages.due) slots c.self.invariant.0.quiet))
 
 pub returns-clause-rests : goal.returns-clause-rests
 returns-clause-rests g c =

@@ -8,5 +8,5 @@ pub returns-then-is_quiet : goal.returns-then-is_quiet
 returns-then-is_quiet g c =
     let within = between c.self.inside.aged.ages.from c.self.inside.aged.ages.due c.args.now (sym c.is_quiet.ensures ∙ c.if-is_quiet.true) in
     rw (← c.self.view_is) (nothing_due c.args.settings.now c.args.now c.self.inside.aged.ages.from c.self.inside.aged.ages.due within.0 within.1
-    (g.S.SlotTable.slots c.self.inside.aged.table) (g.S.SlotTable.capacity c.self.inside.aged.table) c.self.inside.restart c.nothing_due.result.items c.self.invariant.quiet
+    (g.S.SlotTable.slots c.self.inside.aged.table) (g.S.SlotTable.capacity c.self.inside.aged.table) c.self.inside.restart c.nothing_due.result.items c.self.invariant.0.quiet
     c.nothing_due.ensures)

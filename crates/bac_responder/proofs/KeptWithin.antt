@@ -1,0 +1,268 @@
+-- What the server's end keeps after a call, in its own terms and in those of its table.
+use Rattle.std.proofs.Common.{◌≡◌, ℕ, ◌+◌, ◌≤◌, Bool, true, false, ◌&&◌, List, [], ◌∷◌, length, max, map, Option, Some, None}
+use Rattle.std.proofs.Common.{Result, Ok, Err, if◌then◌else◌, refl, ap, sym, subst, ◌∙◌, arith}
+use Rattle.std.specs.Prelude.{IfSome, MatchOption}
+use Rattle.bac_apdu.specs.Apdu.{Apdu}
+use Rattle.bac_npdu.specs.Peers.{PeerView}
+use Rattle.bac_service.specs.Replies as plain
+use Rattle.bac_service.specs.Services.{request_at}
+use Rattle.bac_service.specs.Values.{Request}
+use Rattle.bac_service.proofs.Wholes.{length_complex}
+use Rattle.bac_slots.specs.declared.slot.Slot.{Slot}
+use Rattle.bac_slots.specs.Ages.{changed, ticked_in}
+use Rattle.bac_slots.specs.Slots.{IsDistinct, value_at}
+use Rattle.bac_slots.proofs.Slots.{IsDistinct-without}
+use Rattle.bac_slots.proofs.Values.{removed_none}
+use Rattle.bac_store.specs.ReplyLengths.{DATA_LIMIT, reply_length}
+use Rattle.bac_store.specs.Replies.{reply_to}
+use Rattle.bac_store.specs.Stores.{Store}
+use Rattle.bac_protocol.specs.Context.{Settings}
+use Rattle.bac_protocol.specs.Reuse.{ends_entry, entry_left, is_ended_by, left_on_apdu}
+use Rattle.bac_protocol.specs.Server.{ServerTransaction, is_live, is_none_live, live_entry, server_on_apdu}
+use Rattle.bac_protocol.specs.Service.{Octets}
+use Rattle.bac_transaction.specs.Ends.{ServerEnd, ServerSlot, context_of, is_free, key_of, put_entry, server_ticked}
+use Rattle.bac_transaction.specs.Keys as keys
+use Rattle.bac_transaction.specs.Keys.{same_key}
+use Rattle.bac_transaction.specs.Reuse.{end_left, is_read, slots_left}
+use Rattle.bac_transaction.specs.Services.{outcome_by, outcome_of, service_of}
+use Rattle.bac_transaction.specs.Views.{code_same_key, context_view, peer_key_view, settings_view, slot_view, slots_view}
+use Rattle.bac_transaction.specs.declared.context.Context as code
+use Rattle.bac_transaction.specs.declared.settings.Settings.{Settings as CodeSettings}
+use Rattle.bac_transaction.specs.declared.peer_key.PeerKey.{PeerKey}
+use Rattle.bac_transaction.proofs.Keyed.{value_viewed}
+use Rattle.bac_transaction.proofs.KeyedSlots.{keys_equivalent}
+use Rattle.bac_transaction.proofs.Viewed.{orderly_viewed}
+use Rattle.bac_responder.specs.Aging.{entry_ticked}
+use Rattle.bac_responder.specs.Kept.{HasShortReplies, StaysWithin, counted, entry_octets, growth, kept_octets, octets_of, sum_of}
+use Rattle.bac_responder.specs.Reuse.{reusing_turn_of}
+use Rattle.bac_responder.specs.Views.{end_of, turn_of}
+use Rattle.bac_responder.proofs.Growth.{Fits, left_fits, outcome_octets, server_fits}
+use Rattle.bac_responder.proofs.KeptTables.{live_slots, put_begins, put_grows, put_moves, ticked_octets, without_octets}
+use Rattle.bac_responder.proofs.Ticks.{committed}
+
+-- The replies of a store are short.
+
+outcome_short : (p : plain.Reply) → reply_length p ≤ DATA_LIMIT → outcome_octets (outcome_of p) ≤ DATA_LIMIT
+outcome_short plain.Reply.Simple h = omega arith
+outcome_short (plain.Reply.Complex c) h = let same = length_complex c in omega (arith, same, h)
+outcome_short (plain.Reply.Error class code) h = omega arith
+outcome_short (plain.Reply.Reject reason) h = omega arith
+
+short_service : (s : Store) → HasShortReplies s → (choice : ℕ) (octets : Octets) → outcome_octets (service_of s choice octets) ≤ DATA_LIMIT
+short_service s short choice octets = go (request_at choice octets)
+  where
+    go : (r : Result Request ℕ) → outcome_octets (outcome_by s r) ≤ DATA_LIMIT
+    go (Ok r) = outcome_short (reply_to s r) (short r)
+    go (Err reason) = omega arith
+
+-- An APDU comes for a key.
+
+module _ (now : ℕ) (key : keys.PeerKey) (a : Apdu) (e : ServerEnd) where
+  abbrev pub present : Option ServerTransaction
+  present = value_at same_key key e.slots
+
+  -- the slots without the entry that the APDU ends, if it ends one
+  abbrev pub remaining : List ServerSlot
+  remaining = slots_left (ends_entry is_read now present a) key e.slots
+
+  rest_within : kept_octets remaining ≤ kept_octets e.slots
+  rest_within = go (ends_entry is_read now present a)
+    where
+      go : (b : Bool) → kept_octets (slots_left b key e.slots) ≤ kept_octets e.slots
+      go true = let sum = without_octets key e.slots in omega (arith, sum)
+      go false = omega arith
+
+  rest_distinct : IsDistinct same_key e.slots → IsDistinct same_key remaining
+  rest_distinct distinct = go (ends_entry is_read now present a)
+    where
+      go : (b : Bool) → IsDistinct same_key (slots_left b key e.slots)
+      go true = IsDistinct-without same_key key e.slots distinct
+      go false = distinct
+
+  rest_moves : kept_octets remaining + octets_of present ≤ kept_octets e.slots + octets_of (value_at same_key key remaining)
+  rest_moves = go (ends_entry is_read now present a)
+    where
+      go : (b : Bool) → kept_octets (slots_left b key e.slots) + octets_of present ≤ kept_octets e.slots + octets_of (value_at same_key key (slots_left b key e.slots))
+      go true = let sum = without_octets key e.slots in omega (arith, sum)
+      go false = omega arith
+
+  left_there : IsDistinct same_key e.slots → value_at same_key key remaining ≡ entry_left is_read now present a
+  left_there distinct = go (ends_entry is_read now present a)
+    where
+      go : (b : Bool) → value_at same_key key (slots_left b key e.slots) ≡ (if b then None else present)
+      go true = removed_none keys.PeerKey ServerTransaction same_key keys_equivalent key e.slots distinct
+      go false = refl
+
+  -- where none is live, none ends
+  none_ends : is_none_live now present ≡ true → ends_entry is_read now present a ≡ false
+  none_ends none = go present none
+    where
+      dead : (b d : Bool) → (if b then false else true) ≡ true → b && d ≡ false
+      dead true d none = absurd cc
+      dead false d none = refl
+
+      go : (o : Option ServerTransaction) → is_none_live now o ≡ true → ends_entry is_read now o a ≡ false
+      go None none = refl
+      go (Some d) none = dead (is_live now d) (is_ended_by is_read d a) none
+
+  -- what the entry of the key keeps more or less, all keep
+  pub left_moves : IsDistinct same_key e.slots → (o : Option ServerTransaction)
+      → kept_octets (put_entry now key o remaining) + octets_of present ≤ kept_octets e.slots + octets_of (value_at same_key key (put_entry now key o remaining))
+  left_moves distinct o =
+      let less = rest_moves in
+      let sum = put_moves now key remaining (rest_distinct distinct) o in
+      omega (arith, less, sum)
+
+  module _ (c : Settings) (s : Store) (short : HasShortReplies s) (distinct : IsDistinct same_key e.slots) where
+    abbrev after : Option ServerTransaction
+    after = (server_on_apdu (context_of c now key) (service_of s) present (is_free now e) a).entry
+
+    fits : Fits now (octets_of (live_entry now present) + growth a) after
+    fits = server_fits (context_of c now key) (service_of s) (short_service s short) present (is_free now e) a
+
+    pub on_grows : kept_octets (put_entry now key after e.slots) ≤ kept_octets e.slots + growth a
+    on_grows = put_grows now key e.slots (growth a) after fits
+
+    pub on_begins : is_none_live now present ≡ true
+        → kept_octets (put_entry now key after e.slots) ≤ max (kept_octets e.slots) (kept_octets (live_slots now e.slots) + growth a)
+    on_begins none = put_begins now key e.slots (growth a) after none fits
+
+    abbrev left_after : Option ServerTransaction
+    left_after = (left_on_apdu (context_of c now key) (service_of s) is_read (entry_left is_read now present a) (is_free now (end_left now key a e)) a).entry
+
+    left_fit : Fits now (octets_of (live_entry now (value_at same_key key remaining)) + growth a) left_after
+    left_fit = subst (λ (o : Option ServerTransaction). Fits now (octets_of (live_entry now o) + growth a) left_after) (sym (left_there distinct))
+        (left_fits (context_of c now key) (service_of s) (short_service s short) is_read (entry_left is_read now present a) (is_free now (end_left now key a e)) a)
+
+    pub reusing_grows : kept_octets (put_entry now key left_after remaining) ≤ kept_octets e.slots + growth a
+    reusing_grows =
+        let less = rest_within in
+        let sum = put_grows now key remaining (growth a) left_after left_fit in
+        omega (arith, less, sum)
+
+    pub reusing_begins : is_none_live now present ≡ true
+        → kept_octets (put_entry now key left_after remaining) ≤ max (kept_octets e.slots) (kept_octets (live_slots now e.slots) + growth a)
+    reusing_begins none =
+        let same : remaining ≡ e.slots = ap (λ (b : Bool). slots_left b key e.slots) (none_ends none) in
+        let all = ap kept_octets same in
+        let live = ap (λ (l : List ServerSlot). kept_octets (live_slots now l)) same in
+        let there : is_none_live now (value_at same_key key remaining) ≡ true = ap (λ (l : List ServerSlot). is_none_live now (value_at same_key key l)) same ∙ none in
+        let sum = put_begins now key remaining (growth a) left_after there left_fit in
+        omega (arith, all, live, sum)
+
+-- Whether there is room for it.
+
+module _ (now : ℕ) (peer : PeerView) (a : Apdu) (room : ℕ) (e : ServerEnd) (distinct : IsDistinct same_key e.slots) where
+  -- it grows by no more, and there is room for that
+  grown_within : kept_octets e.slots + growth a ≤ room → StaysWithin now peer a room e
+  grown_within there = record {
+    on = λ c s short. let sum = on_grows now (key_of peer a) a e c s short distinct in omega (arith, sum, there);
+    on_reusing = λ c s short. let sum = reusing_grows now (key_of peer a) a e c s short distinct in omega (arith, sum, there);
+  }
+
+  -- it does not grow
+  same_within : growth a ≡ 0 → StaysWithin now peer a room e
+  same_within none = record {
+    on = λ c s short. let sum = on_grows now (key_of peer a) a e c s short distinct in omega (arith, sum, none);
+    on_reusing = λ c s short. let sum = reusing_grows now (key_of peer a) a e c s short distinct in omega (arith, sum, none);
+  }
+
+  -- no entry of its key is live, and beside the live ones there is room
+  begun_within : is_none_live now (value_at same_key (key_of peer a) e.slots) ≡ true → kept_octets (live_slots now e.slots) + growth a ≤ room
+      → StaysWithin now peer a room e
+  begun_within none there = record {
+    on = λ c s short. let sum = on_begins now (key_of peer a) a e c s short distinct none in omega (arith, sum, there);
+    on_reusing = λ c s short. let sum = reusing_begins now (key_of peer a) a e c s short distinct none in omega (arith, sum, there);
+  }
+
+-- The table.
+
+abbrev Slots : Type 0
+Slots = List (Slot PeerKey ServerTransaction)
+
+counted_all : (now : ℕ) (slots : Slots) → sum_of (counted false now) slots ≡ kept_octets (slots_view slots)
+counted_all now [] = refl
+counted_all now (s ∷ slots) = ap (λ n. entry_octets s.value + n) (counted_all now slots)
+
+counted_live : (now : ℕ) (slots : Slots) → sum_of (counted true now) slots ≡ kept_octets (live_slots now (slots_view slots))
+counted_live now [] = refl
+counted_live now (s ∷ slots) = go (is_live now s.value) (counted_live now slots)
+  where
+    go : (b : Bool) → sum_of (counted true now) slots ≡ kept_octets (live_slots now (slots_view slots))
+        → (if b then entry_octets s.value else 0) + sum_of (counted true now) slots
+        ≡ kept_octets (if b then slot_view s ∷ live_slots now (slots_view slots) else live_slots now (slots_view slots))
+    go true again = ap (λ n. entry_octets s.value + n) again
+    go false again = omega (arith, again)
+
+pub counted_within : (now : ℕ) (slots : Slots) (kept : Option ℕ) → IfSome kept (λ k. k ≡ sum_of (counted false now) slots)
+    → IfSome kept (λ k. kept_octets (slots_view slots) ≤ k)
+counted_within now slots None is = tt
+counted_within now slots (Some k) is = let same = counted_all now slots in omega (arith, same, is)
+
+apart : (slots : Slots) → IsDistinct code_same_key slots → IsDistinct same_key (slots_view slots)
+apart slots distinct = (orderly_viewed ServerTransaction slots (length slots) (length slots) distinct refl (omega arith)).distinct
+
+module _ (now : ℕ) (peer : PeerView) (a : Apdu) (room : ℕ) (slots : Slots) (capacity : ℕ) (restart : Option ℕ) (distinct : IsDistinct code_same_key slots) where
+  pub no_more : growth a ≡ 0 → StaysWithin now peer a room (end_of slots capacity restart)
+  no_more none = same_within now peer a room (end_of slots capacity restart) (apart slots distinct) none
+
+  pub room_for : (kept : Option ℕ) (len : ℕ) → IfSome kept (λ k. kept_octets (slots_view slots) ≤ k) → growth a ≡ len + 65539
+      → MatchOption kept ⊥ (λ k. k + (len + 65539) ≤ room) → StaysWithin now peer a room (end_of slots capacity restart)
+  room_for None len within grows there = absurd there
+  room_for (Some k) len within grows there =
+      grown_within now peer a room (end_of slots capacity restart) (apart slots distinct) (omega (arith, within, grows, there))
+
+  -- where it takes the place of the dead ones
+  pub room_instead : (key : PeerKey) → peer_key_view key ≡ key_of peer a → is_none_live now (value_at code_same_key key slots) ≡ true → (kept : Option ℕ) (len : ℕ)
+      → IfSome kept (λ k. k ≡ sum_of (counted true now) slots) → growth a ≡ len + 65539 → MatchOption kept ⊥ (λ k. k + (len + 65539) ≤ room)
+      → StaysWithin now peer a room (end_of slots capacity restart)
+  room_instead key is none None len within grows there = absurd there
+  room_instead key is none (Some k) len within grows there =
+      let seen : is_none_live now (value_at same_key (key_of peer a) (slots_view slots)) ≡ true =
+      ap (λ (q : keys.PeerKey). is_none_live now (value_at same_key q (slots_view slots))) (sym is)
+      ∙ ap (is_none_live now) (sym (value_viewed ServerTransaction key slots)) ∙ none in
+      let same = counted_live now slots in
+      begun_within now peer a room (end_of slots capacity restart) (apart slots distinct) seen (omega (arith, within, grows, there, same))
+
+-- An APDU was taken: what the table keeps more or less, the entry of its key does.
+
+seen_moves : (key : PeerKey) (old new : Slots) (put : List ServerSlot) → slots_view new ≡ put
+    → kept_octets put + octets_of (value_at same_key (peer_key_view key) (slots_view old))
+    ≤ kept_octets (slots_view old) + octets_of (value_at same_key (peer_key_view key) put)
+    → kept_octets (slots_view new) + octets_of (value_at code_same_key key old) ≤ kept_octets (slots_view old) + octets_of (value_at code_same_key key new)
+seen_moves key old new put is moves =
+    let all = ap kept_octets is in
+    let before = ap octets_of (value_viewed ServerTransaction key old) in
+    let after = ap octets_of (value_viewed ServerTransaction key new ∙ ap (value_at same_key (peer_key_view key)) is) in
+    omega (arith, moves, all, before, after)
+
+module _ (c : code.Context) (s : Store) (a : Apdu) (old new : Slots) (capacity room : ℕ) (restart : Option ℕ) (distinct : IsDistinct code_same_key old) where
+  abbrev e : ServerEnd
+  e = end_of old capacity restart
+
+  abbrev k : keys.PeerKey
+  k = peer_key_view c.key
+
+  pub on_moved : end_of new room restart ≡ (turn_of c s a (end_of old capacity restart)).end
+      → kept_octets (slots_view new) + octets_of (value_at code_same_key c.key old) ≤ kept_octets (slots_view old) + octets_of (value_at code_same_key c.key new)
+  on_moved is = seen_moves c.key old new _ (ap (λ (x : ServerEnd). x.slots) is)
+      (put_moves c.moment k (slots_view old) (apart old distinct)
+      (server_on_apdu (context_view c) (service_of s) (value_at same_key k (slots_view old)) (is_free c.moment e) a).entry)
+
+  pub reusing_moved : end_of new room restart ≡ (reusing_turn_of c s a (end_of old capacity restart)).end
+      → kept_octets (slots_view new) + octets_of (value_at code_same_key c.key old) ≤ kept_octets (slots_view old) + octets_of (value_at code_same_key c.key new)
+  reusing_moved is = seen_moves c.key old new _ (ap (λ (x : ServerEnd). x.slots) is)
+      (left_moves c.moment k a e (apart old distinct)
+      (left_on_apdu (context_view c) (service_of s) is_read (entry_left is_read c.moment (value_at same_key k (slots_view old)) a)
+      (is_free c.moment (end_left c.moment k a e)) a).entry)
+
+-- A tick.
+
+pub ticked_within : (c : CodeSettings) (now : ℕ) (old new : Slots) (kept : Option ℕ) → new ≡ map (changed (ticked_in entry_ticked c now)) old
+    → IfSome kept (λ k. kept_octets (slots_view old) ≤ k) → IfSome kept (λ k. kept_octets (slots_view new) ≤ k)
+ticked_within c now old new None is within = tt
+ticked_within c now old new (Some k) is within =
+    let all : kept_octets (slots_view new) ≡ kept_octets (map (server_ticked (settings_view c) now) (slots_view old)) =
+    ap (λ (x : ServerEnd). kept_octets x.slots) (committed c now old new 0 0 None is refl) in
+    let less = ticked_octets (settings_view c) now (slots_view old) in
+    omega (arith, within, all, less)

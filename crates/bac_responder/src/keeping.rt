@@ -1,0 +1,143 @@
+//! How many octets of service data the entries of the reply table keep, and whether there is room for more. `Responder` calls it.
+ghost use Rattle.std.specs.Prelude.{◌≡◌, ℕ, ◌+◌, ◌≤◌, true, IfSome, IsTrue, MatchOption, Some, slice_get};
+ghost use Rattle.bac_apdu.specs.Views.{apdu_view};
+ghost use Rattle.bac_slots.specs.declared.slot.Slot.{Slot};
+ghost use Rattle.bac_slots.specs.Slots.{value_at};
+ghost use Rattle.bac_transaction.specs.Views.{code_same_key};
+ghost use Rattle.bac_responder.specs.Kept.{counted, entry_octets, growth, octets_of, reply_octets, state_octets, sum_of};
+ghost use Rattle.bac_responder.specs.TransactionViews.{kept_reply_view, state_view};
+
+use crate::ServerTransaction;
+use crate::kept_reply::{KeptReply, SpelledReply};
+use crate::server_transaction::State;
+use bac_apdu::Apdu;
+use bac_slots::SlotTable;
+use bac_transaction::PeerKey;
+
+/// What a request can add beside its own service data, in octets: the place of a segment, and the longest reply.
+const MOST_GROWTH: usize = 65_539;
+
+impl KeptReply {
+    /// How many octets of service data it has.
+    fn octets(&self) -> usize
+        ensures { (i c : ℕ) → result ≡ reply_octets (kept_reply_view i c self.now) }
+    {
+        match self {
+            KeptReply::Reply(SpelledReply::Complex(octets)) => octets.len(),
+            KeptReply::Reply(SpelledReply::Simple) => 0,
+            KeptReply::Reply(SpelledReply::Error { .. }) => 0,
+            KeptReply::Reject(_) => 0,
+            KeptReply::Abort(_) => 0,
+        }
+    }
+}
+
+impl State {
+    /// How many octets it keeps: of each segment of a request four more, for its place.
+    fn octets(&self) -> usize
+        ensures { (c : ℕ) → result ≡ state_octets (state_view c self.now) }
+    {
+        match self {
+            State::SegmentedRequest(reassembly) => {
+                reassembly.incoming.len() + reassembly.incoming.taken() * 4
+            }
+            State::Done { kept, .. } => kept.octets(),
+            State::SegmentedResponse(reply) => reply.outgoing.octets().len(),
+            State::Dropped => 0,
+        }
+    }
+}
+
+impl ServerTransaction {
+    /// How many octets it keeps; None where they are more than can be counted.
+    fn octets(&self) -> Option<usize>
+        ensures { IfSome result (λ n. n ≡ entry_octets self.now) }
+    {
+        let request = match &self.origin.request {
+            None => 0,
+            Some(octets) => octets.len(),
+        };
+        request.checked_add(self.state.octets())
+    }
+}
+
+/// How many octets the n-th slot in order of insertion keeps, if it is there, and of live ones alone if asked so.
+fn octets_at<S: SlotTable<PeerKey, ServerTransaction>>(
+    table: &S,
+    n: usize,
+    only_live: bool,
+    now: u64,
+) -> Option<usize>
+    ensures { IfSome result (λ k. (s : Slot PeerKey ServerTransaction) → slice_get (S.slots table.now) n ≡ Some s → k ≡ counted only_live now s) }
+{
+    let Some((_, _, entry)) = table.by_age(n) else {
+        return Some(0);
+    };
+    if only_live && !entry.is_live(now) {
+        return Some(0);
+    }
+    entry.octets()
+}
+
+/// How many octets all slots keep, or those alone whose entries are live; None where they are more than can be counted. It looks at each slot.
+pub(crate) fn count_octets<S: SlotTable<PeerKey, ServerTransaction>>(
+    table: &S,
+    only_live: bool,
+    now: u64,
+) -> Option<usize>
+    ensures { IfSome result (λ k. k ≡ sum_of (counted only_live now) (S.slots table.now)) }
+{
+    let mut octets: usize = 0;
+    for n in 0..table.len() {
+        octets = octets.checked_add(octets_at(table, n, only_live, now)?)?;
+    }
+    Some(octets)
+}
+
+/// How many octets the entry of a key keeps, if there is one; None where they are more than can be counted.
+pub(crate) fn key_octets<S: SlotTable<PeerKey, ServerTransaction>>(
+    table: &S,
+    key: &PeerKey,
+) -> Option<usize>
+    ensures { IfSome result (λ n. n ≡ octets_of (value_at code_same_key key.now (S.slots table.now))) }
+{
+    match table.get(key) {
+        None => Some(0),
+        Some(entry) => entry.octets(),
+    }
+}
+
+/// How many octets of service data a request has; None of another APDU, which makes no entry keep more.
+pub(crate) fn service_len(apdu: &Apdu<'_>) -> Option<usize>
+    ensures { MatchOption result (growth (apdu_view apdu.now) ≡ 0) (λ n. growth (apdu_view apdu.now) ≡ n + 65539) }
+{
+    match *apdu {
+        Apdu::ConfirmedRequest { service, .. } => Some(service.len()),
+        _ => None,
+    }
+}
+
+/// Whether there is room for a request with so much service data, where so many octets are kept.
+pub(crate) fn fits(kept: Option<usize>, len: usize, room: usize) -> bool
+    ensures { IsTrue result → MatchOption kept ⊥ (λ k. k + (len + 65539) ≤ room) }
+{
+    match kept {
+        None => false,
+        Some(kept) => {
+            kept <= room && MOST_GROWTH <= room - kept && len <= room - kept - MOST_GROWTH
+        }
+    }
+}
+
+/// What is kept at the most after a call, from what it was before: less what the entry of its key kept before, and more by what that keeps now.
+pub(crate) fn moved(
+    kept: Option<usize>,
+    before: Option<usize>,
+    after: Option<usize>,
+) -> Option<usize>
+    ensures { (old new b a : ℕ) → IfSome kept (λ k. old ≤ k) → IfSome before (λ n. n ≡ b) → IfSome after (λ n. n ≡ a) → new + b ≤ old + a
+        → IfSome result (λ k. new ≤ k) }
+{
+    let left = kept?.checked_sub(before?)?;
+    left.checked_add(after?)
+}
