@@ -63,6 +63,22 @@ pub server_turned_reusing : (now : ℕ) (old : Node) (v : ServerEnd) (t : Store)
     → IsHeardReusingBy true peer a now old (record old { latest = now; servers = v; store = t }) o
 server_turned_reusing now old v t peer a = server_turned_by (responder_reusing old.settings now (service_of old.store) peer a old.servers) now old v t
 
+-- The same of an end that is as that of the node.
+
+pub server_turned_from : (now : ℕ) (old : Node) (at v : ServerEnd) (t : Store) (peer : PeerView) (a : Apdu) (sent : List Datagram) (x : Option Act) (o : Outcome)
+    → at ≡ old.servers → IsServed (responder_on_apdu old.settings now (service_of old.store) peer a at) old.store sent (acted_view x) v t
+    → o.sends ≡ sent → o.ended ≡ [] → o.performed ≡ option_map performed_view x → o.dropped ≡ None
+    → IsHeardBy true peer a now old (record old { latest = now; servers = v; store = t }) o
+server_turned_from now old at v t peer a sent x o same did = server_turned now old v t peer a sent x o
+    (subst (λ (e : ServerEnd). IsServed (responder_on_apdu old.settings now (service_of old.store) peer a e) old.store sent (acted_view x) v t) same did)
+
+pub server_turned_reusing_from : (now : ℕ) (old : Node) (at v : ServerEnd) (t : Store) (peer : PeerView) (a : Apdu) (sent : List Datagram) (x : Option Act) (o : Outcome)
+    → at ≡ old.servers → IsServed (responder_reusing old.settings now (service_of old.store) peer a at) old.store sent (acted_view x) v t
+    → o.sends ≡ sent → o.ended ≡ [] → o.performed ≡ option_map performed_view x → o.dropped ≡ None
+    → IsHeardReusingBy true peer a now old (record old { latest = now; servers = v; store = t }) o
+server_turned_reusing_from now old at v t peer a sent x o same did = server_turned_reusing now old v t peer a sent x o
+    (subst (λ (e : ServerEnd). IsServed (responder_reusing old.settings now (service_of old.store) peer a e) old.store sent (acted_view x) v t) same did)
+
 -- A tick.
 
 pub both_joined : (now : ℕ) (n : Node) (x y : Reaction) (more : List Datagram) → requester.IsReaction (requester_tick n.settings now n.clients) x

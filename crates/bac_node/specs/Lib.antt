@@ -5,3 +5,4 @@ pub mod Calls
 pub mod Capacities
 pub mod Waiting
 pub mod Reuse
+pub mod Memory

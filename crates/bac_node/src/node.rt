@@ -30,6 +30,7 @@ ghost use Rattle.bac_world.specs.Node.{NodeOn, NodeTick, IsHeardBy, restarted, s
 ghost use Rattle.bac_world.specs.ReusingNodes.{IsHeardReusingBy, NodeHears, NodeReusing};
 ghost use Rattle.bac_node.specs.Calls.{Dispatches, IsAsked, IsForNoneOpen, IsNotHeard, IsTickOfBoth, Refuses, ticked};
 ghost use Rattle.bac_node.specs.Fresh.{fresh_node, has_large_slots, has_slots, has_slots_within, made_node, slots_within, window_fits, with_first_id};
+ghost use Rattle.bac_node.specs.Memory.{KeepsWithin};
 ghost use Rattle.bac_node.specs.Reuse.{DispatchesReusing};
 ghost use Rattle.bac_node.specs.Views.{outcome_view, settings_of};
 ghost use Rattle.bac_node.specs.Waiting.{IsDueBy, MovesAt, RestsUntil};
@@ -37,6 +38,7 @@ ghost use Rattle.bac_requester.specs.Timers.{LAST_MOMENT};
 
 use crate::config::Config;
 use crate::fault::{NewNodeFault, NodeFault};
+use crate::memory::MEMORY;
 use crate::outcome::Outcome;
 use crate::reading::{is_from_client, read_from};
 use bac_apdu::{Apdu, Limits, Window};
@@ -349,18 +351,10 @@ impl Node {
         ensures early { IsErrOf result NodeFault.ClockBack ↔ (now < self.old.latest) }
         ensures dropped { IsNotHeard self.old.link from octets.now → IsErrOf result NodeFault.NoMemory → ⊥ }
         ensures none_open { IsForNoneOpen from octets.now self.old.clients → IsErrOf result NodeFault.NoMemory → ⊥ }
+        ensures within { OnOk result (KeepsWithin 67108864 self.old self.new) }
         ensures err { OnErr result (self.new ≡ self.old) }
     {
-        if self.is_before(now) {
-            return Err(NodeFault::ClockBack);
-        }
-        match read_from(self.link, from, octets) {
-            Err(cause) => {
-                self.latest = now;
-                Ok(Outcome::dropped(self.alloc, cause))
-            }
-            Ok((peer, apdu)) => Ok(self.dispatch(now, &peer, &apdu)?),
-        }
+        self.hear_within(false, MEMORY, now, from, octets)
     }
 
     /// As `on`, of a node that lets clients use an invoke ID again as soon as its transaction is over (clause 5.4). Call one of both for all datagrams.
@@ -380,18 +374,10 @@ impl Node {
         ensures early { IsErrOf result NodeFault.ClockBack ↔ (now < self.old.latest) }
         ensures dropped { IsNotHeard self.old.link from octets.now → IsErrOf result NodeFault.NoMemory → ⊥ }
         ensures none_open { IsForNoneOpen from octets.now self.old.clients → IsErrOf result NodeFault.NoMemory → ⊥ }
+        ensures within { OnOk result (KeepsWithin 67108864 self.old self.new) }
         ensures err { OnErr result (self.new ≡ self.old) }
     {
-        if self.is_before(now) {
-            return Err(NodeFault::ClockBack);
-        }
-        match read_from(self.link, from, octets) {
-            Err(why) => {
-                self.latest = now;
-                Ok(Outcome::dropped(self.alloc, why))
-            }
-            Ok((peer, apdu)) => Ok(self.dispatch_reusing(now, &peer, &apdu)?),
-        }
+        self.hear_within(true, MEMORY, now, from, octets)
     }
 
     /// A datagram comes to a node of either setting: as `on_reusing` where `reuse` is true, otherwise as `on`.
@@ -406,41 +392,81 @@ impl Node {
         ensures early { IsErrOf result NodeFault.ClockBack ↔ (now < self.old.latest) }
         ensures dropped { IsNotHeard self.old.link from octets.now → IsErrOf result NodeFault.NoMemory → ⊥ }
         ensures none_open { IsForNoneOpen from octets.now self.old.clients → IsErrOf result NodeFault.NoMemory → ⊥ }
+        ensures within { OnOk result (KeepsWithin 67108864 self.old self.new) }
         ensures err { OnErr result (self.new ≡ self.old) }
     {
-        if reuse {
-            self.on_reusing(now, from, octets)
-        } else {
-            self.on(now, from, octets)
+        self.hear_within(reuse, MEMORY, now, from, octets)
+    }
+
+    /// As `hear`, with another bound than [`MEMORY`](crate::MEMORY) on the octets of service data that the server's end keeps. `NoMemory` also where an APDU might
+    /// make it keep more than `memory`: a request is taken to need room for its own octets, and for the longest reply and the place of a segment, 65,539 octets.
+    /// What is kept already stays, but for entries that are not live, whose place a new one takes.
+    #[tactic(auto, using(crate::proofs::Kept::same_kept))]
+    pub fn hear_within(
+        &mut self,
+        reuse: bool,
+        memory: usize,
+        now: u64,
+        from: LinkAddress,
+        octets: &[u8],
+    ) -> Result<Outcome, NodeFault>
+        ensures went { IfOk result (λ o. NodeHears reuse now from octets.now self.old self.new (outcome_view o)) }
+        ensures early { IsErrOf result NodeFault.ClockBack ↔ (now < self.old.latest) }
+        ensures dropped { IsNotHeard self.old.link from octets.now → IsErrOf result NodeFault.NoMemory → ⊥ }
+        ensures none_open { IsForNoneOpen from octets.now self.old.clients → IsErrOf result NodeFault.NoMemory → ⊥ }
+        ensures within { OnOk result (KeepsWithin memory self.old self.new) }
+        ensures err { OnErr result (self.new ≡ self.old) }
+    {
+        if self.is_before(now) {
+            return Err(NodeFault::ClockBack);
+        }
+        match read_from(self.link, from, octets) {
+            Err(cause) => {
+                self.latest = now;
+                Ok(Outcome::dropped(self.alloc, cause))
+            }
+            Ok((peer, apdu)) if reuse => Ok(self.dispatch_reusing(memory, now, &peer, &apdu)?),
+            Ok((peer, apdu)) => Ok(self.dispatch(memory, now, &peer, &apdu)?),
         }
     }
 
     /// Gives an APDU to the end that it is for: to the server's where the client of a transaction sends such, otherwise to the client's.
-    fn dispatch(&mut self, now: u64, peer: &Peer, apdu: &Apdu<'_>) -> Result<Outcome, NoMemory>
+    #[tactic(auto, using(crate::proofs::Kept::same_kept))]
+    fn dispatch(
+        &mut self,
+        memory: usize,
+        now: u64,
+        peer: &Peer,
+        apdu: &Apdu<'_>,
+    ) -> Result<Outcome, NoMemory>
+        ensures within { OnOk result (KeepsWithin memory self.old self.new) }
         ensures dispatches { Dispatches now (peer_view peer.now) (apdu_view apdu.now) self.old result self.new }
         ensures none_open { is_from_client (apdu_view apdu.now) ≡ false
             → HasNoneOpen self.old.clients (key_of (peer_view peer.now) (apdu_view apdu.now)) → IsErr result → ⊥ }
     {
         if is_from_client(apdu) {
-            self.responder_on_apdu(now, peer, apdu)
+            self.responder_on_apdu(memory, now, peer, apdu)
         } else {
             self.requester_on_apdu(now, peer, apdu)
         }
     }
 
     /// As `dispatch`, where invoke IDs may be used again.
+    #[tactic(auto, using(crate::proofs::Kept::same_kept))]
     fn dispatch_reusing(
         &mut self,
+        memory: usize,
         now: u64,
         peer: &Peer,
         apdu: &Apdu<'_>,
     ) -> Result<Outcome, NoMemory>
+        ensures within { OnOk result (KeepsWithin memory self.old self.new) }
         ensures dispatches { DispatchesReusing now (peer_view peer.now) (apdu_view apdu.now) self.old result self.new }
         ensures none_open { is_from_client (apdu_view apdu.now) ≡ false
             → HasNoneOpen self.old.clients (key_of (peer_view peer.now) (apdu_view apdu.now)) → IsErr result → ⊥ }
     {
         if is_from_client(apdu) {
-            self.responder_reusing(now, peer, apdu)
+            self.responder_reusing(memory, now, peer, apdu)
         } else {
             self.requester_on_apdu(now, peer, apdu)
         }
@@ -449,13 +475,19 @@ impl Node {
     /// An APDU for the server's end.
     fn responder_on_apdu(
         &mut self,
+        memory: usize,
         now: u64,
         peer: &Peer,
         apdu: &Apdu<'_>,
     ) -> Result<Outcome, NoMemory>
+        ensures within { OnOk result (KeepsWithin memory self.old self.new) }
         ensures heard { IfOk result (λ o. IsHeardBy true (peer_view peer.now) (apdu_view apdu.now) now self.old self.new (outcome_view o)) }
         ensures err { OnErr result (self.new ≡ self.old) }
     {
+        replies_can_be_sent(&self.store);
+        if !self.servers.has_room_for(now, peer, apdu, memory) {
+            return Err(NoMemory);
+        }
         let Served { sends, act } = self.servers.on(
             self.alloc,
             &self.settings,
@@ -476,13 +508,19 @@ impl Node {
     /// An APDU for the server's end, where invoke IDs may be used again.
     fn responder_reusing(
         &mut self,
+        memory: usize,
         now: u64,
         peer: &Peer,
         apdu: &Apdu<'_>,
     ) -> Result<Outcome, NoMemory>
+        ensures within { OnOk result (KeepsWithin memory self.old self.new) }
         ensures heard { IfOk result (λ o. IsHeardReusingBy true (peer_view peer.now) (apdu_view apdu.now) now self.old self.new (outcome_view o)) }
         ensures err { OnErr result (self.new ≡ self.old) }
     {
+        replies_can_be_sent(&self.store);
+        if !self.servers.has_room_for(now, peer, apdu, memory) {
+            return Err(NoMemory);
+        }
         let Served { sends, act: effect } = self.servers.on_reusing(
             self.alloc,
             &self.settings,
@@ -507,6 +545,7 @@ impl Node {
         peer: &Peer,
         apdu: &Apdu<'_>,
     ) -> Result<Outcome, NoMemory>
+        ensures same { self.new.servers ≡ self.old.servers }
         ensures heard { IfOk result (λ o. IsHeardBy false (peer_view peer.now) (apdu_view apdu.now) now self.old self.new (outcome_view o)) }
         ensures none_open { HasNoneOpen self.old.clients (key_of (peer_view peer.now) (apdu_view apdu.now)) → IsErr result → ⊥ }
         ensures err { OnErr result (self.new ≡ self.old) }
