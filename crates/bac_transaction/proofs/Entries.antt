@@ -8,7 +8,8 @@ use Rattle.bac_transaction.proofs.KeyedSlots.{EachSlot, passing, passing_value, 
 use Rattle.bac_transaction.proofs.KeyedSlots.{with_other, with_distinct, put_same, put_other, put_distinct}
 use Rattle.bac_transaction.proofs.KeyedSlots.{each_with, each_passing, each_put}
 
-live_kept : (now : ℕ) (o : Option ServerTransaction) → live_entry now (keep (is_live now) o) ≡ live_entry now o
+-- an entry that is live is left
+pub live_kept : (now : ℕ) (o : Option ServerTransaction) → live_entry now (keep (is_live now) o) ≡ live_entry now o
 live_kept now None = refl
 live_kept now (Some e) = go (is_live now e) refl
   where

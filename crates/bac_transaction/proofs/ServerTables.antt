@@ -3,7 +3,7 @@ use Rattle.std.proofs.Common.{◌≡◌, ℕ, ◌<◌, ◌≤◌, Bool, true, fa
 use Rattle.std.proofs.Common.{if◌then◌else◌, nat_eq, nat_lt, refl, ap, sym, ◌∙◌, arith, length-append}
 use Rattle.std.proofs.lemmas.List.{length-map}
 use Rattle.std.proofs.lemmas.Bool.Decides.{nat_tests}
-use Rattle.std.proofs.lemmas.List.Sums.{length-filter}
+use Rattle.std.proofs.lemmas.List.Sums.{count_by-le-length, length-filter}
 use Rattle.bac_apdu.specs.Apdu.{Apdu}
 use Rattle.bac_apdu.specs.Apdu.Apdu.{ConfirmedRequest}
 use Rattle.bac_slots.specs.Slots.{value_at, keep, IsDistinct}
@@ -15,8 +15,8 @@ use Rattle.bac_protocol.specs.Server.{ServerTransaction, Reaction, Service, is_l
 use Rattle.bac_transaction.specs.Keys.{PeerKey, same_key}
 use Rattle.bac_transaction.specs.Ends.{ServerEnd, ServerSlot, is_slot_live, is_free, set_or_put, put_entry, waits_to_serve}
 use Rattle.bac_transaction.specs.Ends.{context_of, key_of, entry_or}
-use Rattle.bac_transaction.specs.Tables.{ServerStaysOrderly, ServerOthersStay, comes_new, server_ticked_at}
-use Rattle.bac_transaction.proofs.KeyedSlots.{keys_equivalent, passing, passing_value, changed_value, distinct_changed, value_changed}
+use Rattle.bac_transaction.specs.Tables.{ServerStaysOrderly, ServerOthersStay, AreLive, TicksLeaveLive, comes_new, server_ticked_at}
+use Rattle.bac_transaction.proofs.KeyedSlots.{keys_equivalent, passing, passing_value, passing_distinct, changed, changed_value, distinct_changed, value_changed}
 use Rattle.bac_transaction.proofs.Entries.{set_here, entry_distinct}
 
 dead_of : (b : Bool) → (if b then false else true) ≡ true → b ≡ false
@@ -161,10 +161,16 @@ server_stays_orderly = record {
         distinct = entry_distinct now key e.slots h.distinct v.entry;
         within = entry_within now key e.slots e.capacity h.within v.entry (λ d is live dead. has_space now e (begins_free context service o (is_free now e) a d is live dead));
       };
-  ticks = λ c now e h. record {
-    distinct = distinct_changed ServerTransaction (ticked c now) e.slots h.distinct;
-    within = let same = length-map e.slots (λ (s : ServerSlot). record s { value = ticked c now s.key s.value }) in omega (arith, same, h.within);
-  };
+  ticks = λ c now e h.
+      let all = changed ServerTransaction (ticked c now) e.slots in
+      record {
+        distinct = passing_distinct ServerTransaction (is_live now) all (distinct_changed ServerTransaction (ticked c now) e.slots h.distinct);
+        within =
+            let same = length-map e.slots (λ (s : ServerSlot). record s { value = ticked c now s.key s.value }) in
+            let few = length-filter (is_slot_live now) all in
+            let least = count_by-le-length (is_slot_live now) all in
+            omega (arith, same, few, least, h.within);
+      };
 }
 
 pub server_others_stay : ServerOthersStay
@@ -172,5 +178,21 @@ server_others_stay = record {
   hears = λ c now service peer a e q distinct ne.
       entry_others now (key_of peer a) e.slots e.capacity q distinct ne
       (server_on_apdu (context_of c now (key_of peer a)) service (value_at same_key (key_of peer a) e.slots) (is_free now e) a).entry;
-  ticks = λ c now e q. value_changed ServerTransaction (ticked c now) q e.slots ∙ ticked_is c now q (value_at same_key q e.slots);
+  ticks = λ c now e q distinct.
+      passing_value ServerTransaction (is_live now) q (changed ServerTransaction (ticked c now) e.slots) (distinct_changed ServerTransaction (ticked c now) e.slots distinct)
+      ∙ ap (keep (is_live now)) (value_changed ServerTransaction (ticked c now) q e.slots ∙ ticked_is c now q (value_at same_key q e.slots));
 }
+
+-- Slots that pass are live.
+
+passing_live : (now : ℕ) (slots : List ServerSlot) → AreLive now (filter (is_slot_live now) slots)
+passing_live now [] = tt
+passing_live now (s ∷ slots) = go (is_live now s.value) refl (passing_live now slots)
+  where
+    go : (b : Bool) → is_live now s.value ≡ b → AreLive now (filter (is_slot_live now) slots)
+        → AreLive now (if b then s ∷ filter (is_slot_live now) slots else filter (is_slot_live now) slots)
+    go true is again = (is, again)
+    go false is again = again
+
+pub ticks_leave_live : TicksLeaveLive
+ticks_leave_live c now e = passing_live now (changed ServerTransaction (ticked c now) e.slots)

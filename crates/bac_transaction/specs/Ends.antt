@@ -333,11 +333,11 @@ server_ticked c now s = record s { value = entry_or s.value (server_ticks (conte
 abbrev pub server_tick_sends : Settings → (now : ℕ) → ServerSlot → List Send
 server_tick_sends c now s = to_all s.key.peer (server_ticks (context_of c now s.key) (Some s.value)).sends
 
--- all slots go on; what they send stands in ascending order of keys
+-- all slots go on, and those that are not live go; what they send stands in ascending order of keys
 abbrev pub responder_tick : Settings → (now : ℕ) → ServerEnd → ServerTurn
 responder_tick c now e =
     record {
-      end = record e { slots = map (server_ticked c now) e.slots };
+      end = record e { slots = filter (is_slot_live now) (map (server_ticked c now) e.slots) };
       sends = from_each (server_tick_sends c now) (in_order peer_key_cmp e.slots);
       act = None;
     }

@@ -5,7 +5,7 @@ use Rattle.bac_apdu.specs.Apdu.{Apdu, Limits}
 use Rattle.bac_apdu.specs.Apdu.Apdu.{ConfirmedRequest, Abort}
 use Rattle.bac_npdu.specs.Peers.{PeerView}
 use Rattle.bac_slots.specs.declared.slot.Slot.{Slot}
-use Rattle.bac_slots.specs.Slots.{value_at, keep, IsDistinct}
+use Rattle.bac_slots.specs.Slots.{value_at, keep, EachSlot, IsDistinct}
 use Rattle.bac_protocol.specs.Context.{Settings}
 use Rattle.bac_protocol.specs.Own.{invoke_id_of}
 use Rattle.bac_protocol.specs.Sizes.{Way, RequestFault, request_way_of}
@@ -112,15 +112,24 @@ comes_new now key before after = is_none_live now (value_at same_key key before)
 abbrev pub server_ticked_at : Settings → (now : ℕ) → PeerKey → Option ServerTransaction → Option ServerTransaction
 server_ticked_at c now q o = option_map (λ (x : ServerTransaction). entry_or x (server_ticks (context_of c now q) (Some x)).entry) o
 
--- an APDU touches the entry of its key alone; of the others those that are not live leave exactly when a new one comes; on a tick each goes on by itself
+-- an APDU touches the entry of its key alone; of the others those that are not live leave exactly when a new one comes; on a tick each goes on by itself,
+-- or leaves if it is not live
 pub record ServerOthersStay : Type 0 where
   pub hears : (c : Settings) (now : ℕ) (service : Service) (peer : PeerView) (a : Apdu) (e : ServerEnd) (q : PeerKey)
       → IsDistinct same_key e.slots → same_key (key_of peer a) q ≡ false
       → value_at same_key q (responder_on_apdu c now service peer a e).end.slots
       ≡ (if comes_new now (key_of peer a) e.slots (responder_on_apdu c now service peer a e).end.slots then keep (is_live now) (value_at same_key q e.slots)
       else value_at same_key q e.slots)
-  pub ticks : (c : Settings) (now : ℕ) (e : ServerEnd) (q : PeerKey)
-      → value_at same_key q (responder_tick c now e).end.slots ≡ server_ticked_at c now q (value_at same_key q e.slots)
+  pub ticks : (c : Settings) (now : ℕ) (e : ServerEnd) (q : PeerKey) → IsDistinct same_key e.slots
+      → value_at same_key q (responder_tick c now e).end.slots ≡ keep (is_live now) (server_ticked_at c now q (value_at same_key q e.slots))
+
+-- the entry of each slot is live at that moment
+abbrev pub AreLive : (now : ℕ) → List ServerSlot → Type 0
+AreLive now slots = EachSlot (λ s. is_live now s.value ≡ true) slots
+
+-- a tick leaves no entry that is not live
+abbrev pub TicksLeaveLive : Type 0
+TicksLeaveLive = (c : Settings) (now : ℕ) (e : ServerEnd) → AreLive now (responder_tick c now e).end.slots
 
 -- an APDU that begins a request: one without SEG, or its segment 0
 abbrev pub BeginsRequest : Apdu → Type 0

@@ -13,7 +13,7 @@ ghost use Rattle.bac_protocol.specs.Client as client;
 ghost use Rattle.bac_protocol.specs.Client.{ClientTransaction};
 ghost use Rattle.bac_transaction.specs.Ends.{is_held, kept};
 ghost use Rattle.bac_transaction.specs.Keys.{PeerKey, peer_key_cmp};
-ghost use Rattle.bac_transaction.specs.Tables.{ClientStaysOrderly, ClientOthersStay, TakesLeastFree, TakesLeastFromZero, RefusesAsks, ServerStaysOrderly, ServerOthersStay, TurnsAway};
+ghost use Rattle.bac_transaction.specs.Tables.{ClientStaysOrderly, ClientOthersStay, TakesLeastFree, TakesLeastFromZero, RefusesAsks, ServerStaysOrderly, ServerOthersStay, TicksLeaveLive, TurnsAway};
 
 /// The order of keys is total, and tells any two apart.
 #[tactic(auto, using(crate::proofs::KeyOrder::keys_total, crate::proofs::KeyOrder::keys_equal))]
@@ -47,11 +47,12 @@ pub fn asks_take_the_least_invoke_id()
 {}
 
 /// In every call of a server's end no two slots get one key, they stay within the capacity, and slots of other keys stay as they are, but those whose
-/// entry is not live, which leave exactly when a new one comes.
-#[tactic(auto, using(crate::proofs::ServerTables::server_stays_orderly, crate::proofs::ServerTables::server_others_stay))]
+/// entry is not live, which leave at a tick, and when a new one comes.
+#[tactic(auto, using(crate::proofs::ServerTables::server_stays_orderly, crate::proofs::ServerTables::server_others_stay, crate::proofs::ServerTables::ticks_leave_live))]
 pub fn server_tables_stay_in_order()
     ensures orderly { ServerStaysOrderly }
     ensures others { ServerOthersStay }
+    ensures live { TicksLeaveLive }
 {}
 
 /// A request of which no live entry is there is turned away with an Abort of reason 'other', with nothing else done, exactly where no slot is free or the end waits after a restart; what

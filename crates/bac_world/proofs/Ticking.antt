@@ -3,7 +3,7 @@ use Rattle.std.proofs.Common.{false, ◌≡◌, ℕ, ◌<◌, ◌⊎◌, List, �
 use Rattle.bac_protocol.specs.Context.{Settings, Context}
 use Rattle.bac_protocol.specs.Service.{Octets}
 use Rattle.bac_protocol.specs.Client.{ClientTransaction}
-use Rattle.bac_protocol.specs.Server.{ServerTransaction, live_entry}
+use Rattle.bac_protocol.specs.Server.{ServerTransaction, is_live, live_entry}
 use Rattle.bac_protocol.specs.Transaction.{Key, Rules}
 use Rattle.bac_protocol.specs.World.{Net}
 use Rattle.bac_protocol.specs.Claims.{IsBounded}
@@ -18,7 +18,8 @@ use Rattle.bac_world.specs.Node.{Node, Outcome, NodeTick}
 use Rattle.bac_world.specs.Once.{Fact}
 use Rattle.bac_world.specs.ReusingLogs.{IsOnceSo}
 use Rattle.bac_world.specs.World.{World, Copy, stores_of, AreLogged, Ticks}
-use Rattle.bac_transaction.proofs.KeyedSlots.{changed, distinct_changed, distinct_in_order, each_changed, each_in_order, each_so}
+use Rattle.bac_transaction.proofs.KeyedSlots.{changed, distinct_changed, distinct_in_order, each_changed, each_in_order, each_passing, each_so, passing, passing_distinct, passing_value}
+use Rattle.bac_transaction.proofs.Entries.{live_kept}
 use Rattle.bac_world.specs.World.{told}
 use Rattle.bac_world.proofs.Bridge.{here_at, there_at}
 use Rattle.bac_protocol.specs.Pace.{Clock}
@@ -67,6 +68,10 @@ module _ (links : ℕ → Option Octets) (apart : (i j : ℕ) (l : Octets) → l
   abbrev g : PeerKey → ServerTransaction → ServerTransaction
   g = entry_tick (x.settings i) (there_at n i)
 
+  -- the entries that are left
+  abbrev left : List ServerSlot
+  left = passing ServerTransaction (is_live (there_at n i)) (changed ServerTransaction (entry_tick (x.settings i) (there_at n i)) step.before.servers.slots)
+
   fits : Fits links apart W x set w n n i step.before
   fits = h.nodes i step.before step.at
 
@@ -88,7 +93,7 @@ module _ (links : ℕ → Option Octets) (apart : (i j : ℕ) (l : Octets) → l
   node_is : step.after ≡ record (step.before) {
     latest = told w i;
     clients = record (step.before.clients) { slots = changed Client f clients };
-    servers = record (step.before.servers) { slots = changed ServerTransaction g entries };
+    servers = record (step.before.servers) { slots = left };
   }
   node_is = by_both (λ y t u. b ≡ record a {
     latest = told w i;
@@ -172,10 +177,15 @@ module _ (links : ℕ → Option Octets) (apart : (i j : ℕ) (l : Octets) → l
   StrangerFound numbers tickets p =
       TicketFits false (here_at n i) w.notes i (numbers (out_key i p)) (value_at same_key p (changed Client f clients)) (tickets (out_key i p))
 
+  -- those that are not live are none
+  left_is : (q : PeerKey) → live_entry (there_at n i) (value_at same_key q left) ≡ live_entry (there_at n i) (value_at same_key q (changed ServerTransaction g entries))
+  left_is q = ap (live_entry (there_at n i)) (passing_value ServerTransaction (is_live (there_at n i)) q (changed ServerTransaction g entries)
+      (distinct_changed ServerTransaction g entries fits.servers.distinct)) ∙ live_kept (there_at n i) (value_at same_key q (changed ServerTransaction g entries))
+
   made : Fits links apart W x set w n s.0 i (record (step.before) {
     latest = told w i;
     clients = record (step.before.clients) { slots = changed Client f clients };
-    servers = record (step.before.servers) { slots = changed ServerTransaction g entries };
+    servers = record (step.before.servers) { slots = left };
   })
   made = record {
     settings = fits.settings;
@@ -198,10 +208,12 @@ module _ (links : ℕ → Option Octets) (apart : (i j : ℕ) (l : Octets) → l
           (subst (λ (z : Key → Option ClientTransaction). StrangerFound r.0.far.numbers z p) (sym s.1.far_tickets) (r.1.strangers p y));
     };
     servers = record {
-      distinct = distinct_changed ServerTransaction g entries fits.servers.distinct;
-      known = each_changed ServerTransaction g (λ p v. IsKnown links apart p ⊎ IsStranger links apart p) (λ p v y. y) entries fits.servers.known;
-      found = λ c' l id at. s.1.entries c' l id at;
-      strangers = s.1.strangers;
+      distinct = passing_distinct ServerTransaction (is_live (there_at n i)) (changed ServerTransaction g entries)
+          (distinct_changed ServerTransaction g entries fits.servers.distinct);
+      known = each_passing ServerTransaction (λ p v. IsKnown links apart p ⊎ IsStranger links apart p) (is_live (there_at n i)) (changed ServerTransaction g entries)
+          (each_changed ServerTransaction g (λ p v. IsKnown links apart p ⊎ IsStranger links apart p) (λ p v y. y) entries fits.servers.known);
+      found = λ c' l id at. left_is (slot_key l id) ∙ s.1.entries c' l id at;
+      strangers = λ p y. left_is p ∙ s.1.strangers p y;
     };
   }
 
