@@ -86,6 +86,20 @@ fn sweep_dead<E, K: Ord + Copy + Drop, V: Aged<E>, S: SlotTable<K, V>>(
     }
 }
 
+/// Removes the values that are not alive; the others stay in order. If slots are in order, the young ones are not looked at. It takes no memory.
+pub fn remove_dead<E, K: Ord + Copy + Drop, V: Aged<E>, S: SlotTable<K, V>>(
+    aged: &mut AgedTable<E, S>,
+    now: u64,
+)
+    requires aged { IsAged K V V.began V.IsQuiet aged.old.ages (S.slots aged.old.table) }
+    ensures slots { S.slots aged.new.table ≡ filter (λ s. V.lives now s.value) (S.slots aged.old.table) }
+    ensures same { S.capacity aged.new.table ≡ S.capacity aged.old.table }
+    ensures ages { aged.new.ages ≡ aged.old.ages }
+    ensures aged { IsAged K V V.began V.IsQuiet aged.new.ages (S.slots aged.new.table) }
+{
+    sweep_dead(&mut aged.table, aged.ages.latest, now);
+}
+
 /// Adds a value in a new slot.
 fn put<K: Ord + Copy + Drop, V, S: SlotTable<K, V>>(table: &mut S, key: K, now: u64, value: V)
     requires absent { value_at K.eq key (S.slots table.old) ≡ None }

@@ -31,7 +31,7 @@ pub use aged_table::{AgedTable, empty_table};
 pub use ages::Ages;
 pub use comparing::{Same, same_tables};
 pub use each::{SlotFact, each_slot};
-pub use entering::{count_alive, enter, has_room};
+pub use entering::{count_alive, enter, has_room, remove_dead};
 pub use index_slots::IndexSlots;
 pub use laws::{
     ascending_slots, putting_a_slot, ranks_of_keys, removing_a_slot, setting_a_value,
