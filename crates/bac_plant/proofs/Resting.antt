@@ -1,11 +1,11 @@
 -- When a node rests, so that its link waits; and turns at whose tick nothing is due.
-use Rattle.std.proofs.Common.{◌≡◌, ℕ, Bool, false, [], ◌++◌, length, map, take, slice_get, Option, Some, None, Ok, refl, sym, ap, subst, ◌∙◌, arith}
+use Rattle.std.proofs.Common.{◌≡◌, ℕ, Bool, false, [], ◌++◌, filter, length, map, take, slice_get, Option, Some, None, Ok, refl, sym, ap, subst, ◌∙◌, arith}
 use Rattle.std.proofs.Math.Seq.{take-length}
 use Rattle.bac_protocol.specs.Service.{Octets}
 use Rattle.bac_slots.specs.Slots.{EachSlot, in_order}
 use Rattle.bac_requester.specs.Timers.{IsHeldQuiet}
 use Rattle.bac_requester.proofs.Waiting.{clients_rest}
-use Rattle.bac_transaction.specs.Ends.{ServerEnd, from_each, requester_tick, responder_tick, server_tick_sends, server_ticked}
+use Rattle.bac_transaction.specs.Ends.{ServerEnd, from_each, is_slot_live, requester_tick, responder_tick, server_tick_sends, server_ticked}
 use Rattle.bac_transaction.specs.Keys.{peer_key_cmp}
 use Rattle.bac_transaction.specs.Meanings.{IsEndedView}
 use Rattle.bac_transaction.specs.Sends.{IsSent, Pairwise}
@@ -28,7 +28,7 @@ use Rattle.bac_plant.proofs.Turned.{copied_join, node_at, one_there}
 
 -- a tick leaves a table without entries as it is
 server_rests : (c : Settings) (now : ℕ) (e : ServerEnd) → e.slots ≡ [] → (responder_tick c now e).end ≡ e
-server_rests c now e none = ap (λ l. record e { slots = map (server_ticked c now) l }) none ∙ ap (λ l. record e { slots = l }) (sym none)
+server_rests c now e none = ap (λ l. record e { slots = filter (is_slot_live now) (map (server_ticked c now) l) }) none ∙ ap (λ l. record e { slots = l }) (sym none)
 
 server_silent : (c : Settings) (now : ℕ) (e : ServerEnd) → e.slots ≡ [] → (responder_tick c now e).sends ≡ []
 server_silent c now e none = ap (λ l. from_each (server_tick_sends c now) (in_order peer_key_cmp l)) none

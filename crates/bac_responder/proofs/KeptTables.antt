@@ -4,7 +4,7 @@ use Rattle.std.proofs.Common.{if◌then◌else◌, refl, ap, sym, ◌∙◌, ari
 use Rattle.bac_slots.specs.Slots.{IsDistinct, value_at, with_value, without}
 use Rattle.bac_protocol.specs.Context.{Settings}
 use Rattle.bac_protocol.specs.Server.{ServerTransaction, is_live, is_none_live, live_entry, server_ticks}
-use Rattle.bac_transaction.specs.Ends.{ServerSlot, context_of, entry_or, is_slot_live, put_entry, server_ticked, set_or_put}
+use Rattle.bac_transaction.specs.Ends.{ServerEnd, ServerSlot, context_of, entry_or, is_slot_live, put_entry, responder_tick, server_ticked, set_or_put}
 use Rattle.bac_transaction.specs.Keys.{PeerKey, same_key}
 use Rattle.bac_transaction.proofs.Entries.{set_here}
 use Rattle.bac_responder.specs.Kept.{entry_octets, kept_octets, octets_of}
@@ -161,3 +161,10 @@ ticked_octets c now (s ∷ slots) =
     let less = tick_octets (context_of c now s.key) s.value in
     let here = entry_ticks s.value (server_ticks (context_of c now s.key) (Some s.value)).entry less in
     omega (arith, again, here)
+
+-- a tick of the end keeps no more
+pub tick_keeps : (c : Settings) (now : ℕ) (e : ServerEnd) → kept_octets (responder_tick c now e).end.slots ≤ kept_octets e.slots
+tick_keeps c now e =
+    let live = live_octets now (map (server_ticked c now) e.slots) in
+    let less = ticked_octets c now e.slots in
+    omega (arith, live, less)

@@ -1,5 +1,5 @@
 -- What the server's end keeps after a call, in its own terms and in those of its table.
-use Rattle.std.proofs.Common.{◌≡◌, ℕ, ◌+◌, ◌≤◌, Bool, true, false, ◌&&◌, List, [], ◌∷◌, length, max, map, Option, Some, None}
+use Rattle.std.proofs.Common.{◌≡◌, ℕ, ◌+◌, ◌≤◌, Bool, true, false, ◌&&◌, List, [], ◌∷◌, filter, length, max, map, Option, Some, None}
 use Rattle.std.proofs.Common.{Result, Ok, Err, if◌then◌else◌, refl, ap, sym, subst, ◌∙◌, arith}
 use Rattle.std.specs.Prelude.{IfSome, MatchOption}
 use Rattle.bac_apdu.specs.Apdu.{Apdu}
@@ -20,7 +20,7 @@ use Rattle.bac_protocol.specs.Context.{Settings}
 use Rattle.bac_protocol.specs.Reuse.{ends_entry, entry_left, is_ended_by, left_on_apdu}
 use Rattle.bac_protocol.specs.Server.{ServerTransaction, is_live, is_none_live, live_entry, server_on_apdu}
 use Rattle.bac_protocol.specs.Service.{Octets}
-use Rattle.bac_transaction.specs.Ends.{ServerEnd, ServerSlot, context_of, is_free, key_of, put_entry, server_ticked}
+use Rattle.bac_transaction.specs.Ends.{ServerEnd, ServerSlot, context_of, is_free, key_of, put_entry}
 use Rattle.bac_transaction.specs.Keys as keys
 use Rattle.bac_transaction.specs.Keys.{same_key}
 use Rattle.bac_transaction.specs.Reuse.{end_left, is_read, slots_left}
@@ -37,8 +37,8 @@ use Rattle.bac_responder.specs.Kept.{HasShortReplies, StaysWithin, counted, entr
 use Rattle.bac_responder.specs.Reuse.{reusing_turn_of}
 use Rattle.bac_responder.specs.Views.{end_of, turn_of}
 use Rattle.bac_responder.proofs.Growth.{Fits, left_fits, outcome_octets, server_fits}
-use Rattle.bac_responder.proofs.KeptTables.{live_slots, put_begins, put_grows, put_moves, ticked_octets, without_octets}
-use Rattle.bac_responder.proofs.Ticks.{committed}
+use Rattle.bac_responder.proofs.KeptTables.{live_slots, put_begins, put_grows, put_moves, tick_keeps, without_octets}
+use Rattle.bac_responder.proofs.Ticks.{left_viewed}
 
 -- The replies of a store are short.
 
@@ -258,11 +258,10 @@ module _ (c : code.Context) (s : Store) (a : Apdu) (old new : Slots) (capacity r
 
 -- A tick.
 
-pub ticked_within : (c : CodeSettings) (now : ℕ) (old new : Slots) (kept : Option ℕ) → new ≡ map (changed (ticked_in entry_ticked c now)) old
-    → IfSome kept (λ k. kept_octets (slots_view old) ≤ k) → IfSome kept (λ k. kept_octets (slots_view new) ≤ k)
-ticked_within c now old new None is within = tt
-ticked_within c now old new (Some k) is within =
-    let all : kept_octets (slots_view new) ≡ kept_octets (map (server_ticked (settings_view c) now) (slots_view old)) =
-    ap (λ (x : ServerEnd). kept_octets x.slots) (committed c now old new 0 0 None is refl) in
-    let less = ticked_octets (settings_view c) now (slots_view old) in
-    omega (arith, within, all, less)
+pub ticked_within : (c : CodeSettings) (now : ℕ) (old ticked new : Slots) (kept : Option ℕ) → ticked ≡ map (changed (ticked_in entry_ticked c now)) old
+    → new ≡ filter (λ s. is_live now s.value) ticked → IfSome kept (λ k. kept_octets (slots_view old) ≤ k) → IfSome kept (λ k. kept_octets (slots_view new) ≤ k)
+ticked_within c now old ticked new None all left within = tt
+ticked_within c now old ticked new (Some k) all left within =
+    let same = ap kept_octets (left_viewed c now old ticked new all left) in
+    let less = tick_keeps (settings_view c) now (end_of old 0 None) in
+    omega (arith, within, same, less)

@@ -102,7 +102,7 @@ stays_begun : (x : ServerTransaction) (o : Option ServerTransaction) → StaysIn
 stays_begun x None h = absurd h
 stays_begun x (Some d) h = h.0.begin
 
-ticked_began : (c : Context) (x : ServerTransaction) → (entry_or x (server_ticks c (Some x)).entry).begin ≡ x.begin
+pub ticked_began : (c : Context) (x : ServerTransaction) → (entry_or x (server_ticks c (Some x)).entry).begin ≡ x.begin
 ticked_began c x = go (is_live c.now x) refl
   where
     go : (b : Bool) → is_live c.now x ≡ b → (entry_or x (server_ticks c (Some x)).entry).begin ≡ x.begin

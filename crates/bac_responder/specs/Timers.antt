@@ -1,4 +1,4 @@
--- The moments between which a tick finds nothing to do for an entry.
+-- When a tick finds something to do for an entry: when its timer is due, and when it is not live any more.
 use Rattle.std.specs.Prelude.{ℕ, ◌+◌, ◌<◌, ◌≤◌, ◌⊎◌, ◌&&◌, if◌then◌else◌, min}
 use Rattle.bac_protocol.specs.declared.times.TheConstants.{T_SEG, T_WAIT_FOR_SEG, KEEP}
 use Rattle.bac_protocol.specs.Server.{ServerTransaction, State, Transfer, is_live}
@@ -20,6 +20,10 @@ state_due State.Dropped = LAST_MOMENT
 abbrev pub due_of : (from : ℕ) → ServerTransaction → ℕ
 due_of from e = if is_live from e && is_live (state_due e.state) e then state_due e.state else LAST_MOMENT
 
+-- the first moment at which an entry is not live any more, or the last one of all
+abbrev pub life_end : ServerTransaction → ℕ
+life_end e = min (e.begin + KEEP + 1) LAST_MOMENT
+
 -- the timer of a state, if it has one, is not due before that moment
 abbrev pub IsStateQuiet : (due : ℕ) → State → Type 0
 IsStateQuiet due (State.SegmentedRequest inc since) = due ≤ since + T_WAIT_FOR_SEG
@@ -29,7 +33,7 @@ IsStateQuiet due (State.SegmentedResponse out Transfer.Stopped since) = Unit {0}
 IsStateQuiet due (State.SegmentedResponse out Transfer.Finished since) = Unit {0}
 IsStateQuiet due State.Dropped = Unit {0}
 
--- a tick from the one moment on and before the other finds nothing to do: the entry is not live any more, or will not be when its timer is due, or its
+-- in a tick from the one moment on and before the other the machine finds nothing to do: the entry is not live any more, or will not be when its timer is due, or its
 -- timer is not due
 abbrev pub IsQuiet : (from due : ℕ) → ServerTransaction → Type 0
 IsQuiet from due e = (e.begin + KEEP < from) ⊎ ((e.begin + KEEP < state_due e.state) ⊎ IsStateQuiet due e.state)

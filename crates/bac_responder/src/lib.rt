@@ -16,6 +16,7 @@ mod keeping;
 mod kept_reply;
 mod live;
 mod lookup;
+mod moments;
 mod performed;
 mod performing;
 mod reading;

@@ -8,19 +8,20 @@ ghost use Rattle.bac_protocol.specs.Context.{Settings as Set};
 ghost use Rattle.bac_protocol.specs.declared.times.TheConstants.{KEEP as KEPT_FOR};
 ghost use Rattle.bac_transaction.specs.Ends.{first_after, is_slot_live, responder_on_apdu, responder_tick};
 ghost use Rattle.bac_transaction.specs.Reuse.{responder_reusing};
-ghost use Rattle.bac_transaction.specs.Tables.{IsOrderlyServer};
+ghost use Rattle.bac_transaction.specs.Tables.{AreLive, IsOrderlyServer};
 ghost use Rattle.bac_transaction.specs.Sends.{Pairwise, IsSent};
 ghost use Rattle.bac_transaction.specs.Keys.{same_key};
 ghost use Rattle.bac_transaction.specs.Views.{peer_key_view, settings_view};
 ghost use Rattle.bac_transaction.specs.Services.{service_of};
 ghost use Rattle.bac_responder.specs.Timers.{LAST_MOMENT};
 ghost use Rattle.bac_responder.specs.Short.{AreRequestsShort};
-ghost use Rattle.bac_responder.specs.Kept.{StaysWithin};
+ghost use Rattle.bac_responder.specs.Kept.{StaysWithin, kept_octets};
 ghost use Rattle.bac_responder.specs.Views.{end_of, Serves};
 
 use crate::aging::{ServerRules, ShortRequests};
 use crate::keeping::{count_octets, fits, key_octets, moved, service_len};
 use crate::lookup::on_apdu;
+use crate::moments::{first_end, first_timer};
 use crate::reusing::is_none_live;
 use crate::served::Served;
 use crate::ticking::{nothing_due, prepare};
@@ -28,7 +29,7 @@ use crate::{ServerTransaction, reusing};
 use bac_apdu::Apdu;
 use bac_npdu::Peer;
 use bac_slots::{
-    AgedTable, SlotTable, count_alive, each_slot, empty_table, first_due, same_tables, tick,
+    AgedTable, SlotTable, count_alive, each_slot, empty_table, remove_dead, same_tables, tick,
 };
 use bac_store::Store;
 use bac_transaction::{Context, Datagram, PeerKey, Settings, invoke_id_of};
@@ -94,18 +95,15 @@ impl<S: SlotTable<PeerKey, ServerTransaction> + Drop> Responder<S> {
         count_alive(&self.aged, now)
     }
 
-    /// The first moment, in milliseconds, at which the timer of an entry is due (clause 5.4.5), looked at from a moment on; the last moment of all where no
-    /// entry has a timer that is due while it lives. A tick before it does nothing; at it, or at the moment looked from if that is later, one does
-    /// something. Where a timer may run it looks at each slot, otherwise at none.
+    /// The first moment, in milliseconds, at which the timer of an entry is due (clause 5.4.5) or an entry is not live any more, looked at from a moment on; the
+    /// last moment of all where there is none. A tick before it does nothing; at it, or at the moment looked from if that is later, one does something.
+    /// Where a timer may run it looks at each slot, otherwise at the oldest one, as long as the moments of requests never went back.
     pub fn next_due(&self, from: u64) -> u64
         ensures rests { (settings : Set) (moment : ℕ) → from ≤ moment → moment < result
             → responder_tick settings moment self.now ≡ record { end = self.now; sends = []; act = None } }
         ensures moves { (settings : Set) → result < LAST_MOMENT → (responder_tick settings (max from result) self.now).end ≢ self.now }
     {
-        if self.aged.ages.is_quiet_from(from) {
-            return u64::MAX;
-        }
-        first_due(&self.aged.table, from)
+        first_timer(&self.aged, from).min(first_end(&self.aged))
     }
 
     /// How many slots it was made with.
@@ -265,11 +263,15 @@ impl<S: SlotTable<PeerKey, ServerTransaction> + Drop> Responder<S> {
         prepare(alloc, settings, &self.aged.table, now)
     }
 
-    /// Time goes on for all entries, up to that moment in milliseconds. Call it after `prepare_tick`, at `next_due` or as often as suits. It takes no memory.
-    /// Before the first moment at which anything can be due no slot is looked at.
+    /// Time goes on for all entries, up to that moment in milliseconds, and those that are not live any more are dropped, with all that they kept. Call it after
+    /// `prepare_tick`, at `next_due` or as often as suits. It takes no memory. Before the first moment at which a timer can be due it looks at those that it
+    /// drops, and one more, as long as the moments of requests never went back.
     pub fn commit_tick(&mut self, settings: &Settings, now: u64)
-        ensures { self.new ≡ (responder_tick (settings_view settings.now) now self.old).end }
+        ensures ticked { self.new ≡ (responder_tick (settings_view settings.now) now self.old).end }
+        ensures live { AreLive now self.new.slots }
+        ensures kept { kept_octets self.new.slots ≤ kept_octets self.old.slots }
     {
         tick(&mut self.aged, settings, now);
+        remove_dead(&mut self.aged, now);
     }
 }

@@ -1,10 +1,10 @@
-//! When an entry is due.
+//! When an entry is due, and when its life ends.
 ghost use Rattle.std.specs.Prelude.{◌≡◌};
-ghost use Rattle.bac_responder.specs.Timers.{IsQuiet, IsStateQuiet, due_of, state_due};
+ghost use Rattle.bac_responder.specs.Timers.{IsQuiet, IsStateQuiet, due_of, life_end, state_due};
 ghost use Rattle.bac_responder.specs.TransactionViews.{state_view};
 
 use crate::server_transaction::{ServerTransaction, State, Transfer};
-use bac_protocol::times::{T_SEG, T_WAIT_FOR_SEG};
+use bac_protocol::times::{KEEP, T_SEG, T_WAIT_FOR_SEG};
 
 /// The first moment at which the timer of a state is due; the last moment of all, where it has none.
 fn state_due(state: &State) -> u64
@@ -34,5 +34,12 @@ impl ServerTransaction {
         } else {
             u64::MAX
         }
+    }
+
+    /// The first moment, in milliseconds, at which it is not live any more: a tick drops it then. The last moment of all, where it lives until then.
+    pub(crate) fn life_end(&self) -> u64
+        ensures { result ≡ life_end self.now }
+    {
+        self.begin().saturating_add(KEEP + 1)
     }
 }

@@ -73,6 +73,10 @@ module _ (T : Type 0) where
       go true e k = subst (λ (b : Bool). weight b + counts f rest ≤ 1 + counts f slots) (sym e) (omega arith)
       go false e k = omega arith
 
+  -- those that do not pass go
+  pub count_passing : (f : T → Bool) (slots : Table) → count f (filter (λ (s : Slot PeerKey T). f s.value) slots) ≤ count f slots
+  count_passing f slots = to_count f f (filter (λ (s : Slot PeerKey T). f s.value) slots) slots (filtered_counts f slots)
+
   put_counts : (f : T → Bool) (s : Slot PeerKey T) (slots : Table) → counts f (slots ++ s ∷ []) ≤ counts f slots + 1
   put_counts f s [] = let le = weight_le (f s.value) true (λ e. refl) in omega arith
   put_counts f s (t ∷ slots) = let again = put_counts f s slots in omega arith

@@ -1,5 +1,5 @@
 -- No more client slots are held, and no more entries are live, than there are slots.
-use Rattle.std.proofs.Common.{◌≡◌, ◌+◌, ◌≤◌, ◌<◌, ◌⊎◌, ◌||◌, ℕ, Bool, true, false, not, List, [], ◌∷◌, ◌++◌, filter, count_by, Option, Some, None, slice_get}
+use Rattle.std.proofs.Common.{◌≡◌, ◌+◌, ◌≤◌, ◌<◌, ◌⊎◌, ◌||◌, ℕ, Bool, true, false, not, List, [], ◌∷◌, ◌++◌, map, filter, count_by, Option, Some, None, slice_get}
 use Rattle.std.proofs.Common.{if◌then◌else◌, nat_eq, nat_le, refl, sym, ap, subst, inl, inr, ◌∙◌, arith}
 use Rattle.std.proofs.lemmas.Bool.Decides.{nat_tests}
 use Rattle.bac_apdu.specs.Apdu.{Apdu, Limits}
@@ -35,7 +35,7 @@ use Rattle.bac_world.proofs.Steps.{decide_number}
 use Rattle.bac_world.proofs.Asking.{accepted_is}
 use Rattle.bac_liveness.specs.Room.{HasRoom, HaveRoom}
 use Rattle.bac_liveness.proofs.Clocks.{divided}
-use Rattle.bac_liveness.proofs.StraightRuns.Counts.{count, count_changed, count_weaker, count_put, count_with}
+use Rattle.bac_liveness.proofs.StraightRuns.Counts.{count, count_changed, count_passing, count_weaker, count_put, count_with}
 
 -- Entries.
 
@@ -162,9 +162,11 @@ tick_room now old new o tick h = subst (HasRoom now) (sym tick.node) (record {
       let r = h.held in
       omega arith;
   live =
+      let all = map (server_ticked old.settings now) old.servers.slots in
+      let few = count_passing ServerTransaction (is_live now) all in
       let k = count_changed ServerTransaction (is_live now) (is_live now) (server_ticked old.settings now) (λ s l. lives s.key s.value l) old.servers.slots in
       let r = h.live in
-      omega arith;
+      omega (arith, few, k, r);
 })
   where
     still : (key : PeerKey) (number : ℕ) (y : TransactionSlot) → is_held now (held_ticked (context_of old.settings now key) number y).held ≡ true

@@ -1,17 +1,32 @@
--- All entries have gone on, and keep no more.
+-- All entries have gone on, those that are not live are gone, and the others keep no more.
+use Rattle.std.proofs.Common.{subst, sym}
+use Rattle.bac_transaction.specs.Ends.{ServerEnd}
+use Rattle.bac_transaction.specs.Tables.{AreLive}
+use Rattle.bac_transaction.specs.Views.{settings_view}
+use Rattle.bac_transaction.proofs.ServerTables.{ticks_leave_live}
+use Rattle.bac_responder.specs.Kept.{kept_octets}
+use Rattle.bac_responder.specs.Views.{end_of}
+use Rattle.bac_responder.proofs.KeptTables.{tick_keeps}
 use Rattle.bac_responder.proofs.KeptWithin.{ticked_within}
 use Rattle.bac_responder.proofs.Ticks.{committed}
 use Rattle.bac_responder.proofs.responder.Responder.commit_tick.Goals as goal
 
-pub returns : goal.returns
-returns g c =
+pub returns-clause-ticked : goal.returns-clause-ticked
+returns-clause-ticked g c =
     rw (← c.self.view_is) (committed c.args.settings.now c.args.now (g.S.SlotTable.slots c.self.inside.aged.table)
-    (g.S.SlotTable.slots c.tick.new.aged.table) (g.S.SlotTable.capacity c.self.inside.aged.table) (g.S.SlotTable.capacity c.tick.new.aged.table) c.self.inside.restart
-    c.tick.ensures.slots c.tick.ensures.same)
+    (g.S.SlotTable.slots c.tick.new.aged.table) (g.S.SlotTable.slots c.remove_dead.new.aged.table) (g.S.SlotTable.capacity c.self.inside.aged.table)
+    (g.S.SlotTable.capacity c.tick.new.aged.table) (g.S.SlotTable.capacity c.remove_dead.new.aged.table) c.self.inside.restart
+    c.tick.ensures.slots c.remove_dead.ensures.slots c.tick.ensures.same c.remove_dead.ensures.same)
+
+pub returns-clause-live : goal.returns-clause-live
+returns-clause-live g c = ?
+
+pub returns-clause-kept : goal.returns-clause-kept
+returns-clause-kept g c = ?
 
 pub invariant_of-self : goal.invariant_of-self
 invariant_of-self g c = (
-  c.tick.ensures.aged,
+  c.remove_dead.ensures.aged,
   ticked_within c.args.settings.now c.args.now (g.S.SlotTable.slots c.self.inside.aged.table) (g.S.SlotTable.slots c.tick.new.aged.table)
-      c.self.inside.kept c.tick.ensures.slots c.self.invariant.1,
+      (g.S.SlotTable.slots c.remove_dead.new.aged.table) c.self.inside.kept c.tick.ensures.slots c.remove_dead.ensures.slots c.self.invariant.1,
 )
