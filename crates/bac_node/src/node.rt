@@ -17,7 +17,7 @@ ghost use Rattle.bac_store.specs.Views.{change_view};
 ghost use Rattle.bac_slots.specs.Slots.{value_at};
 ghost use Rattle.bac_transaction.specs.Keys.{same_key};
 ghost use Rattle.bac_transaction.specs.Ends.{first_after, key_of, is_slot_held, is_slot_live, requester_tick, responder_tick};
-ghost use Rattle.bac_transaction.specs.Tables.{IsOrderlyClient, IsOrderlyServer};
+ghost use Rattle.bac_transaction.specs.Tables.{AreLive, IsOrderlyClient, IsOrderlyServer};
 ghost use Rattle.bac_transaction.specs.Views.{peer_key_view, settings_view};
 ghost use Rattle.bac_protocol.specs.Context.{Settings as Set};
 ghost use Rattle.bac_protocol.specs.declared.times.TheConstants.{KEEP as KEPT_FOR, REST as REST_TIME};
@@ -30,7 +30,7 @@ ghost use Rattle.bac_world.specs.Node.{NodeOn, NodeTick, IsHeardBy, restarted, s
 ghost use Rattle.bac_world.specs.ReusingNodes.{IsHeardReusingBy, NodeHears, NodeReusing};
 ghost use Rattle.bac_node.specs.Calls.{Dispatches, IsAsked, IsForNoneOpen, IsNotHeard, IsTickOfBoth, Refuses, ticked};
 ghost use Rattle.bac_node.specs.Fresh.{fresh_node, has_large_slots, has_slots, has_slots_within, made_node, slots_within, window_fits, with_first_id};
-ghost use Rattle.bac_node.specs.Memory.{KeepsWithin};
+ghost use Rattle.bac_node.specs.Memory.{KeepsWithin, kept_octets};
 ghost use Rattle.bac_node.specs.Reuse.{DispatchesReusing};
 ghost use Rattle.bac_node.specs.Views.{outcome_view, settings_of};
 ghost use Rattle.bac_node.specs.Waiting.{IsDueBy, MovesAt, RestsUntil};
@@ -561,13 +561,16 @@ impl Node {
     }
 
     /// Does all that is due at a moment in milliseconds: first at the client's end, then at the server's, each in ascending order of peer and invoke ID. Call
-    /// it once the moment of [`next_due`](Node::next_due) has come; calling it earlier, or too often, does no harm. Send what the outcome holds, in order.
+    /// it once the moment of [`next_due`](Node::next_due) has come; calling it earlier, or too often, does no harm. Send what the outcome holds, in order. Entries
+    /// of the server's end that are not live any more, after 65,000 ms, are dropped, with all octets that they kept.
     ///
     /// `ClockBack` exactly where the moment is before the latest one. `NoMemory` where memory can't be allocated, which happens only where something is due:
     /// the caller may call again later. After a fault the node is as before.
     pub fn tick(&mut self, now: u64) -> Result<Outcome, NodeFault>
         ensures went { IfOk result (λ o. NodeTick now self.old self.new (outcome_view o)) }
         ensures early { IsErrOf result NodeFault.ClockBack ↔ (now < self.old.latest) }
+        ensures live { OnOk result (AreLive now self.new.servers.slots) }
+        ensures kept { kept_octets self.new ≤ kept_octets self.old }
         ensures due { now < LAST_MOMENT → IsErrOf result NodeFault.NoMemory → IsDueBy now self.old }
         ensures err { OnErr result (self.new ≡ self.old) }
     {
@@ -616,7 +619,9 @@ impl Node {
     /// Makes the tick of which [`prepare_tick`](Node::prepare_tick) returned the outcome, at the same moment. It allocates nothing.
     pub fn commit_tick(&mut self, now: u64)
         requires { self.old.latest ≤ now }
-        ensures { self.new ≡ ticked now self.old }
+        ensures ticked { self.new ≡ ticked now self.old }
+        ensures live { AreLive now self.new.servers.slots }
+        ensures kept { kept_octets self.new ≤ kept_octets self.old }
     {
         self.clients.commit_tick(&self.settings, now);
         self.servers.commit_tick(&self.settings, now);
@@ -635,8 +640,8 @@ impl Node {
             .min(self.servers.next_due(self.latest))
     }
 
-    /// The first moment, in milliseconds, at which a tick does anything: a timer of a transaction runs out, or a transaction of the client expires (clauses 5.4.4
-    /// and 5.4.5). It is not before the latest moment. None where nothing is due before the last moment of all, 2^64 - 1.
+    /// The first moment, in milliseconds, at which a tick does anything: a timer of a transaction runs out, a transaction of the client expires (clauses 5.4.4
+    /// and 5.4.5), or an entry of the server's end is not live any more. It is not before the latest moment. None where nothing is due before the last moment of all, 2^64 - 1.
     ///
     /// Call it after each `on`, `tick` and `ask`, and then wait for a datagram until that moment, or without end where it is None: a tick before it does nothing.
     /// Once the moment has come, call [`tick`](Node::tick). It looks at each slot.

@@ -37,16 +37,16 @@ all_live now (s ∷ slots) before = (live, all_live now slots (omega (arith, bef
 one_dies : (now end : ℕ) (slots : List ServerSlot) → end < LAST_MOMENT → end ≤ now → first_due life_end slots ≡ end → AreLive now slots → ⊥
 one_dies now end [] within reached is live = absurd (omega (arith, within, is))
 one_dies now end (s ∷ slots) within reached is live =
-    go (nat_le (life_end s.value) (first_due life_end slots)) refl
+    go (nat_le (life_end s.value) (first_due life_end slots)) refl (λ rest. one_dies now end slots within reached rest live.1)
   where
     dead : (begin : ℕ) → begin + KEEP + 1 ≤ now → nat_le (now - begin) KEEP ≡ true → ⊥
     dead begin past young = grind (arith, nat_tests, past, young)
 
-    go : (b : Bool) → nat_le (life_end s.value) (first_due life_end slots) ≡ b → ⊥
-    go true le =
+    go : (b : Bool) → nat_le (life_end s.value) (first_due life_end slots) ≡ b → (first_due life_end slots ≡ end → ⊥) → ⊥
+    go true le again =
         let at : life_end s.value ≡ end = grind (arith, nat_tests, le, is) in
         dead s.value.begin (omega (arith, at, within, reached)) live.0
-    go false gt = one_dies now end slots within reached (grind (arith, nat_tests, gt, is)) live.1
+    go false gt again = again (grind (arith, nat_tests, gt, is))
 
 pass_all : (now : ℕ) (slots : List ServerSlot) → AreLive now slots → filter (is_slot_live now) slots ≡ slots
 pass_all now [] live = refl
