@@ -20,7 +20,7 @@ use crate::step::{on_due, on_received};
 use crate::turn::{Received, Turn};
 use crate::wait_limit::{WaitLimit, wait_until};
 use crate::{Clock, Link};
-use bac_node::Node;
+use bac_node::{MEMORY, Node};
 use bac_requester::AskFault;
 use bac_value::NoMemory;
 use std::alloc::Global;
@@ -40,6 +40,8 @@ pub struct BoundNode<L: Link> {
     link: L,
     buffer: Vec<u8>,
     reuse: bool,
+    // how many octets its server's end may keep; contracts see nothing of it
+    memory: usize,
 }
 
 impl<L: Link> Model for BoundNode<L> {
@@ -69,6 +71,7 @@ impl<L: Link> BoundNode<L> {
             link,
             buffer,
             reuse: false,
+            memory: MEMORY,
         })
     }
 
@@ -86,6 +89,15 @@ impl<L: Link> BoundNode<L> {
         ensures { result ≡ self.now.reuse }
     {
         self.reuse
+    }
+
+    /// Sets how many octets of service data its server's end may keep, in place of [`MEMORY`](bac_node::MEMORY): 64 MiB. A datagram that might make it keep more
+    /// is lost as where memory runs out, and the turn has heard nothing ([`Node::hear_within`](bac_node::Node::hear_within)); each request needs room for 65,539
+    /// octets beside its own. What is kept already stays.
+    pub fn set_memory(&mut self, memory: usize)
+        ensures { self.new ≡ self.old }
+    {
+        self.memory = memory;
     }
 
     /// Its node.
@@ -150,7 +162,14 @@ impl<L: Link> BoundNode<L> {
         ensures taken { IsTaken now self.old (turn_view result) self.new }
         ensures received { result.received ≡ received }
     {
-        let heard = on_received(&mut self.node, self.reuse, now, received, &self.buffer);
+        let heard = on_received(
+            &mut self.node,
+            self.reuse,
+            self.memory,
+            now,
+            received,
+            &self.buffer,
+        );
         let ticked = on_due(&mut self.node, now);
         Turn {
             at: now,

@@ -34,6 +34,6 @@ mod timers;
 pub use effect::Effect;
 pub use idle::idle_on_apdu;
 pub use performed::Performed;
-pub use responder::Responder;
+pub use responder::{Responder, ReuseRules};
 pub use served::{Act, Served};
 pub use server_transaction::ServerTransaction;
