@@ -14,7 +14,7 @@ pub fn hears_as_ever()
     ensures { HearsAsEver }
 {}
 
-/// Where a node lets clients use invoke IDs again and remembers a request for 65,000 ms, [`Node::hear_within`](crate::Node::hear_within) does what
+/// Where a node lets clients use invoke IDs again and remembers a request for 65,000 ms, [`Node::hear_by`](crate::Node::hear_by) does what
 /// [`Node::hear`](crate::Node::hear) does: no entry is live for longer.
 #[tactic(auto, using(crate::proofs::Remembering::hears_as_long))]
 pub fn hears_as_long()

@@ -295,6 +295,17 @@ impl Node {
         self.servers.live(now)
     }
 
+    /// The first moment, in milliseconds, looked at from a moment on, at which not all slots of its reply table have a live entry; the last moment of all where
+    /// that is not before it. Until then a request that needs a slot gets an Abort of reason 0. It looks at each slot where all are in use.
+    pub fn next_free(&self, from: u64) -> u64
+        ensures from { from ≤ result }
+        ensures full { (moment : ℕ) → from ≤ moment → moment < result
+            → self.now.servers.capacity ≤ count_by (is_slot_live moment) self.now.servers.slots }
+        ensures free { result < LAST_MOMENT → count_by (is_slot_live result) self.now.servers.slots < self.now.servers.capacity }
+    {
+        self.servers.next_free(from)
+    }
+
     /// When the entry of its reply table for a request began, in milliseconds, by the peer that asked and the invoke ID; None where it keeps none for them. Call
     /// it to tell one performance for a peer from the next under the same invoke ID: their entries began more than 65,000 ms apart.
     pub fn entry_begin(&self, key: &PeerKey) -> Option<u64>
@@ -355,7 +366,7 @@ impl Node {
         ensures within { OnOk result (KeepsWithin 67108864 self.old self.new) }
         ensures err { OnErr result (self.new ≡ self.old) }
     {
-        self.hear_within(Reuse::Never, MEMORY, now, from, octets)
+        self.hear_by(Reuse::Never, MEMORY, now, from, octets)
     }
 
     /// As `on`, of a node that lets clients use an invoke ID again as soon as its transaction is over (clause 5.4). Call one of both for all datagrams.
@@ -378,7 +389,7 @@ impl Node {
         ensures within { OnOk result (KeepsWithin 67108864 self.old self.new) }
         ensures err { OnErr result (self.new ≡ self.old) }
     {
-        self.hear(true, now, from, octets)
+        self.hear_within(true, MEMORY, now, from, octets)
     }
 
     /// A datagram comes to a node of either setting: as `on_reusing` where `reuse` is true, otherwise as `on`.
@@ -396,15 +407,35 @@ impl Node {
         ensures within { OnOk result (KeepsWithin 67108864 self.old self.new) }
         ensures err { OnErr result (self.new ≡ self.old) }
     {
-        self.hear_within(Reuse::of(reuse), MEMORY, now, from, octets)
+        self.hear_within(reuse, MEMORY, now, from, octets)
     }
 
-    /// As `hear`, of a node that remembers a request no longer than `reuse` says: an equal one gets the kept reply only so long, and is then performed again. With
-    /// [`Reuse::of`](crate::Reuse::of) it is as `hear`. It has another bound than [`MEMORY`](crate::MEMORY) on the octets of service data that the server's end
-    /// keeps: `NoMemory` also where an APDU might make it keep more than `memory`: a request is taken to need room for its own octets, and for the longest reply and the place of a segment, 65,539 octets.
+    /// As `hear`, with another bound than [`MEMORY`](crate::MEMORY) on the octets of service data that the server's end keeps. `NoMemory` also where an APDU might
+    /// make it keep more than `memory`: a request is taken to need room for its own octets, and for the longest reply and the place of a segment, 65,539 octets.
     /// What is kept already stays, but for entries that are not live, whose place a new one takes.
-    #[tactic(auto, using(crate::proofs::Kept::same_kept))]
+    #[tactic(auto, using(crate::proofs::Remembering::as_heard))]
     pub fn hear_within(
+        &mut self,
+        reuse: bool,
+        memory: usize,
+        now: u64,
+        from: LinkAddress,
+        octets: &[u8],
+    ) -> Result<Outcome, NodeFault>
+        ensures went { IfOk result (λ o. NodeHears reuse now from octets.now self.old self.new (outcome_view o)) }
+        ensures early { IsErrOf result NodeFault.ClockBack ↔ (now < self.old.latest) }
+        ensures dropped { IsNotHeard self.old.link from octets.now → IsErrOf result NodeFault.NoMemory → ⊥ }
+        ensures none_open { IsForNoneOpen from octets.now self.old.clients → IsErrOf result NodeFault.NoMemory → ⊥ }
+        ensures within { OnOk result (KeepsWithin memory self.old self.new) }
+        ensures err { OnErr result (self.new ≡ self.old) }
+    {
+        self.hear_by(Reuse::of(reuse), memory, now, from, octets)
+    }
+
+    /// As `hear_within`, of a node that remembers a request no longer than `reuse` says: an equal one gets the kept reply only so long, and is then performed
+    /// again. With [`Reuse::of`](crate::Reuse::of) it is as `hear_within`. Call it in the same way for all datagrams.
+    #[tactic(auto, using(crate::proofs::Kept::same_kept))]
+    pub fn hear_by(
         &mut self,
         reuse: Reuse,
         memory: usize,

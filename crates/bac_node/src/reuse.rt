@@ -1,4 +1,4 @@
-//! Whether a node lets clients use an invoke ID again: `Node::hear_within` is told so.
+//! Whether a node lets clients use an invoke ID again: `Node::hear_by` is told so.
 ghost use Rattle.std.specs.Prelude.{◌≡◌};
 ghost use Rattle.bac_node.specs.Remembering.{as_ever, is_reusing};
 

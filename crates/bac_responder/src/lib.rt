@@ -11,6 +11,7 @@
 mod aging;
 mod comparing;
 mod effect;
+mod freeing;
 mod idle;
 mod keeping;
 mod kept_reply;

@@ -19,6 +19,7 @@ ghost use Rattle.bac_responder.specs.Kept.{StaysWithin};
 ghost use Rattle.bac_responder.specs.Views.{end_of, Serves};
 
 use crate::aging::{ServerRules, ShortRequests};
+use crate::freeing::first_dead;
 use crate::keeping::{count_octets, fits, key_octets, moved, service_len};
 use crate::lookup::on_apdu;
 use crate::reusing::{Remembering, is_none_live};
@@ -114,6 +115,19 @@ impl<S: SlotTable<PeerKey, ServerTransaction> + Drop> Responder<S> {
             return u64::MAX;
         }
         first_due(&self.aged.table, from)
+    }
+
+    /// The first moment, in milliseconds, looked at from a moment on, at which not all of its slots have a live entry; the last moment of all where that is not
+    /// before it. So long a request that needs a slot is turned away. It looks at each slot where all are in use, otherwise at none.
+    pub fn next_free(&self, from: u64) -> u64
+        ensures from { from ≤ result }
+        ensures full { (moment : ℕ) → from ≤ moment → moment < result → self.now.capacity ≤ count_by (is_slot_live moment) self.now.slots }
+        ensures free { result < LAST_MOMENT → count_by (is_slot_live result) self.now.slots < self.now.capacity }
+    {
+        if self.aged.table.len() < self.aged.table.room() {
+            return from;
+        }
+        from.max(first_dead(&self.aged.table))
     }
 
     /// How many slots it was made with.
