@@ -1,6 +1,7 @@
 -- A node that remembers a request as long as an entry is live makes of a datagram what each node does that lets invoke IDs be used again.
-use Rattle.std.proofs.Common.{◌≡◌, ◌≤◌, ◌-◌, ◌↔◌, ◌⊎◌, inl, inr, ℕ, Bool, true, false, ◌&&◌, ◌||◌, Option, Some, None, refl, ap, sym, subst, ◌∙◌, arith}
+use Rattle.std.proofs.Common.{◌≡◌, ◌≤◌, ◌-◌, ◌↔◌, ◌⊎◌, inl, inr, ℕ, Bool, true, false, ◌&&◌, ◌||◌, Option, Some, None, Result, Ok, Err, refl, ap, sym, subst, ◌∙◌, arith}
 use Rattle.std.proofs.Common.{if◌then◌else◌, nat_eq, nat_le, nat_lt}
+use Rattle.std.specs.Prelude.{IfOk}
 use Rattle.std.proofs.lemmas.Bool.Decides.{nat_tests}
 use Rattle.bac_apdu.specs.Apdu.{Apdu}
 use Rattle.bac_apdu.specs.Apdu.Apdu.{ConfirmedRequest}
@@ -19,6 +20,10 @@ use Rattle.bac_transaction.specs.Reuse.{is_read, responder_reusing, slots_left}
 use Rattle.bac_transaction.specs.Services.{service_of}
 use Rattle.bac_world.specs.Node.{IsHeardBy, IsServerTurn, Node, Outcome}
 use Rattle.bac_world.specs.ReusingNodes.{IsHeardReusing, IsHeardReusingBy, NodeHears, NodeReusing}
+use Rattle.bac_node.specs.Views.{outcome_view}
+use Rattle.bac_node.specs.declared.fault.NodeFault.{NodeFault}
+use Rattle.bac_node.specs.declared.outcome.Outcome as code
+use Rattle.bac_node.specs.declared.reuse.Reuse.{Reuse}
 use Rattle.bac_node.specs.Remembering.{HearsAsLong, IsHeardRemembering, IsHeardRememberingBy, NodeHearsBy, NodeRemembering, as_ever}
 
 -- A live entry is not forgotten.
@@ -103,3 +108,10 @@ module _ (now : ℕ) (old new : Node) (o : Outcome) where
 
 pub hears_as_long : HearsAsLong
 hears_as_long reuse now from octets old new o = (as_heard now old new o from octets reuse, from_heard now old new o from octets reuse)
+
+-- what one returned that was told so
+pub as_returned : (reuse : Bool) (by : Reuse) → by ≡ as_ever reuse → (now : ℕ) (from octets : Octets) (old new : Node) (r : Result code.Outcome NodeFault)
+    → IfOk r (λ o. NodeHearsBy by now from octets old new (outcome_view o)) → IfOk r (λ o. NodeHears reuse now from octets old new (outcome_view o))
+as_returned reuse by is now from octets old new (Ok o) h =
+    as_heard now old new (outcome_view o) from octets reuse (subst (λ (b : Reuse). NodeHearsBy b now from octets old new (outcome_view o)) is h)
+as_returned reuse by is now from octets old new (Err e) h = tt

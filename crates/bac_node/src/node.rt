@@ -413,7 +413,6 @@ impl Node {
     /// As `hear`, with another bound than [`MEMORY`](crate::MEMORY) on the octets of service data that the server's end keeps. `NoMemory` also where an APDU might
     /// make it keep more than `memory`: a request is taken to need room for its own octets, and for the longest reply and the place of a segment, 65,539 octets.
     /// What is kept already stays, but for entries that are not live, whose place a new one takes.
-    #[tactic(auto, using(crate::proofs::Remembering::as_heard))]
     pub fn hear_within(
         &mut self,
         reuse: bool,
